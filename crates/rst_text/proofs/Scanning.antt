@@ -1,0 +1,64 @@
+-- A text that is read a character at a time.
+use Rattle.std.proofs.Common.{◌≡◌, ℕ, ◌+◌, Bool, true, false, List, [], ◌∷◌, ◌++◌, length, take, refl, sym, ap, ◌∙◌, subst, append_assoc, append-nil, length-append}
+use Rattle.std.specs.Str.{IsUtf8, chars, NonePass, IsCharBoundary}
+use Rattle.std.proofs.Math.Utf8.{scalar, scalars, encode, encodes}
+use Rattle.std.proofs.Math.Seq.{take-append_seam}
+use Rattle.std.proofs.lemmas.Str.{encodes-append, cons_from_encodes, chars-append, chars-encodes, IsCharBoundary-at_seam}
+use Rattle.rst_text.proofs.TextLemmas.{and_true}
+
+-- the characters that were read, and the bytes that are left, make the text
+pub record Scans (text front rest : List ℕ) : Type 0 where
+  pub bytes : text ≡ encodes front ++ rest
+  pub utf8 : IsUtf8 rest
+  pub scalar : scalars front ≡ true
+
+pub Scans-start : (text rest : List ℕ) → IsUtf8 text → rest ≡ text → Scans text [] rest
+Scans-start text rest good e = record { bytes = sym e; utf8 = subst IsUtf8 (sym e) good; scalar = refl }
+
+-- what stands behind a character of a text, and the character itself
+pub past_char : (rest after : List ℕ) (c : ℕ) → IsUtf8 rest → rest ≡ encode c ++ after → (scalar c ≡ true) × IsUtf8 after
+past_char rest after c good e =
+    let f = cons_from_encodes good.0 after c (good.1.1 ∙ e) in
+    let s : scalars (c ∷ f.0) ≡ true = sym (ap scalars f.1) ∙ good.1.0 in
+    let t = and_true (scalar c) (scalars f.0) s in
+    (t.0, (f.0, (t.1, f.2)))
+
+scalars-push : (front : List ℕ) (c : ℕ) → scalars front ≡ true → scalar c ≡ true → scalars (front ++ c ∷ []) ≡ true
+scalars-push [] c s t = rw t refl
+scalars-push (d ∷ front) c s t =
+    let h = and_true (scalar d) (scalars front) s in rw (h.0) (scalars-push front c h.1 t)
+
+pub Scans-step : (text front rest after : List ℕ) (c : ℕ) → Scans text front rest → rest ≡ encode c ++ after → Scans text (front ++ c ∷ []) after
+Scans-step text front rest after c s e =
+    let p = past_char rest after c s.utf8 e in
+    record {
+      bytes = s.bytes ∙ ap (λ l. encodes front ++ l) e ∙ sym (append_assoc (encodes front) (encode c) after)
+          ∙ ap (λ l. (encodes front ++ l) ++ after) (sym (append-nil (encode c))) ∙ ap (λ l. l ++ after) (sym (encodes-append front (c ∷ [])));
+      utf8 = p.1;
+      scalar = scalars-push front c s.scalar p.0;
+    }
+
+pub NonePass-push : (p : ℕ → Bool) (front : List ℕ) (c : ℕ) → NonePass p front → p c ≡ false → NonePass p (front ++ c ∷ [])
+NonePass-push p [] c clear e = (e, tt)
+NonePass-push p (d ∷ front) c clear e = (clear.0, NonePass-push p front c clear.1 e)
+
+-- the characters of the text
+pub chars-scanned : (text front rest : List ℕ) → Scans text front rest → chars text ≡ front ++ chars rest
+chars-scanned text front rest s =
+    ap chars s.bytes ∙ chars-append (encodes front) rest (front, (s.scalar, refl)) ∙ ap (λ l. l ++ chars rest) (chars-encodes front s.scalar)
+
+-- how long the parts are, with a character behind the front
+pub length-scanned : (text front rest after : List ℕ) (c : ℕ) → Scans text front rest → rest ≡ encode c ++ after
+    → length text ≡ length (encodes front) + (length (encode c) + length after)
+length-scanned text front rest after c s e =
+    ap length (s.bytes ∙ ap (λ l. encodes front ++ l) e) ∙ length-append (encodes front) (encode c ++ after)
+    ∙ ap (λ n. length (encodes front) + n) (length-append (encode c) after)
+
+-- the front is cut out by its length
+pub take-scanned : (text front rest : List ℕ) (n : ℕ) → Scans text front rest → n ≡ length (encodes front) → chars (take n text) ≡ front
+take-scanned text front rest n s e =
+    ap chars (ap (λ k. take k text) e ∙ ap (take (length (encodes front))) s.bytes ∙ take-append_seam (encodes front) rest) ∙ chars-encodes front s.scalar
+
+-- the text may be cut behind the front
+pub IsCharBoundary-scanned : (text front rest : List ℕ) (n : ℕ) → Scans text front rest → n ≡ length (encodes front) → IsCharBoundary text n
+IsCharBoundary-scanned text front rest n s e = let P : ℕ → Type 0 = λ k. IsCharBoundary text k in subst P (sym e) (IsCharBoundary-at_seam text (encodes front) rest s.bytes s.utf8)

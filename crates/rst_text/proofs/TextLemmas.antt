@@ -1,0 +1,42 @@
+-- Lemmas on the text of bytes.
+use Rattle.std.proofs.Common.{◌≡◌, ℕ, nat_eq, Bool, true, false, ◌&&◌, List, [], ◌∷◌, ◌++◌, Option, None, Some, MatchOption, IsSome, refl, sym, ap, ◌∙◌, Bor, unwrap_or}
+use Rattle.std.specs.Str.{IsUtf8, is_utf8, chars}
+use Rattle.std.specs.Str.Pattern.{FindsCharPrefix, StripsPrefix}
+use Rattle.std.proofs.Math.Utf8.{encode, encodes}
+use Rattle.std.proofs.lemmas.Bool.{eqb-true}
+use Rattle.std.proofs.lemmas.Str.{IsUtf8-from_is_utf8, is_utf8-from_IsUtf8, chars_past_char, encodes-chars}
+use Rattle.rst_text.specs.Text.{text_of, without_mark}
+
+pub not_true : (b : Bool) → (b ≡ true → ⊥) → b ≡ false
+not_true true h = absurd (h refl)
+not_true false h = refl
+
+pub and_true : (a b : Bool) → (a && b) ≡ true → (a ≡ true) × (b ≡ true)
+and_true true b h = (refl, h)
+and_true false b h = cc
+
+-- bytes that are no UTF-8 have no text
+pub text_of_none : (bytes : List ℕ) → ¬ (IsUtf8 bytes) → text_of bytes ≡ None
+text_of_none bytes bad = let e : is_utf8 bytes ≡ false = not_true (is_utf8 bytes) (λ t. bad (IsUtf8-from_is_utf8 bytes t)) in rw e refl
+
+pub text_of_some : (bytes : List ℕ) → IsUtf8 bytes → text_of bytes ≡ Some (without_mark (chars bytes))
+text_of_some bytes good = rw (is_utf8-from_IsUtf8 bytes good) refl
+
+pub IsSome-text_of : (bytes : List ℕ) → IsUtf8 bytes → IsSome (text_of bytes)
+IsSome-text_of bytes good = rw (text_of_some bytes good) refl
+
+-- characters that don't begin with a mark stay as they are
+without_mark-kept : (cs : List ℕ) → ((ds : List ℕ) → cs ≡ 0xFEFF ∷ ds → ⊥) → without_mark cs ≡ cs
+without_mark-kept [] absent = refl
+without_mark-kept (c ∷ cs) absent =
+    let e : nat_eq c 0xFEFF ≡ false = not_true (nat_eq c 0xFEFF) (λ t. absent cs (ap (λ x. x ∷ cs) (eqb-true c 0xFEFF t))) in rw e refl
+
+-- what is left when a mark was stripped
+pub chars-stripped : (whole kept : Bor (List ℕ)) (r : Option (Bor (List ℕ))) → IsUtf8 whole.now
+    → MatchOption r (FindsCharPrefix 0xFEFF whole.now None) (λ x. StripsPrefix (FindsCharPrefix 0xFEFF) whole.now x.now)
+    → kept ≡ unwrap_or r whole → chars kept.now ≡ without_mark (chars whole.now)
+chars-stripped whole kept None good found is =
+    ap (λ k. chars k.now) is ∙ sym (without_mark-kept (chars whole.now) (λ ds e. found (encodes ds) (sym (encodes-chars whole.now good) ∙ ap encodes e)))
+chars-stripped whole kept (Some rest) good found is =
+    let split : whole.now ≡ encode 0xFEFF ++ rest.now = found.1.split ∙ ap (λ l. encode 0xFEFF ++ l) (sym found.2) in
+    ap (λ k. chars k.now) is ∙ sym (ap without_mark (chars_past_char whole.now rest.now 0xFEFF good split))

@@ -1,0 +1,25 @@
+use Rattle.std.proofs.Common.{◌≡◌, ◌∙◌, ◌+◌, ◌++◌, length, map, refl, sym, ap, vec_len}
+use Rattle.std.specs.Str.{chars}
+use Rattle.rst_text.specs.declared.lines.SourceLine.{SourceLine}
+use Rattle.rst_text.specs.Text.{chars_of}
+use Rattle.rst_text.specs.Source.{block_from}
+use Rattle.rst_text.specs.Lines.{pieces, tidied, numbered_from}
+use Rattle.rst_text.proofs.LinesLemmas.{numbered-push, all_read}
+use Rattle.std.proofs.lemmas.Bool.{eqb-true}
+use Rattle.rst_text.proofs.lines.Lines.of.Goals as goal
+
+pub loop-rest-init : goal.loop-rest-init
+loop-rest-init c = (c.utf8.text, rw (c.new-lines.ensures.items, c.new-lines.ensures.len) refl)
+
+pub loop-rest-preserved : goal.loop-rest-preserved
+loop-rest-preserved c = (
+  c.first_piece.ensures.text,
+  let line : SourceLine = record { number = c.len-number.result + 1; text = c.in_ok-text.text } in
+      let before = ap (λ l. block_from c.loop-rest.lines.items ++ numbered_from (vec_len c.loop-rest.lines + 1) (map (tidied c.args.tab) l)) (sym c.first_piece.ensures.pieces) ∙ c.loop-rest.invariant.1 in
+      let same : chars_of line.text ≡ tidied c.args.tab (chars c.first_piece.result.0.now) = c.in_ok-text.ensures ∙ ap (λ t. tidied t (chars c.first_piece.result.0.now)) c.from.ensures in
+      let after = numbered-push c.args.tab (vec_len c.loop-rest.lines + 1) c.loop-rest.lines.items line (chars c.first_piece.result.0.now) (pieces (chars c.first_piece.result.1.now)) _ same (ap (λ n. n + 1) c.len-number.ensures) before in
+      rw (c.in_ok-push.ensures.items, c.in_ok-push.ensures.len) after,
+)
+
+pub returns : goal.returns
+returns c = all_read _ _ _ _ _ c.loop-rest.invariant.1 (eqb-true (length c.loop-rest.rest.now) 0 (sym c.loop-rest-test.ensures))

@@ -1,0 +1,50 @@
+-- What the calls of a reader or a writer that keeps whether it failed do.
+use Rattle.std.specs.Prelude.{◌≡◌, ℕ, ◌<◌, ◌≤◌, Bool, true, false, List, length, take, Option, None, Some}
+use Rattle.std.specs.Io.KnownBytes.{Keeps, Appends, Consumes, IsAtEnd}
+use Rattle.rst_text.specs.declared.counted.Counted.{Counted}
+
+-- the reader or writer inside
+abbrev pub inner_of : {T : Type 0} → Counted T → T
+inner_of counted = counted.inner
+
+-- some call so far has failed
+abbrev pub has_failed : {T : Type 0} → Counted T → Bool
+has_failed counted = counted.failed
+
+-- what is known of a reader's bytes to come, or of those that a writer holds, before and after some calls, and whether a
+-- call of it had failed before them and has failed after them
+pub record Stream : Type 0 where
+  pub before : Option (List ℕ)
+  pub after : Option (List ℕ)
+  pub had_failed : Bool
+  pub failed : Bool
+
+-- from one state of a reader or writer to a later one
+abbrev pub between : {T : Type 0} → (T → Option (List ℕ)) → Counted T → Counted T → Stream
+between known old new = record { before = known (inner_of old); after = known (inner_of new); had_failed = has_failed old; failed = has_failed new }
+
+-- nothing was read or written
+abbrev pub Untouched : Stream → Type 0
+Untouched stream = Keeps stream.before stream.after
+
+-- the writer has these bytes more, at its end
+abbrev pub Gains : Stream → List ℕ → Type 0
+Gains writer bytes = Appends writer.before writer.after bytes
+
+-- the reads handed out these bytes, each once
+abbrev pub HandsOut : Stream → List ℕ → Type 0
+HandsOut reader bytes = Consumes reader.before reader.after bytes
+
+-- the reader is at its end, and no read failed
+abbrev pub IsReadOut : Stream → Type 0
+IsReadOut reader = IsAtEnd reader.after × (reader.failed ≡ false)
+
+-- One read hands out the bytes that it gave, none only at the end or with no room; one that fails hands out none.
+abbrev pub Reads : Stream → Option ℕ → List ℕ → Type 0
+Reads reader None buf = Untouched reader × (reader.failed ≡ true)
+Reads reader (Some n) buf = (n ≤ length buf) × HandsOut reader (take n buf) × (n ≡ 0 → 0 < length buf → IsAtEnd reader.after) × (reader.failed ≡ reader.had_failed)
+
+-- One write takes the bytes that it tells, some if there are some; one that fails takes none.
+abbrev pub Writes : Stream → Option ℕ → List ℕ → Type 0
+Writes writer None bytes = Untouched writer × (writer.failed ≡ true)
+Writes writer (Some n) bytes = (n ≤ length bytes) × (0 < length bytes → 0 < n) × Gains writer (take n bytes) × (writer.failed ≡ writer.had_failed)

@@ -1,0 +1,10 @@
+-- What a call gives that only want of memory can hinder.
+use Rattle.std.specs.Prelude.{Result, Ok, Err}
+use Rattle.rst_text.specs.declared.fault.TextFault.{TextFault}
+use Rattle.rst_text.specs.declared.fault.TextFault.TheVariants.{NotUtf8, NoMemory}
+
+-- a value of which this holds, or want of memory
+abbrev pub Gives : {A : Type 0} → (A → Type 0) → Result A TextFault → Type 0
+Gives P (Ok value) = P value
+Gives P (Err (NotUtf8 at)) = ⊥
+Gives P (Err NoMemory) = Unit {0}

@@ -1,0 +1,46 @@
+-- The lines of a text (Markup Specification, 'Whitespace').
+use Rattle.std.specs.Prelude.{ℕ, ◌+◌, ◌-◌, ◌%◌, Bool, false, ◌&&◌, ◌||◌, nat_lt, ◌==◌, if◌then◌else◌, List, [], ◌∷◌, ◌++◌, map, replicate}
+use Rattle.std.specs.Str.{drop_trailing_whitespace}
+use Rattle.rst_text.specs.Block.{Block}
+
+-- the characters that end a line: LF, CR, U+001C to U+001E, U+0085, U+2028, U+2029
+abbrev pub is_line_end : ℕ → Bool
+is_line_end c = (((c == 10 || c == 13) || (nat_lt 27 c && nat_lt c 31)) || c == 0x85) || (c == 0x2028 || c == 0x2029)
+
+abbrev pub begins_with : ℕ → List ℕ → Bool
+begins_with c [] = false
+begins_with c (d ∷ ds) = d == c
+
+-- the pieces with a character more at the front of the first
+abbrev pub onto_first : ℕ → List (List ℕ) → List (List ℕ)
+onto_first c [] = (c ∷ []) ∷ []
+onto_first c (piece ∷ pieces) = (c ∷ piece) ∷ pieces
+
+-- The text cut at its line ends. CR LF is one end, and an end at the very end begins no further piece.
+abbrev pub pieces : List ℕ → List (List ℕ)
+pieces [] = []
+pieces (c ∷ cs) = if c == 13 && begins_with 10 cs then pieces cs
+    else (if is_line_end c then [] ∷ pieces cs else onto_first c (pieces cs))
+
+-- a character as it stands in a line: form feed and vertical tab are a space
+abbrev pub shown : ℕ → ℕ
+shown c = if c == 11 || c == 12 then 32 else c
+
+-- A tab becomes spaces up to the next multiple of the tab width. The column counts the characters before.
+abbrev pub expanded_from : ℕ → ℕ → List ℕ → List ℕ
+expanded_from tab column [] = []
+expanded_from tab column (c ∷ cs) = if c == 9 then replicate (tab - column % tab) 32 ++ expanded_from tab (column + (tab - column % tab)) cs
+    else (shown c ∷ expanded_from tab (column + 1) cs)
+
+-- a piece with its tabs expanded, and without white characters at its end
+abbrev pub tidied : ℕ → List ℕ → List ℕ
+tidied tab piece = drop_trailing_whitespace (expanded_from tab 0 piece)
+
+-- texts as lines with numbers, from n on
+abbrev pub numbered_from : ℕ → List (List ℕ) → Block
+numbered_from n [] = []
+numbered_from n (text ∷ texts) = record { number = n; text = text } ∷ numbered_from (n + 1) texts
+
+-- the lines of a text, numbered from 1 on
+abbrev pub lines_of : ℕ → List ℕ → Block
+lines_of tab text = numbered_from 1 (map (tidied tab) (pieces text))

@@ -1,0 +1,33 @@
+//! What can be wrong with a text.
+ghost use Rattle.std.specs.Prelude.{◌≡◌};
+ghost use Rattle.rst_text.specs.declared.fault.TextFault.TheVariants.{NoMemory};
+
+use std::alloc::{AllocError, AllocFailed};
+use thiserror::Error;
+
+/// Why a call of this crate gave no answer.
+#[derive(Clone, Copy, Debug, PartialEq, Eq, Error)]
+pub enum TextFault {
+    /// The bytes are no UTF-8; `at` is how many bytes their longest front has that is.
+    #[error("not UTF-8 at byte {at}")]
+    NotUtf8 { at: usize },
+    /// A growth was refused.
+    #[error("out of memory")]
+    NoMemory,
+}
+
+impl From<AllocError> for TextFault {
+    ghost from_gives = { λ _ fault. fault ≡ NoMemory };
+
+    fn from(_error: AllocError) -> TextFault {
+        TextFault::NoMemory
+    }
+}
+
+impl<T: Drop> From<AllocFailed<T>> for TextFault {
+    ghost from_gives = { λ _ fault. fault ≡ NoMemory };
+
+    fn from(_error: AllocFailed<T>) -> TextFault {
+        TextFault::NoMemory
+    }
+}

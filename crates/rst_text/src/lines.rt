@@ -1,0 +1,146 @@
+//! The lines of a text.
+ghost use Rattle.std.specs.Prelude.{◌≡◌, ◌≤◌, ◌<◌, ◌∷◌, [], length, drop, IfOk};
+ghost use Rattle.std.specs.Str.{chars, IsUtf8};
+ghost use Rattle.rst_text.specs.Block.{front_text};
+ghost use Rattle.rst_text.specs.Faults.{Gives};
+ghost use Rattle.rst_text.specs.Lines.{is_line_end, pieces, shown, expanded_from, tidied, lines_of};
+ghost use Rattle.rst_text.specs.Text.{chars_of};
+
+use super::fault::TextFault;
+use std::alloc::{AllocError, Global};
+use std::marker::Model;
+
+/// The lines of a text, with their numbers. Contracts see them as a block: a list of numbers and characters.
+#[derive(Debug, Drop)]
+pub struct Lines {
+    lines: Vec<SourceLine>,
+}
+
+/// A line as it is kept.
+#[derive(Debug, Drop)]
+struct SourceLine {
+    number: usize,
+    text: String,
+}
+
+impl Model for Lines {
+    ghost use Rattle.rst_text.specs.Block.{Block};
+
+    ghost Value = { Block };
+
+    ghost use Rattle.rst_text.specs.Source.{block_from};
+
+    ghost view = { λ l. block_from l.lines.items };
+}
+
+impl Lines {
+    /// The lines of a text: cut at its line ends and numbered from 1, in each the tabs expanded to the next multiple
+    /// of `tab` columns, form feeds and vertical tabs made spaces and the white characters at its end dropped (Markup
+    /// Specification, 'Whitespace'; Configuration, `tab_width`).
+    ///
+    /// The only refusal is [`TextFault::NoMemory`].
+    pub fn of(alloc: Global, text: &str, tab: u8) -> Result<Lines, TextFault>
+        requires from { 1 ≤ tab }
+        requires to { tab ≤ 99 }
+        ensures { Gives (λ lines. lines ≡ lines_of tab (chars text.now)) result }
+    {
+        let mut lines = Vec::new(alloc);
+        let mut rest = text;
+        while !rest.is_empty() {
+            let (piece, after) = first_piece(rest);
+            let text = tidy(alloc, piece, usize::from(tab))?;
+            let number = lines.len() + 1;
+            lines.push(SourceLine { number, text })?;
+            rest = after;
+        }
+        Ok(Lines { lines })
+    }
+
+    /// How many lines there are.
+    pub fn count(&self) -> usize
+        ensures { result ≡ length self.now }
+    {
+        self.lines.len()
+    }
+
+    /// The text of the line at place `i`, counted from 0.
+    pub fn line(&self, i: usize) -> &str
+        requires { i < length self.now }
+        ensures { chars result.now ≡ front_text (drop i self.now) }
+    {
+        self.lines[i].text.as_str()
+    }
+}
+
+/// Whether a character ends a line.
+fn is_line_end(c: char) -> bool
+    ensures { result ≡ is_line_end c }
+{
+    matches!(
+        c,
+        '\n' | '\r' | '\u{1C}'..='\u{1E}' | '\u{85}' | '\u{2028}' | '\u{2029}'
+    )
+}
+
+/// The first piece of a text that isn't empty, and what follows the end of that line.
+fn first_piece(text: &str) -> (&str, &str)
+    requires { 0 < length text.now }
+    ensures pieces { pieces (chars text.now) ≡ chars result.0.now ∷ pieces (chars result.1.now) }
+    ensures shorter { length result.1.now < length text.now }
+    ensures text { IsUtf8 result.1.now }
+{
+    let mut rest = text.chars();
+    while let Some(c) = rest.next() {
+        if is_line_end(c) {
+            let after = rest.as_str();
+            let (piece, _) = text.split_at(text.len() - after.len() - c.len_utf8());
+            if c == '\r' {
+                return (piece, after.strip_prefix('\n').unwrap_or(after));
+            }
+            return (piece, after);
+        }
+    }
+    (text, "")
+}
+
+/// A piece with its tabs expanded, and without white characters at its end.
+fn tidy(alloc: Global, piece: &str, tab: usize) -> Result<String, AllocError>
+    requires from { 1 ≤ tab }
+    requires to { tab ≤ 99 }
+    ensures { IfOk result (λ line. chars_of line ≡ tidied tab (chars piece.now)) }
+{
+    expand(alloc, piece.trim_end(), tab)
+}
+
+/// A piece with its tabs expanded.
+fn expand(alloc: Global, piece: &str, tab: usize) -> Result<String, AllocError>
+    requires from { 1 ≤ tab }
+    requires to { tab ≤ 99 }
+    ensures { IfOk result (λ line. chars_of line ≡ expanded_from tab 0 (chars piece.now)) }
+{
+    let mut line = String::new(alloc);
+    let mut column = 0usize;
+    for c in piece.chars() {
+        if c == '\t' {
+            let wide = tab - column % tab;
+            for _ in 0..wide {
+                line.push(' ')?;
+            }
+            column += wide;
+        } else {
+            line.push(plain(c))?;
+            column += 1;
+        }
+    }
+    Ok(line)
+}
+
+/// A character as it stands in a line: form feed and vertical tab are a space.
+fn plain(c: char) -> char
+    ensures { result ≡ shown c }
+{
+    match c {
+        '\u{B}' | '\u{C}' => ' ',
+        _ => c,
+    }
+}
