@@ -1,0 +1,11 @@
+pub mod TagNames
+pub mod KeyNames
+pub mod LevelNames
+pub mod Faults
+pub mod Attributes
+pub mod Forest
+pub mod Nodes
+pub mod Falls
+pub mod Lending
+pub mod Paths
+pub mod Print
