@@ -1,3 +1,7 @@
 pub mod Changes
-pub mod Printing
+pub mod PrintedParts
 pub mod Attributes
+pub mod Tests
+pub mod Fitting
+pub mod Sending
+pub mod EachLine

@@ -1,7 +1,11 @@
--- What calls do that only want of memory can hinder.
-use Rattle.std.specs.Prelude.{◌≡◌, Result, Ok, Err}
+-- What calls do that want of memory or a failed write can hinder.
+use Rattle.std.specs.Prelude.{◌≡◌, ℕ, ◌≤◌, List, length, take, true, false, Result, Ok, Err}
+use Rattle.rst_text.specs.Counted.{Stream, Gains}
 use Rattle.rst_tree.specs.declared.fault.TreeFault.{TreeFault}
 use Rattle.rst_tree.specs.declared.fault.TreeFault.TheVariants.{NoMemory}
+use Rattle.rst_tree.specs.declared.fault.PrintFault.{PrintFault}
+use Rattle.rst_tree.specs.declared.fault.PrintFault.TheVariants.{Write}
+use Rattle.rst_tree.specs.Sends.{counted_on}
 
 -- the call gives a value of which this holds, or tells want of memory
 abbrev pub Gives : {A : Type 0} → (A → Type 0) → Result A TreeFault → Type 0
@@ -17,3 +21,16 @@ Becomes old new wanted (Err NoMemory) = new ≡ old
 abbrev pub GivesBack : {A N S : Type 0} → N → S → S → S → Result A (TreeFault × N) → Type 0
 GivesBack node old new wanted (Ok done) = new ≡ wanted
 GivesBack node old new wanted (Err (NoMemory, back)) = (new ≡ old) × (back ≡ node)
+
+-- the first bytes of the text came, and then a write failed; they are counted up to the largest `usize`
+pub record CutShort (writer : Stream) (text : List ℕ) (done : ℕ) : Type 0 where
+  pub came : ℕ
+  pub within : came ≤ length text
+  pub counted : done ≡ counted_on 0 came
+  pub gained : Gains writer (take came text)
+  pub failed : writer.failed ≡ true
+
+-- the writer gains the whole text and hasn't failed, or its first `done` bytes, and has failed
+abbrev pub Prints : {A : Type 0} → Stream → List ℕ → Result A PrintFault → Type 0
+Prints writer text (Ok done) = Gains writer text × (writer.failed ≡ false)
+Prints writer text (Err (Write done)) = CutShort writer text done

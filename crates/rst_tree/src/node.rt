@@ -1,10 +1,12 @@
 //! Nodes and lists of them.
-ghost use Rattle.std.specs.Prelude.{◌≡◌, ◌∷◌, ◌++◌, [], ◌<◌, length, slice_get, slice_index_or, MatchOption, None, Some};
+ghost use Rattle.std.specs.Prelude.{◌≡◌, ◌∷◌, ◌++◌, [], ◌<◌, length, slice_get, slice_index_or, MatchOption, None, Some, IsSomeAnd};
 ghost use Rattle.std.specs.Borrow.{sem};
 ghost use Rattle.rst_tree.specs.Faults.{Gives, Becomes, GivesBack};
+ghost use Rattle.rst_tree.specs.Tree.{text_in};
 
-use crate::attrs::Attrs;
+use crate::attrs::{Attrs, Value};
 use crate::fault::TreeFault;
+use crate::key::Key;
 use crate::tag::Tag;
 use crate::text::Text;
 use std::alloc::Global;
@@ -128,6 +130,7 @@ impl Children {
 
 impl Node {
     ghost use Rattle.rst_tree.specs.Forest.{bare as no_nodes};
+    ghost use Rattle.rst_tree.specs.Paths.{node_at, changed_at, with_child, with_value, node_value, IsElement};
     ghost use Rattle.rst_tree.specs.declared.node.Node.TheVariants.{Element, Text as Words};
 
     /// A text.
@@ -148,6 +151,71 @@ impl Node {
             children: Children::new(alloc),
             line,
         }
+    }
+
+    /// What the attribute of a name says, if there is one; a text has none.
+    pub fn value(&self, key: Key) -> Option<&Value>
+        ensures { MatchOption result (node_value key self.now ≡ None) (λ v. node_value key self.now ≡ Some v.now) }
+    {
+        match self {
+            Node::Element { attrs, .. } => attrs.get(key),
+            Node::Text(_) => None,
+        }
+    }
+
+    /// Puts a node behind the last in the element at a path; it is given back at want of memory.
+    pub fn push_at(&mut self, at: &[usize], child: Node) -> Result<(), (TreeFault, Node)>
+        requires path { IsSomeAnd (node_at at.now self.old) IsElement }
+        ensures { GivesBack child self.old self.new (changed_at (with_child child) at.now self.old) result }
+    {
+        match self {
+            Node::Element { children, .. } => match at.split_first() {
+                None => {
+                    children.push(child)?;
+                    Ok(())
+                }
+                Some((first, rest)) => {
+                    let node = &mut children.list[*first];
+                    node.push_at(rest, child)?;
+                    Ok(())
+                }
+            },
+            Node::Text(_) => unreachable!(),
+        }
+    }
+
+    /// Lets the attribute of a name say a value at the element at a path.
+    pub fn set_at(&mut self, at: &[usize], key: Key, value: Value) -> Result<(), TreeFault>
+        requires path { IsSomeAnd (node_at at.now self.old) IsElement }
+        ensures { Becomes self.old self.new (changed_at (with_value key value) at.now self.old) result }
+    {
+        match self {
+            Node::Element {
+                attrs,
+                children,
+                ..
+            } => match at.split_first() {
+                None => {
+                    attrs.set(key, value)?;
+                    Ok(())
+                }
+                Some((first, rest)) => {
+                    let node = &mut children.list[*first];
+                    node.set_at(rest, key, value)?;
+                    Ok(())
+                }
+            },
+            Node::Text(_) => unreachable!(),
+        }
+    }
+
+    /// The texts in the node in order, joined.
+    pub fn text_of(&self, alloc: Global) -> Result<Text, TreeFault>
+        ensures { Gives (λ t. t ≡ text_in self.now) result }
+    {
+        let mut text = Text::from_str(alloc, "")?;
+        add_text(self, &mut text)?;
+        Ok(text)
     }
 
     /// A node equal to this one.
@@ -174,6 +242,24 @@ impl Node {
                 })
             }
             Node::Text(text) => Ok(Node::Text(text.copy()?)),
+        }
+    }
+}
+
+/// Puts the texts in a node behind a text.
+fn add_text(node: &Node, text: &mut Text) -> Result<(), TreeFault>
+    ensures { Gives (λ _. text.new ≡ text.old ++ text_in node.now) result }
+{
+    match node {
+        Node::Element { children, .. } => {
+            for child in children.as_slice() {
+                add_text(child, text)?;
+            }
+            Ok(())
+        }
+        Node::Text(more) => {
+            text.push_str(more.as_str())?;
+            Ok(())
         }
     }
 }
