@@ -5,3 +5,4 @@ pub mod Tests
 pub mod Fitting
 pub mod Sending
 pub mod EachLine
+pub mod KeyOrder
