@@ -6,3 +6,5 @@ pub mod Fitting
 pub mod Sending
 pub mod EachLine
 pub mod KeyOrder
+pub mod Walks
+pub mod Folds

@@ -13,3 +13,5 @@ pub mod Message
 pub mod Sends
 pub mod Faults
 pub mod Law
+pub mod Walk
+pub mod Read
