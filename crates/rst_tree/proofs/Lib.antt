@@ -8,3 +8,4 @@ pub mod EachLine
 pub mod KeyOrder
 pub mod Walks
 pub mod Folds
+pub mod Rewrites

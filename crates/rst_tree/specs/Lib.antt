@@ -15,3 +15,4 @@ pub mod Faults
 pub mod Law
 pub mod Walk
 pub mod Read
+pub mod Rewritten
