@@ -17,16 +17,20 @@ nodes_of-join bare g = refl
 nodes_of-join (element t a c l f) g = ap (λ z. Element t a c l ∷ z) (nodes_of-join f g)
 nodes_of-join (words t f) g = ap (λ z. Text t ∷ z) (nodes_of-join f g)
 
-module _ {S : Type 0} (next : S → Node → S) (out : S → Node → Rewrite) where
+module _ {S : Type 0} (entered : S → Node → S) (becomes : S → Node → Rewrite) (left : S → Node → S) (stands : S → Node → Forest) where
+  -- nodes rewritten
+  abbrev redone : S → Forest → Forest × S
+  redone = rewritten entered becomes left stands
+
   -- what becomes of one element, and the state then
   abbrev pub decided : Rewrite → S → Forest → List Node × S
   decided (Replace f) u c = (nodes_of f, u)
-  decided (Keep t a l) u c = (Element t a (rewritten next out u c).0 l ∷ [], (rewritten next out u c).1)
+  decided (Keep t a l) u c = let e : Node = Element t a (redone u c).0 l in (nodes_of (stands (redone u c).1 e), left (redone u c).1 e)
 
   -- what becomes of one node
   abbrev pub step : S → Node → List Node × S
   step s (Text t) = (Text t ∷ [], s)
-  step s (Element t a c l) = decided (out s (Element t a c l)) (next s (Element t a c l)) c
+  step s (Element t a c l) = decided (becomes s (Element t a c l)) (entered s (Element t a c l)) c
 
   -- what becomes of nodes, one after another
   abbrev pub steps : S → List Node → List Node × S
@@ -54,38 +58,42 @@ module _ {S : Type 0} (next : S → Node → S) (out : S → Node → Rewrite) w
   step-text u n t is = ap (step u) is
 
   -- what becomes of an element that is replaced
-  pub step-replace : (u u' : S) (n : Node) (t : Tag) (a : List Attr) (c : Forest) (l : ℕ) (r : Rewrite) (f : Forest) (more : List Node) → n ≡ Element t a c l → r ≡ out u (Element t a c l) → r ≡ Replace f → u' ≡ next u (Element t a c l)
+  pub step-replace : (u u' : S) (n : Node) (t : Tag) (a : List Attr) (c : Forest) (l : ℕ) (r : Rewrite) (f : Forest) (more : List Node) → n ≡ Element t a c l → r ≡ becomes u (Element t a c l) → r ≡ Replace f → u' ≡ entered u (Element t a c l)
       → more ≡ nodes_of f → step u n ≡ (more, u')
   step-replace u u' n t a c l r f more is outcome kind state nodes = ap (step u) is ∙ (rw (← outcome, kind, nodes, state) refl)
 
   -- what becomes of an element that stays
-  pub step-keep : (u u' u'' : S) (n : Node) (t t' : Tag) (a a' : List Attr) (c c' : Forest) (l l' : ℕ) (r : Rewrite) → n ≡ Element t a c l → r ≡ out u (Element t a c l) → r ≡ Keep t' a' l' → u' ≡ next u (Element t a c l)
-      → c' ≡ (rewritten next out u' c).0 → u'' ≡ (rewritten next out u' c).1 → step u n ≡ (Element t' a' c' l' ∷ [], u'')
-  step-keep u u' u'' n t t' a a' c c' l l' r is outcome kind state inside after = ap (step u) is ∙ (rw (← outcome, kind, inside, after, state) refl)
+  pub step-keep : (u u' v w : S) (n : Node) (t t' : Tag) (a a' : List Attr) (c c' : Forest) (l l' : ℕ) (r : Rewrite) (f : Forest) (more : List Node) → n ≡ Element t a c l → r ≡ becomes u (Element t a c l) → r ≡ Keep t' a' l'
+      → u' ≡ entered u (Element t a c l) → c' ≡ (redone u' c).0 → v ≡ (redone u' c).1 → w ≡ left v (Element t' a' c' l') → f ≡ stands v (Element t' a' c' l') → more ≡ nodes_of f → step u n ≡ (more, w)
+  step-keep u u' v w n t t' a a' c c' l l' r f more is outcome kind state inside then after stand nodes =
+      ap (step u) is ∙ (rw (← outcome, kind, nodes, stand, after, then, inside, state) refl)
 
-  rewritten-nodes : (s : S) (ns : List Node) → nodes_of (rewritten next out s (forest_of ns)).0 ≡ (steps s ns).0
+  rewritten-nodes : (s : S) (ns : List Node) → nodes_of (redone s (forest_of ns)).0 ≡ (steps s ns).0
   rewritten-nodes s [] = refl
   rewritten-nodes s (Text t ∷ ns) = ap (λ z. Text t ∷ z) (rewritten-nodes s ns)
   rewritten-nodes s (Element t a c l ∷ ns) =
-      let u : S = next s (Element t a c l) in
-      elim (out s (Element t a c l)) as (λ v. nodes_of (go_on v u (λ w. rewritten next out w c) (λ w. rewritten next out w (forest_of ns))).0 ≡ (decided v u c).0 ++ (steps (decided v u c).1 ns).0) [
-        | Replace f ↦ nodes_of-join f (rewritten next out u (forest_of ns)).0 ∙ ap (λ z. nodes_of f ++ z) (rewritten-nodes u ns)
-        | Keep t' a' l' ↦ ap (λ z. Element t' a' (rewritten next out u c).0 l' ∷ z) (rewritten-nodes (rewritten next out u c).1 ns)
+      let u : S = entered s (Element t a c l) in
+      elim (becomes s (Element t a c l)) as (λ v. nodes_of (go_on entered becomes left stands v u (λ w. redone w c) (λ w. redone w (forest_of ns))).0 ≡ (decided v u c).0 ++ (steps (decided v u c).1 ns).0) [
+        | Replace f ↦ nodes_of-join f (redone u (forest_of ns)).0 ∙ ap (λ z. nodes_of f ++ z) (rewritten-nodes u ns)
+        | Keep t' a' l' ↦
+            let e : Node = Element t' a' (redone u c).0 l' in
+            let w : S = left (redone u c).1 e in
+            nodes_of-join (stands (redone u c).1 e) (redone w (forest_of ns)).0 ∙ ap (λ z. nodes_of (stands (redone u c).1 e) ++ z) (rewritten-nodes w ns)
       ]
 
-  rewritten-state : (s : S) (ns : List Node) → (rewritten next out s (forest_of ns)).1 ≡ (steps s ns).1
+  rewritten-state : (s : S) (ns : List Node) → (redone s (forest_of ns)).1 ≡ (steps s ns).1
   rewritten-state s [] = refl
   rewritten-state s (Text t ∷ ns) = rewritten-state s ns
   rewritten-state s (Element t a c l ∷ ns) =
-      let u : S = next s (Element t a c l) in
-      elim (out s (Element t a c l)) as (λ v. (go_on v u (λ w. rewritten next out w c) (λ w. rewritten next out w (forest_of ns))).1 ≡ (steps (decided v u c).1 ns).1) [
+      let u : S = entered s (Element t a c l) in
+      elim (becomes s (Element t a c l)) as (λ v. (go_on entered becomes left stands v u (λ w. redone w c) (λ w. redone w (forest_of ns))).1 ≡ (steps (decided v u c).1 ns).1) [
         | Replace f ↦ rewritten-state u ns
-        | Keep t' a' l' ↦ rewritten-state (rewritten next out u c).1 ns
+        | Keep t' a' l' ↦ rewritten-state (left (redone u c).1 (Element t' a' (redone u c).0 l')) ns
       ]
 
   -- all nodes
-  pub all_nodes : (s : S) (f : Forest) (ns held : List Node) → f ≡ forest_of ns → held ≡ (steps s ns).0 → forest_of held ≡ (rewritten next out s f).0
-  all_nodes s f ns held is all = rw is (ap forest_of (all ∙ sym (rewritten-nodes s ns)) ∙ forest_of-nodes_of (rewritten next out s (forest_of ns)).0)
+  pub all_nodes : (s : S) (f : Forest) (ns held : List Node) → f ≡ forest_of ns → held ≡ (steps s ns).0 → forest_of held ≡ (redone s f).0
+  all_nodes s f ns held is all = rw is (ap forest_of (all ∙ sym (rewritten-nodes s ns)) ∙ forest_of-nodes_of (redone s (forest_of ns)).0)
 
-  pub all_state : (s u : S) (f : Forest) (ns : List Node) → f ≡ forest_of ns → u ≡ (steps s ns).1 → u ≡ (rewritten next out s f).1
+  pub all_state : (s u : S) (f : Forest) (ns : List Node) → f ≡ forest_of ns → u ≡ (steps s ns).1 → u ≡ (redone s f).1
   all_state s u f ns is all = rw is (all ∙ sym (rewritten-state s ns))

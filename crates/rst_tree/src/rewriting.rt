@@ -4,6 +4,7 @@ ghost use Rattle.rst_tree.specs.declared.node.Node.{Node};
 ghost use Rattle.rst_tree.specs.declared.node.Node.TheVariants.{Element};
 ghost use Rattle.rst_tree.specs.declared.rewriting.Rewrite.{Rewrite};
 ghost use Rattle.rst_tree.specs.Faults.{Gives};
+ghost use Rattle.rst_tree.specs.Forest.{Forest};
 ghost use Rattle.rst_tree.specs.Rewritten.{rewritten};
 
 use crate::attrs::Attrs;
@@ -15,22 +16,28 @@ use std::alloc::Global;
 /// What becomes of an element.
 #[derive(Debug, Drop)]
 pub enum Rewrite {
-    /// It stays, with this of its own; then what stands in it is gone through.
+    /// It stays, with this of its own. What stands in it is gone through, and then it is left.
     Keep { tag: Tag, attrs: Attrs, line: usize },
     /// These nodes stand in its place, and aren't gone through.
     Replace(Children),
 }
 
-/// What is done with each element that is met, by a state that it changes.
+/// What is done with each element, by a state that it changes: on the way in, and on the way out.
 pub trait Rewriter {
-    /// The state after an element.
-    ghost next: { Self → Node → Self };
+    /// The state after the way into an element.
+    ghost entered: { Self → Node → Self };
 
-    /// What becomes of the element.
-    ghost out: { Self → Node → Rewrite };
+    /// What becomes of an element that is met.
+    ghost becomes: { Self → Node → Rewrite };
 
-    /// Decides on an element, whose nodes are lent.
-    fn rewrite(
+    /// The state after the way out of an element.
+    ghost left: { Self → Node → Self };
+
+    /// The nodes that stand in the end for an element that stayed.
+    ghost stands: { Self → Node → Forest };
+
+    /// Decides on an element that is met; its nodes, not gone through yet, are lent.
+    fn enter(
         &mut self,
         alloc: Global,
         tag: Tag,
@@ -38,8 +45,13 @@ pub trait Rewriter {
         children: &Children,
         line: usize,
     ) -> Result<Rewrite, TreeFault>
-        ensures state { Gives (λ _. self.new ≡ next self.old (Element tag attrs children.now line)) result }
-        ensures outcome { Gives (λ r. r ≡ out self.old (Element tag attrs children.now line)) result };
+        ensures state { Gives (λ _. self.new ≡ entered self.old (Element tag attrs children.now line)) result }
+        ensures outcome { Gives (λ r. r ≡ becomes self.old (Element tag attrs children.now line)) result };
+
+    /// The nodes that stand for an element that stayed, once what stands in it was gone through: mostly itself alone.
+    fn leave(&mut self, alloc: Global, element: Node) -> Result<Children, TreeFault>
+        ensures state { Gives (λ _. self.new ≡ left self.old element) result }
+        ensures nodes { Gives (λ nodes. nodes ≡ stands self.old element) result };
 }
 
 /// The nodes, and then more.
@@ -58,8 +70,8 @@ pub fn rewrite_in<R: Rewriter>(
     nodes: Children,
     rewriter: &mut R,
 ) -> Result<Children, TreeFault>
-    ensures nodes { Gives (λ new. new ≡ (rewritten R.next R.out rewriter.old nodes).0) result }
-    ensures state { Gives (λ _. rewriter.new ≡ (rewritten R.next R.out rewriter.old nodes).1) result }
+    ensures nodes { Gives (λ new. new ≡ (rewritten R.entered R.becomes R.left R.stands rewriter.old nodes).0) result }
+    ensures state { Gives (λ _. rewriter.new ≡ (rewritten R.entered R.becomes R.left R.stands rewriter.old nodes).1) result }
 {
     let mut done = Vec::new(alloc);
     for node in nodes.into_list() {
@@ -73,19 +85,21 @@ pub fn rewrite_in<R: Rewriter>(
                 attrs,
                 children,
                 line,
-            } => match rewriter.rewrite(alloc, tag, attrs, &children, line)? {
+            } => match rewriter.enter(alloc, tag, attrs, &children, line)? {
                 Rewrite::Replace(more) => {
                     done = with_nodes(done, more.into_list())?;
                     continue;
                 }
                 Rewrite::Keep { tag, attrs, line } => {
                     let children = rewrite_in(alloc, children, rewriter)?;
-                    done.push(Node::Element {
+                    let element = Node::Element {
                         tag,
                         attrs,
                         children,
                         line,
-                    })?;
+                    };
+                    let more = rewriter.leave(alloc, element)?;
+                    done = with_nodes(done, more.into_list())?;
                     continue;
                 }
             },

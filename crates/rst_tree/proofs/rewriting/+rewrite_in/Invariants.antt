@@ -8,6 +8,6 @@ decreases-rewrite_in g l = height l.nodes
 
 abbrev pub invariant-loop-node : goal.invariant-loop-node
 invariant-loop-node g l = record {
-  nodes : l.done.items ≡ (steps g.R.Rewriter.next g.R.Rewriter.out l.initial.rewriter l.yielded).0;
-  state : l.rewriter ≡ (steps g.R.Rewriter.next g.R.Rewriter.out l.initial.rewriter l.yielded).1;
+  nodes : l.done.items ≡ (steps g.R.Rewriter.entered g.R.Rewriter.becomes g.R.Rewriter.left g.R.Rewriter.stands l.initial.rewriter l.yielded).0;
+  state : l.rewriter ≡ (steps g.R.Rewriter.entered g.R.Rewriter.becomes g.R.Rewriter.left g.R.Rewriter.stands l.initial.rewriter l.yielded).1;
 }
