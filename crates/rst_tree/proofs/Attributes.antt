@@ -2,14 +2,16 @@
 use Rattle.std.proofs.lemmas.Bool.{eqb-true}
 use Rattle.std.proofs.Common.{nat_eq, ◌∙◌, Bool, ℕ, sym, ◌≡◌, ◌+◌, ◌≤◌, List, [], ◌∷◌, length, drop, set, add-one, refl, ap, arith, true, false, nat_lt}
 use Rattle.std.specs.Prelude.{if◌then◌else◌}
-use Rattle.std.specs.List.{insert}
+use Rattle.std.specs.List.{insert, remove}
+use Rattle.std.proofs.lemmas.List.{take_all, drop_all, append-nil}
+use Rattle.std.proofs.Common.{get_or, Some, None, ◌<◌, take, ◌++◌, zero, suc}
 use Rattle.rst_tree.specs.declared.attrs.Attr.{Attr}
 use Rattle.rst_tree.specs.declared.attrs.Value.{Value}
 use Rattle.rst_tree.specs.declared.key.Key.{Key}
-use Rattle.rst_tree.specs.KeyNames.{key_code, is_same}
+use Rattle.rst_tree.specs.KeyNames.{key_code, is_same, is_hidden}
 use Rattle.rst_tree.specs.Tree.{in_order}
 use Rattle.std.specs.Prelude.{◌&&◌}
-use Rattle.rst_tree.specs.Attributes.{attr, places_below, with_attr, is_at}
+use Rattle.rst_tree.specs.Attributes.{attr, places_below, with_attr, is_at, value_of, place_named, without_key, without_hidden}
 
 pub places_below-le : (k : Key) (xs : List Attr) → places_below k xs ≤ length xs
 places_below-le k [] = omega arith
@@ -85,3 +87,45 @@ in_order-with_attr k v (a ∷ xs) h =
             | false ↦ λ other. and_both _ _ (trichotomy (key_code a.key) (key_code k) high other) h
           ] refl
     ] refl
+
+-- the attribute of a name, and the others
+pub named_value : (k : Key) (xs : List Attr) (a : Attr) → place_named k xs < length xs → a ≡ get_or xs (place_named k xs) a → Some a.value ≡ value_of k xs
+named_value k [] a h is = absurd (omega arith)
+named_value k (x ∷ xs) a h is =
+    elim (is_same x.key k) as (λ b. (if b then 0 else place_named k xs + 1) < length (x ∷ xs) → a ≡ get_or (x ∷ xs) (if b then 0 else place_named k xs + 1) a → Some a.value ≡ (if b then Some x.value else value_of k xs)) [
+      | true ↦ λ h is. ap (λ z. Some z.value) is
+      | false ↦ λ h is. named_value k xs a (omega arith) (rw add-one at is)
+    ] h is
+
+pub named_rest : (k : Key) (xs : List Attr) → remove xs (place_named k xs) ≡ without_key k xs
+named_rest k [] = refl
+named_rest k (x ∷ xs) =
+    elim (is_same x.key k) as (λ b. remove (x ∷ xs) (if b then 0 else place_named k xs + 1) ≡ (if b then xs else x ∷ without_key k xs))
+    [ true ↦ refl | false ↦ rw add-one (ap (λ z. x ∷ z) (named_rest k xs)) ]
+
+pub unnamed_value : (k : Key) (xs : List Attr) → length xs ≤ place_named k xs → None ≡ value_of k xs
+unnamed_value k [] h = refl
+unnamed_value k (x ∷ xs) h =
+    elim (is_same x.key k) as (λ b. length (x ∷ xs) ≤ (if b then 0 else place_named k xs + 1) → None ≡ (if b then Some x.value else value_of k xs))
+    [ true ↦ λ h. absurd (omega arith) | false ↦ λ h. unnamed_value k xs (omega arith) ] h
+
+pub unnamed_rest : (k : Key) (xs : List Attr) → length xs ≤ place_named k xs → xs ≡ without_key k xs
+unnamed_rest k [] h = refl
+unnamed_rest k (x ∷ xs) h =
+    elim (is_same x.key k) as (λ b. length (x ∷ xs) ≤ (if b then 0 else place_named k xs + 1) → x ∷ xs ≡ (if b then xs else x ∷ without_key k xs))
+    [ true ↦ λ h. absurd (omega arith) | false ↦ λ h. ap (λ z. x ∷ z) (unnamed_rest k xs (omega arith)) ] h
+
+-- one hidden attribute less
+pub hide : (xs : List Attr) (i : ℕ) (a : Attr) → i < length xs → a ≡ get_or xs i a → is_hidden a.key ≡ true → take i (remove xs i) ++ without_hidden (drop i (remove xs i)) ≡ take i xs ++ without_hidden (drop i xs)
+hide [] i a h is hidden = absurd (omega arith)
+hide (x ∷ xs) zero a h is hidden = let e : is_hidden x.key ≡ true = ap (λ z. is_hidden z.key) (sym is) ∙ hidden in rw e refl
+hide (x ∷ xs) (suc i) a h is hidden = ap (λ z. x ∷ z) (hide xs i a (omega arith) is hidden)
+
+-- one more that stays
+pub show : (xs : List Attr) (i : ℕ) (a : Attr) → i < length xs → a ≡ get_or xs i a → is_hidden a.key ≡ false → take (i + 1) xs ++ without_hidden (drop (i + 1) xs) ≡ take i xs ++ without_hidden (drop i xs)
+show [] i a h is shown = absurd (omega arith)
+show (x ∷ xs) zero a h is shown = let e : is_hidden x.key ≡ false = ap (λ z. is_hidden z.key) (sym is) ∙ shown in rw e refl
+show (x ∷ xs) (suc i) a h is shown = rw add-one (ap (λ z. x ∷ z) (rw add-one at (show xs i a (omega arith) is shown)))
+
+pub hidden_end : (xs : List Attr) (i : ℕ) → length xs ≤ i → take i xs ++ without_hidden (drop i xs) ≡ xs
+hidden_end xs i h = rw (take_all i xs h, drop_all i xs h) (append-nil xs)

@@ -8,7 +8,7 @@ use Rattle.rst_tree.specs.declared.tag.Tag.{Tag}
 use Rattle.rst_tree.specs.Forest.{Forest}
 use Rattle.rst_tree.specs.Nodes.{forest_of}
 use Rattle.rst_tree.specs.Read.{elements, elements_of, folded}
-use Rattle.rst_tree.proofs.Tests.{drop_item}
+use Rattle.rst_tree.proofs.EachNode.{drop_item}
 
 elements-cons : (n : Node) (ns : List Node) → elements (forest_of (n ∷ ns)) ≡ elements_of n ++ elements (forest_of ns)
 elements-cons (Element t a c l) ns = refl

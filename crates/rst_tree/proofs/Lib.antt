@@ -1,7 +1,7 @@
 pub mod Changes
 pub mod PrintedParts
 pub mod Attributes
-pub mod Tests
+pub mod EachNode
 pub mod Fitting
 pub mod Sending
 pub mod EachLine

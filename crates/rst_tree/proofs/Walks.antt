@@ -2,7 +2,7 @@
 use Rattle.std.proofs.Common.{◌≡◌, ℕ, ◌+◌, ◌<◌, List, [], ◌∷◌, ◌++◌, ◌≤◌, length, take, drop, get_or, set, length-set, arith, append_assoc, append-nil, add-one, add-zero, zero, suc, refl, sym, ◌∙◌, ap}
 use Rattle.std.proofs.lemmas.List.{take_more_set, drop-set-lt, drop_all, take_all, get_or-drop}
 use Rattle.rst_tree.proofs.Changes.{nodes_of-forest_of, forest_of-nodes_of}
-use Rattle.rst_tree.proofs.Tests.{drop_item}
+use Rattle.rst_tree.proofs.EachNode.{drop_item}
 use Rattle.rst_tree.specs.declared.attrs.Attr.{Attr}
 use Rattle.rst_tree.specs.declared.tag.Tag.{Tag}
 use Rattle.rst_tree.specs.declared.node.Node.{Node}

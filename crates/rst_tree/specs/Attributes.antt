@@ -30,10 +30,15 @@ with_attr k v (a ∷ more) =
     if nat_lt (key_code a.key) (key_code k) then a ∷ with_attr k v more
     else (if is_same a.key k then attr k v ∷ more else attr k v ∷ a ∷ more)
 
--- the attributes without the one of a name
+-- the attributes without the first of a name
 abbrev pub without_key : Key → List Attr → List Attr
 without_key k [] = []
-without_key k (a ∷ more) = if is_same a.key k then without_key k more else a ∷ without_key k more
+without_key k (a ∷ more) = if is_same a.key k then more else a ∷ without_key k more
+
+-- how many attributes stand before the first of a name
+abbrev pub place_named : Key → List Attr → ℕ
+place_named k [] = 0
+place_named k (a ∷ more) = if is_same a.key k then 0 else place_named k more + 1
 
 -- the attributes without those that the transforms alone need
 abbrev pub without_hidden : List Attr → List Attr

@@ -1,6 +1,6 @@
 -- Elements replaced by nodes, or changed, in preorder, with a state.
 use Rattle.rst_tree.specs.declared.node.Node.{Node}
-use Rattle.rst_tree.specs.declared.node.Node.TheVariants.{Element}
+use Rattle.rst_tree.specs.declared.node.Node.TheVariants.{Element, Text}
 use Rattle.rst_tree.specs.declared.rewriting.Rewrite.{Rewrite}
 use Rattle.rst_tree.specs.declared.rewriting.Rewrite.TheVariants.{Keep, Replace}
 use Rattle.rst_tree.specs.Forest.{Forest, bare, element, words}
@@ -10,6 +10,11 @@ abbrev pub join : Forest → Forest → Forest
 join bare r = r
 join (element t a c l f) r = element t a c l (join f r)
 join (words t f) r = words t (join f r)
+
+-- an element that stays as it is
+abbrev pub kept : Node → Rewrite
+kept (Element t a c l) = Keep t a l
+kept (Text t) = Replace (words t bare)
 
 module _ {S : Type 0} (entered : S → Node → S) (becomes : S → Node → Rewrite) (left : S → Node → S) (stands : S → Node → Forest) where
   -- What becomes of an element and of the nodes behind it, and the state then. Other nodes stand in its place; or it stays,

@@ -1,7 +1,7 @@
 //! The attributes of elements.
 ghost use Rattle.std.specs.Prelude.{◌≡◌, drop, [], MatchOption, None, Some};
 ghost use Rattle.rst_tree.specs.Faults.{Gives, Becomes};
-ghost use Rattle.rst_tree.specs.Attributes.{value_of, with_attr, places_below, is_at};
+ghost use Rattle.rst_tree.specs.Attributes.{value_of, with_attr, without_key, without_hidden, place_named, places_below, is_at};
 
 use crate::fault::TreeFault;
 use crate::key::Key;
@@ -126,6 +126,26 @@ impl Attrs {
         Ok(())
     }
 
+    /// Takes out the attribute of a name, if there is one, and gives what it said.
+    pub fn remove(&mut self, key: Key) -> Option<Value>
+        ensures value { result ≡ value_of key self.old }
+        ensures rest { self.new ≡ without_key key self.old }
+    {
+        let place = place_named(self.list.as_slice(), key);
+        if place < self.list.len() {
+            let attr = self.list.remove(place);
+            return Some(attr.value);
+        }
+        None
+    }
+
+    /// Takes out the attributes that serve the transforms alone.
+    pub fn remove_hidden(&mut self)
+        ensures { self.new ≡ without_hidden self.old }
+    {
+        remove_hidden(&mut self.list);
+    }
+
     /// An equal list of attributes.
     pub fn copy(&self, alloc: Global) -> Result<Attrs, TreeFault>
         ensures { Gives (λ a. a ≡ self.now) result }
@@ -159,4 +179,30 @@ fn is_at(attrs: &[Attr], place: usize, key: Key) -> bool
     ensures { result ≡ is_at key (drop place attrs.now) }
 {
     place < attrs.len() && attrs[place].key.code() == key.code()
+}
+
+/// How many attributes stand before the first of a name.
+fn place_named(attrs: &[Attr], key: Key) -> usize
+    ensures { result ≡ place_named key attrs.now }
+{
+    for (i, attr) in attrs.iter().enumerate() {
+        if attr.key.code() == key.code() {
+            return i;
+        }
+    }
+    attrs.len()
+}
+
+/// Takes out the attributes that serve the transforms alone.
+fn remove_hidden(list: &mut Vec<Attr>)
+    ensures { list.new.items ≡ without_hidden list.old.items }
+{
+    let mut i = 0;
+    while i < list.len() {
+        if list[i].key.is_hidden() {
+            list.remove(i);
+            continue;
+        }
+        i += 1;
+    }
 }

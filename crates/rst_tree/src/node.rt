@@ -117,8 +117,16 @@ impl Children {
         &mut self.list[i]
     }
 
-    /// Puts a node behind the last; it is given back at want of memory.
-    pub fn push(&mut self, node: Node) -> Result<(), (TreeFault, Node)>
+    /// Puts a node behind the last; it is dropped at want of memory.
+    pub fn push(&mut self, node: Node) -> Result<(), TreeFault>
+        ensures { Becomes self.old self.new (forest_of (nodes_of self.old ++ node ∷ [])) result }
+    {
+        self.list.push(node)?;
+        Ok(())
+    }
+
+    /// Puts a node behind the last, and gives it back at want of memory.
+    fn push_or_back(&mut self, node: Node) -> Result<(), (TreeFault, Node)>
         ensures { GivesBack node self.old self.new (forest_of (nodes_of self.old ++ node ∷ [])) result }
     {
         if let Err(failed) = self.list.push(node) {
@@ -145,10 +153,12 @@ impl Node {
     pub fn element(alloc: Global, tag: Tag, line: usize) -> Node
         ensures { result ≡ Element tag [] no_nodes line }
     {
+        let attrs = Attrs::new(alloc);
+        let children = Children::new(alloc);
         Node::Element {
             tag,
-            attrs: Attrs::new(alloc),
-            children: Children::new(alloc),
+            attrs,
+            children,
             line,
         }
     }
@@ -171,7 +181,7 @@ impl Node {
         match self {
             Node::Element { children, .. } => match at.split_first() {
                 None => {
-                    children.push(child)?;
+                    children.push_or_back(child)?;
                     Ok(())
                 }
                 Some((first, rest)) => {

@@ -88,6 +88,13 @@ impl Tree {
         found(&self.root, at).is_some()
     }
 
+    /// Whether an element is at the path.
+    pub fn has_element(&self, at: &[usize]) -> bool
+        ensures { result ≡ is_element (node_at at.now self.now) }
+    {
+        is_element_at(&self.root, at)
+    }
+
     /// Whether an element is at the path, and the node can stand in it.
     pub fn fits(&self, at: &[usize], node: &Node) -> bool
         ensures { result ≡ fits at.now node.now self.now }
@@ -98,7 +105,7 @@ impl Tree {
             && is_sound(node)
     }
 
-    /// Puts a node that fits behind the last in the element at a path; it is given back at want of memory.
+    /// Puts a node that `fits` behind the last in the element at a path; it is given back at want of memory.
     pub fn push(
         &mut self,
         _alloc: Global,
@@ -112,7 +119,8 @@ impl Tree {
         Ok(())
     }
 
-    /// Lets the attribute of a name say a value at the element at a path; the value is dropped at want of memory.
+    /// Lets the attribute of a name say a value at the element at a path, which `has_element` tells; the value is dropped
+    /// at want of memory.
     pub fn set(
         &mut self,
         _alloc: Global,
