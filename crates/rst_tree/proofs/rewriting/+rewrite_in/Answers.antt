@@ -1,9 +1,9 @@
-use Rattle.std.proofs.Common.{◌≡◌, ◌+◌, ◌≤◌, rules, arith, ◌∙◌, sym, ap, map-id}
+use Rattle.std.proofs.Common.{◌+◌, ◌≤◌, rules, ◌∙◌, sym, ap, map-id}
 use Rattle.std.proofs.lemmas.Iterator.Consumers.{YieldsList-turn, YieldsList-end}
 use Rattle.std.proofs.lemmas.Iterator.Adapters.{YieldsList-from_vec}
 use Rattle.rst_tree.specs.Forest.{height}
-use Rattle.rst_tree.specs.Nodes.{node_height, forest_of}
-use Rattle.rst_tree.proofs.PrintedParts.{node_height-le}
+use Rattle.rst_tree.specs.Nodes.{forest_of}
+use Rattle.rst_tree.proofs.PrintedParts.{inside_lower}
 use Rattle.rst_tree.proofs.Rewrites.{more_nodes, more_state, step-text, step-replace, step-keep, all_nodes, all_state}
 use Rattle.rst_tree.proofs.rewriting.+rewrite_in.Goals as goal
 
@@ -11,11 +11,9 @@ pub rewrite_in-requires : goal.rewrite_in-requires
 rewrite_in-requires g t c κs within =
     let turn = YieldsList-turn (YieldsList-from_vec {s = c.into_iter-node-iterator.result} c.into_list-node-items.result.items (search rules) (search rules))
     c.loop-node.yielded c.loop-node.node-iterator c.loop-node.yielded_by c.next.result c.next.new.self c.in-Some.node c.in-Some.is c.next.ensures.steps in
-    let e : node_height c.in-Some.node ≡ height c.in-Element.children + 1 = ap node_height c.in-Element.is in
-    let f : height c.args.nodes ≡ height (forest_of c.into_list-node-items.result.items) = ap height c.into_list-node-items.ensures.forest in
-    let k = ap node_height turn.1 in
-    let low = node_height-le c.into_list-node-items.result.items _ c.in-Some.node turn.0 in
-    let h : height c.in-Element.children + 1 ≤ height c.args.nodes = omega (arith, e, f, k, low) in
+    let h : height c.in-Element.children + 1 ≤ height c.args.nodes =
+    inside_lower c.in-Some.node c.in-Element.tag c.in-Element.attrs c.in-Element.children c.args.nodes c.in-Element.line c.into_list-node-items.result.items _
+    c.in-Element.is c.into_list-node-items.ensures.forest turn.1 turn.0 in
     search (rules, h)
 
 pub loop-node-preserved-in-Text : goal.loop-node-preserved-in-Text
