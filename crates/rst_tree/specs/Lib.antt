@@ -16,3 +16,4 @@ pub mod Law
 pub mod Walk
 pub mod Read
 pub mod Rewritten
+pub mod Messages

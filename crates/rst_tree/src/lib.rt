@@ -5,6 +5,7 @@ mod attrs;
 mod fault;
 mod key;
 pub mod laws;
+mod messages;
 mod node;
 mod note;
 mod output;
