@@ -1,0 +1,255 @@
+-- Changes at each mark, one after another, are a walk.
+use Rattle.std.proofs.Common.{◌≡◌, ℕ, ◌+◌, ◌<◌, ◌≤◌, List, [], ◌∷◌, ◌++◌, length, get_or, set, drop, take, arith, append_assoc, zero, suc, refl, sym, ◌∙◌, ap, Bool, true, false}
+use Rattle.std.specs.Prelude.{if◌then◌else◌, map, reverse}
+use Rattle.std.proofs.lemmas.List.{append-nil, map-append, reverse-append, drop_all, take_all, take_more, length-take-le}
+use Rattle.rst_tree.specs.Paths.{with_child}
+use Rattle.rst_tree.specs.declared.attrs.Attr.{Attr}
+use Rattle.rst_tree.specs.declared.tag.Tag.{Tag}
+use Rattle.rst_tree.specs.declared.node.Node.{Node}
+use Rattle.rst_tree.specs.declared.node.Node.TheVariants.{Element, Text}
+use Rattle.rst_tree.specs.Forest.{Forest, bare, element, words}
+use Rattle.rst_tree.specs.Nodes.{forest_of, nodes_of}
+use Rattle.rst_tree.specs.Walk.{Item, item, items, node_items, after, walked, walked_node}
+use Rattle.rst_tree.proofs.Walks.{after-append}
+use Rattle.rst_tree.proofs.Changes.{forest_of-nodes_of}
+use Rattle.rst_marks.specs.Marks.{Place, path_of, deeper, later, own_place, places, own_mark, marks_of, heeded_out, heeded_next, touched, touched_node, stepped, stepped_node}
+
+module _ {S : Type 0} (next : S → Item → S) (out : S → Item → Item) where
+  -- a state and the nodes, after the element at a place
+  abbrev pub visited : Place → S × Forest → S × Forest
+  visited p w = (stepped next w.0 p.0 p.1 w.1, touched (out w.0) p.0 p.1 w.1)
+
+  abbrev pub many : List Place → S × Forest → S × Forest
+  many [] w = w
+  many (p ∷ ps) w = many ps (visited p w)
+
+  abbrev pub visited_node : List ℕ → S × Node → S × Node
+  visited_node p w = (stepped_node next w.0 p w.1, touched_node (out w.0) p w.1)
+
+  abbrev pub many_node : List (List ℕ) → S × Node → S × Node
+  many_node [] w = w
+  many_node (p ∷ ps) w = many_node ps (visited_node p w)
+
+  many-append : (ps qs : List Place) (w : S × Forest) → many (ps ++ qs) w ≡ many qs (many ps w)
+  many-append [] qs w = refl
+  many-append (p ∷ ps) qs w = many-append ps qs (visited p w)
+
+  many_node-append : (ps qs : List (List ℕ)) (w : S × Node) → many_node (ps ++ qs) w ≡ many_node qs (many_node ps w)
+  many_node-append [] qs w = refl
+  many_node-append (p ∷ ps) qs w = many_node-append ps qs (visited_node p w)
+
+  abbrev inside : Tag → List Attr → ℕ → Forest → S × Forest → S × Forest
+  inside t a l r w = (w.0, element t a w.1 l r)
+
+  abbrev beside : Tag → List Attr → Forest → ℕ → S × Forest → S × Forest
+  beside t a c l w = (w.0, element t a c l w.1)
+
+  abbrev behind : List ℕ → S × Forest → S × Forest
+  behind t w = (w.0, words t w.1)
+
+  abbrev within : Tag → List Attr → ℕ → S × Forest → S × Node
+  within t a l w = (w.0, Element t a w.1 l)
+
+  many-deeper : (ps : List Place) (s : S) (t : Tag) (a : List Attr) (c : Forest) (l : ℕ) (r : Forest) → many (map deeper ps) (s, element t a c l r) ≡ inside t a l r (many ps (s, c))
+  many-deeper [] s t a c l r = refl
+  many-deeper (p ∷ ps) s t a c l r = many-deeper ps (stepped next s p.0 p.1 c) t a (touched (out s) p.0 p.1 c) l r
+
+  many-later : (ps : List Place) (s : S) (t : Tag) (a : List Attr) (c : Forest) (l : ℕ) (r : Forest) → many (map later ps) (s, element t a c l r) ≡ beside t a c l (many ps (s, r))
+  many-later [] s t a c l r = refl
+  many-later (p ∷ ps) s t a c l r = many-later ps (stepped next s p.0 p.1 r) t a c l (touched (out s) p.0 p.1 r)
+
+  many-behind : (ps : List Place) (s : S) (t : List ℕ) (r : Forest) → many (map later ps) (s, words t r) ≡ behind t (many ps (s, r))
+  many-behind [] s t r = refl
+  many-behind (p ∷ ps) s t r = many-behind ps (stepped next s p.0 p.1 r) t (touched (out s) p.0 p.1 r)
+
+  many_node-paths : (ps : List Place) (s : S) (t : Tag) (a : List Attr) (c : Forest) (l : ℕ) → many_node (map path_of ps) (s, Element t a c l) ≡ within t a l (many ps (s, c))
+  many_node-paths [] s t a c l = refl
+  many_node-paths (p ∷ ps) s t a c l = many_node-paths ps (stepped next s p.0 p.1 c) t a (touched (out s) p.0 p.1 c) l
+
+  module _ (needs : Item → Bool) where
+    abbrev here : S → Item → Forest → Forest → S × Forest
+    here s x c r =
+        let y : Item = heeded_out needs out s x in
+        (heeded_next needs next s x, element y.tag y.attrs c y.line r)
+
+    own-visited : (s : S) (t : Tag) (a : List Attr) (c : Forest) (l : ℕ) (r : Forest) → many (own_place needs (item t a l)) (s, element t a c l r) ≡ here s (item t a l) c r
+    own-visited s t a c l r =
+        elim (needs (item t a l)) as (λ v. many (if v then (0, []) ∷ [] else []) (s, element t a c l r)
+        ≡ (if v then next s (item t a l) else s, (let y : Item = if v then out s (item t a l) else item t a l in element y.tag y.attrs c y.line r)))
+        [ true ↦ refl | false ↦ refl ]
+
+    -- the changes at all places are a walk that heeds these elements alone
+    pub many-places : (s : S) (f : Forest) → many (places needs f) (s, f) ≡ (after (heeded_next needs next) (heeded_out needs out) s (items f), walked (heeded_next needs next) (heeded_out needs out) s f)
+    many-places s bare = refl
+    many-places s (words t r) = many-behind (places needs r) s t r ∙ ap (behind t) (many-places s r)
+    many-places s (element t a c l r) =
+        let x : Item = item t a l in
+        let y : Item = heeded_out needs out s x in
+        let s1 : S = heeded_next needs next s x in
+        let s2 : S = after (heeded_next needs next) (heeded_out needs out) s1 (items c) in
+        let c' : Forest = walked (heeded_next needs next) (heeded_out needs out) s1 c in
+        many-append (own_place needs x) (map deeper (places needs c) ++ map later (places needs r)) (s, element t a c l r)
+        ∙ ap (many (map deeper (places needs c) ++ map later (places needs r))) (own-visited s t a c l r)
+        ∙ many-append (map deeper (places needs c)) (map later (places needs r)) (s1, element y.tag y.attrs c y.line r)
+        ∙ ap (many (map later (places needs r))) (many-deeper (places needs c) s1 y.tag y.attrs c y.line r ∙ ap (inside y.tag y.attrs y.line r) (many-places s1 c))
+        ∙ many-later (places needs r) s2 y.tag y.attrs c' y.line r
+        ∙ ap (beside y.tag y.attrs c' y.line) (many-places s2 r)
+        ∙ ap (λ z. (z, element y.tag y.attrs c' y.line (walked (heeded_next needs next) (heeded_out needs out) s2 r))) (sym (after-append (heeded_next needs next) (heeded_out needs out) s1 (items c) (items r)))
+
+    own-visited_node : (s : S) (t : Tag) (a : List Attr) (c : Forest) (l : ℕ) → many_node (own_mark needs (item t a l)) (s, Element t a c l)
+        ≡ (heeded_next needs next s (item t a l), Element (heeded_out needs out s (item t a l)).tag (heeded_out needs out s (item t a l)).attrs c (heeded_out needs out s (item t a l)).line)
+    own-visited_node s t a c l =
+        elim (needs (item t a l)) as (λ v. many_node (if v then [] ∷ [] else []) (s, Element t a c l)
+        ≡ (if v then next s (item t a l) else s, (let y : Item = if v then out s (item t a l) else item t a l in Element y.tag y.attrs c y.line)))
+        [ true ↦ refl | false ↦ refl ]
+
+    -- the changes at all marks of a node
+    pub many_node-marks : (s : S) (n : Node) → many_node (marks_of needs n) (s, n) ≡ (after (heeded_next needs next) (heeded_out needs out) s (node_items n), walked_node (heeded_next needs next) (heeded_out needs out) s n)
+    many_node-marks s (Text t) = refl
+    many_node-marks s (Element t a c l) =
+        let x : Item = item t a l in
+        let y : Item = heeded_out needs out s x in
+        let s1 : S = heeded_next needs next s x in
+        many_node-append (own_mark needs x) (map path_of (places needs c)) (s, Element t a c l)
+        ∙ ap (many_node (map path_of (places needs c))) (own-visited_node s t a c l)
+        ∙ many_node-paths (places needs c) s1 y.tag y.attrs c y.line
+        ∙ ap (within y.tag y.attrs y.line) (many-places s1 c)
+
+-- a node among others is changed alone
+pub touched-set : (f : Item → Item) (i : ℕ) (p : List ℕ) (c : Forest) (d : Node) → i < length (nodes_of c) → touched f i p c ≡ forest_of (set (nodes_of c) i (touched_node f p (get_or (nodes_of c) i d)))
+touched-set f i p bare d h = absurd (omega arith)
+touched-set f zero [] (element t a c l r) d h = ap (element (f (item t a l)).tag (f (item t a l)).attrs c (f (item t a l)).line) (sym (forest_of-nodes_of r))
+touched-set f zero (j ∷ q) (element t a c l r) d h = ap (element t a (touched f j q c) l) (sym (forest_of-nodes_of r))
+touched-set f (suc i) p (element t a c l r) d h = let k : i < length (nodes_of r) = omega arith in ap (element t a c l) (touched-set f i p r d k)
+touched-set f zero p (words t r) d h = ap (words t) (sym (forest_of-nodes_of r))
+touched-set f (suc i) p (words t r) d h = let k : i < length (nodes_of r) = omega arith in ap (words t) (touched-set f i p r d k)
+
+-- and nothing where no node is
+pub touched-past : (f : Item → Item) (i : ℕ) (p : List ℕ) (c : Forest) → length (nodes_of c) ≤ i → touched f i p c ≡ c
+touched-past f i p bare h = refl
+touched-past f zero p (element t a c l r) h = absurd (omega arith)
+touched-past f (suc i) p (element t a c l r) h = let k : length (nodes_of r) ≤ i = omega arith in ap (element t a c l) (touched-past f i p r k)
+touched-past f zero p (words t r) h = absurd (omega arith)
+touched-past f (suc i) p (words t r) h = let k : length (nodes_of r) ≤ i = omega arith in ap (words t) (touched-past f i p r k)
+
+module _ {S : Type 0} (next : S → Item → S) where
+  pub stepped-get : (s : S) (i : ℕ) (p : List ℕ) (c : Forest) (d : Node) → i < length (nodes_of c) → stepped next s i p c ≡ stepped_node next s p (get_or (nodes_of c) i d)
+  stepped-get s i p bare d h = absurd (omega arith)
+  stepped-get s zero [] (element t a c l r) d h = refl
+  stepped-get s zero (j ∷ q) (element t a c l r) d h = refl
+  stepped-get s (suc i) p (element t a c l r) d h = let k : i < length (nodes_of r) = omega arith in stepped-get s i p r d k
+  stepped-get s zero p (words t r) d h = refl
+  stepped-get s (suc i) p (words t r) d h = let k : i < length (nodes_of r) = omega arith in stepped-get s i p r d k
+
+  pub stepped-past : (s : S) (i : ℕ) (p : List ℕ) (c : Forest) → length (nodes_of c) ≤ i → stepped next s i p c ≡ s
+  stepped-past s i p bare h = refl
+  stepped-past s zero p (element t a c l r) h = absurd (omega arith)
+  stepped-past s (suc i) p (element t a c l r) h = let k : length (nodes_of r) ≤ i = omega arith in stepped-past s i p r k
+  stepped-past s zero p (words t r) h = absurd (omega arith)
+  stepped-past s (suc i) p (words t r) h = let k : length (nodes_of r) ≤ i = omega arith in stepped-past s i p r k
+
+-- the change at a path that begins with a node of an element; the path comes from its end on
+at_end : (rest : List ℕ) (place : ℕ) → reverse (rest ++ place ∷ []) ≡ place ∷ reverse rest
+at_end rest place = reverse-append rest (place ∷ [])
+
+pub touched_there : (f : Item → Item) (node : Node) (t : Tag) (a : List Attr) (c : Forest) (l : ℕ) (steps rest : List ℕ) (place : ℕ) (d new : Node) → node ≡ Element t a c l → steps ≡ rest ++ place ∷ []
+    → place < length (nodes_of c) → d ≡ get_or (nodes_of c) place d → new ≡ touched_node f (reverse rest) d → Element t a (forest_of (set (nodes_of c) place new)) l ≡ touched_node f (reverse steps) node
+touched_there f node t a c l steps rest place d new is parts fits at changed =
+    rw (is, parts, at_end rest place, changed) (
+    ap (λ x. Element t a (forest_of (set (nodes_of c) place (touched_node f (reverse rest) x))) l) at ∙ ap (λ x. Element t a x l) (sym (touched-set f place (reverse rest) c d fits)))
+
+pub touched_none : (f : Item → Item) (node : Node) (t : Tag) (a : List Attr) (c : Forest) (l : ℕ) (steps rest : List ℕ) (place : ℕ) → node ≡ Element t a c l → steps ≡ rest ++ place ∷ []
+    → length (nodes_of c) ≤ place → Element t a c l ≡ touched_node f (reverse steps) node
+touched_none f node t a c l steps rest place is parts past =
+    rw (is, parts, at_end rest place) (ap (λ x. Element t a x l) (sym (touched-past f place (reverse rest) c past)))
+
+module _ {S : Type 0} (next : S → Item → S) where
+  pub stepped_there : (s s' : S) (node : Node) (t : Tag) (a : List Attr) (c : Forest) (l : ℕ) (steps rest : List ℕ) (place : ℕ) (d : Node) → node ≡ Element t a c l → steps ≡ rest ++ place ∷ []
+      → place < length (nodes_of c) → d ≡ get_or (nodes_of c) place d → s' ≡ stepped_node next s (reverse rest) d → s' ≡ stepped_node next s (reverse steps) node
+  stepped_there s s' node t a c l steps rest place d is parts fits at moved =
+      rw (is, parts, at_end rest place) (moved ∙ ap (stepped_node next s (reverse rest)) at ∙ sym (stepped-get next s place (reverse rest) c d fits))
+
+  pub stepped_none : (s : S) (node : Node) (t : Tag) (a : List Attr) (c : Forest) (l : ℕ) (steps rest : List ℕ) (place : ℕ) → node ≡ Element t a c l → steps ≡ rest ++ place ∷ []
+      → length (nodes_of c) ≤ place → s ≡ stepped_node next s (reverse steps) node
+  stepped_none s node t a c l steps rest place is parts past = rw (is, parts, at_end rest place) (sym (stepped-past next s place (reverse rest) c past))
+
+map-two : {A B C : Type 0} (g : B → C) (f : A → B) (xs : List A) → map g (map f xs) ≡ map (λ x. g (f x)) xs
+map-two g f [] = refl
+map-two g f (x ∷ xs) = ap (λ ys. g (f x) ∷ ys) (map-two g f xs)
+
+abbrev in_node : ℕ → List ℕ → Place
+in_node i p = (i, p)
+
+module _ (needs : Item → Bool) where
+  own_in : (x : Item) → own_place needs x ≡ map (in_node 0) (own_mark needs x)
+  own_in x = elim (needs x) as (λ v. (if v then (0, []) ∷ [] else []) ≡ map (in_node 0) (if v then [] ∷ [] else [])) [ true ↦ refl | false ↦ refl ]
+
+  later_push : (ns : List Node) (n : Node) → places needs (forest_of (ns ++ n ∷ [])) ≡ places needs (forest_of ns) ++ map (in_node (length ns)) (marks_of needs n)
+      → map later (places needs (forest_of (ns ++ n ∷ []))) ≡ map later (places needs (forest_of ns)) ++ map (in_node (suc (length ns))) (marks_of needs n)
+  later_push ns n e =
+      ap (map later) e ∙ map-append later (places needs (forest_of ns)) (map (in_node (length ns)) (marks_of needs n))
+      ∙ ap (λ z. map later (places needs (forest_of ns)) ++ z) (map-two later (in_node (length ns)) (marks_of needs n))
+
+  -- one node more, behind the others
+  places-push : (ns : List Node) (n : Node) → places needs (forest_of (ns ++ n ∷ [])) ≡ places needs (forest_of ns) ++ map (in_node (length ns)) (marks_of needs n)
+  places-push [] (Text t) = refl
+  places-push [] (Element t a c l) =
+      let x : Item = item t a l in
+      ap (λ z. own_place needs x ++ z) (append-nil (map deeper (places needs c)))
+      ∙ ap (λ z. z ++ map deeper (places needs c)) (own_in x)
+      ∙ ap (λ z. map (in_node 0) (own_mark needs x) ++ z) (sym (map-two (in_node 0) path_of (places needs c)))
+      ∙ sym (map-append (in_node 0) (own_mark needs x) (map path_of (places needs c)))
+  places-push (Text t ∷ ns) n = later_push ns n (places-push ns n)
+  places-push (Element t a c l ∷ ns) n =
+      let x : Item = item t a l in
+      ap (λ z. own_place needs x ++ (map deeper (places needs c) ++ z)) (later_push ns n (places-push ns n))
+      ∙ ap (λ z. own_place needs x ++ z) (sym (append_assoc (map deeper (places needs c)) (map later (places needs (forest_of ns))) (map (in_node (suc (length ns))) (marks_of needs n))))
+      ∙ sym (append_assoc (own_place needs x) (map deeper (places needs c) ++ map later (places needs (forest_of ns))) (map (in_node (suc (length ns))) (marks_of needs n)))
+
+  -- the marks of an element with one node more
+  pub marks-push : (t : Tag) (a : List Attr) (c : Forest) (l : ℕ) (n : Node) → marks_of needs (with_child n (Element t a c l)) ≡ marks_of needs (Element t a c l) ++ map (λ p. length (nodes_of c) ∷ p) (marks_of needs n)
+  marks-push t a c l n =
+      let k : ℕ = length (nodes_of c) in
+      let e : places needs (forest_of (nodes_of c ++ n ∷ [])) ≡ places needs c ++ map (in_node k) (marks_of needs n) =
+      places-push (nodes_of c) n ∙ ap (λ z. places needs z ++ map (in_node k) (marks_of needs n)) (forest_of-nodes_of c) in
+      ap (λ z. own_mark needs (item t a l) ++ map path_of z) e
+      ∙ ap (λ z. own_mark needs (item t a l) ++ z) (map-append path_of (places needs c) (map (in_node k) (marks_of needs n)) ∙ ap (λ z. map path_of (places needs c) ++ z) (map-two path_of (in_node k) (marks_of needs n)))
+      ∙ sym (append_assoc (own_mark needs (item t a l)) (map path_of (places needs c)) (map (λ p. k ∷ p) (marks_of needs n)))
+
+  pub marks_pushed : (self child : Node) (t : Tag) (a : List Attr) (c c' : Forest) (l : ℕ) (held inner now : List (List ℕ)) (k : ℕ) → self ≡ Element t a c l → c' ≡ forest_of (nodes_of c ++ child ∷ [])
+      → held ≡ marks_of needs self → inner ≡ marks_of needs child → k ≡ length (nodes_of c) → now ≡ held ++ map (λ p. k ∷ p) inner → now ≡ own_mark needs (item t a l) ++ map path_of (places needs c')
+  marks_pushed self child t a c c' l held inner now k is pushed old more at all =
+      all ∙ (rw (old, more, at, is, pushed) (sym (marks-push t a c l child)))
+
+  -- the marks in the first nodes of a list, and in one more
+  pub paths_more : (ns : List Node) (i : ℕ) (child : Node) (own held now : List (List ℕ)) → i < length ns → child ≡ get_or ns i child → held ≡ own ++ map path_of (places needs (forest_of (take i ns)))
+      → now ≡ held ++ map (λ p. i ∷ p) (marks_of needs child) → now ≡ own ++ map path_of (places needs (forest_of (take (i + 1) ns)))
+  paths_more ns i child own held now fits at old all =
+      let k : i ≤ length ns = omega arith in
+      let more : take (i + 1) ns ≡ take i ns ++ child ∷ [] = take_more ns i child fits ∙ ap (λ x. take i ns ++ x ∷ []) (sym at) in
+      let e : places needs (forest_of (take (i + 1) ns)) ≡ places needs (forest_of (take i ns)) ++ map (in_node i) (marks_of needs child) =
+      ap (λ z. places needs (forest_of z)) more ∙ places-push (take i ns) child
+      ∙ ap (λ (z : ℕ). places needs (forest_of (take i ns)) ++ map (in_node z) (marks_of needs child)) (length-take-le i ns k) in
+      all ∙ ap (λ z. z ++ map (λ p. i ∷ p) (marks_of needs child)) old
+      ∙ append_assoc own (map path_of (places needs (forest_of (take i ns)))) (map (λ p. i ∷ p) (marks_of needs child))
+      ∙ ap (λ z. own ++ (map path_of (places needs (forest_of (take i ns))) ++ z)) (sym (map-two path_of (in_node i) (marks_of needs child)))
+      ∙ ap (λ z. own ++ z) (sym (map-append path_of (places needs (forest_of (take i ns))) (map (in_node i) (marks_of needs child))))
+      ∙ ap (λ z. own ++ map path_of z) (sym e)
+
+  pub paths_all : (node : Node) (t : Tag) (a : List Attr) (c : Forest) (l : ℕ) (ns : List Node) (i : ℕ) (own now : List (List ℕ)) → node ≡ Element t a c l → c ≡ forest_of ns → length ns ≤ i → own ≡ own_mark needs (item t a l)
+      → now ≡ own ++ map path_of (places needs (forest_of (take i ns))) → now ≡ marks_of needs node
+  paths_all node t a c l ns i own now is nodes all mine held = held ∙ (rw (is, nodes, mine, take_all i ns all) refl)
+
+pub node_pushed : (self child : Node) (t : Tag) (a : List Attr) (c c' : Forest) (l : ℕ) → self ≡ Element t a c l → c' ≡ forest_of (nodes_of c ++ child ∷ []) → Element t a c' l ≡ with_child child self
+node_pushed self child t a c c' l is pushed = rw (is, pushed) refl
+
+-- a loop over the marks that is at its end
+module _ {S : Type 0} (next : S → Item → S) (out : S → Item → Item) (needs : Item → Bool) where
+  pub marked_whole : (s s' : S) (old new : Node) (marks : List (List ℕ)) (i : ℕ) → marks ≡ marks_of needs old → length marks ≤ i → many_node next out (drop i marks) (s', new) ≡ many_node next out marks (s, old)
+      → (s' ≡ after (heeded_next needs next) (heeded_out needs out) s (node_items old)) × (new ≡ walked_node (heeded_next needs next) (heeded_out needs out) s old)
+  marked_whole s s' old new marks i are all left =
+      let from : S × Node = (s, old) in
+      let to : S × Node = (s', new) in
+      let e : to ≡ many_node next out (marks_of needs old) from = sym (ap (λ z. many_node next out z to) (drop_all i marks all)) ∙ left ∙ ap (λ z. many_node next out z from) are in
+      let w = e ∙ many_node-marks next out needs s old in
+      (ap (λ z. z.0) w, ap (λ z. z.1) w)

@@ -1,0 +1,12 @@
+use Rattle.std.proofs.Common.{◌≡◌, ◌++◌, take}
+use Rattle.std.specs.Prelude.{map}
+use Rattle.rst_tree.specs.Nodes.{node_height, forest_of}
+use Rattle.rst_marks.specs.Marks.{path_of, places}
+use Rattle.rst_marks.specs.Registered.{is_registered}
+use Rattle.rst_marks.proofs.marks.+marks_in.Given as goal
+
+abbrev pub decreases-marks_in : goal.decreases-marks_in
+decreases-marks_in l = node_height l.node.now
+
+abbrev pub invariant-loop-place : goal.invariant-loop-place
+invariant-loop-place l = l.marks.items ≡ l.initial.marks.items ++ map path_of (places is_registered (forest_of (take l.place l.nodes)))

@@ -1,0 +1,15 @@
+use Rattle.std.proofs.Common.{◌++◌, ◌∷◌, [], ap, sym, ◌∙◌}
+use Rattle.rst_marks.proofs.Marking.{marks_pushed, node_pushed}
+use Rattle.rst_tree.specs.Nodes.{forest_of, nodes_of}
+use Rattle.rst_marks.specs.Marks.{marks_of}
+use Rattle.rst_marks.specs.Registered.{is_registered}
+use Rattle.rst_marks.proofs.marks.Marked.push.Goals as goal
+
+pub invariant_of-result : goal.invariant_of-result
+invariant_of-result c =
+    marks_pushed is_registered c.args.self c.args.child _ _ c.in-Element.children _ _ c.self.inside.marks.items c.child.inside.marks.items _ _ (sym c.self.view_is ∙ c.in-Element.is)
+    (c.in_ok-push-in-Element.ensures ∙ ap (λ n. forest_of (nodes_of c.in-Element.children ++ n ∷ [])) c.child.view_is)
+    (c.self.invariant ∙ ap (marks_of is_registered) c.self.view_is) (c.child.invariant ∙ ap (marks_of is_registered) c.child.view_is) c.len-place.ensures c.in_ok-marks-in-Element.ensures
+
+pub returns : goal.returns
+returns c = node_pushed c.args.self c.args.child _ _ c.in-Element.children _ _ (sym c.self.view_is ∙ c.in-Element.is) (c.in_ok-push-in-Element.ensures ∙ ap (λ n. forest_of (nodes_of c.in-Element.children ++ n ∷ [])) c.child.view_is)

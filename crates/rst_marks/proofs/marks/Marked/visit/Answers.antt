@@ -1,0 +1,23 @@
+use Rattle.std.proofs.Common.{ap, ◌∙◌}
+use Rattle.rst_marks.proofs.Marking.{marked_whole}
+use Rattle.rst_tree.proofs.Walks.{node_items-walked, node_shape-walked}
+use Rattle.rst_marks.specs.Marks.{heeded_next, heeded_out}
+use Rattle.rst_tree.specs.Walk.{after, node_items, walked_node}
+use Rattle.rst_marks.specs.Registered.{is_registered}
+use Rattle.rst_marks.proofs.marks.Marked.visit.Goals as goal
+
+pub returns-clause-state : goal.returns-clause-state
+returns-clause-state g c =
+    (marked_whole g.V.Visitor.next g.V.Visitor.out is_registered _ _ c.self.inside.root c.loop-mark.root _ _ (c.deref-mark-items.ensures.value ∙ c.self.invariant) c.loop-mark-test.false c.loop-mark.invariant).0
+    ∙ ap (λ n. after (heeded_next is_registered g.V.Visitor.next) (heeded_out is_registered g.V.Visitor.out) c.args.visitor.now (node_items n)) c.self.view_is
+
+pub returns-clause-node : goal.returns-clause-node
+returns-clause-node g c =
+    (marked_whole g.V.Visitor.next g.V.Visitor.out is_registered _ _ c.self.inside.root c.loop-mark.root _ _ (c.deref-mark-items.ensures.value ∙ c.self.invariant) c.loop-mark-test.false c.loop-mark.invariant).1
+    ∙ ap (walked_node (heeded_next is_registered g.V.Visitor.next) (heeded_out is_registered g.V.Visitor.out) c.args.visitor.now) c.self.view_is
+
+pub returns-clause-elements : goal.returns-clause-elements
+returns-clause-elements g c = node_items-walked (heeded_next is_registered g.V.Visitor.next) (heeded_out is_registered g.V.Visitor.out) _ _ _ (returns-clause-node g c)
+
+pub returns-clause-shape : goal.returns-clause-shape
+returns-clause-shape g c = node_shape-walked (heeded_next is_registered g.V.Visitor.next) (heeded_out is_registered g.V.Visitor.out) _ _ _ (returns-clause-node g c)

@@ -1,0 +1,6 @@
+//! Nodes with the places of the elements that registration needs.
+#![tactic(auto)]
+
+mod marks;
+
+pub use marks::{Marked, Path};

@@ -1,0 +1,275 @@
+//! A node with the paths of the elements that registration needs, and changes at these.
+ghost use Rattle.std.specs.Prelude.{◌≡◌, ◌∷◌, ◌++◌, [], map, reverse};
+ghost use Rattle.rst_tree.specs.Faults.{Gives};
+ghost use Rattle.rst_tree.specs.Walk.{item, node_items, after, scanned, walked_node, node_shape};
+ghost use Rattle.rst_marks.specs.Marks.{marks_of, own_mark, heeded_next, heeded_out, touched_node, stepped_node};
+ghost use Rattle.rst_marks.specs.Registered.{is_registered_kind, has_key, is_registered};
+
+use rst_tree::{Attr, Attrs, Children, Key, Node, Tag, Text, TreeFault, Visitor};
+use std::alloc::Global;
+use std::marker::Model;
+
+/// A path from a node: the place of one of its children, then of one in that, and so on.
+#[derive(Debug, Drop)]
+pub struct Path {
+    /// The innermost place comes first, so that a path grows at its end as the tree grows round it.
+    steps: Vec<usize>,
+}
+
+impl Model for Path {
+    ghost use Rattle.std.specs.Prelude.{ℕ, List, reverse};
+
+    ghost Value = { List ℕ };
+
+    ghost view = { λ p. reverse p.steps.items };
+}
+
+impl Path {
+    /// The path that stays at the node.
+    pub fn here(alloc: Global) -> Path
+        ensures { result ≡ [] }
+    {
+        Path {
+            steps: Vec::new(alloc),
+        }
+    }
+
+    /// The same path, seen from the parent of the node.
+    pub fn below(self, place: usize) -> Result<Path, TreeFault>
+        ensures { Gives (λ p. p ≡ place ∷ self) result }
+    {
+        let Path { mut steps } = self;
+        steps.push(place)?;
+        Ok(Path { steps })
+    }
+
+    /// The places, the innermost first.
+    fn steps(&self) -> &[usize]
+        ensures { self.now ≡ reverse result.now }
+    {
+        self.steps.as_slice()
+    }
+}
+
+/// Whether elements of this kind always get an id, or are substitution definitions.
+fn is_registered_kind(tag: Tag) -> bool
+    ensures { result ≡ is_registered_kind tag }
+{
+    matches!(
+        tag,
+        Tag::Section
+            | Tag::Target
+            | Tag::Footnote
+            | Tag::Citation
+            | Tag::FootnoteReference
+            | Tag::CitationReference
+            | Tag::Problematic
+            | Tag::SubstitutionDefinition
+    )
+}
+
+/// Whether an attribute of a name is there.
+fn has_key(key: Key, attrs: &[Attr]) -> bool
+    ensures { result ≡ has_key key attrs.now }
+{
+    attrs.iter().any(|attr| attr.key.code() == key.code())
+}
+
+/// Whether registration needs an element.
+fn is_registered(tag: Tag, attrs: &Attrs, line: usize) -> bool
+    ensures { result ≡ is_registered (item tag attrs.now line) }
+{
+    let _line = line;
+    is_registered_kind(tag)
+        || has_key(Key::OwnName, attrs.as_slice())
+        || has_key(Key::Message, attrs.as_slice())
+}
+
+/// Visits the element at a path, given from its end on, if there is one.
+fn visit_at<V: Visitor>(node: &mut Node, steps: &[usize], visitor: &mut V) -> Result<(), TreeFault>
+    ensures node { Gives (λ _. node.new ≡ touched_node (V.out visitor.old) (reverse steps.now) node.old) result }
+    ensures state { Gives (λ _. visitor.new ≡ stepped_node V.next visitor.old (reverse steps.now) node.old) result }
+{
+    if let Node::Element {
+        tag,
+        attrs,
+        children,
+        line,
+    } = node
+    {
+        match steps.split_last() {
+            None => visitor.visit(tag, attrs, line)?,
+            Some((place, rest)) => {
+                if *place < children.len() {
+                    let child = children.get_mut(*place);
+                    visit_at(child, rest, visitor)?;
+                }
+            }
+        }
+    }
+    Ok(())
+}
+
+/// The marks, and then those of a node at a place, seen from its parent.
+fn with_marks_below(
+    mut marks: Vec<Path>,
+    inner: Vec<Path>,
+    place: usize,
+) -> Result<Vec<Path>, TreeFault>
+    ensures { Gives (λ all. all.items ≡ marks.items ++ map (λ p. place ∷ p) inner.items) result }
+{
+    for mark in inner {
+        marks.push(mark.below(place)?)?;
+    }
+    Ok(marks)
+}
+
+/// The mark of an element itself, if it has one.
+fn own_marks(alloc: Global, tag: Tag, attrs: &Attrs, line: usize) -> Result<Vec<Path>, TreeFault>
+    ensures { Gives (λ own. own.items ≡ own_mark is_registered (item tag attrs.now line)) result }
+{
+    let mut marks = Vec::new(alloc);
+    if is_registered(tag, attrs, line) {
+        marks.push(Path::here(alloc))?;
+    }
+    Ok(marks)
+}
+
+/// The marks of a node, by a pass over it.
+fn marks_in(alloc: Global, node: &Node) -> Result<Vec<Path>, TreeFault>
+    ensures { Gives (λ all. all.items ≡ marks_of is_registered node.now) result }
+{
+    match node {
+        Node::Element {
+            tag,
+            attrs,
+            children,
+            line,
+        } => {
+            let mut marks = own_marks(alloc, *tag, attrs, *line)?;
+            let nodes = children.as_slice();
+            for place in 0..nodes.len() {
+                let inner = marks_in(alloc, &nodes[place])?;
+                marks = with_marks_below(marks, inner, place)?;
+            }
+            Ok(marks)
+        }
+        Node::Text(_) => Ok(Vec::new(alloc)),
+    }
+}
+
+/// A node, and the paths of those of its elements that registration needs, in preorder.
+#[derive(Debug, Drop)]
+pub struct Marked {
+    root: Node,
+    marks: Vec<Path>,
+}
+
+impl Model for Marked {
+    ghost use Rattle.std.specs.Prelude.{◌≡◌};
+    ghost use Rattle.rst_tree.specs.declared.node.Node.{Node};
+    ghost use Rattle.rst_tree.specs.contracts.node.Node as node;
+    ghost use Rattle.std.specs.Coded.{codes};
+
+    ghost Value = { Node };
+
+    ghost coded = { Prim.hlevel (codes, node.the_row.coded) };
+
+    ghost use Rattle.rst_marks.specs.Marks.{marks_of};
+    ghost use Rattle.rst_marks.specs.Registered.{is_registered};
+
+    ghost view = { λ m. m.root };
+
+    ghost invariant = { λ m. m.marks.items ≡ marks_of is_registered m.root };
+}
+
+impl Marked {
+    ghost use Rattle.std.specs.Prelude.{◌≡◌};
+    ghost use Rattle.rst_tree.specs.declared.node.Node.TheVariants.{Element, Text as Words};
+    ghost use Rattle.rst_tree.specs.Forest.{bare};
+    ghost use Rattle.rst_tree.specs.Paths.{with_child, IsElement};
+
+    /// A text.
+    pub fn text(alloc: Global, text: Text) -> Marked
+        ensures { result ≡ Words text }
+    {
+        Marked {
+            root: Node::Text(text),
+            marks: Vec::new(alloc),
+        }
+    }
+
+    /// A node that was made elsewhere.
+    pub fn of(alloc: Global, root: Node) -> Result<Marked, TreeFault>
+        ensures { Gives (λ m. m ≡ root) result }
+    {
+        let marks = marks_in(alloc, &root)?;
+        Ok(Marked { root, marks })
+    }
+
+    /// An element with nothing in it.
+    pub fn element(alloc: Global, tag: Tag, attrs: Attrs, line: usize) -> Result<Marked, TreeFault>
+        ensures { Gives (λ m. m ≡ Element tag attrs bare line) result }
+    {
+        let marks = own_marks(alloc, tag, &attrs, line)?;
+        let root = Node::Element {
+            tag,
+            attrs,
+            children: Children::of(Vec::new(alloc)),
+            line,
+        };
+        Ok(Marked { root, marks })
+    }
+
+    /// The element with one more last child.
+    pub fn push(self, child: Marked) -> Result<Marked, TreeFault>
+        requires { IsElement self }
+        ensures { Gives (λ m. m ≡ with_child child self) result }
+    {
+        let Marked {
+            mut root,
+            mut marks,
+        } = self;
+        let Marked {
+            root: node,
+            marks: inner,
+        } = child;
+        match &mut root {
+            Node::Element { children, .. } => {
+                let place = children.len();
+                marks = with_marks_below(marks, inner, place)?;
+                children.push(node)?;
+            }
+            Node::Text(_) => unreachable!(),
+        }
+        Ok(Marked { root, marks })
+    }
+
+    /// The node's marks.
+    pub fn marks(&self) -> &[Path]
+        ensures { result.now ≡ marks_of is_registered self.now }
+    {
+        self.marks.as_slice()
+    }
+
+    /// The whole node.
+    pub fn root(&self) -> &Node
+        ensures { result.now ≡ self.now }
+    {
+        &self.root
+    }
+
+    /// Visits the marked elements, in preorder, by their paths.
+    pub fn visit<V: Visitor>(self, visitor: &mut V) -> Result<Node, TreeFault>
+        ensures node { Gives (λ n. n ≡ walked_node (heeded_next is_registered V.next) (heeded_out is_registered V.out) visitor.old self) result }
+        ensures state { Gives (λ _. visitor.new ≡ after (heeded_next is_registered V.next) (heeded_out is_registered V.out) visitor.old (node_items self)) result }
+        ensures elements { Gives (λ n. node_items n ≡ scanned (heeded_next is_registered V.next) (heeded_out is_registered V.out) visitor.old (node_items self)) result }
+        ensures shape { Gives (λ n. node_shape n ≡ node_shape self) result }
+    {
+        let Marked { mut root, marks } = self;
+        for mark in &marks {
+            visit_at(&mut root, mark.steps(), visitor)?;
+        }
+        Ok(root)
+    }
+}
