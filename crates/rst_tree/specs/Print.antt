@@ -1,7 +1,9 @@
--- What is printed of a tree: its lines in preorder, each behind its indentation and with its end.
+-- What is printed of a tree (Document Tree, the pseudo-XML form): its lines in preorder, each behind its indentation and
+-- with its end.
 use Rattle.std.specs.Prelude.{ℕ, ◌+◌, ◌*◌, ◌==◌, ◌&&◌, if◌then◌else◌, Bool, true, false, List, [], ◌∷◌, ◌++◌, map, codes, replicate}
 use Rattle.std.specs.List.{flat_map}
 use Rattle.std.specs.Fmt.{decimal}
+use Rattle.rst_text.specs.Lines.{onto_first}
 use Rattle.rst_tree.specs.declared.attrs.Attr.{Attr}
 use Rattle.rst_tree.specs.declared.attrs.Value.{Value}
 use Rattle.rst_tree.specs.declared.attrs.Value.TheVariants.{Text, Number, List as Listed}
@@ -14,7 +16,7 @@ use Rattle.rst_tree.specs.KeyNames.{key_name}
 use Rattle.rst_tree.specs.TagNames.{tag_name}
 use Rattle.rst_tree.specs.Forest.{Forest, bare, element, words}
 
--- a byte of a list's member
+-- a byte of a list's member: a backslash stands before a space and before a backslash
 abbrev pub escaped_byte : ℕ → List ℕ
 escaped_byte b = if b == 92 then 92 ∷ 92 ∷ [] else (if b == 32 then 92 ∷ 32 ∷ [] else b ∷ [])
 
@@ -26,6 +28,7 @@ abbrev pub spaced : List (List ℕ) → List ℕ
 spaced [] = []
 spaced (t ∷ ts) = escaped t ++ flat_map (λ u. 32 ∷ escaped u) ts
 
+-- what stands between the quotes
 abbrev pub value_text : Value → List ℕ
 value_text (Text t) = t
 value_text (Number n) = decimal n
@@ -44,6 +47,7 @@ abbrev pub is_empty_list : Value → Bool
 is_empty_list (Listed []) = true
 is_empty_list _ = false
 
+-- such a list where it is empty
 abbrev pub is_left_out : Attr → Bool
 is_left_out a = is_empty_list a.value && hides_empty a.key
 
@@ -56,10 +60,6 @@ shown_attr a =
 -- `<tag attributes>`
 abbrev pub start_tag : Tag → List Attr → List ℕ
 start_tag t attrs = codes "<" ++ tag_name t ++ flat_map shown_attr attrs ++ codes ">"
-
-abbrev pub onto_first : ℕ → List (List ℕ) → List (List ℕ)
-onto_first b [] = (b ∷ []) ∷ []
-onto_first b (l ∷ ls) = (b ∷ l) ∷ ls
 
 -- the lines of a text: each LF ends one, and what stands behind the last LF is one if it isn't empty
 abbrev pub text_lines : List ℕ → List (List ℕ)

@@ -1,4 +1,4 @@
--- What is true of each tree.
+-- What is true of each tree, and the texts in it (Document Tree).
 use Rattle.std.specs.Prelude.{◌≡◌, Result, Ok, Err, ℕ, ◌&&◌, ◌||◌, ◌==◌, ◌-◌, Bool, true, false, not, length, Option, Some, None, nat_le, nat_lt, List, [], ◌∷◌, ◌++◌}
 use Rattle.std.specs.List.{list_all}
 use Rattle.std.specs.Str.{chars}
@@ -27,6 +27,7 @@ is_sound bare = true
 is_sound (element t a c l r) = (in_order a && is_sound c) && is_sound r
 is_sound (words t r) = is_lines t && is_sound r
 
+-- the same of one node
 abbrev pub is_sound_node : Node → Bool
 is_sound_node (Element t a c l) = in_order a && is_sound c
 is_sound_node (Text t) = is_lines t
@@ -44,6 +45,7 @@ abbrev pub IsTreeOf : Node → Result Node Node → Type 0
 IsTreeOf node (Ok tree) = (is_tree node ≡ true) × (tree ≡ node)
 IsTreeOf node (Err back) = (is_tree node ≡ false) × (back ≡ node)
 
+-- an element is there
 abbrev pub is_element : Option Node → Bool
 is_element None = false
 is_element (Some (Element t a c l)) = true
@@ -63,6 +65,7 @@ abbrev pub text_in : Node → List ℕ
 text_in (Element t a c l) = text_all c
 text_in (Text t) = t
 
+-- the texts of a node, or nothing where there is none
 abbrev pub option_or_nothing : Option Node → List ℕ
 option_or_nothing None = []
 option_or_nothing (Some n) = text_in n
