@@ -18,14 +18,14 @@ use Rattle.rst_tree.proofs.Changes.{forest_of-nodes_of, nodes_of-forest_of, slic
 use Rattle.rst_tree.specs.Paths.{node_at, map_at, changed_at, with_child, with_value}
 use Rattle.rst_tree.specs.Tree.{is_sound, is_sound_node, in_order, is_tree, fits, is_element, most_levels, text_all, text_in, text_at, option_or_nothing}
 
-both : (a b : Bool) → (a && b) ≡ true → (a ≡ true) × (b ≡ true)
+pub both : (a b : Bool) → (a && b) ≡ true → (a ≡ true) × (b ≡ true)
 both true b h = (refl, h)
 both false b h = cc
 
-and_both : (a b : Bool) → a ≡ true → b ≡ true → (a && b) ≡ true
+pub and_both : (a b : Bool) → a ≡ true → b ≡ true → (a && b) ≡ true
 and_both a b h k = rw (h, k) refl
 
-height-cons : (n : Node) (ns : List Node) → height (forest_of (n ∷ ns)) ≡ max (node_height n) (height (forest_of ns))
+pub height-cons : (n : Node) (ns : List Node) → height (forest_of (n ∷ ns)) ≡ max (node_height n) (height (forest_of ns))
 height-cons (Element t a c l) ns = refl
 height-cons (Text t) ns = refl
 
@@ -70,7 +70,7 @@ height-with_value : (k : Key) (v : Value) (n : Node) → node_height (with_value
 height-with_value k v (Element t a c l) = refl
 height-with_value k v (Text t) = refl
 
-sound-cons : (n : Node) (ns : List Node) → is_sound (forest_of (n ∷ ns)) ≡ (is_sound_node n && is_sound (forest_of ns))
+pub sound-cons : (n : Node) (ns : List Node) → is_sound (forest_of (n ∷ ns)) ≡ (is_sound_node n && is_sound (forest_of ns))
 sound-cons (Element t a c l) ns = refl
 sound-cons (Text t) ns = refl
 

@@ -9,3 +9,4 @@ pub mod KeyOrder
 pub mod Walks
 pub mod Folds
 pub mod Rewrites
+pub mod FitsLaw
