@@ -1,0 +1,7 @@
+pub mod Profile
+pub mod Paragraphs
+pub mod Paragraph
+pub mod Printed
+pub mod Shown
+pub mod Headline
+pub mod Report

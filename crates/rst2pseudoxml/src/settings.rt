@@ -1,0 +1,38 @@
+//! What the program's options set.
+ghost use Rattle.std.specs.Prelude.{◌≤◌};
+
+/// The settings of a run (Configuration, 'General').
+#[derive(Clone, Copy, Debug)]
+pub struct Settings {
+    /// Messages of this level (1 to 4) or above are shown; 5 shows none.
+    pub report: u8,
+    /// A message of this level or above halts the run; 5 never does.
+    pub halt: u8,
+    /// From this level on the exit status tells the highest level; 5 never does.
+    pub exit: u8,
+    /// Whether a lone section's title becomes the document's.
+    pub title: bool,
+    /// Whether a leading field list becomes bibliographic elements.
+    pub info: bool,
+    /// The tab width in columns.
+    pub tab: u8,
+    /// The most characters that a line may have.
+    pub limit: usize,
+    pub ghost tab_from: { 1 ≤ tab },
+    pub ghost tab_to: { tab ≤ 99 },
+}
+
+impl Settings {
+    /// The settings of a run with no options.
+    pub fn usual() -> Settings {
+        Settings {
+            report: 2,
+            halt: 4,
+            exit: 5,
+            title: true,
+            info: true,
+            tab: 8,
+            limit: 10_000,
+        }
+    }
+}
