@@ -1,5 +1,5 @@
 -- Lemmas on what readers hand out and writers gain.
-use Rattle.std.proofs.Common.{◌≡◌, ℕ, ◌+◌, List, ◌++◌, ◌∷◌, [], length, take, drop, None, Some, Option, sym, ap, ◌∙◌, refl, Bool, true, false, ◌||◌, subst, append_assoc, arith, ◌-◌, ◌<◌, ◌≤◌, suc, length-drop, length-append, get_or, Bor, Result, Ok, Err, is_err, MatchResult, take-append-drop, true≢false}
+use Rattle.std.proofs.Common.{◌≡◌, ℕ, ◌+◌, List, ◌++◌, ◌∷◌, [], length, take, drop, None, Some, Option, sym, ap, ◌∙◌, Bool, false, subst, append_assoc, arith, ◌-◌, ◌<◌, ◌≤◌, suc, length-drop, length-append, get_or, Bor, take-append-drop, true≢false}
 use Rattle.rst_text.specs.Counted.{Stream}
 use Rattle.rst2pseudoxml.specs.Headline.{IsCutShort}
 use Rattle.std.specs.List.{flat_map}
@@ -47,10 +47,12 @@ reports_part a s pieces i done d text within same before now =
     let rest = flat_map (λ (p : Bor (List ℕ)). p.now) (drop (suc i) pieces) in
     let short : done ≤ length text = omega (arith, now.0) in
     let cut : take (length front + done) (flat_map (λ (p : Bor (List ℕ)). p.now) pieces) ≡ front ++ take done text =
-    ap (take (length front + done)) (pieces-at pieces i d within ∙ ap (λ l. front ++ (l ++ rest)) (sym same)) ∙ take-append-add front (text ++ rest) done ∙ ap (λ l. front ++ l) (take-append-le done text rest short) in
-    (length front + done,
-    omega (arith, ap length (pieces-at pieces i d within), length-append front ((get_or pieces i d).now ++ rest), length-append (get_or pieces i d).now rest, ap length same),
-    subst (Appends a s.after) (sym cut) (Appends-both a s.before s.after front (take done text) before now.1), λ f. absurd (true≢false (sym now.2 ∙ f)))
+    ap (take (length front + done)) (pieces-at pieces i d within ∙ ap (λ l. front ++ (l ++ rest)) (sym same)) ∙ take-append-add front (text ++ rest) done ∙ ap (λ l. front ++ l) (take-append-le done text rest short) in (
+      length front + done,
+      omega (arith, ap length (pieces-at pieces i d within), length-append front ((get_or pieces i d).now ++ rest), length-append (get_or pieces i d).now rest, ap length same),
+      subst (Appends a s.after) (sym cut) (Appends-both a s.before s.after front (take done text) before now.1),
+      λ f. absurd (true≢false (sym now.2 ∙ f)),
+    )
 
 -- every piece was written
 pub reports_whole : (a c : Option (List ℕ)) (pieces : List (Bor (List ℕ))) (i : ℕ) (failed : Bool) → length pieces ≤ i

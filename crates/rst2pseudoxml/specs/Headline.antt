@@ -1,5 +1,5 @@
 -- What a run does to its reader and its writers.
-use Rattle.std.specs.Prelude.{◌≡◌, ◌<◌, ◌≤◌, ℕ, true, false, List, [], length, take, Result, Ok, Err, Vec}
+use Rattle.std.specs.Prelude.{◌≡◌, ◌<◌, ◌≤◌, ℕ, true, false, List, length, take, Result, Ok, Err, Vec}
 use Rattle.rst_text.specs.Counted.{Stream, Untouched, Gains, HandsOut, IsReadOut}
 use Rattle.rst2pseudoxml.specs.declared.end.End.{End}
 use Rattle.rst2pseudoxml.specs.declared.end.End.TheVariants.{Done, Read, TooLong, NotUtf8, NoMemory, WriteErr, WriteOut, NotYet}

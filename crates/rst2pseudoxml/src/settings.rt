@@ -1,5 +1,5 @@
 //! What the program's options set.
-ghost use Rattle.std.specs.Prelude.{◌≤◌};
+ghost use Rattle.std.specs.Prelude.{◌≡◌, ◌≤◌, true};
 
 /// The settings of a run (Configuration, 'General').
 #[derive(Clone, Copy, Debug)]
@@ -23,8 +23,14 @@ pub struct Settings {
 }
 
 impl Settings {
-    /// The settings of a run with no options.
-    pub fn usual() -> Settings {
+    /// The settings of a run with no options: WARNINGs and above are shown, a SEVERE message halts, the status tells
+    /// no level, titles and bibliographic fields are looked for, tabs are 8 columns wide, lines have at most 10,000
+    /// characters.
+    pub fn usual() -> Settings
+        ensures levels { (result.report ≡ 2) × (result.halt ≡ 4) × (result.exit ≡ 5) }
+        ensures transforms { (result.title ≡ true) × (result.info ≡ true) }
+        ensures lines { (result.tab ≡ 8) × (result.limit ≡ 10000) }
+    {
         Settings {
             report: 2,
             halt: 4,

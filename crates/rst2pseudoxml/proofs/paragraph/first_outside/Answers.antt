@@ -1,5 +1,4 @@
 use Rattle.std.proofs.Common.{◌∙◌, sym, ◌+◌, arith}
-use Rattle.rst2pseudoxml.specs.Paragraphs.{texts}
 use Rattle.rst2pseudoxml.proofs.ParagraphLemmas.{texts-at, outside_here, outside_later}
 use Rattle.rst2pseudoxml.proofs.paragraph.first_outside.Goals as goal
 

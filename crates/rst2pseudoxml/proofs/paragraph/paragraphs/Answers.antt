@@ -1,4 +1,4 @@
-use Rattle.std.proofs.Common.{◌≡◌, ◌∙◌, ◌∷◌, [], ◌++◌, length, sym, ap, map, arith, ℕ, ◌==◌, true, false, List, String, true≢false, ◌≤◌}
+use Rattle.std.proofs.Common.{◌≡◌, ◌∙◌, ◌∷◌, [], ◌++◌, length, sym, ap, arith, ℕ, ◌==◌, false, List, String, true≢false, ◌≤◌}
 use Rattle.rst_text.specs.Block.{Line}
 use Rattle.rst_text.specs.Text.{chars_of}
 use Rattle.rst2pseudoxml.specs.Paragraphs.{texts, paragraphs}

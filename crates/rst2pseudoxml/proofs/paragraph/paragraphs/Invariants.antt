@@ -1,5 +1,4 @@
 use Rattle.std.proofs.Common.{◌≡◌, ◌++◌, drop}
-use Rattle.std.specs.Str.{NonePass}
 use Rattle.rst2pseudoxml.specs.Paragraph.{lines_in_all, chars_of_all}
 use Rattle.rst2pseudoxml.specs.Paragraphs.{texts, paragraphs}
 use Rattle.rst2pseudoxml.proofs.ParagraphLemmas.{NoneBlank}

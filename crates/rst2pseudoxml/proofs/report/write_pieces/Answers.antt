@@ -1,4 +1,3 @@
-use Rattle.std.proofs.Common.{◌∙◌, sym, ap}
 use Rattle.rst_text.specs.Counted.{between}
 use Rattle.rst2pseudoxml.proofs.StreamLemmas.{reports_part, reports_whole}
 use Rattle.rst2pseudoxml.proofs.report.write_pieces.Goals as goal
