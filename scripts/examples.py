@@ -11,7 +11,7 @@ import subprocess
 import sys
 
 TOP = pathlib.Path(__file__).resolve().parent.parent
-MARK = "--- end of an example's command ---"
+MARK = "--- end of the command ---"
 
 
 def blocks(page):

@@ -1,4 +1,3 @@
-pub mod Profile
 pub mod Paragraphs
 pub mod Paragraph
 pub mod Printed

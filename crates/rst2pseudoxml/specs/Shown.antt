@@ -6,9 +6,9 @@ use Rattle.rst_text.specs.Text.{text_of}
 use Rattle.rst_text.specs.Lines.{lines_of}
 use Rattle.rst2pseudoxml.specs.declared.end.End.{End}
 use Rattle.rst2pseudoxml.specs.declared.end.End.TheVariants.{TooLong, NotUtf8, NoMemory, NotYet}
-use Rattle.rst2pseudoxml.specs.declared.settings.Settings.{Settings}
+use Rattle.rst_settings.specs.declared.Settings.{Settings}
 use Rattle.rst2pseudoxml.specs.declared.shown.Shown.{Shown}
-use Rattle.rst2pseudoxml.specs.Profile.{Profile}
+use Rattle.rst_settings.specs.Profile.{Profile}
 use Rattle.rst2pseudoxml.specs.Paragraphs.{texts, paragraphs, first_outside}
 use Rattle.rst2pseudoxml.specs.Printed.{printed}
 

@@ -7,13 +7,12 @@ mod output;
 mod paragraph;
 mod report;
 mod run;
-mod settings;
 mod shown;
 
 use report::{Stop, report};
+use rst_settings::Settings;
 use rst_text::Counted;
 use run::run;
-use settings::Settings;
 use std::env;
 use std::process::ExitCode;
 

@@ -2,13 +2,13 @@
 ghost use Rattle.std.specs.Prelude.{◌≡◌, false};
 ghost use Rattle.rst_text.specs.Counted.{has_failed, between};
 ghost use Rattle.rst2pseudoxml.specs.Headline.{Headline, Puts};
-ghost use Rattle.rst2pseudoxml.specs.Profile.{profile_of};
+ghost use Rattle.rst_settings.specs.Profile.{profile_of};
 ghost use Rattle.rst2pseudoxml.specs.Shown.{result_of};
 
 use super::end::End;
 use super::input::read_input;
-use super::settings::Settings;
 use super::shown::result_of;
+use rst_settings::Settings;
 use rst_text::Counted;
 use std::alloc::Global;
 use std::io::{Read, Write};

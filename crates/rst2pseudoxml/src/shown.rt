@@ -1,12 +1,12 @@
 //! What the program shows for the bytes of an input.
 ghost use Rattle.std.specs.Prelude.{◌≤◌, length};
-ghost use Rattle.rst2pseudoxml.specs.Profile.{profile_of};
+ghost use Rattle.rst_settings.specs.Profile.{profile_of};
 ghost use Rattle.rst2pseudoxml.specs.Shown.{result_of, Shows};
 
 use super::end::End;
 use super::output::printed;
 use super::paragraph::{first_outside, paragraphs};
-use super::settings::Settings;
+use rst_settings::Settings;
 use rst_text::{Lines, TextFault, decode};
 use std::alloc::Global;
 

@@ -1,4 +1,6 @@
-//! What the program's options set.
+//! What the options of the program set, and what the definitions of its meaning leave to be chosen.
+#![tactic(auto)]
+
 ghost use Rattle.std.specs.Prelude.{◌≡◌, ◌≤◌, true};
 
 /// The settings of a run (Configuration, 'General').

@@ -1,6 +1,6 @@
 -- What the definitions leave to be chosen.
 use Rattle.std.specs.Prelude.{ℕ, Bool, true}
-use Rattle.rst2pseudoxml.specs.declared.settings.Settings.{Settings}
+use Rattle.rst_settings.specs.declared.Settings.{Settings}
 
 -- how many levels blocks may be nested, how many characters a line may have, whether `code` is a directive, and whether a
 -- leading field list is bibliographic
