@@ -13,14 +13,14 @@ use std::marker::Model;
 /// The lines of a text, with their numbers. Contracts see them as a block: a list of numbers and characters.
 #[derive(Debug, Drop)]
 pub struct Lines {
-    lines: Vec<SourceLine>,
+    pub(crate) lines: Vec<SourceLine>,
 }
 
 /// A line as it is kept.
 #[derive(Debug, Drop)]
-struct SourceLine {
-    number: usize,
-    text: String,
+pub(crate) struct SourceLine {
+    pub(crate) number: usize,
+    pub(crate) text: String,
 }
 
 impl Model for Lines {
