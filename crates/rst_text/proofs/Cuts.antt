@@ -1,21 +1,23 @@
 -- The lines of a view, which is cut in bytes.
 use Rattle.std.proofs.Common.{◌≡◌, ℕ, zero, suc, ◌+◌, ◌-◌, ◌<◌, ◌≤◌, ◌^◌, min, List, [], ◌∷◌, ◌++◌, ◌==◌, length, get_or, take, drop, map, refl, sym, ◌∙◌, ap, arith, length-drop, length-append, cond, eqb, String, string_bytes, inl, inr, subst, Bool, true, false, ◌||◌, leb}
-use Rattle.std.proofs.lemmas.List.{drop-map, drop-drop, length-map, length-take, drop_all, drop-take, take-map, take-take, take_all, drop_min}
+use Rattle.std.proofs.lemmas.List.{drop-map, drop-drop, length-map, length-take, drop_all, drop-take, take-map, take-take, take_all, drop_min, take-append-drop}
 use Rattle.std.proofs.Math.Dec.{eqb-suc-zero}
 use Rattle.std.proofs.Math.Nat.{min-eq_left, min-eq_right}
 use Rattle.std.proofs.lemmas.Bool.{cases_lt, eqb-true}
 use borrow.Author.Tests.{leb-true}
 use Rattle.std.specs.Str.{chars, IsUtf8, is_utf8, IsCharBoundary}
 use Rattle.std.proofs.Math.Utf8.{scalar, scalars, encode, encodes}
-use Rattle.std.proofs.lemmas.Str.{chars-encodes, encodes-chars, scalars-chars, encode_ascii, IsUtf8-string_bytes, IsCharBoundary-from_drop, IsCharBoundary-end, IsUtf8-nil, IsUtf8-from_is_utf8, is_utf8-from_IsUtf8}
+use Rattle.std.proofs.lemmas.Str.{chars-encodes, encodes-chars, scalars-chars, encode_ascii, IsUtf8-string_bytes, IsCharBoundary-from_drop, IsCharBoundary-end, IsUtf8-nil, IsUtf8-from_is_utf8, is_utf8-from_IsUtf8, IsUtf8-take, chars-append, chars-nil}
 use Rattle.std.specs.declared.alloc.Global.{Global}
 use Rattle.rst_text.specs.Block.{Line, Block, shorten_all, cut, shorten, front_text, first_number, indentation, is_blank}
-use Rattle.rst_text.specs.Source.{block_from}
+use Rattle.rst_text.specs.Source.{block_from, line_from}
 use Rattle.rst_text.specs.Shown.{block_of, without_bytes, byte_cut}
 use Rattle.rst_text.specs.MayCut.{may_cut_at, each_may_cut, is_indented}
 use Rattle.rst_text.specs.declared.lines.SourceLine.{SourceLine}
 use Rattle.rst_text.specs.declared.view.View.{View}
+use Rattle.rst_text.specs.Lines.{is_line_text, are_lines}
 use Rattle.rst_text.proofs.TextLemmas.{and_true}
+use Rattle.rst_text.proofs.LineTexts.{is_line_text-nil, is_line_text-suffix, are_lines-drop, are_lines-take}
 
 -- The lines.
 
@@ -363,3 +365,36 @@ leaves_at v i g left d x bs rest tail a there is same shorten_all t suffix u s n
     let l = leaves a g left x bs suffix.0 rest same (sym t ∙ suffix.1) u (s ∙ ap (λ l. drop g (chars l)) t) n in
     let here : x ≡ get_or v.lines.now (v.from + i) d = is ∙ get_same (v.from + i) v.lines.now x d there in
     subst (λ k. Leaves k g left (get_or v.lines.now (v.from + i) d)) shorten_all (subst (Leaves a g left) here l)
+
+-- ---- the texts of a view
+
+-- what is left of a line's text, without some of its bytes
+line_text-bytes : (n : ℕ) (bs : List ℕ) → IsUtf8 bs → IsUtf8 (drop n bs) → is_line_text (chars bs) ≡ true → is_line_text (chars (drop n bs)) ≡ true
+line_text-bytes n bs u v h = elim (cases_lt n (length bs)) [
+  | inl below ↦
+      (let front : IsUtf8 (take n bs) = IsUtf8-take bs n u (IsCharBoundary-from_drop bs n (omega arith) v) in
+      let whole : chars bs ≡ chars (take n bs) ++ chars (drop n bs) = ap chars (sym (take-append-drop n bs)) ∙ chars-append (take n bs) (drop n bs) front in
+      is_line_text-suffix (chars (take n bs)) (chars (drop n bs)) (sym (ap is_line_text whole) ∙ h))
+  | inr over ↦ ap (λ l. is_line_text (chars l)) (drop_all n bs over) ∙ ap is_line_text chars-nil ∙ is_line_text-nil
+]
+
+each-line_text : (r : ℕ) (xs : List SourceLine) → EachMayCut r xs → are_lines (block_from xs) ≡ true → are_lines (map (without_bytes r) xs) ≡ true
+each-line_text r [] m h = refl
+each-line_text r (x ∷ xs) m h =
+    let t = and_true (is_line_text (chars (string_bytes x.text))) (are_lines (block_from xs)) h in
+    rw (line_text-bytes r (string_bytes x.text) (IsUtf8-string_bytes x.text) m.0 t.0, each-line_text r xs m.1 t.1) refl
+
+are_lines-byte_cut : (f r : ℕ) (xs : List SourceLine) → MayCut f r xs → are_lines (block_from xs) ≡ true → are_lines (byte_cut f r xs) ≡ true
+are_lines-byte_cut f r [] m h = refl
+are_lines-byte_cut f r (x ∷ xs) m h =
+    let t = and_true (is_line_text (chars (string_bytes x.text))) (are_lines (block_from xs)) h in
+    rw (line_text-bytes f (string_bytes x.text) (IsUtf8-string_bytes x.text) m.0 t.0, each-line_text r xs m.1 t.1) refl
+
+-- The lines of a view hold no line end, and no white at their ends.
+pub are_lines-block_of : (v : View) → are_lines (block_of v) ≡ true
+unfolding block_of
+are_lines-block_of v =
+    let shown : block_from (kept v) ≡ take (v.to - v.from) (drop v.from (block_from v.lines.now)) =
+    sym (take-map line_from (v.to - v.from) (drop v.from v.lines.now)) ∙ ap (λ (B : Block). take (v.to - v.from) B) (sym (drop-map line_from v.from v.lines.now)) in
+    are_lines-byte_cut v.first v.rest (kept v) (may_true v.first v.rest (kept v) v.may_cut)
+    (ap are_lines shown ∙ are_lines-take (v.to - v.from) (drop v.from (block_from v.lines.now)) (are_lines-drop v.from (block_from v.lines.now) v.of_lines))

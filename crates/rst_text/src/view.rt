@@ -2,7 +2,9 @@
 ghost use Rattle.std.specs.Prelude.{◌≡◌, ◌+◌, ◌-◌, ◌^◌, ◌<◌, ◌≤◌, length, drop, take, ◌==◌, if◌then◌else◌, slice_index_or, IsTrue};
 ghost use Rattle.std.specs.Str.{chars};
 ghost use Rattle.rst_text.specs.Extent as extents;
+ghost use Rattle.rst_text.specs.Lines.{are_lines};
 ghost use Rattle.rst_text.specs.MayCut.{may_cut_at, is_indented};
+ghost use Rattle.rst_text.specs.Source.{block_from};
 
 use super::lines::{Lines, SourceLine};
 use super::looks::Looks;
@@ -21,6 +23,7 @@ pub struct View<'a> {
     ghost ordered: { from ≤ to },
     ghost fits: { to ≤ length lines.now },
     ghost may_cut: { IsTrue (may_cut_at first rest (take (to - from) (drop from lines.now))) },
+    ghost of_lines: { IsTrue (are_lines (block_from lines.now)) },
 }
 
 /// Lines that are blank or indented: the place after the last of them that isn't blank, the least indentation of

@@ -32,7 +32,7 @@ invariant_of-result c =
       | else-from-to w ↦ absurd (omega arith)
     ]) in
     let n : (v.from + c.args.to) - (v.from + c.args.from) ≡ c.args.to - c.args.from = omega arith in
-    record { ordered = omega arith; fits = omega (arith, part_fits v c.args.to c.requires.in_range); may_cut = rw (c.saturating_add.ensures, n) p.0 }
+    record { ordered = omega arith; fits = omega (arith, part_fits v c.args.to c.requires.in_range); may_cut = rw (c.saturating_add.ensures, n) p.0; of_lines = v.of_lines }
 
 pub returns : goal.returns
 unfolding block_of
