@@ -79,6 +79,18 @@ are_lines-take (suc n) (l ∷ ls) h =
 pub are_lines-cut : (B : Block) (i j f r : ℕ) → are_lines B ≡ true → are_lines (cut B i j f r) ≡ true
 are_lines-cut B i j f r h = are_lines-shorten_all f r (take (j - i) (drop i B)) (are_lines-take (j - i) (drop i B) (are_lines-drop i B h))
 
+-- ---- a part of a text without line ends
+
+pub unended-drop : (n : ℕ) (cs : List ℕ) → list_any is_line_end cs ≡ false → list_any is_line_end (drop n cs) ≡ false
+unended-drop zero cs h = h
+unended-drop (suc n) [] h = h
+unended-drop (suc n) (c ∷ cs) h = unended-drop n cs (or_false (is_line_end c) (list_any is_line_end cs) h).1
+
+pub unended-take : (n : ℕ) (cs : List ℕ) → list_any is_line_end cs ≡ false → list_any is_line_end (take n cs) ≡ false
+unended-take zero cs h = refl
+unended-take (suc n) [] h = refl
+unended-take (suc n) (c ∷ cs) h = let t = or_false (is_line_end c) (list_any is_line_end cs) h in rw (t.0, unended-take n cs t.1) refl
+
 -- ---- a text without white characters at its end
 
 is_blank-length : (cs : List ℕ) → is_blank cs ≡ (length cs == 0)
