@@ -17,7 +17,7 @@ use Rattle.rst_text.specs.declared.lines.SourceLine.{SourceLine}
 use Rattle.rst_text.specs.declared.view.View.{View}
 use Rattle.rst_text.specs.Lines.{is_line_text, are_lines}
 use Rattle.rst_text.proofs.TextLemmas.{and_true}
-use Rattle.rst_text.proofs.LineTexts.{is_line_text-nil, is_line_text-suffix, are_lines-drop, are_lines-take}
+use Rattle.rst_text.proofs.LineTexts.{is_line_text-front, is_line_text-nil, is_line_text-suffix, are_lines-drop, are_lines-take}
 
 -- The lines.
 
@@ -398,3 +398,6 @@ are_lines-block_of v =
     sym (take-map line_from (v.to - v.from) (drop v.from v.lines.now)) ∙ ap (λ (B : Block). take (v.to - v.from) B) (sym (drop-map line_from v.from v.lines.now)) in
     are_lines-byte_cut v.first v.rest (kept v) (may_true v.first v.rest (kept v) v.may_cut)
     (ap are_lines shown ∙ are_lines-take (v.to - v.from) (drop v.from (block_from v.lines.now)) (are_lines-drop v.from (block_from v.lines.now) v.of_lines))
+
+pub is_line_text-line : (v : View) (i : ℕ) → is_line_text (front_text (drop i (block_of v))) ≡ true
+is_line_text-line v i = is_line_text-front i (block_of v) (are_lines-block_of v)

@@ -1,7 +1,7 @@
 -- Lines that are indented enough for two cuts.
 use Rattle.std.proofs.Common.{◌≡◌, ⊎_elim, ℕ, zero, suc, ◌+◌, ◌-◌, ◌<◌, ◌≤◌, ◌==◌, Bool, true, false, cond, ◌&&◌, ◌||◌, List, [], ◌∷◌, length, take, drop, map, refl, sym, ap, ◌∙◌, arith, leb}
 use Rattle.std.specs.Char.{is_whitespace}
-use Rattle.std.proofs.Common.{eqb, add-one}
+use Rattle.std.proofs.Common.{eqb, add-one, min, Some, None}
 use Rattle.std.proofs.Math.Dec.{eqb-suc-zero}
 use Rattle.std.proofs.lemmas.Bool.{eqb-true, le-leb, cases_lt}
 use Rattle.std.proofs.lemmas.List.{drop-drop}
@@ -9,6 +9,7 @@ use borrow.Author.Tests.{leb-true}
 use Rattle.rst_text.specs.Block.{Block, is_blank, indentation, shorten, shorten_all, cut}
 use Rattle.rst_text.specs.Lines.{is_line_text, are_lines, ends_white}
 use Rattle.rst_text.specs.MayCut.{is_indented}
+use Rattle.rst_text.specs.Extent.{extent, extent_of, least_indent, or_zero}
 use Rattle.rst_text.proofs.TextLemmas.{and_true}
 use Rattle.rst_text.proofs.LineTexts.{is_line_text-parts, are_lines-drop, are_lines-take}
 use Rattle.rst_text.proofs.CutLaws.{drop-cut, take-cut, take_of, shorten_all-same}
@@ -117,3 +118,54 @@ is_indented-cut B i j f r k m s lines in_order within outer inner = ⊎_elim ins
 
     empty : m ≤ k → is_indented (r + s) (take ((i + m) - (i + k + 1)) (drop (i + k + 1) B)) ≡ true
     empty over = let n : (i + m) - (i + k + 1) ≡ 0 = omega arith in rw n refl
+
+-- ---- a text behind its spaces
+
+-- a line that isn't blank holds more than spaces
+pub some_behind_spaces : (cs : List ℕ) → is_line_text cs ≡ true → 0 < length cs → 0 < length (drop (indentation cs) cs)
+some_behind_spaces cs text some = by (drop (indentation cs) cs) refl
+  where
+    by : (ds : List ℕ) → drop (indentation cs) cs ≡ ds → 0 < length ds
+    by [] e = absurd (let white = spaces-end_white (indentation cs) cs some (omega arith) e in let f : true ≡ false = sym white ∙ (is_line_text-parts cs text).1 in cc)
+    by (d ∷ ds) e = omega arith
+
+-- ---- the least indentation
+
+-- no line is indented less than it, and it is no more than what was there before
+least-from : (m : ℕ) (X : Block) → (r : ℕ) × (least_indent (Some m) X ≡ Some r) × (r ≤ m) × (is_indented r X ≡ true)
+unfolding least_indent
+least-from m [] = (m, refl, omega arith, refl)
+least-from m (l ∷ ls) = by (is_blank l.text) refl (least-from m ls) (least-from (min m (indentation l.text)) ls)
+  where
+    by : (b : Bool) → is_blank l.text ≡ b
+        → ((r : ℕ) × (least_indent (Some m) ls ≡ Some r) × (r ≤ m) × (is_indented r ls ≡ true))
+        → ((r : ℕ) × (least_indent (Some (min m (indentation l.text))) ls ≡ Some r) × (r ≤ min m (indentation l.text)) × (is_indented r ls ≡ true))
+        → (r : ℕ) × (least_indent (cond b (Some m) (Some (min m (indentation l.text)))) ls ≡ Some r) × (r ≤ m) × (is_indented r (l ∷ ls) ≡ true)
+    by true e f g = (f.0, f.1, f.2, rw (e, f.3) refl)
+    by false e f g = (g.0, g.1, omega (arith, g.2), rw (e, le-leb g.0 (indentation l.text) (omega (arith, g.2)), g.3) refl)
+
+-- Each line is blank or indented by the least indentation.
+pub is_indented-least : (X : Block) → is_indented (or_zero (least_indent None X)) X ≡ true
+unfolding least_indent
+is_indented-least [] = refl
+is_indented-least (l ∷ ls) = by (is_blank l.text) refl (is_indented-least ls) (least-from (indentation l.text) ls)
+  where
+    by : (b : Bool) → is_blank l.text ≡ b → is_indented (or_zero (least_indent None ls)) ls ≡ true
+        → ((r : ℕ) × (least_indent (Some (indentation l.text)) ls ≡ Some r) × (r ≤ indentation l.text) × (is_indented r ls ≡ true))
+        → is_indented (or_zero (least_indent (cond b None (Some (indentation l.text))) ls)) (l ∷ ls) ≡ true
+    by true e f g = rw (e, f) refl
+    by false e f g = ap (λ o. is_indented (or_zero o) (l ∷ ls)) g.1 ∙ rw (e, le-leb g.0 (indentation l.text) g.2, g.3) refl
+
+-- the lines of an extent, for a cut by its least indentation
+pub is_indented-extent : (from least : ℕ) (X : Block) → is_indented (extent_of from least X).indent (take (extent least X) X) ≡ true
+is_indented-extent from least X = is_indented-least (take (extent least X) X)
+
+-- all but the first of some lines
+pub is_indented-rest : (r i j : ℕ) (B : Block) → is_indented r (take (j - i) (drop i B)) ≡ true → is_indented r (take (j - (i + 1)) (drop (i + 1) B)) ≡ true
+is_indented-rest r i j B h = rw (← drop-drop 1 i B) (go (j - i) (j - (i + 1)) (drop i B) (omega arith) h)
+  where
+    go : (m n : ℕ) (X : Block) → n ≡ m - 1 → is_indented r (take m X) ≡ true → is_indented r (take n (drop 1 X)) ≡ true
+    go zero n X e h = rw e refl
+    go (suc m) n [] e h = is_indented-take r n [] refl
+    go (suc m) n (x ∷ X) e h =
+        let same : n ≡ m = omega arith in rw same (and_true (is_blank x.text || leb r (indentation x.text)) (is_indented r (take m X)) h).1
