@@ -3,9 +3,8 @@ use Rattle.std.proofs.Common.{◌≡◌, ⊎_elim, ℕ, zero, suc, ◌+◌, ◌-
 use Rattle.std.specs.Char.{is_whitespace}
 use Rattle.std.proofs.Common.{eqb, add-one, min, Some, None}
 use Rattle.std.proofs.Math.Dec.{eqb-suc-zero}
-use Rattle.std.proofs.lemmas.Bool.{eqb-true, le-leb, cases_lt}
+use Rattle.std.proofs.lemmas.Bool.{eqb-true, le-leb, leb-true, cases_lt}
 use Rattle.std.proofs.lemmas.List.{drop-drop}
-use borrow.Author.Tests.{leb-true}
 use Rattle.rst_text.specs.Block.{Block, is_blank, indentation, shorten, shorten_all, cut}
 use Rattle.rst_text.specs.Lines.{is_line_text, are_lines, ends_white}
 use Rattle.rst_text.specs.MayCut.{is_indented}
