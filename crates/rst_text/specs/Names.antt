@@ -1,5 +1,4 @@
--- Names and ids of texts (Markup Specification, 'Reference Names' and 'Implicit Hyperlink Targets'; Directives,
--- 'Identifier normalization').
+-- Names and ids of texts (Markup Specification, 'Reference Names'; Document Tree, attributes `names` and `ids`).
 use Rattle.std.specs.Prelude.{ℕ, Bool, true, false, ◌&&◌, ◌||◌, nat_lt, ◌==◌, List, [], ◌∷◌, map, filter, if◌then◌else◌}
 use Rattle.std.specs.List.{join_with_byte}
 use Rattle.unicode.specs.CaseFolding.{simple_fold}
