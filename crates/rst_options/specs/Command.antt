@@ -1,6 +1,6 @@
 -- The command line: its options, and what `clap` states of argument words for them (Docutils Front-End Tools,
 -- 'rst2pseudoxml'). Words, names and values are the bytes of their UTF-8.
-use Rattle.std.specs.Prelude.{◌≡◌, ◌≢◌, ℕ, Bool, true, false, is_some, List, [], ◌∷◌, Option, Some, Result, Ok, Err, codes}
+use Rattle.std.specs.Prelude.{◌≡◌, ◌≢◌, ℕ, Bool, true, false, is_some, List, [], ◌∷◌, Some, Result, Ok, Err, codes}
 use Rattle.std.specs.Str.{bytes_eq}
 use Rattle.std.specs.Option.{option_map_or}
 use Rattle.clap.specs.Words.{App, Kinds, Row, Rule, Text, fault_of as faults_of, first_of, found_of, matches_of, new_app, new_rule, rows_of, with_rule}

@@ -8,8 +8,8 @@ use thiserror::Error;
 /// Why the words choose no settings, in the order in which faults are looked for; the last may come at any point.
 #[derive(Clone, Copy, Debug, PartialEq, Eq, Error)]
 pub enum OptionFault {
-    /// An unknown option, one that is given twice or lacks its value, a second SOURCE, or one that begins with a
-    /// hyphen.
+    /// An unknown option, one that is given twice or lacks its value, a flag with a value, a second SOURCE, or one
+    /// that begins with a hyphen.
     #[error("bad arguments")]
     Usage,
     /// A LEVEL that is none of `1` to `5`, `info`, `warning`, `error`, `severe` and `none`.

@@ -10,9 +10,8 @@ mod fault;
 mod found;
 mod values;
 
-pub use fault::OptionFault;
-
 use choice::choice_of;
+pub use fault::OptionFault;
 use found::{matches_of, text_of};
 use rst_settings::Settings;
 use std::alloc::Global;

@@ -1,5 +1,5 @@
-use Rattle.std.proofs.Common.{◌≡◌, ◌∙◌, Ok, Err, Some, ap, codes, map, string_bytes, sym, option_map, ap₂, List}
-use Rattle.clap.specs.Words.{Text, first_of}
+use Rattle.std.proofs.Common.{◌≡◌, ◌∙◌, Ok, Some, ap, codes, map, string_bytes, sym, option_map, ap₂}
+use Rattle.clap.specs.Words.{first_of}
 use Rattle.rst_options.specs.Command.{rows_at}
 use Rattle.rst_options.specs.Options.{with_source, is_dashed, choice_of, said_by}
 use Rattle.rst_options.proofs.OptionsLemmas.{chooses-fault, chooses-misused, dashed, taken}
