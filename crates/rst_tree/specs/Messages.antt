@@ -1,0 +1,36 @@
+-- A message as an element of the tree (Document Tree, 'system_message').
+use Rattle.std.specs.Prelude.{ℕ, List, [], ◌∷◌, codes, Option, Some, None}
+use Rattle.rst_tree.specs.declared.attrs.Attr.{Attr}
+use Rattle.rst_tree.specs.declared.attrs.Value.TheVariants.{Text, Number}
+use Rattle.rst_tree.specs.declared.key.Key.TheVariants.{Level as LevelKey, Line, Type_, XmlSpace}
+use Rattle.rst_tree.specs.declared.tag.Tag.{Tag}
+use Rattle.rst_tree.specs.declared.tag.Tag.TheVariants.{SystemMessage, Paragraph, LiteralBlock}
+use Rattle.rst_tree.specs.declared.node.Node.{Node}
+use Rattle.rst_tree.specs.declared.node.Node.TheVariants.{Element}
+use Rattle.rst_tree.specs.declared.note.Level.{Level}
+use Rattle.rst_tree.specs.declared.note.Note.{Note}
+use Rattle.rst_tree.specs.Attributes.{attr}
+use Rattle.rst_tree.specs.Forest.{bare, words}
+use Rattle.rst_tree.specs.LevelNames.{level_name, level_number}
+use Rattle.rst_tree.specs.Nodes.{forest_of}
+
+-- an element that holds one text
+abbrev pub holding : Tag → List Attr → List ℕ → ℕ → Node
+holding tag attrs text line = Element tag attrs (words text bare) line
+
+-- a text whose lines stay as they are
+abbrev pub literal_of : List ℕ → ℕ → Node
+literal_of text line = holding LiteralBlock (attr XmlSpace (Text (codes "preserve")) ∷ []) text line
+
+-- what a message says, and the source text that it shows
+abbrev pub note_nodes : List ℕ → Option (List ℕ) → ℕ → List Node
+note_nodes text None line = holding Paragraph [] text line ∷ []
+note_nodes text (Some shown) line = holding Paragraph [] text line ∷ literal_of shown line ∷ []
+
+-- the level, the line and the level's name
+abbrev pub note_attrs : Level → ℕ → List Attr
+note_attrs level line = attr LevelKey (Number (level_number level)) ∷ attr Line (Number line) ∷ attr Type_ (Text (level_name level)) ∷ []
+
+-- the message's element
+abbrev pub note_node : Note → Node
+note_node note = Element SystemMessage (note_attrs note.level note.line) (forest_of (note_nodes note.text note.block note.line)) note.line

@@ -1,0 +1,32 @@
+-- Elements replaced by nodes, or changed, in preorder, with a state.
+use Rattle.rst_tree.specs.declared.node.Node.{Node}
+use Rattle.rst_tree.specs.declared.node.Node.TheVariants.{Element, Text}
+use Rattle.rst_tree.specs.declared.rewriting.Rewrite.{Rewrite}
+use Rattle.rst_tree.specs.declared.rewriting.Rewrite.TheVariants.{Keep, Replace}
+use Rattle.rst_tree.specs.Forest.{Forest, bare, element, words}
+
+-- some nodes, and then others
+abbrev pub join : Forest → Forest → Forest
+join bare r = r
+join (element t a c l f) r = element t a c l (join f r)
+join (words t f) r = words t (join f r)
+
+-- an element that stays as it is
+abbrev pub kept : Node → Rewrite
+kept (Element t a c l) = Keep t a l
+kept (Text t) = Replace (words t bare)
+
+module _ {S : Type 0} (entered : S → Node → S) (becomes : S → Node → Rewrite) (left : S → Node → S) (stands : S → Node → Forest) where
+  -- What becomes of an element and of the nodes behind it, and the state then. Other nodes stand in its place; or it stays,
+  -- what stands in it is gone through, it is left, and then comes what is behind it.
+  abbrev pub go_on : Rewrite → S → (S → Forest × S) → (S → Forest × S) → Forest × S
+  go_on (Replace f) s inside behind = (join f (behind s).0, (behind s).1)
+  go_on (Keep t a l) s inside behind =
+      let e : Node = Element t a (inside s).0 l in
+      (join (stands (inside s).1 e) (behind (left (inside s).1 e)).0, (behind (left (inside s).1 e)).1)
+
+  -- the nodes rewritten, and the state then
+  abbrev pub rewritten : S → Forest → Forest × S
+  rewritten s bare = (bare, s)
+  rewritten s (element t a c l r) = go_on (becomes s (Element t a c l)) (entered s (Element t a c l)) (λ u. rewritten u c) (λ u. rewritten u r)
+  rewritten s (words t r) = (words t (rewritten s r).0, (rewritten s r).1)

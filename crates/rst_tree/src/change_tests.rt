@@ -1,0 +1,237 @@
+//! Each change of a tree and each pass over one, on small trees.
+ghost use Rattle.std.specs.Prelude.{◌+◌, ◌-◌, ◌^◌, ◌∷◌, [], min, not, if◌then◌else◌};
+ghost use Rattle.rst_tree.specs.Walk.{item};
+ghost use Rattle.rst_tree.specs.Rewritten.{kept};
+ghost use Rattle.rst_tree.specs.Nodes.{forest_of};
+ghost use Rattle.rst_tree.specs.Forest.{bare};
+ghost use Rattle.rst_tree.specs.declared.node.Node.TheVariants.{Element};
+ghost use Rattle.rst_tree.specs.declared.rewriting.Rewrite.TheVariants.{Replace};
+ghost use Rattle.rst_tree.specs.declared.tag.Tag.TheVariants.{Transition};
+
+use super::tests::{Said, element, holding, printed, text, titled};
+use super::{
+    Attr, Attrs, Children, Key, Node, Reader, Rewrite, Rewriter, Tag, Text, Tree, TreeFault, Value,
+    Visitor, read_elements, rewrite_in, walk,
+};
+use std::alloc::Global;
+use std::test::Fail;
+
+/// Elements nested so deep, the innermost without nodes.
+fn nested(alloc: Global, levels: usize) -> Result<Node, TreeFault> {
+    let mut node = Node::element(alloc, Tag::BlockQuote, 1);
+    for _level in 1..levels {
+        node = element(alloc, Tag::BlockQuote, &[], [node])?;
+    }
+    Ok(node)
+}
+
+/// An element whose attributes have these names, in this order.
+fn named(alloc: Global, keys: &[Key]) -> Result<Node, TreeFault> {
+    let mut list = Vec::new(alloc);
+    for key in keys {
+        list.push(Attr {
+            key: *key,
+            value: Value::Number(1),
+        })?;
+    }
+    Ok(Node::Element {
+        tag: Tag::Paragraph,
+        attrs: Attrs::of(list),
+        children: Children::new(alloc),
+        line: 1,
+    })
+}
+
+#[test]
+fn knows_trees(rt: HostRuntime) -> Result<(), Fail> {
+    let alloc = rt.alloc();
+    let rows = [
+        (named(alloc, &[])?, true),
+        (named(alloc, &[Key::Ids, Key::Names, Key::XmlSpace])?, true),
+        (named(alloc, &[Key::Names, Key::Ids])?, false),
+        (named(alloc, &[Key::Ids, Key::Ids])?, false),
+        (text(alloc, "a\nb\u{1F}")?, true),
+        (text(alloc, "a\rb")?, false),
+        (holding(alloc, Tag::Paragraph, "a\u{2028}")?, false),
+        (nested(alloc, 1350)?, true),
+        (nested(alloc, 1351)?, false),
+    ];
+    for (root, want) in rows {
+        assert_eq!(rt; Tree::of(root).is_ok(), want);
+    }
+    Ok(())
+}
+
+#[test]
+fn changes_trees(rt: HostRuntime) -> Result<(), Fail> {
+    let alloc = rt.alloc();
+    match Tree::of(titled(alloc)?) {
+        Ok(mut tree) => {
+            assert!(rt; tree.has(&[1, 0]));
+            assert!(rt; !tree.has(&[1, 1]));
+            match tree.attr(&[], Key::Title) {
+                Some(Value::Text(said)) => assert_eq!(rt; said.as_str(), "Title"),
+                _ => assert!(rt; false),
+            }
+            assert!(rt; tree.attr(&[0], Key::Ids).is_none());
+            let more = text(alloc, "b\n")?;
+            assert!(rt; tree.fits(&[1], &more));
+            assert!(rt; !tree.fits(&[1, 0], &more));
+            assert!(rt; !tree.fits(&[1], &nested(alloc, 1349)?));
+            assert!(rt; tree.push(alloc, &[1], more).is_ok());
+            assert!(rt; tree.has_element(&[1]));
+            tree.set(alloc, &[1], Key::Ids, Value::Number(7))?;
+            assert!(rt; tree.has_element(&[1]));
+            tree.set(alloc, &[1], Key::Alt, Value::Number(8))?;
+            assert!(rt; tree.has_element(&[1]));
+            tree.set(alloc, &[1], Key::Ids, Value::Number(9))?;
+            assert_eq!(rt; tree.text_of(alloc, &[])?.as_str(), "TitleText.b\n");
+            let root = tree.root().copy(alloc)?;
+            let (_, out) = printed(alloc, tree.into_root(), 1000, 1000)?;
+            assert_eq!(rt;
+                std::str::from_utf8(&out.held)?,
+                "<document ids=\"title\" names=\"title\" source=\"<stdin>\" title=\"Title\">
+    <title>
+        Title
+    <paragraph alt=\"8\" ids=\"9\">
+        Text.
+        b
+"
+            );
+            assert!(rt; Tree::of(root).is_ok());
+        }
+        Err(_) => assert!(rt; false),
+    }
+    Ok(())
+}
+
+/// Gives each element a tag and a line.
+#[derive(Drop)]
+struct Retagging {
+    to: Tag,
+}
+
+impl Visitor for Retagging {
+    ghost next = { λ s x. s };
+
+    ghost out = { λ s x. item s.to x.attrs 5 };
+
+    fn visit(
+        &mut self,
+        tag: &mut Tag,
+        _attrs: &mut Attrs,
+        line: &mut usize,
+    ) -> Result<(), TreeFault> {
+        *tag = self.to;
+        *line = 5;
+        Ok(())
+    }
+}
+
+/// Counts elements.
+#[derive(Drop)]
+struct Counting {
+    seen: usize,
+}
+
+impl Reader for Counting {
+    ghost next = { λ s n. record { seen = min (s.seen + 1) (2 ^ 64 - 1) } };
+
+    fn read(&mut self, _alloc: Global, _element: &Node) -> Result<(), TreeFault> {
+        self.seen = self.seen.saturating_add(1);
+        Ok(())
+    }
+}
+
+/// Takes out each second element that is met, and puts a transition behind each that stays.
+#[derive(Drop)]
+struct Thinning {
+    takes: bool,
+}
+
+impl Rewriter for Thinning {
+    ghost entered = { λ s n. record { takes = not s.takes } };
+
+    ghost becomes = { λ s n. if s.takes then Replace bare else kept n };
+
+    ghost left = { λ s n. s };
+
+    ghost stands = { λ s n. forest_of (n ∷ Element Transition [] bare 1 ∷ []) };
+
+    fn enter(
+        &mut self,
+        alloc: Global,
+        tag: Tag,
+        attrs: Attrs,
+        _children: &Children,
+        line: usize,
+    ) -> Result<Rewrite, TreeFault> {
+        let takes = self.takes;
+        self.takes = !takes;
+        if takes {
+            Ok(Rewrite::Replace(Children::new(alloc)))
+        } else {
+            Ok(Rewrite::Keep { tag, attrs, line })
+        }
+    }
+
+    fn leave(&mut self, alloc: Global, element: Node) -> Result<Children, TreeFault> {
+        let transition = Node::element(alloc, Tag::Transition, 1);
+        Ok(Children::of(vec![in alloc; element, transition]?))
+    }
+}
+
+#[test]
+fn walks_over_trees(rt: HostRuntime) -> Result<(), Fail> {
+    let alloc = rt.alloc();
+    let mut counting = Counting { seen: 0 };
+    read_elements(alloc, &titled(alloc)?, &mut counting)?;
+    assert_eq!(rt; counting.seen, 3);
+
+    let walked = walk(titled(alloc)?, &mut Retagging { to: Tag::Tip })?;
+    let (_, out) = printed(alloc, walked, 1000, 1000)?;
+    assert_eq!(rt;
+        std::str::from_utf8(&out.held)?,
+        "<tip ids=\"title\" names=\"title\" source=\"<stdin>\" title=\"Title\">
+    <tip>
+        Title
+    <tip>
+        Text.
+"
+    );
+
+    let quote = element(
+        alloc,
+        Tag::BlockQuote,
+        &[(Key::Line, Said::Number(2))],
+        [
+            text(alloc, "x")?,
+            holding(alloc, Tag::Paragraph, "a")?,
+            holding(alloc, Tag::Tip, "b")?,
+            holding(alloc, Tag::Note, "c")?,
+        ],
+    )?;
+    let nodes = Children::of(vec![in alloc; quote]?);
+    let children = rewrite_in(alloc, nodes, &mut Thinning { takes: false })?;
+    let mut document = Node::element(alloc, Tag::Document, 1);
+    if let Node::Element {
+        children: place,
+        ..
+    } = &mut document
+    {
+        *place = children;
+    }
+    let (_, out) = printed(alloc, document, 1000, 1000)?;
+    assert_eq!(rt;
+        std::str::from_utf8(&out.held)?,
+        "<document>
+    <block_quote line=\"2\">
+        x
+        <tip>
+            b
+        <transition>
+    <transition>
+"
+    );
+    Ok(())
+}

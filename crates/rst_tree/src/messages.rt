@@ -1,0 +1,105 @@
+//! Messages as elements.
+ghost use Rattle.std.specs.Prelude.{◌≡◌};
+ghost use Rattle.rst_tree.specs.Faults.{Gives};
+ghost use Rattle.rst_tree.specs.Nodes.{forest_of};
+ghost use Rattle.rst_tree.specs.Messages.{holding, literal_of, note_nodes, note_attrs, note_node};
+
+use crate::attrs::{Attr, Attrs, Value};
+use crate::fault::TreeFault;
+use crate::key::Key;
+use crate::node::{Children, Node};
+use crate::note::{Level, Note};
+use crate::tag::Tag;
+use crate::text::Text;
+use std::alloc::Global;
+
+impl Note {
+    /// The message as a `system_message`: a paragraph with what it says, and a literal block with the source text that it
+    /// shows, each on the message's line.
+    pub fn into_node(self, alloc: Global) -> Result<Node, TreeFault>
+        ensures { Gives (λ node. node ≡ note_node self) result }
+    {
+        let attrs = note_attrs(alloc, self.level, self.line)?;
+        let children = note_nodes(alloc, self.text, self.block, self.line)?;
+        Ok(Node::Element {
+            tag: Tag::SystemMessage,
+            attrs,
+            children,
+            line: self.line,
+        })
+    }
+}
+
+/// The level, the line and the level's name.
+fn note_attrs(alloc: Global, level: Level, line: usize) -> Result<Attrs, TreeFault>
+    ensures { Gives (λ attrs. attrs ≡ note_attrs level line) result }
+{
+    let name = Text::from_str(alloc, level.name())?;
+    let mut attrs = Vec::new(alloc);
+    attrs.push(Attr {
+        key: Key::Level,
+        value: Value::Number(u64::from(level.number())),
+    })?;
+    attrs.push(Attr {
+        key: Key::Line,
+        value: Value::Number(line as u64),
+    })?;
+    attrs.push(Attr {
+        key: Key::Type_,
+        value: Value::Text(name),
+    })?;
+    Ok(Attrs::of(attrs))
+}
+
+/// What a message says, and the source text that it shows.
+fn note_nodes(
+    alloc: Global,
+    text: Text,
+    block: Option<Text>,
+    line: usize,
+) -> Result<Children, TreeFault>
+    ensures { Gives (λ nodes. nodes ≡ forest_of (note_nodes text block line)) result }
+{
+    let mut nodes = Vec::new(alloc);
+    nodes.push(holding(alloc, Tag::Paragraph, Attrs::new(alloc), text, line)?)?;
+    match block {
+        None => Ok(Children::of(nodes)),
+        Some(shown) => {
+            nodes.push(literal_of(alloc, shown, line)?)?;
+            Ok(Children::of(nodes))
+        }
+    }
+}
+
+/// An element that holds one text.
+fn holding(
+    alloc: Global,
+    tag: Tag,
+    attrs: Attrs,
+    text: Text,
+    line: usize,
+) -> Result<Node, TreeFault>
+    ensures { Gives (λ node. node ≡ holding tag attrs text line) result }
+{
+    let mut nodes = Vec::new(alloc);
+    nodes.push(Node::Text(text))?;
+    Ok(Node::Element {
+        tag,
+        attrs,
+        children: Children::of(nodes),
+        line,
+    })
+}
+
+/// A literal block, whose lines stay as they are.
+fn literal_of(alloc: Global, text: Text, line: usize) -> Result<Node, TreeFault>
+    ensures { Gives (λ node. node ≡ literal_of text line) result }
+{
+    let preserve = Text::from_str(alloc, "preserve")?;
+    let mut attrs = Vec::new(alloc);
+    attrs.push(Attr {
+        key: Key::XmlSpace,
+        value: Value::Text(preserve),
+    })?;
+    holding(alloc, Tag::LiteralBlock, Attrs::of(attrs), text, line)
+}

@@ -1,0 +1,461 @@
+//! Trees built by hand and printed, as other programs print them, and each call once.
+ghost use Rattle.std.specs.Prelude.{Some};
+
+use super::{
+    Attrs, Children, Key, Level, Node, Note, PrintFault, Tag, Text, Texts, Tree, TreeFault, Value,
+    message_line, print,
+};
+use rst_text::Counted;
+use std::alloc::Global;
+use std::io::{Error, ErrorKind, Write};
+use std::test::Fail;
+
+/// A writer that takes `step` bytes a call, and fails once it has no room.
+#[derive(Drop)]
+pub struct Narrow {
+    pub held: Vec<u8>,
+    room: usize,
+    step: usize,
+}
+
+impl Narrow {
+    pub fn new(alloc: Global, room: usize, step: usize) -> Narrow {
+        Narrow {
+            held: Vec::new(alloc),
+            room,
+            step,
+        }
+    }
+}
+
+impl Write for Narrow {
+    ghost contents = { λ w. Some w.held.items };
+
+    fn write(&mut self, buf: &[u8]) -> std::io::Result<usize> {
+        let n = buf.len().min(self.room).min(self.step);
+        if n == 0 && !buf.is_empty() {
+            return Err(Error::from(ErrorKind::WriteZero));
+        }
+        self.held.extend_from_slice(&buf[..n])?;
+        self.room -= n;
+        Ok(n)
+    }
+
+    fn flush(&mut self) -> std::io::Result<()> {
+        Ok(())
+    }
+}
+
+/// What an attribute of a test's element says.
+#[derive(Clone, Copy)]
+pub enum Said<'a> {
+    Text(&'a str),
+    Number(u64),
+    List(&'a [&'a str]),
+}
+
+fn value(alloc: Global, said: Said<'_>) -> Result<Value, TreeFault> {
+    match said {
+        Said::Text(text) => Ok(Value::Text(Text::from_str(alloc, text)?)),
+        Said::Number(number) => Ok(Value::Number(number)),
+        Said::List(members) => {
+            let mut texts = Texts::new(alloc);
+            for member in members {
+                texts.push(Text::from_str(alloc, member)?)?;
+            }
+            Ok(Value::List(texts))
+        }
+    }
+}
+
+pub fn text(alloc: Global, said: &str) -> Result<Node, TreeFault> {
+    Node::text(alloc, said)
+}
+
+/// An element with attributes, which come in any order, and nodes in it.
+pub fn element<const N: usize>(
+    alloc: Global,
+    tag: Tag,
+    said: &[(Key, Said<'_>)],
+    nodes: [Node; N],
+) -> Result<Node, TreeFault> {
+    let mut attrs = Attrs::new(alloc);
+    for (key, says) in said {
+        attrs.set(*key, value(alloc, *says)?)?;
+    }
+    Ok(Node::Element {
+        tag,
+        attrs,
+        children: Children::of(Vec::from_array(alloc, nodes)?),
+        line: 1,
+    })
+}
+
+/// An element that holds one text.
+pub fn holding(alloc: Global, tag: Tag, said: &str) -> Result<Node, TreeFault> {
+    element(alloc, tag, &[], [text(alloc, said)?])
+}
+
+const SOURCE: (Key, Said<'static>) = (Key::Source, Said::Text("<stdin>"));
+
+const PRESERVE: (Key, Said<'static>) = (Key::XmlSpace, Said::Text("preserve"));
+
+fn empty(alloc: Global) -> Result<Node, TreeFault> {
+    element(alloc, Tag::Document, &[SOURCE], [])
+}
+
+fn hello(alloc: Global) -> Result<Node, TreeFault> {
+    element(
+        alloc,
+        Tag::Document,
+        &[SOURCE],
+        [holding(alloc, Tag::Paragraph, "Hello, world")?],
+    )
+}
+
+pub fn titled(alloc: Global) -> Result<Node, TreeFault> {
+    element(
+        alloc,
+        Tag::Document,
+        &[
+            (Key::Title, Said::Text("Title")),
+            SOURCE,
+            (Key::Names, Said::List(&["title"])),
+            (Key::Ids, Said::List(&["title"])),
+            (Key::Classes, Said::List(&[])),
+        ],
+        [
+            holding(alloc, Tag::Title, "Title")?,
+            holding(alloc, Tag::Paragraph, "Text.")?,
+        ],
+    )
+}
+
+fn footnote(
+    alloc: Global,
+    said: &[(Key, Said<'_>)],
+    label: &str,
+    body: &str,
+) -> Result<Node, TreeFault> {
+    element(
+        alloc,
+        Tag::Footnote,
+        said,
+        [
+            holding(alloc, Tag::Label, label)?,
+            holding(alloc, Tag::Paragraph, body)?,
+        ],
+    )
+}
+
+fn footnotes(alloc: Global) -> Result<Node, TreeFault> {
+    let first = element(
+        alloc,
+        Tag::FootnoteReference,
+        &[
+            (Key::Auto, Said::Number(1)),
+            (Key::Ids, Said::List(&["footnote-reference-1"])),
+            (Key::Refid, Said::Text("footnote-1")),
+        ],
+        [text(alloc, "2")?],
+    )?;
+    let second = element(
+        alloc,
+        Tag::FootnoteReference,
+        &[
+            (Key::Refid, Said::Text("footnote-2")),
+            (Key::Ids, Said::List(&["footnote-reference-2"])),
+        ],
+        [text(alloc, "1")?],
+    )?;
+    let auto = [
+        (Key::Auto, Said::Text("1")),
+        (Key::Backrefs, Said::List(&["footnote-reference-1"])),
+        (Key::Ids, Said::List(&["footnote-1"])),
+        (Key::Names, Said::List(&["2"])),
+    ];
+    let numbered = [
+        (Key::Backrefs, Said::List(&["footnote-reference-2"])),
+        (Key::Ids, Said::List(&["footnote-2"])),
+        (Key::Names, Said::List(&["1"])),
+    ];
+    element(
+        alloc,
+        Tag::Document,
+        &[SOURCE],
+        [
+            element(
+                alloc,
+                Tag::Paragraph,
+                &[],
+                [first, text(alloc, " ")?, second],
+            )?,
+            footnote(alloc, &auto, "2", "x")?,
+            footnote(alloc, &numbered, "1", "y")?,
+        ],
+    )
+}
+
+fn entry(alloc: Global, said: &str) -> Result<Node, TreeFault> {
+    let paragraph = holding(alloc, Tag::Paragraph, said)?;
+    element(alloc, Tag::Entry, &[], [paragraph])
+}
+
+fn table(alloc: Global) -> Result<Node, TreeFault> {
+    let row = element(
+        alloc,
+        Tag::Row,
+        &[],
+        [entry(alloc, "a")?, entry(alloc, "b c\nd")?],
+    )?;
+    let two = (Key::Colwidth, Said::Number(2));
+    let three = (Key::Colwidth, Said::Number(3));
+    let group = element(
+        alloc,
+        Tag::Tgroup,
+        &[(Key::Cols, Said::Number(2))],
+        [
+            element(alloc, Tag::Colspec, &[two], [])?,
+            element(alloc, Tag::Colspec, &[three], [])?,
+            element(alloc, Tag::Tbody, &[], [row])?,
+        ],
+    )?;
+    element(
+        alloc,
+        Tag::Document,
+        &[SOURCE],
+        [element(alloc, Tag::Table, &[], [group])?],
+    )
+}
+
+fn targets(alloc: Global) -> Result<Node, TreeFault> {
+    let paragraph = element(
+        alloc,
+        Tag::Paragraph,
+        &[],
+        [
+            element(
+                alloc,
+                Tag::Reference,
+                &[
+                    (Key::Name, Said::Text("Python")),
+                    (Key::Refuri, Said::Text("https://x.org/")),
+                ],
+                [text(alloc, "Python")?],
+            )?,
+            text(alloc, " and ")?,
+            text(alloc, "")?,
+            text(alloc, ".")?,
+        ],
+    )?;
+    let named = element(
+        alloc,
+        Tag::Target,
+        &[
+            (Key::Refuri, Said::Text("https://x.org/")),
+            (Key::Names, Said::List(&["python"])),
+            (Key::Ids, Said::List(&["python"])),
+        ],
+        [],
+    )?;
+    let escaped = element(
+        alloc,
+        Tag::Paragraph,
+        &[
+            (Key::Names, Said::List(&["a b\\c", "d"])),
+            (Key::Dupnames, Said::List(&[])),
+        ],
+        [text(alloc, "End.\n")?],
+    )?;
+    element(alloc, Tag::Document, &[SOURCE], [paragraph, named, escaped])
+}
+
+fn message(alloc: Global) -> Result<Node, TreeFault> {
+    let shown = element(
+        alloc,
+        Tag::LiteralBlock,
+        &[PRESERVE],
+        [text(alloc, ".. image::\n\n   :foo: 1")?],
+    )?;
+    let said = holding(
+        alloc,
+        Tag::Paragraph,
+        "Error in \"image\" directive:\nunknown option: \"foo\".",
+    )?;
+    let attrs = [
+        (Key::Level, Said::Number(3)),
+        (Key::Line, Said::Number(1)),
+        SOURCE,
+        (Key::Type_, Said::Text("ERROR")),
+    ];
+    element(
+        alloc,
+        Tag::Document,
+        &[SOURCE],
+        [element(alloc, Tag::SystemMessage, &attrs, [said, shown])?],
+    )
+}
+
+/// Prints a tree to a writer of that room and step.
+pub fn printed(
+    alloc: Global,
+    root: Node,
+    room: usize,
+    step: usize,
+) -> Result<(Result<(), PrintFault>, Narrow), Fail> {
+    let mut out = Narrow::new(alloc, room, step);
+    match Tree::of(root) {
+        Ok(tree) => {
+            let answer = print(&tree, &mut Counted::of(&mut out));
+            Ok((answer, out))
+        }
+        Err(_) => Ok((Err(PrintFault::Write { done: 0 }), out)),
+    }
+}
+
+const HELLO: &str = "<document source=\"<stdin>\">\n    <paragraph>\n        Hello, world\n";
+
+#[test]
+fn prints_trees(rt: HostRuntime) -> Result<(), Fail> {
+    let alloc = rt.alloc();
+    let rows = [
+        (empty(alloc)?, "<document source=\"<stdin>\">\n"),
+        (hello(alloc)?, HELLO),
+        (titled(alloc)?, TITLED),
+        (footnotes(alloc)?, FOOTNOTES),
+        (table(alloc)?, TABLE),
+        (targets(alloc)?, TARGETS),
+        (message(alloc)?, MESSAGE),
+    ];
+    for (root, want) in rows {
+        let (answer, out) = printed(alloc, root, 10_000, 7)?;
+        assert_eq!(rt; answer, Ok(()));
+        assert_eq!(rt; std::str::from_utf8(&out.held)?, want);
+    }
+    Ok(())
+}
+
+const TITLED: &str = "<document ids=\"title\" names=\"title\" source=\"<stdin>\" title=\"Title\">
+    <title>
+        Title
+    <paragraph>
+        Text.
+";
+
+const FOOTNOTES: &str = "<document source=\"<stdin>\">
+    <paragraph>
+        <footnote_reference auto=\"1\" ids=\"footnote-reference-1\" refid=\"footnote-1\">
+            2
+         
+        <footnote_reference ids=\"footnote-reference-2\" refid=\"footnote-2\">
+            1
+    <footnote auto=\"1\" backrefs=\"footnote-reference-1\" ids=\"footnote-1\" names=\"2\">
+        <label>
+            2
+        <paragraph>
+            x
+    <footnote backrefs=\"footnote-reference-2\" ids=\"footnote-2\" names=\"1\">
+        <label>
+            1
+        <paragraph>
+            y
+";
+
+const TABLE: &str = "<document source=\"<stdin>\">
+    <table>
+        <tgroup cols=\"2\">
+            <colspec colwidth=\"2\">
+            <colspec colwidth=\"3\">
+            <tbody>
+                <row>
+                    <entry>
+                        <paragraph>
+                            a
+                    <entry>
+                        <paragraph>
+                            b c
+                            d
+";
+
+const TARGETS: &str = "<document source=\"<stdin>\">
+    <paragraph>
+        <reference name=\"Python\" refuri=\"https://x.org/\">
+            Python
+         and 
+        .
+    <target ids=\"python\" names=\"python\" refuri=\"https://x.org/\">
+    <paragraph names=\"a\\ b\\\\c d\">
+        End.
+";
+
+const MESSAGE: &str = "<document source=\"<stdin>\">
+    <system_message level=\"3\" line=\"1\" source=\"<stdin>\" type=\"ERROR\">
+        <paragraph>
+            Error in \"image\" directive:
+            unknown option: \"foo\".
+        <literal_block xml:space=\"preserve\">
+            .. image::
+            
+               :foo: 1
+";
+
+#[test]
+fn stops_at_a_failed_write(rt: HostRuntime) -> Result<(), Fail> {
+    let alloc = rt.alloc();
+    for (room, want) in [(0, ""), (10, "<document "), (64, &HELLO[..64])] {
+        for step in [1, 3, 100] {
+            let (answer, out) = printed(alloc, hello(alloc)?, room, step)?;
+            assert_eq!(rt; answer, Err(PrintFault::Write { done: room }));
+            assert_eq!(rt; std::str::from_utf8(&out.held)?, want);
+        }
+    }
+    let (answer, _out) = printed(alloc, hello(alloc)?, 65, 1)?;
+    assert_eq!(rt; answer, Ok(()));
+    Ok(())
+}
+
+#[test]
+fn prints_messages(rt: HostRuntime) -> Result<(), Fail> {
+    let alloc = rt.alloc();
+    let rows = [
+        (
+            Level::Warning,
+            3,
+            "Bullet list ends without a blank line; unexpected unindent.",
+            None,
+            "<stdin>:3: (WARNING/2) Bullet list ends without a blank line; unexpected unindent.\n",
+        ),
+        (
+            Level::Severe,
+            2,
+            "Unexpected section title.",
+            Some("Title\n====="),
+            "<stdin>:2: (SEVERE/4) Unexpected section title.\n\nTitle\n=====\n",
+        ),
+        (Level::Info, 10, "a\nb", None, "<stdin>:10: (INFO/1) a\nb\n"),
+        (
+            Level::Error,
+            1,
+            "c",
+            Some(""),
+            "<stdin>:1: (ERROR/3) c\n\n\n",
+        ),
+    ];
+    for (level, line, said, shown, want) in rows {
+        let block = match shown {
+            Some(shown) => Some(Text::from_str(alloc, shown)?),
+            None => None,
+        };
+        let note = Note {
+            level,
+            line,
+            text: Text::from_str(alloc, said)?,
+            block,
+        };
+        let mut out = Narrow::new(alloc, 1000, 5);
+        let answer = message_line(&note, "<stdin>", &mut Counted::of(&mut out));
+        assert_eq!(rt; answer, Ok(()));
+        assert_eq!(rt; std::str::from_utf8(&out.held)?, want);
+    }
+    Ok(())
+}
