@@ -9,5 +9,9 @@ if [ -x "$program" ] && [ "$(cat "$program.sources" 2>/dev/null)" = "$sources" ]
   exit 0
 fi
 echo "rst2pseudoxml: proving and building the program; this takes some minutes the first time" >&2
-(cd crates/rst2pseudoxml && rt run </dev/null >/dev/null)
+log=$(mktemp) && trap 'rm -f "$log"' EXIT
+if ! (cd crates/rst2pseudoxml && rt run </dev/null 2>&1 >/dev/null | tee "$log" | { grep --line-buffered '^rt:' || true; }) >&2; then
+  grep -v '^statements ' "$log" >&2
+  exit 1
+fi
 echo "$sources" >"$program.sources"
