@@ -1,0 +1,71 @@
+//! Reads reStructuredText and prints its document tree as indented pseudo-XML.
+#![tactic(auto)]
+
+ghost use Rattle.std.specs.Prelude.{◌≡◌, false};
+ghost use Rattle.rst_text.specs.Counted.{has_failed};
+
+mod end;
+mod input;
+mod output;
+mod paragraph;
+mod report;
+mod run;
+mod shown;
+
+use report::{Stop, report};
+use rst_options::{OptionFault, options};
+use rst_text::Counted;
+use run::run;
+use std::alloc::Global;
+use std::env;
+use std::fs::File;
+use std::io::{ErrorKind, Write};
+use std::process::ExitCode;
+
+fn main(rt: HostRuntime) -> ExitCode {
+    let mut err = Counted::of(rt.stderr());
+    let stop = started(&rt, &mut err);
+    ExitCode::from(report(&stop, &mut err))
+}
+
+/// Runs over the file that the argument words name, or over standard input.
+fn started<E: Write>(rt: &HostRuntime, err: &mut Counted<E>) -> Stop
+    requires { has_failed err.old ≡ false }
+{
+    let alloc = rt.alloc();
+    let words = match words(rt) {
+        Ok(words) => words,
+        Err(stop) => return stop,
+    };
+    let (settings, source) = match options(alloc, words.as_slice()) {
+        Ok(chosen) => chosen,
+        Err(fault) => return Stop::Options(fault),
+    };
+    let mut out = Counted::of(rt.stdout());
+    let Some(source) = source else {
+        let mut input = Counted::of(rt.stdin());
+        return Stop::Ran(run(alloc, &settings, "<stdin>", &mut input, &mut out, err));
+    };
+    match File::open(rt, source.as_str()) {
+        Ok(file) => {
+            let mut input = Counted::of(file);
+            Stop::Ran(run(alloc, &settings, source.as_str(), &mut input, &mut out, err))
+        }
+        Err(_) => Stop::Open(source),
+    }
+}
+
+/// The words after the program's name.
+fn words(rt: &HostRuntime) -> Result<Vec<String>, Stop> {
+    let out_of_memory = Stop::Options(OptionFault::NoMemory);
+    let mut words = match env::args(rt) {
+        Ok(words) => words,
+        Err(error) if error.kind() == ErrorKind::OutOfMemory => return Err(out_of_memory),
+        Err(_) => return Err(Stop::Words),
+    };
+    let _program = words.next();
+    words.collect(rt.alloc()).map_err(|_| out_of_memory)
+}
+
+#[cfg(test)]
+mod tests;
