@@ -44,7 +44,7 @@ impl Path {
     }
 
     /// The places, the innermost first.
-    fn steps(&self) -> &[usize]
+    pub fn steps(&self) -> &[usize]
         ensures { self.now ≡ reverse result.now }
     {
         self.steps.as_slice()

@@ -2,7 +2,7 @@
 ghost use Rattle.std.specs.Prelude.{◌≡◌};
 
 /// An attribute, in the order of the names (Document Tree, 'Attribute Reference'). Those that `is_hidden` tells serve the
-/// transforms alone.
+/// transforms alone. The printer prints what stands in a tree, so they are taken out first, by `Attrs::remove_hidden`.
 #[derive(Clone, Copy, Debug, PartialEq, Eq)]
 pub enum Key {
     Align,

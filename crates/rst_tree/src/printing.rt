@@ -14,7 +14,8 @@ use rst_text::Counted;
 use std::io::Write;
 
 /// Prints a tree to a writer that hasn't failed: each element and each line of a text is a line, behind four spaces for
-/// each level.
+/// each level. All attributes are printed but empty lists of ids, classes, names and references back; `xml:space` is one
+/// like any other, which the makers of literal blocks, doctest blocks, comments and addresses set.
 pub fn print<W: Write>(tree: &Tree, out: &mut Counted<W>) -> Result<(), PrintFault>
     requires { has_failed out.old ≡ false }
     ensures { Prints (between W.contents out.old out.new) (print_of tree.now) result }
