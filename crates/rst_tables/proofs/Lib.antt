@@ -5,3 +5,6 @@ pub mod Rectangles
 pub mod Frames
 pub mod Scan
 pub mod Begins
+pub mod BoundLemmas
+pub mod RowLemmas
+pub mod TableLemmas

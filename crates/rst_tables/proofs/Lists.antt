@@ -2,6 +2,7 @@
 use Rattle.std.proofs.Common.{⊎_elim, ◌≡◌, ℕ, zero, suc, ◌+◌, ◌-◌, ◌<◌, ◌≤◌, Bool, true, false, cond, List, [], ◌∷◌, ◌++◌, get_or, length, drop, take, refl, sym, ap, ◌∙◌, subst, arith, append_assoc, append-nil, add-one, Option, Some, None}
 use Rattle.std.proofs.lemmas.List.{drop_more, drop_all}
 use Rattle.std.proofs.lemmas.Bool.{cases_lt, cases_Bool}
+use Rattle.std.proofs.Math.Seq.{take-append_seam}
 use Rattle.rst_text.specs.Block.{is_blank}
 use Rattle.rst_tables.specs.Counts.{first_from, all_from, below, each_from}
 
@@ -70,3 +71,7 @@ below-same p q (suc n) same =
 -- pushed onto what stands before
 pub onto : {X : Type 0} (front rest new all : List X) (x : X) → new ≡ front ++ x ∷ [] → front ++ (x ∷ rest) ≡ all → new ++ rest ≡ all
 onto front rest new all x is e = ap (λ l. l ++ rest) is ∙ append_assoc front (x ∷ []) rest ∙ e
+
+-- what a `Vec` holds after a write to all of it
+pub whole : {X : Type 0} (n : ℕ) (xs ys : List X) → n ≡ length xs → take n (xs ++ ys) ≡ xs
+whole n xs ys e = ap (λ m. take m (xs ++ ys)) e ∙ take-append_seam xs ys

@@ -168,6 +168,10 @@ abbrev pub head_size : (ℕ → ℕ) → Option ℕ → ℕ
 head_size rank None = 0
 head_size rank (Some k) = rank k
 
+-- the table in a tiled grid
+abbrev pub tiled_table : Option ℕ → Grid → List Rectangle → ℕ → TableResult
+tiled_table head G rs end = Table (column_widths G rs) (head_size (below (is_row G rs)) head) (table_rows G rs) end
+
 -- ---- the answer
 
 -- n lines from place i on are no table; `line` is the number of the first
@@ -177,7 +181,7 @@ malformed line i n detail = Malformed (i + n) (record { line = line; detail = de
 -- what rows are by their tiling, if they have one
 abbrev pub tiled : ℕ → ℕ → Option ℕ → Grid → Option (List Rectangle) → TableResult
 tiled line i head G None = malformed line i (length G) ParseIncomplete
-tiled line i head G (Some rs) = Table (column_widths G rs) (head_size (below (is_row G rs)) head) (table_rows G rs) (i + length G)
+tiled line i head G (Some rs) = tiled_table head G rs (i + length G)
 
 -- what rows are by their first fault, if they have one
 abbrev pub IsOfRows : ℕ → ℕ → Grid → Option TableDetail → TableResult → Type 0

@@ -4,4 +4,5 @@ pub mod Texts
 pub mod Results
 pub mod Cells
 pub mod Drawn
+pub mod Marks
 pub mod GridTable

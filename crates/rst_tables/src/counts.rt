@@ -1,6 +1,7 @@
 //! Which numbers are marked, and how many.
-ghost use Rattle.std.specs.Prelude.{◌≡◌, ℕ, suc, ◌<◌, ◌≤◌, false, get_or, length, IfOk};
+ghost use Rattle.std.specs.Prelude.{◌≡◌, false, get_or, length, IfOk};
 ghost use Rattle.rst_tables.specs.Counts.{all_from, below};
+ghost use Rattle.rst_tables.specs.Marks.{AreRanks};
 
 use std::alloc::{AllocError, Global};
 
@@ -20,7 +21,7 @@ pub(crate) fn marked(alloc: Global, marks: &[bool]) -> Result<Vec<usize>, AllocE
 
 /// For each place and the one past the end how many marks before it are set.
 pub(crate) fn ranks(alloc: Global, marks: &[bool]) -> Result<Vec<usize>, AllocError>
-    ensures { IfOk result (λ ranks. (length ranks.items ≡ suc (length marks.now)) × ((k : ℕ) → k ≤ length marks.now → get_or ranks.items k 0 ≡ below (λ j. get_or marks.now j false) k)) }
+    ensures { IfOk result (λ ranks. AreRanks (below (λ j. get_or marks.now j false)) (length marks.now) ranks.items) }
 {
     let mut ranks = Vec::new(alloc);
     let mut count = 0;

@@ -183,7 +183,10 @@ fn fill(depths: &mut [usize], rectangle: Rectangle) -> bool
 }
 
 /// The rectangles that tile the grid, in reading order, if it is well formed.
-pub(crate) fn tiling(alloc: Global, rows: &[TableLine]) -> Result<Option<Vec<Rectangle>>, AllocError>
+pub(crate) fn tiling(
+    alloc: Global,
+    rows: &[TableLine],
+) -> Result<Option<Vec<Rectangle>>, AllocError>
     requires { IsEven rows.now }
     ensures { IfOk result (λ found. Tiles rows.now (option_map vec_items found)) }
 {
@@ -207,4 +210,3 @@ pub(crate) fn tiling(alloc: Global, rows: &[TableLine]) -> Result<Option<Vec<Rec
     }
     Ok(Some(rectangles))
 }
-

@@ -1,11 +1,15 @@
 //! Grid tables and simple tables: which lines are a table, and what stands in its cells.
 #![tactic(auto)]
 
+mod bounds;
 mod cells;
 mod counts;
 mod drawn;
-mod grid;
+mod grid_cells;
+mod grid_lines;
 mod places;
 mod results;
+mod table;
 
 pub use results::{Cell, CellLines, Rows, TableDetail, TableFault, TableResult, Widths};
+pub use table::grid;

@@ -152,5 +152,8 @@ pub enum TableResult {
         end: usize,
     },
     /// The table's lines are no table.
-    Malformed { end: usize, note: TableFault },
+    Malformed {
+        end: usize,
+        note: TableFault,
+    },
 }

@@ -17,11 +17,11 @@ pub returns : goal.returns
 returns c =
     let fits : c.loop-size.size ≤ length c.args.text.items = c.loop-size.invariant.0 in
     c.truncate.ensures.items ∙ elim c.loop-size-test.branch [
-      else-loop-size-test w ↦
-      let none : c.loop-size.size ≡ 0 = omega arith in
-      ap (λ n. take n c.args.text.items) none ∙ sym (ap (λ n. drop_trailing_whitespace (take n c.args.text.items)) none) ∙ c.loop-size.invariant.1
+      | else-loop-size-test w ↦
+          let none : c.loop-size.size ≡ 0 = omega arith in
+          ap (λ n. take n c.args.text.items) none ∙ sym (ap (λ n. drop_trailing_whitespace (take n c.args.text.items)) none) ∙ c.loop-size.invariant.1
       | then-loop-size-test+then-not-is_whitespace w ↦
-      let last : w.index.result.now ≡ get_or c.args.text.items (c.loop-size.size - 1) 0 = get_or_read c.args.text.items _ _ (omega arith) w.index.ensures 0 in
-      let dark : is_whitespace w.index.result.now ≡ false = sym w.is_whitespace.ensures ∙ w.if-not-is_whitespace.true in
-      sym (trimmed-dark c.args.text.items c.loop-size.size _ w.loop-size-test.true fits last dark) ∙ c.loop-size.invariant.1
+          let last : w.index.result.now ≡ get_or c.args.text.items (c.loop-size.size - 1) 0 = get_or_read c.args.text.items _ _ (omega arith) w.index.ensures 0 in
+          let dark : is_whitespace w.index.result.now ≡ false = sym w.is_whitespace.ensures ∙ w.if-not-is_whitespace.true in
+          sym (trimmed-dark c.args.text.items c.loop-size.size _ w.loop-size-test.true fits last dark) ∙ c.loop-size.invariant.1
     ]

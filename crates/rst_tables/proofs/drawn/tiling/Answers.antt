@@ -1,14 +1,11 @@
 use Rattle.std.proofs.Common.{◌≡◌, ◌<◌, ◌+◌, ◌++◌, true, false, List, ℕ, take, drop, length, get_or, arith, sym, ap, subst, ◌∙◌}
 use Rattle.std.proofs.lemmas.List.{get_or_read}
-use Rattle.std.proofs.Math.Seq.{take-append_seam}
+use Rattle.rst_tables.proofs.Lists.{whole}
 use Rattle.rst_tables.specs.Places.{width}
 use Rattle.rst_tables.specs.Drawn.{Fills}
 use Rattle.rst_tables.proofs.Rectangles.{frame_within}
 use Rattle.rst_tables.proofs.Scan.{Stands, skip, none_drawn, overlap, add, next_row, finish}
 use Rattle.rst_tables.proofs.drawn.tiling.Goals as goal
-
-whole : {X : Type 0} (n : ℕ) (xs ys : List X) → n ≡ length xs → take n (xs ++ ys) ≡ xs
-whole n xs ys e = ap (λ m. take m (xs ++ ys)) e ∙ take-append_seam xs ys
 
 pub loop-left-preserved-then-index-top : goal.loop-left-preserved-then-index-top
 loop-left-preserved-then-index-top c =

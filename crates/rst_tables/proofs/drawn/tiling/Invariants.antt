@@ -1,4 +1,3 @@
-
 use Rattle.rst_tables.proofs.Scan.{Stands}
 use Rattle.rst_tables.proofs.drawn.tiling.Given as goal
 

@@ -4,7 +4,7 @@ use Rattle.std.specs.Str.{all_scalars}
 use Rattle.rst_tables.specs.Cells.{characters}
 use Rattle.rst_tables.specs.GridTable.{dash}
 use Rattle.rst_tables.proofs.GridLemmas.{scalars-dashed}
-use Rattle.rst_tables.proofs.grid.dashed.Goals as goal
+use Rattle.rst_tables.proofs.grid_lines.dashed.Goals as goal
 
 pub with-requires : goal.with-requires
 with-requires c =

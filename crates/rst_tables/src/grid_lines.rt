@@ -76,7 +76,9 @@ pub(crate) fn scanned(
     from: usize,
     looks: &mut Looks,
 ) -> Result<Vec<TableLine>, AllocError>
-    requires { looks.old < 2 ^ 120 }
+    requires there { from ≤ length (block_of view.now) }
+    requires few { looks.old < 2 ^ 120 }
+    ensures fits { IfOk result (λ lines. from + length lines.items < 2 ^ 64) }
     ensures lines { IfOk result (λ lines. lines.items ≡ spec.scanned (rows_of (drop from (block_of view.now)))) }
     ensures looks { looks.new ≤ looks.old + spec.grid_looked (rows_of (drop from (block_of view.now))) }
 {

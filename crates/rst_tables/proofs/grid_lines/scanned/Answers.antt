@@ -1,11 +1,12 @@
-use Rattle.std.proofs.Common.{◌≡◌, ◌≤◌, ◌+◌, ◌∙◌, ◌++◌, ◌∷◌, true, false, ap, sym, drop, suc, arith}
+use Rattle.std.proofs.Common.{◌≡◌, ◌≤◌, ◌+◌, ◌∙◌, ◌++◌, ◌∷◌, true, false, ap, sym, drop, length, suc, arith}
 use Rattle.rst_text.specs.Shown.{block_of}
 use Rattle.rst_text.specs.Block.{Block}
 use Rattle.rst_tables.specs.Places.{Row, row_of, rows_of}
 use Rattle.rst_tables.specs.GridTable.{scanned, grid_looked, is_grid_row}
+use Rattle.std.proofs.lemmas.List.{length_push}
 use Rattle.rst_tables.proofs.Lists.{onto}
 use Rattle.rst_tables.proofs.GridLemmas.{scanned-row, scanned-stop, looked-row, looked-some}
-use Rattle.rst_tables.proofs.grid.scanned.Goals as goal
+use Rattle.rst_tables.proofs.grid_lines.scanned.Goals as goal
 
 pub returns-in_err-line-clause-looks : goal.returns-in_err-line-clause-looks
 returns-in_err-line-clause-looks c = omega (arith, looked-some (block_of c.args.view.now) c.loop-k.k (omega arith), c.loop-k.invariant.looks, c.read_line.ensures.looks)
@@ -26,5 +27,6 @@ loop-k-preserved c =
     record {
       lines = onto _ _ _ _ _ c.in_ok-push.ensures.items (sym (ap (λ l. c.loop-k.lines.items ++ l) lines) ∙ c.loop-k.invariant.lines);
       looks = omega (arith, looked, c.loop-k.invariant.looks, c.read_line.ensures.looks);
+      size = omega (arith, c.loop-k.invariant.size, ap length c.in_ok-push.ensures.items, length_push c.loop-k.lines.items c.in_ok-line.line);
       few = omega (arith, c.loop-k.invariant.few, c.read_line.ensures.looks);
     }
