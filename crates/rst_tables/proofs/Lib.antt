@@ -8,3 +8,4 @@ pub mod Begins
 pub mod BoundLemmas
 pub mod RowLemmas
 pub mod TableLemmas
+pub mod SimpleLemmas

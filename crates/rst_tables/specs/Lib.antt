@@ -6,3 +6,4 @@ pub mod Cells
 pub mod Drawn
 pub mod Marks
 pub mod GridTable
+pub mod SimpleTable

@@ -9,7 +9,13 @@ mod grid_cells;
 mod grid_lines;
 mod places;
 mod results;
+mod simple_cells;
+mod simple_lines;
+mod simple_rows;
+mod simple_table;
+mod spans;
 mod table;
 
 pub use results::{Cell, CellLines, Rows, TableDetail, TableFault, TableResult, Widths};
+pub use simple_table::simple;
 pub use table::grid;
