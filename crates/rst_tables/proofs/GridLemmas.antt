@@ -1,6 +1,6 @@
 -- The lines of a grid table.
 use Rattle.std.proofs.Common.{⊎_elim, ◌≡◌, ℕ, zero, suc, ◌+◌, ◌-◌, ◌<◌, ◌≤◌, Bool, true, false, cond, List, [], ◌∷◌, length, drop, take, get_or, map, refl, sym, ap, ◌∙◌, arith, ◌&&◌, eqb}
-use Rattle.std.proofs.lemmas.List.{drop_more, get_or_read}
+use Rattle.std.proofs.lemmas.List.{drop_more, get_or_read, drop-map, get_or-drop}
 use Rattle.std.proofs.lemmas.Bool.{cases_Bool, cond_both, and_from, and_parts}
 use Rattle.std.proofs.Math.Utf8.{scalar}
 use Rattle.std.specs.Str.{all_scalars}
@@ -67,3 +67,16 @@ scalars-dashed (Character c ∷ ps) h =
     (λ e. scalars-dashed ps parts.1)
     (λ e. and_from (scalar c) (all_scalars (characters (map dash ps))) parts.0 (scalars-dashed ps parts.1))
 scalars-dashed (Second ∷ ps) h = scalars-dashed ps h
+
+-- ---- rows of a block by their places
+
+pub drop_rows : (B : Block) (k : ℕ) → drop k (rows_of B) ≡ rows_of (drop k B)
+drop_rows B k = drop-map row_of k B
+
+pub row_here : (B : Block) (k : ℕ) (r : Row) (rs : Grid) → rows_of (drop k B) ≡ r ∷ rs → row_at (rows_of B) k ≡ r.places
+row_here B k r rs e =
+    let same : k + 0 ≡ k = omega arith in
+    ap (λ n. row_at (rows_of B) n) (sym same) ∙ ap (λ (x : Row). x.places) (sym (get_or-drop k (rows_of B) 0 no_row)) ∙ ap (λ G. row_at G 0) (drop_rows B k ∙ e)
+
+pub rows_here : (B : Block) (k : ℕ) (r : Row) → rows_of (drop k B) ≡ r ∷ rows_of (drop (k + 1) B) → drop k (rows_of B) ≡ r ∷ drop (k + 1) (rows_of B)
+rows_here B k r e = drop_rows B k ∙ e ∙ ap (λ rs. r ∷ rs) (sym (drop_rows B (k + 1)))
