@@ -7,6 +7,8 @@ mod counts;
 mod drawn;
 mod grid_cells;
 mod grid_lines;
+mod laws;
+mod messages;
 mod places;
 mod results;
 mod simple_cells;
@@ -16,6 +18,11 @@ mod simple_table;
 mod spans;
 mod table;
 
+pub use laws::one_tiling;
+pub use messages::malformed_text;
 pub use results::{Cell, CellLines, Rows, TableDetail, TableFault, TableResult, Widths};
 pub use simple_table::simple;
 pub use table::grid;
+
+#[cfg(test)]
+mod tests;

@@ -102,12 +102,7 @@ fn right_of(spans: &[Span], k: usize) -> Option<usize>
 }
 
 /// The cell in a span of a row.
-fn entry(
-    alloc: Global,
-    lines: &[TableLine],
-    spans: &[Span],
-    k: usize,
-) -> Result<Cell, AllocError>
+fn entry(alloc: Global, lines: &[TableLine], spans: &[Span], k: usize) -> Result<Cell, AllocError>
     requires { k < length spans.now }
     ensures { IfOk result (λ cell. cell ≡ spec.entry lines.now spans.now k) }
 {
