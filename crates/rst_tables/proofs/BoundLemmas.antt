@@ -1,14 +1,13 @@
 -- The bounds of a grid's columns and rows.
-use Rattle.std.proofs.Common.{⊎_elim, ◌≡◌, ℕ, zero, suc, ◌+◌, ◌-◌, ◌<◌, ◌≤◌, Bool, true, false, cond, ◌&&◌, ◌||◌, eqb, leb, List, [], ◌∷◌, ◌++◌, length, drop, take, get_or, refl, sym, ap, ◌∙◌, subst, arith}
+use Rattle.std.proofs.Common.{⊎_elim, ◌≡◌, ℕ, zero, suc, ◌+◌, ◌<◌, ◌≤◌, Bool, true, false, ◌&&◌, ◌||◌, eqb, List, [], ◌∷◌, length, drop, get_or, refl, sym, ap, ◌∙◌, arith}
 use Rattle.std.proofs.lemmas.List.{drop_more}
-use Rattle.std.proofs.lemmas.Bool.{cases_lt, cases_Bool, le-leb, lt-leb, and_from, or_left, or_right, and_left, and_right, false≢true}
+use Rattle.std.proofs.lemmas.Bool.{cases_lt, le-leb, lt-leb, and_from, and_left, and_right}
 use Rattle.std.specs.List.{list_any}
-use Rattle.rst_tables.specs.Places.{Grid, width, place}
-use Rattle.rst_tables.specs.Marks.{Marks, AreMarked}
-use Rattle.rst_tables.specs.Drawn.{IsEven, IsFrame, IsDrawn, AreDrawn, IsTiling}
-use Rattle.rst_tables.specs.GridTable.{is_between, bounds_column, bounds_row, is_column, is_row}
+use Rattle.rst_tables.specs.Places.{Grid, place}
+use Rattle.rst_tables.specs.Marks.{Marks}
+use Rattle.rst_tables.specs.Drawn.{IsDrawn, AreDrawn}
+use Rattle.rst_tables.specs.GridTable.{is_between, bounds_column, bounds_row}
 use Rattle.rst_tables.specs.declared.drawn.Rectangle.{Rectangle}
-use Rattle.rst_tables.proofs.Rectangles.{frame_within}
 
 pub drawn_at : (G : Grid) (i j : ℕ) (rs : List Rectangle) → AreDrawn G i j rs → (k : ℕ) → k < length rs → (d : Rectangle) → IsDrawn G (get_or rs k d)
 drawn_at G i j [] a k below d = absurd (omega arith)

@@ -1,11 +1,11 @@
 -- The lines of a grid table.
-use Rattle.std.proofs.Common.{⊎_elim, ◌≡◌, ℕ, zero, suc, ◌+◌, ◌-◌, ◌<◌, ◌≤◌, Bool, true, false, cond, List, [], ◌∷◌, length, drop, take, get_or, map, refl, sym, ap, ◌∙◌, arith, ◌&&◌, eqb}
+use Rattle.std.proofs.Common.{◌≡◌, ℕ, zero, suc, ◌+◌, ◌<◌, ◌≤◌, Bool, true, false, List, [], ◌∷◌, length, drop, get_or, map, refl, sym, ap, ◌∙◌, arith, eqb}
 use Rattle.std.proofs.lemmas.List.{drop_more, get_or_read, drop-map, get_or-drop}
-use Rattle.std.proofs.lemmas.Bool.{cases_Bool, cond_both, and_from, and_parts}
+use Rattle.std.proofs.lemmas.Bool.{cond_both, and_from, and_parts}
 use Rattle.std.proofs.Math.Utf8.{scalar}
 use Rattle.std.specs.Str.{all_scalars}
 use Rattle.rst_text.specs.Block.{Line, Block, front_text, first_number}
-use Rattle.rst_tables.specs.Places.{Row, Grid, no_row, row_of, rows_of, row_at, mark_of}
+use Rattle.rst_tables.specs.Places.{Row, Grid, no_row, row_of, rows_of, row_at}
 use Rattle.rst_tables.specs.Cells.{characters}
 use Rattle.rst_tables.specs.GridTable.{is_border, through_last, one_more, is_grid_row, scanned, grid_looked, dash}
 use Rattle.rst_tables.specs.declared.places.Place.{Place}

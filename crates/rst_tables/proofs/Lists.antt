@@ -1,7 +1,6 @@
 -- Lists that are read an item at a time.
-use Rattle.std.proofs.Common.{⊎_elim, ◌≡◌, ℕ, zero, suc, ◌+◌, ◌-◌, ◌<◌, ◌≤◌, Bool, true, false, cond, List, [], ◌∷◌, ◌++◌, get_or, length, drop, take, refl, sym, ap, ◌∙◌, subst, arith, append_assoc, append-nil, add-one, Option, Some, None}
-use Rattle.std.proofs.lemmas.List.{drop_more, drop_all}
-use Rattle.std.proofs.lemmas.Bool.{cases_lt, cases_Bool}
+use Rattle.std.proofs.Common.{◌≡◌, ℕ, zero, suc, ◌+◌, ◌-◌, ◌<◌, ◌≤◌, Bool, true, false, cond, List, [], ◌∷◌, ◌++◌, get_or, length, drop, take, refl, sym, ap, ◌∙◌, arith, append_assoc, add-one, Some, None}
+use Rattle.std.proofs.lemmas.List.{drop_more}
 use Rattle.std.proofs.Math.Seq.{take-append_seam}
 use Rattle.rst_text.specs.Block.{is_blank}
 use Rattle.rst_tables.specs.Counts.{first_from, all_from, below, each_from}

@@ -1,5 +1,5 @@
 -- What drawn rectangles cover, and that a grid has at most one tiling.
-use Rattle.std.proofs.Common.{⊎_elim, List, [], ◌∷◌, subst, ◌≡◌, ℕ, zero, suc, ◌+◌, ◌<◌, ◌≤◌, true, ◌&&◌, leb, ltb, get_or, length, refl, sym, ap, ◌∙◌, arith}
+use Rattle.std.proofs.Common.{⊎_elim, List, [], ◌∷◌, subst, ◌≡◌, ℕ, ◌+◌, ◌<◌, ◌≤◌, true, ◌&&◌, leb, ltb, length, refl, sym, ap, ◌∙◌, arith}
 use Rattle.std.proofs.lemmas.List.{get_or_past}
 use Rattle.rst_tables.specs.Places.{Row}
 use Rattle.rst_tables.specs.declared.places.Place.TheVariants.{Second}

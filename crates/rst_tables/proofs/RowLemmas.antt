@@ -1,14 +1,14 @@
 -- The rows of cells of a grid table.
-use Rattle.std.proofs.Common.{⊎_elim, ◌≡◌, ℕ, zero, suc, ◌+◌, ◌-◌, ◌<◌, ◌≤◌, Bool, true, false, cond, eqb, ltb, leb, ◌&&◌, ◌||◌, List, [], ◌∷◌, ◌++◌, length, drop, take, get_or, set, map, filter, refl, sym, ap, ap₂, ◌∙◌, subst, arith, append-nil, Option, Some, None}
-use Rattle.std.proofs.lemmas.List.{drop_more, get_or-set_same, get_or-set_other, length-set, length-map, get_or-map, map-set, ext_get_or, get_or_default, set_past}
+use Rattle.std.proofs.Common.{⊎_elim, ◌≡◌, ℕ, zero, suc, ◌+◌, ◌-◌, ◌<◌, ◌≤◌, Bool, true, false, cond, eqb, List, [], ◌∷◌, ◌++◌, length, drop, get_or, set, map, filter, refl, sym, ap, ap₂, ◌∙◌, arith, Option, Some, None}
+use Rattle.std.proofs.lemmas.List.{drop_more, get_or-set_same, get_or-set_other, length-set, length-map, ext_get_or, set_past}
 use Rattle.std.proofs.lemmas.List.Folds.{list_any_at}
 use Rattle.std.proofs.lemmas.Bool.{cases_lt, cases_eq, eq-eqb, ne_eqb, le-leb, and_from, and_parts, or_left, eqb-true}
-use Rattle.std.specs.List.{list_any, list_all}
+use Rattle.std.specs.List.{list_all}
 use Rattle.rst_tables.specs.Places.{Row, Grid, no_row, width, row_at, place}
 use Rattle.rst_tables.specs.Counts.{below, each_from, all_from}
 use Rattle.rst_tables.specs.Marks.{AreMarked, AreRanks}
 use Rattle.rst_tables.specs.Drawn.{IsEven, IsFrame, IsDrawn, AreDrawn, IsTiling}
-use Rattle.rst_tables.specs.GridTable.{is_between, bounds_row, is_row, is_column, cell_of, row_cells, cell_rows, more_of, is_square, is_whole, dashed, with_dashes, column_widths, gaps}
+use Rattle.rst_tables.specs.GridTable.{bounds_row, is_row, is_column, cell_of, row_cells, more_of, is_square, is_whole, dashed, with_dashes, column_widths, gaps}
 use Rattle.rst_tables.specs.declared.drawn.Rectangle.{Rectangle}
 use Rattle.rst_tables.specs.declared.results.Cell.{Cell}
 use Rattle.rst_tables.proofs.Lists.{onto, below-yes, below-same, all_from-same}

@@ -1,13 +1,11 @@
 -- Simple tables.
-use Rattle.std.proofs.Common.{⊎_elim, ◌≡◌, ℕ, zero, suc, ◌+◌, ◌-◌, ◌*◌, ◌<◌, ◌≤◌, max, Bool, true, false, cond, eqb, not, List, [], ◌∷◌, ◌++◌, length, drop, take, get_or, map, refl, sym, ap, ◌∙◌, subst, arith, Option, Some, None, append_assoc}
-use Rattle.std.proofs.lemmas.Bool.{cases_Bool, cases_lt, cond_both, eq-eqb, ne_eqb, eqb-true, eqb-false}
+use Rattle.std.proofs.Common.{⊎_elim, ◌≡◌, ℕ, zero, suc, ◌+◌, ◌-◌, ◌*◌, ◌<◌, ◌≤◌, max, Bool, true, false, cond, eqb, ◌∷◌, length, drop, take, refl, sym, ap, ◌∙◌, arith, Option, Some, None}
+use Rattle.std.proofs.lemmas.Bool.{cases_Bool, cond_both, eq-eqb, ne_eqb, eqb-true, eqb-false}
 use Rattle.rst_tables.specs.Places.{Grid, Row, row_at}
-use Rattle.rst_tables.specs.Counts.{first_from, each_from}
+use Rattle.rst_tables.specs.Counts.{first_from}
 use Rattle.rst_tables.specs.SimpleTable.{is_simple_border, is_empty, next_border, scan_end, looked_to, simple_looked, end_at_first, end_at_second, simple_end, begins_row, row_lines, rows_in, longest_in}
-use Rattle.rst_tables.specs.declared.simple_lines.SimpleEnd.{SimpleEnd}
 use Rattle.rst_tables.specs.declared.simple_lines.SimpleEnd.TheVariants.{Ends, Fails}
-use Rattle.rst_tables.specs.declared.results.TableDetail.TheVariants.{BorderMismatch, BottomMissing}
-use Rattle.rst_tables.specs.declared.simple_rows.RowLines.{RowLines}
+use Rattle.rst_tables.specs.declared.results.TableDetail.TheVariants.{BorderMismatch}
 
 -- n counted from place k on
 abbrev pub past : ℕ → ℕ → ℕ

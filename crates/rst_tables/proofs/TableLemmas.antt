@@ -1,5 +1,5 @@
 -- What the rows of a grid table are.
-use Rattle.std.proofs.Common.{⊎_elim, ◌≡◌, ℕ, ◌+◌, Bool, true, false, cond, List, length, refl, sym, ap, ap₂, ◌∙◌, subst, Option, Some, None}
+use Rattle.std.proofs.Common.{⊎_elim, ◌≡◌, ℕ, ◌+◌, true, cond, List, length, sym, ap, ap₂, ◌∙◌, subst, Option, Some, None}
 use Rattle.std.proofs.lemmas.Bool.{cases_Bool}
 use Rattle.rst_tables.specs.Places.{Grid}
 use Rattle.rst_tables.specs.Drawn.{IsEven, IsTiling, Tiles}

@@ -1,5 +1,5 @@
 -- Least numbers that pass a test, all numbers that pass it, and how many.
-use Rattle.std.specs.Prelude.{ℕ, zero, suc, ◌+◌, ◌-◌, Bool, List, [], ◌∷◌, Option, Some, None, if◌then◌else◌}
+use Rattle.std.specs.Prelude.{ℕ, zero, suc, ◌+◌, Bool, List, [], ◌∷◌, Option, Some, None, if◌then◌else◌}
 
 -- the least of the n numbers from `low` on that passes
 abbrev pub first_from : (ℕ → Bool) → ℕ → ℕ → Option ℕ

@@ -9,7 +9,7 @@ use Rattle.rst_tables.specs.Cells.{cell_block}
 use Rattle.rst_tables.specs.Drawn.{is_upright, Tiles}
 use Rattle.rst_tables.specs.declared.drawn.Rectangle.{Rectangle}
 use Rattle.rst_tables.specs.declared.places.Place.{Place}
-use Rattle.rst_tables.specs.declared.places.Place.TheVariants.{Character, Second}
+use Rattle.rst_tables.specs.declared.places.Place.TheVariants.{Character}
 use Rattle.rst_tables.specs.declared.results.Cell.{Cell}
 use Rattle.rst_tables.specs.declared.results.TableDetail.{TableDetail}
 use Rattle.rst_tables.specs.declared.results.TableDetail.TheVariants.{BottomBorderMissing, RightEdgeBroken, TwoHeadRules, ParseIncomplete}

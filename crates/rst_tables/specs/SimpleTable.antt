@@ -15,7 +15,6 @@ use Rattle.rst_tables.specs.declared.simple_lines.SimpleEnd.{SimpleEnd}
 use Rattle.rst_tables.specs.declared.simple_lines.SimpleEnd.TheVariants.{Ends, Fails}
 use Rattle.rst_tables.specs.declared.simple_rows.RowLines.{RowLines}
 use Rattle.rst_tables.specs.declared.results.Cell.{Cell}
-use Rattle.rst_tables.specs.declared.results.TableDetail.{TableDetail}
 use Rattle.rst_tables.specs.declared.results.TableDetail.TheVariants.{BorderMismatch, BottomMissing, ColumnSpan, Margin}
 use Rattle.rst_tables.specs.declared.results.TableResult.{TableResult}
 use Rattle.rst_tables.specs.declared.results.TableResult.TheVariants.{Table}

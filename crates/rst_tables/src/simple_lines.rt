@@ -105,7 +105,8 @@ fn end_below(
     ensures end { IfOk result (λ end. end ≡ spec.end_at_first (rows_of (block_of view.now)) wide (Some first)) }
     ensures looks { looks.new + first ≤ looks.old + 2 + spec.looked_to (rows_of (block_of view.now)) wide (Some first) }
 {
-    let size = view.len();
+    // There are so many lines, so the place behind each fits, too.
+    let _lines = view.len();
     let behind = first + 1;
     let width = line_width(alloc, view, first, looks)?;
     if width != wide {

@@ -302,9 +302,12 @@ fn show(alloc: Global, table: &TableResult) -> Result<String, AllocError> {
             out.push_str("E")?;
             push_number(&mut out, *end)?;
             let text = malformed_text(alloc, note.detail)?;
-            let (_, detail) = text.as_str().split_once('\n').unwrap_or(("", "?"));
             out.push_str(" ")?;
-            out.push_str(detail)?;
+            out.push_str(
+                text.as_str()
+                    .strip_prefix("Malformed table.\n")
+                    .unwrap_or("?"),
+            )?;
         }
         TableResult::Table {
             cols,
@@ -314,11 +317,12 @@ fn show(alloc: Global, table: &TableResult) -> Result<String, AllocError> {
         } => {
             out.push_str("T")?;
             push_number(&mut out, *end)?;
-            let mut mark = " w";
-            for width in cols.as_slice() {
-                out.push_str(mark)?;
+            out.push_str(" w")?;
+            for (k, width) in cols.as_slice().iter().enumerate() {
+                if k > 0 {
+                    out.push_str(",")?;
+                }
                 push_number(&mut out, *width)?;
-                mark = ",";
             }
             out.push_str(" h")?;
             push_number(&mut out, *head)?;

@@ -1,4 +1,4 @@
-use Rattle.std.proofs.Common.{◌≡◌, ℕ, ◌<◌, ◌≤◌, ◌||◌, eqb, false, get_or, length}
+use Rattle.std.proofs.Common.{◌≡◌, ℕ, ◌<◌, ◌≤◌, ◌||◌, eqb, false, get_or}
 use Rattle.rst_tables.specs.Places.{place}
 use Rattle.rst_tables.proofs.bounds.mark_columns.Given as goal
 

@@ -1,5 +1,5 @@
-use Rattle.std.proofs.Common.{◌≡◌, ◌<◌, ◌≤◌, ◌∙◌, ◌||◌, eqb, false, List, Bool, length, get_or, drop, take, ap, sym, subst, arith}
-use Rattle.rst_tables.specs.Places.{Grid, width, place}
+use Rattle.std.proofs.Common.{◌≡◌, ◌∙◌, ◌||◌, eqb, false, List, Bool, length, get_or, drop, ap, subst, arith}
+use Rattle.rst_tables.specs.Places.{Grid, place}
 use Rattle.rst_tables.specs.Marks.{Marks}
 use Rattle.rst_tables.specs.GridTable.{bounds_row}
 use Rattle.rst_tables.specs.declared.drawn.Rectangle.{Rectangle}

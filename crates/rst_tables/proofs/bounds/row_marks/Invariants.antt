@@ -1,6 +1,5 @@
 use Rattle.std.proofs.Common.{◌≡◌, ℕ, ◌<◌, ◌||◌, false, get_or, length, drop}
 use Rattle.std.specs.List.{list_any}
-use Rattle.rst_tables.specs.Places.{width}
 use Rattle.rst_tables.specs.GridTable.{bounds_row}
 use Rattle.rst_tables.proofs.bounds.row_marks.Given as goal
 

@@ -1,4 +1,4 @@
-use Rattle.std.proofs.Common.{◌≡◌, ◌∙◌, true, ap}
+use Rattle.std.proofs.Common.{◌∙◌, ap}
 use Rattle.std.specs.Str.{all_scalars, drop_trailing_whitespace}
 use Rattle.rst_tables.specs.Cells.{characters, cut_places}
 use Rattle.rst_tables.proofs.CellLemmas.{scalars-trimmed, scalars-cut}

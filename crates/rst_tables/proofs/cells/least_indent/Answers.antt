@@ -1,4 +1,4 @@
-use Rattle.std.proofs.Common.{◌≡◌, ◌∙◌, length, sym, ap, arith, rules, Some}
+use Rattle.std.proofs.Common.{◌≡◌, ◌∙◌, length, sym, ap, arith, rules}
 use Rattle.rst_text.specs.Extent.{least_indent, or_zero, lower}
 use Rattle.rst_tables.proofs.Lists.{read_more, blank_from, dark_from}
 use Rattle.rst_tables.proofs.CellLemmas.{least_indent-blank, least_indent-dark, least_indent-none}

@@ -1,4 +1,4 @@
-use Rattle.std.proofs.Common.{◌≡◌, ◌∙◌, true, ap}
+use Rattle.std.proofs.Common.{◌∙◌, ap}
 use Rattle.std.specs.Str.{all_scalars}
 use Rattle.rst_tables.proofs.CellLemmas.{scalars-drop}
 use Rattle.rst_tables.proofs.cells.shortened.Goals as goal

@@ -1,4 +1,4 @@
-use Rattle.std.proofs.Common.{◌≡◌, ◌∙◌, sym, ap, arith, append-nil, string_bytes, ◌++◌, encode_utf8_all}
+use Rattle.std.proofs.Common.{◌∙◌, sym, ap, arith, append-nil, string_bytes, ◌++◌, encode_utf8_all}
 use Rattle.std.proofs.lemmas.List.{at_drop_all}
 use Rattle.std.proofs.lemmas.Str.{chars-encodes}
 use Rattle.std.specs.Str.{chars}

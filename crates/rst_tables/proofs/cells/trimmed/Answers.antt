@@ -1,4 +1,4 @@
-use Rattle.std.proofs.Common.{◌≡◌, ◌<◌, ◌≤◌, ◌-◌, ◌∙◌, [], take, length, get_or, sym, ap, arith, true, false}
+use Rattle.std.proofs.Common.{◌≡◌, ◌≤◌, ◌-◌, ◌∙◌, take, length, get_or, sym, ap, arith, true, false}
 use Rattle.std.proofs.lemmas.List.{get_or_read}
 use Rattle.std.specs.Char.{is_whitespace}
 use Rattle.std.specs.Str.{drop_trailing_whitespace}

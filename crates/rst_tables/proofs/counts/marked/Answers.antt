@@ -1,4 +1,4 @@
-use Rattle.std.proofs.Common.{◌≡◌, ◌∙◌, false, get_or, length, sym, ap, arith, ◌++◌}
+use Rattle.std.proofs.Common.{◌∙◌, false, get_or, length, sym, ap, arith, ◌++◌}
 use Rattle.rst_tables.proofs.Lists.{all_from-take, all_from-more, onto}
 use Rattle.rst_tables.proofs.counts.marked.Goals as goal
 

@@ -1,8 +1,7 @@
-use Rattle.std.proofs.Common.{◌≡◌, ◌<◌, ◌∙◌, ◌++◌, ◌∷◌, [], ℕ, List, Vec, Global, length, get_or, set, drop, map, ap, sym, arith, append-nil}
-use Rattle.std.proofs.lemmas.List.{map-set, length-set, length-map, get_or-map, at_drop_all, get_or_read}
-use Rattle.rst_tables.specs.Places.{Grid}
+use Rattle.std.proofs.Common.{◌≡◌, ◌<◌, ◌∙◌, ◌++◌, ◌∷◌, [], ℕ, List, Vec, Global, length, get_or, set, ap, sym, arith, append-nil}
+use Rattle.std.proofs.lemmas.List.{map-set, length-set, length-map, get_or-map, at_drop_all}
 use Rattle.rst_tables.specs.Results.{cells_of}
-use Rattle.rst_tables.specs.GridTable.{row_cells, cell_of}
+use Rattle.rst_tables.specs.GridTable.{row_cells}
 use Rattle.rst_tables.specs.declared.drawn.Rectangle.{Rectangle}
 use Rattle.rst_tables.specs.declared.results.Cell.{Cell}
 use Rattle.rst_tables.proofs.Rectangles.{frame_within}

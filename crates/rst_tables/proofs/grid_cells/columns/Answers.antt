@@ -1,4 +1,4 @@
-use Rattle.std.proofs.Common.{◌≡◌, ◌∙◌, Bool, false, List, get_or, length, subst, ap}
+use Rattle.std.proofs.Common.{◌∙◌, Bool, false, List, get_or, length, subst, ap}
 use Rattle.rst_tables.specs.Places.{width}
 use Rattle.rst_tables.specs.Counts.{below, all_from}
 use Rattle.rst_tables.specs.Marks.{AreRanks}

@@ -1,4 +1,4 @@
-use Rattle.std.proofs.Common.{◌≡◌, Bool, false, List, get_or, length, subst}
+use Rattle.std.proofs.Common.{Bool, false, List, get_or, length, subst}
 use Rattle.rst_tables.specs.Counts.{below}
 use Rattle.rst_tables.specs.Marks.{AreRanks}
 use Rattle.rst_tables.specs.GridTable.{is_row}

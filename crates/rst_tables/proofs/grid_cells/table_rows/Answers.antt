@@ -1,7 +1,6 @@
-use Rattle.std.proofs.Common.{◌≡◌, ◌∙◌, ◌-◌, ℕ, Bool, false, List, get_or, length, subst, ap, sym, arith}
-use Rattle.rst_tables.specs.Places.{Grid, width}
+use Rattle.std.proofs.Common.{◌≡◌, ◌∙◌, ◌-◌, ℕ, List, get_or, length, ap, arith}
+use Rattle.rst_tables.specs.Places.{Grid}
 use Rattle.rst_tables.specs.Counts.{below, each_from}
-use Rattle.rst_tables.specs.Marks.{AreRanks}
 use Rattle.rst_tables.specs.GridTable.{is_row, is_column, row_cells}
 use Rattle.rst_tables.specs.declared.drawn.Rectangle.{Rectangle}
 use Rattle.rst_tables.proofs.RowLemmas.{rank-few, agree, same_cells}

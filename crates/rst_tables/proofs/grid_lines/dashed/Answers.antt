@@ -1,4 +1,4 @@
-use Rattle.std.proofs.Common.{◌≡◌, ◌∙◌, ◌++◌, true, ap, sym, map, length, arith, append-nil}
+use Rattle.std.proofs.Common.{◌≡◌, ◌∙◌, ◌++◌, ap, sym, map, length, arith, append-nil}
 use Rattle.std.proofs.lemmas.List.{at_drop_all}
 use Rattle.std.specs.Str.{all_scalars}
 use Rattle.rst_tables.specs.Cells.{characters}

@@ -1,7 +1,7 @@
 use Rattle.std.proofs.Common.{◌≡◌, ◌∙◌, false, ap, sym, length, arith}
 use Rattle.rst_tables.specs.Places.{row_at}
 use Rattle.rst_tables.specs.GridTable.{is_head_rule}
-use Rattle.rst_tables.proofs.Lists.{first_from-more, first_from-stop}
+use Rattle.rst_tables.proofs.Lists.{first_from-more}
 use Rattle.rst_tables.proofs.GridLemmas.{row_read}
 use Rattle.rst_tables.proofs.grid_lines.head_from.Goals as goal
 

@@ -1,11 +1,11 @@
-use Rattle.std.proofs.Common.{◌≡◌, ◌≤◌, ◌+◌, ◌∙◌, ◌++◌, ◌∷◌, true, false, ap, sym, drop, length, suc, arith}
+use Rattle.std.proofs.Common.{◌≡◌, ◌+◌, ◌∙◌, ◌++◌, ◌∷◌, true, ap, sym, drop, length, arith}
 use Rattle.rst_text.specs.Shown.{block_of}
 use Rattle.rst_text.specs.Block.{Block}
-use Rattle.rst_tables.specs.Places.{Row, row_of, rows_of}
+use Rattle.rst_tables.specs.Places.{rows_of}
 use Rattle.rst_tables.specs.GridTable.{scanned, grid_looked, is_grid_row}
 use Rattle.std.proofs.lemmas.List.{length_push}
 use Rattle.rst_tables.proofs.Lists.{onto}
-use Rattle.rst_tables.proofs.GridLemmas.{scanned-row, scanned-stop, looked-row, looked-some}
+use Rattle.rst_tables.proofs.GridLemmas.{scanned-row, looked-row, looked-some}
 use Rattle.rst_tables.proofs.grid_lines.scanned.Goals as goal
 
 pub returns-in_err-line-clause-looks : goal.returns-in_err-line-clause-looks

@@ -1,4 +1,4 @@
-use Rattle.std.proofs.Common.{◌≡◌, ap, ◌∙◌, subst, List, ℕ}
+use Rattle.std.proofs.Common.{◌≡◌, ◌∙◌, subst, List, ℕ}
 use Rattle.std.proofs.lemmas.Iterator.{YieldsList-from_chars, items_from_collect}
 use Rattle.std.specs.Str.{chars}
 use Rattle.std.specs.Result.{IfOk}

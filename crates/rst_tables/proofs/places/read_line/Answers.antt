@@ -1,6 +1,5 @@
-use Rattle.std.proofs.Common.{◌≡◌, ◌∙◌, sym, drop, ap, ap₂, arith, ℕ, List}
+use Rattle.std.proofs.Common.{◌∙◌, ap₂, ℕ, List}
 use Rattle.rst_text.specs.Shown.{block_of}
-use Rattle.rst_text.specs.Block.{Block, Line}
 use Rattle.rst_tables.specs.Places.{Row, row_of}
 use Rattle.rst_tables.proofs.GridLemmas.{rows_more}
 use Rattle.rst_tables.proofs.places.read_line.Goals as goal

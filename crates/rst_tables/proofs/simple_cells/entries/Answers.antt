@@ -1,4 +1,4 @@
-use Rattle.std.proofs.Common.{◌≡◌, ◌∙◌, ◌++◌, length, sym, ap, arith, ◌∷◌, []}
+use Rattle.std.proofs.Common.{◌∙◌, ◌++◌, length, sym, ap, arith, ◌∷◌, []}
 use Rattle.rst_tables.specs.SimpleTable.{entry}
 use Rattle.rst_tables.proofs.Lists.{each_from-more, onto}
 use Rattle.rst_tables.proofs.simple_cells.entries.Goals as goal

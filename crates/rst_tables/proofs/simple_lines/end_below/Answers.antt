@@ -1,10 +1,9 @@
-use Rattle.std.proofs.Common.{◌≡◌, ◌∙◌, ◌<◌, ◌≤◌, ◌+◌, length, sym, ap, arith}
+use Rattle.std.proofs.Common.{◌≡◌, length, arith}
 use Rattle.rst_text.specs.Shown.{block_of}
 use Rattle.rst_text.specs.Block.{Block}
-use Rattle.rst_tables.specs.Places.{Grid, row_of, rows_of, row_at}
+use Rattle.rst_tables.specs.Places.{row_of, rows_of}
 use Rattle.std.proofs.lemmas.List.{length-map}
-use Rattle.rst_tables.specs.SimpleTable.{looked_to}
-use Rattle.rst_tables.proofs.SimpleLemmas.{looked-least, looked-scan, end-mismatch, end-first, end-second, second-mismatch, second-ends}
+use Rattle.rst_tables.proofs.SimpleLemmas.{looked-least}
 use Rattle.rst_tables.proofs.simple_lines.end_below.Goals as goal
 
 pub returns-in_err-width-clause-looks : goal.returns-in_err-width-clause-looks

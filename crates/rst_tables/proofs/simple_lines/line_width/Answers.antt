@@ -1,8 +1,7 @@
-use Rattle.std.proofs.Common.{◌≡◌, ◌∙◌, ◌+◌, length, drop, sym, ap, arith}
+use Rattle.std.proofs.Common.{◌∙◌, ◌+◌, length, drop, sym, ap}
 use Rattle.rst_text.specs.Shown.{block_of}
 use Rattle.rst_text.specs.Block.{Block}
-use Rattle.rst_tables.specs.Places.{Grid, row_of, rows_of, row_at}
-use Rattle.std.proofs.lemmas.List.{length-map}
+use Rattle.rst_tables.specs.Places.{rows_of}
 use Rattle.rst_tables.specs.declared.places.Place.{Place}
 use Rattle.std.proofs.Common.{List}
 use Rattle.rst_tables.proofs.GridLemmas.{row_here}

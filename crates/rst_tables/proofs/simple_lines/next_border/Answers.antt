@@ -1,9 +1,9 @@
-use Rattle.std.proofs.Common.{◌≡◌, ◌∙◌, ◌<◌, ◌≤◌, ◌+◌, true, false, drop, length, sym, ap, arith}
+use Rattle.std.proofs.Common.{◌≡◌, ◌∙◌, ◌+◌, true, false, drop, length, sym, ap, arith}
 use Rattle.rst_text.specs.Shown.{block_of}
 use Rattle.rst_text.specs.Block.{Block}
-use Rattle.rst_tables.specs.Places.{Grid, row_of, rows_of, row_at}
+use Rattle.rst_tables.specs.Places.{row_of, rows_of, row_at}
 use Rattle.std.proofs.lemmas.List.{length-map}
-use Rattle.rst_tables.specs.SimpleTable.{is_simple_border, next_border, scan_end}
+use Rattle.rst_tables.specs.SimpleTable.{is_simple_border, next_border}
 use Rattle.rst_tables.proofs.Lists.{first_from-more, first_from-stop}
 use Rattle.rst_tables.proofs.GridLemmas.{row_here}
 use Rattle.rst_tables.proofs.SimpleLemmas.{scan_above}

@@ -1,8 +1,7 @@
-use Rattle.std.proofs.Common.{◌≡◌, ◌∙◌, ◌++◌, ◌+◌, sym, ap, arith}
+use Rattle.std.proofs.Common.{◌∙◌, ◌++◌, sym, ap, arith}
 use Rattle.rst_text.specs.Shown.{block_of}
 use Rattle.rst_text.specs.Block.{Block}
-use Rattle.rst_tables.specs.Places.{Grid, row_of, rows_of, row_at}
-use Rattle.std.proofs.lemmas.List.{length-map}
+use Rattle.rst_tables.specs.Places.{rows_of}
 use Rattle.rst_tables.proofs.Lists.{onto}
 use Rattle.rst_tables.proofs.GridLemmas.{rows_here}
 use Rattle.rst_tables.proofs.SimpleLemmas.{take-more}

@@ -1,9 +1,8 @@
-use Rattle.std.proofs.Common.{◌≡◌, ◌∙◌, ◌<◌, ◌≤◌, ◌+◌, length, sym, ap, arith, Some, Option, ℕ}
+use Rattle.std.proofs.Common.{◌≡◌, ◌∙◌, length, sym, arith}
 use Rattle.rst_text.specs.Shown.{block_of}
 use Rattle.rst_text.specs.Block.{Block}
-use Rattle.rst_tables.specs.Places.{Grid, row_of, rows_of, row_at}
+use Rattle.rst_tables.specs.Places.{row_of, rows_of}
 use Rattle.std.proofs.lemmas.List.{length-map}
-use Rattle.rst_tables.specs.SimpleTable.{next_border, scan_end, looked_to}
 use Rattle.rst_tables.proofs.SimpleLemmas.{looked-one, looks-scan, looks-some}
 use Rattle.rst_tables.proofs.simple_lines.simple_end.Goals as goal
 

@@ -1,4 +1,4 @@
-use Rattle.std.proofs.Common.{◌≡◌, ◌∙◌, ◌++◌, ◌+◌, ℕ, ◌<◌, length, sym, ap, arith, get_or, refl}
+use Rattle.std.proofs.Common.{◌∙◌, ◌++◌, ℕ, ◌<◌, length, sym, ap, arith, refl}
 use Rattle.std.proofs.lemmas.List.{length_push}
 use Rattle.rst_tables.specs.Places.{row_at}
 use Rattle.rst_tables.specs.SimpleTable.{is_rule}

@@ -1,4 +1,4 @@
-use Rattle.std.proofs.Common.{◌≡◌, ◌∙◌, not, sym, ap, arith}
+use Rattle.std.proofs.Common.{◌∙◌, not, sym, ap, arith}
 use Rattle.rst_tables.specs.Places.{row_at}
 use Rattle.rst_tables.specs.SimpleTable.{are_clear}
 use Rattle.rst_tables.proofs.Lists.{first_from-more}

@@ -1,4 +1,4 @@
-use Rattle.std.proofs.Common.{◌≡◌, ◌∙◌, not, sym, arith}
+use Rattle.std.proofs.Common.{◌∙◌, not, sym, arith}
 use Rattle.rst_tables.specs.Places.{row_at}
 use Rattle.rst_tables.specs.SimpleTable.{is_empty}
 use Rattle.rst_tables.proofs.Lists.{first_from-more}

@@ -1,4 +1,4 @@
-use Rattle.std.proofs.Common.{◌≡◌, ◌-◌, not, length}
+use Rattle.std.proofs.Common.{◌≡◌, ◌-◌, not}
 use Rattle.rst_tables.specs.Places.{row_at}
 use Rattle.rst_tables.specs.Counts.{first_from}
 use Rattle.rst_tables.specs.SimpleTable.{is_empty}

@@ -1,5 +1,5 @@
-use Rattle.std.proofs.Common.{◌≡◌, ◌∙◌, ◌++◌, ◌+◌, sym, ap, arith}
-use Rattle.rst_tables.specs.SimpleTable.{rows_in, row_lines}
+use Rattle.std.proofs.Common.{◌∙◌, ◌++◌, sym, ap, arith}
+use Rattle.rst_tables.specs.SimpleTable.{row_lines}
 use Rattle.rst_tables.proofs.Lists.{onto}
 use Rattle.rst_tables.proofs.SimpleLemmas.{rows_in-take, rows_in-more}
 use Rattle.rst_tables.proofs.simple_rows.with_section.Goals as goal

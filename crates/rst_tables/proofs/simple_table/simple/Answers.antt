@@ -1,7 +1,7 @@
-use Rattle.std.proofs.Common.{◌≡◌, ◌∙◌, ◌<◌, ◌≤◌, ◌+◌, length, sym, ap, arith}
+use Rattle.std.proofs.Common.{◌≡◌, ◌∙◌, length, sym, arith}
 use Rattle.rst_text.specs.Shown.{block_of}
 use Rattle.rst_text.specs.Block.{Block}
-use Rattle.rst_tables.specs.Places.{Grid, row_of, rows_of, row_at}
+use Rattle.rst_tables.specs.Places.{row_of, rows_of}
 use Rattle.std.proofs.lemmas.List.{length-map}
 use Rattle.rst_tables.proofs.SimpleLemmas.{ends_within}
 use Rattle.rst_tables.proofs.simple_table.simple.Goals as goal

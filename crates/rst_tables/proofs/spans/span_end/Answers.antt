@@ -1,4 +1,4 @@
-use Rattle.std.proofs.Common.{◌≡◌, ◌∙◌, length, sym, arith}
+use Rattle.std.proofs.Common.{◌∙◌, length, sym, arith}
 use Rattle.rst_tables.specs.SimpleTable.{is_space}
 use Rattle.rst_tables.proofs.Lists.{first_from-more}
 use Rattle.rst_tables.proofs.spans.span_end.Goals as goal

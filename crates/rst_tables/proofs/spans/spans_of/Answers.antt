@@ -1,4 +1,4 @@
-use Rattle.std.proofs.Common.{◌≡◌, ◌∙◌, ◌++◌, ◌-◌, ◌+◌, length, sym, ap, map, arith, Some, ℕ, ◌∷◌, []}
+use Rattle.std.proofs.Common.{◌∙◌, ◌++◌, length, sym, ap, map, arith, ℕ, ◌∷◌, []}
 use Rattle.rst_tables.specs.SimpleTable.{begins_span, span_at}
 use Rattle.rst_tables.proofs.Lists.{all_from-take, all_from-more, onto}
 use Rattle.rst_tables.specs.declared.spans.Span.{Span}

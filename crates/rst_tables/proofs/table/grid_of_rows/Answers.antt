@@ -1,9 +1,9 @@
-use Rattle.std.proofs.Common.{◌≡◌, ◌∙◌, None, Some, List, Option, Vec, Global, ap, ap₂, sym, subst, arith, ◌+◌, option_map, vec_items}
+use Rattle.std.proofs.Common.{◌≡◌, ◌∙◌, None, List, Option, Vec, Global, ap, ap₂, sym, subst, arith, ◌+◌, option_map, vec_items}
 use Rattle.rst_tables.specs.Places.{Grid}
 use Rattle.rst_tables.specs.Drawn.{IsTiling, Tiles}
 use Rattle.rst_tables.specs.GridTable.{row_fault, head_of, head_from, with_dashes, tiled_table}
 use Rattle.rst_tables.specs.declared.drawn.Rectangle.{Rectangle}
-use Rattle.rst_tables.proofs.TableLemmas.{even_from, with_tiling, without_tiling}
+use Rattle.rst_tables.proofs.TableLemmas.{even_from, with_tiling}
 use Rattle.rst_tables.proofs.table.grid_of_rows.Goals as goal
 
 pub tiling-requires : goal.tiling-requires
