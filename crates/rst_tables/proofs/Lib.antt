@@ -1,0 +1,11 @@
+pub mod Lists
+pub mod CellLemmas
+pub mod GridLemmas
+pub mod Rectangles
+pub mod Frames
+pub mod Scan
+pub mod Begins
+pub mod BoundLemmas
+pub mod RowLemmas
+pub mod TableLemmas
+pub mod SimpleLemmas

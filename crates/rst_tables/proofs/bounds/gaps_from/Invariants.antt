@@ -1,0 +1,6 @@
+use Rattle.std.proofs.Common.{◌≡◌, ◌++◌, drop}
+use Rattle.rst_tables.specs.GridTable.{gaps_from}
+use Rattle.rst_tables.proofs.bounds.gaps_from.Given as goal
+
+abbrev pub invariant-loop-bound : goal.invariant-loop-bound
+invariant-loop-bound l = l.gaps.items ++ gaps_from l.before (drop l.bound-index l.others) ≡ gaps_from l.first l.others

@@ -1,0 +1,6 @@
+use Rattle.std.proofs.Common.{◌≡◌, ◌++◌, drop}
+use Rattle.rst_tables.specs.SimpleTable.{sections}
+use Rattle.rst_tables.proofs.simple_rows.simple_rows.Given as goal
+
+abbrev pub invariant-loop-rule : goal.invariant-loop-rule
+invariant-loop-rule l = l.rows.items ++ sections l.lines l.low (drop l.rule-index l.rules) ≡ sections l.lines 1 l.rules

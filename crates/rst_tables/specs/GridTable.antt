@@ -1,0 +1,205 @@
+-- Grid tables: which lines they are, what can be wrong with them, and what stands in them (Markup Specification,
+-- 'Grid Tables').
+use Rattle.std.specs.Prelude.{◌≡◌, ℕ, zero, suc, ◌+◌, ◌-◌, Bool, ◌&&◌, ◌||◌, ◌==◌, nat_le, List, [], ◌∷◌, Option, Some, None, if◌then◌else◌, get_or, slice_set, length, take, drop, map, filter}
+use Rattle.std.specs.List.{list_all, list_any}
+use Rattle.rst_text.specs.Block.{Block, first_number}
+use Rattle.rst_tables.specs.Places.{Row, Grid, no_row, rows_of, row_at, mark_of, mark_at, place, width}
+use Rattle.rst_tables.specs.Counts.{first_from, all_from, below, each_from}
+use Rattle.rst_tables.specs.Cells.{cell_block}
+use Rattle.rst_tables.specs.Drawn.{is_upright, Tiles}
+use Rattle.rst_tables.specs.declared.drawn.Rectangle.{Rectangle}
+use Rattle.rst_tables.specs.declared.places.Place.{Place}
+use Rattle.rst_tables.specs.declared.places.Place.TheVariants.{Character}
+use Rattle.rst_tables.specs.declared.results.Cell.{Cell}
+use Rattle.rst_tables.specs.declared.results.TableDetail.{TableDetail}
+use Rattle.rst_tables.specs.declared.results.TableDetail.TheVariants.{BottomBorderMissing, RightEdgeBroken, TwoHeadRules, ParseIncomplete}
+use Rattle.rst_tables.specs.declared.results.TableResult.{TableResult}
+use Rattle.rst_tables.specs.declared.results.TableResult.TheVariants.{Table, Malformed}
+
+-- ---- lines
+
+-- the mark or `+`
+unfoldable pub is_part : ℕ → Place → Bool
+is_part mark p = mark_of p == mark || mark_of p == 43
+
+-- `+` and the mark at the beginning, the mark and `+` at the end
+unfoldable pub has_ends : ℕ → List Place → Bool
+has_ends mark row = mark_at row 0 == 43 && (mark_at row 1 == mark && (mark_at row (length row - 2) == mark && mark_at row (length row - 1) == 43))
+
+-- `+` and the mark, any number of the mark and `+`, the mark and `+`: `shortest` places or more
+unfoldable pub is_edge : ℕ → ℕ → List Place → Bool
+is_edge mark shortest row = nat_le shortest (length row) && (has_ends mark row && list_all (is_part mark) row)
+
+-- `+-`, one or more of `-` and `+`, `-+`
+abbrev pub is_border : List Place → Bool
+is_border row = is_edge 45 5 row
+
+-- `+=`, any number of `=` and `+`, `=+`
+abbrev pub is_head_rule : List Place → Bool
+is_head_rule row = is_edge 61 4 row
+
+-- it begins with `+` or `|`
+unfoldable pub is_grid_row : List Place → Bool
+is_grid_row row = mark_at row 0 == 43 || mark_at row 0 == 124
+
+-- ---- where the table ends
+
+-- the rows up to the first that doesn't begin with `+` or `|`, as a blank one
+abbrev pub scanned : Grid → Grid
+scanned [] = []
+scanned (r ∷ rs) = if is_grid_row r.places then r ∷ scanned rs else []
+
+abbrev pub one_more : Bool → ℕ → ℕ
+one_more border zero = if border then 1 else 0
+one_more border (suc n) = suc (suc n)
+
+-- how many rows there are through the last border, none if there is no border
+abbrev pub through_last : Grid → ℕ
+through_last [] = 0
+through_last (r ∷ rs) = one_more (is_border r.places) (through_last rs)
+
+abbrev pub two_more : ℕ → ℕ
+two_more zero = 0
+two_more (suc n) = suc (suc (suc n))
+
+-- how many rows the table has: it ends with the last border from the third row on, and has none without one
+abbrev pub height : Grid → ℕ
+height S = two_more (through_last (drop 2 S))
+
+-- ---- what its rows are
+
+-- the row has the width and ends in `+` or `|`
+unfoldable pub is_whole : ℕ → List Place → Bool
+is_whole wide row = length row == wide && is_upright (mark_at row (length row - 1))
+
+abbrev pub is_square : Grid → Bool
+is_square T = list_all (λ r. is_whole (width T) r.places) T
+
+-- the first rule between head and body from a row on
+abbrev pub head_from : Grid → ℕ → Option ℕ
+head_from T low = first_from (λ k. is_head_rule (row_at T k)) low (length T - low)
+
+abbrev pub head_of : Grid → Option ℕ
+head_of T = head_from T 0
+
+-- two such rules, by the places of their rows, counted from 1
+abbrev pub two_heads : ℕ → Option ℕ → Option TableDetail
+two_heads first None = None
+two_heads first (Some second) = Some (TwoHeadRules (first + 1) (second + 1))
+
+abbrev pub second_head : Grid → Option ℕ → Option TableDetail
+second_head T None = None
+second_head T (Some first) = two_heads first (head_from T (first + 1))
+
+-- the first fault of the rows
+abbrev pub row_fault : Grid → Option TableDetail
+row_fault T = if is_square T then second_head T (head_of T) else Some RightEdgeBroken
+
+-- the rule between head and body counts as one of `-`
+abbrev pub dash : Place → Place
+dash p = if mark_of p == 61 then Character 45 else p
+
+abbrev pub dashed : Row → Row
+dashed r = record { number = r.number; places = map dash r.places }
+
+abbrev pub with_dashes : Grid → Option ℕ → Grid
+with_dashes T None = T
+with_dashes T (Some k) = slice_set T k (dashed (get_or T k no_row))
+
+-- ---- its columns, rows and cells
+
+abbrev pub is_between : ℕ → ℕ → ℕ → Bool
+is_between low high k = nat_le low k && nat_le k high
+
+-- A `+` of the rectangle's top or bottom side stands in the column. The left and the right side have a `+` in a
+-- corner, which belongs to the top side, too.
+unfoldable pub bounds_column : Grid → ℕ → Rectangle → Bool
+bounds_column G j r = is_between r.left r.right j && (place G r.top j == 43 || place G r.bottom j == 43)
+
+-- a `+` of the rectangle's left or right side stands in the row
+unfoldable pub bounds_row : Grid → ℕ → Rectangle → Bool
+bounds_row G i r = is_between r.top r.bottom i && (place G i r.left == 43 || place G i r.right == 43)
+
+-- the bounds of columns and of rows: the places of `+` on sides of rectangles
+abbrev pub is_column : Grid → List Rectangle → ℕ → Bool
+is_column G rs j = list_any (bounds_column G j) rs
+
+abbrev pub is_row : Grid → List Rectangle → ℕ → Bool
+is_row G rs i = list_any (bounds_row G i) rs
+
+-- how many places lie between neighbouring bounds
+abbrev pub gaps_from : ℕ → List ℕ → List ℕ
+gaps_from a [] = []
+gaps_from a (b ∷ bs) = (b - a - 1) ∷ gaps_from b bs
+
+abbrev pub gaps : List ℕ → List ℕ
+gaps [] = []
+gaps (a ∷ bs) = gaps_from a bs
+
+-- How many rows, or columns, there are from one bound up to another, less 1. A rank says how many bounds stand before
+-- a place.
+abbrev pub more_of : (ℕ → ℕ) → ℕ → ℕ → ℕ
+more_of rank from to = rank to - rank from - 1
+
+-- the cell in a rectangle
+abbrev pub cell_of : (ℕ → ℕ) → (ℕ → ℕ) → Grid → Rectangle → Cell
+cell_of row_rank column_rank G r = record {
+  morerows = more_of row_rank r.top r.bottom;
+  morecols = more_of column_rank r.left r.right;
+  lines = cell_block (r.left + 1) (Some r.right) (take (r.bottom - (r.top + 1)) (drop (r.top + 1) G));
+}
+
+-- the cells that begin in the n-th row, counted from 0
+abbrev pub row_cells : (ℕ → ℕ) → (ℕ → ℕ) → Grid → List Rectangle → ℕ → List Cell
+row_cells row_rank column_rank G rs n = map (cell_of row_rank column_rank G) (filter (λ r. row_rank r.top == n) rs)
+
+-- the rows, one between each bound and the next
+abbrev pub cell_rows : (ℕ → ℕ) → (ℕ → ℕ) → Grid → List Rectangle → ℕ → List (List Cell)
+cell_rows row_rank column_rank G rs count = each_from (row_cells row_rank column_rank G rs) 0 count
+
+abbrev pub table_rows : Grid → List Rectangle → List (List Cell)
+table_rows G rs = cell_rows (below (is_row G rs)) (below (is_column G rs)) G rs (below (is_row G rs) (length G) - 1)
+
+abbrev pub column_widths : Grid → List Rectangle → List ℕ
+column_widths G rs = gaps (all_from (is_column G rs) 0 (width G))
+
+-- how many rows lie above the rule between head and body
+abbrev pub head_size : (ℕ → ℕ) → Option ℕ → ℕ
+head_size rank None = 0
+head_size rank (Some k) = rank k
+
+-- the table in a tiled grid
+abbrev pub tiled_table : Option ℕ → Grid → List Rectangle → ℕ → TableResult
+tiled_table head G rs end = Table (column_widths G rs) (head_size (below (is_row G rs)) head) (table_rows G rs) end
+
+-- ---- the answer
+
+-- n lines from place i on are no table; `line` is the number of the first
+abbrev pub malformed : ℕ → ℕ → ℕ → TableDetail → TableResult
+malformed line i n detail = Malformed (i + n) (record { line = line; detail = detail; first = i; end = i + n })
+
+-- what rows are by their tiling, if they have one
+abbrev pub tiled : ℕ → ℕ → Option ℕ → Grid → Option (List Rectangle) → TableResult
+tiled line i head G None = malformed line i (length G) ParseIncomplete
+tiled line i head G (Some rs) = tiled_table head G rs (i + length G)
+
+-- what rows are by their first fault, if they have one
+abbrev pub IsOfRows : ℕ → ℕ → Grid → Option TableDetail → TableResult → Type 0
+IsOfRows line i T (Some detail) result = result ≡ malformed line i (length T) detail
+IsOfRows line i T None result = let G = with_dashes T (head_of T) in
+    (found : Option (List Rectangle)) × Tiles G found × (result ≡ tiled line i (head_of T) G found)
+
+-- what scanned rows are by how many of them are the table
+abbrev pub IsOfHeight : ℕ → ℕ → Grid → ℕ → TableResult → Type 0
+IsOfHeight line i S zero result = result ≡ malformed line i (length S) BottomBorderMissing
+IsOfHeight line i S (suc n) result = IsOfRows line i (take (suc n) S) (row_fault (take (suc n) S)) result
+
+-- The grid table whose first line is at place i of a block. It is a `Table` with the cells of the tiling, or
+-- `Malformed` with the first fault.
+abbrev pub IsGridTable : Block → ℕ → TableResult → Type 0
+IsGridTable B i result = let S = scanned (rows_of (drop i B)) in IsOfHeight (first_number (drop i B)) i S (height S) result
+
+-- how many rows are looked at to scan the table: all of them, and the one that stops the scan
+unfoldable pub grid_looked : Grid → ℕ
+grid_looked [] = 0
+grid_looked (r ∷ rs) = if is_grid_row r.places then suc (grid_looked rs) else 1

@@ -1,0 +1,11 @@
+pub mod Places
+pub mod Counts
+pub mod Texts
+pub mod Results
+pub mod Messages
+pub mod Laws
+pub mod Cells
+pub mod Drawn
+pub mod Marks
+pub mod GridTable
+pub mod SimpleTable

@@ -1,0 +1,18 @@
+-- Numbers that are marked in a list.
+use Rattle.std.specs.Prelude.{◌≡◌, ℕ, ◌<◌, ◌≤◌, Bool, false, ◌||◌, List, get_or, length}
+
+-- Of the numbers from `low` through `high` those are marked, too, that pass.
+pub record Marks (p : ℕ → Bool) (low high : ℕ) (old new : List Bool) : Type 0 where
+  pub size : length new ≡ length old
+  pub inside : (k : ℕ) → low ≤ k → k ≤ high → get_or new k false ≡ (get_or old k false || p k)
+  pub outside : (k : ℕ) → (low ≤ k → k ≤ high → ⊥) → get_or new k false ≡ get_or old k false
+
+-- just the numbers below n that pass are marked
+pub record AreMarked (p : ℕ → Bool) (n : ℕ) (marks : List Bool) : Type 0 where
+  pub size : length marks ≡ n
+  pub at : (k : ℕ) → k < n → get_or marks k false ≡ p k
+
+-- for each number up to the size how many marks stand before it
+pub record AreRanks (rank : ℕ → ℕ) (n : ℕ) (ranks : List ℕ) : Type 0 where
+  pub size : n < length ranks
+  pub at : (k : ℕ) → k ≤ n → get_or ranks k 0 ≡ rank k

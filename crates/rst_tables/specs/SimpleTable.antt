@@ -1,0 +1,281 @@
+-- Simple tables: which lines they are, what can be wrong with them, and what stands in them (Markup Specification,
+-- 'Simple Tables').
+use Rattle.std.specs.Prelude.{ℕ, zero, suc, ◌+◌, ◌-◌, max, Bool, true, false, not, ◌&&◌, ◌||◌, ◌==◌, nat_le, List, [], ◌∷◌, ◌++◌, Option, Some, None, is_some, if◌then◌else◌, get_or, length, take, drop, map, count_by, unwrap_or, option_map}
+use Rattle.std.specs.Char.{is_whitespace}
+use Rattle.std.specs.List.{list_all}
+use Rattle.rst_text.specs.Block.{Block, first_number}
+use Rattle.rst_tables.specs.Places.{Grid, rows_of, row_at, mark_of, mark_at}
+use Rattle.rst_tables.specs.Counts.{first_from, all_from, each_from}
+use Rattle.rst_tables.specs.Cells.{cell_block}
+use Rattle.rst_tables.specs.GridTable.{malformed}
+use Rattle.rst_tables.specs.declared.places.Place.{Place}
+use Rattle.rst_tables.specs.declared.places.Place.TheVariants.{Character, Second}
+use Rattle.rst_tables.specs.declared.spans.Span.{Span}
+use Rattle.rst_tables.specs.declared.simple_lines.SimpleEnd.{SimpleEnd}
+use Rattle.rst_tables.specs.declared.simple_lines.SimpleEnd.TheVariants.{Ends, Fails}
+use Rattle.rst_tables.specs.declared.simple_rows.RowLines.{RowLines}
+use Rattle.rst_tables.specs.declared.results.Cell.{Cell}
+use Rattle.rst_tables.specs.declared.results.TableDetail.TheVariants.{BorderMismatch, BottomMissing, ColumnSpan, Margin}
+use Rattle.rst_tables.specs.declared.results.TableResult.{TableResult}
+use Rattle.rst_tables.specs.declared.results.TableResult.TheVariants.{Table}
+
+-- ---- lines
+
+-- the mark or a space
+unfoldable pub is_stroke : ℕ → Place → Bool
+is_stroke mark p = mark_of p == mark || mark_of p == 32
+
+-- it begins with the mark, and holds only the mark and spaces
+unfoldable pub is_ruled : ℕ → List Place → Bool
+is_ruled mark row = mark_at row 0 == mark && list_all (is_stroke mark) row
+
+-- `=` and spaces
+abbrev pub is_simple_border : List Place → Bool
+is_simple_border row = is_ruled 61 row
+
+-- a border, or a span rule of `-` and spaces
+unfoldable pub is_rule : List Place → Bool
+is_rule row = is_ruled 61 row || is_ruled 45 row
+
+abbrev pub is_empty : List Place → Bool
+is_empty row = length row == 0
+
+-- ---- where the table ends
+
+-- the first border from a place on
+abbrev pub next_border : Grid → ℕ → Option ℕ
+next_border R low = first_from (λ k. is_simple_border (row_at R k)) low (length R - low)
+
+-- The table ends at its second border below the top. Its first one, at place `first`, closes the head.
+abbrev pub end_at_second : Grid → ℕ → ℕ → Option ℕ → SimpleEnd
+end_at_second R wide first None = Fails (first + 1) BottomMissing
+end_at_second R wide first (Some second) = if length (row_at R second) == wide then Ends (second + 1) (Some first) else Fails (second + 1) BorderMismatch
+
+-- It ends at its first border if that is the block's last line or a blank line follows.
+abbrev pub end_at_first : Grid → ℕ → Option ℕ → SimpleEnd
+end_at_first R wide None = Fails (length R) BottomMissing
+end_at_first R wide (Some first) =
+    if length (row_at R first) == wide then (if is_empty (row_at R (first + 1)) then Ends (first + 1) None else end_at_second R wide first (next_border R (first + 1)))
+    else Fails (first + 1) BorderMismatch
+
+-- where the table ends whose top border is row i
+abbrev pub simple_end : Grid → ℕ → SimpleEnd
+simple_end R i = end_at_first R (length (row_at R i)) (next_border R (i + 1))
+
+-- the place behind the row that stops the scan for a border
+abbrev pub scan_end : Grid → Option ℕ → ℕ
+scan_end R None = length R
+scan_end R (Some k) = k + 1
+
+-- the place behind the rows that are looked at to find the end
+abbrev pub looked_to : Grid → ℕ → Option ℕ → ℕ
+looked_to R wide None = length R
+looked_to R wide (Some first) =
+    if length (row_at R first) == wide then (if is_empty (row_at R (first + 1)) then first + 1 else scan_end R (next_border R (first + 1)))
+    else first + 1
+
+-- how many rows are looked at from the top border on
+abbrev pub simple_looked : Grid → ℕ → ℕ
+simple_looked R i = looked_to R (length (row_at R i)) (next_border R (i + 1)) - i
+
+-- ---- columns
+
+abbrev pub is_space : List Place → ℕ → Bool
+is_space row k = mark_at row k == 32
+
+-- a run of marks begins
+unfoldable pub begins_span : List Place → ℕ → Bool
+begins_span row k = not (is_space row k) && (k == 0 || is_space row (k - 1))
+
+-- where the run ends that begins there
+abbrev pub span_end : List Place → ℕ → ℕ
+span_end row k = unwrap_or (first_from (is_space row) k (length row - k)) (length row)
+
+abbrev pub span_at : List Place → ℕ → Span
+span_at row k = record { from = k; to = span_end row k; columns = 1 }
+
+-- the runs of marks in a rule
+abbrev pub spans_of : List Place → List Span
+spans_of row = map (span_at row) (all_from (begins_span row) 0 (length row))
+
+-- the columns of the table: the runs of the top border
+abbrev pub columns_of : Grid → List Span
+columns_of T = spans_of (row_at T 0)
+
+abbrev pub one_past : ℕ → ℕ
+one_past zero = 0
+one_past (suc n) = suc (suc n)
+
+-- how many columns there are through the first that ends at a place, none if none does
+abbrev pub through : ℕ → List Span → ℕ
+through to [] = 0
+through to (c ∷ cs) = if c.to == to then 1 else one_past (through to cs)
+
+-- how many columns at the front a span covers: it begins with the first and ends with one of them; else none
+abbrev pub covered : List Span → Span → ℕ
+covered [] s = 0
+covered (c ∷ cs) s = if c.from == s.from then through s.to (c ∷ cs) else 0
+
+abbrev pub all_covered : List Span → Option (List Span)
+all_covered [] = Some []
+all_covered (c ∷ cs) = None
+
+abbrev pub with_span : ℕ → Span → Option (List Span) → Option (List Span)
+with_span zero s rest = None
+with_span (suc n) s rest = option_map (λ ss. record { from = s.from; to = s.to; columns = suc n } ∷ ss) rest
+
+-- Spans with the number of columns that each covers. They have to cover all columns, one after the other.
+abbrev pub spread : List Span → List Span → Option (List Span)
+spread columns [] = all_covered columns
+spread columns (s ∷ ss) = with_span (covered columns s) s (spread (drop (covered columns s) columns) ss)
+
+-- the spans of a row that is a rule
+abbrev pub rule_spans : Grid → ℕ → Option (List Span)
+rule_spans T k = spread (columns_of T) (spans_of (row_at T k))
+
+-- the rules below the top border: span rules, the border that closes the head and the last border
+abbrev pub rules_of : Grid → List ℕ
+rules_of T = all_from (λ k. is_rule (row_at T k)) 1 (length T - 1)
+
+-- the first of the rules whose spans don't cover the columns
+abbrev pub first_unaligned : Grid → List ℕ → Option ℕ
+first_unaligned T [] = None
+first_unaligned T (k ∷ ks) = if is_some (rule_spans T k) then first_unaligned T ks else Some k
+
+-- ---- rows
+
+-- a white character; the second place of one isn't blank
+unfoldable pub is_white_place : Place → Bool
+is_white_place (Character c) = is_whitespace c
+is_white_place Second = false
+
+-- nothing but white stands from one place up to another
+abbrev pub is_clear : ℕ → ℕ → List Place → Bool
+is_clear from to row = list_all is_white_place (take (to - from) (drop from row))
+
+abbrev pub no_span : Span
+no_span = record { from = 0; to = 0; columns = 0 }
+
+-- its first column isn't blank
+abbrev pub begins_row : Grid → ℕ → Bool
+begins_row T k = let column = get_or (columns_of T) 0 no_span in not (is_clear column.from column.to (row_at T k))
+
+abbrev pub row_lines : ℕ → ℕ → ℕ → RowLines
+row_lines from to rule = record { from = from; to = to; rule = rule }
+
+-- The rows from `start` on. Of the n lines from `low` on each whose first column isn't blank begins another. The last
+-- row ends at the rule that follows, and a row that ends at another one has the columns of the top border, row 0.
+abbrev pub rows_in : Grid → ℕ → ℕ → ℕ → List RowLines
+rows_in T start low zero = row_lines start low low ∷ []
+rows_in T start low (suc n) = if begins_row T low then row_lines start low 0 ∷ rows_in T low (low + 1) n else rows_in T start (low + 1) n
+
+abbrev pub rows_from : Grid → ℕ → Option ℕ → List RowLines
+rows_from T rule None = []
+rows_from T rule (Some start) = rows_in T start (start + 1) (rule - (start + 1))
+
+-- the rows of the lines from `low` on before a rule, blank lines at their front dropped
+abbrev pub section : Grid → ℕ → ℕ → List RowLines
+section T low rule = rows_from T rule (first_from (λ k. not (is_empty (row_at T k))) low (rule - low))
+
+-- the rows of the lines from `low` on, cut at rules
+abbrev pub sections : Grid → ℕ → List ℕ → List RowLines
+sections T low [] = []
+sections T low (rule ∷ rules) = section T low rule ++ sections T (rule + 1) rules
+
+abbrev pub simple_rows : Grid → List RowLines
+simple_rows T = sections T 1 (rules_of T)
+
+-- the spans of a row, by the rule that ends it
+abbrev pub row_spans : Grid → RowLines → List Span
+row_spans T r = unwrap_or (rule_spans T r.rule) []
+
+-- nothing but white stands between the spans, the one before which ends at `to`
+abbrev pub margins_from : ℕ → List Span → List Place → Bool
+margins_from to [] row = true
+margins_from to (s ∷ ss) row = is_clear to s.from row && margins_from s.to ss row
+
+abbrev pub are_clear : List Span → List Place → Bool
+are_clear [] row = true
+are_clear (s ∷ ss) row = margins_from s.to ss row
+
+abbrev pub or_else : Option ℕ → Option ℕ → Option ℕ
+or_else None other = other
+or_else (Some k) other = Some k
+
+-- the first line of a row with text between its columns
+abbrev pub text_in_margin : Grid → List Span → ℕ → ℕ → Option ℕ
+text_in_margin T spans from to = first_from (λ k. not (are_clear spans (row_at T k))) from (to - from)
+
+-- the first such line of all rows
+abbrev pub first_in_margin : Grid → List RowLines → Option ℕ
+first_in_margin T [] = None
+first_in_margin T (r ∷ rs) = or_else (text_in_margin T (row_spans T r) r.from r.to) (first_in_margin T rs)
+
+-- ---- widths and cells
+
+-- how many places the longest of n lines from `low` on has
+abbrev pub longest_in : Grid → ℕ → ℕ → ℕ
+longest_in T low zero = 0
+longest_in T low (suc n) = max (length (row_at T low)) (longest_in T (low + 1) n)
+
+-- how many places the longest line of the rows has
+abbrev pub longest_of : Grid → List RowLines → ℕ
+longest_of T [] = 0
+longest_of T (r ∷ rs) = max (longest_in T r.from (r.to - r.from)) (longest_of T rs)
+
+abbrev pub span_of : List Span → ℕ → Span
+span_of spans k = get_or spans k no_span
+
+-- A column is as wide as its part of the top border; the last is as wide as its longest line, if that is wider.
+abbrev pub width_of : List Span → ℕ → ℕ → ℕ
+width_of columns longest k = let c = span_of columns k in
+    if k + 1 == length columns then max (c.to - c.from) (longest - c.from) else c.to - c.from
+
+abbrev pub simple_widths : Grid → List ℕ
+simple_widths T = each_from (width_of (columns_of T) (longest_of T (simple_rows T))) 0 (length (columns_of T))
+
+-- where the k-th span of a row ends: the last has no end
+abbrev pub right_of : List Span → ℕ → Option ℕ
+right_of spans k = if k + 1 == length spans then None else Some (span_of spans k).to
+
+abbrev pub entry : Grid → List Span → ℕ → Cell
+entry lines spans k = record { morerows = 0; morecols = (span_of spans k).columns - 1; lines = cell_block (span_of spans k).from (right_of spans k) lines }
+
+abbrev pub entries : Grid → List Span → List Cell
+entries lines spans = each_from (entry lines spans) 0 (length spans)
+
+abbrev pub row_entries : Grid → RowLines → List Cell
+row_entries T r = entries (take (r.to - r.from) (drop r.from T)) (row_spans T r)
+
+-- how many rows end above the border that closes the head
+abbrev pub simple_head : Option ℕ → List RowLines → ℕ
+simple_head None rows = 0
+simple_head (Some border) rows = count_by (λ r. nat_le r.to border) rows
+
+-- ---- the answer
+
+abbrev pub or_table : ℕ → ℕ → Option ℕ → Grid → Option ℕ → TableResult
+or_table line i head T (Some k) = malformed line i (length T) (Margin (k + 1))
+or_table line i head T None = Table (simple_widths T) (simple_head head (simple_rows T)) (map (row_entries T) (simple_rows T)) (i + length T)
+
+abbrev pub or_rows : ℕ → ℕ → Option ℕ → Grid → Option ℕ → TableResult
+or_rows line i head T (Some k) = malformed line i (length T) (ColumnSpan (k + 1))
+or_rows line i head T None = or_table line i head T (first_in_margin T (simple_rows T))
+
+-- What the rows of a table are, the border that closes its head being one of them: first the faults of its rules are
+-- looked for, then text between columns.
+abbrev pub simple_of : ℕ → ℕ → Option ℕ → Grid → TableResult
+simple_of line i head T = or_rows line i head T (first_unaligned T (rules_of T))
+
+-- the place of the border that closes the head, counted from the top border
+abbrev pub above : ℕ → Option ℕ → Option ℕ
+above i None = None
+above i (Some k) = Some (k - i)
+
+abbrev pub simple_to : ℕ → ℕ → Grid → SimpleEnd → TableResult
+simple_to line i R (Fails end detail) = malformed line i (end - i) detail
+simple_to line i R (Ends end head) = simple_of line i (above i head) (take (end - i) (drop i R))
+
+-- the simple table whose top border is at place i of a block
+abbrev pub simple_table : Block → ℕ → TableResult
+simple_table B i = let R = rows_of B in simple_to (first_number (drop i B)) i R (simple_end R i)

@@ -1,0 +1,168 @@
+//! Lines of a table as rows of places.
+ghost use Rattle.std.specs.Prelude.{◌≡◌, ◌+◌, ◌^◌, ◌<◌, ◌∷◌, length, drop, IfOk};
+ghost use Rattle.std.specs.Str.{chars};
+ghost use Rattle.rst_tables.specs.Places.{mark_of, is_double, places_of, mark_at, place, width, rows_of};
+ghost use Rattle.rst_text.specs.Shown.{block_of};
+
+use rst_text::{Looks, View};
+use std::alloc::{AllocError, Global};
+use std::marker::Model;
+use unicode_width::UnicodeWidthChar;
+
+/// A place of a line: the character that begins there, or the second place of one that is two columns wide.
+#[derive(Clone, Copy, Debug, PartialEq, Eq)]
+pub(crate) enum Place {
+    Character(char),
+    Second,
+}
+
+impl Place {
+    /// The character that begins at the place, or `'\0'`.
+    pub(crate) fn mark(self) -> char
+        ensures { result ≡ mark_of self }
+    {
+        match self {
+            Place::Character(c) => c,
+            Place::Second => '\0',
+        }
+    }
+}
+
+/// A line of a table: its number and its places.
+#[derive(Debug, Drop)]
+pub(crate) struct TableLine {
+    number: usize,
+    places: Vec<Place>,
+}
+
+impl Model for TableLine {
+    ghost use Rattle.rst_tables.specs.Places.{Row};
+
+    ghost Value = { Row };
+
+    ghost view = { λ l. record { number = l.number; places = l.places.items } };
+
+    ghost use Rattle.std.specs.Prelude.{◌≡◌, true};
+    ghost use Rattle.std.specs.Str.{all_scalars};
+    ghost use Rattle.rst_tables.specs.Cells.{characters};
+
+    // The characters are some that a text can hold.
+    ghost invariant = { λ l. all_scalars (characters l.places.items) ≡ true };
+}
+
+impl TableLine {
+    ghost use Rattle.std.specs.Prelude.{true};
+    ghost use Rattle.std.specs.Str.{all_scalars};
+    ghost use Rattle.rst_tables.specs.Cells.{characters};
+    ghost use Rattle.rst_tables.specs.Places.{row_of};
+
+    /// The line with this number and text.
+    pub(crate) fn of(alloc: Global, number: usize, text: &str) -> Result<TableLine, AllocError>
+        ensures { IfOk result (λ line. line ≡ row_of (record { number = number; text = chars text.now })) }
+    {
+        let places = places_of(alloc, text)?;
+        Ok(TableLine { number, places })
+    }
+
+    /// The line with this number and these places.
+    pub(crate) fn with(number: usize, places: Vec<Place>) -> TableLine
+        requires { all_scalars (characters places.items) ≡ true }
+        ensures { result ≡ record { number = number; places = places.items } }
+    {
+        TableLine { number, places }
+    }
+
+    /// The line's number in its document.
+    pub(crate) fn number(&self) -> usize
+        ensures { result ≡ self.now.number }
+    {
+        self.number
+    }
+
+    /// The line's places.
+    pub(crate) fn places(&self) -> &[Place]
+        ensures value { result.now ≡ self.now.places }
+        ensures scalars { all_scalars (characters result.now) ≡ true }
+    {
+        self.places.as_slice()
+    }
+}
+
+/// Whether a character takes two places. Widths are those of characters by themselves, whatever stands beside them.
+#[tactic(auto, unfolding(crate::specs::Places::is_double))]
+fn is_double(c: char) -> bool
+    ensures { result ≡ is_double c }
+{
+    c.width().unwrap_or(0) == 2
+}
+
+/// The places of a text.
+fn places_of(alloc: Global, text: &str) -> Result<Vec<Place>, AllocError>
+    ensures { IfOk result (λ places. places.items ≡ places_of (chars text.now)) }
+{
+    let characters: Vec<char> = text.chars().collect(alloc)?;
+    places_from(alloc, &characters)
+}
+
+/// The places of characters.
+fn places_from(alloc: Global, characters: &[char]) -> Result<Vec<Place>, AllocError>
+    ensures { IfOk result (λ places. places.items ≡ places_of characters.now) }
+{
+    let mut places = Vec::new(alloc);
+    for c in characters {
+        places.push(Place::Character(*c))?;
+        if is_double(*c) {
+            places.push(Place::Second)?;
+            continue;
+        }
+    }
+    Ok(places)
+}
+
+/// The line at place `k` of a view, at the price of one look.
+pub(crate) fn read_line(
+    alloc: Global,
+    view: &View<'_>,
+    k: usize,
+    looks: &mut Looks,
+) -> Result<TableLine, AllocError>
+    requires inside { k < length (block_of view.now) }
+    requires few { looks.old < 2 ^ 121 }
+    ensures line { IfOk result (λ line. rows_of (drop k (block_of view.now)) ≡ line ∷ rows_of (drop (k + 1) (block_of view.now))) }
+    ensures looks { looks.new ≡ looks.old + 1 }
+{
+    let text = view.line(k, looks);
+    let line = TableLine::of(alloc, view.number(k), text)?;
+    Ok(line)
+}
+
+/// The character that begins at a place of a row, or `'\0'`.
+pub(crate) fn mark_at(row: &[Place], column: usize) -> char
+    ensures { result ≡ mark_at row.now column }
+{
+    match row.get(column) {
+        Some(Place::Character(c)) => *c,
+        _ => '\0',
+    }
+}
+
+/// The character that begins at a place of a table, or `'\0'`.
+pub(crate) fn mark(lines: &[TableLine], row: usize, column: usize) -> char
+    ensures { result ≡ place lines.now row column }
+{
+    match lines.get(row) {
+        Some(line) => mark_at(line.places(), column),
+        None => '\0',
+    }
+}
+
+/// How many places the first line has.
+#[tactic(auto, unfolding(crate::specs::Places::width))]
+pub(crate) fn width(lines: &[TableLine]) -> usize
+    ensures { result ≡ width lines.now }
+{
+    match lines.first() {
+        Some(line) => line.places().len(),
+        None => 0,
+    }
+}

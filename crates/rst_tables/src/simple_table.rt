@@ -1,0 +1,101 @@
+//! Simple tables.
+ghost use Rattle.std.specs.Prelude.{◌≡◌, ◌+◌, ◌*◌, ◌^◌, ◌<◌, ◌≤◌, get_or, length, IfOk};
+ghost use Rattle.rst_text.specs.Shown.{block_of};
+ghost use Rattle.rst_tables.specs.Places.{rows_of};
+ghost use Rattle.rst_tables.specs.SimpleTable as spec;
+
+use super::places::TableLine;
+use super::results::{TableDetail, TableResult};
+use super::simple_cells::{all_entries, head_size, widths};
+use super::simple_lines::{SimpleEnd, read_lines, simple_end};
+use super::simple_rows::{columns_of, first_in_margin, first_unaligned, rules_of, simple_rows};
+use super::spans::Span;
+use super::table::malformed;
+use rst_text::{Looks, View};
+use std::alloc::{AllocError, Global};
+
+/// The first column.
+fn first_column(columns: &[Span]) -> Span
+    ensures { result ≡ get_or columns.now 0 spec.no_span }
+{
+    match columns.first() {
+        Some(column) => *column,
+        None => Span {
+            from: 0,
+            to: 0,
+            columns: 0,
+        },
+    }
+}
+
+/// The place of the border that closes the head, counted from the top border at place `first`.
+fn above(first: usize, head: Option<usize>) -> Option<usize>
+    ensures { result ≡ spec.above first head }
+{
+    match head {
+        Some(k) => Some(k.saturating_sub(first)),
+        None => None,
+    }
+}
+
+/// What the lines of a table are. The first has this number and stands at place `first`; the line at place `head` of the
+/// table closes its head.
+fn simple_of(
+    alloc: Global,
+    line: usize,
+    first: usize,
+    head: Option<usize>,
+    lines: &[TableLine],
+) -> Result<TableResult, AllocError>
+    requires { first + length lines.now < 2 ^ 64 }
+    ensures { IfOk result (λ table. table ≡ spec.simple_of line first head lines.now) }
+{
+    let size = lines.len();
+    let columns = columns_of(alloc, lines)?;
+    let rules = rules_of(alloc, lines)?;
+    if let Some(rule) = first_unaligned(alloc, lines, &columns, &rules)? {
+        let detail = TableDetail::ColumnSpan { line: rule + 1 };
+        return Ok(malformed(line, first, size, detail));
+    }
+    let rows = simple_rows(alloc, lines, first_column(&columns), &rules)?;
+    if let Some(k) = first_in_margin(alloc, lines, &columns, &rows)? {
+        let detail = TableDetail::Margin { line: k + 1 };
+        return Ok(malformed(line, first, size, detail));
+    }
+    Ok(TableResult::Table {
+        cols: widths(alloc, lines, &columns, &rows)?,
+        head: head_size(head, &rows),
+        rows: all_entries(alloc, lines, &columns, &rows)?,
+        end: first + size,
+    })
+}
+
+/// The simple table whose top border is the line at place `i` of a view: a table with its rows, or malformed with its
+/// first fault (Markup Specification, 'Simple Tables'). It looks at most four times at each line of the table, and of
+/// those after it through the one that stops the scan for a border.
+///
+/// The only error is want of memory, which leaves all but `looks` as it was.
+pub fn simple(
+    alloc: Global,
+    view: &View<'_>,
+    i: usize,
+    looks: &mut Looks,
+) -> Result<TableResult, AllocError>
+    requires there { i < length (block_of view.now) }
+    requires few { looks.old < 2 ^ 120 }
+    ensures table { IfOk result (λ table. table ≡ spec.simple_table (block_of view.now) i) }
+    ensures looks { looks.new ≤ looks.old + 4 * spec.simple_looked (rows_of (block_of view.now)) i }
+{
+    let line = view.number(i);
+    match simple_end(alloc, view, i, looks)? {
+        SimpleEnd::Fails { end, detail } => {
+            let size = end.saturating_sub(i);
+            Ok(malformed(line, i, size, detail))
+        }
+        SimpleEnd::Ends { end, head } => {
+            let lines = read_lines(alloc, view, i, end, looks)?;
+            let table = simple_of(alloc, line, i, above(i, head), &lines)?;
+            Ok(table)
+        }
+    }
+}

@@ -1,0 +1,96 @@
+//! Grid tables.
+ghost use Rattle.std.specs.Prelude.{◌≡◌, ◌+◌, ◌^◌, ◌<◌, ◌≤◌, length, drop, IfOk};
+ghost use Rattle.rst_text.specs.Shown.{block_of};
+ghost use Rattle.rst_tables.specs.Places.{rows_of};
+ghost use Rattle.rst_tables.specs.GridTable as spec;
+
+use super::drawn::tiling;
+use super::grid_cells::tiled;
+use super::grid_lines::{head_from, height, put_dashes, row_fault, scanned};
+use super::places::TableLine;
+use super::results::{TableDetail, TableFault, TableResult};
+use rst_text::{Looks, View};
+use std::alloc::{AllocError, Global};
+
+/// So many lines from place `first` on that are no table; `line` is the number of the first.
+pub(crate) fn malformed(line: usize, first: usize, size: usize, detail: TableDetail) -> TableResult
+    requires { first + size < 2 ^ 64 }
+    ensures { result ≡ spec.malformed line first size detail }
+{
+    let end = first + size;
+    TableResult::Malformed {
+        end,
+        note: TableFault {
+            line,
+            detail,
+            first,
+            end,
+        },
+    }
+}
+
+/// What the lines of a table are. The first has this number and stands at place `first`.
+fn grid_of_rows(
+    alloc: Global,
+    line: usize,
+    first: usize,
+    lines: Vec<TableLine>,
+) -> Result<TableResult, AllocError>
+    requires { first + length lines.items < 2 ^ 64 }
+    ensures { IfOk result (spec.IsOfRows line first lines.items (spec.row_fault lines.items)) }
+{
+    let mut lines = lines;
+    let size = lines.len();
+    if let Some(detail) = row_fault(&lines) {
+        return Ok(malformed(line, first, size, detail));
+    }
+    let head = head_from(&lines, 0);
+    put_dashes(alloc, &mut lines, head)?;
+    let Some(rectangles) = tiling(alloc, &lines)? else {
+        return Ok(malformed(line, first, size, TableDetail::ParseIncomplete));
+    };
+    let table = tiled(alloc, &lines, &rectangles, head, first + size)?;
+    Ok(table)
+}
+
+/// What scanned lines are.
+fn grid_of(
+    alloc: Global,
+    line: usize,
+    first: usize,
+    lines: Vec<TableLine>,
+) -> Result<TableResult, AllocError>
+    requires { first + length lines.items < 2 ^ 64 }
+    ensures { IfOk result (spec.IsOfHeight line first lines.items (spec.height lines.items)) }
+{
+    let size = height(&lines);
+    if size == 0 {
+        let all = lines.len();
+        return Ok(malformed(line, first, all, TableDetail::BottomBorderMissing));
+    }
+    let mut lines = lines;
+    lines.truncate(size);
+    let table = grid_of_rows(alloc, line, first, lines)?;
+    Ok(table)
+}
+
+/// The grid table whose top border is the line at place `i` of a view: a table with the cells of the tiling by its
+/// drawn rectangles, or malformed with its first fault (Markup Specification, 'Grid Tables'). It looks once at each
+/// line of the table, and at those after it through the one that stops the scan.
+///
+/// The only error is want of memory, which leaves all but `looks` as it was.
+pub fn grid(
+    alloc: Global,
+    view: &View<'_>,
+    i: usize,
+    looks: &mut Looks,
+) -> Result<TableResult, AllocError>
+    requires there { i < length (block_of view.now) }
+    requires few { looks.old < 2 ^ 120 }
+    ensures table { IfOk result (spec.IsGridTable (block_of view.now) i) }
+    ensures looks { looks.new ≤ looks.old + spec.grid_looked (rows_of (drop i (block_of view.now))) }
+{
+    let lines = scanned(alloc, view, i, looks)?;
+    let table = grid_of(alloc, view.number(i), i, lines)?;
+    Ok(table)
+}
