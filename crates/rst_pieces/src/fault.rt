@@ -1,0 +1,30 @@
+//! What can hinder the reading of an inline text.
+ghost use Rattle.std.specs.Prelude.{◌≡◌};
+ghost use Rattle.rst_pieces.specs.declared.fault.InlineFault.TheVariants.{NoMemory};
+
+use std::alloc::{AllocError, AllocFailed};
+use thiserror::Error;
+
+/// Why an inline text was not read.
+#[derive(Clone, Copy, Debug, PartialEq, Eq, Error)]
+pub enum InlineFault {
+    /// A growth was refused.
+    #[error("out of memory")]
+    NoMemory,
+}
+
+impl From<AllocError> for InlineFault {
+    ghost from_gives = { λ _ fault. fault ≡ NoMemory };
+
+    fn from(_error: AllocError) -> InlineFault {
+        InlineFault::NoMemory
+    }
+}
+
+impl<T: Drop> From<AllocFailed<T>> for InlineFault {
+    ghost from_gives = { λ _ fault. fault ≡ NoMemory };
+
+    fn from(_error: AllocFailed<T>) -> InlineFault {
+        InlineFault::NoMemory
+    }
+}

@@ -1,0 +1,25 @@
+//! The pieces of an inline text: where its markup begins and ends.
+#![tactic(auto)]
+
+mod characters;
+mod escapes;
+mod fault;
+mod footnotes;
+mod laws;
+mod marked;
+mod missing;
+mod names;
+mod piece;
+mod scanner;
+mod tails;
+mod uri;
+
+pub use escapes::{characters_of, unescape};
+pub use fault::InlineFault;
+pub use laws::one_list_of_pieces;
+pub use piece::{Kind, Markup, Piece, Suffix};
+pub use scanner::pieces_of;
+pub use uri::plain_uri;
+
+#[cfg(test)]
+mod tests;
