@@ -1,17 +1,17 @@
 -- Lemmas on lines.
-use Rattle.std.proofs.Common.{◌≡◌, ℕ, zero, suc, ◌+◌, ◌-◌, ◌%◌, ◌<◌, ◌≤◌, ◌==◌, nat_eq, Bool, true, false, cond, ◌&&◌, ◌||◌, List, [], ◌∷◌, ◌++◌, length, take, drop, map, replicate, refl, sym, ap, ◌∙◌, arith, append_assoc, append-nil, mod-lt, Option, None, Some, MatchOption, Bor, unwrap_or, Result, Ok, Err, IfOk, String, get_or}
+use Rattle.std.proofs.Common.{◌≡◌, ℕ, zero, suc, ◌+◌, ◌-◌, ◌%◌, ◌<◌, ◌≤◌, ◌==◌, nat_eq, nat_lt, Bool, true, false, cond, ◌&&◌, ◌||◌, List, [], ◌∷◌, ◌++◌, length, take, drop, map, replicate, refl, sym, ap, ◌∙◌, arith, append_assoc, append-nil, mod-lt, Option, None, Some, MatchOption, Bor, unwrap_or, Result, Ok, Err, IfOk, String, get_or}
 use Rattle.std.specs.Char.{is_whitespace}
 use Rattle.std.specs.Str.{IsUtf8, chars, NonePass, trim_end, drop_trailing_whitespace}
 use Rattle.std.specs.Str.Pattern.{FindsCharPrefix, StripsPrefix}
 use Rattle.std.proofs.Math.Utf8.{scalar, scalars, encode, encodes}
-use Rattle.std.proofs.lemmas.Bool.{eqb-true}
+use Rattle.std.proofs.lemmas.Bool.{eqb-true, lt-ltb, le-ltb}
 use Rattle.std.proofs.lemmas.List.{map-append}
 use Rattle.std.proofs.lemmas.Str.{chars_past_char, encodes-chars, chars-encodes, scalars-chars}
 use Rattle.rst_text.specs.declared.lines.SourceLine.{SourceLine}
 use Rattle.rst_text.specs.Block.{Line, Block, front_text}
 use Rattle.rst_text.specs.Text.{chars_of}
 use Rattle.rst_text.specs.Source.{line_from, block_from}
-use Rattle.rst_text.specs.Lines.{is_line_end, begins_with, onto_first, pieces, shown, expanded_from, tidied, numbered_from}
+use Rattle.rst_text.specs.Lines.{first_longer, is_line_end, begins_with, onto_first, pieces, shown, expanded_from, tidied, numbered_from}
 use Rattle.rst_text.proofs.TextLemmas.{not_true, and_true}
 use Rattle.rst_text.proofs.Scanning.{Scans, chars-scanned, take-scanned, length-scanned}
 
@@ -235,3 +235,21 @@ pub front_text-at : (lines : List SourceLine) (i : ℕ) (line : SourceLine) → 
 front_text-at [] i line within at = absurd (omega arith)
 front_text-at (l ∷ lines) zero line within at = ap (λ (x : SourceLine). chars_of x.text) (sym at)
 front_text-at (l ∷ lines) (suc i) line within at = front_text-at lines i line (omega arith) at
+
+-- ---- the first line that is longer
+
+pub first_longer-here : (limit i n : ℕ) (lines : List SourceLine) (line : SourceLine) → i < length lines → line ≡ get_or lines i line → n ≡ length (chars_of line.text) → limit < n
+    → first_longer limit (block_from (drop i lines)) ≡ Some line.number
+first_longer-here limit i n [] line within at is over = absurd (omega arith)
+first_longer-here limit zero n (l ∷ lines) line within at is over =
+    let longer : nat_lt limit (length (chars_of l.text)) ≡ true = lt-ltb limit (length (chars_of l.text)) (omega (arith, is, ap (λ (x : SourceLine). length (chars_of x.text)) at)) in
+    ap (λ b. cond b (Some l.number) (first_longer limit (block_from lines))) longer ∙ ap (λ (x : SourceLine). Some x.number) (sym at)
+first_longer-here limit (suc i) n (l ∷ lines) line within at is over = first_longer-here limit i n lines line (omega arith) at is over
+
+pub first_longer-next : (limit i n : ℕ) (lines : List SourceLine) (line : SourceLine) → i < length lines → line ≡ get_or lines i line → n ≡ length (chars_of line.text) → n ≤ limit
+    → first_longer limit (block_from (drop i lines)) ≡ first_longer limit (block_from (drop (suc i) lines))
+first_longer-next limit i n [] line within at is under = absurd (omega arith)
+first_longer-next limit zero n (l ∷ lines) line within at is under =
+    let short : nat_lt limit (length (chars_of l.text)) ≡ false = le-ltb limit (length (chars_of l.text)) (omega (arith, is, ap (λ (x : SourceLine). length (chars_of x.text)) at)) in
+    ap (λ b. cond b (Some l.number) (first_longer limit (block_from lines))) short
+first_longer-next limit (suc i) n (l ∷ lines) line within at is under = first_longer-next limit i n lines line (omega arith) at is under

@@ -1,5 +1,5 @@
--- Lines and blocks of them.
-use Rattle.std.specs.Prelude.{ℕ, List, [], ◌∷◌, Bool, true, false}
+-- Lines, blocks of them, and cuts of blocks (Markup Specification, 'Indentation').
+use Rattle.std.specs.Prelude.{ℕ, suc, ◌-◌, List, [], ◌∷◌, take, drop, map, Bool, true, false, ◌==◌, if◌then◌else◌}
 
 -- a line: its number in the document, from 1, and its characters
 pub record Line : Type 0 where
@@ -14,6 +14,29 @@ abbrev pub front_text : Block → List ℕ
 front_text [] = []
 front_text (l ∷ ls) = l.text
 
+-- the number of a block's first line; past the end it is 0
+abbrev pub first_number : Block → ℕ
+first_number [] = 0
+first_number (l ∷ ls) = l.number
+
 abbrev pub is_blank : List ℕ → Bool
 is_blank [] = true
 is_blank (c ∷ cs) = false
+
+-- how many spaces a text begins with
+abbrev pub indentation : List ℕ → ℕ
+indentation [] = 0
+indentation (c ∷ cs) = if c == 32 then suc (indentation cs) else 0
+
+-- a line without its first n characters; one that is shorter becomes empty
+abbrev pub shorten : ℕ → Line → Line
+shorten n l = record { number = l.number; text = drop n l.text }
+
+-- a block, its first line without f characters, each other without r
+abbrev pub shorten_all : ℕ → ℕ → Block → Block
+shorten_all f r [] = []
+shorten_all f r (l ∷ ls) = shorten f l ∷ map (shorten r) ls
+
+-- lines i to j - 1 of a block, the first without f characters, each other without r
+abbrev pub cut : Block → ℕ → ℕ → ℕ → ℕ → Block
+cut B i j f r = shorten_all f r (take (j - i) (drop i B))

@@ -2,5 +2,11 @@ pub mod Text
 pub mod Block
 pub mod Lines
 pub mod Source
+pub mod Shown
+pub mod MayCut
+pub mod Extent
+pub mod Reach
+pub mod Laws
+pub mod Places
 pub mod Faults
 pub mod Counted

@@ -1,7 +1,10 @@
 -- The lines of a text (Markup Specification, 'Whitespace').
-use Rattle.std.specs.Prelude.{ℕ, ◌+◌, ◌-◌, ◌%◌, Bool, false, ◌&&◌, ◌||◌, nat_lt, ◌==◌, if◌then◌else◌, List, [], ◌∷◌, ◌++◌, map, replicate}
+use Rattle.std.specs.Prelude.{ℕ, ◌+◌, ◌-◌, ◌%◌, Bool, true, false, ◌&&◌, ◌||◌, nat_lt, ◌==◌, if◌then◌else◌, List, [], ◌∷◌, ◌++◌, map, replicate, length, Option, None, Some}
+use Rattle.std.specs.Char.{is_whitespace}
+use Rattle.std.specs.List.{list_any}
 use Rattle.std.specs.Str.{drop_trailing_whitespace}
-use Rattle.rst_text.specs.Block.{Block}
+use Rattle.std.proofs.Math.Bool.{not}
+use Rattle.rst_text.specs.Block.{Block, is_blank}
 
 -- the characters that end a line: LF, CR, U+001C to U+001E, U+0085, U+2028, U+2029
 abbrev pub is_line_end : ℕ → Bool
@@ -44,3 +47,22 @@ numbered_from n (text ∷ texts) = record { number = n; text = text } ∷ number
 -- the lines of a text, numbered from 1 on
 abbrev pub lines_of : ℕ → List ℕ → Block
 lines_of tab text = numbered_from 1 (map (tidied tab) (pieces text))
+
+-- a white character ends the text
+abbrev pub ends_white : List ℕ → Bool
+ends_white [] = false
+ends_white (c ∷ cs) = (is_whitespace c && is_blank cs) || ends_white cs
+
+-- a text that can stand in a line: no character of it ends a line, and its last isn't white
+unfoldable pub is_line_text : List ℕ → Bool
+is_line_text text = not (list_any is_line_end text) && not (ends_white text)
+
+-- each line's text can stand in a line
+abbrev pub are_lines : Block → Bool
+are_lines [] = true
+are_lines (l ∷ ls) = is_line_text l.text && are_lines ls
+
+-- the number of the first line with more than `limit` characters
+abbrev pub first_longer : ℕ → Block → Option ℕ
+first_longer limit [] = None
+first_longer limit (l ∷ ls) = if nat_lt limit (length l.text) then Some l.number else first_longer limit ls

@@ -1,5 +1,6 @@
 -- Lines as they are kept.
-use Rattle.std.specs.Prelude.{List, map}
+use Rattle.std.specs.Prelude.{ℕ, List, map}
+use Rattle.std.specs.declared.string.String.{String}
 use Rattle.rst_text.specs.declared.lines.SourceLine.{SourceLine}
 use Rattle.rst_text.specs.Block.{Line, Block}
 use Rattle.rst_text.specs.Text.{chars_of}
@@ -10,3 +11,10 @@ line_from l = record { number = l.number; text = chars_of l.text }
 -- the block that kept lines are
 abbrev pub block_from : List SourceLine → Block
 block_from lines = map line_from lines
+
+-- numbers and texts as lines
+abbrev pub line_with : {A : Type 0} → ℕ × String A → Line
+line_with pair = record { number = pair.0; text = chars_of pair.1 }
+
+abbrev pub block_with : {A : Type 0} → List (ℕ × String A) → Block
+block_with pairs = map line_with pairs

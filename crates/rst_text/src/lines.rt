@@ -1,26 +1,28 @@
 //! The lines of a text.
-ghost use Rattle.std.specs.Prelude.{◌≡◌, ◌≤◌, ◌<◌, ◌∷◌, [], length, drop, IfOk};
+ghost use Rattle.std.specs.Prelude.{◌≡◌, ◌≤◌, ◌<◌, ◌∷◌, [], length, drop, IfOk, IsTrue};
 ghost use Rattle.std.specs.Str.{chars, IsUtf8};
 ghost use Rattle.rst_text.specs.Block.{front_text};
 ghost use Rattle.rst_text.specs.Faults.{Gives};
-ghost use Rattle.rst_text.specs.Lines.{is_line_end, pieces, shown, expanded_from, tidied, lines_of};
+ghost use Rattle.rst_text.specs.Lines.{is_line_end, pieces, shown, expanded_from, tidied, lines_of, are_lines, first_longer};
+ghost use Rattle.rst_text.specs.Source.{block_with};
 ghost use Rattle.rst_text.specs.Text.{chars_of};
 
 use super::fault::TextFault;
 use std::alloc::{AllocError, Global};
 use std::marker::Model;
 
-/// The lines of a text, with their numbers. Contracts see them as a block: a list of numbers and characters.
+/// Lines with their numbers: no character of a line ends one, and none is white at a line's end. Contracts see them
+/// as a block, a list of numbers and characters.
 #[derive(Debug, Drop)]
 pub struct Lines {
-    lines: Vec<SourceLine>,
+    pub(crate) lines: Vec<SourceLine>,
 }
 
 /// A line as it is kept.
 #[derive(Debug, Drop)]
-struct SourceLine {
-    number: usize,
-    text: String,
+pub(crate) struct SourceLine {
+    pub(crate) number: usize,
+    pub(crate) text: String,
 }
 
 impl Model for Lines {
@@ -31,6 +33,11 @@ impl Model for Lines {
     ghost use Rattle.rst_text.specs.Source.{block_from};
 
     ghost view = { λ l. block_from l.lines.items };
+
+    ghost use Rattle.std.specs.Prelude.{IsTrue};
+    ghost use Rattle.rst_text.specs.Lines.{are_lines};
+
+    ghost invariant = { λ l. IsTrue (are_lines (block_from l.lines.items)) };
 }
 
 impl Lines {
@@ -56,6 +63,36 @@ impl Lines {
         Ok(Lines { lines })
     }
 
+    /// Exactly these lines: a number and a text each, in which no character ends a line and no white one is the last.
+    ///
+    /// The only refusal is [`TextFault::NoMemory`].
+    pub fn numbered(alloc: Global, lines: &[(usize, String)]) -> Result<Lines, TextFault>
+        requires { IsTrue (are_lines (block_with lines.now)) }
+        ensures { Gives (λ made. made ≡ block_with lines.now) result }
+    {
+        let mut made = Vec::new(alloc);
+        for (number, text) in lines {
+            let text = String::from_str(alloc, text.as_str())?;
+            made.push(SourceLine {
+                number: *number,
+                text,
+            })?;
+        }
+        Ok(Lines { lines: made })
+    }
+
+    /// The number of the first line with more than `limit` characters.
+    pub fn first_longer(&self, limit: usize) -> Option<usize>
+        ensures { result ≡ first_longer limit self.now }
+    {
+        for line in &self.lines {
+            if length_of(line.text.as_str()) > limit {
+                return Some(line.number);
+            }
+        }
+        None
+    }
+
     /// How many lines there are.
     pub fn count(&self) -> usize
         ensures { result ≡ length self.now }
@@ -70,6 +107,13 @@ impl Lines {
     {
         self.lines[i].text.as_str()
     }
+}
+
+/// How many characters a text has.
+fn length_of(text: &str) -> usize
+    ensures { result ≡ length (chars text.now) }
+{
+    text.chars().count()
 }
 
 /// Whether a character ends a line.

@@ -3,7 +3,8 @@ use Rattle.std.specs.Str.{chars}
 use Rattle.rst_text.specs.declared.lines.SourceLine.{SourceLine}
 use Rattle.rst_text.specs.Text.{chars_of}
 use Rattle.rst_text.specs.Source.{block_from}
-use Rattle.rst_text.specs.Lines.{pieces, tidied, numbered_from}
+use Rattle.rst_text.specs.Lines.{pieces, tidied, numbered_from, are_lines}
+use Rattle.rst_text.proofs.LineTexts.{are_lines-lines_of}
 use Rattle.rst_text.proofs.LinesLemmas.{numbered-push, all_read}
 use Rattle.std.proofs.lemmas.Bool.{eqb-true}
 use Rattle.rst_text.proofs.lines.Lines.of.Goals as goal
@@ -20,6 +21,11 @@ loop-rest-preserved c = (
       let after = numbered-push c.args.tab (vec_len c.loop-rest.lines + 1) c.loop-rest.lines.items line (chars c.first_piece.result.0.now) (pieces (chars c.first_piece.result.1.now)) _ same (ap (λ n. n + 1) c.len-number.ensures) before in
       rw (c.in_ok-push.ensures.items, c.in_ok-push.ensures.len) after,
 )
+
+pub invariant_of-result : goal.invariant_of-result
+invariant_of-result c =
+    let made = all_read _ _ _ _ _ c.loop-rest.invariant.1 (eqb-true (length c.loop-rest.rest.now) 0 (sym c.loop-rest-test.ensures)) in
+    ap are_lines made ∙ are_lines-lines_of c.args.tab (chars c.args.text.now)
 
 pub returns : goal.returns
 returns c = all_read _ _ _ _ _ c.loop-rest.invariant.1 (eqb-true (length c.loop-rest.rest.now) 0 (sym c.loop-rest-test.ensures))

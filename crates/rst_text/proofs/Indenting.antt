@@ -1,0 +1,82 @@
+-- The characters at the front of a text, counted or skipped one at a time.
+use Rattle.std.proofs.Common.{◌≡◌, ℕ, zero, suc, ◌+◌, ◌≤◌, ◌==◌, false, List, [], ◌∷◌, ◌++◌, append_assoc, length, drop, refl, sym, ap, ◌∙◌, subst, arith, length-append}
+use Rattle.std.specs.Str.{IsUtf8, chars}
+use Rattle.std.proofs.Math.Utf8.{encode, encodes}
+use Rattle.std.proofs.lemmas.Str.{encodes-chars, chars_past_char, length-encode, len_utf8_bounds}
+use Rattle.std.proofs.lemmas.Bool.{eqb-true}
+use Rattle.rst_text.specs.Block.{indentation}
+use Rattle.rst_text.proofs.TextLemmas.{not_true}
+use Rattle.rst_text.proofs.Scanning.{past_char}
+
+pub no_chars : (rest : List ℕ) → length rest ≡ 0 → chars rest ≡ []
+unfolding chars
+no_chars [] h = refl
+no_chars (b ∷ bs) h = absurd (omega arith)
+
+-- n characters are counted, and those of `rest` are left
+pub record Counts (text rest : List ℕ) (n : ℕ) : Type 0 where
+  pub value : n + indentation (chars rest) ≡ indentation (chars text)
+  pub utf8 : IsUtf8 rest
+  pub within : n + length rest ≤ length text
+
+pub Counts-start : (text rest : List ℕ) → IsUtf8 text → rest ≡ text → Counts text rest 0
+Counts-start text rest good e = record { value = omega (arith, ap (λ t. indentation (chars t)) e); utf8 = subst IsUtf8 (sym e) good; within = omega (arith, ap length e) }
+
+indentation_space : (c : ℕ) (cs : List ℕ) → c ≡ 32 → indentation (c ∷ cs) ≡ suc (indentation cs)
+indentation_space c cs e = rw e refl
+
+indentation_over : (c : ℕ) (cs : List ℕ) → (c == 32) ≡ false → indentation (c ∷ cs) ≡ 0
+indentation_over c cs e = rw e refl
+
+pub Counts-step : (text rest after : List ℕ) (n c : ℕ) → Counts text rest n → rest ≡ encode c ++ after → c ≡ 32 → Counts text after (n + 1)
+Counts-step text rest after n c s e space = record {
+  value = (let one : indentation (chars rest) ≡ suc (indentation (chars after)) = ap indentation (chars_past_char rest after c s.utf8 e) ∙ indentation_space c (chars after) space in omega (arith, s.value));
+  utf8 = (past_char rest after c s.utf8 e).1;
+  within = omega (arith, s.within, ap length e, length-append (encode c) after, length-encode c, len_utf8_bounds c);
+}
+
+pub Counts-over : (text rest after : List ℕ) (n c : ℕ) → Counts text rest n → rest ≡ encode c ++ after → (c ≡ 32 → ⊥) → n ≡ indentation (chars text)
+Counts-over text rest after n c s e dark =
+    let none : indentation (chars rest) ≡ 0 = ap indentation (chars_past_char rest after c s.utf8 e) ∙ indentation_over c (chars after) (not_true (c == 32) (λ t. dark (eqb-true c 32 t))) in omega (arith, s.value)
+
+pub Counts-end : (text rest : List ℕ) (n : ℕ) → Counts text rest n → length rest ≡ 0 → n ≡ indentation (chars text)
+Counts-end text rest n s e =
+    let none : indentation (chars rest) ≡ 0 = ap indentation (no_chars rest e) in omega (arith, s.value)
+
+-- n characters are still to be skipped, and those of `rest` are left
+pub record Skips (text rest : List ℕ) (left all : ℕ) : Type 0 where
+  pub value : drop left (chars rest) ≡ drop all (chars text)
+  pub utf8 : IsUtf8 rest
+  pub suffix : (front : List ℕ) × (text ≡ front ++ rest)
+
+pub Skips-start : (text rest : List ℕ) (n left : ℕ) → IsUtf8 text → rest ≡ text → left ≡ n → Skips text rest left n
+Skips-start text rest n left good e same = record { value = rw (e, same) refl; utf8 = subst IsUtf8 (sym e) good; suffix = ([], sym e) }
+
+pub Skips-step : (text rest after : List ℕ) (left next n c : ℕ) → Skips text rest left n → rest ≡ encode c ++ after → left ≡ suc next → Skips text after next n
+Skips-step text rest after left next n c s e more =
+    let v : drop left (chars rest) ≡ drop next (chars after) = rw (chars_past_char rest after c s.utf8 e, more) refl in
+    record { value = sym v ∙ s.value; utf8 = (past_char rest after c s.utf8 e).1; suffix = (s.suffix.0 ++ encode c, s.suffix.1 ∙ ap (λ l. s.suffix.0 ++ l) e ∙ sym (append_assoc s.suffix.0 (encode c) after)) }
+
+drop-nil : (n : ℕ) (xs : List ℕ) → xs ≡ [] → drop n xs ≡ xs
+drop-nil zero xs e = refl
+drop-nil (suc n) xs e = rw e refl
+
+pub Skips-over : (text rest : List ℕ) (left n : ℕ) → Skips text rest left n → length rest ≡ 0 → chars rest ≡ drop n (chars text)
+Skips-over text rest left n s none = sym (drop-nil left (chars rest) (no_chars rest none)) ∙ s.value
+
+pub Skips-end : (text rest : List ℕ) (left n : ℕ) → Skips text rest left n → left ≡ 0 → chars rest ≡ drop n (chars text)
+Skips-end text rest left n s none = sym (ap (λ k. drop k (chars rest)) none) ∙ s.value
+
+pub some_chars : (rest : List ℕ) → IsUtf8 rest → 1 ≤ length rest → 1 ≤ length (chars rest)
+some_chars rest good some = go (chars rest) (encodes-chars rest good)
+  where
+    go : (cs : List ℕ) → encodes cs ≡ rest → 1 ≤ length cs
+    go [] e = absurd (omega (arith, ap length e))
+    go (c ∷ cs) e = omega arith
+
+-- a text is empty just where it has no characters
+pub no_front : (text front : List ℕ) → chars text ≡ front → length text ≡ 0 → length front ≡ 0
+no_front text front e h = omega (arith, ap length (no_chars text h), ap length e)
+
+pub some_front : (text front : List ℕ) → IsUtf8 text → chars text ≡ front → 1 ≤ length text → 1 ≤ length front
+some_front text front good e h = omega (arith, some_chars text good h, ap length e)

@@ -1,0 +1,165 @@
+-- Texts that can stand in a line.
+use Rattle.std.proofs.Common.{◌≡◌, ℕ, zero, suc, ◌+◌, ◌-◌, ◌%◌, ◌==◌, Bool, true, false, cond, ◌&&◌, ◌||◌, List, [], ◌∷◌, ◌++◌, length, take, drop, map, replicate, refl, sym, ap, ◌∙◌, arith}
+use Rattle.std.proofs.Math.Bool.{not}
+use Rattle.std.specs.Char.{is_whitespace}
+use Rattle.std.specs.List.{list_any}
+use Rattle.std.specs.Str.{drop_trailing_whitespace}
+use Rattle.std.proofs.lemmas.List.Folds.{list_any-append}
+use Rattle.rst_text.specs.Block.{Block, is_blank, cut, shorten, shorten_all}
+use Rattle.rst_text.specs.Lines.{is_line_end, pieces, begins_with, onto_first, shown, expanded_from, tidied, numbered_from, lines_of, ends_white, is_line_text, are_lines}
+use Rattle.std.proofs.lemmas.Bool.{eqb-true}
+use Rattle.rst_text.proofs.TextLemmas.{and_true, not_true}
+
+or_false : (a b : Bool) → (a || b) ≡ false → (a ≡ false) × (b ≡ false)
+or_false true b h = cc
+or_false false b h = (refl, h)
+
+not_false : (a : Bool) → not a ≡ true → a ≡ false
+not_false true h = cc
+not_false false h = refl
+
+pub is_line_text-parts : (cs : List ℕ) → is_line_text cs ≡ true → (list_any is_line_end cs ≡ false) × (ends_white cs ≡ false)
+unfolding is_line_text
+is_line_text-parts cs h =
+    let both = and_true (not (list_any is_line_end cs)) (not (ends_white cs)) h in
+    (not_false (list_any is_line_end cs) both.0, not_false (ends_white cs) both.1)
+
+pub is_line_text-from_parts : (cs : List ℕ) → list_any is_line_end cs ≡ false → ends_white cs ≡ false → is_line_text cs ≡ true
+unfolding is_line_text
+is_line_text-from_parts cs p q = rw (p, q) refl
+
+pub is_line_text-nil : is_line_text [] ≡ true
+unfolding is_line_text
+is_line_text-nil = refl
+
+-- ---- a part of a text
+
+ends_white-suffix : (xs ys : List ℕ) → ends_white (xs ++ ys) ≡ false → ends_white ys ≡ false
+ends_white-suffix [] ys h = h
+ends_white-suffix (x ∷ xs) ys h = ends_white-suffix xs ys (or_false (is_whitespace x && is_blank (xs ++ ys)) (ends_white (xs ++ ys)) h).1
+
+-- what follows a front of a line's text can stand in a line
+pub is_line_text-suffix : (xs ys : List ℕ) → is_line_text (xs ++ ys) ≡ true → is_line_text ys ≡ true
+is_line_text-suffix xs ys h =
+    let parts = is_line_text-parts (xs ++ ys) h in
+    is_line_text-from_parts ys (or_false (list_any is_line_end xs) (list_any is_line_end ys) (sym (list_any-append is_line_end xs ys) ∙ parts.0)).1 (ends_white-suffix xs ys parts.1)
+
+pub is_line_text-drop : (n : ℕ) (cs : List ℕ) → is_line_text cs ≡ true → is_line_text (drop n cs) ≡ true
+is_line_text-drop zero cs h = h
+is_line_text-drop (suc n) [] h = h
+is_line_text-drop (suc n) (c ∷ cs) h = is_line_text-drop n cs (is_line_text-suffix (c ∷ []) cs h)
+
+both : (a b : Bool) → a ≡ true → b ≡ true → (a && b) ≡ true
+both a b p q = rw (p, q) refl
+
+are_lines-shortened : (r : ℕ) (B : Block) → are_lines B ≡ true → are_lines (map (shorten r) B) ≡ true
+are_lines-shortened r [] h = refl
+are_lines-shortened r (l ∷ ls) h =
+    let t = and_true (is_line_text l.text) (are_lines ls) h in
+    both (is_line_text (drop r l.text)) (are_lines (map (shorten r) ls)) (is_line_text-drop r l.text t.0) (are_lines-shortened r ls t.1)
+
+are_lines-shorten_all : (f r : ℕ) (B : Block) → are_lines B ≡ true → are_lines (shorten_all f r B) ≡ true
+are_lines-shorten_all f r [] h = refl
+are_lines-shorten_all f r (l ∷ ls) h =
+    let t = and_true (is_line_text l.text) (are_lines ls) h in
+    both (is_line_text (drop f l.text)) (are_lines (map (shorten r) ls)) (is_line_text-drop f l.text t.0) (are_lines-shortened r ls t.1)
+
+pub are_lines-drop : (n : ℕ) (B : Block) → are_lines B ≡ true → are_lines (drop n B) ≡ true
+are_lines-drop zero B h = h
+are_lines-drop (suc n) [] h = refl
+are_lines-drop (suc n) (l ∷ ls) h = are_lines-drop n ls (and_true (is_line_text l.text) (are_lines ls) h).1
+
+pub are_lines-take : (n : ℕ) (B : Block) → are_lines B ≡ true → are_lines (take n B) ≡ true
+are_lines-take zero B h = refl
+are_lines-take (suc n) [] h = refl
+are_lines-take (suc n) (l ∷ ls) h =
+    let t = and_true (is_line_text l.text) (are_lines ls) h in both (is_line_text l.text) (are_lines (take n ls)) t.0 (are_lines-take n ls t.1)
+
+-- a cut of lines is lines
+pub are_lines-cut : (B : Block) (i j f r : ℕ) → are_lines B ≡ true → are_lines (cut B i j f r) ≡ true
+are_lines-cut B i j f r h = are_lines-shorten_all f r (take (j - i) (drop i B)) (are_lines-take (j - i) (drop i B) (are_lines-drop i B h))
+
+-- ---- a text without white characters at its end
+
+is_blank-length : (cs : List ℕ) → is_blank cs ≡ (length cs == 0)
+is_blank-length [] = refl
+is_blank-length (c ∷ cs) = sym (not_true (length (c ∷ cs) == 0) (λ t. absurd (omega (arith, eqb-true (length (c ∷ cs)) 0 t))))
+
+pub ends_white-trimmed : (cs : List ℕ) → ends_white (drop_trailing_whitespace cs) ≡ false
+ends_white-trimmed [] = refl
+ends_white-trimmed (c ∷ cs) = kept (is_whitespace c && length (drop_trailing_whitespace cs) == 0) refl (ends_white-trimmed cs)
+  where
+    kept : (b : Bool) → (is_whitespace c && length (drop_trailing_whitespace cs) == 0) ≡ b → ends_white (drop_trailing_whitespace cs) ≡ false
+        → ends_white (cond b [] (c ∷ drop_trailing_whitespace cs)) ≡ false
+    kept true e rest = refl
+    kept false e rest =
+        let same : (is_whitespace c && is_blank (drop_trailing_whitespace cs)) ≡ false = ap (λ b. is_whitespace c && b) (is_blank-length (drop_trailing_whitespace cs)) ∙ e in
+        rw (same, rest) refl
+
+pub unended-trimmed : (cs : List ℕ) → list_any is_line_end cs ≡ false → list_any is_line_end (drop_trailing_whitespace cs) ≡ false
+unended-trimmed [] h = refl
+unended-trimmed (c ∷ cs) h =
+    let t = or_false (is_line_end c) (list_any is_line_end cs) h in
+    kept (is_whitespace c && length (drop_trailing_whitespace cs) == 0) t.0 (unended-trimmed cs t.1)
+  where
+    kept : (b : Bool) → is_line_end c ≡ false → list_any is_line_end (drop_trailing_whitespace cs) ≡ false → list_any is_line_end (cond b [] (c ∷ drop_trailing_whitespace cs)) ≡ false
+    kept true p q = refl
+    kept false p q = rw (p, q) refl
+
+-- a text without line ends can stand in a line, once it is trimmed
+pub is_line_text-trimmed : (cs : List ℕ) → list_any is_line_end cs ≡ false → is_line_text (drop_trailing_whitespace cs) ≡ true
+is_line_text-trimmed cs h = is_line_text-from_parts (drop_trailing_whitespace cs) (unended-trimmed cs h) (ends_white-trimmed cs)
+
+-- ---- the lines of a text
+
+unended-shown : (c : ℕ) → is_line_end c ≡ false → is_line_end (shown c) ≡ false
+unended-shown c h = by (c == 11 || c == 12) h
+  where
+    by : (b : Bool) → is_line_end c ≡ false → is_line_end (cond b 32 c) ≡ false
+    by true h = refl
+    by false h = h
+
+unended-spaces : (n : ℕ) (cs : List ℕ) → list_any is_line_end cs ≡ false → list_any is_line_end (replicate n 32 ++ cs) ≡ false
+unended-spaces zero cs h = h
+unended-spaces (suc n) cs h = unended-spaces n cs h
+
+unended-expanded : (tab column : ℕ) (cs : List ℕ) → list_any is_line_end cs ≡ false → list_any is_line_end (expanded_from tab column cs) ≡ false
+unended-expanded tab column [] h = refl
+unended-expanded tab column (c ∷ cs) h =
+    let t = or_false (is_line_end c) (list_any is_line_end cs) h in
+    let wide = tab - column % tab in
+    by (c == 9) (replicate wide 32 ++ expanded_from tab (column + wide) cs) (expanded_from tab (column + 1) cs)
+    (unended-spaces wide (expanded_from tab (column + wide) cs) (unended-expanded tab (column + wide) cs t.1)) (unended-shown c t.0) (unended-expanded tab (column + 1) cs t.1)
+  where
+    by : (b : Bool) (xs ys : List ℕ) → list_any is_line_end xs ≡ false → is_line_end (shown c) ≡ false → list_any is_line_end ys ≡ false
+        → list_any is_line_end (cond b xs (shown c ∷ ys)) ≡ false
+    by true xs ys p q r = p
+    by false xs ys p q r = rw (q, r) refl
+
+-- no piece holds a line end
+abbrev AreUnended : List (List ℕ) → Type 0
+AreUnended [] = Unit {0}
+AreUnended (p ∷ ps) = (list_any is_line_end p ≡ false) × AreUnended ps
+
+AreUnended-pieces : (cs : List ℕ) → AreUnended (pieces cs)
+AreUnended-pieces [] = tt
+AreUnended-pieces (c ∷ cs) = by (c == 13 && begins_with 10 cs) (is_line_end c) refl (pieces cs) (AreUnended-pieces cs)
+  where
+    onto : is_line_end c ≡ false → (ps : List (List ℕ)) → AreUnended ps → AreUnended (onto_first c ps)
+    onto e [] h = (rw e refl, tt)
+    onto e (p ∷ ps) h = (rw (e, h.0) refl, h.1)
+
+    by : (a b : Bool) → is_line_end c ≡ b → (ps : List (List ℕ)) → AreUnended ps → AreUnended (cond a ps (cond b ([] ∷ ps) (onto_first c ps)))
+    by true b e ps h = h
+    by false true e ps h = (refl, h)
+    by false false e ps h = onto e ps h
+
+pub is_line_text-tidied : (tab : ℕ) (piece : List ℕ) → list_any is_line_end piece ≡ false → is_line_text (tidied tab piece) ≡ true
+is_line_text-tidied tab piece h = is_line_text-trimmed (expanded_from tab 0 piece) (unended-expanded tab 0 piece h)
+
+are_lines-numbered : (tab n : ℕ) (ps : List (List ℕ)) → AreUnended ps → are_lines (numbered_from n (map (tidied tab) ps)) ≡ true
+are_lines-numbered tab n [] h = refl
+are_lines-numbered tab n (p ∷ ps) h = both (is_line_text (tidied tab p)) (are_lines (numbered_from (n + 1) (map (tidied tab) ps))) (is_line_text-tidied tab p h.0) (are_lines-numbered tab (n + 1) ps h.1)
+
+pub are_lines-lines_of : (tab : ℕ) (text : List ℕ) → are_lines (lines_of tab text) ≡ true
+are_lines-lines_of tab text = are_lines-numbered tab 1 (pieces text) (AreUnended-pieces text)

@@ -1,0 +1,20 @@
+-- Where lines may be cut.
+use Rattle.std.specs.Prelude.{ℕ, List, [], ◌∷◌, drop, string_bytes, Bool, true, ◌||◌, ◌&&◌, nat_le}
+use Rattle.std.specs.Str.{is_utf8}
+use Rattle.rst_text.specs.Block.{Block, indentation, is_blank}
+use Rattle.rst_text.specs.declared.lines.SourceLine.{SourceLine}
+
+-- what is left of each line without its first n bytes is text; a shorter line leaves nothing
+abbrev pub each_may_cut : ℕ → List SourceLine → Bool
+each_may_cut n [] = true
+each_may_cut n (l ∷ ls) = is_utf8 (drop n (string_bytes l.text)) && each_may_cut n ls
+
+-- the first line may be cut by f bytes, each other by r
+abbrev pub may_cut_at : ℕ → ℕ → List SourceLine → Bool
+may_cut_at f r [] = true
+may_cut_at f r (l ∷ ls) = is_utf8 (drop f (string_bytes l.text)) && each_may_cut r ls
+
+-- each line is blank or indented by n
+abbrev pub is_indented : ℕ → Block → Bool
+is_indented n [] = true
+is_indented n (l ∷ ls) = (is_blank l.text || nat_le n (indentation l.text)) && is_indented n ls

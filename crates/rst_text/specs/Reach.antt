@@ -1,0 +1,20 @@
+-- How many lines have to be looked at to find where a construct ends.
+use Rattle.std.specs.Prelude.{ℕ, suc, ◌+◌, [], ◌∷◌, drop, nat_le, if◌then◌else◌}
+use Rattle.rst_text.specs.Block.{Block, indentation, is_blank}
+
+-- how many lines are looked at to find an extent: all of them, and those after it through the one that stops it
+unfoldable pub looked : ℕ → Block → ℕ
+looked least [] = 0
+looked least (l ∷ ls) =
+    if is_blank l.text then suc (looked least ls)
+    else if nat_le least (indentation l.text) then suc (looked least ls)
+    else 1
+
+-- how many lines there are through the first that isn't blank; all of them, if there is none
+unfoldable pub through_text : Block → ℕ
+through_text [] = 0
+through_text (l ∷ ls) = if is_blank l.text then suc (through_text ls) else 1
+
+-- the lines of a construct of n lines at the front, and those through the first one after it that isn't blank
+abbrev pub reach : ℕ → Block → ℕ
+reach n X = n + through_text (drop n X)

@@ -1,0 +1,7 @@
+//! Laws on the definitions, each by a function that does nothing and whose contract is the law.
+ghost use Rattle.rst_text.specs.Laws.{CutsCompose};
+
+/// A cut of a cut of a block is one cut of the block.
+pub fn cut_of_cut_is_cut()
+    ensures { CutsCompose }
+{}

@@ -1,0 +1,181 @@
+//! A part of a text's lines, cut on the left.
+ghost use Rattle.std.specs.Prelude.{◌≡◌, ◌+◌, ◌-◌, ◌^◌, ◌<◌, ◌≤◌, length, drop, take, ◌==◌, if◌then◌else◌, slice_index_or, IsTrue};
+ghost use Rattle.std.specs.Str.{chars};
+ghost use Rattle.rst_text.specs.Extent as extents;
+ghost use Rattle.rst_text.specs.Lines.{are_lines};
+ghost use Rattle.rst_text.specs.MayCut.{may_cut_at, is_indented};
+ghost use Rattle.rst_text.specs.Source.{block_from};
+
+use super::lines::{Lines, SourceLine};
+use super::looks::Looks;
+use super::text::{indentation, skip, tail};
+
+/// Some neighbouring lines, the first without some characters at its front and the others without some spaces at
+/// theirs. It borrows the lines and copies nothing. Contracts see it by `block_of`, as a block.
+#[derive(Clone, Copy)]
+pub struct View<'a> {
+    lines: &'a [SourceLine],
+    from: usize,
+    to: usize,
+    // Cuts are kept in bytes, so that a look costs no walk over the characters that are cut.
+    first: usize,
+    rest: usize,
+    ghost ordered: { from ≤ to },
+    ghost fits: { to ≤ length lines.now },
+    ghost may_cut: { IsTrue (may_cut_at first rest (take (to - from) (drop from lines.now))) },
+    ghost of_lines: { IsTrue (are_lines (block_from lines.now)) },
+}
+
+/// Lines that are blank or indented: the place after the last of them that isn't blank, the least indentation of
+/// those that aren't blank (in spaces, 0 if there is none), and whether a blank line or the end of the view follows.
+#[derive(Debug, Clone, Copy, PartialEq, Eq)]
+pub struct Extent {
+    pub end: usize,
+    pub indent: usize,
+    pub blank_finish: bool,
+}
+
+/// The lesser of two indentations, if there is one already.
+fn lower(least: Option<usize>, n: usize) -> usize
+    ensures { result ≡ extents.lower least n }
+{
+    match least {
+        Some(m) => m.min(n),
+        None => n,
+    }
+}
+
+fn line_at(lines: &[SourceLine], i: usize) -> &SourceLine
+    requires { i < length lines.now }
+    ensures { result.now ≡ slice_index_or lines.now i result.now }
+{
+    &lines[i]
+}
+
+impl<'a> View<'a> {
+    ghost use Rattle.rst_text.specs.Block.{cut, front_text, first_number};
+    ghost use Rattle.rst_text.specs.Shown.{block_of};
+    ghost use Rattle.rst_text.specs.Extent.{at_least, extent_of};
+    ghost use Rattle.rst_text.specs.Reach.{looked};
+
+    /// All the lines, without a cut.
+    pub fn whole(lines: &'a Lines) -> View<'a>
+        ensures { block_of result ≡ lines.now }
+    {
+        let lines = lines.lines.as_slice();
+        View {
+            lines,
+            from: 0,
+            to: lines.len(),
+            first: 0,
+            rest: 0,
+        }
+    }
+
+    /// How many lines there are.
+    pub fn len(&self) -> usize
+        ensures { result ≡ length (block_of self.now) }
+    {
+        self.to - self.from
+    }
+
+    /// The line of the text that is the view's line at place `i`.
+    fn source(&self, i: usize) -> &'a SourceLine
+        requires { i < length (block_of self.now) }
+        ensures { result.now ≡ slice_index_or self.now.lines.now (self.now.from + i) result.now }
+    {
+        line_at(self.lines, self.from + i)
+    }
+
+    /// How many bytes the line at place `i` lacks.
+    fn cut_at(&self, i: usize) -> usize
+        ensures { result ≡ (if i == 0 then self.now.first else self.now.rest) }
+    {
+        if i == 0 { self.first } else { self.rest }
+    }
+
+    /// The text of a line, not charged.
+    fn text(&self, i: usize) -> &'a str
+        requires { i < length (block_of self.now) }
+        ensures { chars result.now ≡ front_text (drop i (block_of self.now)) }
+    {
+        tail(self.source(i).text.as_str(), self.cut_at(i))
+    }
+
+    /// The number that the line at place `i`, counted from 0, has in its document, from 1 on.
+    pub fn number(&self, i: usize) -> usize
+        requires { i < length (block_of self.now) }
+        ensures { result ≡ first_number (drop i (block_of self.now)) }
+    {
+        self.source(i).number
+    }
+
+    /// The text of the line at place `i`, counted from 0, at the price of one look.
+    pub fn line(&self, i: usize, looks: &mut Looks) -> &'a str
+        requires inside { i < length (block_of self.now) }
+        requires few { looks.old < 2 ^ 121 }
+        ensures text { chars result.now ≡ front_text (drop i (block_of self.now)) }
+        ensures looks { looks.new ≡ looks.old + 1 }
+    {
+        looks.look();
+        self.text(i)
+    }
+
+    /// The lines at places `from` to `to - 1`, the first without `first_cut` characters and the others without
+    /// `rest_cut` spaces, of which a blank line may have fewer. A cut may be longer than its line, and leaves nothing.
+    pub fn part(&self, from: usize, to: usize, first_cut: usize, rest_cut: usize) -> View<'a>
+        requires in_order { from ≤ to }
+        requires in_range { to ≤ length (block_of self.now) }
+        requires spaces { IsTrue (is_indented rest_cut (take (to - (from + 1)) (drop (from + 1) (block_of self.now)))) }
+        ensures { block_of result ≡ cut (block_of self.now) from to first_cut rest_cut }
+    {
+        let mut first = 0;
+        if from < to {
+            let text = self.source(from).text.as_str();
+            let left = skip(tail(text, self.cut_at(from)), first_cut);
+            first = text.len() - left.len();
+        }
+        View {
+            lines: self.lines,
+            from: self.from + from,
+            to: self.from + to,
+            first,
+            rest: self.rest.saturating_add(rest_cut),
+        }
+    }
+
+    /// The lines from place `from` on that are blank or indented, by at least `least` spaces if that is given, blank
+    /// ones at their end left off. It looks once at each line from `from` through the one that stops it.
+    pub fn block_end(&self, from: usize, least: Option<usize>, looks: &mut Looks) -> Extent
+        requires inside { from ≤ length (block_of self.now) }
+        requires few { looks.old < 2 ^ 121 }
+        ensures extent { result ≡ extent_of from (at_least least) (drop from (block_of self.now)) }
+        ensures looks { looks.new ≡ looks.old + looked (at_least least) (drop from (block_of self.now)) }
+    {
+        let enough = least.unwrap_or(1);
+        let mut end = from;
+        let mut lowest: Option<usize> = None;
+        for i in from..self.len() {
+            looks.look();
+            let text = self.text(i);
+            if text.is_empty() {
+                continue;
+            }
+            let indent = indentation(text);
+            if indent < enough {
+                return Extent {
+                    end,
+                    indent: lowest.unwrap_or(0),
+                    blank_finish: end < i,
+                };
+            }
+            lowest = Some(lower(lowest, indent));
+            end = i + 1;
+        }
+        Extent {
+            end,
+            indent: lowest.unwrap_or(0),
+            blank_finish: true,
+        }
+    }
+}
