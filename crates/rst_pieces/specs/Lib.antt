@@ -1,5 +1,4 @@
 pub mod Characters
-pub mod Places
 pub mod Escapes
 pub mod Tails
 pub mod Names

@@ -3,7 +3,7 @@ use Rattle.std.specs.Prelude.{ℕ, ◌+◌, ◌-◌, Bool, true, false, not, ◌
 use Rattle.std.specs.Option.{is_some}
 use Rattle.rst_pieces.specs.Characters.{Text, has, is_dark, is_pair}
 use Rattle.rst_pieces.specs.Escapes.{is_escaped}
-use Rattle.rst_pieces.specs.Places.{first_from}
+use Rattle.rst_text.specs.Places.{first_from}
 use Rattle.rst_pieces.specs.declared.piece.Tail.{Tail}
 use Rattle.rst_pieces.specs.Tails.{or_else, name_tail, role_tail, bare_tail}
 use Rattle.rst_pieces.specs.Names.{role_end}

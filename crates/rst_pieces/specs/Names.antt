@@ -3,7 +3,7 @@
 use Rattle.std.specs.Prelude.{ℕ, ◌+◌, ◌-◌, Bool, true, false, not, ◌&&◌, ◌||◌, ◌==◌, nat_lt, Option, None, Some, slice_index, length, if◌then◌else◌}
 use Rattle.std.specs.Option.{is_some}
 use Rattle.rst_pieces.specs.Characters.{Text, has, is_alnum_at}
-use Rattle.rst_pieces.specs.Places.{first_from, last_from, all_from}
+use Rattle.rst_text.specs.Places.{first_from, last_from, all_from}
 use Rattle.rst_pieces.specs.declared.piece.Tail.{Tail}
 use Rattle.rst_pieces.specs.Tails.{name_tail}
 use Rattle.rst_pieces.specs.declared.piece.Kind.TheVariants.{Reference}

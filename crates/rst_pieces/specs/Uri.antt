@@ -2,7 +2,7 @@
 use Rattle.std.specs.Prelude.{◌≡◌, ℕ, ◌+◌, ◌-◌, Bool, true, false, not, ◌&&◌, ◌||◌, ◌==◌, nat_lt, List, [], ◌∷◌, Option, None, Some, slice_index, length, unwrap_or, codes, if◌then◌else◌}
 use Rattle.std.specs.Char.{to_ascii_lowercase, is_ascii_alphanumeric}
 use Rattle.rst_pieces.specs.Characters.{Text, is_among, is_free_behind}
-use Rattle.rst_pieces.specs.Places.{first_from, last_from}
+use Rattle.rst_text.specs.Places.{first_from, last_from}
 use Rattle.rst_pieces.specs.declared.piece.Kind.TheVariants.{Uri}
 use Rattle.rst_pieces.specs.declared.piece.Piece.{Piece}
 

@@ -1,5 +1,5 @@
 //! Escapes by backslashes.
-ghost use Rattle.std.specs.Prelude.{◌≡◌};
+ghost use Rattle.std.specs.Prelude.{◌≡◌, string_bytes, encode_utf8_all};
 ghost use Rattle.std.specs.Str.{chars};
 ghost use Rattle.rst_text.specs.Text.{chars_of};
 ghost use Rattle.rst_pieces.specs.Escapes.{escapes, unescaped};
@@ -31,21 +31,25 @@ pub fn characters_of(alloc: Global, text: &str) -> Result<Vec<char>, InlineFault
 pub fn unescape(alloc: Global, text: &str) -> Result<String, InlineFault>
     ensures { Gives (λ out. chars_of out ≡ unescaped (chars text.now)) result }
 {
+    let characters = characters_of(alloc, text)?;
+    unescaped(alloc, &characters)
+}
+
+/// The characters without their escapes, as [`unescape`] gives them. The only refusal is [`InlineFault::NoMemory`].
+pub fn unescaped(alloc: Global, text: &[char]) -> Result<String, InlineFault>
+    ensures { Gives (λ out. string_bytes out ≡ encode_utf8_all (unescaped text.now)) result }
+{
     let mut out = String::new(alloc);
     let mut escaped = false;
-    for c in text.chars() {
-        if escaped {
-            if !is_white(c) {
-                out.push(c)?;
+    for c in text {
+        if *c == '\\' && !escaped {
+            escaped = true;
+        } else {
+            if !(escaped && is_white(*c)) {
+                out.push(*c)?;
             }
             escaped = false;
-            continue;
         }
-        if c == '\\' {
-            escaped = true;
-            continue;
-        }
-        out.push(c)?;
     }
     Ok(out)
 }

@@ -14,7 +14,7 @@ mod scanner;
 mod tails;
 mod uri;
 
-pub use escapes::{characters_of, unescape};
+pub use escapes::{characters_of, unescape, unescaped};
 pub use fault::InlineFault;
 pub use laws::one_list_of_pieces;
 pub use piece::{Kind, Markup, Piece, Suffix};

@@ -131,7 +131,7 @@ impl Markup {
     pub(crate) fn end(self, text: &[char], place: usize, start: usize) -> Option<usize>
         requires mark { has_start self text.now start ≡ true }
         requires order { place ≤ start }
-        requires below { start < length text.now }
+        requires below { start ≤ length text.now }
         ensures exact { result ≡ end_of self text.now place start }
         ensures within { IfSome result (λ end. end < length text.now) }
     {

@@ -72,7 +72,7 @@ impl Missing {
     pub(crate) fn end(&mut self, markup: Markup, text: &[char], place: usize, start: usize) -> Option<usize>
         requires mark { has_start markup text.now start ≡ true }
         requires order { place ≤ start }
-        requires below { start < length text.now }
+        requires below { start ≤ length text.now }
         requires known { IsMissing text.now self.old place }
         ensures exact { result ≡ end_of markup text.now place start }
         ensures within { IfSome result (λ end. end < length text.now) }
