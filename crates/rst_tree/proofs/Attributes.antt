@@ -1,0 +1,87 @@
+-- Attributes put at their places.
+use Rattle.std.proofs.lemmas.Bool.{eqb-true}
+use Rattle.std.proofs.Common.{nat_eq, ◌∙◌, Bool, ℕ, sym, ◌≡◌, ◌+◌, ◌≤◌, List, [], ◌∷◌, length, drop, set, add-one, refl, ap, arith, true, false, nat_lt}
+use Rattle.std.specs.Prelude.{if◌then◌else◌}
+use Rattle.std.specs.List.{insert}
+use Rattle.rst_tree.specs.declared.attrs.Attr.{Attr}
+use Rattle.rst_tree.specs.declared.attrs.Value.{Value}
+use Rattle.rst_tree.specs.declared.key.Key.{Key}
+use Rattle.rst_tree.specs.KeyNames.{key_code, is_same}
+use Rattle.rst_tree.specs.Tree.{in_order}
+use Rattle.std.specs.Prelude.{◌&&◌}
+use Rattle.rst_tree.specs.Attributes.{attr, places_below, with_attr, is_at}
+
+pub places_below-le : (k : Key) (xs : List Attr) → places_below k xs ≤ length xs
+places_below-le k [] = omega arith
+places_below-le k (a ∷ xs) =
+    elim (nat_lt (key_code a.key) (key_code k)) as (λ v. (if v then places_below k xs + 1 else 0) ≤ length (a ∷ xs))
+    [ true ↦ omega (arith, places_below-le k xs) | false ↦ omega arith ]
+
+-- a value in place of the one before
+pub set_there : (k : Key) (v : Value) (xs : List Attr) → is_at k (drop (places_below k xs) xs) ≡ true → set xs (places_below k xs) (attr k v) ≡ with_attr k v xs
+set_there k v [] h = cc
+set_there k v (a ∷ xs) h =
+    elim (nat_lt (key_code a.key) (key_code k)) as (λ b. is_at k (drop (if b then places_below k xs + 1 else 0) (a ∷ xs)) ≡ true
+    → set (a ∷ xs) (if b then places_below k xs + 1 else 0) (attr k v) ≡ (if b then a ∷ with_attr k v xs else (if is_same a.key k then attr k v ∷ xs else attr k v ∷ a ∷ xs))) [
+      | true ↦ λ h. rw add-one (ap (λ ys. a ∷ ys) (set_there k v xs (rw add-one at h)))
+      | false ↦ λ h. rw h refl
+    ] h
+
+-- a new attribute between its neighbours
+pub put_there : (k : Key) (v : Value) (xs : List Attr) → is_at k (drop (places_below k xs) xs) ≡ false → insert xs (places_below k xs) (attr k v) ≡ with_attr k v xs
+put_there k v [] h = refl
+put_there k v (a ∷ xs) h =
+    elim (nat_lt (key_code a.key) (key_code k)) as (λ b. is_at k (drop (if b then places_below k xs + 1 else 0) (a ∷ xs)) ≡ false
+    → insert (a ∷ xs) (if b then places_below k xs + 1 else 0) (attr k v) ≡ (if b then a ∷ with_attr k v xs else (if is_same a.key k then attr k v ∷ xs else attr k v ∷ a ∷ xs))) [
+      | true ↦ λ h. rw add-one (ap (λ ys. a ∷ ys) (put_there k v xs (rw add-one at h)))
+      | false ↦ λ h. rw h refl
+    ] h
+
+both : (a b : Bool) → (a && b) ≡ true → (a ≡ true) × (b ≡ true)
+both true b h = (refl, h)
+both false b h = cc
+
+and_both : (a b : Bool) → a ≡ true → b ≡ true → (a && b) ≡ true
+and_both a b h k = rw (h, k) refl
+
+-- a name is before another one, the same, or behind it
+trichotomy : (m n : ℕ) → nat_lt m n ≡ false → nat_eq m n ≡ false → nat_lt n m ≡ true
+trichotomy m n h k = grind (arith, h, k)
+
+same_before : (m n p : ℕ) → nat_eq m n ≡ true → nat_lt m p ≡ nat_lt n p
+same_before m n p h = let e : m ≡ n = eqb-true m n h in rw e refl
+
+-- the head of the attributes with k is no earlier than a name that is before k and before the old head
+rises : (k : Key) (v : Value) (a : Attr) (xs : List Attr) → nat_lt (key_code a.key) (key_code k) ≡ true → in_order (a ∷ xs) ≡ true → in_order (with_attr k v xs) ≡ true → in_order (a ∷ with_attr k v xs) ≡ true
+rises k v a [] low h g = and_both _ _ low refl
+rises k v a (b ∷ xs) low h g =
+    let p = both (nat_lt (key_code a.key) (key_code b.key)) (in_order (b ∷ xs)) h in
+    elim (nat_lt (key_code b.key) (key_code k)) as (λ z. in_order (if z then b ∷ with_attr k v xs else (if is_same b.key k then attr k v ∷ xs else attr k v ∷ b ∷ xs)) ≡ true
+    → in_order (a ∷ (if z then b ∷ with_attr k v xs else (if is_same b.key k then attr k v ∷ xs else attr k v ∷ b ∷ xs))) ≡ true) [
+      | true ↦ λ g. and_both _ _ p.0 g
+      | false ↦ elim (is_same b.key k) as (λ y. in_order (if y then attr k v ∷ xs else attr k v ∷ b ∷ xs) ≡ true → in_order (a ∷ (if y then attr k v ∷ xs else attr k v ∷ b ∷ xs)) ≡ true)
+          [ true ↦ λ g. and_both _ _ low g | false ↦ λ g. and_both _ _ low g ]
+    ] g
+
+head_same : (k : Key) (v : Value) (a : Attr) (xs : List Attr) → is_same a.key k ≡ true → in_order (a ∷ xs) ≡ true → in_order (attr k v ∷ xs) ≡ true
+head_same k v a [] same h = refl
+head_same k v a (b ∷ xs) same h =
+    let p = both (nat_lt (key_code a.key) (key_code b.key)) (in_order (b ∷ xs)) h in
+    and_both _ _ (sym (same_before (key_code a.key) (key_code k) (key_code b.key) same) ∙ p.0) p.1
+
+rest : (a : Attr) (xs : List Attr) → in_order (a ∷ xs) ≡ true → in_order xs ≡ true
+rest a [] h = refl
+rest a (b ∷ xs) h = (both (nat_lt (key_code a.key) (key_code b.key)) (in_order (b ∷ xs)) h).1
+
+pub in_order-with_attr : (k : Key) (v : Value) (xs : List Attr) → in_order xs ≡ true → in_order (with_attr k v xs) ≡ true
+in_order-with_attr k v [] h = refl
+in_order-with_attr k v (a ∷ xs) h =
+    let tail = in_order-with_attr k v xs (rest a xs h) in
+    elim (nat_lt (key_code a.key) (key_code k)) as (λ z. nat_lt (key_code a.key) (key_code k) ≡ z → in_order (if z then a ∷ with_attr k v xs else (if is_same a.key k then attr k v ∷ xs else attr k v ∷ a ∷ xs)) ≡ true) [
+      | true ↦ λ low. rises k v a xs low h tail
+      | false ↦ λ high.
+          elim (is_same a.key k) as (λ y. is_same a.key k ≡ y → in_order (if y then attr k v ∷ xs else attr k v ∷ a ∷ xs) ≡ true) [
+            | true ↦ λ same. head_same k v a xs same h
+            | false ↦ λ other. and_both _ _ (trichotomy (key_code a.key) (key_code k) high other) h
+          ] refl
+    ] refl

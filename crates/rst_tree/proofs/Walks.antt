@@ -1,0 +1,129 @@
+-- A walk changes the elements as a fold over their preorder list does, and nothing else.
+use Rattle.std.proofs.Common.{◌≡◌, ℕ, ◌+◌, ◌<◌, List, [], ◌∷◌, ◌++◌, ◌≤◌, length, take, drop, get_or, set, length-set, arith, append_assoc, append-nil, add-one, add-zero, zero, suc, refl, sym, ◌∙◌, ap}
+use Rattle.std.proofs.lemmas.List.{take_more_set, drop-set-lt, drop_all, take_all, get_or-drop}
+use Rattle.rst_tree.proofs.Changes.{nodes_of-forest_of, forest_of-nodes_of}
+use Rattle.rst_tree.proofs.Tests.{drop_item}
+use Rattle.rst_tree.specs.declared.attrs.Attr.{Attr}
+use Rattle.rst_tree.specs.declared.tag.Tag.{Tag}
+use Rattle.rst_tree.specs.declared.node.Node.{Node}
+use Rattle.rst_tree.specs.declared.node.Node.TheVariants.{Element, Text}
+use Rattle.rst_tree.specs.Forest.{Forest, bare, element, words, height}
+use Rattle.rst_tree.specs.Nodes.{forest_of, nodes_of, join_node, node_height}
+use Rattle.rst_tree.proofs.PrintedParts.{node_height-le}
+use Rattle.rst_tree.specs.Walk.{Item, item, items, node_items, after, scanned, walked, walked_node, shape, node_shape, no_shape, branch, leaf}
+
+-- one item less
+drop_next : {X : Type 0} (i : ℕ) (xs : List X) → drop (i + 1) xs ≡ drop 1 (drop i xs)
+drop_next zero [] = refl
+drop_next zero (x ∷ xs) = refl
+drop_next (suc i) [] = rw add-one refl
+drop_next (suc i) (x ∷ xs) = rw add-one (rw add-one at (drop_next i xs))
+
+same_item : {X : Type 0} (i : ℕ) (xs ys : List X) (d : X) → drop i xs ≡ drop i ys → get_or xs i d ≡ get_or ys i d
+same_item i xs ys d same =
+    let e : get_or (drop i xs) 0 d ≡ get_or xs i d = rw add-zero at (get_or-drop i xs 0 d) in
+    let f : get_or (drop i ys) 0 d ≡ get_or ys i d = rw add-zero at (get_or-drop i ys 0 d) in
+    sym e ∙ ap (λ zs. get_or zs 0 d) same ∙ f
+
+module _ {S : Type 0} (next : S → Item → S) (out : S → Item → Item) where
+  pub after-append : (s : S) (xs ys : List Item) → after next out s (xs ++ ys) ≡ after next out (after next out s xs) ys
+  after-append s [] ys = refl
+  after-append s (x ∷ xs) ys = after-append (next s x) xs ys
+
+  pub scanned-append : (s : S) (xs ys : List Item) → scanned next out s (xs ++ ys) ≡ scanned next out s xs ++ scanned next out (after next out s xs) ys
+  scanned-append s [] ys = refl
+  scanned-append s (x ∷ xs) ys = ap (λ zs. out s x ∷ zs) (scanned-append (next s x) xs ys)
+
+  -- the elements after a walk are the fold's
+  pub items-walked : (s : S) (f : Forest) → items (walked next out s f) ≡ scanned next out s (items f)
+  items-walked s bare = refl
+  items-walked s (element t a c l r) =
+      let x : Item = record { tag = t; attrs = a; line = l } in
+      rw (items-walked (next s x) c, items-walked (after next out (next s x) (items c)) r, scanned-append (next s x) (items c) (items r)) refl
+  items-walked s (words t r) = items-walked s r
+
+  -- and the shape stays
+  pub shape-walked : (s : S) (f : Forest) → shape (walked next out s f) ≡ shape f
+  shape-walked s bare = refl
+  shape-walked s (element t a c l r) =
+      let x : Item = record { tag = t; attrs = a; line = l } in
+      rw (shape-walked (next s x) c, shape-walked (after next out (next s x) (items c)) r) refl
+  shape-walked s (words t r) = ap (leaf t) (shape-walked s r)
+
+  -- a forest's walk is its nodes' walks, one after another
+  pub items-cons : (n : Node) (ns : List Node) → items (forest_of (n ∷ ns)) ≡ node_items n ++ items (forest_of ns)
+  items-cons (Element t a c l) ns = refl
+  items-cons (Text t) ns = refl
+
+  pub walked-cons : (s : S) (n : Node) (ns : List Node) → walked next out s (forest_of (n ∷ ns)) ≡ join_node (walked_node next out s n) (walked next out (after next out s (node_items n)) (forest_of ns))
+  walked-cons s (Element t a c l) ns = refl
+  walked-cons s (Text t) ns = refl
+
+  -- the nodes of a walk
+  pub nodes_of-join : (n : Node) (f : Forest) → nodes_of (join_node n f) ≡ n ∷ nodes_of f
+  nodes_of-join (Element t a c l) f = refl
+  nodes_of-join (Text t) f = refl
+
+  -- a walk over an element's nodes, before node i: the nodes before it are done
+  pub record Left (children : Forest) (start : S) (now : Forest) (state : S) (i : ℕ) : Type 0 where
+    pub same_len : length (nodes_of now) ≡ length (nodes_of children)
+    pub rest : drop i (nodes_of now) ≡ drop i (nodes_of children)
+    pub nodes : take i (nodes_of now) ++ nodes_of (walked next out state (forest_of (drop i (nodes_of now)))) ≡ nodes_of (walked next out start children)
+    pub done : after next out state (items (forest_of (drop i (nodes_of now)))) ≡ after next out start (items children)
+
+  pub Left-init : (c : Forest) (s : S) → Left c s c s 0
+  Left-init c s = record { same_len = refl; rest = refl; nodes = ap (λ f. nodes_of (walked next out s f)) (forest_of-nodes_of c); done = ap (λ f. after next out s (items f)) (forest_of-nodes_of c) }
+
+  pub Left-more : (children : Forest) (start : S) (now : Forest) (state : S) (i : ℕ) (child new : Node) (state' : S) → Left children start now state i → i < length (nodes_of now)
+      → child ≡ get_or (nodes_of now) i child → new ≡ walked_node next out state child → state' ≡ after next out state (node_items child)
+      → Left children start (forest_of (set (nodes_of now) i new)) state' (i + 1)
+  Left-more children start now state i child new state' left fits is changed moved =
+      let ns = nodes_of now in
+      let set_is : nodes_of (forest_of (set ns i new)) ≡ set ns i new = nodes_of-forest_of (set ns i new) in
+      let parts : drop i ns ≡ child ∷ drop (i + 1) ns = drop_item ns i child fits is in
+      let kept : drop (i + 1) (set ns i new) ≡ drop (i + 1) ns = drop-set-lt (i + 1) ns i new (omega arith) in
+      let others : drop (i + 1) ns ≡ drop (i + 1) (nodes_of children) = drop_next i ns ∙ ap (drop 1) left.rest ∙ sym (drop_next i (nodes_of children)) in
+      let nodes_then :
+      take i ns ++ (walked_node next out state child ∷ nodes_of (walked next out (after next out state (node_items child)) (forest_of (drop (i + 1) ns)))) ≡ nodes_of (walked next out start children) =
+      rw (parts, walked-cons state child (drop (i + 1) ns), nodes_of-join (walked_node next out state child) (walked next out (after next out state (node_items child)) (forest_of (drop (i + 1) ns)))) at left.nodes in
+      let done_then : after next out (after next out state (node_items child)) (items (forest_of (drop (i + 1) ns))) ≡ after next out start (items children) =
+      rw (parts, items-cons child (drop (i + 1) ns), after-append state (node_items child) (items (forest_of (drop (i + 1) ns)))) at left.done in
+      record {
+        same_len = rw (set_is, length-set ns i new) left.same_len;
+        rest = rw (set_is, kept) others;
+        nodes = rw (set_is, take_more_set ns i new fits, kept, changed, moved, append_assoc (take i ns) (walked_node next out state child ∷ [])) nodes_then;
+        done = rw (set_is, kept, moved) done_then;
+      }
+
+  pub Left-nodes : (children : Forest) (start : S) (now : Forest) (state : S) (i : ℕ) → Left children start now state i → length (nodes_of now) ≤ i → now ≡ walked next out start children
+  Left-nodes children start now state i left all =
+      sym (forest_of-nodes_of now)
+      ∙ ap forest_of (sym (append-nil (nodes_of now)) ∙ (rw (take_all i (nodes_of now) all, drop_all i (nodes_of now) all) at left.nodes))
+      ∙ forest_of-nodes_of (walked next out start children)
+
+  pub Left-state : (children : Forest) (start : S) (now : Forest) (state : S) (i : ℕ) → Left children start now state i → length (nodes_of now) ≤ i → state ≡ after next out start (items children)
+  Left-state children start now state i left all = rw (drop_all i (nodes_of now) all) at left.done
+
+  -- the node that is met next is one of the element's
+  pub Left-child : (children : Forest) (start : S) (now : Forest) (state : S) (i : ℕ) (child : Node) → Left children start now state i → i < length (nodes_of now) → child ≡ get_or (nodes_of now) i child
+      → node_height child ≤ height children
+  Left-child children start now state i child left fits is =
+      let k : i < length (nodes_of children) = let e = left.same_len in omega arith in
+      let at : child ≡ get_or (nodes_of children) i child = is ∙ same_item i (nodes_of now) (nodes_of children) child left.rest in
+      let e : node_height child ≡ node_height (get_or (nodes_of children) i child) = ap node_height at in
+      let f : height (forest_of (nodes_of children)) ≡ height children = ap height (forest_of-nodes_of children) in
+      omega (arith, e, f, node_height-le (nodes_of children) i child k)
+
+  -- the element whose own part was changed, and then its nodes
+  pub walked-element : (s s' : S) (node : Node) (t t' : Tag) (a a' : List Attr) (c c' : Forest) (l l' : ℕ) → node ≡ Element t a c l → s' ≡ next s (item t a l) → item t' a' l' ≡ out s (item t a l)
+      → c' ≡ walked next out s' c → Element t' a' c' l' ≡ walked_node next out s node
+  walked-element s s' node t t' a a' c c' l l' is state own nodes =
+      rw (is, nodes, state) (ap (λ (x : Item). Element x.tag x.attrs (walked next out (next s (item t a l)) c) x.line) own)
+
+  pub node_items-walked : (s : S) (n m : Node) → m ≡ walked_node next out s n → node_items m ≡ scanned next out s (node_items n)
+  node_items-walked s (Element t a c l) m is = ap node_items is ∙ ap (λ xs. out s (item t a l) ∷ xs) (items-walked (next s (item t a l)) c)
+  node_items-walked s (Text t) m is = ap node_items is
+
+  pub node_shape-walked : (s : S) (n m : Node) → m ≡ walked_node next out s n → node_shape m ≡ node_shape n
+  node_shape-walked s (Element t a c l) m is = ap node_shape is ∙ ap (λ x. branch x no_shape) (shape-walked (next s (item t a l)) c)
+  node_shape-walked s (Text t) m is = ap node_shape is

@@ -1,0 +1,29 @@
+use Rattle.std.proofs.Common.{rules, ◌≤◌, arith, ◌+◌}
+use Rattle.rst_tree.specs.Nodes.{node_height}
+use Rattle.rst_tree.specs.Print.{printed_node}
+use Rattle.rst_tree.proofs.PrintedParts.{printed-element, printed-words, child_height}
+use Rattle.rst_tree.proofs.Sending.{◌▸◌, Gets-as, Gets-item, Gets-none}
+use Rattle.rst_tree.proofs.output.+put_node.Goals as goal
+
+pub loop-child-init : goal.loop-child-init
+loop-child-init g t c = Gets-none _ _ _
+
+pub put_node-requires : goal.put_node-requires
+put_node-requires g t c =
+    let h : node_height c.child-item.result + 1 ≤ node_height c.args.node.now =
+    child_height c.args.node.now c.child-item.result c.in-Element.tag c.in-Element.attrs c.in-Element.children c.in-Element.line c.as_slice-child-items.result.now c.loop-child.child-index
+    c.in-Element.is c.as_slice-child-items.ensures c.child-item.is (omega arith) in
+    search (rules, h)
+
+pub loop-child-preserved : goal.loop-child-preserved
+loop-child-preserved g t c =
+    Gets-item (printed_node (c.args.level + 1)) _ c.loop-child.child-index _ c.child-item.is (omega arith) c.loop-child.invariant c.put_node.ensures
+
+pub returns-after-loop-child : goal.returns-after-loop-child
+returns-after-loop-child g t c =
+    Gets-as (c.put_indent.ensures ▸ c.put_start_tag.ensures ▸ c.put.ensures ▸ c.loop-child.invariant)
+    (printed-element c.args.level c.args.node.now c.in-Element.tag c.in-Element.attrs c.as_slice.result.now c.in-Element.children c.in-Element.line c.as_slice-child-items.result.now c.loop-child.child-index
+    c.in-Element.is c.as_slice.ensures c.as_slice-child-items.ensures c.loop-child-test.false)
+
+pub returns-in-Text : goal.returns-in-Text
+returns-in-Text g t c = Gets-as c.put_text.ensures (printed-words c.args.level c.args.node.now c.in-Text.text _ c.in-Text.is c.as_bytes.ensures)

@@ -1,0 +1,41 @@
+-- The attributes of an element, in the order of their names (Document Tree, 'Attribute Reference').
+use Rattle.std.specs.Prelude.{ℕ, ◌+◌, Bool, false, if◌then◌else◌, nat_lt, List, [], ◌∷◌, Option, Some, None}
+use Rattle.rst_tree.specs.declared.attrs.Attr.{Attr}
+use Rattle.rst_tree.specs.declared.attrs.Value.{Value}
+use Rattle.rst_tree.specs.declared.key.Key.{Key}
+use Rattle.rst_tree.specs.KeyNames.{key_code, is_same, is_hidden}
+
+abbrev pub attr : Key → Value → Attr
+attr k v = record { key = k; value = v }
+
+-- what the attribute of a name says
+abbrev pub value_of : Key → List Attr → Option Value
+value_of k [] = None
+value_of k (a ∷ more) = if is_same a.key k then Some a.value else value_of k more
+
+-- how many attributes stand before the first whose name isn't before k
+abbrev pub places_below : Key → List Attr → ℕ
+places_below k [] = 0
+places_below k (a ∷ more) = if nat_lt (key_code a.key) (key_code k) then places_below k more + 1 else 0
+
+-- the first of the attributes has the name
+abbrev pub is_at : Key → List Attr → Bool
+is_at k [] = false
+is_at k (a ∷ more) = is_same a.key k
+
+-- the attributes with k saying v, in place of what it said or between the names before and behind it
+abbrev pub with_attr : Key → Value → List Attr → List Attr
+with_attr k v [] = attr k v ∷ []
+with_attr k v (a ∷ more) =
+    if nat_lt (key_code a.key) (key_code k) then a ∷ with_attr k v more
+    else (if is_same a.key k then attr k v ∷ more else attr k v ∷ a ∷ more)
+
+-- the attributes without the one of a name
+abbrev pub without_key : Key → List Attr → List Attr
+without_key k [] = []
+without_key k (a ∷ more) = if is_same a.key k then without_key k more else a ∷ without_key k more
+
+-- the attributes without those that the transforms alone need
+abbrev pub without_hidden : List Attr → List Attr
+without_hidden [] = []
+without_hidden (a ∷ more) = if is_hidden a.key then without_hidden more else a ∷ without_hidden more

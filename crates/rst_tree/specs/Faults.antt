@@ -1,0 +1,36 @@
+-- What calls do that want of memory or a failed write can hinder.
+use Rattle.std.specs.Prelude.{◌≡◌, ℕ, ◌≤◌, List, length, take, true, false, Result, Ok, Err}
+use Rattle.rst_text.specs.Counted.{Stream, Gains}
+use Rattle.rst_tree.specs.declared.fault.TreeFault.{TreeFault}
+use Rattle.rst_tree.specs.declared.fault.TreeFault.TheVariants.{NoMemory}
+use Rattle.rst_tree.specs.declared.fault.PrintFault.{PrintFault}
+use Rattle.rst_tree.specs.declared.fault.PrintFault.TheVariants.{Write}
+use Rattle.rst_tree.specs.Sends.{counted_on}
+
+-- the call gives a value of which this holds, or tells want of memory
+abbrev pub Gives : {A : Type 0} → (A → Type 0) → Result A TreeFault → Type 0
+Gives P (Ok value) = P value
+Gives P (Err NoMemory) = Unit {0}
+
+-- what is changed becomes the wanted value, or stays the old one at want of memory
+abbrev pub Becomes : {A S : Type 0} → S → S → S → Result A TreeFault → Type 0
+Becomes old new wanted (Ok done) = new ≡ wanted
+Becomes old new wanted (Err NoMemory) = new ≡ old
+
+-- the same for a call that takes a node in, and gives it back at want of memory
+abbrev pub GivesBack : {A N S : Type 0} → N → S → S → S → Result A (TreeFault × N) → Type 0
+GivesBack node old new wanted (Ok done) = new ≡ wanted
+GivesBack node old new wanted (Err (NoMemory, back)) = (new ≡ old) × (back ≡ node)
+
+-- the first bytes of the text came, and then a write failed; they are counted up to the largest `usize`
+pub record CutShort (writer : Stream) (text : List ℕ) (done : ℕ) : Type 0 where
+  pub came : ℕ
+  pub within : came ≤ length text
+  pub counted : done ≡ counted_on 0 came
+  pub gained : Gains writer (take came text)
+  pub failed : writer.failed ≡ true
+
+-- the writer gains the whole text and hasn't failed, or its first `done` bytes, and has failed
+abbrev pub Prints : {A : Type 0} → Stream → List ℕ → Result A PrintFault → Type 0
+Prints writer text (Ok done) = Gains writer text × (writer.failed ≡ false)
+Prints writer text (Err (Write done)) = CutShort writer text done

@@ -1,0 +1,106 @@
+-- The names of attributes, in the order of the names (Document Tree, 'Attribute Reference').
+use Rattle.std.specs.Prelude.{ℕ, ◌==◌, Bool, true, false, List, codes}
+use Rattle.rst_tree.specs.declared.key.Key.{Key}
+use Rattle.rst_tree.specs.declared.key.Key.TheVariants.{Align, Alt, Anonymous, Auto, Backrefs, Bullet, Classes, Cols, Colwidth, Delimiter, Dupnames, Enumtype, Height, Ids, Inline, Level, Line, Mark, Message, Morecols, Morerows, Name, Names, OwnName, Prefix, Rawsource, Refid, Refname, Refuri, Scale, Serial, Source, Start, Suffix, TextMessages, Title, Type_, Uri, Width, XmlSpace}
+
+-- the name that is printed
+unfoldable pub key_name : Key → List ℕ
+key_name Align = codes "align"
+key_name Alt = codes "alt"
+key_name Anonymous = codes "anonymous"
+key_name Auto = codes "auto"
+key_name Backrefs = codes "backrefs"
+key_name Bullet = codes "bullet"
+key_name Classes = codes "classes"
+key_name Cols = codes "cols"
+key_name Colwidth = codes "colwidth"
+key_name Delimiter = codes "delimiter"
+key_name Dupnames = codes "dupnames"
+key_name Enumtype = codes "enumtype"
+key_name Height = codes "height"
+key_name Ids = codes "ids"
+key_name Inline = codes "inline"
+key_name Level = codes "level"
+key_name Line = codes "line"
+key_name Mark = codes "mark"
+key_name Message = codes "message"
+key_name Morecols = codes "morecols"
+key_name Morerows = codes "morerows"
+key_name Name = codes "name"
+key_name Names = codes "names"
+key_name OwnName = codes "own_name"
+key_name Prefix = codes "prefix"
+key_name Rawsource = codes "rawsource"
+key_name Refid = codes "refid"
+key_name Refname = codes "refname"
+key_name Refuri = codes "refuri"
+key_name Scale = codes "scale"
+key_name Serial = codes "serial"
+key_name Source = codes "source"
+key_name Start = codes "start"
+key_name Suffix = codes "suffix"
+key_name TextMessages = codes "text_messages"
+key_name Title = codes "title"
+key_name Type_ = codes "type"
+key_name Uri = codes "uri"
+key_name Width = codes "width"
+key_name XmlSpace = codes "xml:space"
+
+-- the place of a name in the order of the names
+abbrev pub key_code : Key → ℕ
+key_code Align = 0
+key_code Alt = 1
+key_code Anonymous = 2
+key_code Auto = 3
+key_code Backrefs = 4
+key_code Bullet = 5
+key_code Classes = 6
+key_code Cols = 7
+key_code Colwidth = 8
+key_code Delimiter = 9
+key_code Dupnames = 10
+key_code Enumtype = 11
+key_code Height = 12
+key_code Ids = 13
+key_code Inline = 14
+key_code Level = 15
+key_code Line = 16
+key_code Mark = 17
+key_code Message = 18
+key_code Morecols = 19
+key_code Morerows = 20
+key_code Name = 21
+key_code Names = 22
+key_code OwnName = 23
+key_code Prefix = 24
+key_code Rawsource = 25
+key_code Refid = 26
+key_code Refname = 27
+key_code Refuri = 28
+key_code Scale = 29
+key_code Serial = 30
+key_code Source = 31
+key_code Start = 32
+key_code Suffix = 33
+key_code TextMessages = 34
+key_code Title = 35
+key_code Type_ = 36
+key_code Uri = 37
+key_code Width = 38
+key_code XmlSpace = 39
+
+-- two attributes have one name
+abbrev pub is_same : Key → Key → Bool
+is_same k j = key_code k == key_code j
+
+-- what the transforms alone need; a finished tree has none of these
+abbrev pub is_hidden : Key → Bool
+is_hidden Inline = true
+is_hidden Mark = true
+is_hidden Message = true
+is_hidden OwnName = true
+is_hidden Rawsource = true
+is_hidden Refname = true
+is_hidden Serial = true
+is_hidden TextMessages = true
+is_hidden _ = false

@@ -1,0 +1,17 @@
+pub mod TagNames
+pub mod KeyNames
+pub mod LevelNames
+pub mod Attributes
+pub mod Forest
+pub mod Nodes
+pub mod Falls
+pub mod Lending
+pub mod Paths
+pub mod Tree
+pub mod Print
+pub mod Message
+pub mod Sends
+pub mod Faults
+pub mod Law
+pub mod Walk
+pub mod Read

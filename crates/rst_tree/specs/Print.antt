@@ -1,0 +1,101 @@
+-- What is printed of a tree: its lines in preorder, each behind its indentation and with its end.
+use Rattle.std.specs.Prelude.{ℕ, ◌+◌, ◌*◌, ◌==◌, ◌&&◌, if◌then◌else◌, Bool, true, false, List, [], ◌∷◌, ◌++◌, map, codes, replicate}
+use Rattle.std.specs.List.{flat_map}
+use Rattle.std.specs.Fmt.{decimal}
+use Rattle.rst_tree.specs.declared.attrs.Attr.{Attr}
+use Rattle.rst_tree.specs.declared.attrs.Value.{Value}
+use Rattle.rst_tree.specs.declared.attrs.Value.TheVariants.{Text, Number, List as Listed}
+use Rattle.rst_tree.specs.declared.key.Key.{Key}
+use Rattle.rst_tree.specs.declared.key.Key.TheVariants.{Ids, Classes, Names, Dupnames, Backrefs}
+use Rattle.rst_tree.specs.declared.tag.Tag.{Tag}
+use Rattle.rst_tree.specs.declared.node.Node.{Node}
+use Rattle.rst_tree.specs.declared.node.Node.TheVariants.{Element, Text as Words}
+use Rattle.rst_tree.specs.KeyNames.{key_name}
+use Rattle.rst_tree.specs.TagNames.{tag_name}
+use Rattle.rst_tree.specs.Forest.{Forest, bare, element, words}
+
+-- a byte of a list's member
+abbrev pub escaped_byte : ℕ → List ℕ
+escaped_byte b = if b == 92 then 92 ∷ 92 ∷ [] else (if b == 32 then 92 ∷ 32 ∷ [] else b ∷ [])
+
+abbrev pub escaped : List ℕ → List ℕ
+escaped = flat_map escaped_byte
+
+-- the members, parted by spaces
+abbrev pub spaced : List (List ℕ) → List ℕ
+spaced [] = []
+spaced (t ∷ ts) = escaped t ++ flat_map (λ u. 32 ∷ escaped u) ts
+
+abbrev pub value_text : Value → List ℕ
+value_text (Text t) = t
+value_text (Number n) = decimal n
+value_text (Listed ts) = spaced ts
+
+-- the lists that aren't shown where they are empty
+abbrev pub hides_empty : Key → Bool
+hides_empty Ids = true
+hides_empty Classes = true
+hides_empty Names = true
+hides_empty Dupnames = true
+hides_empty Backrefs = true
+hides_empty _ = false
+
+abbrev pub is_empty_list : Value → Bool
+is_empty_list (Listed []) = true
+is_empty_list _ = false
+
+abbrev pub is_left_out : Attr → Bool
+is_left_out a = is_empty_list a.value && hides_empty a.key
+
+-- ` name="value"`, or nothing
+abbrev pub shown_attr : Attr → List ℕ
+shown_attr a =
+    if is_left_out a then []
+    else codes " " ++ key_name a.key ++ codes "=\"" ++ value_text a.value ++ codes "\""
+
+-- `<tag attributes>`
+abbrev pub start_tag : Tag → List Attr → List ℕ
+start_tag t attrs = codes "<" ++ tag_name t ++ flat_map shown_attr attrs ++ codes ">"
+
+abbrev pub onto_first : ℕ → List (List ℕ) → List (List ℕ)
+onto_first b [] = (b ∷ []) ∷ []
+onto_first b (l ∷ ls) = (b ∷ l) ∷ ls
+
+-- the lines of a text: each LF ends one, and what stands behind the last LF is one if it isn't empty
+abbrev pub text_lines : List ℕ → List (List ℕ)
+text_lines [] = []
+text_lines (b ∷ bs) = if b == 10 then [] ∷ text_lines bs else onto_first b (text_lines bs)
+
+-- how many bytes come before the first LF
+abbrev pub line_len : List ℕ → ℕ
+line_len [] = 0
+line_len (b ∷ bs) = if b == 10 then 0 else line_len bs + 1
+
+-- a line: its level and its text
+abbrev pub Line : Type 0
+Line = ℕ × List ℕ
+
+-- the lines of the nodes at a level, in preorder
+abbrev pub lines_at : ℕ → Forest → List Line
+lines_at n bare = []
+lines_at n (element t a c l r) = (n, start_tag t a) ∷ (lines_at (n + 1) c ++ lines_at n r)
+lines_at n (words t r) = map (λ l. (n, l)) (text_lines t) ++ lines_at n r
+
+-- four spaces for each level, the text, and the line's end
+abbrev pub printed_line : Line → List ℕ
+printed_line l = replicate (4 * l.0) 32 ++ l.1 ++ 10 ∷ []
+
+abbrev pub printed : List Line → List ℕ
+printed = flat_map printed_line
+
+-- the lines of a node at a level
+abbrev pub node_lines : ℕ → Node → List Line
+node_lines n (Element t a c l) = (n, start_tag t a) ∷ lines_at (n + 1) c
+node_lines n (Words t) = map (λ l. (n, l)) (text_lines t)
+
+-- what is printed of a node at a level, and of a whole tree
+abbrev pub printed_node : ℕ → Node → List ℕ
+printed_node n node = printed (node_lines n node)
+
+abbrev pub print_of : Node → List ℕ
+print_of = printed_node 0

@@ -1,0 +1,72 @@
+-- What is true of each tree.
+use Rattle.std.specs.Prelude.{◌≡◌, Result, Ok, Err, ℕ, ◌&&◌, ◌||◌, ◌==◌, ◌-◌, Bool, true, false, not, length, Option, Some, None, nat_le, nat_lt, List, [], ◌∷◌, ◌++◌}
+use Rattle.std.specs.List.{list_all}
+use Rattle.std.specs.Str.{chars}
+use Rattle.rst_text.specs.Lines.{is_line_end}
+use Rattle.rst_tree.specs.declared.attrs.Attr.{Attr}
+use Rattle.rst_tree.specs.declared.node.Node.{Node}
+use Rattle.rst_tree.specs.declared.node.Node.TheVariants.{Element, Text}
+use Rattle.rst_tree.specs.Forest.{Forest, bare, element, words}
+use Rattle.rst_tree.specs.KeyNames.{key_code}
+use Rattle.rst_tree.specs.Nodes.{node_height}
+use Rattle.rst_tree.specs.Paths.{node_at}
+
+-- the names are in order, and no two are the same
+abbrev pub in_order : List Attr → Bool
+in_order [] = true
+in_order (a ∷ []) = true
+in_order (a ∷ b ∷ more) = nat_lt (key_code a.key) (key_code b.key) && in_order (b ∷ more)
+
+-- a text without line ends other than LF
+abbrev pub is_lines : List ℕ → Bool
+is_lines t = list_all (λ c. (c == 10) || not (is_line_end c)) (chars t)
+
+-- each list of attributes is in order, and each text has no line end but LF
+abbrev pub is_sound : Forest → Bool
+is_sound bare = true
+is_sound (element t a c l r) = (in_order a && is_sound c) && is_sound r
+is_sound (words t r) = is_lines t && is_sound r
+
+abbrev pub is_sound_node : Node → Bool
+is_sound_node (Element t a c l) = in_order a && is_sound c
+is_sound_node (Text t) = is_lines t
+
+-- the most that nodes nest
+abbrev pub most_levels : ℕ
+most_levels = 1350
+
+-- the attributes are in order, the texts hold no line end but LF, and the nodes don't nest too deep
+abbrev pub is_tree : Node → Bool
+is_tree n = nat_le (node_height n) most_levels && is_sound_node n
+
+-- the tree of a node, just where the node is one, or else the node
+abbrev pub IsTreeOf : Node → Result Node Node → Type 0
+IsTreeOf node (Ok tree) = (is_tree node ≡ true) × (tree ≡ node)
+IsTreeOf node (Err back) = (is_tree node ≡ false) × (back ≡ node)
+
+abbrev pub is_element : Option Node → Bool
+is_element None = false
+is_element (Some (Element t a c l)) = true
+is_element (Some (Text t)) = false
+
+-- whether an element is at the path, and the node can stand in it: it is sound, and the levels suffice
+abbrev pub fits : List ℕ → Node → Node → Bool
+fits at node root = is_element (node_at at root) && nat_lt (length at) most_levels && nat_le (node_height node) (most_levels - 1 - length at) && is_sound_node node
+
+-- the texts in the nodes, in order
+abbrev pub text_all : Forest → List ℕ
+text_all bare = []
+text_all (element t a c l r) = text_all c ++ text_all r
+text_all (words t r) = t ++ text_all r
+
+abbrev pub text_in : Node → List ℕ
+text_in (Element t a c l) = text_all c
+text_in (Text t) = t
+
+abbrev pub option_or_nothing : Option Node → List ℕ
+option_or_nothing None = []
+option_or_nothing (Some n) = text_in n
+
+-- the text of the node at a path
+abbrev pub text_at : List ℕ → Node → List ℕ
+text_at at root = option_or_nothing (node_at at root)

@@ -1,0 +1,162 @@
+//! The attributes of elements.
+ghost use Rattle.std.specs.Prelude.{◌≡◌, drop, [], MatchOption, None, Some};
+ghost use Rattle.rst_tree.specs.Faults.{Gives, Becomes};
+ghost use Rattle.rst_tree.specs.Attributes.{value_of, with_attr, places_below, is_at};
+
+use crate::fault::TreeFault;
+use crate::key::Key;
+use crate::text::{Text, Texts};
+use std::alloc::Global;
+use std::marker::Model;
+
+/// What an attribute says.
+#[derive(Debug, Drop)]
+pub enum Value {
+    Text(Text),
+    Number(u64),
+    List(Texts),
+}
+
+impl Value {
+    ghost use Rattle.rst_tree.specs.Print.{is_empty_list};
+
+    /// An equal value.
+    pub fn copy(&self, alloc: Global) -> Result<Value, TreeFault>
+        ensures { Gives (λ v. v ≡ self.now) result }
+    {
+        match self {
+            Value::Text(text) => Ok(Value::Text(text.copy()?)),
+            Value::Number(number) => Ok(Value::Number(*number)),
+            Value::List(texts) => Ok(Value::List(texts.copy(alloc)?)),
+        }
+    }
+
+    /// Whether it is a list without members.
+    pub fn is_empty_list(&self) -> bool
+        ensures { result ≡ is_empty_list self.now }
+    {
+        match self {
+            Value::List(list) => list.as_slice().is_empty(),
+            _ => false,
+        }
+    }
+}
+
+/// An attribute: its name and what it says.
+#[derive(Debug, Drop)]
+pub struct Attr {
+    pub key: Key,
+    pub value: Value,
+}
+
+impl Attr {
+    ghost use Rattle.rst_tree.specs.Print.{is_left_out};
+
+    /// Whether it is a list that isn't shown where it is empty, and is empty.
+    pub fn is_left_out(&self) -> bool
+        ensures { result ≡ is_left_out self.now }
+    {
+        self.value.is_empty_list() && self.key.hides_empty()
+    }
+}
+
+/// The attributes of an element, which contracts see as the list of them.
+#[derive(Debug, Drop)]
+pub struct Attrs {
+    list: Vec<Attr>,
+}
+
+impl Model for Attrs {
+    ghost use Rattle.std.specs.Prelude.{List};
+    ghost use Rattle.rst_tree.specs.declared.attrs.Attr.{Attr};
+
+    ghost Value = { List Attr };
+
+    ghost view = { λ a. a.list.items };
+}
+
+impl Attrs {
+    /// No attribute.
+    pub fn new(alloc: Global) -> Attrs
+        ensures { result ≡ [] }
+    {
+        Attrs {
+            list: Vec::new(alloc),
+        }
+    }
+
+    /// The attributes of a `Vec`.
+    pub fn of(list: Vec<Attr>) -> Attrs
+        ensures { result ≡ list.items }
+    {
+        Attrs { list }
+    }
+
+    /// The attributes in order.
+    pub fn as_slice(&self) -> &[Attr]
+        ensures { result.now ≡ self.now }
+    {
+        self.list.as_slice()
+    }
+
+    /// What the attribute of a name says, if there is one.
+    pub fn get(&self, key: Key) -> Option<&Value>
+        ensures { MatchOption result (value_of key self.now ≡ None) (λ v. value_of key self.now ≡ Some v.now) }
+    {
+        for attr in &self.list {
+            if attr.key.code() == key.code() {
+                return Some(&attr.value);
+            }
+        }
+        None
+    }
+
+    /// Lets the attribute of a name say a value: in place of what it said, or as a new one at its place among the names.
+    pub fn set(&mut self, key: Key, value: Value) -> Result<(), TreeFault>
+        ensures { Becomes self.old self.new (with_attr key value self.old) result }
+    {
+        let attrs = self.list.as_slice();
+        let place = place_of(attrs, key);
+        let attr = Attr { key, value };
+        if is_at(attrs, place, key) {
+            self.list[place] = attr;
+            return Ok(());
+        }
+        self.list.insert(place, attr)?;
+        Ok(())
+    }
+
+    /// An equal list of attributes.
+    pub fn copy(&self, alloc: Global) -> Result<Attrs, TreeFault>
+        ensures { Gives (λ a. a ≡ self.now) result }
+    {
+        let mut list = Vec::new(alloc);
+        for attr in &self.list {
+            let value = attr.value.copy(alloc)?;
+            list.push(Attr {
+                key: attr.key,
+                value,
+            })?;
+        }
+        Ok(Attrs { list })
+    }
+}
+
+/// How many attributes stand before the first whose name isn't before `key`.
+fn place_of(attrs: &[Attr], key: Key) -> usize
+    ensures { result ≡ places_below key attrs.now }
+{
+    for (i, attr) in attrs.iter().enumerate() {
+        if attr.key.code() >= key.code() {
+            return i;
+        }
+    }
+    attrs.len()
+}
+
+/// Whether the attribute at a place has a name.
+fn is_at(attrs: &[Attr], place: usize, key: Key) -> bool
+    ensures { result ≡ is_at key (drop place attrs.now) }
+{
+    place < attrs.len() && attrs[place].key.code() == key.code()
+}

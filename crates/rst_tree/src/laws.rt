@@ -1,0 +1,12 @@
+//! Laws over the definitions.
+ghost use Rattle.rst_tree.specs.Law.{PrintsEachLine, KeysAreInOrder};
+
+/// Each line of a text is printed once, in order, behind one indentation.
+pub fn prints_each_line()
+    ensures { PrintsEachLine }
+{}
+
+/// The order of the attributes is that of their names.
+pub fn keys_are_in_order()
+    ensures { KeysAreInOrder }
+{}

@@ -1,0 +1,28 @@
+//! The document tree, its messages and its printed form.
+#![tactic(auto)]
+
+mod attrs;
+mod fault;
+mod key;
+pub mod laws;
+mod node;
+mod note;
+mod output;
+mod printing;
+mod reading;
+mod tag;
+mod text;
+mod tree;
+mod walking;
+
+pub use attrs::{Attr, Attrs, Value};
+pub use fault::{PrintFault, TreeFault};
+pub use key::Key;
+pub use node::{Children, Node};
+pub use note::{Level, Note};
+pub use printing::{message_line, print};
+pub use reading::{Reader, read_elements};
+pub use tag::Tag;
+pub use text::{Text, Texts};
+pub use tree::Tree;
+pub use walking::{Visitor, walk};

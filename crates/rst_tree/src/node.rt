@@ -1,0 +1,265 @@
+//! Nodes and lists of them.
+ghost use Rattle.std.specs.Prelude.{◌≡◌, ◌∷◌, ◌++◌, [], ◌<◌, length, slice_get, slice_index_or, MatchOption, None, Some, IsSomeAnd};
+ghost use Rattle.std.specs.Borrow.{sem};
+ghost use Rattle.rst_tree.specs.Faults.{Gives, Becomes, GivesBack};
+ghost use Rattle.rst_tree.specs.Tree.{text_in};
+
+use crate::attrs::{Attrs, Value};
+use crate::fault::TreeFault;
+use crate::key::Key;
+use crate::tag::Tag;
+use crate::text::Text;
+use std::alloc::Global;
+use std::marker::Model;
+
+/// An element with what stands in it and the number of its first line, or a text.
+#[derive(Debug, Drop)]
+#[cycle(node)]
+pub enum Node {
+    Element {
+        tag: Tag,
+        attrs: Attrs,
+        children: Children,
+        line: usize,
+    },
+    Text(Text),
+}
+
+/// The nodes in an element, which contracts see as a `Forest`.
+#[derive(Debug, Drop)]
+#[cycle(node)]
+pub struct Children {
+    list: Vec<Node>,
+}
+
+impl Model for Children {
+    ghost use Rattle.std.specs.Coded.{codes};
+    ghost use Rattle.rst_tree.specs.Forest.{Forest, forest_code};
+
+    ghost Value = { Forest };
+
+    ghost coded = { forest_code (Prim.hlevel codes) };
+
+    ghost use Rattle.rst_tree.specs.Nodes.{forest_of};
+
+    ghost view = { λ c. forest_of c.list.items };
+
+    ghost use Rattle.rst_tree.specs.Forest.{height};
+
+    ghost size = { height };
+
+    ghost use Rattle.std.proofs.Common.{arith};
+    ghost use Rattle.rst_tree.specs.Falls.{most_le-height};
+
+    ghost size_decreases = { λ a h. Prim.omega (arith, most_le-height a.list.items) };
+}
+
+impl Children {
+    ghost use Rattle.rst_tree.specs.Forest.{bare};
+    ghost use Rattle.rst_tree.specs.Nodes.{forest_of, nodes_of};
+    ghost use Rattle.rst_tree.specs.Lending.{LendsNode};
+
+    /// No node.
+    pub fn new(alloc: Global) -> Children
+        ensures { result ≡ bare }
+    {
+        Children {
+            list: Vec::new(alloc),
+        }
+    }
+
+    /// The nodes of a `Vec`.
+    pub fn of(list: Vec<Node>) -> Children
+        ensures { result ≡ forest_of list.items }
+    {
+        Children { list }
+    }
+
+    /// The nodes as a `Vec`.
+    pub fn into_list(self) -> Vec<Node>
+        ensures forest { self ≡ forest_of result.items }
+        ensures nodes { result.items ≡ nodes_of self }
+    {
+        let Children { list } = self;
+        list
+    }
+
+    /// The nodes in order.
+    pub fn as_slice(&self) -> &[Node]
+        ensures { self.now ≡ forest_of result.now }
+    {
+        self.list.as_slice()
+    }
+
+    /// How many nodes there are, without those inside them.
+    pub fn len(&self) -> usize
+        ensures { result ≡ length (nodes_of self.now) }
+    {
+        self.list.len()
+    }
+
+    /// The node at a place, from 0.
+    pub fn get(&self, i: usize) -> Option<&Node>
+        ensures { MatchOption result (slice_get (nodes_of self.now) i ≡ None) (λ n. slice_get (nodes_of self.now) i ≡ Some n.now) }
+    {
+        match self.list.as_slice().get(i) {
+            Some(node) => Some(node),
+            None => None,
+        }
+    }
+
+    /// The node at a place, from 0, to be changed.
+    pub fn get_mut(&mut self, i: usize) -> &mut Node
+        requires { i < length (nodes_of self.old) }
+        ensures* writes_back { sem 𝓛 (LendsNode self.entry i result) }
+        ensures value { result.now ≡ slice_index_or (nodes_of self.old) i result.now }
+    {
+        &mut self.list[i]
+    }
+
+    /// Puts a node behind the last; it is given back at want of memory.
+    pub fn push(&mut self, node: Node) -> Result<(), (TreeFault, Node)>
+        ensures { GivesBack node self.old self.new (forest_of (nodes_of self.old ++ node ∷ [])) result }
+    {
+        if let Err(failed) = self.list.push(node) {
+            return Err((TreeFault::NoMemory, failed.value));
+        }
+        Ok(())
+    }
+}
+
+impl Node {
+    ghost use Rattle.rst_tree.specs.Forest.{bare as no_nodes};
+    ghost use Rattle.rst_tree.specs.Paths.{node_at, changed_at, with_child, with_value, node_value, IsElement};
+    ghost use Rattle.rst_tree.specs.declared.node.Node.TheVariants.{Element, Text as Words};
+
+    /// A text.
+    pub fn text(alloc: Global, text: &str) -> Result<Node, TreeFault>
+        ensures { Gives (λ n. n ≡ Words text.now) result }
+    {
+        let text = Text::from_str(alloc, text)?;
+        Ok(Node::Text(text))
+    }
+
+    /// An element without attributes and without nodes in it.
+    pub fn element(alloc: Global, tag: Tag, line: usize) -> Node
+        ensures { result ≡ Element tag [] no_nodes line }
+    {
+        Node::Element {
+            tag,
+            attrs: Attrs::new(alloc),
+            children: Children::new(alloc),
+            line,
+        }
+    }
+
+    /// What the attribute of a name says, if there is one; a text has none.
+    pub fn value(&self, key: Key) -> Option<&Value>
+        ensures { MatchOption result (node_value key self.now ≡ None) (λ v. node_value key self.now ≡ Some v.now) }
+    {
+        match self {
+            Node::Element { attrs, .. } => attrs.get(key),
+            Node::Text(_) => None,
+        }
+    }
+
+    /// Puts a node behind the last in the element at a path; it is given back at want of memory.
+    pub fn push_at(&mut self, at: &[usize], child: Node) -> Result<(), (TreeFault, Node)>
+        requires path { IsSomeAnd (node_at at.now self.old) IsElement }
+        ensures { GivesBack child self.old self.new (changed_at (with_child child) at.now self.old) result }
+    {
+        match self {
+            Node::Element { children, .. } => match at.split_first() {
+                None => {
+                    children.push(child)?;
+                    Ok(())
+                }
+                Some((first, rest)) => {
+                    let node = &mut children.list[*first];
+                    node.push_at(rest, child)?;
+                    Ok(())
+                }
+            },
+            Node::Text(_) => unreachable!(),
+        }
+    }
+
+    /// Lets the attribute of a name say a value at the element at a path.
+    pub fn set_at(&mut self, at: &[usize], key: Key, value: Value) -> Result<(), TreeFault>
+        requires path { IsSomeAnd (node_at at.now self.old) IsElement }
+        ensures { Becomes self.old self.new (changed_at (with_value key value) at.now self.old) result }
+    {
+        match self {
+            Node::Element {
+                attrs,
+                children,
+                ..
+            } => match at.split_first() {
+                None => {
+                    attrs.set(key, value)?;
+                    Ok(())
+                }
+                Some((first, rest)) => {
+                    let node = &mut children.list[*first];
+                    node.set_at(rest, key, value)?;
+                    Ok(())
+                }
+            },
+            Node::Text(_) => unreachable!(),
+        }
+    }
+
+    /// The texts in the node in order, joined.
+    pub fn text_of(&self, alloc: Global) -> Result<Text, TreeFault>
+        ensures { Gives (λ t. t ≡ text_in self.now) result }
+    {
+        let mut text = Text::from_str(alloc, "")?;
+        add_text(self, &mut text)?;
+        Ok(text)
+    }
+
+    /// A node equal to this one.
+    pub fn copy(&self, alloc: Global) -> Result<Node, TreeFault>
+        ensures { Gives (λ n. n ≡ self.now) result }
+    {
+        match self {
+            Node::Element {
+                tag,
+                attrs,
+                children,
+                line,
+            } => {
+                let attrs = attrs.copy(alloc)?;
+                let mut list = Vec::new(alloc);
+                for child in children.as_slice() {
+                    list.push(child.copy(alloc)?)?;
+                }
+                Ok(Node::Element {
+                    tag: *tag,
+                    attrs,
+                    children: Children::of(list),
+                    line: *line,
+                })
+            }
+            Node::Text(text) => Ok(Node::Text(text.copy()?)),
+        }
+    }
+}
+
+/// Puts the texts in a node behind a text.
+fn add_text(node: &Node, text: &mut Text) -> Result<(), TreeFault>
+    ensures { Gives (λ _. text.new ≡ text.old ++ text_in node.now) result }
+{
+    match node {
+        Node::Element { children, .. } => {
+            for child in children.as_slice() {
+                add_text(child, text)?;
+            }
+            Ok(())
+        }
+        Node::Text(more) => {
+            text.push_str(more.as_str())?;
+            Ok(())
+        }
+    }
+}

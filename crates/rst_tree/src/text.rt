@@ -1,0 +1,134 @@
+//! Texts and lists of them.
+ghost use Rattle.std.specs.Prelude.{◌≡◌, ◌∷◌, ◌++◌, [], string_bytes};
+ghost use Rattle.rst_tree.specs.Faults.{Gives, Becomes};
+
+use crate::fault::TreeFault;
+use std::alloc::Global;
+use std::marker::Model;
+
+/// A text, which contracts see as the list of its bytes.
+#[derive(Debug, Drop)]
+pub struct Text {
+    string: String,
+}
+
+impl Model for Text {
+    ghost use Rattle.std.specs.Prelude.{ℕ, List, string_bytes};
+
+    ghost Value = { List ℕ };
+
+    ghost view = { λ t. string_bytes t.string };
+}
+
+impl Text {
+    /// The text that a `String` holds.
+    pub fn new(string: String) -> Text
+        ensures { result ≡ string_bytes string }
+    {
+        Text { string }
+    }
+
+    /// A text of its own.
+    pub fn from_str(alloc: Global, text: &str) -> Result<Text, TreeFault>
+        ensures { Gives (λ t. t ≡ text.now) result }
+    {
+        let string = String::from_str(alloc, text)?;
+        Ok(Text { string })
+    }
+
+    /// The text as a `str`.
+    pub fn as_str(&self) -> &str
+        ensures { result.now ≡ self.now }
+    {
+        self.string.as_str()
+    }
+
+    /// The bytes of the text.
+    pub fn as_bytes(&self) -> &[u8]
+        ensures { result.now ≡ self.now }
+    {
+        self.string.as_bytes()
+    }
+
+    /// The `String` inside.
+    pub fn into_string(self) -> String
+        ensures { string_bytes result ≡ self }
+    {
+        let Text { string } = self;
+        string
+    }
+
+    /// An equal text.
+    pub fn copy(&self) -> Result<Text, TreeFault>
+        ensures { Gives (λ t. t ≡ self.now) result }
+    {
+        let string = self.string.clone()?;
+        Ok(Text { string })
+    }
+
+    /// Puts a text behind this one.
+    pub fn push_str(&mut self, text: &str) -> Result<(), TreeFault>
+        ensures { Becomes self.old self.new (self.old ++ text.now) result }
+    {
+        self.string.push_str(text)?;
+        Ok(())
+    }
+}
+
+/// A list of texts, which contracts see as the list of their bytes.
+#[derive(Debug, Drop)]
+pub struct Texts {
+    list: Vec<Text>,
+}
+
+impl Model for Texts {
+    ghost use Rattle.std.specs.Prelude.{ℕ, List};
+
+    ghost Value = { List (List ℕ) };
+
+    ghost view = { λ t. t.list.items };
+}
+
+impl Texts {
+    /// No text.
+    pub fn new(alloc: Global) -> Texts
+        ensures { result ≡ [] }
+    {
+        Texts {
+            list: Vec::new(alloc),
+        }
+    }
+
+    /// The texts of a `Vec`.
+    pub fn of(list: Vec<Text>) -> Texts
+        ensures { result ≡ list.items }
+    {
+        Texts { list }
+    }
+
+    /// The texts in order.
+    pub fn as_slice(&self) -> &[Text]
+        ensures { result.now ≡ self.now }
+    {
+        self.list.as_slice()
+    }
+
+    /// Puts a text behind the last.
+    pub fn push(&mut self, text: Text) -> Result<(), TreeFault>
+        ensures { Becomes self.old self.new (self.old ++ text ∷ []) result }
+    {
+        self.list.push(text)?;
+        Ok(())
+    }
+
+    /// An equal list.
+    pub fn copy(&self, alloc: Global) -> Result<Texts, TreeFault>
+        ensures { Gives (λ t. t ≡ self.now) result }
+    {
+        let mut list = Vec::new(alloc);
+        for text in &self.list {
+            list.push(text.copy()?)?;
+        }
+        Ok(Texts { list })
+    }
+}

@@ -1,0 +1,237 @@
+//! Documents as trees, and changes of them.
+ghost use Rattle.std.specs.Prelude.{◌≡◌, ◌<◌, nat_le, IsTrue, MatchOption, Some, None, is_some, ◌++◌, string_bytes};
+ghost use Rattle.rst_text.specs.Lines.{is_line_end};
+ghost use Rattle.rst_tree.specs.Attributes.{with_attr};
+ghost use Rattle.rst_tree.specs.Faults.{Gives, Becomes, GivesBack};
+ghost use Rattle.rst_tree.specs.Nodes.{node_height};
+ghost use Rattle.rst_tree.specs.Paths.{node_at, changed_at, with_child, with_value, value_at};
+ghost use Rattle.rst_tree.specs.Tree.{IsTreeOf, is_tree, is_sound_node, is_lines, in_order, fits, is_element, text_in, text_at};
+
+use crate::attrs::{Attr, Value};
+use crate::fault::TreeFault;
+use crate::key::Key;
+use crate::node::Node;
+use crate::text::Text;
+use std::alloc::Global;
+use std::marker::Model;
+
+/// The most that nodes nest, the root included.
+const MOST_LEVELS: usize = 1350;
+
+/// A document: the attributes of each element stand in the order of their names, each name once; no text holds a line end
+/// but LF; and the nodes nest no deeper than 1,350.
+#[derive(Debug, Drop)]
+pub struct Tree {
+    root: Node,
+}
+
+impl Model for Tree {
+    ghost use Rattle.std.specs.Prelude.{IsTrue};
+    ghost use Rattle.rst_tree.specs.declared.node.Node.{Node};
+    ghost use Rattle.rst_tree.specs.contracts.node.Node as node;
+    ghost use Rattle.std.specs.Coded.{codes};
+
+    ghost Value = { Node };
+
+    ghost coded = { Prim.hlevel (codes, node.the_row.coded) };
+
+    ghost use Rattle.rst_tree.specs.Tree.{is_tree};
+
+    ghost view = { λ t. t.root };
+
+    ghost invariant = { λ t. IsTrue (is_tree t.root) };
+}
+
+impl Tree {
+    /// The node as a tree, or the node back where it is none.
+    pub fn of(root: Node) -> Result<Tree, Node>
+        ensures { IsTreeOf root result }
+    {
+        if is_within(&root, MOST_LEVELS) && is_sound(&root) {
+            Ok(Tree { root })
+        } else {
+            Err(root)
+        }
+    }
+
+    /// The whole node.
+    pub fn root(&self) -> &Node
+        ensures root { result.now ≡ self.now }
+        ensures tree { IsTrue (is_tree result.now) }
+    {
+        &self.root
+    }
+
+    /// The whole node, taken out.
+    pub fn into_root(self) -> Node
+        ensures root { result ≡ self }
+        ensures tree { IsTrue (is_tree result) }
+    {
+        let Tree { root } = self;
+        root
+    }
+
+    /// What the attribute of a name says at the node at a path, if there is one.
+    pub fn attr(&self, at: &[usize], name: Key) -> Option<&Value>
+        ensures { MatchOption result (value_at at.now name self.now ≡ None) (λ v. value_at at.now name self.now ≡ Some v.now) }
+    {
+        match found(&self.root, at) {
+            Some(node) => node.value(name),
+            None => None,
+        }
+    }
+
+    /// Whether a node is at the path.
+    pub fn has(&self, at: &[usize]) -> bool
+        ensures { result ≡ is_some (node_at at.now self.now) }
+    {
+        found(&self.root, at).is_some()
+    }
+
+    /// Whether an element is at the path, and the node can stand in it.
+    pub fn fits(&self, at: &[usize], node: &Node) -> bool
+        ensures { result ≡ fits at.now node.now self.now }
+    {
+        is_element_at(&self.root, at)
+            && at.len() < MOST_LEVELS
+            && is_within(node, MOST_LEVELS - 1 - at.len())
+            && is_sound(node)
+    }
+
+    /// Puts a node that fits behind the last in the element at a path; it is given back at want of memory.
+    pub fn push(
+        &mut self,
+        _alloc: Global,
+        at: &[usize],
+        node: Node,
+    ) -> Result<(), (TreeFault, Node)>
+        requires { IsTrue (fits at.now node self.old) }
+        ensures { GivesBack node self.old self.new (changed_at (with_child node) at.now self.old) result }
+    {
+        self.root.push_at(at, node)?;
+        Ok(())
+    }
+
+    /// Lets the attribute of a name say a value at the element at a path; the value is dropped at want of memory.
+    pub fn set(
+        &mut self,
+        _alloc: Global,
+        at: &[usize],
+        name: Key,
+        value: Value,
+    ) -> Result<(), TreeFault>
+        requires { IsTrue (is_element (node_at at.now self.old)) }
+        ensures { Becomes self.old self.new (changed_at (with_value name value) at.now self.old) result }
+    {
+        self.root.set_at(at, name, value)?;
+        Ok(())
+    }
+
+    /// The text of the node at a path: the texts below it in order, joined.
+    pub fn text_of(&self, alloc: Global, at: &[usize]) -> Result<String, TreeFault>
+        requires { IsTrue (is_some (node_at at.now self.now)) }
+        ensures { Gives (λ s. string_bytes s ≡ text_at at.now self.now) result }
+    {
+        match found(&self.root, at) {
+            Some(node) => {
+                let text = node.text_of(alloc)?;
+                Ok(text.into_string())
+            }
+            None => unreachable!(),
+        }
+    }
+}
+
+/// The node at a path.
+fn found<'a>(root: &'a Node, at: &[usize]) -> Option<&'a Node>
+    ensures { MatchOption result (node_at at.now root.now ≡ None) (λ n. node_at at.now root.now ≡ Some n.now) }
+{
+    let mut node = root;
+    for place in at {
+        match node {
+            Node::Element { children, .. } => match children.as_slice().get(*place) {
+                Some(child) => node = child,
+                None => return None,
+            },
+            Node::Text(_) => return None,
+        }
+    }
+    Some(node)
+}
+
+/// Whether an element is at a path.
+fn is_element_at(root: &Node, at: &[usize]) -> bool
+    ensures { result ≡ is_element (node_at at.now root.now) }
+{
+    matches!(found(root, at), Some(Node::Element { .. }))
+}
+
+/// Whether the node's depth is at most the number of levels.
+fn is_within(node: &Node, levels: usize) -> bool
+    ensures { result ≡ nat_le (node_height node.now) levels }
+{
+    if levels == 0 {
+        return false;
+    }
+    if let Node::Element { children, .. } = node {
+        for child in children.as_slice() {
+            if !is_within(child, levels - 1) {
+                return false;
+            }
+        }
+    }
+    true
+}
+
+/// Whether each list of attributes is in order and no text has a line end but LF.
+fn is_sound(node: &Node) -> bool
+    ensures { result ≡ is_sound_node node.now }
+{
+    match node {
+        Node::Element {
+            attrs,
+            children,
+            ..
+        } => {
+            if !are_in_order(attrs.as_slice()) {
+                return false;
+            }
+            for child in children.as_slice() {
+                if !is_sound(child) {
+                    return false;
+                }
+            }
+            true
+        }
+        Node::Text(text) => is_lines(text),
+    }
+}
+
+/// Whether the names rise.
+fn are_in_order(attrs: &[Attr]) -> bool
+    ensures { result ≡ in_order attrs.now }
+{
+    for i in 1..attrs.len() {
+        if attrs[i - 1].key.code() >= attrs[i].key.code() {
+            return false;
+        }
+    }
+    true
+}
+
+/// Whether a character ends a line.
+fn is_line_end(c: char) -> bool
+    ensures { result ≡ is_line_end c }
+{
+    matches!(
+        c,
+        '\n' | '\r' | '\u{1C}'..='\u{1E}' | '\u{85}' | '\u{2028}' | '\u{2029}'
+    )
+}
+
+/// Whether a text has no line end but LF.
+fn is_lines(text: &Text) -> bool
+    ensures { result ≡ is_lines text.now }
+{
+    text.as_str().chars().all(|c| c == '\n' || !is_line_end(c))
+}

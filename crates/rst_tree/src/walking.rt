@@ -1,0 +1,58 @@
+//! Changes of all elements in preorder.
+ghost use Rattle.std.specs.Prelude.{◌≡◌};
+ghost use Rattle.rst_tree.specs.Faults.{Gives};
+ghost use Rattle.rst_tree.specs.Walk.{Item, item, node_items, after, scanned, walked_node, node_shape};
+
+use crate::attrs::Attrs;
+use crate::fault::TreeFault;
+use crate::node::Node;
+use crate::tag::Tag;
+
+/// What is done at each element, by a state that it changes.
+pub trait Visitor {
+    /// The state after an element.
+    ghost next: { Self → Item → Self };
+
+    /// The element as it is left.
+    ghost out: { Self → Item → Item };
+
+    /// Changes an element, but for the nodes in it, and the state.
+    fn visit(&mut self, tag: &mut Tag, attrs: &mut Attrs, line: &mut usize) -> Result<(), TreeFault>
+        ensures state { Gives (λ _. self.new ≡ next self.old (item tag.old attrs.old line.old)) result }
+        ensures element { Gives (λ _. item tag.new attrs.new line.new ≡ out self.old (item tag.old attrs.old line.old)) result };
+}
+
+/// Visits a node's elements in preorder. At want of memory the node is given up.
+pub fn walk<V: Visitor>(mut node: Node, visitor: &mut V) -> Result<Node, TreeFault>
+    ensures node { Gives (λ n. n ≡ walked_node V.next V.out visitor.old node) result }
+    ensures state { Gives (λ _. visitor.new ≡ after V.next V.out visitor.old (node_items node)) result }
+    // The same, said of the preorder list: the new elements are a fold's, and the shape is the old one.
+    ensures elements { Gives (λ n. node_items n ≡ scanned V.next V.out visitor.old (node_items node)) result }
+    ensures shape { Gives (λ n. node_shape n ≡ node_shape node) result }
+{
+    walk_in(&mut node, visitor)?;
+    Ok(node)
+}
+
+/// Visits a node's elements in preorder, in place.
+fn walk_in<V: Visitor>(node: &mut Node, visitor: &mut V) -> Result<(), TreeFault>
+    ensures node { Gives (λ _. node.new ≡ walked_node V.next V.out visitor.old node.old) result }
+    ensures state { Gives (λ _. visitor.new ≡ after V.next V.out visitor.old (node_items node.old)) result }
+    ensures elements { Gives (λ _. node_items node.new ≡ scanned V.next V.out visitor.old (node_items node.old)) result }
+    ensures shape { Gives (λ _. node_shape node.new ≡ node_shape node.old) result }
+{
+    if let Node::Element {
+        tag,
+        attrs,
+        children,
+        line,
+    } = node
+    {
+        visitor.visit(tag, attrs, line)?;
+        for i in 0..children.len() {
+            let child = children.get_mut(i);
+            walk_in(child, visitor)?;
+        }
+    }
+    Ok(())
+}
