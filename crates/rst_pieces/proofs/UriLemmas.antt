@@ -1,14 +1,17 @@
 -- Standalone URIs.
-use Rattle.std.proofs.Common.{◌≡◌, ◌⊎◌, ⊎_elim, inl, inr, ℕ, ◌+◌, ◌-◌, ◌<◌, ◌≤◌, Bool, true, false, not, ◌&&◌, ◌||◌, ◌==◌, cond, List, [], ◌∷◌, Option, Some, None, IfSome, length, get_or, unwrap_or, true≢false, refl, sym, ap, ◌∙◌, subst, arith}
+use Rattle.std.proofs.Common.{◌≡◌, ◌⊎◌, ⊎_elim, inl, inr, ℕ, zero, suc, ◌+◌, ◌-◌, ◌<◌, ◌≤◌, Bool, true, false, not, ◌&&◌, ◌||◌, ◌==◌, cond, List, [], ◌∷◌, ◌++◌, Option, Some, None, IfSome, length, get_or, unwrap_or, true≢false, refl, sym, ap, ◌∙◌, subst, arith}
 use Rattle.std.specs.Prelude.{nat_lt}
 use Rattle.std.specs.List.{list_all}
 use Rattle.std.specs.Char.{is_ascii_alphanumeric, to_ascii_lowercase}
-use Rattle.std.proofs.lemmas.Bool.{ltb-true, eqb-true, and_parts, cases_lt}
+use Rattle.std.specs.Str.{chars, IsUtf8}
+use Rattle.std.proofs.Math.Utf8.{encodes}
+use Rattle.std.proofs.lemmas.Str.{encode_ascii, encodes-chars, chars_from_encodes}
+use Rattle.std.proofs.lemmas.Bool.{ltb-true, lt-ltb, eqb-true, and_parts, cases_lt}
 use Rattle.std.proofs.lemmas.Bool.Decides.{nat_tests}
 use Rattle.rst_text.specs.Places.{first_from, last_from, NoneFrom, IsFirst, IsLast}
 use Rattle.rst_text.proofs.PlacesLemmas.{cases_bool, lt_eq_gt, first_from-is, first_from-IsFirst, last_from-is, last_from-last, NoneFrom-within}
-use Rattle.rst_pieces.specs.Characters.{Text, is_free_behind}
-use Rattle.rst_pieces.specs.Uri.{in_lower_case, has_letter, begins_at, schemes, behind_first, scheme_end, is_uri_char, is_uri_trail, uri_stop, uri_close, uri_behind, if_free, uri_end, uri_piece, uri}
+use Rattle.rst_pieces.specs.Characters.{Text, is_among, is_free_behind}
+use Rattle.rst_pieces.specs.Uri.{in_lower_case, has_letter, begins_at, schemes, behind_first, scheme_end, is_uri_char, is_uri_trail, uri_stop, uri_close, uri_behind, if_free, uri_end, uri_piece, uri, is_ascii_uri_from, is_ascii_uri, IsUri}
 use Rattle.rst_pieces.specs.declared.piece.Piece.{Piece}
 use Rattle.rst_pieces.proofs.FitLemmas.{Fits, Fit, Fit-none, Fit-some, Some-same, Some-None, chosen}
 
@@ -208,3 +211,101 @@ uri_piece-fits t i None h = Fit-none t i
 pub uri-fits : (t : Text) (i : ℕ) → i ≤ length t → Fit t i (uri t i)
 unfolding uri
 uri-fits t i within = uri_piece-fits t i (uri_end t i) (λ e h. uri_end-fits t i e within h)
+
+-- ---- a text that is one URI
+
+each : (p : ℕ → Bool) (cs : List ℕ) → list_all p cs ≡ true → (k : ℕ) → k < length cs → p (get_or cs k 0) ≡ true
+each p [] h k below = absurd (omega arith)
+each p (c ∷ cs) h zero below = (and_parts (p c) (list_all p cs) h).0
+each p (c ∷ cs) h (suc k) below = each p cs (and_parts (p c) (list_all p cs) h).1 k (omega arith)
+
+both_true : (a b : Bool) → a ≡ true → b ≡ true → (a && b) ≡ true
+both_true a b p q = rw (p, q) refl
+
+all_of : (p : ℕ → Bool) (cs : List ℕ) → ((k : ℕ) → k < length cs → p (get_or cs k 0) ≡ true) → list_all p cs ≡ true
+all_of p [] h = refl
+all_of p (c ∷ cs) h = both_true (p c) (list_all p cs) (h zero (omega arith)) (all_of p cs (λ k below. h (suc k) (omega arith)))
+
+among-ascii : (cs : List ℕ) (c : ℕ) → list_all (λ x. nat_lt x 128) cs ≡ true → is_among cs c ≡ true → c < 128
+among-ascii [] c h k = absurd (cc)
+among-ascii (d ∷ ds) c h k =
+    let parts = and_parts (nat_lt d 128) (list_all (λ x. nat_lt x 128) ds) h in
+    ⊎_elim
+    (λ same. let e : c ≡ d = eqb-true c d same in let l : d < 128 = ltb-true d 128 parts.0 in omega arith)
+    (λ other. among-ascii ds c parts.1 (subst (λ b. (b || is_among ds c) ≡ true) other k))
+    (cases_bool (c == d))
+
+uri-ascii : (c : ℕ) → is_uri_char c ≡ true → c < 128
+unfolding is_uri_char
+uri-ascii c h = ⊎_elim
+    (λ alnum. alnum-ascii c alnum)
+    (λ other. among-ascii (45 ∷ 95 ∷ 46 ∷ 126 ∷ 33 ∷ 42 ∷ 39 ∷ 40 ∷ 41 ∷ 59 ∷ 47 ∷ 63 ∷ 58 ∷ 64 ∷ 38 ∷ 61 ∷ 36 ∷ 43 ∷ 44 ∷ 37 ∷ 35 ∷ 91 ∷ 93 ∷ []) c refl (subst (λ b. (b || is_among (45 ∷ 95 ∷ 46 ∷ 126 ∷ 33 ∷ 42 ∷ 39 ∷ 40 ∷ 41 ∷ 59 ∷ 47 ∷ 63 ∷ 58 ∷ 64 ∷ 38 ∷ 61 ∷ 36 ∷ 43 ∷ 44 ∷ 37 ∷ 35 ∷ 91 ∷ 93 ∷ []) c) ≡ true) other h))
+    (cases_bool (is_ascii_alphanumeric c))
+  where
+    alnum-ascii : (c : ℕ) → is_ascii_alphanumeric c ≡ true → c < 128
+    alnum-ascii c h = grind (arith, nat_tests)
+
+-- each character of a URI is one byte
+encodes-uri : (cs : List ℕ) → AllUri cs → encodes cs ≡ cs
+encodes-uri [] h = refl
+encodes-uri (c ∷ cs) h =
+    let parts = and_parts (is_uri_char c) (list_all is_uri_char cs) h in
+    ap (λ l. l ++ encodes cs) (encode_ascii c (uri-ascii c parts.0)) ∙ ap (λ l. c ∷ l) (encodes-uri cs parts.1)
+
+-- bytes of a URI are its characters
+bytes-chars : (bytes : List ℕ) → IsUtf8 bytes → AllUri bytes → bytes ≡ chars bytes
+bytes-chars bytes good h = chars_from_encodes bytes bytes good (encodes-uri bytes h)
+
+chars-bytes : (bytes : List ℕ) → IsUtf8 bytes → AllUri (chars bytes) → chars bytes ≡ bytes
+chars-bytes bytes good h = sym (encodes-uri (chars bytes) h) ∙ encodes-chars bytes good
+
+free-at-end : (t : Text) → is_free_behind t (length t) ≡ true
+free-at-end t = grind (arith, nat_tests)
+
+IsUri-from : (t : Text) (r : Option ℕ) → scheme_end t 0 ≡ r → is_ascii_uri_from t r ≡ true → IsUri t
+IsUri-from t (Some m) scheme h =
+    let first = and_parts (nat_lt m (length t)) (list_all is_uri_char t && not (is_uri_trail (get_or t (length t - 1) 0))) h in
+    let second = and_parts (list_all is_uri_char t) (not (is_uri_trail (get_or t (length t - 1) 0))) first.1 in
+    let less : m < length t = ltb-true m (length t) first.0 in
+    let stop : length t ≡ uri_stop t m = uri_stop-end t m (λ k above below. ap not (each is_uri_char t second.0 k below)) in
+    let close : uri_close t m (uri_stop t m) ≡ Some (length t) =
+    ap (uri_close t m) (sym stop) ∙ sym (uri_close-is t m (length t) (Some (length t)) (omega arith, omega arith, second.1, λ k above below. absurd (omega arith))) in
+    uri_end-found t 0 m (length t) scheme close (free-at-end t)
+IsUri-from t None scheme h = absurd (cc)
+
+behind-uri : (t : Text) (r : Option ℕ) → scheme_end t 0 ≡ r → uri_behind t r ≡ Some (length t) → is_ascii_uri_from t r ≡ true
+behind-uri t (Some m) scheme h =
+    let begins = scheme_end-begins t 0 m scheme in
+    let run = uri_stop-stops t m (begins.within (omega arith)) in
+    let close = uri_close-last t m (uri_stop t m) (length t) h in
+    let above : m + 1 ≤ length t = close.0 in
+    let below : length t < uri_stop t m + 1 = close.1 in
+    let all : AllUri t = all_of is_uri_char t (λ k less. ⊎_elim
+    (λ front. begins.chars k (omega arith) front)
+    (λ back. uri_from_not (is_uri_char (get_or t k 0)) (run.none k back (omega arith)))
+    (cases_lt k m)) in
+    both_true (nat_lt m (length t)) (list_all is_uri_char t && not (is_uri_trail (get_or t (length t - 1) 0))) (lt-ltb m (length t) (omega arith))
+    (both_true (list_all is_uri_char t) (not (is_uri_trail (get_or t (length t - 1) 0))) all close.2)
+  where
+    uri_from_not : (b : Bool) → not b ≡ false → b ≡ true
+    uri_from_not true h = refl
+    uri_from_not false h = absurd (cc)
+behind-uri t None scheme h = absurd (Some-None (sym h))
+
+from-IsUri : (t : Text) → IsUri t → is_ascii_uri t ≡ true
+unfolding uri_end
+from-IsUri t h = behind-uri t (scheme_end t 0) refl (if_free-some t (uri_behind t (scheme_end t 0)) (length t) h)
+
+all-of-uri : (t : Text) (r : Option ℕ) → is_ascii_uri_from t r ≡ true → AllUri t
+all-of-uri t (Some m) h =
+    let first = and_parts (nat_lt m (length t)) (list_all is_uri_char t && not (is_uri_trail (get_or t (length t - 1) 0))) h in
+    (and_parts (list_all is_uri_char t) (not (is_uri_trail (get_or t (length t - 1) 0))) first.1).0
+all-of-uri t None h = absurd (cc)
+
+pub is_ascii_uri-is : (bytes : List ℕ) → IsUtf8 bytes → is_ascii_uri bytes ≡ true → IsUri (chars bytes)
+is_ascii_uri-is bytes good h = subst IsUri (bytes-chars bytes good (all-of-uri bytes (scheme_end bytes 0) h)) (IsUri-from bytes (scheme_end bytes 0) refl h)
+
+pub IsUri-ascii : (bytes : List ℕ) → IsUtf8 bytes → IsUri (chars bytes) → is_ascii_uri bytes ≡ true
+IsUri-ascii bytes good h =
+    let found = from-IsUri (chars bytes) h in
+    subst (λ t. is_ascii_uri t ≡ true) (chars-bytes bytes good (all-of-uri (chars bytes) (scheme_end (chars bytes) 0) found)) found

@@ -1,23 +1,14 @@
 -- The characters that decide where inline markup may stand (Markup Specification, 'Inline markup recognition rules').
 use Rattle.std.specs.Prelude.{◌≡◌, ℕ, Bool, true, false, not, ◌&&◌, ◌||◌, ◌==◌, ◌+◌, nat_lt, List, [], ◌∷◌, slice_index, length}
 use Rattle.std.specs.List.{list_any}
-use Rattle.std.specs.Char.{is_whitespace}
 use Rattle.unicode.specs.GeneralCategory.{general_category}
-use Rattle.unicode.specs.GeneralCategoryGroup.{in_group}
-use Rattle.ucd_category.specs.declared.GeneralCategoryGroup.TheVariants.{Letter, Number}
 use Rattle.ucd_category.specs.declared.GeneralCategory.{GeneralCategory}
 use Rattle.ucd_category.specs.declared.GeneralCategory.TheVariants.{OpenPunctuation, ClosePunctuation, InitialPunctuation, FinalPunctuation, DashPunctuation, OtherPunctuation}
+use Rattle.rst_text.specs.Characters.{is_white, is_alphanumeric}
 
 -- a text is the list of its characters; a place in it is a number from 0
 abbrev pub Text : Type 0
 Text = List ℕ
-
-unfoldable pub is_white : ℕ → Bool
-is_white c = is_whitespace c
-
--- a letter or a number by its general category
-unfoldable pub is_alphanumeric : ℕ → Bool
-is_alphanumeric c = in_group Letter (general_category c) || in_group Number (general_category c)
 
 abbrev pub is_among : List ℕ → ℕ → Bool
 is_among cs c = list_any (λ x. c == x) cs

@@ -1,6 +1,7 @@
 -- Escapes by backslashes (Markup Specification, 'Escaping Mechanism').
 use Rattle.std.specs.Prelude.{ℕ, zero, suc, Bool, true, false, not, ◌&&◌, ◌==◌, nat_le, List, [], ◌∷◌, slice_index, if◌then◌else◌}
-use Rattle.rst_pieces.specs.Characters.{Text, is_white}
+use Rattle.rst_text.specs.Characters.{is_white}
+use Rattle.rst_pieces.specs.Characters.{Text}
 
 -- the character behind c is escaped, where c is itself escaped or not
 abbrev pub escapes : ℕ → Bool → Bool

@@ -7,4 +7,3 @@ pub mod Footnotes
 pub mod Uri
 pub mod Pieces
 pub mod Missing
-pub mod Faults

@@ -1,25 +1,9 @@
 //! The characters that decide where inline markup may stand.
 ghost use Rattle.std.specs.Prelude.{◌≡◌};
-ghost use Rattle.rst_pieces.specs.Characters.{is_white, is_alphanumeric, may_precede, may_follow, may_precede_by, may_follow_by, is_pair, has, is_dark, is_alnum_at, is_free_behind};
+ghost use Rattle.rst_pieces.specs.Characters.{may_precede, may_follow, may_precede_by, may_follow_by, is_pair, has, is_dark, is_alnum_at, is_free_behind};
 
-use unicode::properties::{GeneralCategory, GeneralCategoryGroup};
-
-#[tactic(auto, unfolding(crate::specs::Characters::is_white))]
-pub(crate) fn is_white(c: char) -> bool
-    ensures { result ≡ is_white c }
-{
-    c.is_whitespace()
-}
-
-/// Whether the character is a letter or a number by its general category.
-#[tactic(auto, unfolding(crate::specs::Characters::is_alphanumeric))]
-fn is_alphanumeric(c: char) -> bool
-    ensures { result ≡ is_alphanumeric c }
-{
-    let category = GeneralCategory::for_char(c);
-    GeneralCategoryGroup::Letter.contains(category)
-        | GeneralCategoryGroup::Number.contains(category)
-}
+use rst_text::{is_alphanumeric, is_white};
+use unicode::properties::GeneralCategory;
 
 /// Whether the character may stand before a start.
 #[tactic(auto, unfolding(crate::specs::Characters::may_precede))]

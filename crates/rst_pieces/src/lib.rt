@@ -3,7 +3,6 @@
 
 mod characters;
 mod escapes;
-mod fault;
 mod footnotes;
 mod laws;
 mod marked;
@@ -14,8 +13,7 @@ mod scanner;
 mod tails;
 mod uri;
 
-pub use escapes::{characters_of, unescape, unescaped};
-pub use fault::InlineFault;
+pub use escapes::unescaped;
 pub use laws::one_list_of_pieces;
 pub use piece::{Kind, Markup, Piece, Suffix};
 pub use scanner::pieces_of;

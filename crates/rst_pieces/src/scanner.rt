@@ -1,18 +1,16 @@
 //! The scanner.
-ghost use Rattle.std.specs.Prelude.{◌≡◌, ◌<◌, length};
+ghost use Rattle.std.specs.Prelude.{◌≡◌, ◌<◌, length, IfOk};
 ghost use Rattle.rst_pieces.specs.Pieces.{markup_at, is_free_if, piece_if, plain_from, IsPieces};
 ghost use Rattle.rst_pieces.specs.Missing.{IsMissing};
-ghost use Rattle.rst_pieces.specs.Faults.{Gives};
 
 use super::characters::may_precede;
 use super::escapes::escapes;
-use super::fault::InlineFault;
 use super::footnotes::label;
 use super::missing::Missing;
 use super::names::reference;
 use super::piece::{Kind, Markup, Piece};
 use super::uri::uri;
-use std::alloc::Global;
+use std::alloc::{AllocError, Global};
 
 /// The piece that the first kind of markup gives that holds at the place.
 #[tactic(auto, unfolding(crate::specs::Pieces::markup_at))]
@@ -73,12 +71,11 @@ fn piece_at(text: &[char], place: usize, escaped: bool, missing: &mut Missing) -
     }
 }
 
-/// The pieces of the text, in order. The only refusal is [`InlineFault::NoMemory`].
+/// The pieces of the text, in order. Exactly one list is that of a text ([`super::one_list_of_pieces`]).
 ///
-/// Exactly one list is that of a text ([`super::one_list_of_pieces`]). The time is linear in the text's length: what a search
-/// that failed has shown is remembered.
-pub fn pieces_of(alloc: Global, text: &[char]) -> Result<Vec<Piece>, InlineFault>
-    ensures { Gives (λ pieces. IsPieces text.now 0 pieces.items) result }
+/// What a search that failed has shown is remembered, so that the time grows no faster than the text.
+pub fn pieces_of(alloc: Global, text: &[char]) -> Result<Vec<Piece>, AllocError>
+    ensures { IfOk result (λ pieces. IsPieces text.now 0 pieces.items) }
 {
     let mut pieces = Vec::new(alloc);
     let mut from = 0;

@@ -1,5 +1,6 @@
 //! Pieces of texts.
-use super::{Kind, Markup, Piece, Suffix, characters_of, pieces_of, unescape};
+use super::{Kind, Markup, Suffix, pieces_of};
+use rst_text::characters_of;
 use std::alloc::Global;
 use std::test::Fail;
 
@@ -65,11 +66,5 @@ fn rows(rt: HostRuntime) -> Result<(), Fail> {
     ] {
         assert_eq!(rt; shown(rt.alloc(), text)?.as_str(), want);
     }
-    Ok(())
-}
-
-#[test]
-fn unescapes(rt: HostRuntime) -> Result<(), Fail> {
-    assert_eq!(rt; unescape(rt.alloc(), "a\\ b\\\\c\\")?.as_str(), "ab\\c");
     Ok(())
 }

@@ -1,7 +1,8 @@
 //! Standalone URIs.
 ghost use Rattle.std.specs.Prelude.{◌≡◌, ◌<◌, ◌≤◌, ◌↔◌, ℕ, length, IfSome, IsTrue};
 ghost use Rattle.std.specs.Str.{chars};
-ghost use Rattle.rst_pieces.specs.Uri.{in_lower_case, has_letter, begins_at, scheme_end, is_uri_char, is_uri_trail, uri_stop, uri_close, uri_end, uri, IsUri};
+ghost use Rattle.std.specs.List.{list_all};
+ghost use Rattle.rst_pieces.specs.Uri.{in_lower_case, has_letter, begins_at, scheme_end, is_uri_char, is_uri_trail, uri_stop, uri_close, uri_end, uri, is_ascii_uri, IsUri};
 ghost use Rattle.rst_pieces.specs.Missing.{IsMissing};
 
 use super::characters::is_free_behind;
@@ -158,8 +159,86 @@ pub(crate) fn uri(text: &[char], place: usize, missing: &mut Missing) -> Option<
     })
 }
 
-/// Whether the whole text is one standalone URI (Markup Specification, 'Standalone Hyperlinks'): one of the schemes file,
-/// ftp, http, https, irc, mailto and news, and what may stand behind it.
-pub fn plain_uri(text: &str) -> bool {
-    text.is_empty()
+/// Whether the whole text is one standalone URI (Markup Specification, 'Standalone Hyperlinks'): a scheme, one of file, ftp,
+/// http, https, irc, mailto and news, and some characters that a URI may hold, the last no punctuation that ends none.
+pub fn plain_uri(text: &str) -> bool
+    ensures { IsTrue result ↔ IsUri (chars text.now) }
+{
+    is_ascii_uri(text.as_bytes())
+}
+
+/// The same for the bytes of a text. Each character of a URI is one byte.
+fn is_ascii_uri(bytes: &[u8]) -> bool
+    ensures { result ≡ is_ascii_uri bytes.now }
+{
+    match ascii_scheme_end(bytes) {
+        Some(behind) => behind < bytes.len()
+            && are_uri_chars(bytes)
+            && !is_uri_trail(char::from(bytes[bytes.len() - 1])),
+        None => false,
+    }
+}
+
+fn are_uri_chars(bytes: &[u8]) -> bool
+    ensures { result ≡ list_all is_uri_char bytes.now }
+{
+    for byte in bytes {
+        if !is_uri_char(char::from(*byte)) {
+            return false;
+        }
+    }
+    true
+}
+
+/// The place behind the scheme that the bytes begin with.
+#[tactic(auto, unfolding(crate::specs::Uri::scheme_end))]
+fn ascii_scheme_end(bytes: &[u8]) -> Option<usize>
+    ensures { result ≡ scheme_end bytes.now 0 }
+{
+    if begins_with(bytes, b"file://") {
+        return Some(7);
+    }
+    if begins_with(bytes, b"ftp://") {
+        return Some(6);
+    }
+    if begins_with(bytes, b"http://") {
+        return Some(7);
+    }
+    if begins_with(bytes, b"https://") {
+        return Some(8);
+    }
+    if begins_with(bytes, b"irc://") {
+        return Some(6);
+    }
+    if begins_with(bytes, b"mailto:") {
+        return Some(7);
+    }
+    if begins_with(bytes, b"news:") {
+        return Some(5);
+    }
+    None
+}
+
+/// Whether the bytes begin with the word, which is in lower case, in any case.
+fn begins_with(bytes: &[u8], word: &[u8]) -> bool
+    ensures { result ≡ begins_at bytes.now 0 word.now }
+{
+    let mut at = 0;
+    for c in word {
+        if !has_byte(bytes, at, *c) {
+            return false;
+        }
+        at += 1;
+    }
+    true
+}
+
+#[tactic(auto, unfolding(crate::specs::Uri::in_lower_case))]
+fn has_byte(bytes: &[u8], place: usize, c: u8) -> bool
+    ensures { result ≡ has_letter bytes.now place c }
+{
+    match bytes.get(place) {
+        Some(byte) => byte.to_ascii_lowercase() == c,
+        None => false,
+    }
 }
