@@ -11,6 +11,9 @@ pub record Fits (t : Text) (i : ℕ) (p : Piece) : Type 0 where
   pub begins : p.from ≡ i
   pub some : i < p.to
   pub within : p.to ≤ length t
+  pub above : i ≤ p.content_from
+  pub order : p.content_from ≤ p.content_to
+  pub behind : p.content_to ≤ p.to
 
 -- each piece that there may be fits
 abbrev pub Fit : Text → ℕ → Option Piece → Type 0

@@ -92,13 +92,13 @@ tail-fits Interpreted t k h =
     (bare_tail-fits t (k + 1) (end-fits Interpreted t k h))))
 
 unended-fits : (markup : Markup) (t : Text) (i q : ℕ) → i ≤ q → q + start_len markup ≤ length t → Fits t i (unended_piece markup i q)
-unended-fits markup t i q order within = let some : 0 < start_len markup = start_len-some markup in record { begins = refl; some = omega arith; within = within }
+unended-fits markup t i q order within = let some : 0 < start_len markup = start_len-some markup in record { begins = refl; some = omega arith; within = within; above = omega arith; order = omega arith; behind = omega arith }
 
-ended-fits : (markup : Markup) (t : Text) (i q k : ℕ) (r : Option Tail) → i ≤ q → q + start_len markup ≤ length t → i < k → TailFits t k r → Fits t i (ended_piece markup i q k r)
+ended-fits : (markup : Markup) (t : Text) (i q k : ℕ) (r : Option Tail) → i ≤ q → q + start_len markup ≤ length t → q + start_len markup < k → TailFits t k r → Fits t i (ended_piece markup i q k r)
 ended-fits markup t i q k (Some tail) order within above fits =
     let found = fits tail refl in
     let past : k ≤ tail.to = found.0 in
-    record { begins = refl; some = omega arith; within = found.1 }
+    record { begins = refl; some = omega arith; within = found.1; above = omega arith; order = omega arith; behind = past }
 ended-fits markup t i q k None order within above fits = unended-fits markup t i q order within
 
 piece-fits : (markup : Markup) (t : Text) (i q high : ℕ) (r : Option ℕ) → i ≤ q → q + start_len markup ≤ length t → IsFirst (ends markup t i) (q + start_len markup + 1) high r → Fits t i (marked_piece markup t i q r)

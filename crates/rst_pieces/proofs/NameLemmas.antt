@@ -98,7 +98,7 @@ reference_piece-fits : (t : Text) (i j : ℕ) (r : Option Tail) → i < j → Ta
 reference_piece-fits t i j (Some tail) some fits =
     let within = fits tail refl in
     let above : j ≤ tail.to = within.0 in
-    Fit-some t i _ (record { begins = refl; some = omega arith; within = within.1 })
+    Fit-some t i _ (record { begins = refl; some = omega arith; within = within.1; above = omega arith; order = omega arith; behind = above })
 reference_piece-fits t i j None some fits = Fit-none t i
 
 reference_at-fits : (t : Text) (i high : ℕ) (r : Option ℕ) → IsLast (is_reference t i) (i + 1) high r → Fit t i (reference_at t i r)

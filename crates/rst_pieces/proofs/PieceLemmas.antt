@@ -1,13 +1,14 @@
 -- The pieces of a text.
 use Rattle.std.proofs.Common.{◌≡◌, ◌⊎◌, inl, inr, ⊎_elim, ℕ, ◌+◌, ◌<◌, ◌≤◌, List, [], ◌∷◌, ◌++◌, Bool, true, false, ◌&&◌, cond, Option, Some, None, IfSome, length, append_assoc, append-nil, ap₂, le_of_lt, refl, sym, ap, ◌∙◌, subst, arith}
 use Rattle.std.proofs.lemmas.Bool.{and_parts}
-use Rattle.rst_text.specs.Places.{first_from, IsFirst}
+use Rattle.std.proofs.lemmas.List.Elements.{All-nil, All-cons}
+use Rattle.std.specs.Prelude.{All}
 use Rattle.rst_text.proofs.PlacesLemmas.{lt_eq_gt}
 use Rattle.rst_pieces.specs.Characters.{Text, has, is_alnum_at, is_free_behind}
 use Rattle.rst_pieces.specs.Names.{name_stop}
 use Rattle.rst_pieces.specs.Marked.{marked}
 use Rattle.rst_pieces.specs.Footnotes.{label_stop, closes_label, label_piece, label}
-use Rattle.rst_pieces.specs.Pieces.{markup_at, is_free_if, piece_if, piece_at, HasNoStart, plain_from, IsPlain, IsPieces, nothing, last, other, plain}
+use Rattle.rst_pieces.specs.Pieces.{markup_at, is_free_if, piece_if, piece_at, HasNoStart, plain_from, IsPlain, IsWithin, IsPieces, nothing, last, other, plain}
 use Rattle.rst_pieces.specs.declared.piece.Markup.TheVariants.{Strong, Emphasis, Literal, Target, Substitution, Interpreted}
 use Rattle.rst_pieces.specs.declared.piece.Piece.{Piece}
 use Rattle.rst_pieces.proofs.FitLemmas.{Fits, Fit, Fit-none, Fit-some, Fit-or, has-lt, Some-same, Some-None, either, chosen}
@@ -35,7 +36,7 @@ label_piece-fits t i (Some e) h = either (closes_label t e) (Some _) None (Fit t
     (λ closes.
     let second = (and_parts (has t e 93) (has t (e + 1) 95 && is_free_behind t (e + 2)) closes).1 in
     let less : e + 1 < length t = has-lt t (e + 1) 95 (and_parts (has t (e + 1) 95) (is_free_behind t (e + 2)) second).0 in
-    Fit-some t i _ (record { begins = refl; some = omega (arith, h); within = omega arith }))
+    Fit-some t i _ (record { begins = refl; some = omega (arith, h); within = omega arith; above = omega arith; order = h; behind = omega arith }))
     (Fit-none t i)
 label_piece-fits t i None h = Fit-none t i
 
@@ -143,3 +144,27 @@ IsPieces-unique t from _ _ (plain p r ps a s h) (plain q r′ qs b s′ k) =
     let same = IsPlain-unique t from p q a b (inr (r, s)) (inr (r′, s′)) in
     let next : r ≡ r′ = Some-same (sym s ∙ subst (λ (x : Piece). piece_at t from x.to ≡ Some r′) (sym same) s′) in
     ap₂ (λ p ps. p ∷ ps) same (ap₂ (λ p ps. p ∷ ps) next (IsPieces-unique t r.to ps qs h (subst (λ (x : Piece). IsPieces t x.to qs) (sym next) k)))
+
+-- ---- each piece lies within the text
+
+fits-within : (t : Text) (i : ℕ) (p : Piece) → Fits t i p → IsWithin t p
+fits-within t i p fits =
+    let begins = fits.begins in
+    let some = fits.some in
+    let above = fits.above in
+    record { some = omega arith; begins = omega arith; ends = fits.order; behind = fits.behind; within = fits.within }
+
+plain-within : (t : Text) (from : ℕ) (p : Piece) → IsPlain t from p → IsWithin t p
+plain-within t from p a =
+    let within = a.within in
+    let some = a.some in
+    subst (IsWithin t) (sym a.is_plain) (record { some = some; begins = omega arith; ends = omega arith; behind = omega arith; within = within })
+
+pub IsPieces-within : (t : Text) (from : ℕ) (ps : List Piece) → from ≤ length t → IsPieces t from ps → All (IsWithin t) ps
+IsPieces-within t from _ h (nothing e) = All-nil (IsWithin t)
+IsPieces-within t from _ h (last p a e) = All-cons (IsWithin t) p [] (plain-within t from p a) (All-nil (IsWithin t))
+IsPieces-within t from _ h (other p ps a rest) =
+    let fits = piece_if-fits t from _ p h a in All-cons (IsWithin t) p ps (fits-within t from p fits) (IsPieces-within t p.to ps fits.within rest)
+IsPieces-within t from _ h (plain p q ps a s rest) =
+    let fits = piece_if-fits t p.to _ q a.within s in
+    All-cons (IsWithin t) p (q ∷ ps) (plain-within t from p a) (All-cons (IsWithin t) q ps (fits-within t p.to q fits) (IsPieces-within t q.to ps fits.within rest))

@@ -205,7 +205,7 @@ unfolding uri_end
 uri_end-fits t i e within h = behind-fits t i (scheme_end t i) e within refl (if_free-some t (uri_behind t (scheme_end t i)) e h)
 
 uri_piece-fits : (t : Text) (i : ℕ) (r : Option ℕ) → ((e : ℕ) → r ≡ Some e → (i < e) × (e ≤ length t)) → Fit t i (uri_piece i r)
-uri_piece-fits t i (Some e) h = let found = h e refl in Fit-some t i _ (record { begins = refl; some = found.0; within = found.1 })
+uri_piece-fits t i (Some e) h = let found = h e refl in Fit-some t i _ (record { begins = refl; some = found.0; within = found.1; above = omega arith; order = (let less = found.0 in omega arith); behind = omega arith })
 uri_piece-fits t i None h = Fit-none t i
 
 pub uri-fits : (t : Text) (i : ℕ) → i ≤ length t → Fit t i (uri t i)

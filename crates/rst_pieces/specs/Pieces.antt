@@ -49,3 +49,11 @@ pub data IsPieces (t : Text) : ℕ → List Piece → Type 0 where
   last : {from : ℕ} (p : Piece) → IsPlain t from p → p.to ≡ length t → IsPieces t from (p ∷ [])
   other : {from : ℕ} (p : Piece) (ps : List Piece) → piece_at t from from ≡ Some p → IsPieces t p.to ps → IsPieces t from (p ∷ ps)
   plain : {from : ℕ} (p q : Piece) (ps : List Piece) → IsPlain t from p → piece_at t from p.to ≡ Some q → IsPieces t q.to ps → IsPieces t from (p ∷ q ∷ ps)
+
+-- A piece lies within the text and is not empty, and what its markup encloses lies within the piece.
+pub record IsWithin (t : Text) (p : Piece) : Type 0 where
+  pub some : p.from < p.to
+  pub begins : p.from ≤ p.content_from
+  pub ends : p.content_from ≤ p.content_to
+  pub behind : p.content_to ≤ p.to
+  pub within : p.to ≤ length t

@@ -2,7 +2,7 @@
 #![tactic(auto)]
 
 mod characters;
-mod escapes;
+mod escaping;
 mod footnotes;
 mod laws;
 mod marked;
@@ -13,7 +13,7 @@ mod scanner;
 mod tails;
 mod uri;
 
-pub use escapes::unescaped;
+pub use escaping::{escapes, unescaped};
 pub use laws::one_list_of_pieces;
 pub use piece::{Kind, Markup, Piece, Suffix};
 pub use scanner::pieces_of;

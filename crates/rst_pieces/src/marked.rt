@@ -6,7 +6,7 @@ ghost use Rattle.rst_pieces.specs.Names.{role_end};
 ghost use Rattle.rst_pieces.specs.Missing.{IsMissing};
 
 use super::characters::{has, is_dark, is_pair};
-use super::escapes::escapes;
+use super::escaping::escapes;
 use super::missing::Missing;
 use super::names::role_end;
 use super::piece::{Kind, Markup, Piece, Tail};

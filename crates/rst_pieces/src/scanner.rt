@@ -4,7 +4,7 @@ ghost use Rattle.rst_pieces.specs.Pieces.{markup_at, is_free_if, piece_if, plain
 ghost use Rattle.rst_pieces.specs.Missing.{IsMissing};
 
 use super::characters::may_precede;
-use super::escapes::escapes;
+use super::escaping::escapes;
 use super::footnotes::label;
 use super::missing::Missing;
 use super::names::reference;

@@ -6,7 +6,7 @@ use rst_text::is_white;
 use std::alloc::{AllocError, Global};
 
 /// Whether the character behind `c` is escaped, where `c` is itself escaped or not.
-pub(crate) fn escapes(c: char, escaped: bool) -> bool
+pub fn escapes(c: char, escaped: bool) -> bool
     ensures { result ≡ escapes c escaped }
 {
     c == '\\' && !escaped
