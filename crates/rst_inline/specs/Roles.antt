@@ -1,6 +1,6 @@
 -- The roles of interpreted text (Docutils, 'Interpreted Text Roles').
 use Rattle.std.specs.Prelude.{ℕ, Bool, ◌||◌, List, Option, None, Some, codes, if◌then◌else◌}
-use Rattle.std.specs.List.{bytes_eq}
+use Rattle.std.specs.Str.{bytes_eq}
 use Rattle.rst_tree.specs.declared.tag.Tag.{Tag}
 use Rattle.rst_tree.specs.declared.tag.Tag.TheVariants.{Emphasis, Strong, Literal, Subscript, Superscript, TitleReference}
 

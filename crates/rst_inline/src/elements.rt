@@ -1,5 +1,5 @@
 //! Elements of inline markup.
-ghost use Rattle.std.specs.Prelude.{◌≡◌};
+ghost use Rattle.std.specs.Prelude.{◌≡◌, []};
 ghost use Rattle.rst_tree.specs.Forest.{bare};
 ghost use Rattle.rst_tree.specs.declared.node.Node.TheVariants.{Element};
 ghost use Rattle.rst_inline.specs.Elements.{text_nodes, element_of, target_node, uri_target_node, problematic_node};

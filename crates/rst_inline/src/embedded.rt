@@ -1,5 +1,5 @@
 //! Embedded URIs and aliases.
-ghost use Rattle.std.specs.Prelude.{◌≡◌, ◌+◌, ◌<◌, ◌≤◌, length, filter, IfSome};
+ghost use Rattle.std.specs.Prelude.{◌≡◌, ◌+◌, ◌<◌, ◌≤◌, length, filter, IfOk, IfSome, ◌&&◌, ◌==◌, not};
 ghost use Rattle.rst_pieces.specs.Characters.{has, is_dark};
 ghost use Rattle.rst_inline.specs.Embedded.{ends_with, last_angle, fits_angle, embedded_at, dark_end, enclosed, is_alias, is_black, meant, shown_by};
 ghost use Rattle.rst_inline.specs.Faults.{Gives};
@@ -44,6 +44,12 @@ fn ends_with(text: &[char], c: char) -> bool
     has(text, place, c) && !escaped
 }
 
+fn is_opening(c: char, escaped: bool) -> bool
+    ensures { result ≡ (c == 60 && not escaped) }
+{
+    c == '<' && !escaped
+}
+
 /// The place of the last `<` that is not escaped.
 fn last_angle(text: &[char]) -> Option<usize>
     ensures exact { result ≡ last_angle text.now }
@@ -53,10 +59,12 @@ fn last_angle(text: &[char]) -> Option<usize>
     let mut escaped = false;
     for place in 0..text.len() {
         let c = text[place];
-        if c == '<' && !escaped {
-            found = Some(place);
-        }
+        let opens = is_opening(c, escaped);
         escaped = escapes(c, escaped);
+        if opens {
+            found = Some(place);
+            continue;
+        }
     }
     found
 }

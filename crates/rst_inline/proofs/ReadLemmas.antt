@@ -1,0 +1,36 @@
+-- The nodes and the messages of pieces, one piece after another.
+use Rattle.std.proofs.Common.{◌≡◌, ℕ, ◌+◌, List, [], ◌∷◌, ◌++◌, drop, refl, sym, ap, ◌∙◌, subst, append_assoc}
+use Rattle.std.specs.Prelude.{Result, Ok, Err}
+use Rattle.rst_tree.specs.declared.node.Node.{Node}
+use Rattle.rst_tree.specs.declared.note.Note.{Note}
+use Rattle.rst_pieces.specs.Characters.{Text}
+use Rattle.rst_pieces.specs.Pieces.{IsPieces}
+use Rattle.rst_pieces.specs.declared.piece.Piece.{Piece}
+use Rattle.rst_inline.specs.declared.reading.Meaning.{Meaning}
+use Rattle.rst_inline.specs.declared.nodes.Pieces.{Pieces}
+use Rattle.rst_inline.specs.declared.fault.InlineFault.{InlineFault}
+use Rattle.rst_inline.specs.declared.fault.InlineFault.TheVariants.{NoMemory}
+use Rattle.rst_inline.specs.Faults.{Gives}
+use Rattle.rst_inline.specs.Parts.{source}
+use Rattle.rst_inline.specs.Readings.{reading}
+use Rattle.rst_inline.specs.Results.{nodes_by, notes_by, count_by, nodes_from, notes_from, Reads, IsRead}
+
+-- the nodes of the next piece go over to those that are there
+pub next-nodes : (t : Text) (line count : ℕ) (rest more : List Piece) (p : Piece) (m : Meaning) (items whole : List Node) → rest ≡ p ∷ more → reading t line p ≡ m
+    → items ++ nodes_from t line count rest ≡ whole → (items ++ nodes_by m count (source t p) line) ++ nodes_from t line (count_by m count) more ≡ whole
+next-nodes t line count rest more p m items whole front means h =
+    append_assoc items (nodes_by m count (source t p) line) (nodes_from t line (count_by m count) more)
+    ∙ ap (λ x. items ++ (nodes_by x count (source t p) line ++ nodes_from t line (count_by x count) more)) (sym means)
+    ∙ ap (λ l. items ++ nodes_from t line count l) (sym front) ∙ h
+
+pub next-notes : (t : Text) (line : ℕ) (rest more : List Piece) (p : Piece) (m : Meaning) (items whole : List Note) → rest ≡ p ∷ more → reading t line p ≡ m
+    → items ++ notes_from t line rest ≡ whole → (items ++ notes_by m line) ++ notes_from t line more ≡ whole
+next-notes t line rest more p m items whole front means h =
+    append_assoc items (notes_by m line) (notes_from t line more)
+    ∙ ap (λ x. items ++ (notes_by x line ++ notes_from t line more)) (sym means)
+    ∙ ap (λ l. items ++ notes_from t line l) (sym front) ∙ h
+
+-- the pieces that were read are those of the text
+pub read-pieces : (t text : Text) (line : ℕ) (given pieces : List Piece) → t ≡ text → given ≡ pieces → IsPieces text 0 pieces → (r : Result Pieces InlineFault) → Gives (Reads t line given) r → Gives (IsRead text line) r
+read-pieces t text line given pieces same list cut (Ok read) h = (pieces, cut, subst (λ t. Reads t line pieces read) same (subst (λ ps. Reads t line ps read) list h))
+read-pieces t text line given pieces same list cut (Err NoMemory) h = tt
