@@ -18,6 +18,3 @@ pub use laws::one_list_of_pieces;
 pub use piece::{Kind, Markup, Piece, Suffix};
 pub use scanner::pieces_of;
 pub use uri::plain_uri;
-
-#[cfg(test)]
-mod tests;
