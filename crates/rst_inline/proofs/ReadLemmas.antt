@@ -15,21 +15,6 @@ use Rattle.rst_inline.specs.Parts.{source}
 use Rattle.rst_inline.specs.Readings.{reading}
 use Rattle.rst_inline.specs.Results.{nodes_by, notes_by, count_by, nodes_from, notes_from, Reads, IsRead}
 
--- the nodes of the next piece go over to those that are there
-pub next-nodes : (t : Text) (line count : ℕ) (rest more : List Piece) (p : Piece) (m : Meaning) (items whole : List Node) → rest ≡ p ∷ more → reading t line p ≡ m
-    → items ++ nodes_from t line count rest ≡ whole → (items ++ nodes_by m count (source t p) line) ++ nodes_from t line (count_by m count) more ≡ whole
-next-nodes t line count rest more p m items whole front means h =
-    append_assoc items (nodes_by m count (source t p) line) (nodes_from t line (count_by m count) more)
-    ∙ ap (λ x. items ++ (nodes_by x count (source t p) line ++ nodes_from t line (count_by x count) more)) (sym means)
-    ∙ ap (λ l. items ++ nodes_from t line count l) (sym front) ∙ h
-
-pub next-notes : (t : Text) (line : ℕ) (rest more : List Piece) (p : Piece) (m : Meaning) (items whole : List Note) → rest ≡ p ∷ more → reading t line p ≡ m
-    → items ++ notes_from t line rest ≡ whole → (items ++ notes_by m line) ++ notes_from t line more ≡ whole
-next-notes t line rest more p m items whole front means h =
-    append_assoc items (notes_by m line) (notes_from t line more)
-    ∙ ap (λ x. items ++ (notes_by x line ++ notes_from t line more)) (sym means)
-    ∙ ap (λ l. items ++ notes_from t line l) (sym front) ∙ h
-
 -- the pieces that were read are those of the text
 pub read-pieces : (t text : Text) (line : ℕ) (given pieces : List Piece) → t ≡ text → given ≡ pieces → IsPieces text 0 pieces → (r : Result Pieces InlineFault) → Gives (Reads t line given) r → Gives (IsRead text line) r
 read-pieces t text line given pieces same list cut (Ok read) h = (pieces, cut, subst (λ t. Reads t line pieces read) same (subst (λ ps. Reads t line ps read) list h))

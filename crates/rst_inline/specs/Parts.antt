@@ -1,4 +1,4 @@
--- The characters of pieces.
+-- The characters of pieces of inline markup (Markup Specification, 'Inline Markup').
 use Rattle.std.specs.Prelude.{ℕ, List, take, drop, encode_utf8_all}
 use Rattle.rst_pieces.specs.Characters.{Text}
 use Rattle.rst_pieces.specs.declared.piece.Piece.{Piece}

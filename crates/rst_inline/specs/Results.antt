@@ -1,4 +1,4 @@
--- What an inline text means.
+-- What an inline text means (Markup Specification, 'Inline Markup'; Document Tree, 'problematic').
 use Rattle.std.specs.Prelude.{◌≡◌, ℕ, ◌+◌, List, [], ◌∷◌, ◌++◌, None}
 use Rattle.rst_tree.specs.declared.node.Node.{Node}
 use Rattle.rst_tree.specs.declared.note.Note.{Note}

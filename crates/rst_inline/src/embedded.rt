@@ -1,29 +1,13 @@
 //! Embedded URIs and aliases.
 ghost use Rattle.std.specs.Prelude.{◌≡◌, ◌+◌, ◌<◌, ◌≤◌, length, filter, IfOk, IfSome, ◌&&◌, ◌==◌, not};
-ghost use Rattle.rst_pieces.specs.Characters.{has, is_dark};
 ghost use Rattle.rst_inline.specs.Embedded.{ends_with, last_angle, fits_angle, embedded_at, dark_end, enclosed, is_alias, is_black, meant, shown_by};
 ghost use Rattle.rst_inline.specs.Faults.{Gives};
 
 use super::fault::InlineFault;
 use super::texts::part;
-use rst_pieces::{escapes, unescaped};
+use rst_pieces::{escapes, has, is_dark, unescaped};
 use rst_text::is_white;
 use std::alloc::{AllocError, Global};
-
-fn has(text: &[char], place: usize, c: char) -> bool
-    ensures { result ≡ has text.now place c }
-{
-    text.get(place) == Some(&c)
-}
-
-fn is_dark(text: &[char], place: usize) -> bool
-    ensures { result ≡ is_dark text.now place }
-{
-    match text.get(place) {
-        Some(c) => !is_white(*c),
-        None => false,
-    }
-}
 
 fn is_black(c: char) -> bool
     ensures { result ≡ is_black c }

@@ -1,4 +1,4 @@
-//! Nodes and messages of texts. The answers come from Docutils' public documents and a program of their own.
+//! Nodes and messages of texts. The answers were worked out from the public Markup Specification, not by this crate.
 use super::{inline, plain_uri, unescape};
 use rst_text::Counted;
 use rst_tree::{Attrs, Children, Node, Tag, Tree, print};

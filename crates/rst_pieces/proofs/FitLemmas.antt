@@ -1,5 +1,5 @@
 -- Pieces lie within the text, and are not empty.
-use Rattle.std.proofs.Common.{◌≡◌, ℕ, ◌+◌, ◌<◌, ◌≤◌, Bool, true, false, ◌&&◌, cond, Option, Some, None, length, refl, sym, ap, ◌∙◌, subst, arith}
+use Rattle.std.proofs.Common.{◌≡◌, ℕ, ◌+◌, ◌<◌, ◌≤◌, Bool, true, false, ◌&&◌, cond, Option, Some, None, length, refl, sym, subst, arith}
 use Rattle.std.proofs.lemmas.Bool.{ltb-true, and_parts}
 use Rattle.rst_pieces.specs.Characters.{Text, has, is_free_behind}
 use Rattle.rst_pieces.specs.Tails.{or_else, anonymous_tail, named_tail, name_tail, role_tail, bare_tail}
@@ -95,8 +95,10 @@ name_tail-below t e tail h = first (anonymous_tail t e) (anonymous_tail-below t 
   where
     named_tail-below : (made : Tail) → named_tail t e ≡ Some made → e < length t
     named_tail-below made h = has-lt t e 95 (and_parts (has t e 95) (is_free_behind t (e + 1)) (chosen (has t e 95 && is_free_behind t (e + 1)) (Some (record { suffix = Named; to = e + 1 })) made h).0).0
+
     anonymous_tail-below : (t : Text) (e : ℕ) (made : Tail) → anonymous_tail t e ≡ Some made → e < length t
     anonymous_tail-below t e made h = has-lt t e 95 (and_parts (has t e 95) (has t (e + 1) 95 && is_free_behind t (e + 2)) (chosen (has t e 95 && (has t (e + 1) 95 && is_free_behind t (e + 2))) (Some (record { suffix = Anonymous; to = e + 2 })) made h).0).0
+
     first : (r : Option Tail) → ((made : Tail) → r ≡ Some made → e < length t) → or_else r (named_tail t e) ≡ Some tail → e < length t
     first (Some q) below h = below q refl
     first None below h = named_tail-below tail h

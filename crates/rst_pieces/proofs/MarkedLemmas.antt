@@ -1,7 +1,7 @@
 -- Markup between a start-string and an end-string.
-use Rattle.std.proofs.Common.{◌≡◌, ℕ, ◌+◌, ◌-◌, ◌<◌, ◌≤◌, Bool, true, false, not, ◌&&◌, ◌||◌, cond, Option, Some, None, IfSome, length, unwrap_or, refl, sym, ap, ◌∙◌, subst, arith}
+use Rattle.std.proofs.Common.{◌≡◌, ℕ, ◌+◌, ◌-◌, ◌<◌, ◌≤◌, Bool, true, not, Option, Some, None, length, unwrap_or, refl, sym, ap, ◌∙◌, subst, arith}
 use Rattle.std.proofs.lemmas.Bool.{and_parts}
-use Rattle.rst_text.specs.Places.{first_from, IsFirst}
+use Rattle.rst_text.specs.Places.{IsFirst}
 use Rattle.rst_text.proofs.PlacesLemmas.{first_from-is, first_from-IsFirst}
 use Rattle.rst_pieces.specs.Characters.{Text, has}
 use Rattle.rst_pieces.specs.Escapes.{is_escaped}
@@ -13,7 +13,7 @@ use Rattle.rst_pieces.specs.declared.piece.Markup.{Markup}
 use Rattle.rst_pieces.specs.declared.piece.Markup.TheVariants.{Strong, Emphasis, Literal, Target, Substitution, Interpreted}
 use Rattle.rst_pieces.specs.declared.piece.Tail.{Tail}
 use Rattle.rst_pieces.proofs.EscapeLemmas.{IsBare, has-bare, is_escaped-agree}
-use Rattle.rst_pieces.proofs.FitLemmas.{Fits, Fit, Fit-none, Fit-some, has-lt, either, chosen, TailFits, TailFits-or, bare_tail-fits, name_tail-fits, role_tail-fits}
+use Rattle.rst_pieces.proofs.FitLemmas.{Fits, Fit, Fit-none, Fit-some, has-lt, either, TailFits, TailFits-or, bare_tail-fits, name_tail-fits, role_tail-fits}
 use Rattle.rst_pieces.proofs.NameLemmas.{role_end-fits}
 
 pub ends-at : (markup : Markup) (t : Text) (i k : ℕ) (escaped : Bool) → escaped ≡ is_escaped t i k → ends markup t i k ≡ ends_if markup t k escaped

@@ -1,7 +1,6 @@
 -- What is remembered stays true.
-use Rattle.std.proofs.Common.{◌≡◌, ℕ, ◌<◌, ◌≤◌, true, None, length, arith}
+use Rattle.std.proofs.Common.{ℕ, ◌≤◌, length, arith}
 use Rattle.rst_pieces.specs.Characters.{Text}
-use Rattle.rst_pieces.specs.Marked.{start_len, has_start, end_of}
 use Rattle.rst_pieces.specs.Missing.{unended_from, with_unended, IsUnended, IsMissing}
 use Rattle.rst_pieces.specs.declared.piece.Markup.{Markup}
 use Rattle.rst_pieces.specs.declared.piece.Markup.TheVariants.{Strong, Emphasis, Literal, Target, Substitution, Interpreted}

@@ -1,16 +1,15 @@
 -- Simple names, roles and references.
-use Rattle.std.proofs.Common.{◌≡◌, ⊎_elim, ℕ, ◌+◌, ◌-◌, ◌<◌, ◌≤◌, Bool, true, false, not, ◌&&◌, ◌||◌, cond, Option, Some, None, IfSome, length, refl, sym, ap, ◌∙◌, subst, arith}
-use Rattle.std.proofs.lemmas.Bool.{ltb-true, and_parts, cases_lt}
+use Rattle.std.proofs.Common.{◌≡◌, ⊎_elim, ℕ, ◌+◌, ◌-◌, ◌<◌, ◌≤◌, Bool, true, false, not, ◌&&◌, Option, Some, None, IfSome, length, refl, sym, ◌∙◌, arith}
+use Rattle.std.proofs.lemmas.Bool.{and_parts, cases_lt}
 use Rattle.std.proofs.lemmas.Bool.Decides.{nat_tests}
 use Rattle.std.specs.Option.{is_some}
-use Rattle.rst_text.specs.Places.{first_from, last_from, all_from, NoneFrom, IsFirst, IsLast}
-use Rattle.rst_text.proofs.PlacesLemmas.{first_from-is, first_from-IsFirst, last_from-is, last_from-IsLast, all_from-at, all_from-all, all_from-stop}
+use Rattle.rst_text.specs.Places.{first_from, last_from, all_from, IsFirst, IsLast}
+use Rattle.rst_text.proofs.PlacesLemmas.{first_from-is, first_from-IsFirst, last_from-is, last_from-IsLast, all_from-at, all_from-all}
 use Rattle.rst_pieces.specs.Characters.{Text, has, is_alnum_at}
 use Rattle.rst_pieces.specs.Tails.{name_tail}
 use Rattle.rst_pieces.specs.Names.{is_name_at, name_stop, behind_colon, role_end, ends_name, is_reference, name_end, reference_piece, reference_at, reference}
-use Rattle.rst_pieces.specs.declared.piece.Piece.{Piece}
 use Rattle.rst_pieces.specs.declared.piece.Tail.{Tail}
-use Rattle.rst_pieces.proofs.FitLemmas.{Fits, Fit, Fit-none, Fit-some, has-lt, Some-same, Some-None, either, chosen, TailFits, name_tail-fits, name_tail-below}
+use Rattle.rst_pieces.proofs.FitLemmas.{Fit, Fit-none, Fit-some, has-lt, Some-same, Some-None, either, chosen, TailFits, name_tail-fits, name_tail-below}
 
 -- ---- simple names
 

@@ -1,12 +1,11 @@
 -- The pieces of a text.
-use Rattle.std.proofs.Common.{◌≡◌, ◌⊎◌, inl, inr, ⊎_elim, ℕ, ◌+◌, ◌<◌, ◌≤◌, List, [], ◌∷◌, ◌++◌, Bool, true, false, ◌&&◌, cond, Option, Some, None, IfSome, length, append_assoc, append-nil, ap₂, le_of_lt, refl, sym, ap, ◌∙◌, subst, arith}
+use Rattle.std.proofs.Common.{◌≡◌, ◌⊎◌, inl, inr, ⊎_elim, ℕ, ◌+◌, ◌<◌, ◌≤◌, List, [], ◌∷◌, ◌++◌, Bool, ◌&&◌, cond, Option, Some, None, IfSome, length, append_assoc, append-nil, ap₂, le_of_lt, refl, sym, ap, ◌∙◌, subst, arith}
 use Rattle.std.proofs.lemmas.Bool.{and_parts}
 use Rattle.std.proofs.lemmas.List.Elements.{All-nil, All-cons}
 use Rattle.std.specs.Prelude.{All}
 use Rattle.rst_text.proofs.PlacesLemmas.{lt_eq_gt}
 use Rattle.rst_pieces.specs.Characters.{Text, has, is_alnum_at, is_free_behind}
 use Rattle.rst_pieces.specs.Names.{name_stop}
-use Rattle.rst_pieces.specs.Marked.{marked}
 use Rattle.rst_pieces.specs.Footnotes.{label_stop, closes_label, label_piece, label}
 use Rattle.rst_pieces.specs.Pieces.{markup_at, is_free_if, piece_if, piece_at, HasNoStart, plain_from, IsPlain, IsWithin, IsPieces, nothing, last, other, plain}
 use Rattle.rst_pieces.specs.declared.piece.Markup.TheVariants.{Strong, Emphasis, Literal, Target, Substitution, Interpreted}

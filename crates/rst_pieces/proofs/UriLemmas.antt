@@ -1,8 +1,8 @@
 -- Standalone URIs.
-use Rattle.std.proofs.Common.{◌≡◌, ◌⊎◌, ⊎_elim, inl, inr, ℕ, zero, suc, ◌+◌, ◌-◌, ◌<◌, ◌≤◌, Bool, true, false, not, ◌&&◌, ◌||◌, ◌==◌, cond, List, [], ◌∷◌, ◌++◌, Option, Some, None, IfSome, length, get_or, unwrap_or, true≢false, refl, sym, ap, ◌∙◌, subst, arith}
+use Rattle.std.proofs.Common.{◌≡◌, ⊎_elim, ℕ, zero, suc, ◌+◌, ◌-◌, ◌<◌, ◌≤◌, Bool, true, false, not, ◌&&◌, ◌||◌, ◌==◌, cond, List, [], ◌∷◌, ◌++◌, Option, Some, None, length, get_or, unwrap_or, true≢false, refl, sym, ap, ◌∙◌, subst, arith}
 use Rattle.std.specs.Prelude.{nat_lt}
 use Rattle.std.specs.List.{list_all}
-use Rattle.std.specs.Char.{is_ascii_alphanumeric, to_ascii_lowercase}
+use Rattle.std.specs.Char.{is_ascii_alphanumeric}
 use Rattle.std.specs.Str.{chars, IsUtf8}
 use Rattle.std.proofs.Math.Utf8.{encodes}
 use Rattle.std.proofs.lemmas.Str.{encode_ascii, encodes-chars, chars_from_encodes}
@@ -12,8 +12,7 @@ use Rattle.rst_text.specs.Places.{first_from, last_from, NoneFrom, IsFirst, IsLa
 use Rattle.rst_text.proofs.PlacesLemmas.{cases_bool, lt_eq_gt, first_from-is, first_from-IsFirst, last_from-is, last_from-last, NoneFrom-within}
 use Rattle.rst_pieces.specs.Characters.{Text, is_among, is_free_behind}
 use Rattle.rst_pieces.specs.Uri.{in_lower_case, has_letter, begins_at, schemes, behind_first, scheme_end, is_uri_char, is_uri_trail, uri_stop, uri_close, uri_behind, if_free, uri_end, uri_piece, uri, is_ascii_uri_from, is_ascii_uri, IsUri}
-use Rattle.rst_pieces.specs.declared.piece.Piece.{Piece}
-use Rattle.rst_pieces.proofs.FitLemmas.{Fits, Fit, Fit-none, Fit-some, Some-same, Some-None, chosen}
+use Rattle.rst_pieces.proofs.FitLemmas.{Fit, Fit-none, Fit-some, Some-same, Some-None, chosen}
 
 -- ---- the scheme
 

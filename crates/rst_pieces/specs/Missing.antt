@@ -1,4 +1,4 @@
--- What searches before a place have shown to be absent behind it.
+-- What searches before a place have shown to be absent behind it. No rule of markup: it keeps the scanner's time linear.
 use Rattle.std.specs.Prelude.{◌≡◌, ℕ, ◌<◌, ◌≤◌, true, None}
 use Rattle.rst_pieces.specs.Characters.{Text}
 use Rattle.rst_pieces.specs.Marked.{has_start, end_of}

@@ -1,6 +1,6 @@
 -- Simple names, roles, and references by a simple name (Markup Specification, 'Reference Names', 'Interpreted Text',
 -- 'Hyperlink References').
-use Rattle.std.specs.Prelude.{ℕ, ◌+◌, ◌-◌, Bool, true, false, not, ◌&&◌, ◌||◌, ◌==◌, nat_lt, Option, None, Some, slice_index, length, if◌then◌else◌}
+use Rattle.std.specs.Prelude.{ℕ, ◌+◌, ◌-◌, Bool, not, ◌&&◌, ◌||◌, ◌==◌, nat_lt, Option, None, Some, slice_index, length, if◌then◌else◌}
 use Rattle.std.specs.Option.{is_some}
 use Rattle.rst_pieces.specs.Characters.{Text, has, is_alnum_at}
 use Rattle.rst_text.specs.Places.{first_from, last_from, all_from}

@@ -1,5 +1,5 @@
--- What may stand behind the end-string or the name of inline markup.
-use Rattle.std.specs.Prelude.{ℕ, ◌+◌, Bool, ◌&&◌, Option, None, Some, if◌then◌else◌}
+-- What may stand behind the end-string or the name of inline markup (Markup Specification, 'Inline Markup').
+use Rattle.std.specs.Prelude.{ℕ, ◌+◌, ◌&&◌, Option, None, Some, if◌then◌else◌}
 use Rattle.rst_pieces.specs.Characters.{Text, has, is_free_behind}
 use Rattle.rst_pieces.specs.declared.piece.Suffix.TheVariants.{Bare, Role, Named, Anonymous}
 use Rattle.rst_pieces.specs.declared.piece.Tail.{Tail}

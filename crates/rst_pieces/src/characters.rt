@@ -66,14 +66,14 @@ pub(crate) fn is_pair(before: char, behind: char) -> bool
 }
 
 /// Whether the character stands at the place.
-pub(crate) fn has(text: &[char], place: usize, c: char) -> bool
+pub fn has(text: &[char], place: usize, c: char) -> bool
     ensures { result ≡ has text.now place c }
 {
     text.get(place) == Some(&c)
 }
 
 /// Whether a character that isn't white stands at the place.
-pub(crate) fn is_dark(text: &[char], place: usize) -> bool
+pub fn is_dark(text: &[char], place: usize) -> bool
     ensures { result ≡ is_dark text.now place }
 {
     match text.get(place) {

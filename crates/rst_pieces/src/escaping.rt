@@ -19,12 +19,12 @@ pub fn unescaped(alloc: Global, text: &[char]) -> Result<Vec<char>, AllocError>
 {
     let mut out = Vec::new(alloc);
     let mut escaped = false;
-    for c in text {
-        if *c == '\\' && !escaped {
+    for letter in text {
+        if *letter == '\\' && !escaped {
             escaped = true;
         } else {
-            if !(escaped && is_white(*c)) {
-                out.push(*c)?;
+            if !(escaped && is_white(*letter)) {
+                out.push(*letter)?;
             }
             escaped = false;
         }

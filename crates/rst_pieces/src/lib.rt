@@ -13,6 +13,7 @@ mod scanner;
 mod tails;
 mod uri;
 
+pub use characters::{has, is_dark};
 pub use escaping::{escapes, unescaped};
 pub use laws::one_list_of_pieces;
 pub use piece::{Kind, Markup, Piece, Suffix};

@@ -69,7 +69,13 @@ impl Missing {
     }
 
     /// The least end of the markup that begins at `place` with its start-string at `start`.
-    pub(crate) fn end(&mut self, markup: Markup, text: &[char], place: usize, start: usize) -> Option<usize>
+    pub(crate) fn end(
+        &mut self,
+        markup: Markup,
+        text: &[char],
+        place: usize,
+        start: usize,
+    ) -> Option<usize>
         requires mark { has_start markup text.now start ≡ true }
         requires order { place ≤ start }
         requires below { start ≤ length text.now }

@@ -78,8 +78,28 @@ fn is_uri_char(c: char) -> bool
     c.is_ascii_alphanumeric()
         || matches!(
             c,
-            '-' | '_' | '.' | '~' | '!' | '*' | '\'' | '(' | ')' | ';' | '/' | '?' | ':' | '@' | '&' | '=' | '$' | '+'
-                | ',' | '%' | '#' | '[' | ']'
+            '-' | '_'
+                | '.'
+                | '~'
+                | '!'
+                | '*'
+                | '\''
+                | '('
+                | ')'
+                | ';'
+                | '/'
+                | '?'
+                | ':'
+                | '@'
+                | '&'
+                | '='
+                | '$'
+                | '+'
+                | ','
+                | '%'
+                | '#'
+                | '['
+                | ']'
         )
 }
 
@@ -88,10 +108,7 @@ fn is_uri_char(c: char) -> bool
 fn is_uri_trail(c: char) -> bool
     ensures { result ≡ is_uri_trail c }
 {
-    matches!(
-        c,
-        '.' | ',' | ':' | ';' | '!' | '?' | '\'' | ')' | ']'
-    )
+    matches!(c, '.' | ',' | ':' | ';' | '!' | '?' | '\'' | ')' | ']')
 }
 
 /// The least place from the place on that holds no character of a URI, or the text's end.

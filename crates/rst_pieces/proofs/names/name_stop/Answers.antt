@@ -1,4 +1,4 @@
-use Rattle.std.proofs.Common.{◌≡◌, not, ap, sym, length, Some, None, arith, true, false}
+use Rattle.std.proofs.Common.{◌≡◌, not, ap, sym, Some, None, arith, true, false}
 use Rattle.rst_pieces.specs.Characters.{is_alnum_at}
 use Rattle.rst_pieces.proofs.NameLemmas.{name_stop-is, name_stop-none}
 use Rattle.rst_pieces.proofs.names.name_stop.Goals as goal

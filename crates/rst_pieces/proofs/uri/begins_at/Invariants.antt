@@ -1,4 +1,4 @@
-use Rattle.std.proofs.Common.{◌≡◌, ◌+◌, ◌≤◌, length, drop}
+use Rattle.std.proofs.Common.{◌≡◌, ◌+◌, drop}
 use Rattle.rst_pieces.specs.Uri.{begins_at}
 use Rattle.rst_pieces.proofs.uri.begins_at.Given as goal
 

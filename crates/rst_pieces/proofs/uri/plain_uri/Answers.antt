@@ -1,4 +1,4 @@
-use Rattle.std.proofs.Common.{◌≡◌, ◌∙◌, sym, ap, true}
+use Rattle.std.proofs.Common.{◌≡◌, ◌∙◌, sym, ap}
 use Rattle.rst_pieces.specs.Uri.{is_ascii_uri}
 use Rattle.rst_pieces.proofs.UriLemmas.{is_ascii_uri-is, IsUri-ascii}
 use Rattle.rst_pieces.proofs.uri.plain_uri.Goals as goal

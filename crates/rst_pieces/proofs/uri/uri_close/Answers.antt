@@ -1,4 +1,4 @@
-use Rattle.std.proofs.Common.{◌≡◌, ◌∙◌, ◌+◌, ◌-◌, ap, not, Some, None, true, false, get_or, arith}
+use Rattle.std.proofs.Common.{◌≡◌, ◌+◌, ◌-◌, ap, not, Some, None, false, get_or, arith}
 use Rattle.std.proofs.lemmas.List.{get_or_read}
 use Rattle.rst_text.proofs.PlacesLemmas.{NoneFrom-within}
 use Rattle.rst_pieces.specs.Uri.{is_uri_trail}

@@ -1,4 +1,4 @@
-use Rattle.std.proofs.Common.{◌≡◌, ◌∙◌, sym, Some, None, true, false, arith}
+use Rattle.std.proofs.Common.{◌≡◌, sym, Some, None, true, false}
 use Rattle.rst_pieces.specs.Characters.{is_free_behind}
 use Rattle.rst_pieces.specs.Uri.{scheme_end, uri_stop, uri_close}
 use Rattle.rst_pieces.proofs.UriLemmas.{uri_end-none, uri_end-empty, uri_end-found, uri_end-stuck, none-inside}

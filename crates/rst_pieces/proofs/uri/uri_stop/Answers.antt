@@ -1,4 +1,4 @@
-use Rattle.std.proofs.Common.{◌≡◌, ◌∙◌, ap, not, true, false, get_or, arith}
+use Rattle.std.proofs.Common.{◌≡◌, ap, not, false, get_or, arith}
 use Rattle.std.proofs.lemmas.List.{get_or_read}
 use Rattle.rst_pieces.specs.Uri.{is_uri_char}
 use Rattle.rst_pieces.proofs.UriLemmas.{uri_stop-found, uri_stop-end}
