@@ -1,19 +1,14 @@
 -- The nodes and the messages of pieces, one piece after another.
-use Rattle.std.proofs.Common.{◌≡◌, ℕ, ◌+◌, List, [], ◌∷◌, ◌++◌, drop, refl, sym, ap, ◌∙◌, subst, append_assoc}
+use Rattle.std.proofs.Common.{◌≡◌, ℕ, List, subst}
 use Rattle.std.specs.Prelude.{Result, Ok, Err}
-use Rattle.rst_tree.specs.declared.node.Node.{Node}
-use Rattle.rst_tree.specs.declared.note.Note.{Note}
 use Rattle.rst_pieces.specs.Characters.{Text}
 use Rattle.rst_pieces.specs.Pieces.{IsPieces}
 use Rattle.rst_pieces.specs.declared.piece.Piece.{Piece}
-use Rattle.rst_inline.specs.declared.reading.Meaning.{Meaning}
 use Rattle.rst_inline.specs.declared.nodes.Pieces.{Pieces}
 use Rattle.rst_inline.specs.declared.fault.InlineFault.{InlineFault}
 use Rattle.rst_inline.specs.declared.fault.InlineFault.TheVariants.{NoMemory}
 use Rattle.rst_inline.specs.Faults.{Gives}
-use Rattle.rst_inline.specs.Parts.{source}
-use Rattle.rst_inline.specs.Readings.{reading}
-use Rattle.rst_inline.specs.Results.{nodes_by, notes_by, count_by, nodes_from, notes_from, Reads, IsRead}
+use Rattle.rst_inline.specs.Results.{Reads, IsRead}
 
 -- the pieces that were read are those of the text
 pub read-pieces : (t text : Text) (line : ℕ) (given pieces : List Piece) → t ≡ text → given ≡ pieces → IsPieces text 0 pieces → (r : Result Pieces InlineFault) → Gives (Reads t line given) r → Gives (IsRead text line) r

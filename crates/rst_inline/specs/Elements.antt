@@ -1,5 +1,5 @@
 -- The elements of inline markup (Document Tree, 'Inline Elements').
-use Rattle.std.specs.Prelude.{ℕ, ◌+◌, Bool, ◌&&◌, ◌==◌, nat_le, List, [], ◌∷◌, ◌++◌, if◌then◌else◌}
+use Rattle.std.specs.Prelude.{ℕ, Bool, ◌&&◌, ◌==◌, nat_le, List, [], ◌∷◌, if◌then◌else◌}
 use Rattle.std.specs.List.{list_all}
 use Rattle.rst_text.specs.Names.{name_of, normalized_white}
 use Rattle.rst_tree.specs.Attributes.{attr}
@@ -15,7 +15,7 @@ use Rattle.rst_tree.specs.declared.tag.Tag.{Tag}
 use Rattle.rst_tree.specs.declared.tag.Tag.TheVariants.{Target, Reference, SubstitutionReference, FootnoteReference, CitationReference, Problematic}
 use Rattle.rst_pieces.specs.Characters.{Text}
 use Rattle.rst_pieces.specs.declared.piece.Suffix.{Suffix}
-use Rattle.rst_pieces.specs.declared.piece.Suffix.TheVariants.{Bare, Role, Named, Anonymous as Nameless}
+use Rattle.rst_pieces.specs.declared.piece.Suffix.TheVariants.{Anonymous as Nameless}
 use Rattle.rst_inline.specs.Parts.{spelled}
 
 -- an attribute that says a text

@@ -1,5 +1,5 @@
 -- Embedded URIs and aliases (Markup Specification, 'Embedded URIs and Aliases').
-use Rattle.std.specs.Prelude.{ℕ, ◌+◌, ◌-◌, Bool, true, false, not, ◌&&◌, ◌||◌, ◌==◌, nat_lt, List, [], ◌∷◌, Option, None, Some, slice_index, length, filter, unwrap_or, if◌then◌else◌}
+use Rattle.std.specs.Prelude.{ℕ, ◌+◌, ◌-◌, Bool, not, ◌&&◌, ◌||◌, ◌==◌, nat_lt, Option, None, Some, slice_index, length, filter, unwrap_or, if◌then◌else◌}
 use Rattle.rst_text.specs.Characters.{is_white}
 use Rattle.rst_text.specs.Places.{last_from}
 use Rattle.rst_pieces.specs.Characters.{Text, has, is_dark}

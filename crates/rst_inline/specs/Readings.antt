@@ -1,6 +1,5 @@
 -- What a piece of an inline text means (Markup Specification, 'Inline Markup').
-use Rattle.std.specs.Prelude.{ℕ, ◌+◌, ◌-◌, Bool, true, false, ◌&&◌, nat_lt, List, [], ◌∷◌, ◌++◌, Option, None, Some, length, codes, if◌then◌else◌}
-use Rattle.rst_tree.specs.declared.node.Node.{Node}
+use Rattle.std.specs.Prelude.{ℕ, ◌+◌, ◌-◌, Bool, true, false, nat_lt, List, [], ◌∷◌, ◌++◌, Option, None, Some, codes}
 use Rattle.rst_tree.specs.declared.node.Node.TheVariants.{Text as Words}
 use Rattle.rst_tree.specs.declared.note.Level.TheVariants.{Warning, Error}
 use Rattle.rst_tree.specs.declared.tag.Tag.{Tag}

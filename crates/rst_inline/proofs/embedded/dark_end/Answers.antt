@@ -1,4 +1,4 @@
-use Rattle.std.proofs.Common.{◌≡◌, ◌+◌, ◌-◌, ◌∙◌, ap, not, false, get_or, arith, sym}
+use Rattle.std.proofs.Common.{◌≡◌, ◌+◌, ◌-◌, ◌∙◌, ap, not, false, get_or, arith}
 use Rattle.std.proofs.lemmas.List.{get_or_read}
 use Rattle.rst_text.specs.Characters.{is_white}
 use Rattle.rst_text.proofs.PlacesLemmas.{NoneFrom-within}

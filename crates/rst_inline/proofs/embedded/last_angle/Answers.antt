@@ -1,4 +1,4 @@
-use Rattle.std.proofs.Common.{◌≡◌, ◌+◌, true, false, sym, ◌∙◌, arith, ap, length, subst}
+use Rattle.std.proofs.Common.{◌≡◌, true, false, sym, ◌∙◌, arith, ap, length, subst}
 use Rattle.std.proofs.lemmas.List.{get_or_read}
 use Rattle.rst_text.specs.Places.{IsLast}
 use Rattle.rst_text.proofs.PlacesLemmas.{IsLast-new, IsLast-one}

@@ -1,4 +1,4 @@
-use Rattle.std.proofs.Common.{◌≡◌, ◌∙◌, refl, sym, subst, arith}
+use Rattle.std.proofs.Common.{◌∙◌, refl, sym, subst, arith}
 use Rattle.std.specs.Str.{chars}
 use Rattle.rst_pieces.specs.Pieces.{IsPieces}
 use Rattle.rst_pieces.proofs.PieceLemmas.{IsPieces-within}
