@@ -1,0 +1,7 @@
+pub mod Parts
+pub mod Faults
+pub mod Roles
+pub mod Embedded
+pub mod Elements
+pub mod Readings
+pub mod Results

@@ -1,0 +1,20 @@
+-- The characters of pieces of inline markup (Markup Specification, 'Inline Markup').
+use Rattle.std.specs.Prelude.{ℕ, List, take, drop, encode_utf8_all}
+use Rattle.rst_pieces.specs.Characters.{Text}
+use Rattle.rst_pieces.specs.declared.piece.Piece.{Piece}
+
+-- the characters from a place on, up to another place
+abbrev pub part : Text → ℕ → ℕ → Text
+part t low high = drop low (take high t)
+
+-- a piece as it is written
+abbrev pub source : Text → Piece → Text
+source t p = part t p.from p.to
+
+-- what its markup encloses
+abbrev pub content : Text → Piece → Text
+content t p = part t p.content_from p.content_to
+
+-- the bytes of a text
+abbrev pub spelled : Text → List ℕ
+spelled cs = encode_utf8_all cs

@@ -1,0 +1,119 @@
+-- What a piece of an inline text means (Markup Specification, 'Inline Markup').
+use Rattle.std.specs.Prelude.{ℕ, ◌+◌, ◌-◌, Bool, true, false, nat_lt, List, [], ◌∷◌, ◌++◌, Option, None, Some, codes}
+use Rattle.rst_tree.specs.declared.node.Node.TheVariants.{Text as Words}
+use Rattle.rst_tree.specs.declared.note.Level.TheVariants.{Warning, Error}
+use Rattle.rst_tree.specs.declared.tag.Tag.{Tag}
+use Rattle.rst_tree.specs.declared.tag.Tag.TheVariants as tag
+use Rattle.rst_pieces.specs.Characters.{Text}
+use Rattle.rst_pieces.specs.Escapes.{unescaped}
+use Rattle.rst_pieces.specs.declared.piece.Kind.TheVariants.{Plain, Marked, Unended, Label, Reference, Uri}
+use Rattle.rst_pieces.specs.declared.piece.Markup.{Markup}
+use Rattle.rst_pieces.specs.declared.piece.Markup.TheVariants.{Strong, Emphasis, Literal, Target, Substitution, Interpreted}
+use Rattle.rst_pieces.specs.declared.piece.Kind.{Kind}
+use Rattle.rst_pieces.specs.declared.piece.Piece.{Piece}
+use Rattle.rst_pieces.specs.declared.piece.Suffix.{Suffix}
+use Rattle.rst_pieces.specs.declared.piece.Suffix.TheVariants.{Bare, Role, Named, Anonymous}
+use Rattle.rst_inline.specs.declared.reading.Meaning.{Meaning}
+use Rattle.rst_inline.specs.declared.reading.Meaning.TheVariants.{Nothing, One, Two, Wrong}
+use Rattle.rst_inline.specs.Parts.{part, source, content, spelled}
+use Rattle.rst_inline.specs.Roles.{role_tag}
+use Rattle.rst_inline.specs.Embedded.{embedded_at, enclosed, is_alias, meant, shown_by}
+use Rattle.rst_inline.specs.Elements.{element_of, reference_node, uri_node, alias_node, embedded_node, target_node, uri_target_node, substitution_node, outer_node, label_node}
+
+-- ---- messages
+
+-- what markup is called in the message on a start-string without an end
+abbrev pub markup_name : Markup → List ℕ
+markup_name Strong = codes "strong"
+markup_name Emphasis = codes "emphasis"
+markup_name Literal = codes "literal"
+markup_name Target = codes "target"
+markup_name Substitution = codes "substitution_reference"
+markup_name Interpreted = codes "interpreted text or phrase reference"
+
+abbrev pub unended : Markup → Meaning
+unended markup = Wrong Warning (codes "Inline " ++ markup_name markup ++ codes " start-string without end-string.")
+
+abbrev pub unknown_role : List ℕ → Meaning
+unknown_role name = Wrong Error (codes "Unknown interpreted text role \"" ++ name ++ codes "\".")
+
+abbrev pub two_roles : Meaning
+two_roles = Wrong Warning (codes "Multiple roles in interpreted text (both prefix and suffix present; only one allowed).")
+
+abbrev pub mismatch : Meaning
+mismatch = Wrong Warning (codes "Mismatch: both interpreted text role and reference suffix.")
+
+-- ---- kinds of pieces
+
+-- plain text without its escapes
+abbrev pub plain_reading : Text → Meaning
+plain_reading [] = Nothing
+plain_reading (c ∷ cs) = One (Words (spelled (c ∷ cs)))
+
+abbrev pub substitution_reading : Suffix → Text → Text → Text → ℕ → Meaning
+substitution_reading Bare inner outer shown line = One (substitution_node inner shown line)
+substitution_reading suffix inner outer shown line = One (outer_node suffix outer shown (substitution_node inner shown line) line)
+
+-- A phrase with an embedded alias refers to a name; one with an embedded URI leaves a target, too, unless it is anonymous.
+abbrev pub embedded_reading : Suffix → Text → Text → Text → Bool → ℕ → Meaning
+embedded_reading suffix source shown meaning true line = One (alias_node source shown meaning line)
+embedded_reading Named source shown meaning false line = Two (embedded_node source shown meaning line) (uri_target_node shown meaning line)
+embedded_reading suffix source shown meaning false line = One (embedded_node source shown meaning line)
+
+abbrev pub phrase_reading_at : Suffix → Text → Text → Option ℕ → ℕ → Meaning
+phrase_reading_at suffix source phrase (Some k) line = embedded_reading suffix source (shown_by phrase k) (meant (enclosed phrase k)) (is_alias (enclosed phrase k)) line
+phrase_reading_at suffix source phrase None line = One (reference_node suffix source (unescaped phrase) line)
+
+-- a phrase that is a reference
+abbrev pub phrase_reading : Suffix → Text → Text → ℕ → Meaning
+phrase_reading suffix source phrase line = phrase_reading_at suffix source phrase (embedded_at phrase) line
+
+abbrev pub role_reading_by : Option Tag → List ℕ → Text → ℕ → Meaning
+role_reading_by (Some element) name shown line = One (element_of element [] shown line)
+role_reading_by None name shown line = unknown_role name
+
+-- interpreted text with a role
+abbrev pub role_reading : Text → Text → ℕ → Meaning
+role_reading role shown line = role_reading_by (role_tag (spelled role)) (spelled role) shown line
+
+-- a role stands in front of the backquote
+abbrev pub has_prefix : Piece → Bool
+has_prefix p = nat_lt (p.from + 1) p.content_from
+
+-- the role in front, and the one behind
+abbrev pub prefix_role : Text → Piece → Text
+prefix_role t p = part t (p.from + 1) (p.content_from - 2)
+
+abbrev pub suffix_role : Text → Piece → Text
+suffix_role t p = part t (p.content_to + 2) (p.to - 1)
+
+-- Interpreted text has one role, in front or behind, or that of a title reference, and then is no reference.
+abbrev pub interpreted_reading : Bool → Suffix → Text → Piece → ℕ → Meaning
+interpreted_reading true Bare t p line = role_reading (prefix_role t p) (unescaped (content t p)) line
+interpreted_reading true Role t p line = two_roles
+interpreted_reading true Named t p line = mismatch
+interpreted_reading true Anonymous t p line = mismatch
+interpreted_reading false Bare t p line = One (element_of tag.TitleReference [] (unescaped (content t p)) line)
+interpreted_reading false Role t p line = role_reading (suffix_role t p) (unescaped (content t p)) line
+interpreted_reading false Named t p line = phrase_reading Named (source t p) (content t p) line
+interpreted_reading false Anonymous t p line = phrase_reading Anonymous (source t p) (content t p) line
+
+abbrev pub marked_reading : Markup → Suffix → Text → Piece → ℕ → Meaning
+marked_reading Strong suffix t p line = One (element_of tag.Strong [] (unescaped (content t p)) line)
+marked_reading Emphasis suffix t p line = One (element_of tag.Emphasis [] (unescaped (content t p)) line)
+marked_reading Literal suffix t p line = One (element_of tag.Literal [] (content t p) line)
+marked_reading Target suffix t p line = One (target_node (unescaped (content t p)) line)
+marked_reading Substitution suffix t p line = substitution_reading suffix (part t p.from (p.content_to + 1)) (source t p) (unescaped (content t p)) line
+marked_reading Interpreted suffix t p line = interpreted_reading (has_prefix p) suffix t p line
+
+abbrev pub reading_by : Kind → Text → Piece → ℕ → Meaning
+reading_by Plain t p line = plain_reading (unescaped (source t p))
+reading_by (Marked markup suffix) t p line = marked_reading markup suffix t p line
+reading_by (Unended markup) t p line = unended markup
+reading_by Label t p line = One (label_node (source t p) (content t p) line)
+reading_by (Reference suffix) t p line = One (reference_node suffix (source t p) (content t p) line)
+reading_by Uri t p line = One (uri_node (source t p) line)
+
+-- what a piece means
+unfoldable pub reading : Text → ℕ → Piece → Meaning
+reading t line p = reading_by p.kind t p line

@@ -1,0 +1,113 @@
+//! Elements of inline markup.
+ghost use Rattle.std.specs.Prelude.{◌≡◌, []};
+ghost use Rattle.rst_tree.specs.Forest.{bare};
+ghost use Rattle.rst_tree.specs.declared.node.Node.TheVariants.{Element};
+ghost use Rattle.rst_inline.specs.Elements.{text_nodes, element_of, target_node, uri_target_node, problematic_node};
+ghost use Rattle.rst_inline.specs.Faults.{Gives};
+
+use super::attributes::{attr, one, three, two};
+use super::fault::InlineFault;
+use super::texts::{name_said, said, spelled};
+use rst_tree::{Attr, Attrs, Children, Key, Node, Tag, Value};
+use std::alloc::Global;
+
+/// The nodes of a text: none where it is empty.
+pub(crate) fn text_nodes(alloc: Global, shown: &[char]) -> Result<Children, InlineFault>
+    ensures { Gives (λ nodes. nodes ≡ text_nodes shown.now) result }
+{
+    let mut list = Vec::new(alloc);
+    if !shown.is_empty() {
+        let text = spelled(alloc, shown)?;
+        list.push(Node::Text(text))?;
+    }
+    Ok(Children::of(list))
+}
+
+/// An element with attributes that holds a text.
+pub(crate) fn element(
+    alloc: Global,
+    tag: Tag,
+    attrs: Vec<Attr>,
+    shown: &[char],
+    line: usize,
+) -> Result<Node, InlineFault>
+    ensures { Gives (λ node. node ≡ element_of tag attrs.items shown.now line) result }
+{
+    let children = text_nodes(alloc, shown)?;
+    Ok(Node::Element {
+        tag,
+        attrs: Attrs::of(attrs),
+        children,
+        line,
+    })
+}
+
+/// An element without attributes that holds a text.
+pub(crate) fn plain_element(
+    alloc: Global,
+    tag: Tag,
+    shown: &[char],
+    line: usize,
+) -> Result<Node, InlineFault>
+    ensures { Gives (λ node. node ≡ element_of tag [] shown.now line) result }
+{
+    element(alloc, tag, Vec::new(alloc), shown, line)
+}
+
+/// An element with attributes that holds nothing.
+pub(crate) fn bare_element(alloc: Global, tag: Tag, attrs: Vec<Attr>, line: usize) -> Node
+    ensures { result ≡ Element tag attrs.items bare line }
+{
+    Node::Element {
+        tag,
+        attrs: Attrs::of(attrs),
+        children: Children::new(alloc),
+        line,
+    }
+}
+
+/// An inline target, named by its text.
+pub(crate) fn target(alloc: Global, shown: &[char], line: usize) -> Result<Node, InlineFault>
+    ensures { Gives (λ node. node ≡ target_node shown.now line) result }
+{
+    let name = name_said(alloc, shown)?;
+    let attrs = two(
+        alloc,
+        attr(Key::Inline, Value::Number(1)),
+        attr(Key::OwnName, name),
+    )?;
+    element(alloc, Tag::Target, attrs, shown, line)
+}
+
+/// The target that an embedded URI leaves, named by its phrase.
+pub(crate) fn uri_target(
+    alloc: Global,
+    shown: &[char],
+    uri: &[char],
+    line: usize,
+) -> Result<Node, InlineFault>
+    ensures { Gives (λ node. node ≡ uri_target_node shown.now uri.now line) result }
+{
+    let name = name_said(alloc, shown)?;
+    let uri = said(alloc, uri)?;
+    let attrs = three(
+        alloc,
+        attr(Key::Inline, Value::Number(1)),
+        attr(Key::OwnName, name),
+        attr(Key::Refuri, uri),
+    )?;
+    Ok(bare_element(alloc, Tag::Target, attrs, line))
+}
+
+/// What is wrong as it is written, with the place of its message among those of the text.
+pub(crate) fn problematic(
+    alloc: Global,
+    place: usize,
+    source: &[char],
+    line: usize,
+) -> Result<Node, InlineFault>
+    ensures { Gives (λ node. node ≡ problematic_node place source.now line) result }
+{
+    let attrs = one(alloc, attr(Key::Message, Value::Number(place as u64)))?;
+    element(alloc, Tag::Problematic, attrs, source, line)
+}

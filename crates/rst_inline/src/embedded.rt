@@ -1,0 +1,154 @@
+//! Embedded URIs and aliases.
+ghost use Rattle.std.specs.Prelude.{◌≡◌, ◌+◌, ◌<◌, ◌≤◌, length, filter, IfOk, IfSome, ◌&&◌, ◌==◌, not};
+ghost use Rattle.rst_inline.specs.Embedded.{ends_with, last_angle, fits_angle, embedded_at, dark_end, enclosed, is_alias, is_black, meant, shown_by};
+ghost use Rattle.rst_inline.specs.Faults.{Gives};
+
+use super::fault::InlineFault;
+use super::texts::part;
+use rst_pieces::{escapes, has, is_dark, unescaped};
+use rst_text::is_white;
+use std::alloc::{AllocError, Global};
+
+fn is_black(c: char) -> bool
+    ensures { result ≡ is_black c }
+{
+    !is_white(c)
+}
+
+/// Whether the last character is this one, and not escaped.
+fn ends_with(text: &[char], c: char) -> bool
+    ensures { result ≡ ends_with text.now c }
+{
+    let mut escaped = false;
+    let mut place = 0;
+    while place + 1 < text.len() {
+        escaped = escapes(text[place], escaped);
+        place += 1;
+    }
+    has(text, place, c) && !escaped
+}
+
+fn is_opening(c: char, escaped: bool) -> bool
+    ensures { result ≡ (c == 60 && not escaped) }
+{
+    c == '<' && !escaped
+}
+
+/// The place of the last `<` that is not escaped.
+fn last_angle(text: &[char]) -> Option<usize>
+    ensures exact { result ≡ last_angle text.now }
+    ensures below { IfSome result (λ place. place < length text.now) }
+{
+    let mut found = None;
+    let mut escaped = false;
+    for place in 0..text.len() {
+        let c = text[place];
+        let opens = is_opening(c, escaped);
+        escaped = escapes(c, escaped);
+        if opens {
+            found = Some(place);
+            continue;
+        }
+    }
+    found
+}
+
+/// Whether what the angle brackets hold, and what stands before them, fits.
+#[tactic(auto, unfolding(crate::specs::Embedded::fits_angle))]
+fn fits_angle(text: &[char], place: usize) -> bool
+    requires { place < length text.now }
+    ensures { result ≡ fits_angle text.now place }
+{
+    place + 2 < text.len()
+        && is_dark(text, place + 1)
+        && is_dark(text, text.len() - 2)
+        && (place == 0 || is_white(text[place - 1]))
+}
+
+/// Where the `<` of an embedded URI or alias stands at the end of a phrase, if it has one.
+#[tactic(auto, unfolding(crate::specs::Embedded::embedded_at))]
+pub(crate) fn embedded_at(phrase: &[char]) -> Option<usize>
+    ensures exact { result ≡ embedded_at phrase.now }
+    ensures below { IfSome result (λ place. place < length phrase.now) }
+{
+    if !ends_with(phrase, '>') {
+        return None;
+    }
+    let place = last_angle(phrase)?;
+    if fits_angle(phrase, place) {
+        Some(place)
+    } else {
+        None
+    }
+}
+
+/// What the angle brackets hold.
+pub(crate) fn enclosed(phrase: &[char], place: usize) -> &[char]
+    requires { place < length phrase.now }
+    ensures { result.now ≡ enclosed phrase.now place }
+{
+    part(phrase, place + 1, phrase.len() - 1)
+}
+
+/// Whether what the angle brackets hold is an alias.
+#[tactic(auto, unfolding(crate::specs::Embedded::is_alias))]
+pub(crate) fn is_alias(held: &[char]) -> bool
+    ensures { result ≡ is_alias held.now }
+{
+    1 < held.len() && ends_with(held, '_')
+}
+
+/// What an embedded URI or alias refers to.
+pub(crate) fn meant(alloc: Global, held: &[char]) -> Result<Vec<char>, AllocError>
+    ensures { IfOk result (λ meaning. meaning.items ≡ meant held.now) }
+{
+    if is_alias(held) {
+        unescaped(alloc, part(held, 0, held.len() - 1))
+    } else {
+        let plain = unescaped(alloc, held)?;
+        without_white(alloc, &plain)
+    }
+}
+
+fn without_white(alloc: Global, text: &[char]) -> Result<Vec<char>, AllocError>
+    ensures { IfOk result (λ black. black.items ≡ filter is_black text.now) }
+{
+    let mut black = Vec::new(alloc);
+    for c in text {
+        if is_black(*c) {
+            black.push(*c)?;
+        }
+    }
+    Ok(black)
+}
+
+/// The place behind the last character before `place` that isn't white.
+fn dark_end(text: &[char], place: usize) -> usize
+    requires { place ≤ length text.now }
+    ensures { result ≡ dark_end text.now place }
+{
+    let mut end = place;
+    while 0 < end {
+        if !is_white(text[end - 1]) {
+            return end;
+        }
+        end -= 1;
+    }
+    end
+}
+
+/// What is shown of a phrase whose angle brackets begin at a place.
+pub(crate) fn shown_by(
+    alloc: Global,
+    phrase: &[char],
+    place: usize,
+) -> Result<Vec<char>, AllocError>
+    requires { place < length phrase.now }
+    ensures { IfOk result (λ shown. shown.items ≡ shown_by phrase.now place) }
+{
+    if place == 0 {
+        meant(alloc, enclosed(phrase, place))
+    } else {
+        unescaped(alloc, part(phrase, 0, dark_end(phrase, place)))
+    }
+}

@@ -1,0 +1,118 @@
+//! References to footnotes and citations.
+ghost use Rattle.std.specs.Prelude.{◌≡◌};
+ghost use Rattle.std.specs.List.{list_all};
+ghost use Rattle.rst_inline.specs.Elements.{is_digit, label_tag, labelled_node, numbered_node, symbol_node, label_node};
+ghost use Rattle.rst_inline.specs.Faults.{Gives};
+
+use super::attributes::{attr, three, two};
+use super::elements::{bare_element, element};
+use super::fault::InlineFault;
+use super::texts::{name_said, said};
+use rst_tree::{Key, Node, Tag, Value};
+use std::alloc::Global;
+
+fn are_digits(label: &[char]) -> bool
+    ensures { result ≡ list_all is_digit label.now }
+{
+    for c in label {
+        if !is_digit(*c) {
+            return false;
+        }
+    }
+    true
+}
+
+fn is_digit(c: char) -> bool
+    ensures { result ≡ is_digit c }
+{
+    '0' <= c && c <= '9'
+}
+
+/// What a label refers to: digits a footnote, any other a citation.
+fn label_tag(label: &[char]) -> Tag
+    ensures { result ≡ label_tag label.now }
+{
+    if are_digits(label) {
+        Tag::FootnoteReference
+    } else {
+        Tag::CitationReference
+    }
+}
+
+fn labelled(
+    alloc: Global,
+    source: &[char],
+    label: &[char],
+    line: usize,
+) -> Result<Node, InlineFault>
+    ensures { Gives (λ node. node ≡ labelled_node source.now label.now line) result }
+{
+    let written = said(alloc, source)?;
+    let name = name_said(alloc, label)?;
+    let attrs = two(
+        alloc,
+        attr(Key::Rawsource, written),
+        attr(Key::Refname, name),
+    )?;
+    element(alloc, label_tag(label), attrs, label, line)
+}
+
+/// A footnote that is numbered, alone or with a name.
+fn numbered(alloc: Global, source: &[char], name: &[char], line: usize) -> Result<Node, InlineFault>
+    ensures { Gives (λ node. node ≡ numbered_node source.now name.now line) result }
+{
+    let written = said(alloc, source)?;
+    match name {
+        [] => {
+            let attrs = two(
+                alloc,
+                attr(Key::Auto, Value::Number(1)),
+                attr(Key::Rawsource, written),
+            )?;
+            Ok(bare_element(alloc, Tag::FootnoteReference, attrs, line))
+        }
+        _ => {
+            let refname = name_said(alloc, name)?;
+            let attrs = three(
+                alloc,
+                attr(Key::Auto, Value::Number(1)),
+                attr(Key::Rawsource, written),
+                attr(Key::Refname, refname),
+            )?;
+            Ok(bare_element(alloc, Tag::FootnoteReference, attrs, line))
+        }
+    }
+}
+
+/// A footnote with a symbol.
+fn symbol(alloc: Global, source: &[char], line: usize) -> Result<Node, InlineFault>
+    ensures { Gives (λ node. node ≡ symbol_node source.now line) result }
+{
+    let written = said(alloc, source)?;
+    let auto = said(alloc, &['*'])?;
+    let attrs = two(alloc, attr(Key::Auto, auto), attr(Key::Rawsource, written))?;
+    Ok(bare_element(alloc, Tag::FootnoteReference, attrs, line))
+}
+
+/// The reference that a label in brackets makes.
+pub(crate) fn label_reference(
+    alloc: Global,
+    source: &[char],
+    label: &[char],
+    line: usize,
+) -> Result<Node, InlineFault>
+    ensures { Gives (λ node. node ≡ label_node source.now label.now line) result }
+{
+    match label {
+        [] => labelled(alloc, source, label, line),
+        [first, rest @ ..] => {
+            if *first == '#' {
+                return numbered(alloc, source, rest, line);
+            }
+            if *first == '*' {
+                return symbol(alloc, source, line);
+            }
+            labelled(alloc, source, label, line)
+        }
+    }
+}

@@ -1,0 +1,21 @@
+//! Inline markup: the nodes and the messages of a text.
+#![tactic(auto)]
+
+mod attributes;
+mod elements;
+mod embedded;
+mod fault;
+mod labels;
+mod nodes;
+mod reading;
+mod references;
+mod roles;
+mod texts;
+
+pub use fault::InlineFault;
+pub use nodes::{Pieces, inline};
+pub use rst_pieces::plain_uri;
+pub use texts::unescape;
+
+#[cfg(test)]
+mod tests;

@@ -1,0 +1,305 @@
+//! What pieces mean.
+ghost use Rattle.std.specs.Prelude.{◌≡◌, ◌++◌, length, string_bytes};
+ghost use Rattle.rst_pieces.specs.Pieces.{IsWithin};
+ghost use Rattle.rst_inline.specs.Parts.{source, content, spelled};
+ghost use Rattle.rst_inline.specs.Readings.{markup_name, unended, unknown_role, two_roles, mismatch, plain_reading, substitution_reading, embedded_reading, phrase_reading, role_reading_by, role_reading, has_prefix, interpreted_reading, marked_reading, reading};
+ghost use Rattle.rst_inline.specs.Faults.{Gives};
+
+use super::elements::{plain_element, target, uri_target};
+use super::embedded::{embedded_at, enclosed, is_alias, meant, shown_by};
+use super::fault::InlineFault;
+use super::labels::label_reference;
+use super::references::{
+    alias_reference, embedded_reference, outer_reference, reference, substitution, uri_reference,
+};
+use super::roles::role_tag;
+use super::texts::{part, spelled};
+use rst_pieces::{Kind, Markup, Piece, Suffix, unescaped};
+use rst_tree::{Level, Node, Tag, Text};
+use std::alloc::Global;
+
+/// What a piece means: no node, one or two, or that it is wrong, with the message that says so.
+#[derive(Debug, Drop)]
+pub(crate) enum Meaning {
+    Nothing,
+    One(Node),
+    Two(Node, Node),
+    Wrong(Level, Text),
+}
+
+fn markup_name(markup: Markup) -> &'static str
+    ensures { result.now ≡ markup_name markup }
+{
+    match markup {
+        Markup::Strong => "strong",
+        Markup::Emphasis => "emphasis",
+        Markup::Literal => "literal",
+        Markup::Target => "target",
+        Markup::Substitution => "substitution_reference",
+        Markup::Interpreted => "interpreted text or phrase reference",
+    }
+}
+
+/// A start-string without an end-string.
+fn unended(alloc: Global, markup: Markup) -> Result<Meaning, InlineFault>
+    ensures { Gives (λ reading. reading ≡ unended markup) result }
+{
+    let mut text = String::from_str(alloc, "Inline ")?;
+    text.push_str(markup_name(markup))?;
+    text.push_str(" start-string without end-string.")?;
+    Ok(Meaning::Wrong(Level::Warning, Text::new(text)))
+}
+
+fn unknown_role(alloc: Global, name: &str) -> Result<Meaning, InlineFault>
+    ensures { Gives (λ reading. reading ≡ unknown_role name.now) result }
+{
+    let mut text = String::from_str(alloc, "Unknown interpreted text role \"")?;
+    text.push_str(name)?;
+    text.push_str("\".")?;
+    Ok(Meaning::Wrong(Level::Error, Text::new(text)))
+}
+
+fn two_roles(alloc: Global) -> Result<Meaning, InlineFault>
+    ensures { Gives (λ reading. reading ≡ two_roles) result }
+{
+    let text =
+        "Multiple roles in interpreted text (both prefix and suffix present; only one allowed).";
+    Ok(Meaning::Wrong(Level::Warning, Text::from_str(alloc, text)?))
+}
+
+fn mismatch(alloc: Global) -> Result<Meaning, InlineFault>
+    ensures { Gives (λ reading. reading ≡ mismatch) result }
+{
+    let text = "Mismatch: both interpreted text role and reference suffix.";
+    Ok(Meaning::Wrong(Level::Warning, Text::from_str(alloc, text)?))
+}
+
+/// Plain text without its escapes.
+fn plain(alloc: Global, shown: &[char]) -> Result<Meaning, InlineFault>
+    ensures { Gives (λ reading. reading ≡ plain_reading shown.now) result }
+{
+    match shown {
+        [] => Ok(Meaning::Nothing),
+        _ => {
+            let text = spelled(alloc, shown)?;
+            Ok(Meaning::One(Node::Text(text)))
+        }
+    }
+}
+
+fn substituted(
+    alloc: Global,
+    suffix: Suffix,
+    inner: &[char],
+    outer: &[char],
+    shown: &[char],
+    line: usize,
+) -> Result<Meaning, InlineFault>
+    ensures { Gives (λ reading. reading ≡ substitution_reading suffix inner.now outer.now shown.now line) result }
+{
+    let node = substitution(alloc, inner, shown, line)?;
+    match suffix {
+        Suffix::Bare => Ok(Meaning::One(node)),
+        _ => {
+            let node = outer_reference(alloc, suffix, outer, shown, node, line)?;
+            Ok(Meaning::One(node))
+        }
+    }
+}
+
+/// A phrase with an embedded URI or alias.
+fn embedded(
+    alloc: Global,
+    suffix: Suffix,
+    source: &[char],
+    shown: &[char],
+    meaning: &[char],
+    is_alias: bool,
+    line: usize,
+) -> Result<Meaning, InlineFault>
+    ensures { Gives (λ reading. reading ≡ embedded_reading suffix source.now shown.now meaning.now is_alias line) result }
+{
+    if is_alias {
+        let node = alias_reference(alloc, source, shown, meaning, line)?;
+        return Ok(Meaning::One(node));
+    }
+    let node = embedded_reference(alloc, source, shown, meaning, line)?;
+    match suffix {
+        Suffix::Named => {
+            let target = uri_target(alloc, shown, meaning, line)?;
+            Ok(Meaning::Two(node, target))
+        }
+        _ => Ok(Meaning::One(node)),
+    }
+}
+
+/// A phrase that is a reference.
+fn phrase(
+    alloc: Global,
+    suffix: Suffix,
+    source: &[char],
+    phrase: &[char],
+    line: usize,
+) -> Result<Meaning, InlineFault>
+    ensures { Gives (λ reading. reading ≡ phrase_reading suffix source.now phrase.now line) result }
+{
+    match embedded_at(phrase) {
+        Some(place) => {
+            let held = enclosed(phrase, place);
+            let shown = shown_by(alloc, phrase, place)?;
+            let meaning = meant(alloc, held)?;
+            embedded(
+                alloc,
+                suffix,
+                source,
+                &shown,
+                &meaning,
+                is_alias(held),
+                line,
+            )
+        }
+        None => {
+            let shown = unescaped(alloc, phrase)?;
+            let node = reference(alloc, suffix, source, &shown, line)?;
+            Ok(Meaning::One(node))
+        }
+    }
+}
+
+/// Interpreted text with a role.
+fn with_role(
+    alloc: Global,
+    role: &[char],
+    shown: &[char],
+    line: usize,
+) -> Result<Meaning, InlineFault>
+    ensures { Gives (λ reading. reading ≡ role_reading role.now shown.now line) result }
+{
+    let name = spelled(alloc, role)?;
+    match role_tag(name.as_str()) {
+        Some(tag) => {
+            let node = plain_element(alloc, tag, shown, line)?;
+            Ok(Meaning::One(node))
+        }
+        None => unknown_role(alloc, name.as_str()),
+    }
+}
+
+/// Interpreted text, or a phrase that is a reference.
+fn interpreted(
+    alloc: Global,
+    suffix: Suffix,
+    text: &[char],
+    piece: Piece,
+    line: usize,
+) -> Result<Meaning, InlineFault>
+    requires { IsWithin text.now piece }
+    ensures { Gives (λ reading. reading ≡ interpreted_reading (has_prefix piece) suffix text.now piece line) result }
+{
+    let content = part(text, piece.content_from, piece.content_to);
+    let shown = unescaped(alloc, content)?;
+    if piece.from + 1 < piece.content_from {
+        return match suffix {
+            Suffix::Bare => with_role(
+                alloc,
+                part(text, piece.from + 1, piece.content_from - 2),
+                &shown,
+                line,
+            ),
+            Suffix::Role => two_roles(alloc),
+            Suffix::Named | Suffix::Anonymous => mismatch(alloc),
+        };
+    }
+    match suffix {
+        Suffix::Bare => {
+            let node = plain_element(alloc, Tag::TitleReference, &shown, line)?;
+            Ok(Meaning::One(node))
+        }
+        Suffix::Role => with_role(
+            alloc,
+            part(text, piece.content_to + 2, piece.to - 1),
+            &shown,
+            line,
+        ),
+        Suffix::Named | Suffix::Anonymous => {
+            let source = part(text, piece.from, piece.to);
+            phrase(alloc, suffix, source, content, line)
+        }
+    }
+}
+
+/// Markup with its end-string.
+fn marked(
+    alloc: Global,
+    markup: Markup,
+    suffix: Suffix,
+    text: &[char],
+    piece: Piece,
+    line: usize,
+) -> Result<Meaning, InlineFault>
+    requires { IsWithin text.now piece }
+    ensures { Gives (λ reading. reading ≡ marked_reading markup suffix text.now piece line) result }
+{
+    let content = part(text, piece.content_from, piece.content_to);
+    let shown = unescaped(alloc, content)?;
+    match markup {
+        Markup::Strong => {
+            let node = plain_element(alloc, Tag::Strong, &shown, line)?;
+            Ok(Meaning::One(node))
+        }
+        Markup::Emphasis => {
+            let node = plain_element(alloc, Tag::Emphasis, &shown, line)?;
+            Ok(Meaning::One(node))
+        }
+        Markup::Literal => {
+            let node = plain_element(alloc, Tag::Literal, content, line)?;
+            Ok(Meaning::One(node))
+        }
+        Markup::Target => {
+            let node = target(alloc, &shown, line)?;
+            Ok(Meaning::One(node))
+        }
+        Markup::Substitution => {
+            let inner = part(text, piece.from, piece.content_to + 1);
+            let outer = part(text, piece.from, piece.to);
+            substituted(alloc, suffix, inner, outer, &shown, line)
+        }
+        Markup::Interpreted => interpreted(alloc, suffix, text, piece, line),
+    }
+}
+
+/// What a piece of a text means.
+#[tactic(auto, unfolding(crate::specs::Readings::reading))]
+pub(crate) fn reading(
+    alloc: Global,
+    text: &[char],
+    line: usize,
+    piece: Piece,
+) -> Result<Meaning, InlineFault>
+    requires { IsWithin text.now piece }
+    ensures { Gives (λ read. read ≡ reading text.now line piece) result }
+{
+    let source = part(text, piece.from, piece.to);
+    match piece.kind {
+        Kind::Plain => {
+            let shown = unescaped(alloc, source)?;
+            plain(alloc, &shown)
+        }
+        Kind::Marked(markup, suffix) => marked(alloc, markup, suffix, text, piece, line),
+        Kind::Unended(markup) => unended(alloc, markup),
+        Kind::Label => {
+            let label = part(text, piece.content_from, piece.content_to);
+            let node = label_reference(alloc, source, label, line)?;
+            Ok(Meaning::One(node))
+        }
+        Kind::Reference(suffix) => {
+            let shown = part(text, piece.content_from, piece.content_to);
+            let node = reference(alloc, suffix, source, shown, line)?;
+            Ok(Meaning::One(node))
+        }
+        Kind::Uri => {
+            let node = uri_reference(alloc, source, line)?;
+            Ok(Meaning::One(node))
+        }
+    }
+}

@@ -1,0 +1,180 @@
+//! References, and the substitutions that they stand round.
+ghost use Rattle.std.specs.Prelude.{◌≡◌};
+ghost use Rattle.rst_inline.specs.Elements.{reference_attrs, reference_node, uri_node, alias_node, embedded_node, substitution_node, outer_attrs, outer_node};
+ghost use Rattle.rst_inline.specs.Faults.{Gives};
+
+use super::attributes::{attr, three, two};
+use super::elements::element;
+use super::fault::InlineFault;
+use super::texts::{name_said, normalized_said, said};
+use rst_pieces::Suffix;
+use rst_tree::{Attr, Attrs, Children, Key, Node, Tag, Value};
+use std::alloc::Global;
+
+fn reference_attrs(
+    alloc: Global,
+    suffix: Suffix,
+    source: &[char],
+    shown: &[char],
+) -> Result<Vec<Attr>, InlineFault>
+    ensures { Gives (λ attrs. attrs.items ≡ reference_attrs suffix source.now shown.now) result }
+{
+    let name = normalized_said(alloc, shown)?;
+    let written = said(alloc, source)?;
+    match suffix {
+        Suffix::Anonymous => three(
+            alloc,
+            attr(Key::Anonymous, Value::Number(1)),
+            attr(Key::Name, name),
+            attr(Key::Rawsource, written),
+        ),
+        _ => {
+            let refname = name_said(alloc, shown)?;
+            three(
+                alloc,
+                attr(Key::Name, name),
+                attr(Key::Rawsource, written),
+                attr(Key::Refname, refname),
+            )
+        }
+    }
+}
+
+/// A reference by the name that it shows, or an anonymous one.
+pub(crate) fn reference(
+    alloc: Global,
+    suffix: Suffix,
+    source: &[char],
+    shown: &[char],
+    line: usize,
+) -> Result<Node, InlineFault>
+    ensures { Gives (λ node. node ≡ reference_node suffix source.now shown.now line) result }
+{
+    let attrs = reference_attrs(alloc, suffix, source, shown)?;
+    element(alloc, Tag::Reference, attrs, shown, line)
+}
+
+/// A standalone URI.
+pub(crate) fn uri_reference(
+    alloc: Global,
+    source: &[char],
+    line: usize,
+) -> Result<Node, InlineFault>
+    ensures { Gives (λ node. node ≡ uri_node source.now line) result }
+{
+    let written = said(alloc, source)?;
+    let uri = said(alloc, source)?;
+    let attrs = two(alloc, attr(Key::Rawsource, written), attr(Key::Refuri, uri))?;
+    element(alloc, Tag::Reference, attrs, source, line)
+}
+
+/// A phrase with an embedded alias.
+pub(crate) fn alias_reference(
+    alloc: Global,
+    source: &[char],
+    shown: &[char],
+    alias: &[char],
+    line: usize,
+) -> Result<Node, InlineFault>
+    ensures { Gives (λ node. node ≡ alias_node source.now shown.now alias.now line) result }
+{
+    let name = normalized_said(alloc, shown)?;
+    let written = said(alloc, source)?;
+    let refname = name_said(alloc, alias)?;
+    let attrs = three(
+        alloc,
+        attr(Key::Name, name),
+        attr(Key::Rawsource, written),
+        attr(Key::Refname, refname),
+    )?;
+    element(alloc, Tag::Reference, attrs, shown, line)
+}
+
+/// A phrase with an embedded URI.
+pub(crate) fn embedded_reference(
+    alloc: Global,
+    source: &[char],
+    shown: &[char],
+    uri: &[char],
+    line: usize,
+) -> Result<Node, InlineFault>
+    ensures { Gives (λ node. node ≡ embedded_node source.now shown.now uri.now line) result }
+{
+    let name = normalized_said(alloc, shown)?;
+    let written = said(alloc, source)?;
+    let refuri = said(alloc, uri)?;
+    let attrs = three(
+        alloc,
+        attr(Key::Name, name),
+        attr(Key::Rawsource, written),
+        attr(Key::Refuri, refuri),
+    )?;
+    element(alloc, Tag::Reference, attrs, shown, line)
+}
+
+/// A substitution.
+pub(crate) fn substitution(
+    alloc: Global,
+    source: &[char],
+    shown: &[char],
+    line: usize,
+) -> Result<Node, InlineFault>
+    ensures { Gives (λ node. node ≡ substitution_node source.now shown.now line) result }
+{
+    let written = said(alloc, source)?;
+    let name = normalized_said(alloc, shown)?;
+    let attrs = two(
+        alloc,
+        attr(Key::Rawsource, written),
+        attr(Key::Refname, name),
+    )?;
+    element(alloc, Tag::SubstitutionReference, attrs, shown, line)
+}
+
+fn outer_attrs(
+    alloc: Global,
+    suffix: Suffix,
+    source: &[char],
+    shown: &[char],
+) -> Result<Vec<Attr>, InlineFault>
+    ensures { Gives (λ attrs. attrs.items ≡ outer_attrs suffix source.now shown.now) result }
+{
+    let written = said(alloc, source)?;
+    match suffix {
+        Suffix::Anonymous => two(
+            alloc,
+            attr(Key::Anonymous, Value::Number(1)),
+            attr(Key::Rawsource, written),
+        ),
+        _ => {
+            let refname = name_said(alloc, shown)?;
+            two(
+                alloc,
+                attr(Key::Rawsource, written),
+                attr(Key::Refname, refname),
+            )
+        }
+    }
+}
+
+/// The reference that stands round a substitution.
+pub(crate) fn outer_reference(
+    alloc: Global,
+    suffix: Suffix,
+    source: &[char],
+    shown: &[char],
+    inner: Node,
+    line: usize,
+) -> Result<Node, InlineFault>
+    ensures { Gives (λ node. node ≡ outer_node suffix source.now shown.now inner line) result }
+{
+    let attrs = outer_attrs(alloc, suffix, source, shown)?;
+    let mut list = Vec::new(alloc);
+    list.push(inner)?;
+    Ok(Node::Element {
+        tag: Tag::Reference,
+        attrs: Attrs::of(attrs),
+        children: Children::of(list),
+        line,
+    })
+}

@@ -1,0 +1,81 @@
+//! Characters as texts of the tree.
+ghost use Rattle.std.specs.Prelude.{◌≡◌, string_bytes, IfOk};
+ghost use Rattle.std.specs.Str.{chars};
+ghost use Rattle.rst_text.specs.Names as names;
+ghost use Rattle.rst_text.specs.Text.{chars_of};
+ghost use Rattle.rst_pieces.specs.Escapes.{unescaped};
+ghost use Rattle.rst_inline.specs.Parts.{part, spelled};
+ghost use Rattle.rst_inline.specs.Elements.{said};
+ghost use Rattle.rst_inline.specs.Faults.{Gives};
+
+use super::fault::InlineFault;
+use rst_pieces::unescaped;
+use rst_text::{characters_of, name_of, normalized_white};
+use rst_tree::{Text, Value};
+use std::alloc::{AllocError, Global};
+
+/// The text without its escapes: a backslash vanishes, and white behind one; any other character behind one stays
+/// (Markup Specification, 'Escaping Mechanism').
+///
+/// The only refusal is [`InlineFault::NoMemory`].
+pub fn unescape(alloc: Global, text: &str) -> Result<String, InlineFault>
+    ensures { Gives (λ out. chars_of out ≡ unescaped (chars text.now)) result }
+{
+    let characters = characters_of(alloc, text)?;
+    let plain = unescaped(alloc, &characters)?;
+    let out = spell(alloc, &plain)?;
+    Ok(out)
+}
+
+/// The text that characters spell.
+fn spell(alloc: Global, characters: &[char]) -> Result<String, AllocError>
+    ensures { IfOk result (λ out. string_bytes out ≡ spelled characters.now) }
+{
+    let mut out = String::new(alloc);
+    for c in characters {
+        out.push(*c)?;
+    }
+    Ok(out)
+}
+
+/// The text that characters spell, as one of the tree.
+pub(crate) fn spelled(alloc: Global, characters: &[char]) -> Result<Text, InlineFault>
+    ensures { Gives (λ text. text ≡ spelled characters.now) result }
+{
+    let out = spell(alloc, characters)?;
+    Ok(Text::new(out))
+}
+
+/// A value that says the characters.
+pub(crate) fn said(alloc: Global, characters: &[char]) -> Result<Value, InlineFault>
+    ensures { Gives (λ value. value ≡ said characters.now) result }
+{
+    let text = spelled(alloc, characters)?;
+    Ok(Value::Text(text))
+}
+
+/// A value that says the name that the characters give.
+pub(crate) fn name_said(alloc: Global, characters: &[char]) -> Result<Value, InlineFault>
+    ensures { Gives (λ value. value ≡ said (names.name_of characters.now)) result }
+{
+    let text = spell(alloc, characters)?;
+    let name = name_of(alloc, text.as_str())?;
+    Ok(Value::Text(Text::new(name)))
+}
+
+/// A value that says the characters with each run of white ones as one space, and none at the ends.
+pub(crate) fn normalized_said(alloc: Global, characters: &[char]) -> Result<Value, InlineFault>
+    ensures { Gives (λ value. value ≡ said (names.normalized_white characters.now)) result }
+{
+    let text = spell(alloc, characters)?;
+    let name = normalized_white(alloc, text.as_str())?;
+    Ok(Value::Text(Text::new(name)))
+}
+
+/// The characters from a place on, up to another place.
+pub(crate) fn part(text: &[char], low: usize, high: usize) -> &[char]
+    ensures { result.now ≡ part text.now low high }
+{
+    let high = high.min(text.len());
+    &text[low.min(high)..high]
+}

@@ -1,0 +1,46 @@
+-- How far escapes reach.
+use Rattle.std.proofs.Common.{◌≡◌, ℕ, zero, suc, ◌+◌, ◌-◌, ◌<◌, ◌≤◌, Bool, true, false, ◌&&◌, ◌==◌, leb, get_or, refl, sym, ap, ◌∙◌, subst, arith, add-one}
+use Rattle.std.proofs.lemmas.Bool.{le-leb, eqb-true, and_parts}
+use Rattle.std.proofs.lemmas.Bool.Decides.{nat_tests}
+use Rattle.rst_pieces.specs.Characters.{Text, has}
+use Rattle.rst_pieces.specs.Escapes.{escapes, is_escaped}
+
+pub is_escaped-start : (t : Text) (from : ℕ) → is_escaped t from from ≡ false
+unfolding is_escaped
+is_escaped-start t zero = refl
+is_escaped-start t (suc n) = grind (arith, nat_tests)
+
+is_escaped-step : (t : Text) (from i : ℕ) → is_escaped t from (i + 1) ≡ (leb from i && escapes (get_or t i 0) (is_escaped t from i))
+unfolding is_escaped
+is_escaped-step t from i = rw add-one refl
+
+pub is_escaped-more : (t : Text) (from i : ℕ) → from ≤ i → is_escaped t from (i + 1) ≡ escapes (get_or t i 0) (is_escaped t from i)
+is_escaped-more t from i h = rw is_escaped-step (rw (le-leb from i h) refl)
+
+-- a character that is no backslash escapes nothing
+pub IsBare : Text → ℕ → Type 0
+IsBare t i = (b : Bool) → escapes (get_or t i 0) b ≡ false
+
+bare_at : (c b : ℕ) → c ≡ b → (b == 92) ≡ false → (x : Bool) → escapes c x ≡ false
+bare_at c b h k x = rw (h, k) refl
+
+pub has-bare : (t : Text) (i c : ℕ) → (c == 92) ≡ false → has t i c ≡ true → IsBare t i
+unfolding IsBare
+has-bare t i c e h = bare_at (get_or t i 0) c (eqb-true _ _ (and_parts _ _ h).1) e
+
+pub is_escaped-bare : (t : Text) (from i : ℕ) → from ≤ i → IsBare t i → is_escaped t from (i + 1) ≡ false
+unfolding IsBare
+is_escaped-bare t from i h bare = is_escaped-more t from i h ∙ bare (is_escaped t from i)
+
+-- behind a character that is no backslash it is the same how far back escapes are counted
+agree : (t : Text) (s i n : ℕ) → s ≤ i → IsBare t i → is_escaped t s (i + 1 + n) ≡ is_escaped t i (i + 1 + n)
+agree t s i zero h bare =
+    let e : i + 1 + 0 ≡ i + 1 = omega arith in
+    rw e (is_escaped-bare t s i h bare ∙ sym (is_escaped-bare t i i (omega arith) bare))
+agree t s i (suc n) h bare =
+    let e : i + 1 + suc n ≡ i + 1 + n + 1 = omega arith in
+    rw e (is_escaped-more t s (i + 1 + n) (omega arith) ∙ ap (escapes (get_or t (i + 1 + n) 0)) (agree t s i n h bare) ∙ sym (is_escaped-more t i (i + 1 + n) (omega arith)))
+
+pub is_escaped-agree : (t : Text) (s i k : ℕ) → s ≤ i → i < k → IsBare t i → is_escaped t s k ≡ is_escaped t i k
+is_escaped-agree t s i k h less bare =
+    let e : i + 1 + (k - (i + 1)) ≡ k = omega arith in subst (λ k. is_escaped t s k ≡ is_escaped t i k) e (agree t s i (k - (i + 1)) h bare)

@@ -1,0 +1,77 @@
+use Rattle.std.proofs.Common.{◌≡◌, ◌<◌, ◌+◌, ◌≤◌, Some, None, sym, ap, ◌∙◌, arith, below_more, length, subst, vec_items, [], ◌∷◌, ◌++◌}
+use Rattle.std.proofs.lemmas.List.{get_or_read}
+use Rattle.rst_pieces.specs.Escapes.{escapes}
+use Rattle.rst_pieces.specs.Pieces.{piece_at, piece_if, IsPieces}
+use Rattle.rst_pieces.proofs.EscapeLemmas.{is_escaped-start, is_escaped-more}
+use Rattle.rst_pieces.proofs.PieceLemmas.{Told, piece_if-fits, told-start, told-other, told-plain, told-last, told-end}
+use Rattle.rst_pieces.proofs.MissingLemmas.{IsMissing-later}
+use Rattle.rst_pieces.proofs.scanner.pieces_of.Goals as goal
+use Rattle.rst_pieces.proofs.scanner.pieces_of.Goals.{then-from-place+in_ok-push-in-Some, else-from-place, then-from-place-2+in_ok-push, else-from-place-2}
+
+pub loop-place-init : goal.loop-place-init
+loop-place-init c = record {
+  above = omega arith;
+  below = omega arith;
+  escaped = sym (is_escaped-start c.args.text.now 0);
+  none = λ i low high. absurd (omega arith);
+  known = c.of-missing.ensures;
+  told = told-start c.args.text.now c.new-pieces.result.items c.new-pieces.ensures.items;
+}
+
+pub loop-place-preserved-in-Some : goal.loop-place-preserved-in-Some
+loop-place-preserved-in-Some c =
+    let told_here : piece_if c.args.text.now c.loop-place.place c.loop-place.escaped ≡ Some c.in-Some.piece = sym c.piece_at.ensures.exact ∙ c.in-Some.is in
+    let fits = piece_if-fits c.args.text.now c.loop-place.place c.loop-place.escaped c.in-Some.piece c.loop-place.invariant.below told_here in
+    let begins : piece_at c.args.text.now c.loop-place.from c.loop-place.place ≡ Some c.in-Some.piece = ap (piece_if c.args.text.now c.loop-place.place) (sym c.loop-place.invariant.escaped) ∙ told_here in
+    record {
+      above = omega arith;
+      below = fits.within;
+      escaped = sym (is_escaped-start c.args.text.now c.in-Some.piece.to);
+      none = λ i low high. absurd (omega arith);
+      known = IsMissing-later c.args.text.now c.piece_at.new.missing c.loop-place.place c.in-Some.piece.to (let some = fits.some in omega arith) c.piece_at.ensures.known;
+      told = subst (Told c.args.text.now c.in-Some.piece.to) (sym c.in_ok-push-in-Some-2.ensures.items) (
+          elim c.if-from-place.branch [
+            | then-from-place+in_ok-push-in-Some w ↦
+                subst (λ items. Told c.args.text.now c.in-Some.piece.to (items ++ c.in-Some.piece ∷ []))
+                (sym (ap vec_items w.pieces-is ∙ w.in_ok-push-in-Some.ensures.items ∙ ap (λ p. c.loop-place.pieces.items ++ p ∷ []) w.plain_piece.ensures))
+                (told-plain c.args.text.now c.loop-place.from c.loop-place.place c.loop-place.pieces.items c.in-Some.piece c.loop-place.invariant.told (omega arith) c.loop-place.invariant.below c.loop-place.invariant.none begins)
+            | else-from-place w ↦
+                let same : c.loop-place.place ≡ c.loop-place.from = omega arith in
+                subst (λ items. Told c.args.text.now c.in-Some.piece.to (items ++ c.in-Some.piece ∷ []))
+                (sym (ap vec_items w.pieces-is))
+                (told-other c.args.text.now c.loop-place.from c.loop-place.pieces.items c.in-Some.piece c.loop-place.invariant.told
+                (subst (λ i. piece_at c.args.text.now c.loop-place.from i ≡ Some c.in-Some.piece) same begins))
+          ]);
+    }
+
+pub loop-place-preserved : goal.loop-place-preserved
+loop-place-preserved c =
+    let next = is_escaped-more c.args.text.now c.loop-place.from c.loop-place.place (omega arith) in
+    let here : piece_at c.args.text.now c.loop-place.from c.loop-place.place ≡ None = ap (piece_if c.args.text.now c.loop-place.place) (sym c.loop-place.invariant.escaped) ∙ sym c.piece_at.ensures.exact ∙ c.in-None.is in
+    record {
+      above = omega arith;
+      below = omega arith;
+      escaped = c.escapes-escaped.ensures ∙ ap (λ x. escapes x c.loop-place.escaped) (get_or_read c.args.text.now _ _ (omega arith) c.index-text-place.is 0) ∙ ap (escapes _) c.loop-place.invariant.escaped ∙ sym next;
+      none = λ i low high. below_more (λ i. c.loop-place.from ≤ i → piece_at c.args.text.now c.loop-place.from i ≡ None) c.loop-place.place (λ i high low. c.loop-place.invariant.none i low high) (λ low. here) i high low;
+      known = IsMissing-later c.args.text.now c.piece_at.new.missing c.loop-place.place (c.loop-place.place + 1) (omega arith) c.piece_at.ensures.known;
+      told = c.loop-place.invariant.told;
+    }
+
+pub returns : goal.returns
+returns c =
+    elim c.if-from-place-2.branch [
+      | then-from-place-2+in_ok-push w ↦
+          subst (IsPieces c.args.text.now 0) (sym (ap vec_items w.pieces-is ∙ w.in_ok-push.ensures.items ∙ ap (λ p. c.loop-place.pieces.items ++ p ∷ []) w.plain_piece-then-from-place-2.ensures))
+          (told-last c.args.text.now c.loop-place.from c.loop-place.place c.loop-place.pieces.items c.loop-place.invariant.told (omega arith) (omega arith) c.loop-place.invariant.none)
+      | else-from-place-2 w ↦
+          subst (IsPieces c.args.text.now 0) (sym (ap vec_items w.pieces-is))
+          (told-end c.args.text.now c.loop-place.from c.loop-place.pieces.items c.loop-place.invariant.told (omega arith))
+    ]
+
+pub loop-place-smaller-in-Some : goal.loop-place-smaller-in-Some
+loop-place-smaller-in-Some c =
+    let told_here : piece_if c.args.text.now c.loop-place.place c.loop-place.escaped ≡ Some c.in-Some.piece = sym c.piece_at.ensures.exact ∙ c.in-Some.is in
+    let fits = piece_if-fits c.args.text.now c.loop-place.place c.loop-place.escaped c.in-Some.piece c.loop-place.invariant.below told_here in
+    let some : c.loop-place.place < c.in-Some.piece.to = fits.some in
+    let within : c.in-Some.piece.to ≤ length c.args.text.now = fits.within in
+    omega arith

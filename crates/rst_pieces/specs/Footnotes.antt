@@ -1,0 +1,26 @@
+-- References to footnotes and citations (Markup Specification, 'Footnote References', 'Citation References').
+use Rattle.std.specs.Prelude.{ℕ, ◌+◌, Bool, ◌&&◌, Option, None, Some, if◌then◌else◌}
+use Rattle.rst_pieces.specs.Characters.{Text, has, is_alnum_at, is_free_behind}
+use Rattle.rst_pieces.specs.Names.{name_stop}
+use Rattle.rst_pieces.specs.declared.piece.Kind.TheVariants.{Label}
+use Rattle.rst_pieces.specs.declared.piece.Piece.{Piece}
+
+-- The end of the label that begins at the place, where something stands behind it: `*`, `#` alone, `#` and a simple name,
+-- or a simple name, which may be digits.
+unfoldable pub label_stop : Text → ℕ → Option ℕ
+label_stop t i =
+    if has t i 42 then Some (i + 1)
+    else if has t i 35 then (if is_alnum_at t (i + 1) then name_stop t (i + 1) else Some (i + 1))
+    else name_stop t i
+
+-- what stands behind the label closes it, and fits
+abbrev pub closes_label : Text → ℕ → Bool
+closes_label t e = has t e 93 && (has t (e + 1) 95 && is_free_behind t (e + 2))
+
+abbrev pub label_piece : Text → ℕ → Option ℕ → Option Piece
+label_piece t i (Some e) = if closes_label t e then Some (record { kind = Label; from = i; content_from = i + 1; content_to = e; to = e + 2 }) else None
+label_piece t i None = None
+
+-- `[`, a label and `]_`
+unfoldable pub label : Text → ℕ → Option Piece
+label t i = if has t i 91 then label_piece t i (label_stop t (i + 1)) else None

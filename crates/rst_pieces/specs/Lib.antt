@@ -1,0 +1,9 @@
+pub mod Characters
+pub mod Escapes
+pub mod Tails
+pub mod Names
+pub mod Marked
+pub mod Footnotes
+pub mod Uri
+pub mod Pieces
+pub mod Missing

@@ -1,0 +1,108 @@
+-- Inline markup between a start-string and an end-string (Markup Specification, 'Inline Markup').
+use Rattle.std.specs.Prelude.{ℕ, ◌+◌, ◌-◌, Bool, true, false, not, ◌&&◌, ◌||◌, ◌==◌, Option, None, Some, slice_index, length, unwrap_or, if◌then◌else◌}
+use Rattle.std.specs.Option.{is_some}
+use Rattle.rst_pieces.specs.Characters.{Text, has, is_dark, is_pair}
+use Rattle.rst_pieces.specs.Escapes.{is_escaped}
+use Rattle.rst_text.specs.Places.{first_from}
+use Rattle.rst_pieces.specs.declared.piece.Tail.{Tail}
+use Rattle.rst_pieces.specs.Tails.{or_else, name_tail, role_tail, bare_tail}
+use Rattle.rst_pieces.specs.Names.{role_end}
+use Rattle.rst_pieces.specs.declared.piece.Markup.{Markup}
+use Rattle.rst_pieces.specs.declared.piece.Markup.TheVariants.{Strong, Emphasis, Literal, Target, Substitution, Interpreted}
+use Rattle.rst_pieces.specs.declared.piece.Kind.TheVariants.{Marked, Unended}
+use Rattle.rst_pieces.specs.declared.piece.Piece.{Piece}
+
+-- how many characters the start-string has
+abbrev pub start_len : Markup → ℕ
+start_len Strong = 2
+start_len Emphasis = 1
+start_len Literal = 2
+start_len Target = 2
+start_len Substitution = 1
+start_len Interpreted = 1
+
+-- how many characters the end-string has
+abbrev pub end_len : Markup → ℕ
+end_len Strong = 2
+end_len Emphasis = 1
+end_len Literal = 2
+end_len Target = 1
+end_len Substitution = 1
+end_len Interpreted = 1
+
+-- The start-string stands at the place: ** * `` _` | `, where a single one is not followed by the same character.
+abbrev pub has_start : Markup → Text → ℕ → Bool
+has_start Strong t i = has t i 42 && has t (i + 1) 42
+has_start Emphasis t i = has t i 42 && not (has t (i + 1) 42)
+has_start Literal t i = has t i 96 && has t (i + 1) 96
+has_start Target t i = has t i 95 && has t (i + 1) 96
+has_start Substitution t i = has t i 124 && not (has t (i + 1) 124)
+has_start Interpreted t i = has t i 96 && not (has t (i + 1) 96)
+
+-- the end-string stands at the place: ** * `` ` | `
+abbrev pub has_end : Markup → Text → ℕ → Bool
+has_end Strong t i = has t i 42 && has t (i + 1) 42
+has_end Emphasis t i = has t i 42
+has_end Literal t i = has t i 96 && has t (i + 1) 96
+has_end Target t i = has t i 96
+has_end Substitution t i = has t i 124
+has_end Interpreted t i = has t i 96
+
+-- nothing is escaped inside a literal
+abbrev pub has_escapes : Markup → Bool
+has_escapes Literal = false
+has_escapes _ = true
+
+-- ---- the start
+
+-- where the start-string of markup that begins at the place stands: behind a role, where interpreted text has one in front
+unfoldable pub start_of : Markup → Text → ℕ → ℕ
+start_of Interpreted t i = unwrap_or (role_end t i) i
+start_of _ t i = i
+
+-- Markup begins at i with its start-string at q: what stands behind the start-string is not white, and does not make a
+-- matching pair with what stands before i.
+unfoldable pub starts : Markup → Text → ℕ → ℕ → Bool
+starts markup t i q = has_start markup t q && (is_dark t (q + start_len markup)
+    && (i == 0 || not (is_pair (slice_index t (i - 1)) (slice_index t (q + start_len markup)))))
+
+-- ---- the end
+
+-- What stands behind the end-string at k, the first that fits: behind a substitution `__`, `_` or nothing, behind
+-- interpreted text `__`, `_`, a role or nothing, behind other markup nothing.
+unfoldable pub tail_of : Markup → Text → ℕ → Option Tail
+tail_of Substitution t k = or_else (name_tail t (k + 1)) (bare_tail t (k + 1))
+tail_of Interpreted t k = or_else (name_tail t (k + 1)) (or_else (role_tail t (role_end t (k + 1))) (bare_tail t (k + 1)))
+tail_of markup t k = bare_tail t (k + end_len markup)
+
+unfoldable pub ends_if : Markup → Text → ℕ → Bool → Bool
+ends_if markup t k escaped = has_end markup t k && (is_dark t (k - 1) && (not (has_escapes markup && escaped) && is_some (tail_of markup t k)))
+
+-- Markup that begins at i may end at k: its end-string stands there unescaped, what stands before it is not white, and what
+-- stands behind it fits.
+unfoldable pub ends : Markup → Text → ℕ → ℕ → Bool
+ends markup t i k = ends_if markup t k (is_escaped t i k)
+
+-- the least end, with a character at least between it and the start-string at q
+unfoldable pub end_of : Markup → Text → ℕ → ℕ → Option ℕ
+end_of markup t i q = first_from (ends markup t i) (q + start_len markup + 1) (length t - (q + start_len markup + 1))
+
+-- ---- the piece
+
+-- a start without an end: the start-string alone, with the role in front of it
+abbrev pub unended_piece : Markup → ℕ → ℕ → Piece
+unended_piece markup i q = record { kind = Unended markup; from = i; content_from = q + start_len markup; content_to = q + start_len markup; to = q + start_len markup }
+
+abbrev pub ended_piece : Markup → ℕ → ℕ → ℕ → Option Tail → Piece
+ended_piece markup i q k (Some tail) = record { kind = Marked markup tail.suffix; from = i; content_from = q + start_len markup; content_to = k; to = tail.to }
+ended_piece markup i q k None = unended_piece markup i q
+
+abbrev pub marked_piece : Markup → Text → ℕ → ℕ → Option ℕ → Piece
+marked_piece markup t i q (Some k) = ended_piece markup i q k (tail_of markup t k)
+marked_piece markup t i q None = unended_piece markup i q
+
+abbrev pub marked_from : Markup → Text → ℕ → ℕ → Option Piece
+marked_from markup t i q = if starts markup t i q then Some (marked_piece markup t i q (end_of markup t i q)) else None
+
+unfoldable pub marked : Markup → Text → ℕ → Option Piece
+marked markup t i = marked_from markup t i (start_of markup t i)

@@ -1,0 +1,57 @@
+-- Simple names, roles, and references by a simple name (Markup Specification, 'Reference Names', 'Interpreted Text',
+-- 'Hyperlink References').
+use Rattle.std.specs.Prelude.{ℕ, ◌+◌, ◌-◌, Bool, not, ◌&&◌, ◌||◌, ◌==◌, nat_lt, Option, None, Some, slice_index, length, if◌then◌else◌}
+use Rattle.std.specs.Option.{is_some}
+use Rattle.rst_pieces.specs.Characters.{Text, has, is_alnum_at}
+use Rattle.rst_text.specs.Places.{first_from, last_from, all_from}
+use Rattle.rst_pieces.specs.declared.piece.Tail.{Tail}
+use Rattle.rst_pieces.specs.Tails.{name_tail}
+use Rattle.rst_pieces.specs.declared.piece.Kind.TheVariants.{Reference}
+use Rattle.rst_pieces.specs.declared.piece.Piece.{Piece}
+
+-- one of - _ . : +
+unfoldable pub is_joint : ℕ → Bool
+is_joint c = c == 45 || (c == 95 || (c == 46 || (c == 58 || c == 43)))
+
+-- The place may be one of a simple name: a letter or a number stands there, or a joint between two of these.
+unfoldable pub is_name_at : Text → ℕ → Bool
+is_name_at t i = is_alnum_at t i || (is_joint (slice_index t i) && (nat_lt 0 i && (is_alnum_at t (i - 1) && is_alnum_at t (i + 1))))
+
+-- the end of the longest simple name that begins at the place, where something stands behind it
+unfoldable pub name_stop : Text → ℕ → Option ℕ
+name_stop t i = if is_alnum_at t i then first_from (λ k. not (is_name_at t k)) i (length t - i) else None
+
+-- ---- roles
+
+abbrev pub behind_colon : Text → Option ℕ → Option ℕ
+behind_colon t (Some e) = if has t e 58 then Some (e + 1) else None
+behind_colon t None = None
+
+-- the place behind a role, a simple name between colons, that begins at the place
+unfoldable pub role_end : Text → ℕ → Option ℕ
+role_end t i = if has t i 58 then behind_colon t (name_stop t (i + 1)) else None
+
+-- ---- references: the longest simple name that fits, and one underscore or two
+
+-- a name may end before the place: a letter or a number stands before it, and underscores that fit at it
+unfoldable pub ends_name : Text → ℕ → Bool
+ends_name t j = is_alnum_at t (j - 1) && is_some (name_tail t j)
+
+-- a reference stands at the place, with its name's end at j
+unfoldable pub is_reference : Text → ℕ → ℕ → Bool
+is_reference t i j = is_alnum_at t i && (all_from (is_name_at t) i (j - i) && ends_name t j)
+
+-- the greatest end of a name of a reference that begins at the place
+unfoldable pub name_end : Text → ℕ → Option ℕ
+name_end t i = last_from (is_reference t i) (i + 1) (length t - (i + 1))
+
+abbrev pub reference_piece : ℕ → ℕ → Option Tail → Option Piece
+reference_piece i j (Some tail) = Some (record { kind = Reference tail.suffix; from = i; content_from = i; content_to = j; to = tail.to })
+reference_piece i j None = None
+
+abbrev pub reference_at : Text → ℕ → Option ℕ → Option Piece
+reference_at t i (Some j) = reference_piece i j (name_tail t j)
+reference_at t i None = None
+
+unfoldable pub reference : Text → ℕ → Option Piece
+reference t i = reference_at t i (name_end t i)

@@ -1,0 +1,81 @@
+-- Standalone hyperlinks (Markup Specification, 'Standalone Hyperlinks'; RFC 2396 for the characters of a URI).
+use Rattle.std.specs.Prelude.{◌≡◌, ℕ, ◌+◌, ◌-◌, Bool, true, false, not, ◌&&◌, ◌||◌, ◌==◌, nat_lt, List, [], ◌∷◌, Option, None, Some, slice_index, length, unwrap_or, codes, if◌then◌else◌}
+use Rattle.std.specs.List.{list_all}
+use Rattle.std.specs.Char.{to_ascii_lowercase, is_ascii_alphanumeric}
+use Rattle.rst_pieces.specs.Characters.{Text, is_among, is_free_behind}
+use Rattle.rst_text.specs.Places.{first_from, last_from}
+use Rattle.rst_pieces.specs.declared.piece.Kind.TheVariants.{Uri}
+use Rattle.rst_pieces.specs.declared.piece.Piece.{Piece}
+
+-- the character in lower case, where it is an ASCII letter
+unfoldable pub in_lower_case : ℕ → ℕ
+in_lower_case c = to_ascii_lowercase c
+
+abbrev pub has_letter : Text → ℕ → ℕ → Bool
+has_letter t i c = nat_lt i (length t) && in_lower_case (slice_index t i) == c
+
+-- the word, which is in lower case, stands at the place in any case
+abbrev pub begins_at : Text → ℕ → List ℕ → Bool
+begins_at t i [] = true
+begins_at t i (c ∷ cs) = has_letter t i c && begins_at t (i + 1) cs
+
+-- the schemes, with what stands between them and what they name
+abbrev pub schemes : List (List ℕ)
+schemes = codes "file://" ∷ codes "ftp://" ∷ codes "http://" ∷ codes "https://" ∷ codes "irc://" ∷ codes "mailto:" ∷ codes "news:" ∷ []
+
+-- the place behind the first of the words that stands at the place
+abbrev pub behind_first : Text → ℕ → List (List ℕ) → Option ℕ
+behind_first t i [] = None
+behind_first t i (word ∷ words) = if begins_at t i word then Some (i + length word) else behind_first t i words
+
+-- the place behind the scheme that begins at the place
+unfoldable pub scheme_end : Text → ℕ → Option ℕ
+scheme_end t i = behind_first t i schemes
+
+-- an ASCII letter or digit, or one of -_.~!*'();/?:@&=$+,%#[]
+unfoldable pub is_uri_char : ℕ → Bool
+is_uri_char c = is_ascii_alphanumeric c
+    || is_among (45 ∷ 95 ∷ 46 ∷ 126 ∷ 33 ∷ 42 ∷ 39 ∷ 40 ∷ 41 ∷ 59 ∷ 47 ∷ 63 ∷ 58 ∷ 64 ∷ 38 ∷ 61 ∷ 36 ∷ 43 ∷ 44 ∷ 37 ∷ 35 ∷ 91 ∷ 93 ∷ []) c
+
+-- one of .,:;!?')] which end no URI
+unfoldable pub is_uri_trail : ℕ → Bool
+is_uri_trail c = is_among (46 ∷ 44 ∷ 58 ∷ 59 ∷ 33 ∷ 63 ∷ 39 ∷ 41 ∷ 93 ∷ []) c
+
+-- the least place from the place on that holds no character of a URI, or the text's end
+unfoldable pub uri_stop : Text → ℕ → ℕ
+uri_stop t i = unwrap_or (first_from (λ k. not (is_uri_char (slice_index t k))) i (length t - i)) (length t)
+
+-- the greatest end up to `stop` with no punctuation before it, that leaves something behind the scheme
+unfoldable pub uri_close : Text → ℕ → ℕ → Option ℕ
+uri_close t i stop = last_from (λ e. not (is_uri_trail (slice_index t (e - 1)))) (i + 1) (stop - i)
+
+abbrev pub uri_behind : Text → Option ℕ → Option ℕ
+uri_behind t (Some i) = uri_close t i (uri_stop t i)
+uri_behind t None = None
+
+abbrev pub if_free : Text → Option ℕ → Option ℕ
+if_free t (Some e) = if is_free_behind t e then Some e else None
+if_free t None = None
+
+-- the end of the URI that begins at the place, where what stands behind it fits
+unfoldable pub uri_end : Text → ℕ → Option ℕ
+uri_end t i = if_free t (uri_behind t (scheme_end t i))
+
+abbrev pub uri_piece : ℕ → Option ℕ → Option Piece
+uri_piece i (Some e) = Some (record { kind = Uri; from = i; content_from = i; content_to = e; to = e })
+uri_piece i None = None
+
+unfoldable pub uri : Text → ℕ → Option Piece
+uri t i = uri_piece i (uri_end t i)
+
+-- the whole text is one URI
+abbrev pub IsUri : Text → Type 0
+IsUri t = uri_end t 0 ≡ Some (length t)
+
+abbrev pub is_ascii_uri_from : List ℕ → Option ℕ → Bool
+is_ascii_uri_from bytes (Some i) = nat_lt i (length bytes) && (list_all is_uri_char bytes && not (is_uri_trail (slice_index bytes (length bytes - 1))))
+is_ascii_uri_from bytes None = false
+
+-- the bytes of a text say at once whether it is one URI, as each character of a URI is one byte
+abbrev pub is_ascii_uri : List ℕ → Bool
+is_ascii_uri bytes = is_ascii_uri_from bytes (scheme_end bytes 0)

@@ -1,0 +1,21 @@
+//! The pieces of an inline text: where its markup begins and ends.
+#![tactic(auto)]
+
+mod characters;
+mod escaping;
+mod footnotes;
+mod laws;
+mod marked;
+mod missing;
+mod names;
+mod piece;
+mod scanner;
+mod tails;
+mod uri;
+
+pub use characters::{has, is_dark};
+pub use escaping::{escapes, unescaped};
+pub use laws::one_list_of_pieces;
+pub use piece::{Kind, Markup, Piece, Suffix};
+pub use scanner::pieces_of;
+pub use uri::plain_uri;

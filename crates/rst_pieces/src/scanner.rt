@@ -1,0 +1,118 @@
+//! The scanner.
+ghost use Rattle.std.specs.Prelude.{◌≡◌, ◌<◌, length, IfOk};
+ghost use Rattle.rst_pieces.specs.Pieces.{markup_at, is_free_if, piece_if, plain_from, IsPieces};
+ghost use Rattle.rst_pieces.specs.Missing.{IsMissing};
+
+use super::characters::may_precede;
+use super::escaping::escapes;
+use super::footnotes::label;
+use super::missing::Missing;
+use super::names::reference;
+use super::piece::{Kind, Markup, Piece};
+use super::uri::uri;
+use std::alloc::{AllocError, Global};
+
+/// The piece that the first kind of markup gives that holds at the place.
+#[tactic(auto, unfolding(crate::specs::Pieces::markup_at))]
+fn markup_at(text: &[char], place: usize, missing: &mut Missing) -> Option<Piece>
+    requires place { place < length text.now }
+    requires known { IsMissing text.now missing.old place }
+    ensures exact { result ≡ markup_at text.now place }
+    ensures known { IsMissing text.now missing.new place }
+{
+    if let Some(piece) = Markup::Strong.piece(text, place, missing) {
+        return Some(piece);
+    }
+    if let Some(piece) = Markup::Emphasis.piece(text, place, missing) {
+        return Some(piece);
+    }
+    if let Some(piece) = Markup::Literal.piece(text, place, missing) {
+        return Some(piece);
+    }
+    if let Some(piece) = Markup::Target.piece(text, place, missing) {
+        return Some(piece);
+    }
+    if let Some(piece) = Markup::Substitution.piece(text, place, missing) {
+        return Some(piece);
+    }
+    if let Some(piece) = Markup::Interpreted.piece(text, place, missing) {
+        return Some(piece);
+    }
+    if let Some(piece) = label(text, place) {
+        return Some(piece);
+    }
+    if let Some(piece) = reference(text, place, missing) {
+        return Some(piece);
+    }
+    uri(text, place, missing)
+}
+
+/// Whether a start may stand at the place.
+#[tactic(auto, unfolding(crate::specs::Pieces::is_free_if))]
+fn is_free(text: &[char], place: usize, escaped: bool) -> bool
+    requires { place < length text.now }
+    ensures { result ≡ is_free_if text.now place escaped }
+{
+    !escaped && (place == 0 || may_precede(text[place - 1]))
+}
+
+/// The piece that begins at the place, if a start stands there.
+#[tactic(auto, unfolding(crate::specs::Pieces::piece_if))]
+fn piece_at(text: &[char], place: usize, escaped: bool, missing: &mut Missing) -> Option<Piece>
+    requires place { place < length text.now }
+    requires known { IsMissing text.now missing.old place }
+    ensures exact { result ≡ piece_if text.now place escaped }
+    ensures known { IsMissing text.now missing.new place }
+{
+    if is_free(text, place, escaped) {
+        markup_at(text, place, missing)
+    } else {
+        None
+    }
+}
+
+/// The pieces of the text, in order. Exactly one list is that of a text ([`super::one_list_of_pieces`]).
+///
+/// What a search that failed has shown is remembered, so that the time grows no faster than the text.
+pub fn pieces_of(alloc: Global, text: &[char]) -> Result<Vec<Piece>, AllocError>
+    ensures { IfOk result (λ pieces. IsPieces text.now 0 pieces.items) }
+{
+    let mut pieces = Vec::new(alloc);
+    let mut from = 0;
+    let mut place = 0;
+    let mut escaped = false;
+    let mut missing = Missing::of(text);
+    while place < text.len() {
+        match piece_at(text, place, escaped, &mut missing) {
+            Some(piece) => {
+                if from < place {
+                    pieces.push(plain_piece(from, place))?;
+                }
+                pieces.push(piece)?;
+                from = piece.to;
+                place = piece.to;
+                escaped = false;
+            }
+            None => {
+                escaped = escapes(text[place], escaped);
+                place += 1;
+            }
+        }
+    }
+    if from < place {
+        pieces.push(plain_piece(from, place))?;
+    }
+    Ok(pieces)
+}
+
+fn plain_piece(from: usize, to: usize) -> Piece
+    ensures { result ≡ plain_from from to }
+{
+    Piece {
+        kind: Kind::Plain,
+        from,
+        content_from: from,
+        content_to: to,
+        to,
+    }
+}
