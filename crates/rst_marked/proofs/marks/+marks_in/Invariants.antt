@@ -1,9 +1,9 @@
 use Rattle.std.proofs.Common.{◌≡◌, ◌++◌, take}
 use Rattle.std.specs.Prelude.{map}
 use Rattle.rst_tree.specs.Nodes.{node_height, forest_of}
-use Rattle.rst_marks.specs.Marks.{path_of, places}
-use Rattle.rst_marks.specs.Registered.{is_registered}
-use Rattle.rst_marks.proofs.marks.+marks_in.Given as goal
+use Rattle.rst_marked.specs.Marks.{path_of, places}
+use Rattle.rst_marked.specs.Registered.{is_registered}
+use Rattle.rst_marked.proofs.marks.+marks_in.Given as goal
 
 abbrev pub decreases-marks_in : goal.decreases-marks_in
 decreases-marks_in l = node_height l.node.now

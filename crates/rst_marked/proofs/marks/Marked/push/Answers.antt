@@ -1,9 +1,9 @@
 use Rattle.std.proofs.Common.{◌++◌, ◌∷◌, [], ap, sym, ◌∙◌}
-use Rattle.rst_marks.proofs.Marking.{marks_pushed, node_pushed}
+use Rattle.rst_marked.proofs.Marking.{marks_pushed, node_pushed}
 use Rattle.rst_tree.specs.Nodes.{forest_of, nodes_of}
-use Rattle.rst_marks.specs.Marks.{marks_of}
-use Rattle.rst_marks.specs.Registered.{is_registered}
-use Rattle.rst_marks.proofs.marks.Marked.push.Goals as goal
+use Rattle.rst_marked.specs.Marks.{marks_of}
+use Rattle.rst_marked.specs.Registered.{is_registered}
+use Rattle.rst_marked.proofs.marks.Marked.push.Goals as goal
 
 pub invariant_of-result : goal.invariant_of-result
 invariant_of-result c =

@@ -1,6 +1,6 @@
 use Rattle.std.proofs.Common.{rules, arith}
-use Rattle.rst_marks.proofs.Marking.{touched_there, touched_none, stepped_there, stepped_none}
-use Rattle.rst_marks.proofs.marks.+visit_at.Goals as goal
+use Rattle.rst_marked.proofs.Marking.{touched_there, touched_none, stepped_there, stepped_none}
+use Rattle.rst_marked.proofs.marks.+visit_at.Goals as goal
 
 pub visit_at-requires : goal.visit_at-requires
 visit_at-requires g t c κs within =

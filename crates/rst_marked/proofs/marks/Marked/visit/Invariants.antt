@@ -1,6 +1,6 @@
 use Rattle.std.proofs.Common.{◌≡◌, drop}
-use Rattle.rst_marks.proofs.Marking.{many_node}
-use Rattle.rst_marks.proofs.marks.Marked.visit.Given as goal
+use Rattle.rst_marked.proofs.Marking.{many_node}
+use Rattle.rst_marked.proofs.marks.Marked.visit.Given as goal
 
 abbrev pub invariant-loop-mark : goal.invariant-loop-mark
 invariant-loop-mark g l =

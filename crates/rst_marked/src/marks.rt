@@ -2,8 +2,8 @@
 ghost use Rattle.std.specs.Prelude.{◌≡◌, ◌∷◌, ◌++◌, [], map, reverse};
 ghost use Rattle.rst_tree.specs.Faults.{Gives};
 ghost use Rattle.rst_tree.specs.Walk.{item, node_items, after, scanned, walked_node, node_shape};
-ghost use Rattle.rst_marks.specs.Marks.{marks_of, own_mark, heeded_next, heeded_out, touched_node, stepped_node};
-ghost use Rattle.rst_marks.specs.Registered.{is_registered_kind, has_key, is_registered};
+ghost use Rattle.rst_marked.specs.Marks.{marks_of, own_mark, heeded_next, heeded_out, touched_node, stepped_node};
+ghost use Rattle.rst_marked.specs.Registered.{is_registered_kind, has_key, is_registered};
 
 use rst_tree::{Attr, Attrs, Children, Key, Node, Tag, Text, TreeFault, Visitor};
 use std::alloc::Global;
@@ -175,8 +175,8 @@ impl Model for Marked {
 
     ghost coded = { Prim.hlevel (codes, node.the_row.coded) };
 
-    ghost use Rattle.rst_marks.specs.Marks.{marks_of};
-    ghost use Rattle.rst_marks.specs.Registered.{is_registered};
+    ghost use Rattle.rst_marked.specs.Marks.{marks_of};
+    ghost use Rattle.rst_marked.specs.Registered.{is_registered};
 
     ghost view = { λ m. m.root };
 

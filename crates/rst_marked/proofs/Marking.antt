@@ -12,7 +12,7 @@ use Rattle.rst_tree.specs.Nodes.{forest_of, nodes_of}
 use Rattle.rst_tree.specs.Walk.{Item, item, items, node_items, after, walked, walked_node}
 use Rattle.rst_tree.proofs.Walks.{after-append}
 use Rattle.rst_tree.proofs.Changes.{forest_of-nodes_of}
-use Rattle.rst_marks.specs.Marks.{Place, path_of, deeper, later, own_place, places, own_mark, marks_of, heeded_out, heeded_next, touched, touched_node, stepped, stepped_node}
+use Rattle.rst_marked.specs.Marks.{Place, path_of, deeper, later, own_place, places, own_mark, marks_of, heeded_out, heeded_next, touched, touched_node, stepped, stepped_node}
 
 module _ {S : Type 0} (next : S → Item → S) (out : S → Item → Item) where
   -- a state and the nodes, after the element at a place

@@ -1,10 +1,10 @@
 use Rattle.std.proofs.Common.{ap, ◌∙◌}
-use Rattle.rst_marks.proofs.Marking.{marked_whole}
+use Rattle.rst_marked.proofs.Marking.{marked_whole}
 use Rattle.rst_tree.proofs.Walks.{node_items-walked, node_shape-walked}
-use Rattle.rst_marks.specs.Marks.{heeded_next, heeded_out}
+use Rattle.rst_marked.specs.Marks.{heeded_next, heeded_out}
 use Rattle.rst_tree.specs.Walk.{after, node_items, walked_node}
-use Rattle.rst_marks.specs.Registered.{is_registered}
-use Rattle.rst_marks.proofs.marks.Marked.visit.Goals as goal
+use Rattle.rst_marked.specs.Registered.{is_registered}
+use Rattle.rst_marked.proofs.marks.Marked.visit.Goals as goal
 
 pub returns-clause-state : goal.returns-clause-state
 returns-clause-state g c =

@@ -2,9 +2,9 @@ use Rattle.std.proofs.Common.{rules, ◌+◌, ◌≤◌, ◌++◌, ◌∷◌, �
 use Rattle.std.specs.Prelude.{map}
 use Rattle.rst_tree.specs.Nodes.{node_height}
 use Rattle.rst_tree.proofs.PrintedParts.{child_height}
-use Rattle.rst_marks.proofs.Marking.{paths_more, paths_all}
-use Rattle.rst_marks.specs.Registered.{is_registered}
-use Rattle.rst_marks.proofs.marks.+marks_in.Goals as goal
+use Rattle.rst_marked.proofs.Marking.{paths_more, paths_all}
+use Rattle.rst_marked.specs.Registered.{is_registered}
+use Rattle.rst_marked.proofs.marks.+marks_in.Goals as goal
 
 pub marks_in-requires : goal.marks_in-requires
 marks_in-requires t c =
