@@ -182,7 +182,7 @@ impl Rewriter for Thinning {
 }
 
 #[test]
-fn walks_over_trees(rt: HostRuntime) -> Result<(), Fail> {
+fn reads_and_walks(rt: HostRuntime) -> Result<(), Fail> {
     let alloc = rt.alloc();
     let mut counting = Counting { seen: 0 };
     read_elements(alloc, &titled(alloc)?, &mut counting)?;
@@ -199,7 +199,12 @@ fn walks_over_trees(rt: HostRuntime) -> Result<(), Fail> {
         Text.
 "
     );
+    Ok(())
+}
 
+#[test]
+fn rewrites(rt: HostRuntime) -> Result<(), Fail> {
+    let alloc = rt.alloc();
     let quote = element(
         alloc,
         Tag::BlockQuote,

@@ -148,26 +148,24 @@ fn footnote(
     )
 }
 
+fn footnote_reference(
+    alloc: Global,
+    said: &[(Key, Said<'_>)],
+    label: &str,
+) -> Result<Node, TreeFault> {
+    element(alloc, Tag::FootnoteReference, said, [text(alloc, label)?])
+}
+
 fn footnotes(alloc: Global) -> Result<Node, TreeFault> {
-    let first = element(
-        alloc,
-        Tag::FootnoteReference,
-        &[
-            (Key::Auto, Said::Number(1)),
-            (Key::Ids, Said::List(&["footnote-reference-1"])),
-            (Key::Refid, Said::Text("footnote-1")),
-        ],
-        [text(alloc, "2")?],
-    )?;
-    let second = element(
-        alloc,
-        Tag::FootnoteReference,
-        &[
-            (Key::Refid, Said::Text("footnote-2")),
-            (Key::Ids, Said::List(&["footnote-reference-2"])),
-        ],
-        [text(alloc, "1")?],
-    )?;
+    let first = [
+        (Key::Auto, Said::Number(1)),
+        (Key::Ids, Said::List(&["footnote-reference-1"])),
+        (Key::Refid, Said::Text("footnote-1")),
+    ];
+    let second = [
+        (Key::Refid, Said::Text("footnote-2")),
+        (Key::Ids, Said::List(&["footnote-reference-2"])),
+    ];
     let auto = [
         (Key::Auto, Said::Text("1")),
         (Key::Backrefs, Said::List(&["footnote-reference-1"])),
@@ -179,21 +177,17 @@ fn footnotes(alloc: Global) -> Result<Node, TreeFault> {
         (Key::Ids, Said::List(&["footnote-2"])),
         (Key::Names, Said::List(&["1"])),
     ];
-    element(
-        alloc,
-        Tag::Document,
-        &[SOURCE],
-        [
-            element(
-                alloc,
-                Tag::Paragraph,
-                &[],
-                [first, text(alloc, " ")?, second],
-            )?,
-            footnote(alloc, &auto, "2", "x")?,
-            footnote(alloc, &numbered, "1", "y")?,
-        ],
-    )
+    let references = [
+        footnote_reference(alloc, &first, "2")?,
+        text(alloc, " ")?,
+        footnote_reference(alloc, &second, "1")?,
+    ];
+    let nodes = [
+        element(alloc, Tag::Paragraph, &[], references)?,
+        footnote(alloc, &auto, "2", "x")?,
+        footnote(alloc, &numbered, "1", "y")?,
+    ];
+    element(alloc, Tag::Document, &[SOURCE], nodes)
 }
 
 fn entry(alloc: Global, said: &str) -> Result<Node, TreeFault> {
@@ -229,45 +223,31 @@ fn table(alloc: Global) -> Result<Node, TreeFault> {
 }
 
 fn targets(alloc: Global) -> Result<Node, TreeFault> {
-    let paragraph = element(
-        alloc,
-        Tag::Paragraph,
-        &[],
-        [
-            element(
-                alloc,
-                Tag::Reference,
-                &[
-                    (Key::Name, Said::Text("Python")),
-                    (Key::Refuri, Said::Text("https://x.org/")),
-                ],
-                [text(alloc, "Python")?],
-            )?,
-            text(alloc, " and ")?,
-            text(alloc, "")?,
-            text(alloc, ".")?,
-        ],
-    )?;
-    let named = element(
-        alloc,
-        Tag::Target,
-        &[
-            (Key::Refuri, Said::Text("https://x.org/")),
-            (Key::Names, Said::List(&["python"])),
-            (Key::Ids, Said::List(&["python"])),
-        ],
-        [],
-    )?;
-    let escaped = element(
-        alloc,
-        Tag::Paragraph,
-        &[
-            (Key::Names, Said::List(&["a b\\c", "d"])),
-            (Key::Dupnames, Said::List(&[])),
-        ],
-        [text(alloc, "End.\n")?],
-    )?;
-    element(alloc, Tag::Document, &[SOURCE], [paragraph, named, escaped])
+    let refers = [
+        (Key::Name, Said::Text("Python")),
+        (Key::Refuri, Said::Text("https://x.org/")),
+    ];
+    let is_referred_to = [
+        (Key::Refuri, Said::Text("https://x.org/")),
+        (Key::Names, Said::List(&["python"])),
+        (Key::Ids, Said::List(&["python"])),
+    ];
+    let is_named = [
+        (Key::Names, Said::List(&["a b\\c", "d"])),
+        (Key::Dupnames, Said::List(&[])),
+    ];
+    let texts = [
+        element(alloc, Tag::Reference, &refers, [text(alloc, "Python")?])?,
+        text(alloc, " and ")?,
+        text(alloc, "")?,
+        text(alloc, ".")?,
+    ];
+    let nodes = [
+        element(alloc, Tag::Paragraph, &[], texts)?,
+        element(alloc, Tag::Target, &is_referred_to, [])?,
+        element(alloc, Tag::Paragraph, &is_named, [text(alloc, "End.\n")?])?,
+    ];
+    element(alloc, Tag::Document, &[SOURCE], nodes)
 }
 
 fn message(alloc: Global) -> Result<Node, TreeFault> {
@@ -414,6 +394,26 @@ fn stops_at_a_failed_write(rt: HostRuntime) -> Result<(), Fail> {
     Ok(())
 }
 
+/// A message, and the source text that it shows, if any.
+fn note(
+    alloc: Global,
+    level: Level,
+    line: usize,
+    said: &str,
+    shown: Option<&str>,
+) -> Result<Note, TreeFault> {
+    let block = match shown {
+        Some(shown) => Some(Text::from_str(alloc, shown)?),
+        None => None,
+    };
+    Ok(Note {
+        level,
+        line,
+        text: Text::from_str(alloc, said)?,
+        block,
+    })
+}
+
 #[test]
 fn prints_messages(rt: HostRuntime) -> Result<(), Fail> {
     let alloc = rt.alloc();
@@ -442,16 +442,7 @@ fn prints_messages(rt: HostRuntime) -> Result<(), Fail> {
         ),
     ];
     for (level, line, said, shown, want) in rows {
-        let block = match shown {
-            Some(shown) => Some(Text::from_str(alloc, shown)?),
-            None => None,
-        };
-        let note = Note {
-            level,
-            line,
-            text: Text::from_str(alloc, said)?,
-            block,
-        };
+        let note = note(alloc, level, line, said, shown)?;
         let mut out = Narrow::new(alloc, 1000, 5);
         let answer = message_line(&note, "<stdin>", &mut Counted::of(&mut out));
         assert_eq!(rt; answer, Ok(()));
