@@ -1,8 +1,8 @@
 //! What pieces mean.
-ghost use Rattle.std.specs.Prelude.{◌<◌, ◌+◌, true, ◌≡◌, ◌++◌, length, string_bytes};
+ghost use Rattle.std.specs.Prelude.{◌<◌, ◌+◌, true, ◌≡◌};
 ghost use Rattle.rst_pieces.specs.Pieces.{IsWithin};
-ghost use Rattle.rst_inline.specs.Parts.{source, content, spelled};
-ghost use Rattle.rst_inline.specs.Readings.{markup_name, unended, unknown_role, two_roles, mismatch, plain_reading, substitution_reading, embedded_reading, phrase_reading, role_reading_by, role_reading, has_prefix, interpreted_reading, marked_reading, reading};
+ghost use Rattle.rst_inline.specs.Parts.{source, content};
+ghost use Rattle.rst_inline.specs.Readings.{markup_name, unended, unknown_role, two_roles, mismatch, plain_reading, substitution_reading, embedded_reading, phrase_reading, role_reading, has_prefix, interpreted_reading, marked_reading, reading};
 ghost use Rattle.rst_inline.specs.Faults.{Gives};
 
 use super::elements::{plain_element, target, uri_target};
