@@ -1,7 +1,6 @@
 //! Embedded URIs and aliases.
-ghost use Rattle.std.specs.Prelude.{◌≡◌, ◌+◌, ◌<◌, ◌≤◌, length, filter, IfOk, IfSome, ◌&&◌, ◌==◌, not};
+ghost use Rattle.std.specs.Prelude.{◌≡◌, ◌<◌, ◌≤◌, length, filter, IfOk, IfSome, ◌&&◌, ◌==◌, not};
 ghost use Rattle.rst_inline.specs.Embedded.{ends_with, last_angle, fits_angle, embedded_at, dark_end, enclosed, is_alias, is_black, meant, shown_by};
-ghost use Rattle.rst_inline.specs.Faults.{Gives};
 
 use super::fault::InlineFault;
 use super::texts::part;

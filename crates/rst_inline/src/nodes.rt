@@ -1,5 +1,5 @@
 //! The nodes and the messages of a text.
-ghost use Rattle.std.specs.Prelude.{◌≡◌, All};
+ghost use Rattle.std.specs.Prelude.{All};
 ghost use Rattle.std.specs.Str.{chars};
 ghost use Rattle.rst_pieces.specs.Pieces.{IsWithin};
 ghost use Rattle.rst_inline.specs.Faults.{Gives};

@@ -1,8 +1,8 @@
 //! What pieces mean.
-ghost use Rattle.std.specs.Prelude.{◌≡◌, ◌++◌, length, string_bytes};
+ghost use Rattle.std.specs.Prelude.{◌<◌, ◌+◌, true, ◌≡◌};
 ghost use Rattle.rst_pieces.specs.Pieces.{IsWithin};
-ghost use Rattle.rst_inline.specs.Parts.{source, content, spelled};
-ghost use Rattle.rst_inline.specs.Readings.{markup_name, unended, unknown_role, two_roles, mismatch, plain_reading, substitution_reading, embedded_reading, phrase_reading, role_reading_by, role_reading, has_prefix, interpreted_reading, marked_reading, reading};
+ghost use Rattle.rst_inline.specs.Parts.{source, content};
+ghost use Rattle.rst_inline.specs.Readings.{markup_name, unended, unknown_role, two_roles, mismatch, plain_reading, substitution_reading, embedded_reading, phrase_reading, role_reading, has_prefix, interpreted_reading, marked_reading, reading};
 ghost use Rattle.rst_inline.specs.Faults.{Gives};
 
 use super::elements::{plain_element, target, uri_target};
@@ -185,6 +185,30 @@ fn with_role(
     }
 }
 
+/// Interpreted text with a role in front of it.
+fn prefixed(
+    alloc: Global,
+    suffix: Suffix,
+    text: &[char],
+    piece: Piece,
+    line: usize,
+) -> Result<Meaning, InlineFault>
+    requires within { IsWithin text.now piece }
+    requires prefix { piece.from + 1 < piece.content_from }
+    ensures { Gives (λ reading. reading ≡ interpreted_reading true suffix text.now piece line) result }
+{
+    match suffix {
+        Suffix::Bare => {
+            let role = part(text, piece.from + 1, piece.content_from - 2);
+            let content = part(text, piece.content_from, piece.content_to);
+            let shown = unescaped(alloc, content)?;
+            with_role(alloc, role, &shown, line)
+        }
+        Suffix::Role => two_roles(alloc),
+        Suffix::Named | Suffix::Anonymous => mismatch(alloc),
+    }
+}
+
 /// Interpreted text, or a phrase that is a reference.
 fn interpreted(
     alloc: Global,
@@ -196,31 +220,20 @@ fn interpreted(
     requires { IsWithin text.now piece }
     ensures { Gives (λ reading. reading ≡ interpreted_reading (has_prefix piece) suffix text.now piece line) result }
 {
+    if piece.from + 1 < piece.content_from {
+        return prefixed(alloc, suffix, text, piece, line);
+    }
     let content = part(text, piece.content_from, piece.content_to);
     let shown = unescaped(alloc, content)?;
-    if piece.from + 1 < piece.content_from {
-        return match suffix {
-            Suffix::Bare => with_role(
-                alloc,
-                part(text, piece.from + 1, piece.content_from - 2),
-                &shown,
-                line,
-            ),
-            Suffix::Role => two_roles(alloc),
-            Suffix::Named | Suffix::Anonymous => mismatch(alloc),
-        };
-    }
     match suffix {
         Suffix::Bare => {
             let node = plain_element(alloc, Tag::TitleReference, &shown, line)?;
             Ok(Meaning::One(node))
         }
-        Suffix::Role => with_role(
-            alloc,
-            part(text, piece.content_to + 2, piece.to - 1),
-            &shown,
-            line,
-        ),
+        Suffix::Role => {
+            let role = part(text, piece.content_to + 2, piece.to - 1);
+            with_role(alloc, role, &shown, line)
+        }
         Suffix::Named | Suffix::Anonymous => {
             let source = part(text, piece.from, piece.to);
             phrase(alloc, suffix, source, content, line)

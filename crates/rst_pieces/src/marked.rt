@@ -1,6 +1,6 @@
 //! Inline markup between a start-string and an end-string.
 ghost use Rattle.std.specs.Prelude.{◌≡◌, ◌+◌, ◌<◌, ◌≤◌, true, length, IfSome};
-ghost use Rattle.rst_pieces.specs.Marked.{start_len, end_len, has_start, has_end, has_escapes, start_of, starts, tail_of, ends_if, end_of, unended_piece, ended_piece, marked_from, marked};
+ghost use Rattle.rst_pieces.specs.Marked.{start_len, end_len, has_start, has_end, has_escapes, start_of, starts, tail_of, ends_if, end_of, unended_piece, ended_piece, marked};
 ghost use Rattle.rst_pieces.specs.Tails.{or_else, name_tail, role_tail, bare_tail};
 ghost use Rattle.rst_pieces.specs.Names.{role_end};
 ghost use Rattle.rst_pieces.specs.Missing.{IsMissing};

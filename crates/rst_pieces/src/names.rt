@@ -1,5 +1,5 @@
 //! Simple names, roles, and references by a simple name.
-ghost use Rattle.std.specs.Prelude.{◌≡◌, ◌+◌, ◌<◌, ◌≤◌, ℕ, length, IfSome};
+ghost use Rattle.std.specs.Prelude.{◌≡◌, ◌<◌, ◌≤◌, ℕ, length, IfSome};
 ghost use Rattle.rst_pieces.specs.Names.{is_joint, is_name_at, name_stop, role_end, ends_name, name_end, reference};
 ghost use Rattle.rst_pieces.specs.Missing.{IsMissing};
 

@@ -1,5 +1,5 @@
 //! Standalone URIs.
-ghost use Rattle.std.specs.Prelude.{◌≡◌, ◌<◌, ◌≤◌, ◌↔◌, ℕ, length, IfSome, IsTrue};
+ghost use Rattle.std.specs.Prelude.{◌≡◌, ◌<◌, ◌≤◌, ◌↔◌, ℕ, length, IsTrue};
 ghost use Rattle.std.specs.Str.{chars};
 ghost use Rattle.std.specs.List.{list_all};
 ghost use Rattle.rst_pieces.specs.Uri.{in_lower_case, has_letter, begins_at, scheme_end, is_uri_char, is_uri_trail, uri_stop, uri_close, uri_end, uri, is_ascii_uri, IsUri};
