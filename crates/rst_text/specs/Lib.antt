@@ -7,5 +7,6 @@ pub mod MayCut
 pub mod Extent
 pub mod Reach
 pub mod Laws
+pub mod Places
 pub mod Faults
 pub mod Counted
