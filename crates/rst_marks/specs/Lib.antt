@@ -1,0 +1,4 @@
+pub mod Front
+pub mod Class
+pub mod Marker
+pub mod Adornment
