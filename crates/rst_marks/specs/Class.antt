@@ -4,7 +4,7 @@ use Rattle.unicode.specs.GeneralCategory.{general_category}
 use Rattle.unicode.specs.GeneralCategoryGroup.{in_group}
 use Rattle.ucd_category.specs.declared.GeneralCategoryGroup.TheVariants.{Letter as LetterGroup, Number as NumberGroup}
 use Rattle.rst_marks.specs.declared.class.Class.{Class}
-use Rattle.rst_marks.specs.declared.class.Class.TheVariants.{Only, Either, Digit, Letter, Option, Bracketed, Name}
+use Rattle.rst_marks.specs.declared.class.Class.TheVariants.{Only, Either, Digit, Letter, Option, Bracketed, Unbracketed, Name}
 
 -- the general category is L
 unfoldable pub is_letter : ℕ → Bool
@@ -30,6 +30,7 @@ is_in Digit c cs = nat_le 48 c && nat_le c 57
 is_in Letter c cs = (nat_le 97 c && nat_le c 122) || (nat_le 65 c && nat_le c 90)
 is_in Option c cs = is_alphanumeric c || (c == 95 || c == 45)
 is_in Bracketed c cs = not (c == 60 || c == 62)
+is_in Unbracketed c cs = not (c == 93)
 is_in Name c cs = is_alphanumeric c || (is_joint c && begins_alphanumeric cs)
 
 -- how many characters at the front of a text are in the class

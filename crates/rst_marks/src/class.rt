@@ -21,6 +21,8 @@ pub enum Class {
     Option,
     /// What stands in an argument in angle brackets: anything but these.
     Bracketed,
+    /// What stands in a label: anything but a closing bracket.
+    Unbracketed,
     /// Letters and numbers by general category, and `-`, `_`, `.`, `:` and `+` before one.
     Name,
 }
@@ -72,6 +74,7 @@ fn is_in(class: Class, c: char, behind: &str) -> bool
         Class::Letter => matches!(c, 'a'..='z' | 'A'..='Z'),
         Class::Option => is_alphanumeric(c) || matches!(c, '_' | '-'),
         Class::Bracketed => !matches!(c, '<' | '>'),
+        Class::Unbracketed => c != ']',
         Class::Name => is_alphanumeric(c) || (is_joint(c) && begins_alphanumeric(behind)),
     }
 }

@@ -1,5 +1,5 @@
 //! Markers: a mark at the front of a line with the spaces behind it.
-ghost use Rattle.std.specs.Prelude.{◌≡◌, ◌<◌, ◌^◌};
+ghost use Rattle.std.specs.Prelude.{◌≡◌};
 ghost use Rattle.std.specs.Str.{chars};
 ghost use Rattle.rst_marks.specs.Marker as spec;
 
@@ -17,7 +17,6 @@ pub struct Marker {
 /// The marker that the first `n` characters of a line are, if spaces or the line's end are behind them.
 #[tactic(auto, unfolding(crate::specs::Marker::marker_of))]
 pub fn marker_of(n: usize, text: &str) -> Option<Marker>
-    requires { n < 2 ^ 63 }
     ensures { result ≡ spec.marker_of n (chars text.now) }
 {
     let behind = skip(text, n);

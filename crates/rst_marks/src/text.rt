@@ -2,7 +2,7 @@
 ghost use Rattle.std.specs.Prelude.{◌≡◌, ◌+◌, ◌<◌, ◌≤◌, drop, length, IsSome};
 ghost use Rattle.std.specs.Str.{chars};
 ghost use Rattle.rst_text.specs.Block.{is_blank};
-ghost use Rattle.rst_marks.specs.Front.{first, begins_with};
+ghost use Rattle.rst_marks.specs.Front.{first, begins_with, is_loose};
 
 /// The first character of a text.
 pub fn front(text: &str) -> Option<char>
@@ -38,4 +38,14 @@ pub fn begins_with(c: char, text: &str) -> bool
     ensures { result ≡ begins_with c (chars text.now) }
 {
     front(text) == Some(c)
+}
+
+/// Whether a text is empty or begins with a space.
+pub fn is_loose(text: &str) -> bool
+    ensures { result ≡ is_loose (chars text.now) }
+{
+    match front(text) {
+        Some(c) => c == ' ',
+        None => true,
+    }
 }
