@@ -15,7 +15,7 @@ pub struct Adornment {
 }
 
 /// Whether a character is one of the 32 punctuation characters of ASCII.
-fn is_punctuation(c: char) -> bool
+pub fn is_punctuation(c: char) -> bool
     ensures { result ≡ spec.is_punctuation c }
 {
     matches!(c, '!'..='/' | ':'..='@' | '['..='`' | '{'..='~')

@@ -16,7 +16,7 @@ mod place;
 mod roman;
 mod text;
 
-pub use adornment::{Adornment, adornment_of};
+pub use adornment::{Adornment, adornment_of, is_punctuation};
 pub use attribution::attribution_of;
 pub use border::{is_grid_border, is_simple_border};
 pub use class::{Class, run};
@@ -29,3 +29,4 @@ pub use field::{FieldMark, field_of};
 pub use marker::{Marker, bullet, doctest, line_bar, marker_of};
 pub use option::{Argument, Delimiter, OptionMark, OptionTail, option_at, option_marker, option_tail};
 pub use place::Characters;
+pub use text::{begins_with, front, is_blank, is_loose};

@@ -1,8 +1,8 @@
 //! What a line that begins with `..` or `__` is.
 
-ghost use Rattle.std.specs.Prelude.{◌<◌, ◌-◌, ◌^◌};
 
-use super::part::{Characters, Part};
+use super::part::Part;
+use rst_marks::Characters;
 
 /// A directive as it is called: its name, which stands in the first line of the markup, and the lines of its block,
 /// of which the first may be the rest of that line.
@@ -60,21 +60,4 @@ pub enum Explicit {
     },
     /// `..` alone before a blank line or the end.
     EmptyComment,
-}
-
-impl Explicit {
-    /// The place after the markup that begins at place `i`.
-    pub fn end(&self, i: usize) -> usize
-        requires { i < 2 ^ 64 - 1 }
-    {
-        match self {
-            Explicit::Footnote { body, .. } | Explicit::Citation { body, .. } => body.to,
-            Explicit::Target { text, .. }
-            | Explicit::Anonymous { text }
-            | Explicit::Comment { text, .. } => text.to,
-            Explicit::Substitution { end_, .. } => *end_,
-            Explicit::Directive(invocation) => invocation.block.to,
-            Explicit::EmptyComment => i + 1,
-        }
-    }
 }

@@ -1,4 +1,4 @@
-//! Parts of views and of lines, by their places.
+//! Parts of views, by their places.
 
 /// Neighbouring lines of a view and what they lose on the left, as `View::part` takes it: the lines at places `from`
 /// to `to - 1`, the first without `first_cut` characters, the others without `rest_cut` spaces.
@@ -8,11 +8,4 @@ pub struct Part {
     pub to: usize,
     pub first_cut: usize,
     pub rest_cut: usize,
-}
-
-/// Neighbouring characters of a line: those at places `from` to `to - 1`, counted from 0.
-#[derive(Clone, Copy, Debug, PartialEq, Eq)]
-pub struct Characters {
-    pub from: usize,
-    pub to: usize,
 }
