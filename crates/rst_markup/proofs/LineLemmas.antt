@@ -50,3 +50,6 @@ behind_while from i test B e = ap through_text (drop-drop (lines_while test (dro
 pub looked_below : (least : ℕ) (X : Block) → 1 ≤ length X → suc (looked least (drop 1 X)) ≡ reach (suc (extent least (drop 1 X))) X
 looked_below least [] h = absurd (omega arith)
 looked_below least (l ∷ ls) h = omega (arith, looked_is least ls)
+
+pub drop_far : (i n : ℕ) (B : Block) → drop (i + n) B ≡ drop n (drop i B)
+drop_far i n B = ap (λ k. drop k B) (let e : i + n ≡ i + n = refl in e) ∙ sym (drop-drop n i B)

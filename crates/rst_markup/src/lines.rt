@@ -51,12 +51,27 @@ pub fn text_at<'a>(view: &View<'a>, i: usize, looks: &mut Looks) -> &'a str
     }
 }
 
+/// The text of the line `n` lines below place `i`, at the price of one look; an empty text where there is no such line.
+pub fn below_text<'a>(view: &View<'a>, i: usize, n: usize, looks: &mut Looks) -> &'a str
+    requires inside { i < length (block_of view.now) }
+    requires few { looks.old < 2 ^ 121 }
+    ensures text { chars result.now ≡ front_text (drop n (drop i (block_of view.now))) }
+    ensures looks { looks.new ≤ looks.old + 1 }
+{
+    if n < view.len() - i {
+        view.line(i + n, looks)
+    } else {
+        ""
+    }
+}
+
 /// The place after the lines from place `from` on that pass a test. It looks once at each of them and at the line that
 /// stops it.
 pub fn lines_end(view: &View<'_>, from: usize, test: LineTest, looks: &mut Looks) -> usize
     requires inside { from ≤ length (block_of view.now) }
     requires few { looks.old < 2 ^ 120 + 2 ^ 80 }
     ensures end { result ≡ from + lines_while test (drop from (block_of view.now)) }
+    ensures within { result ≤ length (block_of view.now) }
     ensures looks { looks.new ≤ looks.old + reach (lines_while test (drop from (block_of view.now))) (drop from (block_of view.now)) }
 {
     let mut end = from;

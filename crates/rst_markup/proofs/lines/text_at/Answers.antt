@@ -6,7 +6,7 @@ use Rattle.rst_text.specs.Block.{Block, front_text}
 use Rattle.rst_text.specs.Shown.{block_of}
 use Rattle.rst_markup.proofs.lines.text_at.Goals as goal
 
-pub returns-else-i-len-clause-text : goal.returns-else-i-clause-text
+pub returns-else-i-len-clause-text : goal.returns-else-i-len-clause-text
 returns-else-i-len-clause-text c =
     let B : Block = block_of c.args.view.now in
     chars-nil ∙ ap front_text (sym (drop_all c.args.i B (omega arith)))
