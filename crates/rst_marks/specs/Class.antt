@@ -1,18 +1,8 @@
 -- Classes of characters, and runs of them.
 use Rattle.std.specs.Prelude.{ℕ, suc, Bool, false, not, ◌&&◌, ◌||◌, ◌==◌, nat_le, List, [], ◌∷◌, if◌then◌else◌}
-use Rattle.unicode.specs.GeneralCategory.{general_category}
-use Rattle.unicode.specs.GeneralCategoryGroup.{in_group}
-use Rattle.ucd_category.specs.declared.GeneralCategoryGroup.TheVariants.{Letter as LetterGroup, Number as NumberGroup}
+use Rattle.rst_text.specs.Characters.{is_alphanumeric}
 use Rattle.rst_marks.specs.declared.class.Class.{Class}
 use Rattle.rst_marks.specs.declared.class.Class.TheVariants.{Only, Either, Digit, Letter, Option, Bracketed, Unbracketed, Name}
-
--- the general category is L
-unfoldable pub is_letter : ℕ → Bool
-is_letter c = in_group LetterGroup (general_category c)
-
--- the general category is L or N
-unfoldable pub is_alphanumeric : ℕ → Bool
-is_alphanumeric c = in_group LetterGroup (general_category c) || in_group NumberGroup (general_category c)
 
 abbrev pub begins_alphanumeric : List ℕ → Bool
 begins_alphanumeric [] = false

@@ -1,15 +1,12 @@
 -- Where marks are closed (Markup Specification, 'Escaping Mechanism', 'Field Lists', 'Hyperlink Targets',
 -- 'Substitution Definitions', 'Literal Blocks').
 use Rattle.std.specs.Prelude.{ℕ, suc, Bool, true, false, not, ◌&&◌, ◌==◌, List, [], ◌∷◌, drop, if◌then◌else◌, Option, None, Some, option_map}
-use Rattle.std.specs.Char.{is_whitespace}
+use Rattle.rst_text.specs.Characters.{is_white}
 use Rattle.rst_text.specs.Block.{is_blank}
 use Rattle.rst_marks.specs.Front.{begins_with, is_loose}
 use Rattle.rst_marks.specs.declared.closing.Closing.{Closing}
 use Rattle.rst_marks.specs.declared.closing.Before.{Before}
 use Rattle.rst_marks.specs.declared.closing.Closing.TheVariants.{Colon, QuotedColon, Bar, SpacedBar}
-
-unfoldable pub is_white : ℕ → Bool
-is_white c = is_whitespace c
 
 -- the character behind c is escaped
 abbrev pub escapes : ℕ → Bool → Bool

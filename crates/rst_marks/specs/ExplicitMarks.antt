@@ -2,9 +2,10 @@
 -- Targets', 'Directives', 'Substitution Definitions', 'Reference Names').
 use Rattle.std.specs.Prelude.{ℕ, ◌+◌, ◌-◌, Bool, true, false, not, ◌&&◌, ◌||◌, ◌==◌, List, [], ◌∷◌, drop, if◌then◌else◌, Option, None, Some}
 use Rattle.rst_text.specs.Block.{is_blank}
+use Rattle.rst_text.specs.Characters.{is_white}
 use Rattle.rst_marks.specs.Front.{begins_with}
 use Rattle.rst_marks.specs.Class.{run, begins_alphanumeric}
-use Rattle.rst_marks.specs.Closing.{closed, is_white}
+use Rattle.rst_marks.specs.Closing.{closed}
 use Rattle.rst_marks.specs.Marker.{marker_of}
 use Rattle.rst_marks.specs.Roman.{if_some}
 use Rattle.rst_marks.specs.Enumerator.{or_else}

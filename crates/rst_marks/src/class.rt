@@ -4,7 +4,7 @@ ghost use Rattle.std.specs.Str.{chars};
 ghost use Rattle.rst_marks.specs.Class as spec;
 
 use super::text::{after_first, front};
-use unicode::properties::{GeneralCategory, GeneralCategoryGroup};
+use rst_text::is_alphanumeric;
 
 /// A class of characters.
 #[derive(Clone, Copy, Debug, PartialEq, Eq)]
@@ -25,24 +25,6 @@ pub enum Class {
     Unbracketed,
     /// Letters and numbers by general category, and `-`, `_`, `.`, `:` and `+` before one.
     Name,
-}
-
-/// Whether the general category of a character is a letter's.
-#[tactic(auto, unfolding(crate::specs::Class::is_letter))]
-pub fn is_letter(c: char) -> bool
-    ensures { result ≡ spec.is_letter c }
-{
-    GeneralCategoryGroup::Letter.contains(GeneralCategory::for_char(c))
-}
-
-/// Whether the general category of a character is a letter's or a number's.
-#[tactic(auto, unfolding(crate::specs::Class::is_alphanumeric))]
-pub fn is_alphanumeric(c: char) -> bool
-    ensures { result ≡ spec.is_alphanumeric c }
-{
-    let category = GeneralCategory::for_char(c);
-    GeneralCategoryGroup::Letter.contains(category)
-        | GeneralCategoryGroup::Number.contains(category)
 }
 
 /// Whether a text begins with a letter or a number.

@@ -3,7 +3,7 @@ ghost use Rattle.std.specs.Prelude.{◌≡◌, ◌≤◌, ◌<◌, length, IfSom
 ghost use Rattle.std.specs.Str.{chars};
 ghost use Rattle.rst_marks.specs.Closing as spec;
 
-use rst_text::skip;
+use rst_text::{is_white, skip};
 use super::text::{after_first, begins_with, front, is_blank, is_loose};
 
 /// What closes.
@@ -17,14 +17,6 @@ pub enum Closing {
     Bar,
     /// Such a bar with a space behind it.
     SpacedBar,
-}
-
-/// Whether a character is white.
-#[tactic(auto, unfolding(crate::specs::Closing::is_white))]
-pub fn is_white(c: char) -> bool
-    ensures { result ≡ spec.is_white c }
-{
-    c.is_whitespace()
 }
 
 /// Whether the character behind this one is escaped.

@@ -3,9 +3,9 @@ ghost use Rattle.std.specs.Prelude.{◌≡◌, ◌<◌, ◌≤◌, ◌-◌, ◌^
 ghost use Rattle.std.specs.Str.{chars};
 ghost use Rattle.rst_marks.specs.ExplicitMarks as spec;
 
-use rst_text::skip;
+use rst_text::{is_white, skip};
 use super::class::{Class, begins_alphanumeric, run};
-use super::closing::{Closing, closed, is_white};
+use super::closing::{Closing, closed};
 use super::marker::{Marker, marker_of};
 use super::text::{begins_with, front, is_blank};
 

@@ -20,7 +20,7 @@ pub use adornment::{Adornment, adornment_of, is_punctuation};
 pub use attribution::attribution_of;
 pub use border::{is_grid_border, is_simple_border};
 pub use class::{Class, run};
-pub use closing::{Closing, closed, ends_in_colons, is_white};
+pub use closing::{Closing, closed, ends_in_colons};
 pub use enumerator::{Case, Enumerator, Format, Ordinals, Reading, Sequence, Written};
 pub use enumerator::{begins_next, enumerator_of, first_reading, is_next, is_same_format, ordinal_in};
 pub use explicit_marks::{DirectiveMark, LabelKind, LabelMark, SubstitutionMark, TargetMark};

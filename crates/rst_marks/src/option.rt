@@ -3,8 +3,8 @@ ghost use Rattle.std.specs.Prelude.{◌≡◌, ◌≤◌, ◌<◌, ◌+◌, ◌-
 ghost use Rattle.std.specs.Str.{chars};
 ghost use Rattle.rst_marks.specs.OptionMarker as spec;
 
-use rst_text::skip;
-use super::class::{Class, is_letter, run};
+use rst_text::{is_letter, skip};
+use super::class::{Class, run};
 use super::marker::{Marker, marker_of};
 use super::text::{begins_with, front, is_blank};
 

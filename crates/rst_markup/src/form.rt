@@ -4,7 +4,7 @@ ghost use Rattle.std.specs.Str.{chars};
 ghost use Rattle.rst_markup.specs.Forms as spec;
 
 use rst_marks::{Adornment, adornment_of, begins_with, is_blank};
-use unicode_width::UnicodeWidthStr;
+use rst_text::columns;
 
 /// What a line of text begins.
 #[derive(Clone, Copy, Debug, PartialEq, Eq)]
@@ -42,14 +42,6 @@ pub enum Adorned {
     Mismatch,
     /// A title or transition where none may stand.
     Unexpected,
-}
-
-/// How many columns a text has.
-#[tactic(auto, unfolding(crate::specs::Forms::columns))]
-fn columns(text: &str) -> usize
-    ensures { result ≡ spec.columns (chars text.now) }
-{
-    text.width()
 }
 
 /// The form of a text over an underline of this length.

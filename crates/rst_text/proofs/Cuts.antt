@@ -3,8 +3,7 @@ use Rattle.std.proofs.Common.{◌≡◌, ℕ, zero, suc, ◌+◌, ◌-◌, ◌<�
 use Rattle.std.proofs.lemmas.List.{drop-map, drop-drop, length-map, length-take, drop_all, drop-take, take-map, take-take, take_all, drop_min, take-append-drop}
 use Rattle.std.proofs.Math.Dec.{eqb-suc-zero}
 use Rattle.std.proofs.Math.Nat.{min-eq_left, min-eq_right}
-use Rattle.std.proofs.lemmas.Bool.{cases_lt, eqb-true}
-use borrow.Author.Tests.{leb-true}
+use Rattle.std.proofs.lemmas.Bool.{cases_lt, eqb-true, leb-true}
 use Rattle.std.specs.Str.{chars, IsUtf8, is_utf8, IsCharBoundary}
 use Rattle.std.proofs.Math.Utf8.{scalar, scalars, encode, encodes}
 use Rattle.std.proofs.lemmas.Str.{chars-encodes, encodes-chars, scalars-chars, encode_ascii, IsUtf8-string_bytes, IsCharBoundary-from_drop, IsCharBoundary-end, IsUtf8-nil, IsUtf8-from_is_utf8, is_utf8-from_IsUtf8, IsUtf8-take, chars-append, chars-nil}
@@ -17,7 +16,7 @@ use Rattle.rst_text.specs.declared.lines.SourceLine.{SourceLine}
 use Rattle.rst_text.specs.declared.view.View.{View}
 use Rattle.rst_text.specs.Lines.{is_line_text, are_lines}
 use Rattle.rst_text.proofs.TextLemmas.{and_true}
-use Rattle.rst_text.proofs.LineTexts.{is_line_text-nil, is_line_text-suffix, are_lines-drop, are_lines-take}
+use Rattle.rst_text.proofs.LineTexts.{is_line_text-front, is_line_text-nil, is_line_text-suffix, are_lines-drop, are_lines-take}
 
 -- The lines.
 
@@ -398,3 +397,6 @@ are_lines-block_of v =
     sym (take-map line_from (v.to - v.from) (drop v.from v.lines.now)) ∙ ap (λ (B : Block). take (v.to - v.from) B) (sym (drop-map line_from v.from v.lines.now)) in
     are_lines-byte_cut v.first v.rest (kept v) (may_true v.first v.rest (kept v) v.may_cut)
     (ap are_lines shown ∙ are_lines-take (v.to - v.from) (drop v.from (block_from v.lines.now)) (are_lines-drop v.from (block_from v.lines.now) v.of_lines))
+
+pub is_line_text-line : (v : View) (i : ℕ) → is_line_text (front_text (drop i (block_of v))) ≡ true
+is_line_text-line v i = is_line_text-front i (block_of v) (are_lines-block_of v)

@@ -5,7 +5,7 @@ use Rattle.std.specs.Char.{is_whitespace}
 use Rattle.std.specs.List.{list_any}
 use Rattle.std.specs.Str.{drop_trailing_whitespace}
 use Rattle.std.proofs.lemmas.List.Folds.{list_any-append}
-use Rattle.rst_text.specs.Block.{Block, is_blank, cut, shorten, shorten_all}
+use Rattle.rst_text.specs.Block.{Block, front_text, is_blank, cut, shorten, shorten_all}
 use Rattle.rst_text.specs.Lines.{is_line_end, pieces, begins_with, onto_first, shown, expanded_from, tidied, numbered_from, lines_of, ends_white, is_line_text, are_lines}
 use Rattle.std.proofs.lemmas.Bool.{eqb-true}
 use Rattle.rst_text.proofs.TextLemmas.{and_true, not_true}
@@ -78,6 +78,18 @@ are_lines-take (suc n) (l ∷ ls) h =
 -- a cut of lines is lines
 pub are_lines-cut : (B : Block) (i j f r : ℕ) → are_lines B ≡ true → are_lines (cut B i j f r) ≡ true
 are_lines-cut B i j f r h = are_lines-shorten_all f r (take (j - i) (drop i B)) (are_lines-take (j - i) (drop i B) (are_lines-drop i B h))
+
+-- ---- a part of a text without line ends
+
+pub unended-drop : (n : ℕ) (cs : List ℕ) → list_any is_line_end cs ≡ false → list_any is_line_end (drop n cs) ≡ false
+unended-drop zero cs h = h
+unended-drop (suc n) [] h = h
+unended-drop (suc n) (c ∷ cs) h = unended-drop n cs (or_false (is_line_end c) (list_any is_line_end cs) h).1
+
+pub unended-take : (n : ℕ) (cs : List ℕ) → list_any is_line_end cs ≡ false → list_any is_line_end (take n cs) ≡ false
+unended-take zero cs h = refl
+unended-take (suc n) [] h = refl
+unended-take (suc n) (c ∷ cs) h = let t = or_false (is_line_end c) (list_any is_line_end cs) h in rw (t.0, unended-take n cs t.1) refl
 
 -- ---- a text without white characters at its end
 
@@ -163,3 +175,11 @@ are_lines-numbered tab n (p ∷ ps) h = both (is_line_text (tidied tab p)) (are_
 
 pub are_lines-lines_of : (tab : ℕ) (text : List ℕ) → are_lines (lines_of tab text) ≡ true
 are_lines-lines_of tab text = are_lines-numbered tab 1 (pieces text) (AreUnended-pieces text)
+
+-- each line of lines
+pub is_line_text-front : (i : ℕ) (B : Block) → are_lines B ≡ true → is_line_text (front_text (drop i B)) ≡ true
+is_line_text-front i B h = front (drop i B) (are_lines-drop i B h)
+  where
+    front : (X : Block) → are_lines X ≡ true → is_line_text (front_text X) ≡ true
+    front [] h = is_line_text-nil
+    front (l ∷ ls) h = (and_true (is_line_text l.text) (are_lines ls) h).0

@@ -8,5 +8,7 @@ pub mod Extent
 pub mod Reach
 pub mod Laws
 pub mod Places
+pub mod Characters
+pub mod Names
 pub mod Faults
 pub mod Counted

@@ -1,9 +1,8 @@
 -- The lines of a text (Markup Specification, 'Whitespace').
-use Rattle.std.specs.Prelude.{ℕ, ◌+◌, ◌-◌, ◌%◌, Bool, true, false, ◌&&◌, ◌||◌, nat_lt, ◌==◌, if◌then◌else◌, List, [], ◌∷◌, ◌++◌, map, replicate, length, Option, None, Some}
+use Rattle.std.specs.Prelude.{ℕ, ◌+◌, ◌-◌, ◌%◌, Bool, true, false, ◌&&◌, ◌||◌, not, nat_lt, ◌==◌, if◌then◌else◌, List, [], ◌∷◌, ◌++◌, map, replicate, length, Option, None, Some}
 use Rattle.std.specs.Char.{is_whitespace}
 use Rattle.std.specs.List.{list_any}
 use Rattle.std.specs.Str.{drop_trailing_whitespace}
-use Rattle.std.proofs.Math.Bool.{not}
 use Rattle.rst_text.specs.Block.{Block, is_blank}
 
 -- the characters that end a line: LF, CR, U+001C to U+001E, U+0085, U+2028, U+2029

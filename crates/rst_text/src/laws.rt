@@ -1,4 +1,4 @@
-//! Laws on the definitions, each by a function that does nothing and whose contract is the law.
+//! Laws on the definitions alone, each by a function that does nothing and whose contract is the law.
 ghost use Rattle.rst_text.specs.Laws.{CutsCompose};
 
 /// A cut of a cut of a block is one cut of the block.

@@ -15,7 +15,7 @@ pub loop-preserved : goal.loop-preserved
 loop-preserved c = (
   c.in_ok-push.ensures.bytes ∙ ap (λ l. l ++ encode 32) c.loop.invariant.0 ∙ ap (λ l. (string_bytes c.loop-c.line ++ replicate c.loop.counter 32) ++ l) (encode_ascii 32 (omega arith))
       ∙ append_assoc (string_bytes c.loop-c.line) (replicate c.loop.counter 32) (32 ∷ []) ∙ ap (λ l. string_bytes c.loop-c.line ++ l) (replicate_more c.loop.counter 32),
-  omega (arith, c.in_ok-push.ensures.len, c.in_ok-push.ensures.bytes, ap length (encode_ascii 32 (omega arith))),
+  omega (arith, c.in_ok-push.ensures.len, ap length (encode_ascii 32 (omega arith))),
 )
 
 pub overflow_add-column : goal.overflow_add-column

@@ -1,0 +1,170 @@
+-- Lines that are indented enough for two cuts.
+use Rattle.std.proofs.Common.{◌≡◌, ⊎_elim, ℕ, zero, suc, ◌+◌, ◌-◌, ◌<◌, ◌≤◌, ◌==◌, Bool, true, false, cond, ◌&&◌, ◌||◌, List, [], ◌∷◌, length, take, drop, map, refl, sym, ap, ◌∙◌, arith, leb}
+use Rattle.std.specs.Char.{is_whitespace}
+use Rattle.std.proofs.Common.{eqb, add-one, min, Some, None}
+use Rattle.std.proofs.Math.Dec.{eqb-suc-zero}
+use Rattle.std.proofs.lemmas.Bool.{eqb-true, le-leb, leb-true, cases_lt}
+use Rattle.std.proofs.lemmas.List.{drop-drop}
+use Rattle.rst_text.specs.Block.{Block, is_blank, indentation, shorten, shorten_all, cut}
+use Rattle.rst_text.specs.Lines.{is_line_text, are_lines, ends_white}
+use Rattle.rst_text.specs.MayCut.{is_indented}
+use Rattle.rst_text.specs.Extent.{extent, extent_of, least_indent, or_zero}
+use Rattle.rst_text.proofs.TextLemmas.{and_true}
+use Rattle.rst_text.proofs.LineTexts.{is_line_text-parts, are_lines-drop, are_lines-take}
+use Rattle.rst_text.proofs.CutLaws.{drop-cut, take-cut, take_of, shorten_all-same}
+use Rattle.rst_text.proofs.PlacesLemmas.{cases_bool}
+
+indentation-space : (c : ℕ) (cs : List ℕ) → (c == 32) ≡ true → indentation (c ∷ cs) ≡ suc (indentation cs)
+indentation-space c cs e = rw e refl
+
+indentation-none : (c : ℕ) (cs : List ℕ) → (c == 32) ≡ false → indentation (c ∷ cs) ≡ 0
+indentation-none c cs e = rw e refl
+
+-- a text that isn't only white, without r of its spaces
+pub indentation-drop : (r : ℕ) (cs : List ℕ) → r ≤ indentation cs → r + indentation (drop r cs) ≡ indentation cs
+indentation-drop zero cs h = omega arith
+indentation-drop (suc r) [] h = absurd (omega arith)
+indentation-drop (suc r) (c ∷ cs) h = ⊎_elim
+    (λ space. let one = indentation-space c cs space in let rest : r + indentation (drop r cs) ≡ indentation cs = indentation-drop r cs (omega arith) in omega arith)
+    (λ other. absurd (let none = indentation-none c cs other in omega arith))
+    (cases_bool (c == 32))
+
+-- a text of spaces alone ends in one
+spaces-end_white : (r : ℕ) (cs : List ℕ) → 0 < length cs → r ≤ indentation cs → drop r cs ≡ [] → ends_white cs ≡ true
+spaces-end_white r [] some h gone = absurd (omega arith)
+spaces-end_white zero (c ∷ cs) some h gone = absurd (omega (arith, ap length gone))
+spaces-end_white (suc r) (c ∷ []) some h gone = ⊎_elim
+    (λ space. ap (λ x. (is_whitespace x && true) || false) (eqb-true c 32 space))
+    (λ other. absurd (let none = indentation-none c [] other in omega arith))
+    (cases_bool (c == 32))
+spaces-end_white (suc r) (c ∷ d ∷ ds) some h gone = ⊎_elim
+    (λ space.
+    let one = indentation-space c (d ∷ ds) space in
+    let rest : ends_white (d ∷ ds) ≡ true = spaces-end_white r (d ∷ ds) (omega arith) (omega arith) gone in
+    rw rest (either (is_whitespace c && false)))
+    (λ other. absurd (let none = indentation-none c (d ∷ ds) other in omega arith))
+    (cases_bool (c == 32))
+  where
+    either : (a : Bool) → (a || true) ≡ true
+    either true = refl
+    either false = refl
+
+-- one line: blank or indented by r, and without these spaces blank or indented by s
+line-both : (r s : ℕ) (cs : List ℕ) → is_line_text cs ≡ true → (is_blank cs || leb r (indentation cs)) ≡ true → (is_blank (drop r cs) || leb s (indentation (drop r cs))) ≡ true
+    → (is_blank cs || leb (r + s) (indentation cs)) ≡ true
+line-both r s [] text h k = refl
+line-both r s (c ∷ cs) text h k = by (drop r (c ∷ cs)) refl k
+  where
+    deep : r ≤ indentation (c ∷ cs)
+    deep = leb-true r (indentation (c ∷ cs)) h
+
+    by : (ds : List ℕ) → drop r (c ∷ cs) ≡ ds → (is_blank ds || leb s (indentation ds)) ≡ true → leb (r + s) (indentation (c ∷ cs)) ≡ true
+    by [] e k = absurd (let white = spaces-end_white r (c ∷ cs) (omega arith) deep e in let f : true ≡ false = sym white ∙ (is_line_text-parts (c ∷ cs) text).1 in cc)
+    by (d ∷ ds) e k =
+        let more : s ≤ indentation (d ∷ ds) = leb-true s (indentation (d ∷ ds)) k in
+        le-leb (r + s) (indentation (c ∷ cs)) (omega (arith, indentation-drop r (c ∷ cs) deep, ap indentation e))
+
+-- Lines that are indented by r, and by s without that, are indented by both.
+pub is_indented-both : (r s : ℕ) (B : Block) → are_lines B ≡ true → is_indented r B ≡ true → is_indented s (map (shorten r) B) ≡ true → is_indented (r + s) B ≡ true
+is_indented-both r s [] lines h k = refl
+is_indented-both r s (l ∷ ls) lines h k =
+    let t = and_true (is_line_text l.text) (are_lines ls) lines in
+    let p = and_true (is_blank l.text || leb r (indentation l.text)) (is_indented r ls) h in
+    let q = and_true (is_blank (drop r l.text) || leb s (indentation (drop r l.text))) (is_indented s (map (shorten r) ls)) k in
+    rw (line-both r s l.text t.0 p.0 q.0, is_indented-both r s ls t.1 p.1 q.1) refl
+
+pub is_indented-drop : (r n : ℕ) (B : Block) → is_indented r B ≡ true → is_indented r (drop n B) ≡ true
+is_indented-drop r zero B h = h
+is_indented-drop r (suc n) [] h = refl
+is_indented-drop r (suc n) (l ∷ ls) h = is_indented-drop r n ls (and_true (is_blank l.text || leb r (indentation l.text)) (is_indented r ls) h).1
+
+pub is_indented-take : (r n : ℕ) (B : Block) → is_indented r B ≡ true → is_indented r (take n B) ≡ true
+is_indented-take r zero B h = refl
+is_indented-take r (suc n) [] h = refl
+is_indented-take r (suc n) (l ∷ ls) h =
+    let t = and_true (is_blank l.text || leb r (indentation l.text)) (is_indented r ls) h in rw (t.0, is_indented-take r n ls t.1) refl
+
+-- The lines of a cut of a cut are indented for both cuts, the first one left out each time.
+pub is_indented-cut : (B : Block) (i j f r k m s : ℕ) → are_lines B ≡ true → k ≤ m → m ≤ j - i
+    → is_indented r (take (j - (i + 1)) (drop (i + 1) B)) ≡ true → is_indented s (take (m - (k + 1)) (drop (k + 1) (cut B i j f r))) ≡ true
+    → is_indented (r + s) (take ((i + m) - (i + k + 1)) (drop (i + k + 1) B)) ≡ true
+is_indented-cut B i j f r k m s lines in_order within outer inner = ⊎_elim inside empty (cases_lt k m)
+  where
+    X : Block
+    X = take (m - (k + 1)) (drop (i + k + 1) B)
+
+    same : k < m → take (m - (k + 1)) (drop (k + 1) (cut B i j f r)) ≡ map (shorten r) X
+    same less =
+        let e : i + (k + 1) ≡ i + k + 1 = omega arith in
+        let b : eqb (k + 1) 0 ≡ false = rw add-one (eqb-suc-zero k) in
+        let left : m - (k + 1) ≤ j - (i + (k + 1)) = omega arith in
+        let n : (i + (k + 1) + (m - (k + 1))) - (i + (k + 1)) ≡ m - (k + 1) = omega arith in
+        ap (λ (x : Block). take (m - (k + 1)) x) (drop-cut B i j f r (k + 1) (omega arith) ∙ ap (λ c. cut B (i + (k + 1)) j (cond c f r) r) b)
+        ∙ take-cut B (i + (k + 1)) j r r (m - (k + 1)) left
+        ∙ ap (shorten_all r r) (rw (n, e) refl) ∙ shorten_all-same r X
+
+    deep : k < m → is_indented r X ≡ true
+    deep less =
+        let e : i + 1 + k ≡ i + k + 1 = omega arith in
+        let part : take (m - (k + 1)) (drop k (take (j - (i + 1)) (drop (i + 1) B))) ≡ X =
+        take_of k (m - (k + 1)) (j - (i + 1)) (drop (i + 1) B) (omega arith) ∙ ap (λ (x : Block). take (m - (k + 1)) x) (drop-drop k (i + 1) B ∙ ap (λ n. drop n B) e) in
+        sym (ap (is_indented r) part) ∙ is_indented-take r (m - (k + 1)) (drop k (take (j - (i + 1)) (drop (i + 1) B))) (is_indented-drop r k (take (j - (i + 1)) (drop (i + 1) B)) outer)
+
+    inside : k < m → is_indented (r + s) (take ((i + m) - (i + k + 1)) (drop (i + k + 1) B)) ≡ true
+    inside less =
+        let n : (i + m) - (i + k + 1) ≡ m - (k + 1) = omega arith in
+        rw n (is_indented-both r s X (are_lines-take (m - (k + 1)) (drop (i + k + 1) B) (are_lines-drop (i + k + 1) B lines)) (deep less) (sym (ap (is_indented s) (same less)) ∙ inner))
+
+    empty : m ≤ k → is_indented (r + s) (take ((i + m) - (i + k + 1)) (drop (i + k + 1) B)) ≡ true
+    empty over = let n : (i + m) - (i + k + 1) ≡ 0 = omega arith in rw n refl
+
+-- ---- a text behind its spaces
+
+-- a line that isn't blank holds more than spaces
+pub some_behind_spaces : (cs : List ℕ) → is_line_text cs ≡ true → 0 < length cs → 0 < length (drop (indentation cs) cs)
+some_behind_spaces cs text some = by (drop (indentation cs) cs) refl
+  where
+    by : (ds : List ℕ) → drop (indentation cs) cs ≡ ds → 0 < length ds
+    by [] e = absurd (let white = spaces-end_white (indentation cs) cs some (omega arith) e in let f : true ≡ false = sym white ∙ (is_line_text-parts cs text).1 in cc)
+    by (d ∷ ds) e = omega arith
+
+-- ---- the least indentation
+
+-- no line is indented less than it, and it is no more than what was there before
+least-from : (m : ℕ) (X : Block) → (r : ℕ) × (least_indent (Some m) X ≡ Some r) × (r ≤ m) × (is_indented r X ≡ true)
+unfolding least_indent
+least-from m [] = (m, refl, omega arith, refl)
+least-from m (l ∷ ls) = by (is_blank l.text) refl (least-from m ls) (least-from (min m (indentation l.text)) ls)
+  where
+    by : (b : Bool) → is_blank l.text ≡ b
+        → ((r : ℕ) × (least_indent (Some m) ls ≡ Some r) × (r ≤ m) × (is_indented r ls ≡ true))
+        → ((r : ℕ) × (least_indent (Some (min m (indentation l.text))) ls ≡ Some r) × (r ≤ min m (indentation l.text)) × (is_indented r ls ≡ true))
+        → (r : ℕ) × (least_indent (cond b (Some m) (Some (min m (indentation l.text)))) ls ≡ Some r) × (r ≤ m) × (is_indented r (l ∷ ls) ≡ true)
+    by true e f g = (f.0, f.1, f.2, rw (e, f.3) refl)
+    by false e f g = (g.0, g.1, omega (arith, g.2), rw (e, le-leb g.0 (indentation l.text) (omega (arith, g.2)), g.3) refl)
+
+-- Each line is blank or indented by the least indentation.
+pub is_indented-least : (X : Block) → is_indented (or_zero (least_indent None X)) X ≡ true
+unfolding least_indent
+is_indented-least [] = refl
+is_indented-least (l ∷ ls) = by (is_blank l.text) refl (is_indented-least ls) (least-from (indentation l.text) ls)
+  where
+    by : (b : Bool) → is_blank l.text ≡ b → is_indented (or_zero (least_indent None ls)) ls ≡ true
+        → ((r : ℕ) × (least_indent (Some (indentation l.text)) ls ≡ Some r) × (r ≤ indentation l.text) × (is_indented r ls ≡ true))
+        → is_indented (or_zero (least_indent (cond b None (Some (indentation l.text))) ls)) (l ∷ ls) ≡ true
+    by true e f g = rw (e, f) refl
+    by false e f g = ap (λ o. is_indented (or_zero o) (l ∷ ls)) g.1 ∙ rw (e, le-leb g.0 (indentation l.text) g.2, g.3) refl
+
+-- the lines of an extent, for a cut by its least indentation
+pub is_indented-extent : (from least : ℕ) (X : Block) → is_indented (extent_of from least X).indent (take (extent least X) X) ≡ true
+is_indented-extent from least X = is_indented-least (take (extent least X) X)
+
+-- all but the first of some lines
+pub is_indented-rest : (r i j : ℕ) (B : Block) → is_indented r (take (j - i) (drop i B)) ≡ true → is_indented r (take (j - (i + 1)) (drop (i + 1) B)) ≡ true
+is_indented-rest r i j B h = rw (← drop-drop 1 i B) (go (j - i) (j - (i + 1)) (drop i B) (omega arith) h)
+  where
+    go : (m n : ℕ) (X : Block) → n ≡ m - 1 → is_indented r (take m X) ≡ true → is_indented r (take n (drop 1 X)) ≡ true
+    go zero n X e h = rw e refl
+    go (suc m) n [] e h = is_indented-take r n [] refl
+    go (suc m) n (x ∷ X) e h =
+        let same : n ≡ m = omega arith in rw same (and_true (is_blank x.text || leb r (indentation x.text)) (is_indented r (take m X)) h).1
