@@ -1,11 +1,13 @@
 -- Lines that are looked at one after the other.
-use Rattle.std.proofs.Common.{◌≡◌, ℕ, zero, suc, ◌+◌, ◌-◌, ◌<◌, ◌≤◌, Bool, true, false, cond, List, [], ◌∷◌, length, take, drop, length-drop, refl, sym, ap, ◌∙◌, arith}
+use Rattle.std.proofs.Common.{◌≡◌, ℕ, zero, suc, ◌+◌, ◌-◌, ◌<◌, ◌≤◌, Bool, true, false, cond, Option, None, Some, eq-eqb, List, [], ◌∷◌, length, take, drop, length-drop, refl, sym, ap, ◌∙◌, arith}
 use Rattle.std.proofs.lemmas.List.{drop-drop, drop_all}
 use Rattle.rst_text.specs.Block.{Line, Block, is_blank, front_text}
 use Rattle.rst_text.specs.Extent.{extent}
 use Rattle.rst_text.specs.Reach.{reach, through_text, looked}
 use Rattle.rst_text.proofs.Reaches.{looked_is, through_blank, through_some}
 use Rattle.rst_markup.specs.declared.lines.LineTest.{LineTest}
+use Rattle.rst_markup.specs.declared.lines.LineTest.TheVariants.{Blank, Begins}
+use Rattle.rst_marks.specs.Front.{first, begins_with}
 use Rattle.rst_markup.specs.Lines.{passes, lines_while}
 
 pub drop_one : (i : ℕ) (B : Block) → drop (i + 1) B ≡ drop 1 (drop i B)
@@ -53,3 +55,35 @@ looked_below least (l ∷ ls) h = omega (arith, looked_is least ls)
 
 pub drop_far : (i n : ℕ) (B : Block) → drop (i + n) B ≡ drop n (drop i B)
 drop_far i n B = ap (λ k. drop k B) (let e : i + n ≡ i + n = refl in e) ∙ sym (drop-drop n i B)
+
+-- blank lines and the line behind them
+pub blanks_through : (Y : Block) → lines_while Blank Y + through_text (drop (lines_while Blank Y) Y) ≡ through_text Y
+unfolding lines_while
+blanks_through [] = omega arith
+blanks_through (l ∷ ls) = by (is_blank l.text) refl (blanks_through ls)
+  where
+    by : (b : Bool) → is_blank l.text ≡ b → lines_while Blank ls + through_text (drop (lines_while Blank ls) ls) ≡ through_text ls
+        → cond b (suc (lines_while Blank ls)) 0 + through_text (drop (cond b (suc (lines_while Blank ls)) 0) (l ∷ ls)) ≡ through_text (l ∷ ls)
+    by true e h = omega (arith, through_blank l ls e, h)
+    by false e h = omega arith
+
+-- a line that isn't empty
+pub filled_through : (Z : Block) (c : ℕ) → first (front_text Z) ≡ Some c → through_text Z ≡ 1
+filled_through [] c e = cc
+filled_through (l ∷ ls) c e = through_some l ls (go l.text e)
+  where
+    go : (t : List ℕ) → first t ≡ Some c → is_blank t ≡ false
+    go [] e = cc
+    go (d ∷ ds) e = refl
+
+pub begins_while : (Z : Block) (c : ℕ) → first (front_text Z) ≡ Some c → 1 ≤ lines_while (Begins c) Z
+unfolding lines_while
+begins_while [] c e = cc
+begins_while (l ∷ ls) c e = rw (go l.text e) (omega arith)
+  where
+    go : (t : List ℕ) → first t ≡ Some c → begins_with c t ≡ true
+    go [] e = cc
+    go (d ∷ ds) e = let same : d ≡ c = cc in rw same (eq-eqb c c refl)
+
+pub reach_behind : (n m : ℕ) (X : Block) → reach (n + m) X ≡ n + reach m (drop n X)
+reach_behind n m X = omega (arith, ap through_text (drop-drop m n X))

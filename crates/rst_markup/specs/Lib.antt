@@ -1,2 +1,4 @@
 pub mod Lines
 pub mod Kinds
+pub mod Forms
+pub mod Sizes

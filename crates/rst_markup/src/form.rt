@@ -105,3 +105,49 @@ fn overlined(mark: Adornment, next: &str, after: Option<&str>) -> Adorned
         }
     }
 }
+
+/// Whether a form is a title that is as long as its overline.
+fn is_whole_title(adorned: Adorned) -> bool
+    ensures { result ≡ spec.is_whole_title adorned }
+{
+    matches!(adorned, Adorned::Title { short: false })
+}
+
+/// The form of a line of one punctuation character over a blank line or none, where titles may stand.
+#[tactic(auto, unfolding(crate::specs::Forms::adorned_alone))]
+pub fn adorned_alone(mark: Adornment) -> Adorned
+    ensures { result ≡ spec.adorned_alone mark }
+{
+    if mark.len >= 4 {
+        Adorned::Transition
+    } else {
+        Adorned::Text
+    }
+}
+
+/// The form of a line of one punctuation character over a line that isn't blank, where titles may stand.
+#[tactic(auto, unfolding(crate::specs::Forms::adorned_over))]
+pub fn adorned_over(mark: Adornment, next: &str, after: Option<&str>) -> Adorned
+    ensures { result ≡ spec.adorned_over mark (chars next.now) (spec.text_of after) }
+{
+    let form = overlined(mark, next, after);
+    if mark.len >= 4 || is_whole_title(form) {
+        form
+    } else {
+        Adorned::ShortOverline
+    }
+}
+
+/// The form of a line of one punctuation character where no titles may stand.
+#[tactic(auto, unfolding(crate::specs::Forms::adorned_below))]
+pub fn adorned_below(mark: Adornment) -> Adorned
+    ensures { result ≡ spec.adorned_below mark }
+{
+    if mark.character == ':' && mark.len == 2 {
+        return Adorned::Text;
+    }
+    if mark.len >= 4 {
+        return Adorned::Unexpected;
+    }
+    Adorned::ShortAdornment
+}

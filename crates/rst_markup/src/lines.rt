@@ -3,7 +3,7 @@ ghost use Rattle.std.specs.Prelude.{◌≡◌, ◌+◌, ◌^◌, ◌<◌, ◌≤
 ghost use Rattle.std.specs.Str.{chars};
 ghost use Rattle.rst_text.specs.Block.{front_text};
 ghost use Rattle.rst_text.specs.Extent.{extent};
-ghost use Rattle.rst_text.specs.Reach.{reach};
+ghost use Rattle.rst_text.specs.Reach.{reach, through_text};
 ghost use Rattle.rst_text.specs.Shown.{block_of};
 ghost use Rattle.rst_markup.specs.Lines.{passes, lines_while};
 
@@ -42,7 +42,7 @@ fn passes(test: LineTest, text: &str) -> bool
 pub fn text_at<'a>(view: &View<'a>, i: usize, looks: &mut Looks) -> &'a str
     requires few { looks.old < 2 ^ 121 }
     ensures text { chars result.now ≡ front_text (drop i (block_of view.now)) }
-    ensures looks { looks.new ≤ looks.old + 1 }
+    ensures looks { looks.new ≤ looks.old + through_text (drop i (block_of view.now)) }
 {
     if i < view.len() {
         view.line(i, looks)
@@ -72,6 +72,7 @@ pub fn lines_end(view: &View<'_>, from: usize, test: LineTest, looks: &mut Looks
     requires few { looks.old < 2 ^ 120 + 2 ^ 80 }
     ensures end { result ≡ from + lines_while test (drop from (block_of view.now)) }
     ensures within { result ≤ length (block_of view.now) }
+    ensures few { looks.new ≤ looks.old + lines_while test (drop from (block_of view.now)) + 1 }
     ensures looks { looks.new ≤ looks.old + reach (lines_while test (drop from (block_of view.now))) (drop from (block_of view.now)) }
 {
     let mut end = from;
