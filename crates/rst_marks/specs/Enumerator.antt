@@ -40,7 +40,8 @@ as_numeral case n value = Some (record { ordinals = Letters case None (Some valu
 
 abbrev pub letters_by : ℕ → ℕ → List ℕ → Option Written
 letters_by c n t =
-    if n == 1 then Some (record { ordinals = Letters (case_of c) (place_in_alphabet c) (roman (case_of c) n t); len = n })
+    if n == 0 then None
+    else if n == 1 then Some (record { ordinals = Letters (case_of c) (place_in_alphabet c) (roman (case_of c) n t); len = n })
     else if_some (roman (case_of c) n t) (as_numeral (case_of c) n)
 
 -- a single letter, which may be a Roman numeral as well, or a Roman numeral

@@ -104,6 +104,9 @@ fn letters(text: &str) -> Option<Written>
 {
     let first = front(text)?;
     let len = run(Class::Letter, text);
+    if len == 0 {
+        return None;
+    }
     let case = case_of(first);
     let numeral = roman(case, len, text);
     if len == 1 {

@@ -1,6 +1,7 @@
 -- What a line of text, or of one punctuation character, begins (Markup Specification, 'Sections', 'Transitions',
 -- 'Definition Lists', 'Paragraphs').
-use Rattle.std.specs.Prelude.{ℕ, Bool, true, false, ◌&&◌, ◌||◌, ◌==◌, nat_le, nat_lt, List, if◌then◌else◌, Option, None, Some, is_some, Bor}
+use Rattle.std.specs.Prelude.{ℕ, Bool, true, false, ◌&&◌, ◌||◌, ◌==◌, nat_le, nat_lt, List, if◌then◌else◌, Option, None, Some, is_some}
+use Rattle.std.specs.Borrow.{Bor}
 use Rattle.std.specs.Str.{chars}
 use Rattle.rst_text.specs.Block.{is_blank}
 use Rattle.rst_text.specs.Characters.{columns}

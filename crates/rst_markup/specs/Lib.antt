@@ -2,3 +2,5 @@ pub mod Lines
 pub mod Kinds
 pub mod Forms
 pub mod Sizes
+pub mod Rows
+pub mod RowLaws

@@ -68,6 +68,7 @@ pub fn literal_end(view: &View<'_>, from: usize, looks: &mut Looks) -> usize
     ensures end { result ≡ from + spec.literal_size (drop from (block_of view.now)) }
     ensures looks { looks.new ≤ looks.old + 4 * reach (spec.literal_size (drop from (block_of view.now))) (drop from (block_of view.now)) }
 {
+    prove!(from <= view.len());
     let indented = view.block_end(from, None, looks).end;
     if from < indented {
         return indented;
@@ -102,6 +103,7 @@ pub fn text_end(view: &View<'_>, i: usize, text: &str, next: &str, looks: &mut L
     ensures end { result ≡ i + spec.text_size (drop i (block_of view.now)) }
     ensures looks { looks.new + 2 + spec.filled (next_text (drop i (block_of view.now))) ≤ looks.old + 4 * reach (spec.text_size (drop i (block_of view.now))) (drop i (block_of view.now)) }
 {
+    prove!(i < view.len());
     match text_form(text, next) {
         TextForm::Paragraph | TextForm::ShortUnderline => paragraph_end(view, i, looks),
         TextForm::Definition => hanging_end(view, i, looks),

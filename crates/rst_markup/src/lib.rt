@@ -1,6 +1,8 @@
 //! Recognizers of blocks: what begins at a line, and where it ends.
 #![tactic(auto)]
 
+mod construct;
+mod constructs;
 mod ends;
 mod form;
 mod forms;
@@ -9,11 +11,13 @@ mod lines;
 mod part;
 mod row;
 
+pub use construct::{Construct, end_after};
+pub use constructs::{AnonymousTarget, BarLine, BlankLine, BlockQuote, BulletItem, DoctestBlock, EnumeratedItem, FieldItem, OptionListItem, TextLine};
 pub use ends::{hanging_end, indented_end, item_end, literal_end, paragraph_end, text_end};
 pub use form::{Adorned, TextForm, adorned_alone, adorned_below, adorned_over, text_form};
 pub use forms::{CommentCause, Explicit, Invocation};
 pub use kind::Kind;
 pub use lines::{LineTest, below_end, below_text, lines_end, text_at};
 pub use part::Part;
-pub use row::{item_enumerator, item_option, kind_by};
+pub use row::{item_enumerator, item_option, kind_by, kind_of};
 pub use rst_marks::Characters;

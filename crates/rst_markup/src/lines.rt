@@ -42,6 +42,7 @@ fn passes(test: LineTest, text: &str) -> bool
 pub fn text_at<'a>(view: &View<'a>, i: usize, looks: &mut Looks) -> &'a str
     requires few { looks.old < 2 ^ 121 }
     ensures text { chars result.now ≡ front_text (drop i (block_of view.now)) }
+    ensures few { looks.new ≤ looks.old + 1 }
     ensures looks { looks.new ≤ looks.old + through_text (drop i (block_of view.now)) }
 {
     if i < view.len() {

@@ -1,14 +1,17 @@
 //! Conditions of the rows of the table of constructs, on a line and the two lines after it.
-ghost use Rattle.std.specs.Prelude.{◌≡◌};
+ghost use Rattle.std.specs.Prelude.{◌≡◌, ◌+◌, ◌^◌, ◌<◌, ◌≤◌, length};
+ghost use Rattle.rst_text.specs.Shown.{block_of};
 ghost use Rattle.std.specs.Str.{chars};
 ghost use Rattle.rst_markup.specs.Kinds as spec;
 
 use super::kind::Kind;
+use super::lines::below_text;
 use rst_marks::{
     Enumerator, Marker, adornment_of, begins_next, begins_with, bullet, doctest, dots, enumerator_of,
     field_of, is_blank, is_grid_border, is_loose, is_simple_border, line_bar, option_marker,
     underscores,
 };
+use rst_text::{Looks, View};
 
 /// The enumerator that begins a list's item: the next line is missing, blank, indented, or begins with a next
 /// enumerator and a space.
@@ -91,4 +94,17 @@ pub fn kind_by(text: &str, next: &str, after: &str) -> Kind
         return Kind::OptionItem;
     }
     later_kind(text)
+}
+
+/// The kind of the line at place `i`. It makes at most three looks.
+pub fn kind_of(view: &View<'_>, i: usize, looks: &mut Looks) -> Kind
+    requires inside { i < length (block_of view.now) }
+    requires few { looks.old < 2 ^ 120 }
+    ensures kind { result ≡ spec.kind_of (block_of view.now) i }
+    ensures looks { looks.new ≤ looks.old + 3 }
+{
+    let text = view.line(i, looks);
+    let next = below_text(view, i, 1, looks);
+    let after = below_text(view, i, 2, looks);
+    kind_by(text, next, after)
 }
