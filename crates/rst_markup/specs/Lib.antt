@@ -4,3 +4,5 @@ pub mod Forms
 pub mod Sizes
 pub mod Rows
 pub mod RowLaws
+pub mod AdornmentLaws
+pub mod ExplicitMarkup

@@ -66,3 +66,9 @@ is_text_row X = true
 
 abbrev pub text_row_size : Bool → Block → ℕ
 text_row_size titles X = text_size X
+
+abbrev pub is_adornment_row : Block → Bool
+is_adornment_row X = is_some (adornment_of (front_text X))
+
+abbrev pub adornment_row_size : Bool → Block → ℕ
+adornment_row_size titles X = adornment_size titles X

@@ -100,15 +100,26 @@ form_size (Title short) X = 2
 unfoldable pub text_size : Block → ℕ
 text_size X = form_size (text_form (front_text X) (next_text X)) X
 
+-- how many lines a form takes whatever follows; none for one that is a text
+abbrev pub fixed_size : Adorned → Option ℕ
+fixed_size Transition = Some 1
+fixed_size Unexpected = Some 1
+fixed_size InvalidMarker = Some 2
+fixed_size Incomplete = Some 2
+fixed_size (MissingUnderline true) = Some 2
+fixed_size (MissingUnderline false) = Some 3
+fixed_size (AdornedTitle short) = Some 3
+fixed_size Mismatch = Some 3
+fixed_size Text = None
+fixed_size ShortOverline = None
+fixed_size ShortAdornment = None
+
+abbrev pub size_or : Option ℕ → Block → ℕ
+size_or None X = text_size X
+size_or (Some n) X = n
+
 abbrev pub adorned_size : Adorned → Block → ℕ
-adorned_size Transition X = 1
-adorned_size (AdornedTitle short) X = 3
-adorned_size InvalidMarker X = 2
-adorned_size Incomplete X = 2
-adorned_size (MissingUnderline blank) X = if blank then 2 else 3
-adorned_size Mismatch X = 3
-adorned_size Unexpected X = 1
-adorned_size _ X = text_size X
+adorned_size form X = size_or (fixed_size form) X
 
 -- the text of a block's third line, if there is one
 abbrev pub third_text : Block → Option (List ℕ)
