@@ -19,7 +19,7 @@ pub fn indentation(text: &str) -> usize
 }
 
 /// A text without its first `n` characters; of a shorter one nothing is left.
-pub(crate) fn skip(text: &str, n: usize) -> &str
+pub fn skip(text: &str, n: usize) -> &str
     ensures chars { chars result.now ≡ drop n (chars text.now) }
     ensures suffix { (front : List ℕ) × (text.now ≡ front ++ result.now) }
 {

@@ -1,0 +1,4 @@
+pub mod TextLemmas
+pub mod Runs
+pub mod Steps
+pub mod OptionLemmas

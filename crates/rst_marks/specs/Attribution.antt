@@ -1,0 +1,23 @@
+-- Attributions (Markup Specification, 'Block Quotes').
+use Rattle.std.specs.Prelude.{ℕ, ◌+◌, Bool, ◌||◌, ◌==◌, List, drop, if◌then◌else◌, Option, None, Some}
+use Rattle.rst_text.specs.Block.{is_blank, indentation}
+use Rattle.rst_marks.specs.Front.{begins_with}
+use Rattle.rst_marks.specs.Class.{run}
+use Rattle.rst_marks.specs.declared.class.Class.TheVariants.{Only}
+
+abbrev pub two_or_three : ℕ → ℕ
+two_or_three n = if n == 2 || n == 3 then n else 0
+
+-- `--`, `---` with no further `-`, or U+2014
+unfoldable pub dash_len : List ℕ → ℕ
+dash_len t = if begins_with 0x2014 t then 1 else two_or_three (run (Only 45) t)
+
+abbrev pub behind_dash : ℕ → List ℕ → Option ℕ
+behind_dash n t =
+    if n == 0 then None
+    else if is_blank (drop (indentation (drop n t)) (drop n t)) then None
+    else Some (n + indentation (drop n t))
+
+-- a dash, maybe spaces, and then text: how many characters stand before that
+unfoldable pub attribution_of : List ℕ → Option ℕ
+attribution_of t = behind_dash (dash_len t) t

@@ -1,0 +1,132 @@
+-- Enumerators (Markup Specification, 'Enumerated Lists').
+use Rattle.std.specs.Prelude.{ℕ, suc, ◌+◌, ◌-◌, Bool, true, false, ◌&&◌, ◌||◌, ◌==◌, nat_le, nat_lt, not, unwrap_or, List, [], ◌∷◌, drop, if◌then◌else◌, Option, None, Some}
+use Rattle.rst_marks.specs.Front.{first, begins_with}
+use Rattle.rst_marks.specs.Class.{run}
+use Rattle.rst_marks.specs.Decimal.{decimal}
+use Rattle.rst_marks.specs.Roman.{roman, if_some}
+use Rattle.rst_marks.specs.declared.class.Class.TheVariants.{Digit, Letter}
+use Rattle.rst_marks.specs.declared.enumerator.Case.{Case}
+use Rattle.rst_marks.specs.declared.enumerator.Case.TheVariants.{Lower, Upper}
+use Rattle.rst_marks.specs.declared.enumerator.Ordinals.{Ordinals}
+use Rattle.rst_marks.specs.declared.enumerator.Ordinals.TheVariants.{Auto, Arabic, Letters}
+use Rattle.rst_marks.specs.declared.enumerator.Written.{Written}
+use Rattle.rst_marks.specs.declared.enumerator.Format.{Format}
+use Rattle.rst_marks.specs.declared.enumerator.Format.TheVariants.{Parentheses, Parenthesis, Period}
+use Rattle.rst_marks.specs.declared.enumerator.Enumerator.{Enumerator}
+use Rattle.rst_marks.specs.declared.enumerator.Sequence.{Sequence}
+use Rattle.rst_marks.specs.declared.enumerator.Sequence.TheVariants.{Arabic as ArabicSequence, LowerAlpha, UpperAlpha, LowerRoman, UpperRoman}
+use Rattle.rst_marks.specs.declared.enumerator.Reading.{Reading}
+use Rattle.rst_marks.specs.declared.marker.Marker.{Marker}
+use Rattle.rst_marks.specs.Marker.{marker_of}
+
+abbrev pub case_of : ℕ → Case
+case_of c = if nat_le 97 c && nat_le c 122 then Lower else Upper
+
+-- the place of a letter in the alphabet, from 1
+abbrev pub place_in_alphabet : ℕ → Option ℕ
+place_in_alphabet c =
+    if nat_le 97 c && nat_le c 122 then Some (c - 96)
+    else if nat_le 65 c && nat_le c 90 then Some (c - 64)
+    else None
+
+-- one to nine digits
+unfoldable pub digits : List ℕ → Option Written
+digits t =
+    if run Digit t == 0 || nat_lt 9 (run Digit t) then None
+    else Some (record { ordinals = Arabic (decimal (run Digit t) t); len = run Digit t })
+
+abbrev pub as_numeral : Case → ℕ → ℕ → Option Written
+as_numeral case n value = Some (record { ordinals = Letters case None (Some value); len = n })
+
+abbrev pub letters_by : ℕ → ℕ → List ℕ → Option Written
+letters_by c n t =
+    if n == 0 then None
+    else if n == 1 then Some (record { ordinals = Letters (case_of c) (place_in_alphabet c) (roman (case_of c) n t); len = n })
+    else if_some (roman (case_of c) n t) (as_numeral (case_of c) n)
+
+-- a single letter, which may be a Roman numeral as well, or a Roman numeral
+unfoldable pub letters : List ℕ → Option Written
+letters t = if_some (first t) (λ c. letters_by c (run Letter t) t)
+
+abbrev pub or_else : {A : Type 0} → Option A → Option A → Option A
+or_else None b = b
+or_else (Some a) b = Some a
+
+-- the ordinal at the front of a text: `#`, digits, a letter or a Roman numeral
+unfoldable pub written_at : List ℕ → Option Written
+written_at t = if begins_with 35 t then Some (record { ordinals = Auto; len = 1 }) else or_else (digits t) (letters t)
+
+abbrev pub with_marker : Format → Written → Option Marker → Option Enumerator
+with_marker format w None = None
+with_marker format w (Some m) = Some (record { format = format; written = w; marker = m })
+
+-- the ordinal behind `from` characters, and a marker that ends a character after it
+unfoldable pub framed : Format → ℕ → List ℕ → Option Enumerator
+framed format from t = if_some (written_at (drop from t)) (λ w. with_marker format w (marker_of (from + w.len + 1) t))
+
+-- `(x)`, `x)` or `x.`
+unfoldable pub enumerator_of : List ℕ → Option Enumerator
+enumerator_of t =
+    if begins_with 40 t then if_some (written_at (drop 1 t)) (λ w. if begins_with 41 (drop (1 + w.len) t) then framed Parentheses 1 t else None)
+    else if_some (written_at t) (λ w.
+    if begins_with 41 (drop w.len t) then framed Parenthesis 0 t
+    else if begins_with 46 (drop w.len t) then framed Period 0 t
+    else None)
+
+abbrev pub is_one_more : Option ℕ → Option ℕ → Bool
+is_one_more (Some a) (Some b) = nat_lt 0 b && b - 1 == a
+is_one_more _ _ = false
+
+abbrev pub is_same_case : Case → Case → Bool
+is_same_case Lower Lower = true
+is_same_case Upper Upper = true
+is_same_case _ _ = false
+
+abbrev pub is_same_format : Format → Format → Bool
+is_same_format Parentheses Parentheses = true
+is_same_format Parenthesis Parenthesis = true
+is_same_format Period Period = true
+is_same_format _ _ = false
+
+-- the next ordinal in a sequence and case under any reading; `#` is next to any, and after it only `#` is
+abbrev pub is_next : Ordinals → Ordinals → Bool
+is_next _ Auto = true
+is_next (Arabic a) (Arabic b) = is_one_more (Some a) (Some b)
+is_next (Letters c a r) (Letters d b s) = is_same_case c d && (is_one_more a b || is_one_more r s)
+is_next _ _ = false
+
+abbrev pub is_next_of : Enumerator → Option Enumerator → Bool
+is_next_of e None = false
+is_next_of e (Some f) = not f.marker.bare && (is_same_format e.format f.format && is_next e.written.ordinals f.written.ordinals)
+
+-- a line that begins with a next enumerator and a space
+unfoldable pub begins_next : Enumerator → List ℕ → Bool
+begins_next e t = is_next_of e (enumerator_of t)
+
+abbrev pub alphabet_of : Case → Sequence
+alphabet_of Lower = LowerAlpha
+alphabet_of Upper = UpperAlpha
+
+abbrev pub numerals_of : Case → Sequence
+numerals_of Lower = LowerRoman
+numerals_of Upper = UpperRoman
+
+abbrev pub first_letter : Case → ℕ → Option ℕ → Reading
+first_letter c a None = record { sequence = alphabet_of c; ordinal = a }
+first_letter c a (Some r) = if r == 1 then record { sequence = numerals_of c; ordinal = 1 } else record { sequence = alphabet_of c; ordinal = a }
+
+-- the reading of a list's first ordinal
+abbrev pub first_reading : Ordinals → Reading
+first_reading Auto = record { sequence = ArabicSequence; ordinal = 1 }
+first_reading (Arabic n) = record { sequence = ArabicSequence; ordinal = n }
+first_reading (Letters c (Some a) r) = first_letter c a r
+first_reading (Letters c None r) = record { sequence = numerals_of c; ordinal = unwrap_or r 0 }
+
+-- the ordinal in a sequence
+abbrev pub ordinal_in : Sequence → Ordinals → Option ℕ
+ordinal_in ArabicSequence (Arabic n) = Some n
+ordinal_in LowerAlpha (Letters Lower a r) = a
+ordinal_in UpperAlpha (Letters Upper a r) = a
+ordinal_in LowerRoman (Letters Lower a r) = r
+ordinal_in UpperRoman (Letters Upper a r) = r
+ordinal_in _ _ = None

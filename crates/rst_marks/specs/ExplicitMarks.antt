@@ -1,0 +1,111 @@
+-- Marks of explicit markup (Markup Specification, 'Explicit Markup Blocks', 'Footnotes', 'Citations', 'Hyperlink
+-- Targets', 'Directives', 'Substitution Definitions', 'Reference Names').
+use Rattle.std.specs.Prelude.{ℕ, ◌+◌, ◌-◌, Bool, true, false, not, ◌&&◌, ◌||◌, ◌==◌, List, [], ◌∷◌, drop, if◌then◌else◌, Option, None, Some}
+use Rattle.rst_text.specs.Block.{is_blank}
+use Rattle.rst_text.specs.Characters.{is_white}
+use Rattle.rst_marks.specs.Front.{begins_with}
+use Rattle.rst_marks.specs.Class.{run, begins_alphanumeric}
+use Rattle.rst_marks.specs.Closing.{closed}
+use Rattle.rst_marks.specs.Marker.{marker_of}
+use Rattle.rst_marks.specs.Roman.{if_some}
+use Rattle.rst_marks.specs.Enumerator.{or_else}
+use Rattle.rst_marks.specs.declared.class.Class.TheVariants.{Digit, Name, Unbracketed}
+use Rattle.rst_marks.specs.declared.closing.Closing.TheVariants.{Colon, QuotedColon, Bar, SpacedBar}
+use Rattle.rst_marks.specs.declared.marker.Marker.{Marker}
+use Rattle.rst_marks.specs.declared.explicit_marks.LabelKind.{LabelKind}
+use Rattle.rst_marks.specs.declared.explicit_marks.LabelKind.TheVariants.{Footnote, Citation}
+use Rattle.rst_marks.specs.declared.explicit_marks.LabelMark.{LabelMark}
+use Rattle.rst_marks.specs.declared.explicit_marks.TargetMark.{TargetMark}
+use Rattle.rst_marks.specs.declared.explicit_marks.TargetMark.TheVariants.{Named, Anonymous}
+use Rattle.rst_marks.specs.declared.explicit_marks.SubstitutionMark.{SubstitutionMark}
+use Rattle.rst_marks.specs.declared.explicit_marks.SubstitutionMark.TheVariants.{Named as NamedSubstitution, Unclosed, Tight}
+use Rattle.rst_marks.specs.declared.explicit_marks.DirectiveMark.{DirectiveMark}
+
+unfoldable pub dots : List ℕ → Option Marker
+dots t = if begins_with 46 t && begins_with 46 (drop 1 t) then marker_of 2 t else None
+
+unfoldable pub underscores : List ℕ → Option Marker
+underscores t = if begins_with 95 t && begins_with 95 (drop 1 t) then marker_of 2 t else None
+
+-- how many characters the simple name at the front of a text has: alphanumerics with single inner `-`, `_`, `.`, `:`
+-- or `+` between them
+unfoldable pub simple_name : List ℕ → ℕ
+simple_name t = if begins_alphanumeric t then run Name t else 0
+
+-- what the first n characters label
+unfoldable pub label_kind : ℕ → List ℕ → Option LabelKind
+label_kind n t =
+    if n == 0 then None
+    else if run Digit t == n then Some Footnote
+    else if begins_with 42 t && n == 1 then Some Footnote
+    else if begins_with 35 t && simple_name (drop 1 t) == n - 1 then Some Footnote
+    else if simple_name t == n then Some Citation
+    else None
+
+abbrev pub labelled : ℕ → List ℕ → LabelKind → Option LabelMark
+labelled n t k = if_some (marker_of (n + 2) t) (λ m. Some (record { kind = k; len = n; marker = m }))
+
+-- a label between brackets
+abbrev pub label_by : ℕ → List ℕ → Option LabelMark
+label_by n t = if begins_with 93 (drop n (drop 1 t)) then if_some (label_kind n (drop 1 t)) (labelled n t) else None
+
+unfoldable pub label_of : List ℕ → Option LabelMark
+label_of t = if begins_with 91 t then label_by (run Unbracketed (drop 1 t)) t else None
+
+abbrev pub begins_white : List ℕ → Bool
+begins_white [] = false
+begins_white (c ∷ cs) = is_white c
+
+-- a name in backquotes, which isn't empty and doesn't begin with white or a backquote
+unfoldable pub quoted_target : List ℕ → Option TargetMark
+quoted_target t = if_some (closed QuotedColon (drop 2 t)) (λ n.
+    if n == 0 || (begins_white (drop 2 t) || begins_with 96 (drop 2 t)) then None
+    else if_some (marker_of (n + 4) t) (λ m. Some (Named 2 n m)))
+
+-- a name, which isn't empty and doesn't begin with white
+unfoldable pub plain_target : List ℕ → Option TargetMark
+plain_target t = if_some (closed Colon (drop 1 t)) (λ n.
+    if n == 0 || begins_white (drop 1 t) then None
+    else if_some (marker_of (n + 2) t) (λ m. Some (Named 1 n m)))
+
+unfoldable pub anonymous_target : List ℕ → Option TargetMark
+anonymous_target t = if begins_with 58 (drop 2 t) then if_some (marker_of 3 t) (λ m. Some (Anonymous m)) else None
+
+-- `__:`, `` _`name`: `` or `_name:`
+unfoldable pub target_of : List ℕ → Option TargetMark
+target_of t =
+    if begins_with 95 t then (if begins_with 95 (drop 1 t) then anonymous_target t
+    else if begins_with 96 (drop 1 t) then quoted_target t
+    else plain_target t)
+    else None
+
+abbrev pub closing_bar : Option ℕ → SubstitutionMark
+closing_bar None = Unclosed
+closing_bar (Some n) = Tight
+
+abbrev pub spaced_bar : List ℕ → Option ℕ → Option SubstitutionMark
+spaced_bar t None = Some (closing_bar (closed Bar (drop 1 t)))
+spaced_bar t (Some n) = if_some (marker_of (n + 2) t) (λ m. Some (NamedSubstitution n m))
+
+-- a name between bars: the closing one is the first unescaped with a character before it that isn't white, and a space
+-- behind
+unfoldable pub substitution_of : List ℕ → Option SubstitutionMark
+substitution_of t =
+    if begins_with 124 t then (if is_blank (drop 1 t) || begins_white (drop 1 t) then None else spaced_bar t (closed SpacedBar (drop 1 t)))
+    else None
+
+-- two colons behind n characters, of which the first are a directive's name
+unfoldable pub colons : ℕ → ℕ → List ℕ → Option DirectiveMark
+colons len n t =
+    if not (begins_with 58 (drop n t)) || not (begins_with 58 (drop (n + 1) t)) then None
+    else if_some (marker_of (n + 2) t) (λ m. Some (record { len = len; marker = m }))
+
+-- a simple name and two colons, between which one space may stand
+abbrev pub directive_by : Bool → ℕ → List ℕ → Option DirectiveMark
+directive_by spaced n t =
+    if n == 0 then None
+    else if spaced && begins_with 32 (drop n t) then colons n (n + 1) t
+    else colons n n t
+
+unfoldable pub directive_of : Bool → List ℕ → Option DirectiveMark
+directive_of spaced t = directive_by spaced (simple_name t) t

@@ -1,0 +1,24 @@
+-- Fields (Markup Specification, 'Field Lists').
+use Rattle.std.specs.Prelude.{ℕ, ◌+◌, ◌-◌, Bool, not, ◌&&◌, ◌||◌, ◌==◌, List, drop, if◌then◌else◌, Option, None, Some}
+use Rattle.rst_marks.specs.Front.{begins_with}
+use Rattle.rst_marks.specs.Closing.{closed}
+use Rattle.rst_marks.specs.Marker.{marker_of}
+use Rattle.rst_marks.specs.Roman.{if_some}
+use Rattle.rst_marks.specs.declared.closing.Closing.TheVariants.{Colon}
+use Rattle.rst_marks.specs.declared.marker.Marker.{Marker}
+use Rattle.rst_marks.specs.declared.field.FieldMark.{FieldMark}
+
+-- the n characters at the front of a text are no name: there are none, or they begin with a space or a colon, or end
+-- with a space
+abbrev pub is_no_name : ℕ → List ℕ → Bool
+is_no_name n t = n == 0 || (begins_with 32 t || (begins_with 58 t || begins_with 32 (drop (n - 1) t)))
+
+abbrev pub named : ℕ → Marker → Option FieldMark
+named n m = Some (record { name = record { from = 1; to = 1 + n }; marker = m })
+
+-- a name between colons, up to the first unescaped one with a space or the end behind it
+unfoldable pub field_of : List ℕ → Option FieldMark
+field_of t =
+    if begins_with 58 t then if_some (closed Colon (drop 1 t)) (λ n.
+    if is_no_name n (drop 1 t) then None else if_some (marker_of (n + 2) t) (named n))
+    else None

@@ -1,0 +1,13 @@
+pub mod Front
+pub mod Class
+pub mod Marker
+pub mod Adornment
+pub mod Decimal
+pub mod Roman
+pub mod Enumerator
+pub mod Closing
+pub mod Field
+pub mod Border
+pub mod ExplicitMarks
+pub mod OptionMarker
+pub mod Attribution

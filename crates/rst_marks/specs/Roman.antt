@@ -1,0 +1,51 @@
+-- Roman numerals in their canonical form: for thousands, hundreds, tens and ones a digit each, written as 0 to 3 ones,
+-- as one before five, as five with 0 to 3 ones, or as one before ten. The thousands are 0 to 4 of their letter.
+use Rattle.std.specs.Prelude.{ℕ, ◌+◌, ◌*◌, Bool, ◌&&◌, ◌==◌, not, nat_lt, List, drop, if◌then◌else◌, Option, None, Some}
+use Rattle.rst_marks.specs.Front.{begins_with}
+use Rattle.rst_marks.specs.Class.{run}
+use Rattle.rst_marks.specs.declared.class.Class.TheVariants.{Only}
+use Rattle.rst_marks.specs.declared.enumerator.Case.{Case}
+use Rattle.rst_marks.specs.declared.enumerator.Case.TheVariants.{Lower, Upper}
+use Rattle.rst_marks.specs.declared.roman.RomanDigit.{RomanDigit}
+use Rattle.rst_marks.specs.declared.roman.RomanPlace.{RomanPlace}
+
+-- c d m, x l c, i v x
+abbrev pub hundreds : Case → RomanPlace
+hundreds Lower = record { one = 99; five = 100; ten = 109 }
+hundreds Upper = record { one = 67; five = 68; ten = 77 }
+
+abbrev pub tens : Case → RomanPlace
+tens Lower = record { one = 120; five = 108; ten = 99 }
+tens Upper = record { one = 88; five = 76; ten = 67 }
+
+abbrev pub ones : Case → RomanPlace
+ones Lower = record { one = 105; five = 118; ten = 120 }
+ones Upper = record { one = 73; five = 86; ten = 88 }
+
+-- fives are 0 or 1
+abbrev pub with_ones : ℕ → ℕ → Option RomanDigit
+with_ones fives count = if nat_lt 3 count then None else Some (record { value = fives * 5 + count; len = fives + count })
+
+abbrev pub fives_at : RomanPlace → List ℕ → ℕ
+fives_at place t = if begins_with place.five t then 1 else 0
+
+-- the digit at the front of a text, in a place with these letters
+unfoldable pub digit_at : RomanPlace → List ℕ → Option RomanDigit
+digit_at place t =
+    if begins_with place.one t && begins_with place.ten (drop 1 t) then Some (record { value = 9; len = 2 })
+    else if begins_with place.one t && begins_with place.five (drop 1 t) then Some (record { value = 4; len = 2 })
+    else with_ones (fives_at place t) (run (Only place.one) (drop (fives_at place t) t))
+
+abbrev pub if_some : {A B : Type 0} → Option A → (A → Option B) → Option B
+if_some None f = None
+if_some (Some a) f = f a
+
+-- the value of the first n characters of a text
+unfoldable pub roman : Case → ℕ → List ℕ → Option ℕ
+roman case n t =
+    let m = run (Only (hundreds case).ten) t in
+    if nat_lt 4 m then None
+    else if_some (digit_at (hundreds case) (drop m t)) (λ h.
+    if_some (digit_at (tens case) (drop (m + h.len) t)) (λ x.
+    if_some (digit_at (ones case) (drop (m + h.len + x.len) t)) (λ i.
+    if m + h.len + x.len + i.len == n then Some (m * 1000 + h.value * 100 + x.value * 10 + i.value) else None)))

@@ -1,0 +1,17 @@
+use Rattle.std.proofs.Common.{◌≡◌, ◌+◌, ◌<◌, suc, length, drop, length-drop, ap, sym, ◌∙◌, arith}
+use Rattle.rst_text.specs.Block.{Block}
+use Rattle.rst_text.specs.Extent.{extent}
+use Rattle.rst_text.specs.Reach.{looked, reach}
+use Rattle.rst_text.specs.Shown.{block_of}
+use Rattle.rst_markup.proofs.LineLemmas.{drop_one, looked_below}
+use Rattle.rst_markup.proofs.lines.below_end.Goals as goal
+
+pub returns-clause-end : goal.returns-clause-end
+returns-clause-end c =
+    let B : Block = block_of c.args.view.now in
+    omega (arith, ap (λ e. e.end) c.block_end.ensures.extent, ap (λ X. extent c.args.least X) (drop_one c.args.i B))
+
+pub returns-clause-looks : goal.returns-clause-looks
+returns-clause-looks c =
+    let B : Block = block_of c.args.view.now in
+    omega (arith, c.block_end.ensures.looks, ap (λ X. looked c.args.least X) (drop_one c.args.i B), looked_below c.args.least (drop c.args.i B) (omega (arith, length-drop c.args.i B)))

@@ -1,0 +1,18 @@
+-- Lines at the front of a block that pass a test.
+use Rattle.std.specs.Prelude.{ℕ, suc, Bool, not, List, [], ◌∷◌, if◌then◌else◌}
+use Rattle.rst_text.specs.Block.{Block, is_blank}
+use Rattle.rst_marks.specs.Front.{begins_with, is_loose}
+use Rattle.rst_markup.specs.declared.lines.LineTest.{LineTest}
+use Rattle.rst_markup.specs.declared.lines.LineTest.TheVariants.{Blank, Filled, Indented, Plain, Begins}
+
+abbrev pub passes : LineTest → List ℕ → Bool
+passes Blank t = is_blank t
+passes Filled t = not (is_blank t)
+passes Indented t = begins_with 32 t
+passes Plain t = not (is_loose t)
+passes (Begins c) t = begins_with c t
+
+-- how many lines at the front pass
+unfoldable pub lines_while : LineTest → Block → ℕ
+lines_while test [] = 0
+lines_while test (l ∷ ls) = if passes test l.text then suc (lines_while test ls) else 0

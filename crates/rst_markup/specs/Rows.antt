@@ -1,0 +1,74 @@
+-- The rows of the table of constructs, each with its condition and its size, on a block whose first line it is about.
+use Rattle.std.specs.Prelude.{ℕ, Bool, true, is_some}
+use Rattle.rst_text.specs.Block.{Block, front_text, is_blank}
+use Rattle.rst_text.specs.Extent.{extent}
+use Rattle.rst_marks.specs.Front.{begins_with}
+use Rattle.rst_marks.specs.Marker.{bullet, doctest, line_bar}
+use Rattle.rst_marks.specs.Field.{field_of}
+use Rattle.rst_marks.specs.ExplicitMarks.{dots, underscores}
+use Rattle.rst_marks.specs.Adornment.{adornment_of}
+use Rattle.rst_marks.specs.Border.{is_grid_border, is_simple_border}
+use Rattle.rst_markup.specs.Kinds.{next_text, after_text, item_enumerator, item_option}
+use Rattle.rst_markup.specs.Sizes.{bullet_size, enumerator_size, hanging_size, indented_size, doctest_size, text_size, adornment_size}
+
+abbrev pub is_blank_row : Block → Bool
+is_blank_row X = is_blank (front_text X)
+
+abbrev pub is_quote_row : Block → Bool
+is_quote_row X = begins_with 32 (front_text X)
+
+abbrev pub is_bullet_row : Block → Bool
+is_bullet_row X = is_some (bullet (front_text X))
+
+abbrev pub is_enumerator_row : Block → Bool
+is_enumerator_row X = is_some (item_enumerator (front_text X) (next_text X))
+
+abbrev pub is_field_row : Block → Bool
+is_field_row X = is_some (field_of (front_text X))
+
+abbrev pub is_option_row : Block → Bool
+is_option_row X = is_some (item_option (front_text X) (next_text X) (after_text X))
+
+abbrev pub is_doctest_row : Block → Bool
+is_doctest_row X = is_some (doctest (front_text X))
+
+abbrev pub is_bar_row : Block → Bool
+is_bar_row X = is_some (line_bar (front_text X))
+
+abbrev pub is_anonymous_row : Block → Bool
+is_anonymous_row X = is_some (underscores (front_text X))
+
+-- the sizes, by whether titles may stand in the block
+abbrev pub blank_size : Bool → Block → ℕ
+blank_size titles X = 1
+
+abbrev pub quote_size : Bool → Block → ℕ
+quote_size titles X = extent 1 X
+
+abbrev pub bullet_row_size : Bool → Block → ℕ
+bullet_row_size titles X = bullet_size X
+
+abbrev pub enumerator_row_size : Bool → Block → ℕ
+enumerator_row_size titles X = enumerator_size X
+
+abbrev pub hanging_row_size : Bool → Block → ℕ
+hanging_row_size titles X = hanging_size X
+
+abbrev pub indented_row_size : Bool → Block → ℕ
+indented_row_size titles X = indented_size X
+
+abbrev pub doctest_row_size : Bool → Block → ℕ
+doctest_row_size titles X = doctest_size X
+
+-- any line
+abbrev pub is_text_row : Block → Bool
+is_text_row X = true
+
+abbrev pub text_row_size : Bool → Block → ℕ
+text_row_size titles X = text_size X
+
+abbrev pub is_adornment_row : Block → Bool
+is_adornment_row X = is_some (adornment_of (front_text X))
+
+abbrev pub adornment_row_size : Bool → Block → ℕ
+adornment_row_size titles X = adornment_size titles X

@@ -1,0 +1,27 @@
+//! Recognizers of blocks: what begins at a line, and where it ends.
+#![tactic(auto)]
+
+mod adornment_line;
+mod construct;
+mod constructs;
+mod ends;
+mod explicit_markup;
+mod form;
+mod forms;
+mod kind;
+mod lines;
+mod part;
+mod row;
+
+pub use adornment_line::{AdornmentLine, adorned_at};
+pub use construct::{Construct, end_after};
+pub use constructs::{AnonymousTarget, BarLine, BlankLine, BlockQuote, BulletItem, DoctestBlock, EnumeratedItem, FieldItem, OptionListItem, TextLine};
+pub use ends::{hanging_end, indented_end, item_end, literal_end, paragraph_end, text_end};
+pub use explicit_markup::{ExplicitForm, explicit_form, hanging_part};
+pub use form::{Adorned, TextForm, adorned_alone, adorned_below, adorned_over, text_form};
+pub use forms::{CommentCause, Explicit, Invocation};
+pub use kind::Kind;
+pub use lines::{LineTest, below_end, below_text, lines_end, text_at};
+pub use part::Part;
+pub use row::{item_enumerator, item_option, kind_by, kind_of};
+pub use rst_marks::Characters;
