@@ -2,16 +2,29 @@
 #![tactic(auto)]
 
 ghost use Rattle.std.specs.Prelude.{◌≡◌, ◌≤◌, true};
+ghost use Rattle.rst_settings.specs.declared.Threshold.TheVariants.{Warning, Severe, Never};
+
+/// From which level of system messages on something is done (Configuration, `report_level`, `halt_level`,
+/// `exit_status_level`).
+#[derive(Clone, Copy, Debug, PartialEq, Eq)]
+pub enum Threshold {
+    Info,
+    Warning,
+    Error,
+    Severe,
+    /// At no level.
+    Never,
+}
 
 /// The settings of a run (Configuration, 'General').
-#[derive(Clone, Copy, Debug)]
+#[derive(Clone, Copy, Debug, PartialEq, Eq)]
 pub struct Settings {
-    /// Messages of this level (1 to 4) or above are shown; 5 shows none.
-    pub report: u8,
-    /// A message of this level or above halts the run; 5 never does.
-    pub halt: u8,
-    /// From this level on the exit status tells the highest level; 5 never does.
-    pub exit: u8,
+    /// From which level on messages are shown.
+    pub report: Threshold,
+    /// From which level on a message halts the run.
+    pub halt: Threshold,
+    /// From which level on the exit status tells the highest level.
+    pub exit: Threshold,
     /// Whether a lone section's title becomes the document's.
     pub title: bool,
     /// Whether a leading field list becomes bibliographic elements.
@@ -29,14 +42,14 @@ impl Settings {
     /// no level, titles and bibliographic fields are looked for, tabs are 8 columns wide, lines have at most 10,000
     /// characters.
     pub fn usual() -> Settings
-        ensures levels { (result.report ≡ 2) × (result.halt ≡ 4) × (result.exit ≡ 5) }
+        ensures levels { (result.report ≡ Warning) × (result.halt ≡ Severe) × (result.exit ≡ Never) }
         ensures transforms { (result.title ≡ true) × (result.info ≡ true) }
         ensures lines { (result.tab ≡ 8) × (result.limit ≡ 10000) }
     {
         Settings {
-            report: 2,
-            halt: 4,
-            exit: 5,
+            report: Threshold::Warning,
+            halt: Threshold::Severe,
+            exit: Threshold::Never,
             title: true,
             info: true,
             tab: 8,
