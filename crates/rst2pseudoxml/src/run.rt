@@ -1,0 +1,66 @@
+//! A run from a reader to two writers.
+ghost use Rattle.std.specs.Prelude.{◌≡◌, false};
+ghost use Rattle.rst_text.specs.Counted.{has_failed, between};
+ghost use Rattle.rst2pseudoxml.specs.Headline.{Headline, Puts};
+ghost use Rattle.rst_settings.specs.Profile.{profile_of};
+ghost use Rattle.rst2pseudoxml.specs.Shown.{result_of};
+
+use super::end::End;
+use super::input::read_input;
+use super::shown::result_of;
+use rst_settings::Settings;
+use rst_text::Counted;
+use std::alloc::Global;
+use std::io::{Read, Write};
+
+/// Reads the input to its end and writes what the program shows for it: all of standard error, then standard output.
+///
+/// Where the input is refused nothing is written. After a failed write the writer holds the front of its part that it
+/// had taken, each byte once, and standard output holds nothing if standard error failed.
+pub fn run<R: Read, O: Write, E: Write>(
+    alloc: Global,
+    settings: &Settings,
+    source: &str,
+    input: &mut Counted<R>,
+    out: &mut Counted<O>,
+    err: &mut Counted<E>,
+) -> End
+    requires input { has_failed input.old ≡ false }
+    requires out { has_failed out.old ≡ false }
+    requires err { has_failed err.old ≡ false }
+
+    ensures { Headline (result_of (profile_of settings.now) settings.now source.now)
+        (between R.remaining input.old input.new)
+        (between O.contents out.old out.new)
+        (between E.contents err.old err.new) result }
+{
+    let bytes = match read_input(alloc, input) {
+        Ok(bytes) => bytes,
+        Err(end) => return end,
+    };
+    let shown = match result_of(alloc, settings, source, bytes.as_slice()) {
+        Ok(shown) => shown,
+        Err(end) => return end,
+    };
+    if let Err(done) = write_text(shown.err.as_bytes(), err) {
+        return End::WriteErr { done };
+    }
+    if let Err(done) = write_text(shown.out.as_bytes(), out) {
+        return End::WriteOut { done };
+    }
+    End::Done(shown.status)
+}
+
+/// Writes the text; an empty one makes no write. An `Err` says how many of its bytes the writer took.
+pub fn write_text<W: Write>(text: &[u8], out: &mut Counted<W>) -> Result<(), usize>
+    ensures { Puts (between W.contents out.old out.new) text.now result }
+{
+    let mut done = 0;
+    while done < text.len() {
+        match out.write(&text[done..]) {
+            None => return Err(done),
+            Some(n) => done += n,
+        }
+    }
+    Ok(())
+}

@@ -1,0 +1,59 @@
+//! What the options of the program set, and what the definitions of its meaning leave to be chosen.
+#![tactic(auto)]
+
+ghost use Rattle.std.specs.Prelude.{◌≡◌, ◌≤◌, true};
+ghost use Rattle.rst_settings.specs.declared.Threshold.TheVariants.{Warning, Severe, Never};
+
+/// From which level of system messages on something is done (Configuration, `report_level`, `halt_level`,
+/// `exit_status_level`).
+#[derive(Clone, Copy, Debug, PartialEq, Eq)]
+pub enum Threshold {
+    Info,
+    Warning,
+    Error,
+    Severe,
+    /// At no level.
+    Never,
+}
+
+/// The settings of a run (Configuration, 'General').
+#[derive(Clone, Copy, Debug, PartialEq, Eq)]
+pub struct Settings {
+    /// From which level on messages are shown.
+    pub report: Threshold,
+    /// From which level on a message halts the run.
+    pub halt: Threshold,
+    /// From which level on the exit status tells the highest level.
+    pub exit: Threshold,
+    /// Whether a lone section's title becomes the document's.
+    pub title: bool,
+    /// Whether a leading field list becomes bibliographic elements.
+    pub info: bool,
+    /// The tab width in columns.
+    pub tab: u8,
+    /// The most characters that a line may have.
+    pub limit: usize,
+    pub ghost tab_from: { 1 ≤ tab },
+    pub ghost tab_to: { tab ≤ 99 },
+}
+
+impl Settings {
+    /// The settings of a run with no options: WARNINGs and above are shown, a SEVERE message halts, the status tells
+    /// no level, titles and bibliographic fields are looked for, tabs are 8 columns wide, lines have at most 10,000
+    /// characters.
+    pub fn usual() -> Settings
+        ensures levels { (result.report ≡ Warning) × (result.halt ≡ Severe) × (result.exit ≡ Never) }
+        ensures transforms { (result.title ≡ true) × (result.info ≡ true) }
+        ensures lines { (result.tab ≡ 8) × (result.limit ≡ 10000) }
+    {
+        Settings {
+            report: Threshold::Warning,
+            halt: Threshold::Severe,
+            exit: Threshold::Never,
+            title: true,
+            info: true,
+            tab: 8,
+            limit: 10_000,
+        }
+    }
+}

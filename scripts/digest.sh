@@ -1,0 +1,5 @@
+#!/usr/bin/env bash
+# Prints the digest of the sources that a build of the program depends on.
+set -euo pipefail
+cd -- "$(dirname -- "$0")/.."
+find crates.txt crates/*/src -type f -print0 | LC_ALL=C sort -z | xargs -0 sha256sum | sha256sum | cut -d ' ' -f 1

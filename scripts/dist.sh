@@ -1,0 +1,13 @@
+#!/usr/bin/env bash
+# Renews the shipped program in dist/ from these sources.
+set -euo pipefail
+cd -- "$(dirname -- "$0")/.."
+scripts/build.sh
+mkdir -p dist
+cp crates/rst2pseudoxml/out/rst2pseudoxml dist/rst2pseudoxml
+(cd dist && sha256sum rst2pseudoxml >rst2pseudoxml.sha256)
+{
+  echo "sources $(scripts/digest.sh)"
+  echo "kit $(rt version)"
+  echo "system Linux x86-64, glibc 2.34 or later"
+} >dist/BUILT
