@@ -7,5 +7,8 @@ pub mod MayCut
 pub mod Extent
 pub mod Reach
 pub mod Laws
+pub mod Places
+pub mod Characters
+pub mod Names
 pub mod Faults
 pub mod Counted

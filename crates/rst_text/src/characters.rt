@@ -1,0 +1,50 @@
+//! Characters of a text, and its width.
+ghost use Rattle.std.specs.Prelude.{◌≡◌, IfOk};
+ghost use Rattle.std.specs.Str.{chars};
+ghost use Rattle.rst_text.specs.Characters as spec;
+
+use std::alloc::{AllocError, Global};
+use unicode::properties::{GeneralCategory, GeneralCategoryGroup};
+use unicode_width::UnicodeWidthStr;
+
+/// Whether a character is white: Unicode's `White_Space`.
+#[tactic(auto, unfolding(crate::specs::Characters::is_white))]
+pub fn is_white(c: char) -> bool
+    ensures { result ≡ spec.is_white c }
+{
+    c.is_whitespace()
+}
+
+/// Whether a character is a letter: its general category is L.
+#[tactic(auto, unfolding(crate::specs::Characters::is_letter))]
+pub fn is_letter(c: char) -> bool
+    ensures { result ≡ spec.is_letter c }
+{
+    GeneralCategoryGroup::Letter.contains(GeneralCategory::for_char(c))
+}
+
+/// Whether a character is a letter or a number: its general category is L or N.
+#[tactic(auto, unfolding(crate::specs::Characters::is_alphanumeric))]
+pub fn is_alphanumeric(c: char) -> bool
+    ensures { result ≡ spec.is_alphanumeric c }
+{
+    let category = GeneralCategory::for_char(c);
+    GeneralCategoryGroup::Letter.contains(category)
+        | GeneralCategoryGroup::Number.contains(category)
+}
+
+/// How many columns a text takes, where characters of ambiguous width are narrow. A cluster, as a family of emoji,
+/// takes the columns that it has as a whole.
+#[tactic(auto, unfolding(crate::specs::Characters::columns))]
+pub fn columns(text: &str) -> usize
+    ensures { result ≡ spec.columns (chars text.now) }
+{
+    text.width()
+}
+
+/// The characters of a text.
+pub fn characters_of(alloc: Global, text: &str) -> Result<Vec<char>, AllocError>
+    ensures { IfOk result (λ characters. characters.items ≡ chars text.now) }
+{
+    text.chars().collect(alloc)
+}

@@ -1,0 +1,148 @@
+//! Names and ids of texts.
+ghost use Rattle.std.specs.Prelude.{◌≡◌, string_bytes, encode_utf8_all, IfOk, map};
+ghost use Rattle.std.specs.Str.{chars};
+ghost use Rattle.unicode.specs.CaseFolding as folding;
+ghost use Rattle.rst_text.specs.Faults.{Gives};
+ghost use Rattle.rst_text.specs.Names as spec;
+ghost use Rattle.rst_text.specs.Text.{chars_of};
+
+use super::characters::{characters_of, is_white};
+use super::fault::TextFault;
+use std::alloc::{AllocError, Global};
+use unicode::case::simple_fold;
+use unicode_normalization::to_nfkd;
+
+/// A text with each run of white characters as one space, and none at its ends; case is kept. References show this
+/// as their name.
+///
+/// The only refusal is [`TextFault::NoMemory`].
+pub fn normalized_white(alloc: Global, text: &str) -> Result<String, TextFault>
+    ensures { Gives (λ normalized. chars_of normalized ≡ spec.normalized_white (chars text.now)) result }
+{
+    let characters = characters_of(alloc, text)?;
+    let normalized = without_white_runs(alloc, &characters)?;
+    Ok(text_from(alloc, &normalized)?)
+}
+
+/// The name that a text gives: each run of white characters is one space, none is at its ends, and case is folded, by
+/// simple folding.
+///
+/// The only refusal is [`TextFault::NoMemory`].
+pub fn name_of(alloc: Global, text: &str) -> Result<String, TextFault>
+    ensures { Gives (λ name. chars_of name ≡ spec.name_of (chars text.now)) result }
+{
+    let characters = characters_of(alloc, text)?;
+    let normalized = without_white_runs(alloc, &characters)?;
+    Ok(folded(alloc, &normalized)?)
+}
+
+/// The id that a text gives: its name in NFKD without the characters that aren't ASCII, each run of characters other
+/// than a to z and 0 to 9 as one hyphen, without digits and hyphens at the front and hyphens at the end. It may be
+/// empty.
+///
+/// The only refusal is [`TextFault::NoMemory`].
+pub fn id_of(alloc: Global, text: &str) -> Result<String, TextFault>
+    ensures { Gives (λ id. chars_of id ≡ spec.id_of (chars text.now)) result }
+{
+    let name = name_of(alloc, text)?;
+    let decomposed = to_nfkd(alloc, name.as_str())?;
+    let characters = characters_of(alloc, decomposed.as_str())?;
+    Ok(identifier_of(alloc, &characters)?)
+}
+
+/// The characters with each run of white ones as one space, and none at the ends.
+fn without_white_runs(alloc: Global, text: &[char]) -> Result<Vec<char>, AllocError>
+    ensures { IfOk result (λ normalized. normalized.items ≡ spec.normalized_white text.now) }
+{
+    let mut normalized = Vec::new(alloc);
+    let mut begun = false;
+    let mut due = false;
+    for c in text {
+        if is_white(*c) {
+            due = begun;
+            continue;
+        }
+        if due {
+            normalized.push(' ')?;
+            due = false;
+        }
+        normalized.push(*c)?;
+        begun = true;
+    }
+    Ok(normalized)
+}
+
+/// The characters as a text.
+fn text_from(alloc: Global, characters: &[char]) -> Result<String, AllocError>
+    ensures { IfOk result (λ text. string_bytes text ≡ encode_utf8_all characters.now) }
+{
+    let mut text = String::new(alloc);
+    for c in characters {
+        text.push(*c)?;
+    }
+    Ok(text)
+}
+
+/// The characters, each folded by itself, as a text.
+fn folded(alloc: Global, characters: &[char]) -> Result<String, AllocError>
+    ensures { IfOk result (λ text. string_bytes text ≡ encode_utf8_all (map folding.simple_fold characters.now)) }
+{
+    let mut text = String::new(alloc);
+    for c in characters {
+        text.push(simple_fold(*c))?;
+    }
+    Ok(text)
+}
+
+#[tactic(auto, unfolding(crate::specs::Names::is_ascii))]
+fn is_ascii(c: char) -> bool
+    ensures { result ≡ spec.is_ascii c }
+{
+    c.is_ascii()
+}
+
+/// Whether an id may begin with a character.
+fn is_id_letter(c: char) -> bool
+    ensures { result ≡ spec.is_id_letter c }
+{
+    c.is_ascii_lowercase()
+}
+
+/// Whether an id may hold a character, hyphens apart.
+#[tactic(auto, unfolding(crate::specs::Names::is_id_char))]
+fn is_id_char(c: char) -> bool
+    ensures { result ≡ spec.is_id_char c }
+{
+    c.is_ascii_lowercase() || c.is_ascii_digit()
+}
+
+/// Decomposed characters as an identifier.
+fn identifier_of(alloc: Global, decomposed: &[char]) -> Result<String, AllocError>
+    ensures { IfOk result (λ id. string_bytes id ≡ encode_utf8_all (spec.identifier_of decomposed.now)) }
+{
+    let mut id = String::new(alloc);
+    let mut begun = false;
+    let mut due = false;
+    for c in decomposed {
+        if !begun {
+            if is_id_letter(*c) {
+                id.push(*c)?;
+                begun = true;
+            }
+            continue;
+        }
+        if !is_ascii(*c) {
+            continue;
+        }
+        if !is_id_char(*c) {
+            due = true;
+            continue;
+        }
+        if due {
+            id.push('-')?;
+            due = false;
+        }
+        id.push(*c)?;
+    }
+    Ok(id)
+}
