@@ -1,5 +1,5 @@
 -- A block that is read by its first run of lines.
-use Rattle.std.proofs.Common.{◌≡◌, ℕ, ◌+◌, Bool, List, length, drop, sym, ap, ◌∙◌}
+use Rattle.std.proofs.Common.{◌≡◌, ℕ, ◌+◌, Bool, List, length, drop}
 use Rattle.rst_text.specs.Block.{Block}
 use Rattle.rst_markup.specs.declared.part.Part.{Part}
 use Rattle.rst_directives.specs.Characters.{Text}

@@ -1,6 +1,6 @@
 -- Settings that are made one after the other.
-use Rattle.std.proofs.Common.{◌≡◌, ℕ, suc, zero, ◌+◌, ◌<◌, List, [], ◌∷◌, ◌++◌, map, drop, length, get_or, Option, Some, None, Result, Ok, Err, refl, sym, ap, ◌∙◌, arith}
-use Rattle.rst_directives.specs.Options.{FieldText, Choice, choice_of, choices_of, onto_choices, field_text, field_texts}
+use Rattle.std.proofs.Common.{◌≡◌, ℕ, suc, zero, ◌+◌, ◌<◌, List, [], ◌∷◌, ◌++◌, drop, length, get_or, Some, None, Result, Ok, Err, refl, sym, ap, ◌∙◌, arith}
+use Rattle.rst_directives.specs.Options.{Choice, choice_of, choices_of, onto_choices, field_text, field_texts}
 use Rattle.rst_directives.specs.Wrong.{Wrong, invalid}
 use Rattle.rst_directives.specs.declared.name.Name.{Name}
 use Rattle.rst_directives.specs.declared.options.Field.{Field}

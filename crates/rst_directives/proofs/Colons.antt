@@ -1,5 +1,5 @@
 -- The colon that ends a field's name, looked for from the front.
-use Rattle.std.proofs.Common.{◌≡◌, ℕ, suc, ◌+◌, ◌≤◌, Bool, true, List, get_or, ◌&&◌, leb, sym, ◌∙◌, refl, ap, add-one, arith}
+use Rattle.std.proofs.Common.{◌≡◌, ℕ, suc, ◌+◌, ◌≤◌, Bool, true, List, get_or, ◌&&◌, leb, sym, ◌∙◌, ap, add-one}
 use Rattle.std.proofs.lemmas.Bool.{le-leb}
 use Rattle.rst_directives.specs.Escapes.{escapes, is_escaped}
 use Rattle.rst_directives.specs.Field.{closes, closes_if}

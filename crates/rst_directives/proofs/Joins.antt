@@ -1,8 +1,8 @@
 -- Lines that are joined one after the other.
-use Rattle.std.proofs.Common.{◌≡◌, ℕ, Bool, true, false, not, List, [], ◌∷◌, ◌++◌, map, drop, refl, sym, ap, ◌∙◌}
+use Rattle.std.proofs.Common.{◌≡◌, ℕ, Bool, true, false, not, List, [], ◌∷◌, ◌++◌, map, drop, refl, sym, ap}
 use Rattle.std.specs.List.{join_with_byte}
 use Rattle.rst_text.specs.Block.{is_blank}
-use Rattle.rst_directives.specs.Options.{with_first, joined}
+use Rattle.rst_directives.specs.Options.{joined}
 use Rattle.rst_directives.proofs.Words.{append-none}
 
 -- lines, each behind a line feed

@@ -1,5 +1,5 @@
 -- Parts of blocks.
-use Rattle.std.proofs.Common.{◌≡◌, ℕ, suc, zero, ◌+◌, ◌-◌, ◌≤◌, List, [], ◌∷◌, map, take, drop, length, refl, ap, ◌∙◌, arith, length-drop}
+use Rattle.std.proofs.Common.{◌≡◌, ℕ, suc, zero, ◌-◌, ◌≤◌, [], ◌∷◌, map, take, drop, length, refl, ap, ◌∙◌, arith, length-drop}
 use Rattle.rst_text.specs.Block.{Line, Block, shorten, shorten_all, cut}
 
 length-map : (f : Line → Line) (ls : Block) → length (map f ls) ≡ length ls

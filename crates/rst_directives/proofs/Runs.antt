@@ -1,11 +1,11 @@
 -- Lines before the first blank one, and blank lines at the front, at a place of a block.
-use Rattle.std.proofs.Common.{◌≡◌, ℕ, suc, zero, ◌+◌, ◌≤◌, ◌<◌, Bool, true, false, List, [], ◌∷◌, ◌++◌, length, drop, refl, sym, ap, ◌∙◌, arith, eqb, inl, inr, map, chars}
+use Rattle.std.proofs.Common.{◌≡◌, ℕ, suc, zero, ◌+◌, ◌≤◌, ◌<◌, true, false, List, [], ◌∷◌, ◌++◌, length, drop, refl, sym, ap, ◌∙◌, arith, eqb, inl, inr, map, chars}
 use Rattle.std.specs.Str.{IsUtf8}
 use Rattle.std.proofs.lemmas.Bool.{eqb-true, eqb-false}
 use Rattle.rst_text.proofs.PlacesLemmas.{cases_bool}
 use Rattle.rst_text.proofs.Ends.{blank_is, text_is}
 use Rattle.rst_text.proofs.Indenting.{no_front, some_front}
-use Rattle.rst_text.specs.Block.{Line, Block, front_text, is_blank}
+use Rattle.rst_text.specs.Block.{Block, front_text, is_blank}
 use Rattle.rst_directives.specs.Lines.{first_run, blank_len}
 
 first_run-here : (X : Block) → is_blank (front_text X) ≡ true → first_run X ≡ []

@@ -1,8 +1,7 @@
 -- The text of a target, read a character at a time.
-use Rattle.std.proofs.Common.{◌≡◌, ℕ, Bool, true, false, cond, ◌&&◌, eqb, if◌then◌else◌, List, [], ◌∷◌, ◌++◌, map, drop, refl, sym, ap, ◌∙◌, inl, inr}
+use Rattle.std.proofs.Common.{◌≡◌, ℕ, Bool, true, false, cond, ◌&&◌, eqb, if◌then◌else◌, List, [], ◌∷◌, ◌++◌, map, refl, sym, ap, ◌∙◌, inl, inr}
 use Rattle.std.specs.List.{join_with_byte}
 use Rattle.rst_text.proofs.PlacesLemmas.{cases_bool}
-use Rattle.rst_text.specs.Block.{indentation, is_blank}
 use Rattle.rst_text.specs.Lines.{onto_first}
 use Rattle.rst_directives.specs.Target.{lines_in, unindented, filled, target_text}
 

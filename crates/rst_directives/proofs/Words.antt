@@ -1,5 +1,5 @@
 -- Texts that are compared with words a character at a time.
-use Rattle.std.proofs.Common.{◌≡◌, ℕ, zero, suc, ◌++◌, ◌+◌, ◌<◌, ◌&&◌, true, false, Bool, eqb, List, [], ◌∷◌, map, length, drop, get_or, refl, ap, sym, ◌∙◌, add-one, drop-cons, length-drop, arith, eq-eqb, ◌≤◌, subst}
+use Rattle.std.proofs.Common.{◌≡◌, ℕ, zero, suc, ◌++◌, ◌+◌, ◌<◌, ◌&&◌, true, false, Bool, eqb, List, [], ◌∷◌, map, length, drop, get_or, refl, ap, sym, ◌∙◌, add-one, drop-cons, length-drop, arith, eq-eqb, ◌≤◌}
 use Rattle.std.proofs.lemmas.Bool.{eqb-true}
 use Rattle.rst_text.proofs.TextLemmas.{not_true}
 use Rattle.std.specs.Char.{to_ascii_lowercase}
@@ -68,7 +68,6 @@ is_word-same t w i h k e = is_word-step t w i h k ∙ ap (λ b. b && is_word (dr
 pub is_word-end : (t w : List ℕ) (i : ℕ) → length t ≤ i → length w ≤ i → is_word (drop i t) (drop i w) ≡ true
 unfolding is_word
 is_word-end t w i h k = rw (drop-past t i, drop-past w i) refl
-
 
 pub append-none : (xs : List ℕ) → xs ++ [] ≡ xs
 append-none [] = refl

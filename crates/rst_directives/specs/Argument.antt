@@ -1,5 +1,5 @@
 -- The arguments of directives (Directives).
-use Rattle.std.specs.Prelude.{ℕ, Bool, List, [], ◌∷◌, Result, Ok, Err, if◌then◌else◌}
+use Rattle.std.specs.Prelude.{List, [], ◌∷◌, Result, Ok, Err, if◌then◌else◌}
 use Rattle.std.specs.declared.string.String.{String}
 use Rattle.rst_text.specs.Names.{normalized_white}
 use Rattle.rst_text.specs.Text.{chars_of}

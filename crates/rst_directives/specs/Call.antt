@@ -1,5 +1,5 @@
 -- Directives as they are called (Markup Specification, 'Directives').
-use Rattle.std.specs.Prelude.{ℕ, ◌+◌, ◌-◌, ◌<◌, ◌≤◌, Bool, true, ◌&&◌, ◌==◌, length, take, drop, slice_range, Option, IsTrue, if◌then◌else◌}
+use Rattle.std.specs.Prelude.{ℕ, ◌+◌, ◌-◌, ◌<◌, ◌≤◌, Bool, ◌&&◌, ◌==◌, length, take, drop, slice_range, Option, IsTrue, if◌then◌else◌}
 use Rattle.rst_text.specs.Block.{Block, front_text}
 use Rattle.rst_text.specs.MayCut.{is_indented}
 use Rattle.rst_directives.specs.Characters.{Text}

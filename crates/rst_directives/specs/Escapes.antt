@@ -1,5 +1,5 @@
 -- Escapes by backslashes (Markup Specification, 'Escaping Mechanism').
-use Rattle.std.specs.Prelude.{ℕ, zero, suc, Bool, true, false, not, ◌&&◌, ◌==◌, nat_le, List, [], ◌∷◌, slice_index, if◌then◌else◌}
+use Rattle.std.specs.Prelude.{ℕ, zero, suc, Bool, true, false, not, ◌&&◌, ◌==◌, nat_le, [], ◌∷◌, slice_index, if◌then◌else◌}
 use Rattle.rst_text.specs.Characters.{is_white}
 use Rattle.rst_directives.specs.Characters.{Text}
 

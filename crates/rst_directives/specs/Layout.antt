@@ -1,5 +1,5 @@
 -- Where the parts of a directive's block stand (Markup Specification, 'Directives').
-use Rattle.std.specs.Prelude.{ℕ, suc, Bool, ◌==◌, List, [], ◌∷◌, if◌then◌else◌}
+use Rattle.std.specs.Prelude.{ℕ, suc, ◌==◌, List, [], ◌∷◌, if◌then◌else◌}
 use Rattle.rst_directives.specs.Characters.{Text}
 use Rattle.rst_directives.specs.Field.{begins_field}
 use Rattle.rst_directives.specs.Name.{takes, holds}

@@ -1,5 +1,5 @@
 -- The lines of a directive's block (Markup Specification, 'Directives').
-use Rattle.std.specs.Prelude.{ℕ, suc, Bool, List, [], ◌∷◌, map, if◌then◌else◌}
+use Rattle.std.specs.Prelude.{ℕ, suc, List, [], ◌∷◌, map, if◌then◌else◌}
 use Rattle.std.specs.declared.vec.Vec.{Vec}
 use Rattle.rst_text.specs.Block.{Block, is_blank}
 use Rattle.rst_directives.specs.Characters.{Text}

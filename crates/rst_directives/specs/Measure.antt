@@ -1,5 +1,5 @@
 -- Measures, scales and alignments (Directives, 'Image', 'Figure').
-use Rattle.std.specs.Prelude.{ℕ, ◌+◌, ◌-◌, ◌*◌, Bool, true, false, not, ◌&&◌, ◌||◌, ◌==◌, nat_lt, List, [], ◌∷◌, ◌++◌, take, drop, length, codes, Option, Some, None, if◌then◌else◌}
+use Rattle.std.specs.Prelude.{ℕ, ◌+◌, ◌-◌, ◌*◌, Bool, not, ◌&&◌, ◌||◌, ◌==◌, nat_lt, [], ◌∷◌, ◌++◌, take, drop, length, codes, Option, Some, None, if◌then◌else◌}
 use Rattle.std.specs.Char.{is_ascii_digit}
 use Rattle.rst_text.specs.Block.{indentation, is_blank}
 use Rattle.rst_directives.specs.Characters.{Text, has, digits, is_exactly}

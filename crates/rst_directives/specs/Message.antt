@@ -1,5 +1,5 @@
 -- The texts of the messages on directives, in bytes.
-use Rattle.std.specs.Prelude.{ℕ, List, [], ◌∷◌, ◌++◌, codes, string_bytes}
+use Rattle.std.specs.Prelude.{ℕ, List, ◌++◌, codes, string_bytes}
 use Rattle.rst_directives.specs.declared.fault.Detail.{Detail}
 use Rattle.rst_directives.specs.declared.fault.Detail.TheVariants.{InvalidOptionBlock, UnknownOption, DuplicateOption, InvalidValue, NoArgument, ManyArguments, ContentNotPermitted, NotOneParagraph}
 use Rattle.rst_directives.specs.declared.fault.DirectiveFault.{DirectiveFault}

@@ -1,8 +1,8 @@
 -- The options of a directive's block (Markup Specification, 'Directives').
-use Rattle.std.specs.Prelude.{ℕ, suc, min, Bool, true, false, not, ◌&&◌, ◌||◌, ◌==◌, List, [], ◌∷◌, ◌++◌, map, take, drop, slice_range, Option, Some, None, Result, Ok, Err, option_map, if◌then◌else◌}
+use Rattle.std.specs.Prelude.{ℕ, suc, min, Bool, true, false, not, ◌&&◌, ◌||◌, ◌==◌, List, [], ◌∷◌, ◌++◌, map, take, drop, slice_range, Option, Some, None, Result, Ok, Err, if◌then◌else◌}
 use Rattle.std.specs.List.{join_with_byte}
 use Rattle.std.specs.declared.vec.Vec.{Vec}
-use Rattle.rst_text.specs.Block.{indentation, is_blank}
+use Rattle.rst_text.specs.Block.{indentation}
 use Rattle.rst_directives.specs.Characters.{Text, is_same_word}
 use Rattle.rst_directives.specs.Field.{field_mark}
 use Rattle.rst_directives.specs.Name.{has_option}

@@ -1,5 +1,5 @@
 -- What the values of options mean (Directives, 'Common Options', 'Image', 'Figure').
-use Rattle.std.specs.Prelude.{ℕ, suc, Bool, true, false, List, [], ◌∷◌, map, Option, Some, None, option_map, if◌then◌else◌}
+use Rattle.std.specs.Prelude.{ℕ, suc, true, false, List, [], ◌∷◌, map, Option, Some, None, option_map, if◌then◌else◌}
 use Rattle.std.specs.declared.string.String.{String}
 use Rattle.rst_text.specs.Block.{is_blank}
 use Rattle.rst_text.specs.Characters.{is_white}

@@ -65,10 +65,7 @@ fn uri_of(alloc: Global, lines: &[Vec<char>]) -> Result<Result<Argument, Detail>
     Ok(Ok(Argument::Uri(uri)))
 }
 
-fn language_of(
-    alloc: Global,
-    lines: &[Vec<char>],
-) -> Result<Result<Argument, Detail>, MarkupFault>
+fn language_of(alloc: Global, lines: &[Vec<char>]) -> Result<Result<Argument, Detail>, MarkupFault>
     ensures { Gives (λ argument. spec.argument_in argument ≡ spec.language_of (texts_of lines.now)) result }
 {
     if lines.is_empty() {

@@ -38,10 +38,7 @@ pub fn called(
     ensures looks { looks.new ≡ looks.old + 1 }
 {
     let line = line_at(alloc, view, at, looks)?;
-    Ok(Name::of(
-        &line[invocation.name.from..invocation.name.to],
-        true,
-    ))
+    Ok(Name::of(&line[invocation.name.from..invocation.name.to], true))
 }
 
 /// What the directive is that is called at line `at` of a view, or what is wrong with it. `paragraph` tells whether its

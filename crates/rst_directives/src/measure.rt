@@ -114,11 +114,7 @@ fn digit(c: char) -> u32
     ensures value { result ≡ spec.digit c }
     ensures small { result < 10 }
 {
-    if c.is_ascii_digit() {
-        c as u32 - 48
-    } else {
-        0
-    }
+    if c.is_ascii_digit() { c as u32 - 48 } else { 0 }
 }
 
 /// The number of a scale: one to nine digits, maybe a percent sign with or without spaces before it.

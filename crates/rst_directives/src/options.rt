@@ -76,10 +76,7 @@ pub(crate) fn joined(
 
 /// The fields of some lines, of which none is blank; or none where a line neither begins a field nor is indented below
 /// one.
-pub(crate) fn fields_of(
-    alloc: Global,
-    run: &[Vec<char>],
-) -> Result<Option<Vec<Field>>, AllocError>
+pub(crate) fn fields_of(alloc: Global, run: &[Vec<char>]) -> Result<Option<Vec<Field>>, AllocError>
     ensures { IfOk result (λ fields. option_map (λ v. spec.field_texts v.items) fields ≡ spec.fields_in (texts_of run.now)) }
 {
     let mut fields = Vec::new(alloc);
@@ -108,11 +105,7 @@ fn below_of(run: &[Vec<char>], i: usize) -> &[Vec<char>]
 
 /// The field that a line begins, with the indented lines below it.
 #[tactic(auto, unfolding(crate::specs::Options::field_in))]
-fn field_of(
-    alloc: Global,
-    line: &[char],
-    below: &[Vec<char>],
-) -> Result<Option<Field>, AllocError>
+fn field_of(alloc: Global, line: &[char], below: &[Vec<char>]) -> Result<Option<Field>, AllocError>
     ensures { IfOk result (λ field. option_map spec.field_text field ≡ spec.field_in line.now (texts_of below.now)) }
 {
     let Some(mark) = field_mark(line) else {
@@ -210,11 +203,7 @@ fn choices_of(
 }
 
 /// The setting that a field makes, or none where its option can't have its value.
-fn setting_of(
-    alloc: Global,
-    directive: Name,
-    field: &Field,
-) -> Result<Option<Setting>, MarkupFault>
+fn setting_of(alloc: Global, directive: Name, field: &Field) -> Result<Option<Setting>, MarkupFault>
     ensures { Gives (λ setting. option_map spec.choice_in setting ≡ spec.choice_of directive (spec.field_text field.now)) result }
 {
     let Some(option) = OptionName::of(&field.name) else {

@@ -68,8 +68,14 @@ fn messages(rt: HostRuntime) -> Result<(), Fail> {
     let option = String::from_str(alloc, "foo")?;
     let fault = DirectiveFault::Inside(Detail::UnknownOption(option));
     let text = message(alloc, &fault, "Image")?;
-    assert_eq!(rt; text.as_str(), "Error in \"Image\" directive:\nunknown option: \"foo\".");
+    assert_eq!(rt;
+        text.as_str(),
+        "Error in \"Image\" directive:\nunknown option: \"foo\"."
+    );
     let text = message(alloc, &DirectiveFault::NoContent, "tip")?;
-    assert_eq!(rt; text.as_str(), "Content block expected for the \"tip\" directive; none found.");
+    assert_eq!(rt;
+        text.as_str(),
+        "Content block expected for the \"tip\" directive; none found."
+    );
     Ok(())
 }

@@ -1,4 +1,4 @@
-use Rattle.std.proofs.Common.{◌≡◌, ◌≤◌, get_or, length, sym, ap, ◌∙◌, arith}
+use Rattle.std.proofs.Common.{length, sym, ap, ◌∙◌, arith}
 use Rattle.std.proofs.lemmas.List.{get_or_read}
 use Rattle.rst_directives.specs.Characters.{is_exactly}
 use Rattle.rst_directives.proofs.Words.{is_exactly-lengths, is_exactly-differs, is_exactly-same, is_exactly-end}

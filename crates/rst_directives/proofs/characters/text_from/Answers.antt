@@ -1,4 +1,4 @@
-use Rattle.std.proofs.Common.{◌≡◌, ◌++◌, ◌≤◌, length, string_bytes, sym, ◌∙◌, arith}
+use Rattle.std.proofs.Common.{string_bytes, sym, ◌∙◌}
 use Rattle.std.proofs.lemmas.Str.{IsUtf8-string_bytes}
 use Rattle.rst_text.proofs.Ids.{chars-made}
 use Rattle.rst_directives.proofs.Words.{drop-past, append-none}

@@ -1,4 +1,4 @@
-use Rattle.std.proofs.Common.{◌≡◌, ℕ, ◌+◌, ◌≤◌, ◌<◌, true, false, sym, ◌∙◌, refl, arith, ap, below_more, length, Some, None}
+use Rattle.std.proofs.Common.{true, false, sym, ◌∙◌, refl, arith, ap, length, Some, None}
 use Rattle.std.proofs.lemmas.List.{get_or_read}
 use Rattle.rst_text.proofs.PlacesLemmas.{first_from-is, NoneFrom-more}
 use Rattle.rst_directives.specs.Escapes.{escapes, is_escaped}

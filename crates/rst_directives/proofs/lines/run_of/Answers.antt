@@ -1,5 +1,5 @@
 use Rattle.std.proofs.Common.{◌≡◌, ◌+◌, ◌++◌, [], ◌∷◌, false, drop, length, sym, ap, ◌∙◌, arith, length-append}
-use Rattle.rst_text.specs.Block.{front_text, is_blank}
+use Rattle.rst_text.specs.Block.{is_blank}
 use Rattle.rst_text.specs.Shown.{block_of}
 use Rattle.rst_directives.specs.Lines.{texts_of, first_run}
 use Rattle.rst_directives.proofs.Runs.{run-more}

@@ -1,4 +1,4 @@
-use Rattle.std.proofs.Common.{◌≡◌, ◌+◌, ◌++◌, [], ◌∷◌, true, false, drop, take, length, Some, None, option_map, sym, ap, ◌∙◌, arith}
+use Rattle.std.proofs.Common.{◌≡◌, ◌+◌, ◌++◌, [], ◌∷◌, false, drop, take, length, option_map, sym, ap, ◌∙◌, arith}
 use Rattle.rst_directives.specs.Lines.{texts_of}
 use Rattle.rst_directives.specs.Options.{deep_len, field_in, field_text, field_texts, fields_from, fields_in}
 use Rattle.rst_directives.proofs.Runs.{map-one}

@@ -1,4 +1,4 @@
-use Rattle.std.proofs.Common.{◌≡◌, ◌++◌, not, map, drop, ap, ◌∙◌}
+use Rattle.std.proofs.Common.{◌++◌, not, map, drop, ap, ◌∙◌}
 use Rattle.rst_directives.specs.Lines.{texts_of}
 use Rattle.rst_directives.proofs.Joins.{joined_on, joined-start}
 use Rattle.rst_directives.proofs.options.joined.Goals as goal

@@ -1,7 +1,7 @@
-use Rattle.std.proofs.Common.{◌≡◌, ◌∙◌, ap, subst, sym, option_map, List, ℕ}
+use Rattle.std.proofs.Common.{◌≡◌, ◌∙◌, ap, subst, option_map, List, ℕ}
 use Rattle.std.specs.Str.{chars}
 use Rattle.rst_directives.specs.Faults.{Gives}
-use Rattle.rst_directives.specs.Target.{Destination, destination_of, destination_in, target_text, target_value}
+use Rattle.rst_directives.specs.Target.{destination_of, destination_in, target_text, target_value}
 use Rattle.rst_directives.proofs.target.target_value.Goals as goal
 
 pub returns : goal.returns

@@ -1,8 +1,7 @@
-use Rattle.std.proofs.Common.{◌≡◌, ◌+◌, ◌<◌, ◌++◌, [], ◌∷◌, true, false, map, take, drop, length, Some, None, sym, ap, ◌∙◌, arith, refl}
+use Rattle.std.proofs.Common.{◌≡◌, ◌<◌, ◌++◌, [], ◌∷◌, true, false, take, drop, length, sym, ap, ◌∙◌, arith}
 use Rattle.std.specs.Str.{chars}
 use Rattle.rst_text.specs.Block.{is_blank}
-use Rattle.rst_text.specs.Characters.{is_white}
-use Rattle.rst_text.specs.Names.{words_of, skip_while}
+use Rattle.rst_text.specs.Names.{words_of}
 use Rattle.rst_text.specs.Text.{chars_of}
 use Rattle.rst_directives.specs.Value.{all_ids, some_ids, ids_of, id_in, word_len, texts_in}
 use Rattle.rst_directives.proofs.Runs.{map-one}
