@@ -1,0 +1,11 @@
+pub mod Powers
+pub mod Words
+pub mod Colons
+pub mod TargetTexts
+pub mod Joins
+pub mod ClassLemmas
+pub mod Runs
+pub mod FieldLemmas
+pub mod Parts
+pub mod BlockReads
+pub mod ChoiceLemmas

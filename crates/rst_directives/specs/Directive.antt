@@ -1,0 +1,116 @@
+-- What a directive is: its name, argument, options and content, or what is wrong with it (Markup Specification,
+-- 'Directives'; Directives).
+use Rattle.std.specs.Prelude.{ℕ, ◌+◌, ◌-◌, Bool, true, false, ◌&&◌, nat_lt, List, [], take, drop, length, Option, Some, None, Result, Ok, Err, if◌then◌else◌}
+use Rattle.rst_text.specs.Block.{Block, cut}
+use Rattle.rst_directives.specs.Argument.{Given, given_in, argument_of}
+use Rattle.rst_directives.specs.Call.{called_at, part_of, content_of, is_empty}
+use Rattle.rst_directives.specs.Characters.{Text}
+use Rattle.rst_directives.specs.Judgement.{permitted, content_fault}
+use Rattle.rst_directives.specs.Layout.{layout_of}
+use Rattle.rst_directives.specs.Lines.{first_run, blank_len}
+use Rattle.rst_directives.specs.Options.{FieldText, fields_in, Choice, choices_in, settings_in}
+use Rattle.rst_directives.specs.Wrong.{Wrong, Fault, option_block, inside, wrong_in, fault_in}
+use Rattle.rst_directives.specs.declared.calls.Reading.{Reading}
+use Rattle.rst_directives.specs.declared.fault.Detail.{Detail}
+use Rattle.rst_directives.specs.declared.fault.DirectiveFault.{DirectiveFault}
+use Rattle.rst_directives.specs.declared.found.Content.{Content}
+use Rattle.rst_directives.specs.declared.found.Directive.{Directive}
+use Rattle.rst_directives.specs.declared.found.Directive.TheVariants.{Found as FoundDirective, Wrong as WrongDirective}
+use Rattle.rst_directives.specs.declared.found.Place.{Place}
+use Rattle.rst_directives.specs.declared.layout.Layout.{Layout}
+use Rattle.rst_directives.specs.declared.name.Name.{Name}
+use Rattle.rst_directives.specs.declared.name.Name.TheVariants.{Code}
+use Rattle.rst_markup.specs.declared.forms.Invocation.{Invocation}
+use Rattle.rst_markup.specs.declared.part.Part.{Part}
+
+-- ---- the block
+
+abbrev pub is_code_name : Name → Bool
+is_code_name Code = true
+is_code_name _ = false
+
+-- The lines that hold the argument and the options: those before the first blank one; none for program code whose block
+-- begins late, not in the line after the directive's.
+unfoldable pub run_in : Name → Bool → Block → List Text
+run_in name late H = if late && is_code_name name then [] else first_run H
+
+-- a directive whose options and argument are right
+pub record Read : Type 0 where
+  pub name : Name
+  pub argument : Given
+  pub options : List Choice
+  pub content : Content
+
+abbrev pub read_argument : Name → List Choice → Content → Result Given Wrong → Result Read Wrong
+read_argument name choices content (Ok given) = Ok (record { name = name; argument = given; options = choices; content = content })
+read_argument name choices content (Err wrong) = Err wrong
+
+abbrev pub read_options : Name → Content → Result Given Wrong → Result (List Choice) Wrong → Result Read Wrong
+read_options name content given (Ok choices) = read_argument name choices content given
+read_options name content given (Err wrong) = Err wrong
+
+abbrev pub read_fields : Name → Content → Result Given Wrong → Option (List FieldText) → Result Read Wrong
+read_fields name content given (Some fs) = read_options name content given (settings_in name fs)
+read_fields name content given None = Err option_block
+
+abbrev pub read_with : Name → Part → ℕ → List Text → Layout → Result Read Wrong
+read_with name block all run layout =
+    read_fields name (content_of block layout all) (argument_of name (take layout.argument run) (part_of block 0 layout.argument)) (fields_in (drop layout.options run))
+
+-- of a block of `all` lines, the run of `len` lines, and the place of the first line behind it that isn't blank
+unfoldable pub read_run : Name → Part → ℕ → List Text → ℕ → ℕ → Result Read Wrong
+read_run name block all run len rest = read_with name block all run (layout_of name run len all rest)
+
+abbrev pub read_from : Name → Part → Block → List Text → Result Read Wrong
+read_from name block H run = read_run name block (length H) run (length run) (length run + blank_len (drop (length run) H))
+
+-- what the block of a directive holds, or the first that is wrong: its options, then its argument
+unfoldable pub read_block : Name → Bool → Part → Block → Result Read Wrong
+read_block name late block H = read_from name block H (run_in name late H)
+
+-- ---- the directive
+
+-- what a directive is; a wrong one has the lines that it stands in
+pub data Outcome : Type 0 where
+  found : Read → Outcome
+  wrong : Fault → Part → Outcome
+
+abbrev pub judged_by : Read → Part → Option DirectiveFault → Outcome
+judged_by read source (Some fault) = wrong (fault_in fault) source
+judged_by read source None = found read
+
+abbrev pub judged : Place → Bool → Part → Result Read Wrong → Outcome
+judged place paragraph source (Ok read) = judged_by read source (content_fault read.name (is_empty read.content) place paragraph)
+judged place paragraph source (Err w) = wrong (inside w) source
+
+-- the lines that a directive stands in
+abbrev pub source_of : ℕ → Part → Part
+source_of at block = record { from = at; to = block.to; first_cut = 0; rest_cut = 0 }
+
+-- a block begins behind the line after the directive's
+abbrev pub is_late : ℕ → Part → Bool
+is_late at block = nat_lt at block.from && nat_lt 1 (block.from - at)
+
+abbrev pub directive_by : Block → ℕ → Part → Place → Bool → Result Name DirectiveFault → Outcome
+directive_by B at block place paragraph (Ok name) =
+    judged place paragraph (source_of at block) (read_block name (is_late at block) block (cut B block.from block.to block.first_cut block.rest_cut))
+directive_by B at block place paragraph (Err fault) = wrong (fault_in fault) (source_of at block)
+
+-- What the directive is that is called in the line at a place of a block; `code` tells whether those for program code are
+-- directives, and `paragraph` whether its own block is a single paragraph. The faults are looked for in this order: of its
+-- name, of its options, of its argument, of its content.
+unfoldable pub directive_at : Bool → Block → ℕ → Invocation → Place → Bool → Outcome
+directive_at code B at call place paragraph = directive_by B at call.block place paragraph (permitted (called_at code B at call) place)
+
+-- ---- as it is kept
+
+abbrev pub read_in : Reading → Read
+read_in reading = record { name = reading.name; argument = given_in reading.argument; options = choices_in reading.options.items; content = reading.content }
+
+abbrev pub reading_in : Result Reading Detail → Result Read Wrong
+reading_in (Ok reading) = Ok (read_in reading)
+reading_in (Err detail) = Err (wrong_in detail)
+
+abbrev pub outcome_of : Directive → Outcome
+outcome_of (FoundDirective name argument options content) = found (record { name = name; argument = given_in argument; options = choices_in options.items; content = content })
+outcome_of (WrongDirective fault source) = wrong (fault_in fault) source

@@ -1,0 +1,19 @@
+-- The lines of a directive's block (Markup Specification, 'Directives').
+use Rattle.std.specs.Prelude.{ℕ, suc, List, [], ◌∷◌, map, if◌then◌else◌}
+use Rattle.std.specs.declared.vec.Vec.{Vec}
+use Rattle.rst_text.specs.Block.{Block, is_blank}
+use Rattle.rst_directives.specs.Characters.{Text}
+
+-- the texts that vectors of characters hold
+abbrev pub texts_of : {A : Type 0} → List (Vec ℕ A) → List Text
+texts_of vectors = map (λ v. v.items) vectors
+
+-- the texts of the lines before the first blank one
+abbrev pub first_run : Block → List Text
+first_run [] = []
+first_run (l ∷ ls) = if is_blank l.text then [] else l.text ∷ first_run ls
+
+-- how many blank lines a block begins with
+abbrev pub blank_len : Block → ℕ
+blank_len [] = 0
+blank_len (l ∷ ls) = if is_blank l.text then suc (blank_len ls) else 0

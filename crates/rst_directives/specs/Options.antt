@@ -1,0 +1,150 @@
+-- The options of a directive's block (Markup Specification, 'Directives').
+use Rattle.std.specs.Prelude.{ℕ, suc, min, Bool, true, false, not, ◌&&◌, ◌||◌, ◌==◌, List, [], ◌∷◌, ◌++◌, map, take, drop, slice_range, Option, Some, None, Result, Ok, Err, if◌then◌else◌}
+use Rattle.std.specs.List.{join_with_byte}
+use Rattle.std.specs.declared.vec.Vec.{Vec}
+use Rattle.rst_text.specs.Block.{indentation}
+use Rattle.rst_directives.specs.Characters.{Text, is_same_word}
+use Rattle.rst_directives.specs.Field.{field_mark}
+use Rattle.rst_directives.specs.Name.{has_option}
+use Rattle.rst_directives.specs.OptionName.{option_of}
+use Rattle.rst_directives.specs.Value.{Meaning, meaning_of, value_of}
+use Rattle.rst_directives.specs.Wrong.{Wrong, unknown, duplicate, invalid, wrong_in}
+use Rattle.rst_directives.specs.declared.fault.Detail.{Detail}
+use Rattle.rst_directives.specs.declared.field.FieldMark.{FieldMark}
+use Rattle.rst_directives.specs.declared.name.Name.{Name}
+use Rattle.rst_directives.specs.declared.option.OptionName.{OptionName}
+use Rattle.rst_directives.specs.declared.options.Field.{Field}
+use Rattle.rst_directives.specs.declared.options.Setting.{Setting}
+
+abbrev pub begins_space : Text → Bool
+begins_space [] = false
+begins_space (c ∷ cs) = c == 32
+
+-- how many lines at the front begin with a space
+abbrev pub deep_len : List Text → ℕ
+deep_len [] = 0
+deep_len (t ∷ ts) = if begins_space t then suc (deep_len ts) else 0
+
+-- the least indentation of lines, and of n
+abbrev pub least_with : ℕ → List Text → ℕ
+least_with n [] = n
+least_with n (t ∷ ts) = least_with (min n (indentation t)) ts
+
+abbrev pub least_indentation : List Text → ℕ
+least_indentation [] = 0
+least_indentation (t ∷ ts) = least_with (indentation t) (t ∷ ts)
+
+abbrev pub with_first : Text → List Text → List Text
+with_first [] ts = ts
+with_first (c ∷ cs) ts = (c ∷ cs) ∷ ts
+
+-- a text, unless it is empty, and lines without their first characters, as many as `cut`, joined by line feeds
+unfoldable pub joined : Text → List Text → ℕ → Text
+joined first ts cut = join_with_byte 10 (with_first first (map (drop cut) ts))
+
+-- ---- fields
+
+-- a field among the options: its name as it is written, and its value
+abbrev pub FieldText : Type 0
+FieldText = Text × Text
+
+abbrev pub field_by : Option FieldMark → Text → List Text → Option FieldText
+field_by None t below = None
+field_by (Some mark) t below = Some (slice_range t 1 mark.colon, joined (drop mark.cut t) below (least_indentation below))
+
+-- the field that a line begins, with the indented lines below it
+unfoldable pub field_in : Text → List Text → Option FieldText
+field_in t below = field_by (field_mark t) t below
+
+abbrev pub onto_fields : Option FieldText → Option (List FieldText) → Option (List FieldText)
+onto_fields (Some f) (Some fs) = Some (f ∷ fs)
+onto_fields (Some f) None = None
+onto_fields None fs = None
+
+-- the fields of lines, where a field stands above or none does
+abbrev pub fields_from : Bool → List Text → Option (List FieldText)
+fields_from inside [] = Some []
+fields_from inside (t ∷ ts) = if inside && begins_space t then fields_from true ts else onto_fields (field_in t (take (deep_len ts) ts)) (fields_from true ts)
+
+-- the fields of lines, if each line begins a field or is indented below one
+unfoldable pub fields_in : List Text → Option (List FieldText)
+fields_in ts = fields_from false ts
+
+-- ---- what is wrong with them
+
+abbrev pub unknown_by : Name → Option OptionName → Bool
+unknown_by directive (Some option) = not (has_option directive option)
+unknown_by directive None = true
+
+-- the directive has no option of this name
+abbrev pub is_unknown : Name → Text → Bool
+is_unknown directive name = unknown_by directive (option_of name)
+
+-- the name of the first field that names no option of the directive
+abbrev pub first_unknown : Name → List FieldText → Option Text
+first_unknown directive [] = None
+first_unknown directive (f ∷ fs) = if is_unknown directive f.0 then Some f.0 else first_unknown directive fs
+
+-- one of the fields has this name
+abbrev pub is_among : Text → List FieldText → Bool
+is_among name [] = false
+is_among name (f ∷ fs) = is_same_word f.0 name || is_among name fs
+
+-- the name of the first field that one before it has, where some stand before all
+abbrev pub again_from : List FieldText → List FieldText → Option Text
+again_from before [] = None
+again_from before (f ∷ fs) = if is_among f.0 before then Some f.0 else again_from (before ++ f ∷ []) fs
+
+-- an option and the meaning of its value
+abbrev pub Choice : Type 0
+Choice = OptionName × Meaning
+
+abbrev pub chosen : OptionName → Option Meaning → Option Choice
+chosen option (Some meaning) = Some (option, meaning)
+chosen option None = None
+
+abbrev pub choice_by : Name → Option OptionName → Text → Option Choice
+choice_by directive (Some option) value = chosen option (value_of directive option value)
+choice_by directive None value = None
+
+-- what a field chooses, if its option can have its value
+abbrev pub choice_of : Name → FieldText → Option Choice
+choice_of directive f = choice_by directive (option_of f.0) f.1
+
+abbrev pub onto_choices : Option Choice → Text → Result (List Choice) Wrong → Result (List Choice) Wrong
+onto_choices (Some choice) name (Ok choices) = Ok (choice ∷ choices)
+onto_choices (Some choice) name (Err wrong) = Err wrong
+onto_choices None name choices = Err (invalid name)
+
+-- what fields choose, or the first that can't have its value
+abbrev pub choices_of : Name → List FieldText → Result (List Choice) Wrong
+choices_of directive [] = Ok []
+choices_of directive (f ∷ fs) = onto_choices (choice_of directive f) f.0 (choices_of directive fs)
+
+abbrev pub judged_by : Option Text → Option Text → Result (List Choice) Wrong → Result (List Choice) Wrong
+judged_by (Some name) again choices = Err (unknown name)
+judged_by None (Some name) choices = Err (duplicate name)
+judged_by None None choices = choices
+
+-- What the fields of a directive choose, or what is wrong: of all fields an unknown option, then a duplicate one, then a
+-- value that an option can't have.
+unfoldable pub settings_in : Name → List FieldText → Result (List Choice) Wrong
+settings_in directive fs = judged_by (first_unknown directive fs) (again_from [] fs) (choices_of directive fs)
+
+-- ---- as they are kept
+
+abbrev pub field_text : Field → FieldText
+field_text field = (field.name.items, field.value.items)
+
+abbrev pub field_texts : List Field → List FieldText
+field_texts fields = map field_text fields
+
+abbrev pub choice_in : Setting → Choice
+choice_in setting = (setting.option, meaning_of setting.value)
+
+abbrev pub choices_in : List Setting → List Choice
+choices_in settings = map choice_in settings
+
+abbrev pub settings_shown : {A : Type 0} → Result (Vec Setting A) Detail → Result (List Choice) Wrong
+settings_shown (Ok settings) = Ok (choices_in settings.items)
+settings_shown (Err detail) = Err (wrong_in detail)

@@ -1,0 +1,99 @@
+-- What the text of a target means (Markup Specification, 'Hyperlink Targets').
+use Rattle.std.specs.Prelude.{ℕ, ◌-◌, Bool, true, false, not, ◌&&◌, ◌||◌, ◌==◌, nat_lt, nat_le, List, [], ◌∷◌, map, filter, take, drop, slice_index, slice_range, length, Option, Some, None, if◌then◌else◌}
+use Rattle.std.specs.List.{join_with_byte}
+use Rattle.rst_text.specs.Block.{indentation, is_blank}
+use Rattle.rst_text.specs.Lines.{onto_first}
+use Rattle.rst_text.specs.Characters.{is_white, is_alphanumeric}
+use Rattle.rst_text.specs.Text.{chars_of}
+use Rattle.rst_directives.specs.Characters.{Text, has}
+use Rattle.rst_directives.specs.Escapes.{ends_escaping, unescaped, has_bare_backquote}
+use Rattle.rst_directives.specs.declared.target.Target.{Target}
+use Rattle.rst_directives.specs.declared.target.Target.TheVariants.{Name, Uri}
+
+-- ---- the text
+
+-- the lines of a text, which line feeds part
+abbrev pub lines_in : Text → List Text
+lines_in [] = [] ∷ []
+lines_in (c ∷ cs) = if c == 10 then [] ∷ lines_in cs else onto_first c (lines_in cs)
+
+-- a line without its indentation
+abbrev pub unindented : Text → Text
+unindented t = drop (indentation t) t
+
+-- those that aren't empty
+abbrev pub filled : List Text → List Text
+filled [] = []
+filled (t ∷ ts) = if is_blank t then filled ts else t ∷ filled ts
+
+-- the lines without their indentation, joined by line feeds, empty ones left out
+unfoldable pub target_text : Text → Text
+target_text t = join_with_byte 10 (filled (map unindented (lines_in t)))
+
+-- ---- references
+
+-- `-`, `_`, `.`, `:`, `+`
+unfoldable pub is_joint : ℕ → Bool
+is_joint c = c == 45 || (c == 95 || (c == 46 || (c == 58 || c == 43)))
+
+-- the rest of a simple name, before which a letter or a number is wanted or not
+abbrev pub name_from : Bool → Text → Bool
+name_from wanted [] = not wanted
+name_from wanted (c ∷ cs) = if is_alphanumeric c then name_from false cs else (not wanted && is_joint c) && name_from true cs
+
+-- letters and numbers, with single inner `-`, `_`, `.`, `:` or `+`
+abbrev pub is_simple_name : Text → Bool
+is_simple_name t = name_from true t
+
+-- a simple name and `_`
+unfoldable pub is_simple_reference : Text → Bool
+is_simple_reference t = nat_lt 0 (length t) && (has t (length t - 1) 95 && is_simple_name (take (length t - 1) t))
+
+-- a character that isn't white stands at the place
+abbrev pub has_dark : Text → ℕ → Bool
+has_dark t i = nat_lt i (length t) && not (is_white (slice_index t i))
+
+-- it isn't empty, white stands at neither end, and each backquote in it is escaped
+unfoldable pub is_phrase : Text → Bool
+is_phrase t = has_dark t 0 && (has_dark t (length t - 1) && not (has_bare_backquote t))
+
+-- a text without its first character and its last two
+unfoldable pub phrase_in : Text → Text
+phrase_in t = slice_range t 1 (length t - 2)
+
+-- a phrase in backquotes and `_`, where the last backquote isn't escaped
+unfoldable pub is_phrase_reference : Text → Bool
+is_phrase_reference t =
+    nat_le 4 (length t) && (has t 0 96 && (has t (length t - 1) 95 && (has t (length t - 2) 96
+    && (not (ends_escaping (take (length t - 2) t)) && is_phrase (phrase_in t)))))
+
+-- ---- what it means
+
+-- a name, or a URI
+pub data Destination : Type 0 where
+  named : Text → Destination
+  located : Text → Destination
+
+-- the text without its white characters
+abbrev pub without_white : Text → Text
+without_white t = filter (λ c. not (is_white c)) t
+
+abbrev pub located_if : Text → Option Destination
+located_if uri = if is_blank uri then None else Some (located uri)
+
+unfoldable pub destination_in : Text → Option Destination
+destination_in t =
+    if is_simple_reference t then Some (named (take (length t - 1) t))
+    else if is_phrase_reference t then Some (named (unescaped (phrase_in t)))
+    else located_if (without_white (unescaped t))
+
+-- What the text of a target means: a name as it is written, without escapes; or a URI, without escapes and white; or
+-- nothing, where nothing is left of it.
+unfoldable pub target_value : Text → Option Destination
+target_value t = destination_in (target_text t)
+
+-- ---- as it is kept
+
+abbrev pub destination_of : Target → Destination
+destination_of (Name name) = named (chars_of name)
+destination_of (Uri uri) = located (chars_of uri)

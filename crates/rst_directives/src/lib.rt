@@ -1,0 +1,34 @@
+//! Directives: their arguments, options and content, and what can be wrong with them (Docutils, Directives).
+#![tactic(auto)]
+
+mod argument;
+mod calls;
+mod characters;
+mod fault;
+mod field;
+mod found;
+mod judgement;
+mod layout;
+mod lines;
+mod measure;
+mod messages;
+mod name;
+mod option;
+mod options;
+mod target;
+mod value;
+
+pub use argument::Argument;
+pub use calls::{called, directive};
+pub use fault::{Detail, DirectiveFault, MarkupFault};
+pub use found::{Content, Directive, Place};
+pub use measure::Alignment;
+pub use messages::message;
+pub use name::Name;
+pub use option::OptionName;
+pub use options::Setting;
+pub use target::{Target, target_value};
+pub use value::OptionValue;
+
+#[cfg(test)]
+mod tests;

@@ -1,0 +1,238 @@
+//! What the text of a target means.
+ghost use Rattle.std.specs.Prelude.{◌≡◌, ◌+◌, ◌<◌, ◌≤◌, IfOk, IsTrue, Some, option_map, length};
+ghost use Rattle.std.specs.Str.{chars};
+ghost use Rattle.rst_directives.specs.Faults.{Gives};
+ghost use Rattle.rst_directives.specs.Escapes as escapes;
+ghost use Rattle.rst_directives.specs.Target as spec;
+
+use super::characters::{escapes, has, text_from};
+use super::fault::MarkupFault;
+use rst_text::{characters_of, is_alphanumeric, is_white};
+use std::alloc::{AllocError, Global};
+
+/// What a target leads to.
+#[derive(Debug, Drop)]
+pub enum Target {
+    /// Another target, by its name as it is written, without escapes.
+    Name(String),
+    /// A URI, without escapes and white characters.
+    Uri(String),
+}
+
+/// What the text of a target means, where something is left of it: a simple name and `_`, or a phrase in backquotes
+/// and `_`, is a name, and any other text is a URI. The lines of the text lose their indentation, and empty ones don't
+/// count.
+///
+/// The only refusal is [`MarkupFault::NoMemory`].
+pub fn target_value(alloc: Global, text: &str) -> Result<Option<Target>, MarkupFault>
+    ensures { Gives (λ target. option_map spec.destination_of target ≡ spec.target_value (chars text.now)) result }
+{
+    let characters = characters_of(alloc, text)?;
+    let text = target_text(alloc, &characters)?;
+    destination_in(alloc, &text)
+}
+
+/// What a text means as the text of a target.
+#[tactic(auto, unfolding(crate::specs::Target::destination_in, crate::specs::Target::phrase_in))]
+fn destination_in(alloc: Global, text: &[char]) -> Result<Option<Target>, MarkupFault>
+    ensures { Gives (λ target. option_map spec.destination_of target ≡ spec.destination_in text.now) result }
+{
+    if is_simple_reference(text) {
+        return named(alloc, &text[..text.len() - 1]);
+    }
+    if is_phrase_reference(text) {
+        return named_by_phrase(alloc, &text[1..text.len() - 2]);
+    }
+    located(alloc, text)
+}
+
+fn named(alloc: Global, name: &[char]) -> Result<Option<Target>, MarkupFault>
+    ensures { Gives (λ target. option_map spec.destination_of target ≡ Some (spec.named name.now)) result }
+{
+    let name = text_from(alloc, name)?;
+    Ok(Some(Target::Name(name)))
+}
+
+fn named_by_phrase(alloc: Global, phrase: &[char]) -> Result<Option<Target>, MarkupFault>
+    ensures { Gives (λ target. option_map spec.destination_of target ≡ Some (spec.named (escapes.unescaped phrase.now))) result }
+{
+    let bare = unescaped(alloc, phrase)?;
+    named(alloc, &bare)
+}
+
+fn located(alloc: Global, text: &[char]) -> Result<Option<Target>, MarkupFault>
+    ensures { Gives (λ target. option_map spec.destination_of target ≡ spec.located_if (spec.without_white (escapes.unescaped text.now))) result }
+{
+    let bare = unescaped(alloc, text)?;
+    let uri = without_white(alloc, &bare)?;
+    located_if(alloc, &uri)
+}
+
+fn located_if(alloc: Global, uri: &[char]) -> Result<Option<Target>, MarkupFault>
+    ensures { Gives (λ target. option_map spec.destination_of target ≡ spec.located_if uri.now) result }
+{
+    if uri.is_empty() {
+        return Ok(None);
+    }
+    let uri = text_from(alloc, uri)?;
+    Ok(Some(Target::Uri(uri)))
+}
+
+/// The lines of a text without their indentation, joined by line feeds, empty ones left out.
+fn target_text(alloc: Global, text: &[char]) -> Result<Vec<char>, AllocError>
+    ensures { IfOk result (λ joined. joined.items ≡ spec.target_text text.now) }
+{
+    let mut joined = Vec::new(alloc);
+    let mut begun = false;
+    let mut fresh = true;
+    let mut due = false;
+    for c in text {
+        if *c == '\n' {
+            due = begun;
+            fresh = true;
+            continue;
+        }
+        if fresh && *c == ' ' {
+            continue;
+        }
+        if due {
+            joined.push('\n')?;
+            due = false;
+        }
+        joined.push(*c)?;
+        begun = true;
+        fresh = false;
+    }
+    Ok(joined)
+}
+
+/// Whether a character behind a text is escaped.
+fn ends_escaping(text: &[char]) -> bool
+    ensures { result ≡ escapes.ends_escaping text.now }
+{
+    let mut escaped = false;
+    for c in text {
+        escaped = escapes(*c, escaped);
+    }
+    escaped
+}
+
+/// Whether a text is a reference by a simple name.
+#[tactic(auto, unfolding(crate::specs::Target::is_simple_reference))]
+fn is_simple_reference(text: &[char]) -> bool
+    ensures value { result ≡ spec.is_simple_reference text.now }
+    ensures long { IsTrue result → 0 < length text.now }
+{
+    let n = text.len();
+    0 < n && (has(text, n - 1, '_') && is_simple_name(&text[..n - 1]))
+}
+
+/// Whether a text is a reference by a phrase in backquotes.
+#[tactic(auto, unfolding(crate::specs::Target::is_phrase_reference, crate::specs::Target::phrase_in))]
+fn is_phrase_reference(text: &[char]) -> bool
+    ensures value { result ≡ spec.is_phrase_reference text.now }
+    ensures long { IsTrue result → 4 ≤ length text.now }
+{
+    let n = text.len();
+    4 <= n
+        && (has(text, 0, '`')
+            && (has(text, n - 1, '_')
+                && (has(text, n - 2, '`')
+                    && (!ends_escaping(&text[..n - 2]) && is_phrase(&text[1..n - 2])))))
+}
+
+/// Whether a text may stand in backquotes as a phrase: it isn't empty, white stands at neither end, and each backquote
+/// in it is escaped.
+#[tactic(auto, unfolding(crate::specs::Target::is_phrase))]
+fn is_phrase(text: &[char]) -> bool
+    ensures { result ≡ spec.is_phrase text.now }
+{
+    has_dark(text, 0) && (has_dark(text, text.len() - 1) && !has_bare_backquote(text))
+}
+
+/// Whether a character that isn't white stands at a place.
+fn has_dark(text: &[char], place: usize) -> bool
+    ensures { result ≡ spec.has_dark text.now place }
+{
+    match text.get(place) {
+        Some(c) => !is_white(*c),
+        None => false,
+    }
+}
+
+/// Whether a backquote in a text isn't escaped.
+fn has_bare_backquote(text: &[char]) -> bool
+    ensures { result ≡ escapes.has_bare_backquote text.now }
+{
+    let mut escaped = false;
+    for c in text {
+        if *c == '`' && !escaped {
+            return true;
+        }
+        escaped = escapes(*c, escaped);
+    }
+    false
+}
+
+#[tactic(auto, unfolding(crate::specs::Target::is_joint))]
+fn is_joint(c: char) -> bool
+    ensures { result ≡ spec.is_joint c }
+{
+    matches!(c, '-' | '_' | '.' | ':' | '+')
+}
+
+/// Whether a text is a simple name: letters and numbers, with single inner `-`, `_`, `.`, `:` or `+`.
+fn is_simple_name(text: &[char]) -> bool
+    ensures { result ≡ spec.is_simple_name text.now }
+{
+    // Whether a letter or a number is wanted next.
+    let mut wanted = true;
+    for c in text {
+        if is_alphanumeric(*c) {
+            wanted = false;
+            continue;
+        }
+        if wanted || !is_joint(*c) {
+            return false;
+        }
+        wanted = true;
+    }
+    !wanted
+}
+
+/// A text without its escapes: a backslash vanishes, and white behind one; another character behind one stays.
+fn unescaped(alloc: Global, text: &[char]) -> Result<Vec<char>, AllocError>
+    ensures { IfOk result (λ bare. bare.items ≡ escapes.unescaped text.now) }
+{
+    let mut bare = Vec::new(alloc);
+    let mut escaped = false;
+    for c in text {
+        if escaped {
+            if !is_white(*c) {
+                bare.push(*c)?;
+            }
+            escaped = false;
+            continue;
+        }
+        if *c == '\\' {
+            escaped = true;
+            continue;
+        }
+        bare.push(*c)?;
+    }
+    Ok(bare)
+}
+
+/// A text without its white characters.
+pub(crate) fn without_white(alloc: Global, text: &[char]) -> Result<Vec<char>, AllocError>
+    ensures { IfOk result (λ dark. dark.items ≡ spec.without_white text.now) }
+{
+    let mut dark = Vec::new(alloc);
+    for c in text {
+        if is_white(*c) {
+            continue;
+        }
+        dark.push(*c)?;
+    }
+    Ok(dark)
+}
