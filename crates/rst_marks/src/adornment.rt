@@ -3,9 +3,9 @@ ghost use Rattle.std.specs.Prelude.{◌≡◌};
 ghost use Rattle.std.specs.Str.{chars};
 ghost use Rattle.rst_marks.specs.Adornment as spec;
 
-use rst_text::skip;
 use super::class::{Class, run};
 use super::text::{front, is_blank};
+use rst_text::skip;
 
 /// A line of one punctuation character: the character and how often it stands there.
 #[derive(Clone, Copy, Debug, PartialEq, Eq)]

@@ -3,9 +3,9 @@ ghost use Rattle.std.specs.Prelude.{◌≡◌, ◌≤◌};
 ghost use Rattle.std.specs.Str.{chars};
 ghost use Rattle.rst_marks.specs.Attribution as spec;
 
-use rst_text::{indentation, skip};
 use super::class::{Class, run};
 use super::text::{begins_with, is_blank};
+use rst_text::{indentation, skip};
 
 /// How many characters the dash at the front of a text has: `--`, `---` or U+2014; 0 where there is none.
 #[tactic(auto, unfolding(crate::specs::Attribution::dash_len))]

@@ -3,9 +3,9 @@ ghost use Rattle.std.specs.Prelude.{◌≡◌};
 ghost use Rattle.std.specs.Str.{chars};
 ghost use Rattle.rst_marks.specs.Border as spec;
 
-use rst_text::skip;
 use super::class::{Class, run};
 use super::text::{begins_with, is_blank};
+use rst_text::skip;
 
 /// Whether a line begins a grid table: `+-`, one or more of `-` and `+`, `-+`.
 #[tactic(auto, unfolding(crate::specs::Border::is_grid_border))]

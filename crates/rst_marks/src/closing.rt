@@ -3,8 +3,8 @@ ghost use Rattle.std.specs.Prelude.{◌≡◌, ◌≤◌, ◌<◌, length, IfSom
 ghost use Rattle.std.specs.Str.{chars};
 ghost use Rattle.rst_marks.specs.Closing as spec;
 
-use rst_text::{is_white, skip};
 use super::text::{after_first, begins_with, front, is_blank, is_loose};
+use rst_text::{is_white, skip};
 
 /// What closes.
 #[derive(Clone, Copy, Debug, PartialEq, Eq)]

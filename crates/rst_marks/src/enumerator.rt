@@ -3,12 +3,12 @@ ghost use Rattle.std.specs.Prelude.{◌≡◌, ◌≤◌, ◌<◌, ◌^◌, ◌+
 ghost use Rattle.std.specs.Str.{chars};
 ghost use Rattle.rst_marks.specs.Enumerator as spec;
 
-use rst_text::skip;
 use super::class::{Class, run};
 use super::decimal::decimal;
 use super::marker::{Marker, marker_of};
 use super::roman::roman;
 use super::text::{begins_with, front};
+use rst_text::skip;
 
 /// What stands round an enumerator's ordinal.
 #[derive(Clone, Copy, Debug, PartialEq, Eq)]
@@ -226,7 +226,10 @@ pub fn is_next(ordinals: Ordinals, next: Ordinals) -> bool
 fn is_same_case(a: Case, b: Case) -> bool
     ensures { result ≡ spec.is_same_case a b }
 {
-    matches!((a, b), (Case::Lower, Case::Lower) | (Case::Upper, Case::Upper))
+    matches!(
+        (a, b),
+        (Case::Lower, Case::Lower) | (Case::Upper, Case::Upper)
+    )
 }
 
 /// Whether two formats are one.

@@ -3,11 +3,11 @@ ghost use Rattle.std.specs.Prelude.{◌≡◌, ◌<◌, ◌≤◌, ◌-◌, ◌^
 ghost use Rattle.std.specs.Str.{chars};
 ghost use Rattle.rst_marks.specs.ExplicitMarks as spec;
 
-use rst_text::{is_white, skip};
 use super::class::{Class, begins_alphanumeric, run};
 use super::closing::{Closing, closed};
 use super::marker::{Marker, marker_of};
 use super::text::{begins_with, front, is_blank};
+use rst_text::{is_white, skip};
 
 /// The marker of explicit markup: `..`.
 #[tactic(auto, unfolding(crate::specs::ExplicitMarks::dots))]

@@ -3,11 +3,11 @@ ghost use Rattle.std.specs.Prelude.{◌≡◌};
 ghost use Rattle.std.specs.Str.{chars};
 ghost use Rattle.rst_marks.specs.Field as spec;
 
-use rst_text::skip;
 use super::closing::{Closing, closed};
 use super::marker::{Marker, marker_of};
 use super::place::Characters;
 use super::text::begins_with;
+use rst_text::skip;
 
 /// A field's name, as it is written, and its marker.
 #[derive(Clone, Copy, Debug, PartialEq, Eq)]

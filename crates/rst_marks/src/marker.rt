@@ -3,8 +3,8 @@ ghost use Rattle.std.specs.Prelude.{◌≡◌};
 ghost use Rattle.std.specs.Str.{chars};
 ghost use Rattle.rst_marks.specs.Marker as spec;
 
-use rst_text::{indentation, skip};
 use super::text::{begins_with, front, is_blank};
+use rst_text::{indentation, skip};
 
 /// A mark at the front of a line: how many characters it has with the spaces behind it, and whether nothing stands
 /// behind these.
@@ -27,16 +27,16 @@ pub fn marker_of(n: usize, text: &str) -> Option<Marker>
         return None;
     }
     let spaces = indentation(behind);
-    Some(Marker { cut: n + spaces, bare: is_blank(skip(behind, spaces)) })
+    Some(Marker {
+        cut: n + spaces,
+        bare: is_blank(skip(behind, spaces)),
+    })
 }
 
 fn is_bullet(c: char) -> bool
     ensures { result ≡ spec.is_bullet c }
 {
-    matches!(
-        c,
-        '*' | '+' | '-' | '\u{2022}' | '\u{2023}' | '\u{2043}'
-    )
+    matches!(c, '*' | '+' | '-' | '\u{2022}' | '\u{2023}' | '\u{2043}')
 }
 
 /// The marker of a bullet list's item.
@@ -55,7 +55,10 @@ pub fn bullet(text: &str) -> Option<Marker>
 pub fn doctest(text: &str) -> Option<Marker>
     ensures { result ≡ spec.doctest (chars text.now) }
 {
-    if begins_with('>', text) && begins_with('>', skip(text, 1)) && begins_with('>', skip(text, 2)) {
+    if begins_with('>', text)
+        && begins_with('>', skip(text, 1))
+        && begins_with('>', skip(text, 2))
+    {
         marker_of(3, text)
     } else {
         None

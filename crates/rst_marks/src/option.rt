@@ -3,10 +3,10 @@ ghost use Rattle.std.specs.Prelude.{◌≡◌, ◌≤◌, ◌<◌, ◌+◌, ◌-
 ghost use Rattle.std.specs.Str.{chars};
 ghost use Rattle.rst_marks.specs.OptionMarker as spec;
 
-use rst_text::{is_letter, skip};
 use super::class::{Class, run};
 use super::marker::{Marker, marker_of};
 use super::text::{begins_with, front, is_blank};
+use rst_text::{is_letter, skip};
 
 /// What stands between an option and its argument.
 #[derive(Clone, Copy, Debug, PartialEq, Eq)]
@@ -170,10 +170,12 @@ fn argument_width(argument: Option<Argument>) -> usize
 {
     match argument {
         None => 0,
-        Some(Argument {
-            delimiter: Delimiter::Nothing,
-            len,
-        }) => len,
+        Some(
+            Argument {
+                delimiter: Delimiter::Nothing,
+                len,
+            },
+        ) => len,
         Some(Argument { len, .. }) => len + 1,
     }
 }

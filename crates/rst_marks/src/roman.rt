@@ -3,10 +3,10 @@ ghost use Rattle.std.specs.Prelude.{◌≡◌, ◌≤◌, IfSome};
 ghost use Rattle.std.specs.Str.{chars};
 ghost use Rattle.rst_marks.specs.Roman as spec;
 
-use rst_text::skip;
 use super::class::{Class, run};
 use super::enumerator::Case;
 use super::text::begins_with;
+use rst_text::skip;
 
 /// A digit of a Roman numeral: its value and how many letters it has.
 #[derive(Clone, Copy, Debug, PartialEq, Eq)]
@@ -28,8 +28,16 @@ fn hundreds(case: Case) -> RomanPlace
     ensures { result ≡ spec.hundreds case }
 {
     match case {
-        Case::Lower => RomanPlace { one: 'c', five: 'd', ten: 'm' },
-        Case::Upper => RomanPlace { one: 'C', five: 'D', ten: 'M' },
+        Case::Lower => RomanPlace {
+            one: 'c',
+            five: 'd',
+            ten: 'm',
+        },
+        Case::Upper => RomanPlace {
+            one: 'C',
+            five: 'D',
+            ten: 'M',
+        },
     }
 }
 
@@ -38,8 +46,16 @@ fn tens(case: Case) -> RomanPlace
     ensures { result ≡ spec.tens case }
 {
     match case {
-        Case::Lower => RomanPlace { one: 'x', five: 'l', ten: 'c' },
-        Case::Upper => RomanPlace { one: 'X', five: 'L', ten: 'C' },
+        Case::Lower => RomanPlace {
+            one: 'x',
+            five: 'l',
+            ten: 'c',
+        },
+        Case::Upper => RomanPlace {
+            one: 'X',
+            five: 'L',
+            ten: 'C',
+        },
     }
 }
 
@@ -48,8 +64,16 @@ fn ones(case: Case) -> RomanPlace
     ensures { result ≡ spec.ones case }
 {
     match case {
-        Case::Lower => RomanPlace { one: 'i', five: 'v', ten: 'x' },
-        Case::Upper => RomanPlace { one: 'I', five: 'V', ten: 'X' },
+        Case::Lower => RomanPlace {
+            one: 'i',
+            five: 'v',
+            ten: 'x',
+        },
+        Case::Upper => RomanPlace {
+            one: 'I',
+            five: 'V',
+            ten: 'X',
+        },
     }
 }
 
@@ -70,7 +94,10 @@ fn digit_at(place: RomanPlace, text: &str) -> Option<RomanDigit>
     if 3 < count {
         return None;
     }
-    Some(RomanDigit { value: fives as u64 * 5 + count as u64, len: fives + count })
+    Some(RomanDigit {
+        value: fives as u64 * 5 + count as u64,
+        len: fives + count,
+    })
 }
 
 /// The value of the first `len` characters of a text as a Roman numeral in its canonical form, at most 4999.

@@ -50,12 +50,10 @@ fn fixed_size(form: Adorned) -> Option<usize>
 {
     match form {
         Adorned::Transition | Adorned::Unexpected => Some(1),
-        Adorned::InvalidMarker
-        | Adorned::Incomplete
-        | Adorned::MissingUnderline { blank: true } => Some(2),
-        Adorned::Title { .. }
-        | Adorned::MissingUnderline { blank: false }
-        | Adorned::Mismatch => Some(3),
+        Adorned::InvalidMarker | Adorned::Incomplete | Adorned::MissingUnderline { blank: true } =>
+            Some(2),
+        Adorned::Title { .. } | Adorned::MissingUnderline { blank: false } | Adorned::Mismatch =>
+            Some(3),
         Adorned::Text | Adorned::ShortOverline | Adorned::ShortAdornment => None,
     }
 }

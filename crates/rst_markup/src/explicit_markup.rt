@@ -9,8 +9,8 @@ use super::forms::CommentCause;
 use super::lines::{LineTest, lines_end};
 use super::part::Part;
 use rst_marks::{
-    DirectiveMark, LabelMark, Marker, SubstitutionMark, TargetMark, begins_with, directive_of, label_of,
-    substitution_of, target_of,
+    DirectiveMark, LabelMark, Marker, SubstitutionMark, TargetMark, begins_with, directive_of,
+    label_of, substitution_of, target_of,
 };
 use rst_text::{Looks, View};
 

@@ -1,6 +1,5 @@
 //! What a line that begins with `..` or `__` is.
 
-
 use super::part::Part;
 use rst_marks::Characters;
 

@@ -15,7 +15,10 @@ mod row;
 
 pub use adornment_line::{AdornmentLine, adorned_at};
 pub use construct::{Construct, end_after};
-pub use constructs::{AnonymousTarget, BarLine, BlankLine, BlockQuote, BulletItem, DoctestBlock, EnumeratedItem, FieldItem, OptionListItem, TextLine};
+pub use constructs::{
+    AnonymousTarget, BarLine, BlankLine, BlockQuote, BulletItem, DoctestBlock, EnumeratedItem,
+    FieldItem, OptionListItem, TextLine,
+};
 pub use ends::{hanging_end, indented_end, item_end, literal_end, paragraph_end, text_end};
 pub use explicit_markup::{ExplicitForm, explicit_form, hanging_part};
 pub use form::{Adorned, TextForm, adorned_alone, adorned_below, adorned_over, text_form};

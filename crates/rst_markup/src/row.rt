@@ -7,9 +7,9 @@ ghost use Rattle.rst_markup.specs.Kinds as spec;
 use super::kind::Kind;
 use super::lines::below_text;
 use rst_marks::{
-    Enumerator, Marker, adornment_of, begins_next, begins_with, bullet, doctest, dots, enumerator_of,
-    field_of, is_blank, is_grid_border, is_loose, is_simple_border, line_bar, option_marker,
-    underscores,
+    Enumerator, Marker, adornment_of, begins_next, begins_with, bullet, doctest, dots,
+    enumerator_of, field_of, is_blank, is_grid_border, is_loose, is_simple_border, line_bar,
+    option_marker, underscores,
 };
 use rst_text::{Looks, View};
 

@@ -4,7 +4,7 @@ use Rattle.rst_marks.proofs.Steps.{closed_more, closed_stop, closed_end, closed_
 use Rattle.rst_marks.proofs.closing.closed.Goals as goal
 
 pub loop-c-init : goal.loop-c-init
-loop-c-init c = record { text = search rules; value = closed_start _ _ _; within = omega arith; }
+loop-c-init c = record { text = search rules; value = closed_start _ _ _; within = omega arith }
 
 pub loop-c-smaller : goal.loop-c-smaller
 loop-c-smaller c = c.after_first-behind.ensures.shorter (search rules)
