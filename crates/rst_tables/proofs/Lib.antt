@@ -9,3 +9,4 @@ pub mod BoundLemmas
 pub mod RowLemmas
 pub mod TableLemmas
 pub mod SimpleLemmas
+pub mod ScanLemmas

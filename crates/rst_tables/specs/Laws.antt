@@ -1,7 +1,24 @@
 -- Laws on the definitions alone.
-use Rattle.rst_tables.specs.Places.{Grid}
+use Rattle.std.specs.Prelude.{◌≡◌, ℕ, ◌+◌, ◌<◌, ◌≤◌, false, length}
+use Rattle.rst_tables.specs.Places.{Grid, row_at}
 use Rattle.rst_tables.specs.Drawn.{IsEven, OneTiling}
+use Rattle.rst_tables.specs.GridTable.{height, scanned, grid_looked, is_border}
+use Rattle.rst_tables.specs.SimpleTable.{simple_end, simple_looked, is_simple_border}
+use Rattle.rst_tables.specs.declared.simple_lines.SimpleEnd.{SimpleEnd}
+use Rattle.rst_tables.specs.declared.simple_lines.SimpleEnd.TheVariants.{Ends, Fails}
 
 -- Grids whose rows are equally wide have at most one tiling each.
 abbrev pub HaveOneTiling : Type 0
 HaveOneTiling = (G : Grid) → IsEven G → OneTiling G
+
+-- Of the rows that a scan for a grid table went over behind the table none is a border, so no grid table begins there.
+abbrev pub NoGridBehind : Type 0
+NoGridBehind = (R : Grid) (k : ℕ) → 2 ≤ k → height (scanned R) ≤ k → k < grid_looked R → is_border (row_at R k) ≡ false
+
+abbrev pub place_behind : SimpleEnd → ℕ
+place_behind (Ends end head) = end
+place_behind (Fails end detail) = end
+
+-- Of the rows that a scan for a simple table went over behind the table none is a border.
+abbrev pub NoSimpleBehind : Type 0
+NoSimpleBehind = (R : Grid) (i k : ℕ) → i < length R → place_behind (simple_end R i) ≤ k → k < i + simple_looked R i → is_simple_border (row_at R k) ≡ false

@@ -1,7 +1,17 @@
 //! Laws on the definitions, each by a function that does nothing and whose contract is the law.
-ghost use Rattle.rst_tables.specs.Laws.{HaveOneTiling};
+ghost use Rattle.rst_tables.specs.Laws.{HaveOneTiling, NoGridBehind, NoSimpleBehind};
 
 /// A grid whose rows are equally wide has at most one tiling by drawn rectangles.
 pub fn one_tiling()
     ensures { HaveOneTiling }
+{}
+
+/// No grid table begins at a line that the scan for one went over behind it, from its third line on.
+pub fn no_grid_behind()
+    ensures { NoGridBehind }
+{}
+
+/// No simple table begins at a line that the scan for the last border of one went over behind it.
+pub fn no_simple_behind()
+    ensures { NoSimpleBehind }
 {}
