@@ -4,3 +4,6 @@
 mod marks;
 
 pub use marks::{Marked, Path};
+
+#[cfg(test)]
+mod tests;

@@ -16,7 +16,6 @@ mod place;
 mod roman;
 mod text;
 
-<<<<<<< HEAD
 pub use adornment::{Adornment, adornment_of, is_punctuation};
 pub use attribution::attribution_of;
 pub use border::{is_grid_border, is_simple_border};
@@ -37,9 +36,3 @@ pub use option::{
 };
 pub use place::Characters;
 pub use text::{begins_with, front, is_blank, is_loose};
-=======
-pub use marks::{Marked, Path};
-
-#[cfg(test)]
-mod tests;
->>>>>>> b99a41a9230357fc40f991625db82e1dcc97a723
