@@ -1,5 +1,5 @@
 -- Option markers stand within their lines.
-use Rattle.std.proofs.Common.{◌≡◌, ℕ, zero, suc, ◌+◌, ◌-◌, ◌*◌, ◌<◌, ◌≤◌, ◌==◌, Bool, true, false, not, cond, ◌&&◌, ◌||◌, List, [], ◌∷◌, length, drop, length-drop, Option, None, Some, IfSome, arith, sub-one, refl, sym, ap, ◌∙◌, subst}
+use Rattle.std.proofs.Common.{◌≡◌, ℕ, zero, suc, ◌+◌, ◌-◌, ◌<◌, ◌≤◌, ◌==◌, Bool, true, false, not, cond, ◌&&◌, ◌||◌, List, [], ◌∷◌, length, drop, length-drop, Option, None, Some, IfSome, arith, sub-one, refl, sym, ap, ◌∙◌, subst}
 use Rattle.rst_marks.specs.Front.{begins_with}
 use Rattle.rst_marks.specs.Class.{run, is_in}
 use Rattle.rst_marks.specs.declared.class.Class.{Class}
@@ -8,10 +8,9 @@ use Rattle.rst_marks.specs.declared.option.Delimiter.{Delimiter}
 use Rattle.rst_marks.specs.declared.option.Delimiter.TheVariants.{Nothing, Space, Equals}
 use Rattle.rst_marks.specs.declared.option.Argument.{Argument}
 use Rattle.rst_marks.specs.declared.option.OptionMark.{OptionMark}
-use Rattle.rst_marks.specs.declared.option.OptionTail.{OptionTail}
 use Rattle.rst_marks.specs.declared.option.OptionTail.TheVariants.{Last, Next, Wrong}
 use Rattle.rst_marks.specs.declared.marker.Marker.{Marker}
-use Rattle.rst_marks.specs.OptionMarker.{argument_len, bracketed_len, begins_letter, begins_ascii_alphanumeric, argument_behind, with_delimiter, width_with, argument_width, short_argument, long_argument, long_option, short_option, option_at, option_of, tail_at, option_tail, tail_of, last_if, options_from, by_tail, shifted}
+use Rattle.rst_marks.specs.OptionMarker.{argument_len, bracketed_len, begins_letter, begins_ascii_alphanumeric, argument_behind, with_delimiter, width_with, argument_width, short_argument, long_argument, long_option, short_option, option_at, option_of, tail_at, option_tail, tail_of, last_if, options_from, shifted}
 use Rattle.rst_marks.specs.Marker.{marker_of}
 use Rattle.rst_text.specs.Block.{is_blank, indentation}
 use Rattle.rst_marks.proofs.TextLemmas.{indent_within}

@@ -1,5 +1,5 @@
 -- A run of characters is counted one at a time.
-use Rattle.std.proofs.Common.{◌≡◌, ℕ, suc, ◌+◌, Bool, true, false, List, [], ◌∷◌, drop, Option, None, Some, arith, refl, ap, subst}
+use Rattle.std.proofs.Common.{◌≡◌, ℕ, suc, ◌+◌, true, false, List, [], ◌∷◌, drop, None, Some, arith, refl}
 use Rattle.rst_marks.specs.Front.{first}
 use Rattle.rst_marks.specs.declared.class.Class.{Class}
 use Rattle.rst_marks.specs.Class.{is_in, run}

@@ -1,5 +1,5 @@
 -- Texts that are read from their front.
-use Rattle.std.proofs.Common.{◌≡◌, ℕ, zero, suc, ◌+◌, ◌<◌, ◌≤◌, List, [], ◌∷◌, ◌++◌, length, drop, refl, sym, ap, ◌∙◌, arith, length-append, length-drop, IsSome, is_some, None, Bool, true, false, cond, ◌-◌, ◌==◌}
+use Rattle.std.proofs.Common.{◌≡◌, ℕ, suc, ◌+◌, ◌<◌, ◌≤◌, List, [], ◌∷◌, ◌++◌, length, drop, refl, sym, ap, ◌∙◌, arith, length-append, length-drop, IsSome, is_some, None, Bool, true, false, cond, ◌==◌}
 use Rattle.std.specs.Str.{chars, IsUtf8}
 use Rattle.std.proofs.Math.Utf8.{encode}
 use Rattle.rst_marks.specs.Front.{first, begins_with}

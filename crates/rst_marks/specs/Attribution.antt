@@ -1,5 +1,5 @@
 -- Attributions (Markup Specification, 'Block Quotes').
-use Rattle.std.specs.Prelude.{ℕ, ◌+◌, Bool, ◌||◌, ◌==◌, List, drop, if◌then◌else◌, Option, None, Some}
+use Rattle.std.specs.Prelude.{ℕ, ◌+◌, ◌||◌, ◌==◌, List, drop, if◌then◌else◌, Option, None, Some}
 use Rattle.rst_text.specs.Block.{is_blank, indentation}
 use Rattle.rst_marks.specs.Front.{begins_with}
 use Rattle.rst_marks.specs.Class.{run}

@@ -1,6 +1,6 @@
 -- Marks of explicit markup (Markup Specification, 'Explicit Markup Blocks', 'Footnotes', 'Citations', 'Hyperlink
 -- Targets', 'Directives', 'Substitution Definitions', 'Reference Names').
-use Rattle.std.specs.Prelude.{ℕ, ◌+◌, ◌-◌, Bool, true, false, not, ◌&&◌, ◌||◌, ◌==◌, List, [], ◌∷◌, drop, if◌then◌else◌, Option, None, Some}
+use Rattle.std.specs.Prelude.{ℕ, ◌+◌, ◌-◌, Bool, false, not, ◌&&◌, ◌||◌, ◌==◌, List, [], ◌∷◌, drop, if◌then◌else◌, Option, None, Some}
 use Rattle.rst_text.specs.Block.{is_blank}
 use Rattle.rst_text.specs.Characters.{is_white}
 use Rattle.rst_marks.specs.Front.{begins_with}
@@ -8,7 +8,6 @@ use Rattle.rst_marks.specs.Class.{run, begins_alphanumeric}
 use Rattle.rst_marks.specs.Closing.{closed}
 use Rattle.rst_marks.specs.Marker.{marker_of}
 use Rattle.rst_marks.specs.Roman.{if_some}
-use Rattle.rst_marks.specs.Enumerator.{or_else}
 use Rattle.rst_marks.specs.declared.class.Class.TheVariants.{Digit, Name, Unbracketed}
 use Rattle.rst_marks.specs.declared.closing.Closing.TheVariants.{Colon, QuotedColon, Bar, SpacedBar}
 use Rattle.rst_marks.specs.declared.marker.Marker.{Marker}

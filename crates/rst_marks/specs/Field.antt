@@ -1,5 +1,5 @@
 -- Fields (Markup Specification, 'Field Lists').
-use Rattle.std.specs.Prelude.{ℕ, ◌+◌, ◌-◌, Bool, not, ◌&&◌, ◌||◌, ◌==◌, List, drop, if◌then◌else◌, Option, None, Some}
+use Rattle.std.specs.Prelude.{ℕ, ◌+◌, ◌-◌, Bool, ◌||◌, ◌==◌, List, drop, if◌then◌else◌, Option, None, Some}
 use Rattle.rst_marks.specs.Front.{begins_with}
 use Rattle.rst_marks.specs.Closing.{closed}
 use Rattle.rst_marks.specs.Marker.{marker_of}

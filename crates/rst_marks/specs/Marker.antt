@@ -1,5 +1,5 @@
 -- Markers (Markup Specification, 'Bullet Lists', 'Doctest Blocks', 'Line Blocks').
-use Rattle.std.specs.Prelude.{ℕ, ◌+◌, Bool, true, false, ◌&&◌, ◌||◌, ◌==◌, List, [], ◌∷◌, drop, if◌then◌else◌, Option, None, Some}
+use Rattle.std.specs.Prelude.{ℕ, ◌+◌, Bool, true, ◌&&◌, ◌||◌, ◌==◌, List, drop, if◌then◌else◌, Option, None, Some}
 use Rattle.rst_text.specs.Block.{indentation, is_blank}
 use Rattle.rst_marks.specs.Front.{begins_with, first}
 use Rattle.rst_marks.specs.declared.marker.Marker.{Marker}

@@ -1,9 +1,8 @@
 -- Option markers (Markup Specification, 'Option Lists').
-use Rattle.std.specs.Prelude.{ℕ, zero, suc, ◌+◌, ◌-◌, Bool, true, false, not, ◌&&◌, ◌||◌, ◌==◌, nat_le, List, [], ◌∷◌, drop, if◌then◌else◌, Option, None, Some}
+use Rattle.std.specs.Prelude.{ℕ, zero, suc, ◌+◌, ◌-◌, Bool, false, not, ◌&&◌, ◌||◌, ◌==◌, nat_le, List, [], ◌∷◌, drop, if◌then◌else◌, Option, None, Some}
 use Rattle.rst_text.specs.Characters.{is_letter}
 use Rattle.rst_marks.specs.Front.{begins_with}
 use Rattle.rst_marks.specs.Class.{run}
-use Rattle.rst_marks.specs.Roman.{if_some}
 use Rattle.rst_marks.specs.declared.class.Class.TheVariants.{Option as OptionClass, Bracketed}
 use Rattle.rst_marks.specs.declared.option.Delimiter.{Delimiter}
 use Rattle.rst_marks.specs.declared.option.Delimiter.TheVariants.{Nothing, Space, Equals}

@@ -1,6 +1,6 @@
 -- Roman numerals in their canonical form: for thousands, hundreds, tens and ones a digit each, written as 0 to 3 ones,
 -- as one before five, as five with 0 to 3 ones, or as one before ten. The thousands are 0 to 4 of their letter.
-use Rattle.std.specs.Prelude.{ℕ, ◌+◌, ◌*◌, Bool, ◌&&◌, ◌==◌, not, nat_lt, List, drop, if◌then◌else◌, Option, None, Some}
+use Rattle.std.specs.Prelude.{ℕ, ◌+◌, ◌*◌, ◌&&◌, ◌==◌, nat_lt, List, drop, if◌then◌else◌, Option, None, Some}
 use Rattle.rst_marks.specs.Front.{begins_with}
 use Rattle.rst_marks.specs.Class.{run}
 use Rattle.rst_marks.specs.declared.class.Class.TheVariants.{Only}

@@ -1,8 +1,7 @@
 -- Where literal blocks and paragraphs end, and what is looked at for that.
-use Rattle.std.proofs.Common.{◌≡◌, ℕ, zero, suc, ◌+◌, ◌-◌, ◌*◌, ◌<◌, ◌≤◌, ◌==◌, ◌⊎◌, inl, inr, Bool, true, false, cond, Option, None, Some, List, [], ◌∷◌, length, take, drop, length-drop, refl, sym, ap, ◌∙◌, arith, leb}
+use Rattle.std.proofs.Common.{◌≡◌, ℕ, suc, ◌+◌, ◌-◌, ◌*◌, ◌<◌, ◌≤◌, ◌==◌, ◌⊎◌, inl, inr, Bool, true, false, cond, None, Some, List, [], ◌∷◌, length, drop, refl, sym, ap, ◌∙◌, arith, leb}
 use Rattle.std.proofs.lemmas.Bool.{lt-ltb}
-use Rattle.std.proofs.lemmas.List.{drop-drop, drop_all}
-use Rattle.rst_text.specs.Block.{Line, Block, is_blank, front_text, indentation}
+use Rattle.rst_text.specs.Block.{Block, is_blank, front_text, indentation}
 use Rattle.rst_text.specs.Extent.{extent}
 use Rattle.rst_text.specs.Reach.{reach, through_text, looked}
 use Rattle.rst_text.proofs.Reaches.{looked_is}
@@ -10,7 +9,7 @@ use Rattle.rst_marks.specs.Front.{first}
 use Rattle.rst_marks.specs.Adornment.{is_punctuation}
 use Rattle.rst_markup.specs.declared.lines.LineTest.TheVariants.{Blank, Begins, Plain}
 use Rattle.rst_markup.specs.Lines.{passes, lines_while}
-use Rattle.rst_markup.specs.Sizes.{literal_size, quoted_size, quoted_by, paragraph_size, paragraph_len, literal_if, last_text, run_size, text_size, hanging_size, filled, bullet_size, enumerator_size, item_size}
+use Rattle.rst_markup.specs.Sizes.{literal_size, quoted_size, paragraph_size, paragraph_len, literal_if, run_size, text_size, hanging_size, filled, bullet_size, enumerator_size, item_size}
 use Rattle.rst_marks.specs.Marker.{bullet}
 use Rattle.rst_marks.specs.Enumerator.{enumerator_of}
 use Rattle.rst_marks.specs.declared.marker.Marker.{Marker}
@@ -22,7 +21,7 @@ use Rattle.rst_markup.specs.declared.form.TextForm.TheVariants.{Paragraph, Short
 use Rattle.rst_marks.specs.Closing.{ends_in_colons}
 use Rattle.rst_marks.specs.Adornment.{adornment_of}
 use Rattle.rst_marks.specs.Front.{begins_with}
-use Rattle.rst_markup.proofs.LineLemmas.{blanks_through, filled_through, begins_while, reach_behind, drop_far}
+use Rattle.rst_markup.proofs.LineLemmas.{blanks_through, filled_through, begins_while, reach_behind}
 
 pub looked_le : (least : ℕ) (X : Block) → looked least X ≤ length X
 unfolding looked

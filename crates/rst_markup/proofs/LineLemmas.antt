@@ -1,7 +1,7 @@
 -- Lines that are looked at one after the other.
-use Rattle.std.proofs.Common.{◌≡◌, ℕ, zero, suc, ◌+◌, ◌-◌, ◌<◌, ◌≤◌, Bool, true, false, cond, Option, None, Some, eq-eqb, List, [], ◌∷◌, length, take, drop, length-drop, refl, sym, ap, ◌∙◌, arith}
+use Rattle.std.proofs.Common.{◌≡◌, ℕ, suc, ◌+◌, ◌<◌, ◌≤◌, Bool, true, false, cond, Some, eq-eqb, List, [], ◌∷◌, length, drop, length-drop, refl, sym, ap, ◌∙◌, arith}
 use Rattle.std.proofs.lemmas.List.{drop-drop, drop_all}
-use Rattle.rst_text.specs.Block.{Line, Block, is_blank, front_text}
+use Rattle.rst_text.specs.Block.{Block, is_blank, front_text}
 use Rattle.rst_text.specs.Extent.{extent}
 use Rattle.rst_text.specs.Reach.{reach, through_text, looked}
 use Rattle.rst_text.proofs.Reaches.{looked_is, through_blank, through_some}

@@ -1,6 +1,6 @@
 -- Hanging blocks as parts of views.
-use Rattle.std.proofs.Common.{◌≡◌, ℕ, zero, suc, ◌+◌, ◌*◌, ◌≤◌, Bool, true, false, cond, [], ◌∷◌, min, length, drop, refl, sym, ap, ◌∙◌, arith, leb}
-use Rattle.rst_text.specs.Block.{Line, Block, is_blank, indentation}
+use Rattle.std.proofs.Common.{◌≡◌, ℕ, suc, ◌+◌, ◌≤◌, Bool, true, false, cond, [], ◌∷◌, min, length, drop, refl, arith, leb}
+use Rattle.rst_text.specs.Block.{Block, is_blank, indentation}
 use Rattle.rst_text.specs.Extent.{extent}
 use Rattle.rst_text.specs.Reach.{reach, through_text, looked}
 use Rattle.rst_markup.specs.declared.lines.LineTest.TheVariants.{Blank}

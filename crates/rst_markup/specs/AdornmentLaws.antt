@@ -1,16 +1,15 @@
 -- The laws of the row of lines of one punctuation character.
-use Rattle.std.specs.Prelude.{◌≡◌, ℕ, zero, suc, ◌≤◌, ◌<◌, Bool, true, false, cond, is_some, IsTrue, List, [], ◌∷◌, length, take, drop, refl, Option, None, Some, nat_le, nat_lt, ◌==◌, ◌&&◌, ◌||◌, min}
-use Rattle.std.proofs.Common.{ap, sym, ◌∙◌, arith, leb, ltb}
+use Rattle.std.specs.Prelude.{◌≡◌, ℕ, ◌≤◌, ◌<◌, Bool, true, false, cond, is_some, IsTrue, List, [], ◌∷◌, length, take, refl, Option, None, Some, ◌==◌, ◌&&◌, ◌||◌}
+use Rattle.std.proofs.Common.{ap, arith, leb, ltb}
 use Rattle.std.proofs.lemmas.Bool.{ltb-true, lt-ltb}
-use Rattle.rst_text.specs.Block.{Line, Block, front_text, is_blank}
+use Rattle.rst_text.specs.Block.{Block, front_text, is_blank}
 use Rattle.rst_text.specs.Characters.{columns}
 use Rattle.rst_marks.specs.Adornment.{adornment_of}
 use Rattle.rst_marks.specs.declared.adornment.Adornment.{Adornment}
-use Rattle.rst_markup.specs.declared.form.Adorned.{Adorned}
-use Rattle.rst_markup.specs.declared.form.Adorned.TheVariants.{Text, ShortOverline, ShortAdornment, Transition, Title, InvalidMarker, Incomplete, MissingUnderline, Mismatch, Unexpected}
+use Rattle.rst_markup.specs.declared.form.Adorned.TheVariants.{Text, ShortOverline, ShortAdornment, Transition, Title, InvalidMarker, MissingUnderline, Mismatch, Unexpected}
 use Rattle.rst_markup.specs.Kinds.{next_text, after_text}
 use Rattle.rst_markup.specs.Forms.{adorned_form, adorned_below, adorned_alone, adorned_over, overlined, overlined_by, over_title, is_same_adornment, is_whole_title}
-use Rattle.rst_markup.specs.Sizes.{adornment_size, adornment_size_by, adorned_size, fixed_size, size_or, third_text, text_size}
+use Rattle.rst_markup.specs.Sizes.{adornment_size, adornment_size_by, fixed_size, size_or, third_text, text_size}
 use Rattle.rst_markup.specs.Rows.{is_adornment_row, adornment_row_size}
 use Rattle.rst_markup.specs.RowLaws.{same_front, text_within}
 

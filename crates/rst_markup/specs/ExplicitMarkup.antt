@@ -1,13 +1,13 @@
 -- Explicit markup blocks (Markup Specification, 'Explicit Markup Blocks').
-use Rattle.std.specs.Prelude.{ℕ, suc, ◌+◌, min, Bool, true, false, List, drop, take, if◌then◌else◌, Option, None, Some}
-use Rattle.rst_text.specs.Block.{Block, front_text}
+use Rattle.std.specs.Prelude.{ℕ, suc, ◌+◌, min, Bool, true, List, drop, take, if◌then◌else◌, Option, None, Some}
+use Rattle.rst_text.specs.Block.{Block}
 use Rattle.rst_text.specs.Extent.{extent, least_indent, or_zero}
 use Rattle.rst_marks.specs.Front.{begins_with}
 use Rattle.rst_marks.specs.ExplicitMarks.{label_of, target_of, substitution_of, directive_of}
 use Rattle.rst_marks.specs.declared.explicit_marks.LabelMark.{LabelMark}
 use Rattle.rst_marks.specs.declared.explicit_marks.TargetMark.{TargetMark}
 use Rattle.rst_marks.specs.declared.explicit_marks.SubstitutionMark.{SubstitutionMark}
-use Rattle.rst_marks.specs.declared.explicit_marks.SubstitutionMark.TheVariants.{Named, Unclosed, Tight}
+use Rattle.rst_marks.specs.declared.explicit_marks.SubstitutionMark.TheVariants.{Named, Unclosed}
 use Rattle.rst_marks.specs.declared.explicit_marks.DirectiveMark.{DirectiveMark}
 use Rattle.rst_markup.specs.declared.forms.CommentCause.{CommentCause}
 use Rattle.rst_markup.specs.declared.forms.CommentCause.TheVariants.{Plain, MalformedTarget, MalformedSubstitution}

@@ -1,6 +1,6 @@
 -- Kinds of lines: the first row of the table of constructs whose condition holds (Markup Specification, 'Body
 -- Elements'). A row looks at a line and the two lines after it, of which one that is missing counts as empty.
-use Rattle.std.specs.Prelude.{ℕ, Bool, true, not, ◌&&◌, ◌||◌, List, drop, if◌then◌else◌, Option, None, Some, is_some}
+use Rattle.std.specs.Prelude.{ℕ, not, ◌&&◌, ◌||◌, List, drop, if◌then◌else◌, Option, None, Some, is_some}
 use Rattle.rst_text.specs.Block.{Block, front_text, is_blank}
 use Rattle.rst_marks.specs.Front.{begins_with, is_loose}
 use Rattle.rst_marks.specs.Marker.{bullet, doctest, line_bar}

@@ -8,7 +8,7 @@ use Rattle.rst_marks.specs.Adornment.{adornment_of, is_punctuation}
 use Rattle.rst_markup.specs.Forms.{text_form}
 use Rattle.rst_markup.specs.declared.form.TextForm.{TextForm}
 use Rattle.rst_markup.specs.declared.form.TextForm.TheVariants.{Paragraph, ShortUnderline, Definition, Title}
-use Rattle.rst_text.specs.Block.{Line, Block, front_text, is_blank, indentation}
+use Rattle.rst_text.specs.Block.{Block, front_text, is_blank, indentation}
 use Rattle.rst_text.specs.Extent.{extent, past_blank}
 use Rattle.rst_marks.specs.Front.{begins_with}
 use Rattle.rst_marks.specs.Marker.{bullet, doctest, line_bar}

@@ -5,9 +5,8 @@ use Rattle.rst_text.specs.Extent.{extent}
 use Rattle.rst_marks.specs.Front.{begins_with}
 use Rattle.rst_marks.specs.Marker.{bullet, doctest, line_bar}
 use Rattle.rst_marks.specs.Field.{field_of}
-use Rattle.rst_marks.specs.ExplicitMarks.{dots, underscores}
+use Rattle.rst_marks.specs.ExplicitMarks.{underscores}
 use Rattle.rst_marks.specs.Adornment.{adornment_of}
-use Rattle.rst_marks.specs.Border.{is_grid_border, is_simple_border}
 use Rattle.rst_markup.specs.Kinds.{next_text, after_text, item_enumerator, item_option}
 use Rattle.rst_markup.specs.Sizes.{bullet_size, enumerator_size, hanging_size, indented_size, doctest_size, text_size, adornment_size}
 

@@ -1,5 +1,5 @@
 -- How many lines the construct at the front of a block has (Markup Specification, 'Body Elements').
-use Rattle.std.specs.Prelude.{ℕ, suc, ◌+◌, ◌-◌, Bool, true, false, nat_lt, min, List, [], ◌∷◌, drop, length, if◌then◌else◌, Option, None, Some}
+use Rattle.std.specs.Prelude.{ℕ, suc, ◌+◌, ◌-◌, Bool, true, false, nat_lt, min, List, drop, length, if◌then◌else◌, Option, None, Some}
 use Rattle.rst_text.specs.Block.{Block, front_text}
 use Rattle.rst_text.specs.Extent.{extent}
 use Rattle.rst_marks.specs.Front.{first}

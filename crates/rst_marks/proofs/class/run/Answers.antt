@@ -1,6 +1,5 @@
-use Rattle.std.proofs.Common.{◌≡◌, ◌+◌, ◌<◌, ◌≤◌, ℕ, List, drop, length, true, false, Some, sym, ap, ◌∙◌, subst, arith, rules, IsSome}
+use Rattle.std.proofs.Common.{◌≡◌, ◌+◌, ◌<◌, drop, length, true, false, arith, rules}
 use Rattle.std.specs.Str.{chars}
-use Rattle.rst_marks.specs.Front.{first}
 use Rattle.rst_marks.specs.Class.{is_in, run}
 use Rattle.rst_marks.proofs.Runs.{run_more, run_stop, run_end}
 use Rattle.rst_marks.proofs.class.run.Goals as goal

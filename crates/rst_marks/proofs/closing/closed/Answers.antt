@@ -1,4 +1,4 @@
-use Rattle.std.proofs.Common.{◌≡◌, ◌<◌, length, arith, rules}
+use Rattle.std.proofs.Common.{◌<◌, length, arith, rules}
 use Rattle.std.specs.Str.{chars}
 use Rattle.rst_marks.proofs.Steps.{closed_more, closed_stop, closed_end, closed_start}
 use Rattle.rst_marks.proofs.closing.closed.Goals as goal

@@ -1,4 +1,4 @@
-use Rattle.std.proofs.Common.{◌≡◌, rules}
+use Rattle.std.proofs.Common.{rules}
 use Rattle.std.specs.Str.{chars}
 use Rattle.rst_marks.proofs.Steps.{colons_more, colons_stop, colons_end}
 use Rattle.rst_marks.proofs.closing.ends_in_colons.Goals as goal

@@ -1,6 +1,4 @@
-use Rattle.std.proofs.Common.{◌≡◌, ◌+◌, ◌-◌, ◌*◌, arith, rules, sym, ◌∙◌}
-use Rattle.std.specs.Str.{chars}
-use Rattle.rst_marks.specs.Decimal.{decimal, decimal_from}
+use Rattle.std.proofs.Common.{arith, rules}
 use Rattle.rst_marks.proofs.Steps.{decimal_more, decimal_none, decimal_over, below_more}
 use Rattle.rst_marks.proofs.decimal.decimal.Goals as goal
 

@@ -1,4 +1,4 @@
-use Rattle.std.proofs.Common.{◌≡◌, ◌+◌, ◌≤◌, length, drop, arith, true, ap}
+use Rattle.std.proofs.Common.{◌≡◌, drop, arith, true}
 use Rattle.std.specs.Str.{chars}
 use Rattle.rst_text.specs.Block.{indentation}
 use Rattle.rst_marks.specs.Front.{begins_with}

@@ -1,6 +1,6 @@
-use Rattle.std.proofs.Common.{◌≡◌, ◌+◌, ◌<◌, ◌≤◌, length, drop, length-drop, arith, sym, ap, ◌∙◌, rules}
+use Rattle.std.proofs.Common.{◌≡◌, ◌+◌, ◌<◌, length, length-drop, arith, sym, ap, ◌∙◌, rules}
 use Rattle.std.specs.Str.{chars}
-use Rattle.rst_marks.specs.OptionMarker.{option_tail, options_from, option_marker}
+use Rattle.rst_marks.specs.OptionMarker.{option_tail, options_from}
 use Rattle.rst_marks.specs.declared.option.OptionTail.TheVariants.{Last, Next, Wrong}
 use Rattle.rst_marks.proofs.OptionLemmas.{last_within, next_within, options_last, options_next, options_wrong}
 use Rattle.rst_marks.proofs.TextLemmas.{length-chars}

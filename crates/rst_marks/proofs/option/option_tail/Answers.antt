@@ -1,6 +1,6 @@
-use Rattle.std.proofs.Common.{◌≡◌, ◌+◌, ◌<◌, ◌≤◌, Some, length, arith, sym, ◌∙◌}
+use Rattle.std.proofs.Common.{◌≡◌, Some, length, arith, sym, ◌∙◌}
 use Rattle.std.specs.Str.{chars}
-use Rattle.rst_marks.specs.OptionMarker.{option_at, argument_width}
+use Rattle.rst_marks.specs.OptionMarker.{option_at}
 use Rattle.rst_marks.proofs.OptionLemmas.{width_within, argument_len_below}
 use Rattle.rst_marks.proofs.TextLemmas.{length-chars}
 use Rattle.rst_marks.proofs.option.option_tail.Goals as goal

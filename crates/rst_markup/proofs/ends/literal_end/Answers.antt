@@ -1,14 +1,13 @@
-use Rattle.std.proofs.Common.{◌≡◌, ℕ, ◌+◌, ◌*◌, ◌<◌, ◌≤◌, Some, None, true, false, length, drop, length-drop, ap, sym, ◌∙◌, arith, rules}
-use Rattle.std.specs.Str.{chars}
+use Rattle.std.proofs.Common.{◌≡◌, ℕ, ◌+◌, Some, None, true, false, drop, length-drop, ap, sym, ◌∙◌, arith}
 use Rattle.rst_text.specs.Block.{Block, front_text}
 use Rattle.rst_text.specs.Extent.{extent}
-use Rattle.rst_text.specs.Reach.{reach, through_text, looked}
+use Rattle.rst_text.specs.Reach.{reach, through_text}
 use Rattle.rst_text.specs.Shown.{block_of}
 use Rattle.rst_marks.specs.Front.{first}
 use Rattle.rst_marks.specs.Adornment.{is_punctuation}
 use Rattle.rst_markup.specs.declared.lines.LineTest.TheVariants.{Blank, Begins}
 use Rattle.rst_markup.specs.Lines.{lines_while}
-use Rattle.rst_markup.specs.Sizes.{literal_size, quoted_size}
+use Rattle.rst_markup.specs.Sizes.{literal_size}
 use Rattle.rst_markup.proofs.LineLemmas.{drop_far}
 use Rattle.rst_markup.proofs.EndLemmas.{looked_le, literal_indented, literal_other, quoted_there, quoted_other, quoted_none, looked_indented, looked_none, reach_none, blank_reach, through_behind, looked_quoted}
 use Rattle.rst_markup.proofs.ends.literal_end.Goals as goal

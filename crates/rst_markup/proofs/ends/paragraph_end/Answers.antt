@@ -1,11 +1,10 @@
-use Rattle.std.proofs.Common.{◌≡◌, ℕ, ◌+◌, ◌-◌, ◌*◌, ◌<◌, ◌≤◌, true, false, List, length, drop, ap, sym, ◌∙◌, arith, refl}
-use Rattle.std.specs.Str.{chars}
+use Rattle.std.proofs.Common.{◌≡◌, ℕ, ◌+◌, ◌-◌, ◌≤◌, true, false, List, drop, ap, sym, ◌∙◌, arith, refl}
 use Rattle.rst_text.specs.Block.{Block, front_text}
 use Rattle.rst_text.specs.Reach.{reach}
 use Rattle.rst_text.specs.Shown.{block_of}
 use Rattle.rst_marks.specs.Closing.{ends_in_colons}
 use Rattle.rst_markup.specs.declared.lines.LineTest.TheVariants.{Plain}
-use Rattle.rst_markup.specs.Sizes.{paragraph_size, literal_size, run_size}
+use Rattle.rst_markup.specs.Sizes.{literal_size, run_size}
 use Rattle.rst_markup.proofs.LineLemmas.{drop_far}
 use Rattle.rst_markup.proofs.EndLemmas.{paragraph_more, paragraph_only, paragraph_len_is, run_size_some, reach_more, reach_only}
 use Rattle.rst_markup.proofs.ends.paragraph_end.Goals as goal

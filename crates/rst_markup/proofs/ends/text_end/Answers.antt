@@ -1,14 +1,12 @@
-use Rattle.std.proofs.Common.{◌≡◌, ℕ, ◌+◌, ◌*◌, ◌<◌, ◌≤◌, ◌⊎◌, inl, inr, Bool, List, length, drop, length-drop, ap, ap₂, sym, ◌∙◌, arith}
-use Rattle.std.specs.Str.{chars}
+use Rattle.std.proofs.Common.{◌≡◌, ℕ, ◌⊎◌, inl, inr, List, drop, length-drop, ap, ap₂, sym, ◌∙◌, arith}
 use Rattle.rst_text.specs.Block.{Block, front_text}
 use Rattle.rst_text.specs.Reach.{reach}
 use Rattle.rst_text.specs.Shown.{block_of}
 use Rattle.rst_markup.specs.Kinds.{next_text}
 use Rattle.rst_markup.specs.Forms.{text_form}
 use Rattle.rst_markup.specs.declared.form.TextForm.{TextForm}
-use Rattle.rst_markup.specs.declared.form.TextForm.TheVariants.{Paragraph, ShortUnderline, Definition, Title}
-use Rattle.rst_markup.specs.Sizes.{text_size, paragraph_size, hanging_size, run_size}
-use Rattle.rst_markup.proofs.EndLemmas.{size_paragraph, size_short, size_definition, size_title, title_there, next_plain, paragraph_len_is, hanging_some, size_text, text_isnt_definition}
+use Rattle.rst_markup.specs.declared.form.TextForm.TheVariants.{Paragraph, ShortUnderline}
+use Rattle.rst_markup.proofs.EndLemmas.{size_definition, size_title, title_there, next_plain, paragraph_len_is, hanging_some, size_text, text_isnt_definition}
 use Rattle.rst_markup.proofs.ends.text_end.Goals as goal
 
 -- the form of the lines that were handed over

@@ -1,14 +1,14 @@
-use Rattle.std.proofs.Common.{◌≡◌, ℕ, ◌+◌, ◌*◌, ◌≤◌, true, false, drop, length-drop, ap, sym, ◌∙◌, arith}
+use Rattle.std.proofs.Common.{◌≡◌, ◌+◌, drop, length-drop, ap, ◌∙◌, arith}
 use Rattle.rst_text.specs.Block.{Block}
 use Rattle.rst_text.specs.Extent.{extent}
-use Rattle.rst_text.specs.Reach.{reach, looked}
+use Rattle.rst_text.specs.Reach.{looked}
 use Rattle.rst_text.specs.Shown.{block_of}
 use Rattle.rst_markup.specs.declared.lines.LineTest.TheVariants.{Blank}
 use Rattle.rst_markup.specs.Lines.{lines_while}
 use Rattle.rst_markup.specs.ExplicitMarkup.{hanging_lines, least_of}
 use Rattle.rst_markup.proofs.LineLemmas.{drop_one}
 use Rattle.rst_markup.proofs.EndLemmas.{looked_le}
-use Rattle.rst_markup.proofs.PartLemmas.{part_text, part_bare, looked_hanging, hanging_is, through_looked, blank_below}
+use Rattle.rst_markup.proofs.PartLemmas.{part_text, part_bare, looked_hanging, hanging_is, blank_below}
 use Rattle.rst_markup.proofs.explicit_markup.hanging_part.Goals as goal
 
 pub lines_end-start-requires-clause-few : goal.lines_end-start-requires-clause-few

@@ -1,7 +1,7 @@
-use Rattle.std.proofs.Common.{◌≡◌, ◌+◌, ◌<◌, suc, length, drop, length-drop, ap, sym, ◌∙◌, arith}
+use Rattle.std.proofs.Common.{drop, length-drop, ap, arith}
 use Rattle.rst_text.specs.Block.{Block}
 use Rattle.rst_text.specs.Extent.{extent}
-use Rattle.rst_text.specs.Reach.{looked, reach}
+use Rattle.rst_text.specs.Reach.{looked}
 use Rattle.rst_text.specs.Shown.{block_of}
 use Rattle.rst_markup.proofs.LineLemmas.{drop_one, looked_below}
 use Rattle.rst_markup.proofs.lines.below_end.Goals as goal

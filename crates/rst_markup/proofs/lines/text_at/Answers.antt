@@ -1,6 +1,5 @@
-use Rattle.std.proofs.Common.{◌≡◌, ap, sym, ◌∙◌, arith, length, drop, length-drop}
+use Rattle.std.proofs.Common.{ap, sym, ◌∙◌, arith, drop, length-drop}
 use Rattle.rst_markup.proofs.LineLemmas.{some_through}
-use Rattle.std.specs.Str.{chars}
 use Rattle.std.proofs.lemmas.Str.{chars-nil}
 use Rattle.std.proofs.lemmas.List.{drop_all}
 use Rattle.rst_text.specs.Block.{Block, front_text}

@@ -1,4 +1,4 @@
-use Rattle.std.proofs.Common.{◌≡◌, ℕ, ◌+◌, ◌*◌, ◌≤◌, Some, None, length, drop, length-drop, ap, sym, ◌∙◌, arith, subst}
+use Rattle.std.proofs.Common.{◌≡◌, ℕ, ◌≤◌, Some, None, length, drop, length-drop, ap, sym, ◌∙◌, arith, subst}
 use Rattle.std.specs.Prelude.{Option}
 use Rattle.rst_text.specs.Block.{Block, front_text}
 use Rattle.rst_text.specs.Reach.{reach}
@@ -7,7 +7,7 @@ use Rattle.rst_marks.specs.Adornment.{adornment_of}
 use Rattle.rst_markup.specs.Kinds.{next_text}
 use Rattle.rst_markup.specs.Forms.{adorned_form}
 use Rattle.rst_markup.specs.Sizes.{fixed_size, size_or, third_text, adornment_size, text_size}
-use Rattle.rst_markup.specs.AdornmentLaws.{SizeWithin, form_sizes, adornment_is, adornment_none}
+use Rattle.rst_markup.specs.AdornmentLaws.{SizeWithin, form_sizes, adornment_is}
 use Rattle.rst_markup.proofs.adornment_line.AdornmentLineConstruct.end.Goals as goal
 
 pub overflow_add-result : goal.overflow_add-result

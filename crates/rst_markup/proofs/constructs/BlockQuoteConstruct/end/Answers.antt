@@ -1,5 +1,4 @@
-use Rattle.std.proofs.Common.{◌≡◌, ◌+◌, ◌*◌, drop, arith}
-use Rattle.rst_text.specs.Block.{Block}
+use Rattle.std.proofs.Common.{drop, arith}
 use Rattle.rst_text.specs.Shown.{block_of}
 use Rattle.rst_text.proofs.Reaches.{looked_is}
 use Rattle.rst_markup.proofs.constructs.BlockQuoteConstruct.end.Goals as goal
