@@ -65,7 +65,7 @@ has_option _ Class = true
 has_option _ NameOption = true
 has_option _ _ = false
 
--- all but a figure may be aligned vertically
+-- a figure alone may not be aligned vertically
 abbrev pub has_vertical : Name → Bool
 has_vertical Figure = false
 has_vertical _ = true

@@ -31,11 +31,13 @@ may_follow_by DashPunctuation = true
 may_follow_by OtherPunctuation = true
 may_follow_by _ = false
 
--- The character may stand before a start: one of -:/'"<([{, white, or past ASCII punctuation that does not close.
+-- The character may stand before a start: one of -:/'"<([{, white, or past ASCII punctuation of the categories Ps, Pi, Pf,
+-- Pd and Po.
 unfoldable pub may_precede : ℕ → Bool
 may_precede c = is_among (45 ∷ 58 ∷ 47 ∷ 39 ∷ 34 ∷ 60 ∷ 40 ∷ 91 ∷ 123 ∷ []) c || (is_white c || (not (nat_lt c 128) && may_precede_by (general_category c)))
 
--- The character may stand behind an end: one of '")]}>-/\:.,;!?, white, or past ASCII punctuation that does not open.
+-- The character may stand behind an end: one of '")]}>-/\:.,;!?, white, or past ASCII punctuation of the categories Pe, Pi,
+-- Pf, Pd and Po.
 unfoldable pub may_follow : ℕ → Bool
 may_follow c = is_among (39 ∷ 34 ∷ 41 ∷ 93 ∷ 125 ∷ 62 ∷ 45 ∷ 47 ∷ 92 ∷ 58 ∷ 46 ∷ 44 ∷ 59 ∷ 33 ∷ 63 ∷ []) c || (is_white c || (not (nat_lt c 128) && may_follow_by (general_category c)))
 

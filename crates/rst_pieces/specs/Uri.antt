@@ -1,4 +1,4 @@
--- Standalone hyperlinks (Markup Specification, 'Standalone Hyperlinks'; RFC 2396 for the characters of a URI).
+-- Standalone hyperlinks (Markup Specification, 'Standalone Hyperlinks').
 use Rattle.std.specs.Prelude.{◌≡◌, ℕ, ◌+◌, ◌-◌, Bool, true, false, not, ◌&&◌, ◌||◌, ◌==◌, nat_lt, List, [], ◌∷◌, Option, None, Some, slice_index, length, unwrap_or, codes, if◌then◌else◌}
 use Rattle.std.specs.List.{list_all}
 use Rattle.std.specs.Char.{to_ascii_lowercase, is_ascii_alphanumeric}
