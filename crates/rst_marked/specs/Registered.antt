@@ -1,4 +1,5 @@
--- The elements that registration needs: those that get an id, and the substitution definitions.
+-- The elements that registration needs: those that get an id, and the substitution definitions (Document Tree, attributes
+-- `ids` and `names`).
 use Rattle.std.specs.Prelude.{◌||◌, Bool, true, false, List}
 use Rattle.std.specs.List.{list_any}
 use Rattle.rst_tree.specs.declared.attrs.Attr.{Attr}

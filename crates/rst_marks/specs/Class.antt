@@ -1,4 +1,5 @@
--- Classes of characters, and runs of them.
+-- Classes of characters, and runs of them (Markup Specification, 'Enumerated Lists', 'Option Lists', 'Footnotes',
+-- 'Reference Names').
 use Rattle.std.specs.Prelude.{ℕ, suc, Bool, false, not, ◌&&◌, ◌||◌, ◌==◌, nat_le, List, [], ◌∷◌, if◌then◌else◌}
 use Rattle.rst_text.specs.Characters.{is_alphanumeric}
 use Rattle.rst_marks.specs.declared.class.Class.{Class}

@@ -1,4 +1,4 @@
--- Decimal numbers.
+-- Decimal numbers (Markup Specification, 'Enumerated Lists').
 use Rattle.std.specs.Prelude.{ℕ, zero, suc, ◌+◌, ◌-◌, ◌*◌, ◌&&◌, nat_le, List, [], ◌∷◌, if◌then◌else◌}
 
 -- the value of an ASCII digit; of another character it is 0

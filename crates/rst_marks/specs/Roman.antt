@@ -1,5 +1,6 @@
--- Roman numerals in their canonical form: for thousands, hundreds, tens and ones a digit each, written as 0 to 3 ones,
--- as one before five, as five with 0 to 3 ones, or as one before ten. The thousands are 0 to 4 of their letter.
+-- Roman numerals in their canonical form (Markup Specification, 'Enumerated Lists'): for thousands, hundreds, tens and
+-- ones a digit each, written as 0 to 3 ones, as one before five, as five with 0 to 3 ones, or as one before ten. The
+-- thousands are 0 to 4 of their letter.
 use Rattle.std.specs.Prelude.{ℕ, ◌+◌, ◌*◌, ◌&&◌, ◌==◌, nat_lt, List, drop, if◌then◌else◌, Option, None, Some}
 use Rattle.rst_marks.specs.Front.{begins_with}
 use Rattle.rst_marks.specs.Class.{run}
@@ -40,7 +41,7 @@ abbrev pub if_some : {A B : Type 0} → Option A → (A → Option B) → Option
 if_some None f = None
 if_some (Some a) f = f a
 
--- the value of the first n characters of a text
+-- the value of the numeral at the front of a text, if it has just n characters
 unfoldable pub roman : Case → ℕ → List ℕ → Option ℕ
 roman case n t =
     let m = run (Only (hundreds case).ten) t in

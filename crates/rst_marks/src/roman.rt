@@ -100,7 +100,8 @@ fn digit_at(place: RomanPlace, text: &str) -> Option<RomanDigit>
     })
 }
 
-/// The value of the first `len` characters of a text as a Roman numeral in its canonical form, at most 4999.
+/// The value of the Roman numeral at the front of a text, in its canonical form and at most 4999, if it has just `len`
+/// characters.
 #[tactic(auto, unfolding(crate::specs::Roman::roman))]
 pub fn roman(case: Case, len: usize, text: &str) -> Option<u64>
     ensures { result ≡ spec.roman case len (chars text.now) }

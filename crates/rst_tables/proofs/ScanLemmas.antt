@@ -6,7 +6,7 @@ use Rattle.rst_tables.specs.Places.{Row, Grid, no_row, row_at, mark_at}
 use Rattle.rst_tables.specs.Counts.{first_from}
 use Rattle.rst_tables.specs.GridTable.{is_border, is_edge, has_ends, is_grid_row, scanned, through_last, one_more, two_more, height, grid_looked}
 use Rattle.rst_tables.specs.SimpleTable.{is_simple_border, is_empty, next_border, scan_end, looked_to, simple_looked, end_at_first, end_at_second, simple_end}
-use Rattle.rst_tables.specs.Laws.{place_behind}
+use Rattle.rst_tables.specs.Laws.{place_behind, grid_end, end_with}
 use Rattle.rst_tables.specs.declared.places.Place.{Place}
 use Rattle.rst_tables.proofs.SimpleLemmas.{end-mismatch, end-first, end-second, second-mismatch, second-ends, looked-scan, first_above}
 
@@ -54,17 +54,31 @@ two_more-le : (n k : ℕ) → two_more n ≤ k → 2 ≤ k → n ≤ k - 2
 two_more-le zero k h two = omega arith
 two_more-le (suc n) k h two = omega arith
 
+behind_all : (S : Grid) (k : ℕ) → length S ≤ k → is_border (row_at S k) ≡ false
+behind_all S k past = ap (λ (r : Row). is_border r.places) (get_or_past S k no_row past) ∙ past_none
+
 behind_height : (S : Grid) (k : ℕ) → 2 ≤ k → height S ≤ k → is_border (row_at S k) ≡ false
 behind_height S k two h = ⊎_elim
     (λ inside.
     let same : 2 + (k - 2) ≡ k = omega arith in
     let there : row_at (drop 2 S) (k - 2) ≡ row_at S k = ap (λ (r : Row). r.places) (get_or-drop 2 S (k - 2) no_row) ∙ ap (row_at S) same in
     ap is_border (sym there) ∙ past_last (drop 2 S) (k - 2) (two_more-le (through_last (drop 2 S)) k h two) (omega (arith, length-drop 2 S)))
-    (λ past. ap (λ (r : Row). is_border r.places) (get_or_past S k no_row past) ∙ past_none)
+    (λ past. behind_all S k past)
     (cases_lt k (length S))
 
-pub no_grid : (R : Grid) (k : ℕ) → 2 ≤ k → height (scanned R) ≤ k → k < grid_looked R → is_border (row_at R k) ≡ false
-no_grid R k two h inside = looked_row R k inside (behind_height (scanned R) k two h)
+-- a table with a border at its end has three rows or more
+three_rows : (n m : ℕ) → two_more n ≡ suc m → 2 ≤ m
+three_rows zero m e = cc
+three_rows (suc n) m e = omega (arith, e)
+
+pub no_grid : (R : Grid) (k : ℕ) → grid_end R ≤ k → k < grid_looked R → is_border (row_at R k) ≡ false
+no_grid R k behind inside = looked_row R k inside (at (height (scanned R)) refl behind)
+  where
+    at : (h : ℕ) → height (scanned R) ≡ h → end_with (length (scanned R)) h ≤ k → is_border (row_at (scanned R) k) ≡ false
+    at zero e past = behind_all (scanned R) k past
+    at (suc n) e past =
+        let two : 2 ≤ n = three_rows (through_last (drop 2 (scanned R))) n e in
+        behind_height (scanned R) k (omega (arith, two, past)) (omega (arith, e, past))
 
 -- ---- simple tables
 

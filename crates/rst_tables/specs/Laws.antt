@@ -1,5 +1,5 @@
--- Laws on the definitions alone.
-use Rattle.std.specs.Prelude.{◌≡◌, ℕ, ◌+◌, ◌<◌, ◌≤◌, false, length}
+-- Laws on the definitions alone (Markup Specification, 'Grid Tables', 'Simple Tables').
+use Rattle.std.specs.Prelude.{◌≡◌, ℕ, zero, suc, ◌+◌, ◌<◌, ◌≤◌, false, length}
 use Rattle.rst_tables.specs.Places.{Grid, row_at}
 use Rattle.rst_tables.specs.Drawn.{IsEven, OneTiling}
 use Rattle.rst_tables.specs.GridTable.{height, scanned, grid_looked, is_border}
@@ -11,9 +11,18 @@ use Rattle.rst_tables.specs.declared.simple_lines.SimpleEnd.TheVariants.{Ends, F
 abbrev pub HaveOneTiling : Type 0
 HaveOneTiling = (G : Grid) → IsEven G → OneTiling G
 
+-- the place behind a table of so many rows; one without a border at its end has all the rows that were scanned
+abbrev pub end_with : ℕ → ℕ → ℕ
+end_with all zero = all
+end_with all (suc n) = suc n
+
+-- the place behind the grid table at the front of some rows
+abbrev pub grid_end : Grid → ℕ
+grid_end R = end_with (length (scanned R)) (height (scanned R))
+
 -- Of the rows that a scan for a grid table went over behind the table none is a border, so no grid table begins there.
 abbrev pub NoGridBehind : Type 0
-NoGridBehind = (R : Grid) (k : ℕ) → 2 ≤ k → height (scanned R) ≤ k → k < grid_looked R → is_border (row_at R k) ≡ false
+NoGridBehind = (R : Grid) (k : ℕ) → grid_end R ≤ k → k < grid_looked R → is_border (row_at R k) ≡ false
 
 abbrev pub place_behind : SimpleEnd → ℕ
 place_behind (Ends end head) = end

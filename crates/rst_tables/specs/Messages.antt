@@ -1,4 +1,4 @@
--- The texts of what can be wrong with a table.
+-- The texts of what can be wrong with a table (Document Tree, 'system_message').
 use Rattle.std.specs.Prelude.{ℕ, List, ◌++◌, codes, decimal}
 use Rattle.rst_tables.specs.declared.results.TableDetail.{TableDetail}
 use Rattle.rst_tables.specs.declared.results.TableDetail.TheVariants.{BottomBorderMissing, RightEdgeBroken, TwoHeadRules, ParseIncomplete, BorderMismatch, BottomMissing, ColumnSpan, Margin}

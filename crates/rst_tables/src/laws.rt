@@ -6,7 +6,7 @@ pub fn one_tiling()
     ensures { HaveOneTiling }
 {}
 
-/// No grid table begins at a line that the scan for one went over behind it, from its third line on.
+/// No grid table begins at a line that the scan for one went over behind it.
 pub fn no_grid_behind()
     ensures { NoGridBehind }
 {}
