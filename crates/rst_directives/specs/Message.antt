@@ -1,4 +1,4 @@
--- The texts of the messages on directives, in bytes.
+-- The texts of the messages on directives, in bytes (Document Tree, 'system_message').
 use Rattle.std.specs.Prelude.{ℕ, List, ◌++◌, codes, string_bytes}
 use Rattle.rst_directives.specs.declared.fault.Detail.{Detail}
 use Rattle.rst_directives.specs.declared.fault.Detail.TheVariants.{InvalidOptionBlock, UnknownOption, DuplicateOption, InvalidValue, NoArgument, ManyArguments, ContentNotPermitted, NotOneParagraph}

@@ -1,4 +1,4 @@
--- The laws of the row of lines of one punctuation character.
+-- The laws of the row of lines of one punctuation character (Markup Specification, 'Sections', 'Transitions').
 use Rattle.std.specs.Prelude.{◌≡◌, ℕ, ◌≤◌, ◌<◌, Bool, true, false, cond, is_some, IsTrue, List, [], ◌∷◌, length, take, refl, Option, None, Some, ◌==◌, ◌&&◌, ◌||◌}
 use Rattle.std.proofs.Common.{ap, arith, leb, ltb}
 use Rattle.std.proofs.lemmas.Bool.{ltb-true, lt-ltb}

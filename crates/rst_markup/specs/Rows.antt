@@ -1,4 +1,5 @@
--- The rows of the table of constructs, each with its condition and its size, on a block whose first line it is about.
+-- The rows of the table of constructs (Markup Specification, 'Body Elements'), each with its condition and its size, on a
+-- block whose first line it is about.
 use Rattle.std.specs.Prelude.{ℕ, Bool, true, is_some}
 use Rattle.rst_text.specs.Block.{Block, front_text, is_blank}
 use Rattle.rst_text.specs.Extent.{extent}

@@ -59,7 +59,7 @@ pub fn explicit_form(text: &str) -> ExplicitForm
 }
 
 /// The hanging block of the line at place `i`: the line without `cut` characters, and the indented block below it.
-/// Where nothing is left of the line, its blank lines in front are left off.
+/// Where `bare` says that nothing is left of the line, the block begins below it, at the first line that isn't blank.
 pub fn hanging_part(view: &View<'_>, i: usize, cut: usize, bare: bool, looks: &mut Looks) -> Part
     requires inside { i < length (block_of view.now) }
     requires few { looks.old < 2 ^ 120 + 2 ^ 70 }
