@@ -31,4 +31,6 @@ pub use target::{Target, target_value};
 pub use value::OptionValue;
 
 #[cfg(test)]
+mod explicit_tests;
+#[cfg(test)]
 mod tests;
