@@ -95,6 +95,13 @@ fn line<'a>(view: &View<'a>, i: usize) -> &'a str {
     }
 }
 
+/// The characters of the first line at these places.
+pub(crate) fn text_of(alloc: Global, view: &View<'_>, place: Characters) -> Result<String, Fail> {
+    let mut out = String::new(alloc);
+    push_characters(&mut out, view, place)?;
+    Ok(out)
+}
+
 fn push_characters(out: &mut String, view: &View<'_>, place: Characters) -> Result<(), Fail> {
     for (i, c) in line(view, 0).chars().enumerate() {
         if place.from <= i && i < place.to {
@@ -104,7 +111,7 @@ fn push_characters(out: &mut String, view: &View<'_>, place: Characters) -> Resu
     Ok(())
 }
 
-fn push_part(out: &mut String, view: &View<'_>, part: Part) -> Result<(), Fail> {
+pub(crate) fn push_part(out: &mut String, view: &View<'_>, part: Part) -> Result<(), Fail> {
     for i in part.from..part.to {
         if part.from < i {
             out.push('\n')?;
