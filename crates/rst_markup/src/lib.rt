@@ -2,10 +2,13 @@
 #![tactic(auto)]
 
 mod adornment_line;
+mod attribution;
 mod construct;
 mod constructs;
 mod ends;
 mod explicit_markup;
+mod explicit_row;
+mod extents;
 mod form;
 mod forms;
 mod kind;
@@ -14,6 +17,7 @@ mod part;
 mod row;
 
 pub use adornment_line::{AdornmentLine, adorned_at};
+pub use attribution::{Attribution, attribution_at};
 pub use construct::{Construct, end_after};
 pub use constructs::{
     AnonymousTarget, BarLine, BlankLine, BlockQuote, BulletItem, DoctestBlock, EnumeratedItem,
@@ -21,6 +25,8 @@ pub use constructs::{
 };
 pub use ends::{hanging_end, indented_end, item_end, literal_end, paragraph_end, text_end};
 pub use explicit_markup::{ExplicitForm, explicit_form, hanging_part};
+pub use explicit_row::ExplicitMarkup;
+pub use extents::explicit;
 pub use form::{Adorned, TextForm, adorned_alone, adorned_below, adorned_over, text_form};
 pub use forms::{CommentCause, Explicit, Invocation};
 pub use kind::Kind;
@@ -29,5 +35,7 @@ pub use part::Part;
 pub use row::{item_enumerator, item_option, kind_by, kind_of};
 pub use rst_marks::Characters;
 
+#[cfg(test)]
+mod mark_tests;
 #[cfg(test)]
 mod tests;
