@@ -3,3 +3,4 @@ pub mod EndLemmas
 pub mod PartLemmas
 pub mod ExplicitLemmas
 pub mod AttributionLemmas
+pub mod RowLemmas

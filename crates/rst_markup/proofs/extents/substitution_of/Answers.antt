@@ -24,5 +24,5 @@ pub returns-in-Some-clause-explicit : goal.returns-in-Some-clause-explicit
 returns-in-Some-clause-explicit c =
     let X : Block = drop c.args.i (block_of c.args.view.now) in
     let e : directive_of false (drop c.args.n (front_text X)) ≡ Some c.in-Some.mark =
-        ap (λ u. directive_of false (drop c.args.n u)) (sym c.requires.text) ∙ ap (λ u. directive_of false u) (sym c.skip.ensures.chars) ∙ sym c.directive_of.ensures ∙ c.in-Some.is in
+    ap (λ u. directive_of false (drop c.args.n u)) (sym c.requires.text) ∙ ap (λ u. directive_of false u) (sym c.skip.ensures.chars) ∙ sym c.directive_of.ensures ∙ c.in-Some.is in
     substitution_some c.args.i c.args.n c.args.name c.in-Some.mark c.call_of-call.result X e c.call_of-call.ensures.call
