@@ -10,3 +10,4 @@ pub mod Parts
 pub mod Explicit
 pub mod Attributions
 pub mod ExplicitRow
+pub mod Ends

@@ -180,6 +180,30 @@ fn found(alloc: Global, text: &str, titles: bool) -> Result<(Kind, Option<usize>
     Ok((kind, end_at(kind, &view, titles)))
 }
 
+/// The end of what the first line of a text begins, by that line's kind alone.
+fn end_by_kind(alloc: Global, text: &str, titles: bool) -> Result<Option<usize>, TextFault> {
+    let lines = Lines::of(alloc, text, 8)?;
+    let view = View::whole(&lines);
+    if view.len() == 0 {
+        return Ok(None);
+    }
+    let mut looks = Looks::none();
+    let kind = kind_of(&view, 0, &mut looks);
+    let mut looks = Looks::none();
+    Ok(end_of(&view, 0, kind, titles, &mut looks))
+}
+
+#[test]
+fn ends_by_kind(rt: HostRuntime) -> Result<(), Fail> {
+    for (text, _, titles, end) in BLOCKS {
+        assert_eq!(rt; end_by_kind(rt.alloc(), text, titles)?, end, "{text}");
+    }
+    for (text, _, titles, end) in ITEMS {
+        assert_eq!(rt; end_by_kind(rt.alloc(), text, titles)?, end, "{text}");
+    }
+    Ok(())
+}
+
 #[test]
 fn items(rt: HostRuntime) -> Result<(), Fail> {
     for (text, kind, titles, end) in ITEMS {
