@@ -9,3 +9,4 @@ pub mod FieldLemmas
 pub mod Parts
 pub mod BlockReads
 pub mod ChoiceLemmas
+pub mod DirectiveParts

@@ -3,9 +3,14 @@ use Rattle.std.specs.Prelude.{ℕ, ◌+◌, Bool, ◌&&◌, ◌==◌, drop, slic
 use Rattle.rst_text.specs.Block.{Block, front_text}
 use Rattle.rst_directives.specs.Characters.{Text}
 use Rattle.rst_directives.specs.Name.{name_of}
+use Rattle.rst_directives.specs.declared.argument.Argument.{Argument}
+use Rattle.rst_directives.specs.declared.argument.Argument.TheVariants.{Title}
 use Rattle.rst_directives.specs.declared.found.Content.{Content}
+use Rattle.rst_directives.specs.declared.found.Directive.{Directive}
+use Rattle.rst_directives.specs.declared.found.Directive.TheVariants.{Found, Wrong}
 use Rattle.rst_directives.specs.declared.layout.Layout.{Layout}
 use Rattle.rst_directives.specs.declared.name.Name.{Name}
+use Rattle.rst_markup.specs.Parts.{IsBlock}
 use Rattle.rst_markup.specs.declared.forms.Invocation.{Invocation}
 use Rattle.rst_markup.specs.declared.part.Part.{Part}
 
@@ -29,3 +34,19 @@ content_of block layout all = record { first = part_of block 0 layout.first; sec
 
 abbrev pub is_empty : Content → Bool
 is_empty content = content.first.from == content.first.to && content.second.from == content.second.to
+
+-- ---- parts of a block
+
+-- the content of a directive
+abbrev pub IsContentIn : Block → Content → Type 0
+IsContentIn B content = IsBlock B content.first × IsBlock B content.second
+
+-- the argument of a directive
+abbrev pub IsArgumentIn : Block → Argument → Type 0
+IsArgumentIn B (Title part) = IsBlock B part
+IsArgumentIn B argument = Unit {0}
+
+-- the parts of a directive are those of a block
+abbrev pub IsDirectiveIn : Block → Directive → Type 0
+IsDirectiveIn B (Found name argument options content) = IsArgumentIn B argument × IsContentIn B content
+IsDirectiveIn B (Wrong fault source) = Unit {0}

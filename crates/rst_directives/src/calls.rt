@@ -59,6 +59,7 @@ pub fn directive(
     requires call { IsCall (block_of view.now) at invocation.now }
     requires few { looks.old < 2 ^ 120 }
     ensures outcome { Gives (λ found. directives.outcome_of found ≡ directives.directive_at true (block_of view.now) at invocation.now place paragraph) result }
+    ensures parts { Gives (λ found. spec.IsDirectiveIn (block_of view.now) found) result }
     ensures looks { looks.new ≤ looks.old + 1 + 2 * (invocation.now.block.to - invocation.now.block.from) }
 {
     let block = invocation.block;

@@ -68,7 +68,8 @@ fn option_in(before: usize, option: OptionMark) -> ListedOption
     }
 }
 
-/// The options that a line begins with, in their order, by the places of their characters in the line. One is listed if
+/// The options that a line begins with, in their order, by the places of their characters in the line (Markup
+/// Specification, 'Option Lists'). One is listed if
 /// a comma and a space, two or more spaces or the line's end follow it, and the first that isn't ends the list. So these
 /// are all options of a line that [`option_marker`](super::option_marker) finds a marker in.
 ///

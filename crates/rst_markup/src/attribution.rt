@@ -10,7 +10,7 @@ use super::lines::below_text;
 use rst_marks::{attribution_of, is_blank};
 use rst_text::{Looks, View, indentation};
 
-/// An attribution.
+/// An attribution: where its text stands, in a block quote's block.
 #[derive(Clone, Copy, Debug, PartialEq, Eq)]
 pub struct Attribution {
     /// How many characters stand before the text in the first line.
@@ -67,8 +67,9 @@ fn attribution_behind(
 }
 
 /// The attribution that begins in the line at place `k` of a block quote's block, if one does: a dash with text behind
-/// it, and all lines below it up to a blank one, which share one indentation. Whether text and a blank line stand before
-/// it isn't looked at. It makes at most three looks more than it has further lines.
+/// it, and all lines below it up to a blank one, which share one indentation (Markup Specification, 'Block Quotes').
+/// Whether text and a blank line stand before it isn't looked at. It makes at most three looks more than there are lines
+/// below it up to a blank one.
 #[tactic(auto, unfolding(crate::specs::Attributions::attribution_at))]
 pub fn attribution_at(view: &View<'_>, k: usize, looks: &mut Looks) -> Option<Attribution>
     requires inside { k < length (block_of view.now) }

@@ -229,8 +229,9 @@ fn anonymous(view: &View<'_>, i: usize, text: &str, looks: &mut Looks) -> Explic
     }
 }
 
-/// The explicit markup that begins in the line at place `i`: what it is, with its extents. Each extent is a part of the
-/// view, and each label or name stands in the line. It makes at most two looks for each line of the markup's reach.
+/// The explicit markup that begins in the line at place `i`: what it is, with its extents (Markup Specification,
+/// 'Explicit Markup Blocks'). Each extent is a part of the view, and each label or name stands in the line. It makes at
+/// most two looks for each line of the markup's reach.
 pub fn explicit(view: &View<'_>, i: usize, looks: &mut Looks) -> Explicit
     requires inside { i < length (block_of view.now) }
     requires kind { IsTrue (spec.is_explicit_kind (kind_of (block_of view.now) i)) }

@@ -15,8 +15,8 @@ use super::explicit_row::ExplicitMarkup;
 use super::kind::Kind;
 use rst_text::{Looks, View};
 
-/// The place after the construct that the line at place `i` begins, which is of this kind; none for a table, whose end
-/// only its own lines tell. It makes at most four looks for each line of the construct's reach.
+/// The place after the construct that the line at place `i` begins, which is of this kind (Markup Specification, 'Body
+/// Elements'); none for a table, whose end only its own lines tell. It makes at most four looks for each line of the construct's reach.
 pub fn end_of(
     view: &View<'_>,
     i: usize,
