@@ -29,54 +29,160 @@ impl Write for Page {
     }
 }
 
-/// What an attribute of a test's element says.
-#[derive(Clone, Copy)]
-pub enum Said<'a> {
-    Text(&'a str),
-    Number(u64),
-    List(&'a [&'a str]),
-}
+/// The kinds of the elements in the examples.
+const TAGS: [Tag; 25] = [
+    Tag::Attribution,
+    Tag::BlockQuote,
+    Tag::Caption,
+    Tag::Classifier,
+    Tag::Definition,
+    Tag::DefinitionList,
+    Tag::DefinitionListItem,
+    Tag::Field,
+    Tag::FieldBody,
+    Tag::FieldList,
+    Tag::FieldName,
+    Tag::Figure,
+    Tag::FootnoteReference,
+    Tag::Image,
+    Tag::Legend,
+    Tag::Line,
+    Tag::LineBlock,
+    Tag::Paragraph,
+    Tag::Problematic,
+    Tag::Reference,
+    Tag::Section,
+    Tag::SubstitutionDefinition,
+    Tag::SystemMessage,
+    Tag::Target,
+    Tag::Term,
+];
 
-fn value(alloc: Global, said: Said<'_>) -> Result<Value, TreeFault> {
-    match said {
-        Said::Text(text) => Ok(Value::Text(Text::from_str(alloc, text)?)),
-        Said::Number(number) => Ok(Value::Number(number)),
-        Said::List(members) => {
-            let mut texts = Texts::new(alloc);
-            for member in members {
-                texts.push(Text::from_str(alloc, member)?)?;
-            }
-            Ok(Value::List(texts))
+/// The kind of a name.
+fn tag_of(name: &str) -> Tag {
+    for tag in &TAGS {
+        if tag.name() == name {
+            return *tag;
         }
+    }
+    if name == "title" {
+        Tag::Title
+    } else {
+        Tag::Document
     }
 }
 
-pub fn text(alloc: Global, said: &str) -> Result<Node, TreeFault> {
-    Node::text(alloc, said)
+/// Takes in the attribute of a name; `line` is the number of an element's line.
+fn put_attr(
+    alloc: Global,
+    attrs: &mut Attrs,
+    line: &mut usize,
+    name: &str,
+    said: &str,
+) -> Result<(), TreeFault> {
+    let number: u64 = said.parse().unwrap_or(0);
+    match name {
+        "line" => {
+            *line = number as usize;
+            Ok(())
+        }
+        "own_name" => attrs.set(Key::OwnName, Value::Text(Text::from_str(alloc, said)?)),
+        "refuri" => attrs.set(Key::Refuri, Value::Text(Text::from_str(alloc, said)?)),
+        "inline" => attrs.set(Key::Inline, Value::Number(number)),
+        "message" => attrs.set(Key::Message, Value::Number(number)),
+        _ => attrs.set(Key::TextMessages, Value::Number(number)),
+    }
 }
 
-/// An element with the number of its first line, with attributes, and nodes in it.
-pub fn element<const N: usize>(
-    alloc: Global,
-    tag: Tag,
-    line: usize,
-    said: &[(Key, Said<'_>)],
-    nodes: [Node; N],
-) -> Result<Node, TreeFault> {
+/// What stands behind the first character of a kind, and before the end, a space or a character of another kind.
+fn inner(text: &str, first: char, last: char) -> &str {
+    let behind = match text.split_once(first) {
+        Some((_, behind)) => behind,
+        None => "",
+    };
+    match behind.split_once([' ', last]) {
+        Some((inner, _)) => inner,
+        None => behind,
+    }
+}
+
+/// The element of a line as `<tag name="said" ..>`, with nodes in it.
+fn element_of(alloc: Global, shown: &str, nodes: Children) -> Result<Node, TreeFault> {
     let mut attrs = Attrs::new(alloc);
-    for (key, says) in said {
-        attrs.set(*key, value(alloc, *says)?)?;
+    let mut line = 1;
+    let mut tag = Tag::Document;
+    let mut name = "";
+    for (i, piece) in shown.split('"').enumerate() {
+        if i == 0 {
+            tag = tag_of(inner(piece, '<', '>'));
+        }
+        if i % 2 == 0 {
+            name = inner(piece, ' ', '=');
+        } else {
+            put_attr(alloc, &mut attrs, &mut line, name, piece)?;
+        }
     }
     Ok(Node::Element {
         tag,
         attrs,
-        children: Children::of(Vec::from_array(alloc, nodes)?),
+        children: nodes,
         line,
     })
 }
 
-/// Whether a document is printed as this once it is registered.
-pub fn is_registered_as(alloc: Global, document: Node, want: &str) -> Result<bool, TreeFault> {
+/// The node of a line, which is an element or a text in quotes.
+fn node_of(alloc: Global, line: &str, nodes: Children) -> Result<Node, TreeFault> {
+    let shown = line.trim();
+    match shown.strip_prefix('\'') {
+        Some(text) => Node::text(alloc, text.strip_suffix('\'').unwrap_or(text)),
+        None => element_of(alloc, shown, nodes),
+    }
+}
+
+/// The nodes that are deeper than a line, taken from the end of those behind it.
+fn deeper(
+    alloc: Global,
+    pending: &mut Vec<(usize, Node)>,
+    indent: usize,
+) -> Result<Children, TreeFault> {
+    let mut nodes = Children::new(alloc);
+    for _ in 0..pending.len() {
+        match pending.pop() {
+            Some((depth, node)) if depth > indent => nodes.push(node)?,
+            Some(other) => {
+                pending.push(other)?;
+                break;
+            }
+            None => break,
+        }
+    }
+    Ok(nodes)
+}
+
+/// The document of an example: each line a node, in those of the lines before it that are less indented.
+fn document_of(alloc: Global, example: &str) -> Result<Node, TreeFault> {
+    let mut lines = Vec::new(alloc);
+    for line in example.split('\n') {
+        lines.push(line)?;
+    }
+    let mut pending = Vec::new(alloc);
+    for line in lines.iter().rev() {
+        if line.is_empty() {
+            continue;
+        }
+        let indent = line.len().saturating_sub(line.trim_start().len());
+        let nodes = deeper(alloc, &mut pending, indent)?;
+        pending.push((indent, node_of(alloc, line, nodes)?))?;
+    }
+    match pending.pop() {
+        Some((_, node)) => Ok(node),
+        None => Node::text(alloc, "no document"),
+    }
+}
+
+/// Whether a document is printed as wanted once it is registered.
+pub fn is_registered_as(alloc: Global, document: &str, want: &str) -> Result<bool, TreeFault> {
+    let document = document_of(alloc, document)?;
     let registered = register(alloc, Marked::of(alloc, document)?)?;
     let mut page = Page {
         bytes: Vec::new(alloc),
@@ -93,15 +199,14 @@ pub fn is_registered_as(alloc: Global, document: Node, want: &str) -> Result<boo
 #[test]
 fn registers_names(rt: HostRuntime) -> Result<(), Fail> {
     let alloc = rt.alloc();
-    let rows = [
-        (equal_sections(alloc)?, EQUAL_SECTIONS),
-        (section_and_target(alloc)?, SECTION_AND_TARGET),
-        (equal_targets(alloc)?, EQUAL_TARGETS),
-        (free_ids(alloc)?, FREE_IDS),
-        (message_of_a_problematic(alloc)?, MESSAGE_OF_A_PROBLEMATIC),
-    ];
-    for (document, want) in rows {
-        assert!(rt; is_registered_as(alloc, document, want)?);
+    for (document, want) in [
+        EQUAL_SECTIONS,
+        SECTION_AND_TARGET,
+        EQUAL_TARGETS,
+        FREE_IDS,
+        MESSAGE_OF_A_PROBLEMATIC,
+    ] {
+        assert!(rt; is_registered_as(alloc, document, want)?, "{document}");
     }
     Ok(())
 }
@@ -115,32 +220,16 @@ fn registers_names(rt: HostRuntime) -> Result<(), Fail> {
 /// A
 /// =
 /// ```
-fn equal_sections(alloc: Global) -> Result<Node, TreeFault> {
-    element(
-        alloc,
-        Tag::Document,
-        1,
-        &[],
-        [
-            element(
-                alloc,
-                Tag::Section,
-                1,
-                &[(Key::OwnName, Said::Text("a"))],
-                [element(alloc, Tag::Title, 1, &[], [text(alloc, "a")?])?],
-            )?,
-            element(
-                alloc,
-                Tag::Section,
-                4,
-                &[(Key::OwnName, Said::Text("a"))],
-                [element(alloc, Tag::Title, 4, &[], [text(alloc, "A")?])?],
-            )?,
-        ],
-    )
-}
-
-const EQUAL_SECTIONS: &str = r#"<document>
+const EQUAL_SECTIONS: (&str, &str) = (
+    r#"<document>
+    <section own_name="a" line="1">
+        <title>
+            'a'
+    <section own_name="a" line="4">
+        <title>
+            'A'
+"#,
+    r#"<document>
     <section dupnames="a" ids="a" own_name="a" serial="0">
         <title>
             a
@@ -150,7 +239,8 @@ const EQUAL_SECTIONS: &str = r#"<document>
         <system_message backrefs="a-1" level="1" line="4" type="INFO">
             <paragraph>
                 Duplicate implicit target name: "a".
-"#;
+"#,
+);
 
 /// A target takes a section's name; the message stands before the target.
 ///
@@ -160,35 +250,14 @@ const EQUAL_SECTIONS: &str = r#"<document>
 ///
 /// .. _a: u
 /// ```
-fn section_and_target(alloc: Global) -> Result<Node, TreeFault> {
-    element(
-        alloc,
-        Tag::Document,
-        1,
-        &[],
-        [element(
-            alloc,
-            Tag::Section,
-            1,
-            &[(Key::OwnName, Said::Text("a"))],
-            [
-                element(alloc, Tag::Title, 1, &[], [text(alloc, "a")?])?,
-                element(
-                    alloc,
-                    Tag::Target,
-                    4,
-                    &[
-                        (Key::OwnName, Said::Text("a")),
-                        (Key::Refuri, Said::Text("u")),
-                    ],
-                    [],
-                )?,
-            ],
-        )?],
-    )
-}
-
-const SECTION_AND_TARGET: &str = r#"<document>
+const SECTION_AND_TARGET: (&str, &str) = (
+    r#"<document>
+    <section own_name="a" line="1">
+        <title>
+            'a'
+        <target own_name="a" refuri="u" line="4">
+"#,
+    r#"<document>
     <section dupnames="a" ids="a" own_name="a" serial="0">
         <title>
             a
@@ -196,7 +265,8 @@ const SECTION_AND_TARGET: &str = r#"<document>
             <paragraph>
                 Duplicate implicit target name: "a".
         <target ids="a-1" names="a" own_name="a" refuri="u" serial="1">
-"#;
+"#,
+);
 
 /// Targets of one name: with the same URI the first keeps it, with another one nobody has it.
 ///
@@ -207,48 +277,13 @@ const SECTION_AND_TARGET: &str = r#"<document>
 ///
 /// .. _a: v
 /// ```
-fn equal_targets(alloc: Global) -> Result<Node, TreeFault> {
-    element(
-        alloc,
-        Tag::Document,
-        1,
-        &[],
-        [
-            element(
-                alloc,
-                Tag::Target,
-                1,
-                &[
-                    (Key::OwnName, Said::Text("a")),
-                    (Key::Refuri, Said::Text("u")),
-                ],
-                [],
-            )?,
-            element(
-                alloc,
-                Tag::Target,
-                3,
-                &[
-                    (Key::OwnName, Said::Text("a")),
-                    (Key::Refuri, Said::Text("u")),
-                ],
-                [],
-            )?,
-            element(
-                alloc,
-                Tag::Target,
-                5,
-                &[
-                    (Key::OwnName, Said::Text("a")),
-                    (Key::Refuri, Said::Text("v")),
-                ],
-                [],
-            )?,
-        ],
-    )
-}
-
-const EQUAL_TARGETS: &str = r#"<document>
+const EQUAL_TARGETS: (&str, &str) = (
+    r#"<document>
+    <target own_name="a" refuri="u" line="1">
+    <target own_name="a" refuri="u" line="3">
+    <target own_name="a" refuri="v" line="5">
+"#,
+    r#"<document>
     <target dupnames="a" ids="a" own_name="a" refuri="u" serial="0">
     <system_message backrefs="a-1" level="1" line="3" type="INFO">
         <paragraph>
@@ -258,7 +293,8 @@ const EQUAL_TARGETS: &str = r#"<document>
         <paragraph>
             Duplicate explicit target name: "a".
     <target dupnames="a" ids="a-2" own_name="a" refuri="v" serial="2">
-"#;
+"#,
+);
 
 /// Ids: from the name, with the least free number where it's taken, from the kind's name where the name gives none.
 ///
@@ -272,107 +308,21 @@ const EQUAL_TARGETS: &str = r#"<document>
 ///
 /// [1]_ [#]_
 /// ```
-fn free_ids(alloc: Global) -> Result<Node, TreeFault> {
-    element(
-        alloc,
-        Tag::Document,
-        1,
-        &[],
-        [
-            element(
-                alloc,
-                Tag::Target,
-                1,
-                &[
-                    (Key::OwnName, Said::Text("ß")),
-                    (Key::Refuri, Said::Text("u")),
-                ],
-                [],
-            )?,
-            element(
-                alloc,
-                Tag::Target,
-                2,
-                &[
-                    (Key::OwnName, Said::Text("a 1")),
-                    (Key::Refuri, Said::Text("u")),
-                ],
-                [],
-            )?,
-            element(
-                alloc,
-                Tag::Target,
-                3,
-                &[
-                    (Key::OwnName, Said::Text("a")),
-                    (Key::Refuri, Said::Text("u")),
-                ],
-                [],
-            )?,
-            element(
-                alloc,
-                Tag::Target,
-                4,
-                &[
-                    (Key::OwnName, Said::Text("a+")),
-                    (Key::Refuri, Said::Text("u")),
-                ],
-                [],
-            )?,
-            element(
-                alloc,
-                Tag::Target,
-                5,
-                &[
-                    (Key::OwnName, Said::Text("a-")),
-                    (Key::Refuri, Said::Text("u")),
-                ],
-                [],
-            )?,
-            element(
-                alloc,
-                Tag::Target,
-                6,
-                &[
-                    (Key::OwnName, Said::Text("x")),
-                    (Key::Refuri, Said::Text("¹")),
-                ],
-                [],
-            )?,
-            element(
-                alloc,
-                Tag::Paragraph,
-                8,
-                &[],
-                [
-                    element(
-                        alloc,
-                        Tag::FootnoteReference,
-                        8,
-                        &[
-                            (Key::Rawsource, Said::Text("[1]_")),
-                            (Key::Refname, Said::Text("1")),
-                        ],
-                        [text(alloc, "1")?],
-                    )?,
-                    text(alloc, " ")?,
-                    element(
-                        alloc,
-                        Tag::FootnoteReference,
-                        8,
-                        &[
-                            (Key::Auto, Said::Text("1")),
-                            (Key::Rawsource, Said::Text("[#]_")),
-                        ],
-                        [],
-                    )?,
-                ],
-            )?,
-        ],
-    )
-}
-
-const FREE_IDS: &str = r#"<document>
+const FREE_IDS: (&str, &str) = (
+    r#"<document>
+    <target own_name="ß" refuri="u" line="1">
+    <target own_name="a 1" refuri="u" line="2">
+    <target own_name="a" refuri="u" line="3">
+    <target own_name="a+" refuri="u" line="4">
+    <target own_name="a-" refuri="u" line="5">
+    <target own_name="x" refuri="¹" line="6">
+    <paragraph>
+        <footnote_reference>
+            '1'
+        ' '
+        <footnote_reference>
+"#,
+    r#"<document>
     <target ids="target-1" names="ß" own_name="ß" refuri="u" serial="0">
     <target ids="a-1" names="a\ 1" own_name="a 1" refuri="u" serial="1">
     <target ids="a" names="a" own_name="a" refuri="u" serial="2">
@@ -380,11 +330,12 @@ const FREE_IDS: &str = r#"<document>
     <target ids="a-3" names="a-" own_name="a-" refuri="u" serial="4">
     <target ids="x" names="x" own_name="x" refuri="¹" serial="5">
     <paragraph>
-        <footnote_reference ids="footnote-reference-1" rawsource="[1]_" refname="1" serial="6">
+        <footnote_reference ids="footnote-reference-1" serial="6">
             1
          
-        <footnote_reference auto="1" ids="footnote-reference-2" rawsource="[#]_" serial="7">
-"#;
+        <footnote_reference ids="footnote-reference-2" serial="7">
+"#,
+);
 
 /// A message and its problematic refer to each other.
 ///
@@ -393,103 +344,39 @@ const FREE_IDS: &str = r#"<document>
 ///
 /// `z
 /// ```
-fn message_of_a_problematic(alloc: Global) -> Result<Node, TreeFault> {
-    element(
-        alloc,
-        Tag::Document,
-        1,
-        &[],
-        [
-            element(
-                alloc,
-                Tag::Paragraph,
-                1,
-                &[(Key::TextMessages, Said::Number(1))],
-                [
-                    text(alloc, "x ")?,
-                    element(
-                        alloc,
-                        Tag::Problematic,
-                        1,
-                        &[(Key::Message, Said::Number(0))],
-                        [text(alloc, "*")?],
-                    )?,
-                    text(alloc, "y")?,
-                ],
-            )?,
-            element(
-                alloc,
-                Tag::SystemMessage,
-                1,
-                &[
-                    (Key::Level, Said::Number(2)),
-                    (Key::Line, Said::Number(1)),
-                    (Key::Message, Said::Number(0)),
-                    (Key::Type_, Said::Text("WARNING")),
-                ],
-                [element(
-                    alloc,
-                    Tag::Paragraph,
-                    1,
-                    &[],
-                    [text(alloc, "Inline emphasis start-string without end-string.")?],
-                )?],
-            )?,
-            element(
-                alloc,
-                Tag::Paragraph,
-                3,
-                &[(Key::TextMessages, Said::Number(1))],
-                [
-                    element(
-                        alloc,
-                        Tag::Problematic,
-                        3,
-                        &[(Key::Message, Said::Number(1))],
-                        [text(alloc, "`")?],
-                    )?,
-                    text(alloc, "z")?,
-                ],
-            )?,
-            element(
-                alloc,
-                Tag::SystemMessage,
-                3,
-                &[
-                    (Key::Level, Said::Number(2)),
-                    (Key::Line, Said::Number(3)),
-                    (Key::Message, Said::Number(1)),
-                    (Key::Type_, Said::Text("WARNING")),
-                ],
-                [element(
-                    alloc,
-                    Tag::Paragraph,
-                    1,
-                    &[],
-                    [text(
-                        alloc,
-                        "Inline interpreted text or phrase reference start-string without end-string.",
-                    )?],
-                )?],
-            )?,
-        ],
-    )
-}
-
-const MESSAGE_OF_A_PROBLEMATIC: &str = r#"<document>
+const MESSAGE_OF_A_PROBLEMATIC: (&str, &str) = (
+    r#"<document>
+    <paragraph text_messages="1">
+        'x '
+        <problematic message="0">
+            '*'
+        'y'
+    <system_message message="0">
+        <paragraph>
+            'Inline emphasis start-string without end-string.'
+    <paragraph text_messages="1">
+        <problematic message="1">
+            '`'
+        'z'
+    <system_message message="1">
+        <paragraph>
+            'Inline interpreted text or phrase reference start-string without end-string.'
+"#,
+    r#"<document>
     <paragraph text_messages="1">
         x 
         <problematic ids="problematic-1" message="0" refid="system-message-1" serial="0">
             *
         y
-    <system_message backrefs="problematic-1" ids="system-message-1" level="2" line="1" message="0" serial="1" type="WARNING">
+    <system_message backrefs="problematic-1" ids="system-message-1" message="0" serial="1">
         <paragraph>
             Inline emphasis start-string without end-string.
     <paragraph text_messages="1">
         <problematic ids="problematic-2" message="1" refid="system-message-2" serial="2">
             `
         z
-    <system_message backrefs="problematic-2" ids="system-message-2" level="2" line="3" message="1" serial="3" type="WARNING">
+    <system_message backrefs="problematic-2" ids="system-message-2" message="1" serial="3">
         <paragraph>
             Inline interpreted text or phrase reference start-string without end-string.
-"#;
+"#,
+);
