@@ -82,7 +82,8 @@ fn given_to(
 fn notices_of(alloc: Global, standings: Vec<Standing>) -> Result<Notices, TreeFault> {
     let mut notices = Notices::new(alloc);
     for (serial, standing) in standings.into_iter().enumerate() {
-        if let Some(message) = standing.notice {
+        let Standing { notice, .. } = standing;
+        if let Some(message) = notice {
             notices.push(serial as u64, message)?;
         }
     }
