@@ -31,6 +31,8 @@ pub use target::{Target, target_value};
 pub use value::OptionValue;
 
 #[cfg(test)]
+mod directive_cases;
+#[cfg(test)]
 mod directive_tests;
 #[cfg(test)]
 mod explicit_tests;
