@@ -8,12 +8,14 @@ use Rattle.rst_elements.specs.declared.texted.Texted.{Texted}
 use Rattle.rst_elements.specs.Elements.{element_of}
 use Rattle.rst_elements.specs.Texts.{counting, numbered_on, messages_from}
 
--- the nodes and the messages of a text, whose numbers go on from `first`
-pub record ReadsText (text : List ℕ) (line first : ℕ) (reading : Reading) : Type 0 where
-  pub pieces : Pieces
-  pub read : IsRead text line pieces
+-- the nodes and the messages of what was read, whose numbers go on from `first`
+pub record IsNumbered (first : ℕ) (pieces : Pieces) (reading : Reading) : Type 0 where
   pub nodes : reading.nodes.items ≡ map (numbered_on first) pieces.nodes.items
   pub notes : reading.notes.items ≡ messages_from first pieces.notes.items
+
+-- those of a text
+abbrev pub ReadsText : List ℕ → ℕ → ℕ → Reading → Type 0
+ReadsText text line first reading = (pieces : Pieces) × IsRead text line pieces × IsNumbered first pieces reading
 
 -- an element with the nodes of a text, and the text's messages
 pub record HoldsText (tag : Tag) (line : ℕ) (text : List ℕ) (text_line first : ℕ) (texted : Texted) : Type 0 where

@@ -1,5 +1,5 @@
 -- Parts of terms (Markup Specification, 'Definition Lists').
-use Rattle.std.specs.Prelude.{ℕ, suc, Bool, true, false, ◌&&◌, ◌==◌, not, List, [], ◌∷◌, ◌++◌, take, map, if◌then◌else◌, encode_utf8_all}
+use Rattle.std.specs.Prelude.{ℕ, zero, suc, Bool, true, false, ◌&&◌, ◌==◌, not, List, [], ◌∷◌, ◌++◌, take, map, if◌then◌else◌, encode_utf8_all}
 use Rattle.rst_text.specs.Characters.{is_white}
 use Rattle.rst_pieces.specs.Escapes.{escapes}
 use Rattle.rst_elements.specs.declared.terms.Letter.{Letter}
@@ -21,7 +21,7 @@ is_bare l c = l.character == c && not l.escaped
 
 -- how many letters stand before the spaces at the end
 abbrev pub dark_onto : Letter → ℕ → ℕ
-dark_onto l 0 = if is_bare l 32 then 0 else 1
+dark_onto l zero = if is_bare l 32 then 0 else 1
 dark_onto l (suc n) = suc (suc n)
 
 abbrev pub dark_len : List Letter → ℕ

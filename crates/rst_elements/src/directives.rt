@@ -113,7 +113,7 @@ pub fn code_block(
     text: &str,
     line: usize,
 ) -> Result<Node, TreeFault>
-    ensures { Gives (λ node. node ≡ code_node (option_map (λ word. word.now) language) options.now text.now line) result }
+    ensures { Gives (λ node. node ≡ code_node (option_map (λ word. word.now) language.entry) options.now text.now line) result }
 {
     let mut attrs = preserving(alloc)?;
     set_options(alloc, &mut attrs, Holder::Body, options)?;
@@ -129,7 +129,7 @@ fn code_classes(
     language: Option<&str>,
     own: Option<Value>,
 ) -> Result<Value, TreeFault>
-    ensures { Gives (λ classes. classes ≡ code_classes (option_map (λ word. word.now) language) own) result }
+    ensures { Gives (λ classes. classes ≡ code_classes (option_map (λ word. word.now) language.entry) own) result }
 {
     let classes = language_classes(alloc, language)?;
     match own {
@@ -140,7 +140,7 @@ fn code_classes(
 
 /// The classes that program code has whatever its options are.
 fn language_classes(alloc: Global, language: Option<&str>) -> Result<Texts, TreeFault>
-    ensures { Gives (λ classes. classes ≡ language_classes (option_map (λ word. word.now) language)) result }
+    ensures { Gives (λ classes. classes ≡ language_classes (option_map (λ word. word.now) language.entry)) result }
 {
     let mut classes = Texts::new(alloc);
     classes.push(Text::from_str(alloc, "code")?)?;

@@ -25,7 +25,7 @@ pub fn image(
     in_figure: bool,
     alt: Option<&str>,
 ) -> Result<Node, TreeFault>
-    ensures { Gives (λ node. node ≡ whole_image uri.now options.now line in_figure (option_map (λ text. text.now) alt)) result }
+    ensures { Gives (λ node. node ≡ whole_image uri.now options.now line in_figure (option_map (λ text. text.now) alt.entry)) result }
 {
     let image = image_alone(alloc, uri, options, line, in_figure, alt)?;
     match link_of(options) {
@@ -43,7 +43,7 @@ fn image_alone(
     in_figure: bool,
     alt: Option<&str>,
 ) -> Result<Node, TreeFault>
-    ensures { Gives (λ node. node ≡ image_node uri.now options.now line in_figure (option_map (λ text. text.now) alt)) result }
+    ensures { Gives (λ node. node ≡ image_node uri.now options.now line in_figure (option_map (λ text. text.now) alt.entry)) result }
 {
     let mut attrs = uri_and_alt(alloc, uri, alt)?;
     set_options(alloc, &mut attrs, image_holder(in_figure), options)?;
@@ -52,7 +52,7 @@ fn image_alone(
 
 /// Where an image is, and the text that stands for it.
 fn uri_and_alt(alloc: Global, uri: &str, alt: Option<&str>) -> Result<Attrs, TreeFault>
-    ensures { Gives (λ attrs. attrs ≡ with_alt (option_map (λ text. text.now) alt) (attr Key.Uri (Said uri.now) ∷ [])) result }
+    ensures { Gives (λ attrs. attrs ≡ with_alt (option_map (λ text. text.now) alt.entry) (attr Key.Uri (Said uri.now) ∷ [])) result }
 {
     let mut attrs = Attrs::new(alloc);
     attrs.set(Key::Uri, said(alloc, uri)?)?;
@@ -104,6 +104,7 @@ fn linked(
 }
 
 /// What a reference leads to, and how it is written.
+#[tactic(auto, using(crate::proofs::TextLemmas::bytes_encoded))]
 fn link_attrs(alloc: Global, to: &Target, source: &str) -> Result<Attrs, TreeFault>
     ensures { Gives (λ attrs. attrs ≡ link_attrs (destination_of to.now) source.now) result }
 {

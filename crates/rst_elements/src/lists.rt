@@ -121,7 +121,7 @@ pub fn option(
     argument: Option<(Delimiter, &str)>,
     line: usize,
 ) -> Result<Node, TreeFault>
-    ensures { Gives (λ node. node ≡ option_node string.now (option_map (λ a. (a.0, a.1.now)) argument) line) result }
+    ensures { Gives (λ node. node ≡ option_node string.now (option_map (λ a. (a.0, a.1.now)) argument.entry) line) result }
 {
     let mut nodes = Vec::new(alloc);
     nodes.push(plain(alloc, Tag::OptionString, line, string)?)?;

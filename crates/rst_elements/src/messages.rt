@@ -17,7 +17,7 @@ pub fn message(
     text: &str,
     block: Option<&str>,
 ) -> Result<Node, TreeFault>
-    ensures { Gives (λ node. node ≡ message_node level line text.now (option_map (λ shown. shown.now) block)) result }
+    ensures { Gives (λ node. node ≡ message_node level line text.now (option_map (λ shown. shown.now) block.entry)) result }
 {
     let text = Text::from_str(alloc, text)?;
     let block = match block {

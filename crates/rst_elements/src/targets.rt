@@ -1,6 +1,9 @@
 //! Targets and substitution definitions.
 ghost use Rattle.std.specs.Prelude.{◌≡◌, string_bytes, option_map};
 ghost use Rattle.std.specs.List.{list_any};
+ghost use Rattle.std.specs.Option.{is_some};
+ghost use Rattle.rst_tree.specs.Attributes.{value_of};
+ghost use Rattle.rst_tree.specs.declared.key.Key.TheVariants.{Anonymous};
 ghost use Rattle.rst_tree.specs.Faults.{Gives};
 ghost use Rattle.rst_directives.specs.Target.{destination_of};
 ghost use Rattle.rst_elements.specs.Values.{normalized, unescaped};
@@ -19,7 +22,7 @@ use std::alloc::Global;
 ///
 /// The only refusal is [`TreeFault::NoMemory`].
 pub fn target(alloc: Global, name: Option<&str>, text: &str, line: usize) -> Result<Node, TreeFault>
-    ensures { Gives (λ node. node ≡ target_node (option_map (λ written. written.now) name) text.now line) result }
+    ensures { Gives (λ node. node ≡ target_node (option_map (λ written. written.now) name.entry) text.now line) result }
 {
     let attrs = name_attrs(alloc, name)?;
     match target_value(alloc, text) {
@@ -30,7 +33,7 @@ pub fn target(alloc: Global, name: Option<&str>, text: &str, line: usize) -> Res
 
 /// The attribute that says a target's name, or that it has none.
 fn name_attrs(alloc: Global, name: Option<&str>) -> Result<Attrs, TreeFault>
-    ensures { Gives (λ attrs. attrs ≡ name_attrs (option_map (λ written. written.now) name)) result }
+    ensures { Gives (λ attrs. attrs ≡ name_attrs (option_map (λ written. written.now) name.entry)) result }
 {
     let mut attrs = Attrs::new(alloc);
     match name {
@@ -47,6 +50,7 @@ fn name_attrs(alloc: Global, name: Option<&str>) -> Result<Attrs, TreeFault>
 }
 
 /// A target with what it leads to.
+#[tactic(auto, using(crate::proofs::TextLemmas::bytes_encoded))]
 fn leading(
     alloc: Global,
     attrs: Attrs,
@@ -117,9 +121,15 @@ fn may_stand(node: &Node) -> bool
             attrs,
             children,
             ..
-        } => attrs.get(Key::Anonymous).is_none() && !has_substitution(children.as_slice()),
+        } => !is_anonymous(attrs) && !has_substitution(children.as_slice()),
         Node::Element { tag, .. } => is_plain_role(*tag),
     }
+}
+
+fn is_anonymous(attrs: &Attrs) -> bool
+    ensures { result ≡ is_some (value_of Anonymous attrs.now) }
+{
+    attrs.get(Key::Anonymous).is_some()
 }
 
 /// Whether elements of this kind may stand in a replacement text, whatever they hold.

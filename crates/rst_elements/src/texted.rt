@@ -3,7 +3,7 @@ ghost use Rattle.std.specs.Prelude.{◌≡◌, map, length};
 ghost use Rattle.std.specs.Str.{chars};
 ghost use Rattle.rst_tree.specs.Faults.{Gives};
 ghost use Rattle.rst_elements.specs.Texts.{counted_on, counting, message_of, with_message, numbered_on, messages_from};
-ghost use Rattle.rst_elements.specs.Results.{HoldsText, ReadsText};
+ghost use Rattle.rst_elements.specs.Results.{HoldsText, ReadsText, IsNumbered};
 
 use super::nodes::element_of;
 use super::numbers::Numbers;
@@ -59,6 +59,7 @@ pub(crate) fn counting(alloc: Global, notes: usize) -> Result<Attrs, TreeFault>
 }
 
 /// The nodes of a text whose first line has a number, and its messages.
+#[tactic(auto, using(crate::proofs::ReadLemmas::numbered_text))]
 pub(crate) fn read(
     alloc: Global,
     text: &str,
@@ -68,9 +69,19 @@ pub(crate) fn read(
     ensures text { Gives (ReadsText (chars text.now) line numbers.old) result }
     ensures numbers { Gives (λ reading. numbers.new ≡ counted_on numbers.old (length reading.notes.items)) result }
 {
-    let Ok(Pieces { nodes, notes }) = inline(alloc, text, line) else {
-        return Err(TreeFault::NoMemory);
-    };
+    match inline(alloc, text, line) {
+        Ok(pieces) => numbered(alloc, pieces, numbers),
+        Err(_) => Err(TreeFault::NoMemory),
+    }
+}
+
+/// What was read, with the numbers of its messages.
+#[tactic(auto, using(crate::proofs::MessageLemmas::messages_from_length))]
+fn numbered(alloc: Global, pieces: Pieces, numbers: &mut Numbers) -> Result<Reading, TreeFault>
+    ensures text { Gives (IsNumbered numbers.old pieces) result }
+    ensures numbers { Gives (λ reading. numbers.new ≡ counted_on numbers.old (length reading.notes.items)) result }
+{
+    let Pieces { nodes, notes } = pieces;
     let first = numbers.take(notes.len());
     let nodes = numbered_on(alloc, nodes, first)?;
     let notes = messages_of(alloc, notes, first)?;
