@@ -17,9 +17,11 @@ pub record IsNumbered (first : ℕ) (pieces : Pieces) (reading : Reading) : Type
 abbrev pub ReadsText : List ℕ → ℕ → ℕ → Reading → Type 0
 ReadsText text line first reading = (pieces : Pieces) × IsRead text line pieces × IsNumbered first pieces reading
 
--- an element with the nodes of a text, and the text's messages
-pub record HoldsText (tag : Tag) (line : ℕ) (text : List ℕ) (text_line first : ℕ) (texted : Texted) : Type 0 where
-  pub reading : Reading
-  pub read : ReadsText text text_line first reading
+-- an element with the nodes that were read, and the messages
+pub record IsHolding (tag : Tag) (line : ℕ) (reading : Reading) (texted : Texted) : Type 0 where
   pub element : texted.element ≡ element_of tag (counting (length reading.notes.items)) reading.nodes.items line
   pub notes : texted.notes.items ≡ reading.notes.items
+
+-- those of a text
+abbrev pub HoldsText : Tag → ℕ → List ℕ → ℕ → ℕ → Texted → Type 0
+HoldsText tag line text text_line first texted = (reading : Reading) × ReadsText text text_line first reading × IsHolding tag line reading texted

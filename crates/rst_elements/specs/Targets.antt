@@ -59,8 +59,11 @@ is_substitution (Element t a c l) = is_substitution_tag t
 is_substitution (Words t) = false
 
 -- A reference may stand there that isn't anonymous and doesn't stand round a substitution reference.
+abbrev pub may_refer : List Attr → Forest → Bool
+may_refer a c = not (is_some (value_of Anonymous a)) && not (list_any is_substitution (nodes_of c))
+
 abbrev pub may_stand_as : Tag → List Attr → Forest → Bool
-may_stand_as Reference a c = not (is_some (value_of Anonymous a)) && not (list_any is_substitution (nodes_of c))
+may_stand_as Reference a c = may_refer a c
 may_stand_as t a c = is_plain_role t
 
 abbrev pub may_stand : Node → Bool

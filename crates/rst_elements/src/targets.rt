@@ -3,17 +3,18 @@ ghost use Rattle.std.specs.Prelude.{◌≡◌, string_bytes, option_map};
 ghost use Rattle.std.specs.List.{list_any};
 ghost use Rattle.std.specs.Option.{is_some};
 ghost use Rattle.rst_tree.specs.Attributes.{value_of};
+ghost use Rattle.rst_tree.specs.Nodes.{nodes_of};
 ghost use Rattle.rst_tree.specs.declared.key.Key.TheVariants.{Anonymous};
 ghost use Rattle.rst_tree.specs.Faults.{Gives};
 ghost use Rattle.rst_directives.specs.Target.{destination_of};
 ghost use Rattle.rst_elements.specs.Values.{normalized, unescaped};
 ghost use Rattle.rst_elements.specs.Elements.{substitution_definition_node};
-ghost use Rattle.rst_elements.specs.Targets.{target_node, name_attrs, leading_node, may_replace, may_stand, is_plain_role, is_substitution};
+ghost use Rattle.rst_elements.specs.Targets.{target_node, name_attrs, leading_node, may_replace, may_stand, may_refer, is_plain_role, is_substitution};
 
 use super::nodes::element_of;
 use super::values::{name_said, normalized, said, unescaped};
 use rst_directives::{Target, target_value};
-use rst_tree::{Attrs, Key, Node, Tag, Text, TreeFault, Value};
+use rst_tree::{Attrs, Children, Key, Node, Tag, Text, TreeFault, Value};
 use std::alloc::Global;
 
 /// A target that is a block: its name as it is written, still with escapes, if it has one, and its text, whose lines are
@@ -121,9 +122,22 @@ fn may_stand(node: &Node) -> bool
             attrs,
             children,
             ..
-        } => !is_anonymous(attrs) && !has_substitution(children.as_slice()),
+        } => may_refer(attrs, children),
         Node::Element { tag, .. } => is_plain_role(*tag),
     }
+}
+
+/// Whether a reference with these attributes and nodes may stand in a replacement text.
+fn may_refer(attrs: &Attrs, children: &Children) -> bool
+    ensures { result ≡ may_refer attrs.now children.now }
+{
+    !is_anonymous(attrs) && !holds_substitution(children)
+}
+
+fn holds_substitution(children: &Children) -> bool
+    ensures { result ≡ list_any is_substitution (nodes_of children.now) }
+{
+    has_substitution(children.as_slice())
 }
 
 fn is_anonymous(attrs: &Attrs) -> bool

@@ -3,7 +3,7 @@ ghost use Rattle.std.specs.Prelude.{◌≡◌, map, length};
 ghost use Rattle.std.specs.Str.{chars};
 ghost use Rattle.rst_tree.specs.Faults.{Gives};
 ghost use Rattle.rst_elements.specs.Texts.{counted_on, counting, message_of, with_message, numbered_on, messages_from};
-ghost use Rattle.rst_elements.specs.Results.{HoldsText, ReadsText, IsNumbered};
+ghost use Rattle.rst_elements.specs.Results.{HoldsText, IsHolding, ReadsText, IsNumbered};
 
 use super::nodes::element_of;
 use super::numbers::Numbers;
@@ -30,6 +30,7 @@ pub(crate) struct Reading {
 /// number, by which the document's messages are counted.
 ///
 /// The only refusal is [`TreeFault::NoMemory`].
+#[tactic(auto, using(crate::proofs::ReadLemmas::held_text))]
 pub fn with_text(
     alloc: Global,
     tag: Tag,
@@ -41,7 +42,16 @@ pub fn with_text(
     ensures text { Gives (HoldsText tag line (chars text.now) text_line numbers.old) result }
     ensures numbers { Gives (λ read. numbers.new ≡ counted_on numbers.old (length read.notes.items)) result }
 {
-    let Reading { nodes, notes } = read(alloc, text, text_line, numbers)?;
+    let reading = read(alloc, text, text_line, numbers)?;
+    let texted = holding(alloc, tag, reading, line)?;
+    Ok(texted)
+}
+
+/// An element with the nodes that were read, and the messages.
+fn holding(alloc: Global, tag: Tag, reading: Reading, line: usize) -> Result<Texted, TreeFault>
+    ensures { Gives (IsHolding tag line reading) result }
+{
+    let Reading { nodes, notes } = reading;
     let attrs = counting(alloc, notes.len())?;
     Ok(Texted {
         element: element_of(tag, attrs, nodes, line),

@@ -1,4 +1,4 @@
-use Rattle.std.proofs.Common.{◌≡◌, ◌++◌, false, [], drop}
+use Rattle.std.proofs.Common.{◌≡◌, ◌++◌, drop}
 use Rattle.std.specs.Prelude.{map}
 use Rattle.rst_elements.specs.Terms.{cut, parts_of, spelled}
 use Rattle.rst_elements.proofs.terms.parts_of.Given as goal
