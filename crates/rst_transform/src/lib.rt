@@ -1,6 +1,13 @@
 //! The transforms: from the registered document to the finished tree, and the list of messages.
 #![tactic(auto)]
 
+mod anonymous;
+mod footnotes;
+mod holders;
+mod indirect;
+mod links;
+mod reading;
+mod resolve;
 mod work;
 
 pub use work::{Report, Work};

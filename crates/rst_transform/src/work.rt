@@ -80,7 +80,7 @@ fn lone(alloc: Global, text: &Text) -> Result<Texts, TreeFault> {
 }
 
 /// The document between two transforms, with what registration left, and the messages of the transforms so far.
-#[derive(Debug, Drop)]
+#[derive(Drop)]
 pub struct Work {
     /// The document.
     pub root: Node,
