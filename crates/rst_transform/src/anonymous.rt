@@ -1,7 +1,7 @@
 //! Anonymous references.
 
 use crate::holders::{lead_of, text_attr};
-use crate::links::{Linked, Outcome, linked_in, settled, take_root, with_settled};
+use crate::links::{Changes, Linked, Outcome, linked_in, settled, take_root, with_changes};
 use crate::reading::{first_said, has, is_a, line_of};
 use crate::work::Work;
 use rst_tree::{Key, Level, Node, Tag, TreeFault};
@@ -31,11 +31,16 @@ use std::alloc::Global;
 /// one ERROR, and each reference becomes a problematic.
 pub(crate) fn anonymous(alloc: Global, mut work: Work) -> Result<Work, TreeFault> {
     let root = take_root(alloc, &mut work);
-    let linked = linked_in(alloc, &root)?;
-    let outcomes = outcomes(alloc, &mut work, linked.as_slice())?;
-    let settled = settled(alloc, &mut work, linked.as_slice(), outcomes)?;
-    work.root = with_settled(alloc, root, settled)?;
+    let changes = changes_of(alloc, &mut work, &root)?;
+    work.root = with_changes(alloc, root, changes)?;
     Ok(work)
+}
+
+/// The changes of a tree's linked elements.
+fn changes_of(alloc: Global, work: &mut Work, root: &Node) -> Result<Changes, TreeFault> {
+    let linked = linked_in(alloc, root)?;
+    let outcomes = outcomes(alloc, work, linked.as_slice())?;
+    settled(alloc, work, linked.as_slice(), outcomes)
 }
 
 /// Whether a node is an anonymous element of a kind.

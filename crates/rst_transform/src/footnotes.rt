@@ -1,7 +1,9 @@
 //! Footnotes.
 
 use crate::holders::text_attr;
-use crate::links::{Addition, Linked, Outcome, linked_in, settled, take_root, with_settled};
+use crate::links::{
+    Addition, Changes, Linked, Outcome, linked_in, settled, take_root, with_changes,
+};
 use crate::reading::{first_said, has, is_a, line_of, list_said, text_said};
 use crate::work::Work;
 use rst_tree::{Attr, Key, Level, Node, Tag, Text, TreeFault, Value};
@@ -70,19 +72,24 @@ impl Order {
 /// References left over become problematics of one ERROR for each of the two numberings.
 pub(crate) fn footnotes(alloc: Global, mut work: Work) -> Result<Work, TreeFault> {
     let root = take_root(alloc, &mut work);
-    let linked = linked_in(alloc, &root)?;
+    let changes = changes_of(alloc, &mut work, &root)?;
+    work.root = with_changes(alloc, root, changes)?;
+    Ok(work)
+}
+
+/// The changes of a tree's linked elements.
+fn changes_of(alloc: Global, work: &mut Work, root: &Node) -> Result<Changes, TreeFault> {
+    let linked = linked_in(alloc, root)?;
     let labels = labels(alloc, linked.as_slice())?;
     let found = found_by_order(alloc, linked.as_slice())?;
     let outcomes = outcomes(
         alloc,
-        &mut work,
+        work,
         linked.as_slice(),
         labels.as_slice(),
         found.as_slice(),
     )?;
-    let settled = settled(alloc, &mut work, linked.as_slice(), outcomes)?;
-    work.root = with_settled(alloc, root, settled)?;
-    Ok(work)
+    settled(alloc, work, linked.as_slice(), outcomes)
 }
 
 /// The label that a footnote was written with.
@@ -116,11 +123,7 @@ fn reference_order(node: &Node) -> Option<Order> {
 }
 
 /// The places of the footnotes that references find by an order.
-fn in_order(
-    alloc: Global,
-    linked: &[Linked<'_>],
-    order: Order,
-) -> Result<Vec<usize>, TreeFault> {
+fn in_order(alloc: Global, linked: &[Linked<'_>], order: Order) -> Result<Vec<usize>, TreeFault> {
     let mut places = Vec::new(alloc);
     for (place, one) in linked.iter().enumerate() {
         if footnote_order(one.element) == Some(order) {

@@ -2,7 +2,7 @@
 
 use crate::anonymous::{anonymous_places, is_anonymous};
 use crate::holders::{Holders, lead_by_name};
-use crate::links::{Linked, Outcome, linked_in, settled, take_root, with_settled};
+use crate::links::{Changes, Linked, Outcome, linked_in, settled, take_root, with_changes};
 use crate::reading::{has, is_a, line_of, text_said};
 use crate::work::Work;
 use rst_names::{Holder, Names};
@@ -76,10 +76,17 @@ fn copy_attr(alloc: Global, attr: &Attr) -> Result<Attr, TreeFault> {
 /// under each in the order of the document.
 pub(crate) fn indirect(alloc: Global, mut work: Work) -> Result<Work, TreeFault> {
     let root = take_root(alloc, &mut work);
-    let linked = linked_in(alloc, &root)?;
+    let changes = changes_of(alloc, &mut work, &root)?;
+    work.root = with_changes(alloc, root, changes)?;
+    Ok(work)
+}
+
+/// The changes of a tree's linked elements.
+fn changes_of(alloc: Global, work: &mut Work, root: &Node) -> Result<Changes, TreeFault> {
+    let linked = linked_in(alloc, root)?;
     let holders = Holders::of(alloc, linked.as_slice(), work.serials)?;
     let answers = answers(alloc, &work.names, &holders, linked.as_slice())?;
-    let reports = reports(alloc, &mut work, linked.as_slice(), answers.as_slice())?;
+    let reports = reports(alloc, work, linked.as_slice(), answers.as_slice())?;
     let through = targets_of(alloc, &work.names, &holders, linked.as_slice())?;
     let outcomes = outcomes(
         alloc,
@@ -88,9 +95,7 @@ pub(crate) fn indirect(alloc: Global, mut work: Work) -> Result<Work, TreeFault>
         reports.as_slice(),
         through.as_slice(),
     )?;
-    let settled = settled(alloc, &mut work, linked.as_slice(), outcomes)?;
-    work.root = with_settled(alloc, root, settled)?;
-    Ok(work)
+    settled(alloc, work, linked.as_slice(), outcomes)
 }
 
 /// The name that an indirect target refers to.
@@ -103,7 +108,7 @@ fn indirect_name<'a>(node: &'a Node) -> Option<&'a str> {
 }
 
 /// The first step to what a name means.
-fn step(
+fn first_step(
     alloc: Global,
     names: &Names,
     holders: &Holders,
@@ -122,9 +127,7 @@ fn step(
                         Ok(Step::Ends(Answer::Leads(attr)))
                     }
                 }
-                _ => Ok(Step::Ends(Answer::Leads(lead_by_name(
-                    alloc, held, None,
-                )?))),
+                _ => Ok(Step::Ends(Answer::Leads(lead_by_name(alloc, held, None)?))),
             };
         }
     }
@@ -142,7 +145,7 @@ fn answers(
     let mut answers: Vec<Option<Answer>> = Vec::new(alloc);
     for one in linked {
         match indirect_name(one.element) {
-            Some(name) => steps.push(Some(step(alloc, names, holders, linked, name)?))?,
+            Some(name) => steps.push(Some(first_step(alloc, names, holders, linked, name)?))?,
             None => steps.push(None)?,
         }
         answers.push(None)?;

@@ -218,7 +218,7 @@ pub(crate) fn settled(
     work: &mut Work,
     linked: &[Linked<'_>],
     outcomes: Vec<Outcome>,
-) -> Result<Settled, TreeFault> {
+) -> Result<Changes, TreeFault> {
     let around = first_around(alloc, linked, outcomes.as_slice())?;
     let turns = turns(
         alloc,
@@ -233,7 +233,7 @@ pub(crate) fn settled(
             left.push_back(changed(outcome, problematic))?;
         }
     }
-    Ok(Settled { left })
+    Ok(Changes { left })
 }
 
 /// The change of an element with its problematic, if it has become one.
@@ -248,11 +248,11 @@ fn changed(outcome: Outcome, problematic: Option<Node>) -> Change {
 /// The changes of the linked elements of a tree, in the order in which they are met, which contracts see as the list of
 /// them.
 #[derive(Debug, Drop)]
-pub(crate) struct Settled {
+pub(crate) struct Changes {
     left: VecDeque<Change>,
 }
 
-impl Model for Settled {
+impl Model for Changes {
     ghost use Rattle.std.specs.Prelude.{List};
     ghost use Rattle.rst_transform.specs.declared.links.Change.{Change};
 
@@ -302,7 +302,7 @@ fn showing(
     )
 }
 
-impl Rewriter for Settled {
+impl Rewriter for Changes {
     ghost use Rattle.rst_transform.specs.Links.{change_next, change_of};
 
     ghost entered = { change_next };
@@ -342,11 +342,11 @@ impl Rewriter for Settled {
     }
 }
 
-/// A tree in which its linked elements became what was settled.
-pub(crate) fn with_settled(
+/// A tree in which its linked elements changed.
+pub(crate) fn with_changes(
     alloc: Global,
     root: Node,
-    mut settled: Settled,
+    mut changes: Changes,
 ) -> Result<Node, TreeFault> {
     match root {
         Node::Element {
@@ -355,7 +355,7 @@ pub(crate) fn with_settled(
             children,
             line,
         } => {
-            let children = rewrite_in(alloc, children, &mut settled)?;
+            let children = rewrite_in(alloc, children, &mut changes)?;
             Ok(Node::Element {
                 tag,
                 attrs,

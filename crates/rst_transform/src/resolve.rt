@@ -2,7 +2,9 @@
 
 use crate::footnotes::{found_by_order, mark_of, spelled_number};
 use crate::holders::{Holders, lead_by_name, text_attr};
-use crate::links::{Addition, Linked, Outcome, linked_in, settled, take_root, with_settled};
+use crate::links::{
+    Addition, Changes, Linked, Outcome, linked_in, settled, take_root, with_changes,
+};
 use crate::reading::{first_said, has, is_a, line_of, text_said};
 use crate::work::Work;
 use rst_names::{Holder, Names};
@@ -65,15 +67,25 @@ struct Lookup<'a> {
 /// give no message.
 pub(crate) fn resolve(alloc: Global, mut work: Work) -> Result<Work, TreeFault> {
     let root = take_root(alloc, &mut work);
-    let linked = linked_in(alloc, &root)?;
-    let meanings = meanings(alloc, &work, linked.as_slice())?;
-    let found = found_by_order(alloc, linked.as_slice())?;
-    let notes = notes_meant(alloc, linked.as_slice(), meanings.as_slice(), found.as_slice())?;
-    let outcomes = outcomes(alloc, &mut work, linked.as_slice(), meanings)?;
-    let outcomes = with_backrefs(alloc, linked.as_slice(), notes.as_slice(), outcomes)?;
-    let settled = settled(alloc, &mut work, linked.as_slice(), outcomes)?;
-    work.root = with_settled(alloc, root, settled)?;
+    let changes = changes_of(alloc, &mut work, &root)?;
+    work.root = with_changes(alloc, root, changes)?;
     Ok(work)
+}
+
+/// The changes of a tree's linked elements.
+fn changes_of(alloc: Global, work: &mut Work, root: &Node) -> Result<Changes, TreeFault> {
+    let linked = linked_in(alloc, root)?;
+    let meanings = meanings(alloc, work, linked.as_slice())?;
+    let found = found_by_order(alloc, linked.as_slice())?;
+    let notes = notes_meant(
+        alloc,
+        linked.as_slice(),
+        meanings.as_slice(),
+        found.as_slice(),
+    )?;
+    let outcomes = outcomes(alloc, work, linked.as_slice(), meanings)?;
+    let outcomes = with_backrefs(alloc, linked.as_slice(), notes.as_slice(), outcomes)?;
+    settled(alloc, work, linked.as_slice(), outcomes)
 }
 
 /// The name of a reference by name.
