@@ -7,7 +7,15 @@ mod definitions;
 mod docinfo;
 mod expand;
 mod field;
+mod lists;
 mod texts;
 mod work;
 
 pub use work::{Report, Work};
+
+#[cfg(test)]
+mod docinfo_tests;
+#[cfg(test)]
+mod expand_tests;
+#[cfg(test)]
+mod outline;
