@@ -1,19 +1,16 @@
 //! The transforms: from the registered document to the finished tree, and the list of messages.
 #![tactic(auto)]
 
-
-#[cfg(test)]
 mod anonymous;
 mod authors;
 mod bibliography;
 mod definitions;
 mod docinfo;
-mod docinfo_tests;
 mod expand;
-mod expand_tests;
 mod fault;
 mod field;
 mod filter;
+mod finishing;
 mod footnotes;
 mod holders;
 mod indirect;
@@ -21,7 +18,6 @@ mod last_section;
 mod links;
 mod lists;
 mod messages;
-mod outline;
 mod reading;
 mod resolve;
 mod targets;
@@ -29,5 +25,14 @@ mod texts;
 mod title;
 mod transitions;
 mod work;
+
 pub use fault::TransformFault;
+pub use finishing::{Finished, finish};
 pub use work::{Report, Work};
+
+#[cfg(test)]
+mod docinfo_tests;
+#[cfg(test)]
+mod expand_tests;
+#[cfg(test)]
+mod outline;
