@@ -35,4 +35,8 @@ mod docinfo_tests;
 #[cfg(test)]
 mod expand_tests;
 #[cfg(test)]
+mod finishing_tests;
+#[cfg(test)]
 mod outline;
+#[cfg(test)]
+mod places_tests;

@@ -29,6 +29,8 @@ fn tag_of(name: &str) -> Tag {
         "field_body" => Tag::FieldBody,
         "bullet_list" => Tag::BulletList,
         "list_item" => Tag::ListItem,
+        "transition" => Tag::Transition,
+        "system_message" => Tag::SystemMessage,
         _ => Tag::Problematic,
     }
 }
@@ -39,11 +41,22 @@ fn attribute(alloc: Global, name: &str, said: &str) -> Result<(Key, Value), Tree
         "ids" => Ok((Key::Ids, listed(alloc, said)?)),
         "names" => Ok((Key::Names, listed(alloc, said)?)),
         "dupnames" => Ok((Key::Dupnames, listed(alloc, said)?)),
+        "backrefs" => Ok((Key::Backrefs, listed(alloc, said)?)),
         "own_name" => worded(alloc, Key::OwnName, said),
         "refname" => worded(alloc, Key::Refname, said),
         "rawsource" => worded(alloc, Key::Rawsource, said),
         "refuri" => worded(alloc, Key::Refuri, said),
+        "refid" => worded(alloc, Key::Refid, said),
         "uri" => worded(alloc, Key::Uri, said),
+        "anonymous" => worded(alloc, Key::Anonymous, said),
+        "inline" => worded(alloc, Key::Inline, said),
+        "bullet" => worded(alloc, Key::Bullet, said),
+        "xml:space" => worded(alloc, Key::XmlSpace, said),
+        "line" => worded(alloc, Key::Line, said),
+        "type" => worded(alloc, Key::Type_, said),
+        "level" => Ok((Key::Level, digit(said))),
+        "message" => Ok((Key::Message, digit(said))),
+        "text_messages" => Ok((Key::TextMessages, digit(said))),
         "serial" => Ok((Key::Serial, Value::Number(said.len() as u64))),
         _ => worded(alloc, Key::Name, said),
     }
@@ -59,6 +72,18 @@ fn listed(alloc: Global, said: &str) -> Result<Value, TreeFault> {
         texts.push(Text::from_str(alloc, member)?)?;
     }
     Ok(Value::List(texts))
+}
+
+/// The number of a digit.
+fn digit(said: &str) -> Value {
+    let number = match said {
+        "1" => 1,
+        "2" => 2,
+        "3" => 3,
+        "4" => 4,
+        _ => 0,
+    };
+    Value::Number(number)
 }
 
 /// The node of a line, without its indentation; `line` is its number.
@@ -98,7 +123,7 @@ fn close(open: &mut Vec<Node>) -> Result<(), TreeFault> {
 }
 
 /// The tree of an outline, whose first line is the root; the line of an element is the number of its own.
-fn tree(alloc: Global, outline: &str) -> Result<Node, TreeFault> {
+pub fn tree(alloc: Global, outline: &str) -> Result<Node, TreeFault> {
     let mut open = Vec::new(alloc);
     for (i, line) in outline.lines().enumerate() {
         let said = line.trim_start();
@@ -129,6 +154,13 @@ pub fn work(alloc: Global, outline: &str) -> Result<Work, TreeFault> {
     })
 }
 
+/// A document as it is printed.
+pub fn printed(alloc: Global, tree: &Tree) -> Result<String, Fail> {
+    let mut out = Vec::new(alloc);
+    print(tree, &mut Counted::of(&mut out))?;
+    Ok(String::from_str(alloc, std::str::from_utf8(&out)?)?)
+}
+
 /// The document as it is printed, and behind it each message: its line, and what it says.
 pub fn shown(alloc: Global, work: Work) -> Result<String, Fail> {
     let Work {
@@ -136,11 +168,10 @@ pub fn shown(alloc: Global, work: Work) -> Result<String, Fail> {
         reports,
         ..
     } = work;
-    let mut out = Vec::new(alloc);
-    if let Ok(tree) = Tree::of(root) {
-        print(&tree, &mut Counted::of(&mut out))?;
-    }
-    let mut text = String::from_str(alloc, std::str::from_utf8(&out)?)?;
+    let mut text = match Tree::of(root) {
+        Ok(tree) => printed(alloc, &tree)?,
+        Err(_) => String::new(alloc),
+    };
     for report in &reports {
         let said = report.note.text.as_str();
         let line = report.note.line;
