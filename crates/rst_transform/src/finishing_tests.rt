@@ -94,54 +94,62 @@ const DOCUMENTS: [(Threshold, Threshold, &str, &str); 6] = [
         <paragraph text_messages=\"0\">
             <reference name=\"x\" rawsource=\"x_\" refname=\"x\">
                 x
-        <enumerated_list enumtype=\"arabic\" prefix=\"\" start=\"3\" suffix=\".\">
-            <list_item>
-                <paragraph text_messages=\"0\">
-                    y
+        <bullet_list bullet=\"-\">
             <list_item>
                 <paragraph text_messages=\"1\">
                     <problematic message=\"0\">
                         *
                     c
-                <system_message level=\"2\" line=\"8\" message=\"0\" type=\"WARNING\">
+                <system_message level=\"2\" line=\"6\" message=\"0\" type=\"WARNING\">
                     <paragraph>
                         Inline emphasis start-string without end-string.
-        <system_message level=\"1\" line=\"6\" type=\"INFO\">
-            <paragraph>
-                Enumerated list start value not ordinal-1: \"3\" (ordinal 3)
-        <paragraph text_messages=\"0\">
+    <section own_name=\"a\" text_messages=\"0\">
+        <title text_messages=\"0\">
+            A
+        <paragraph text_messages=\"1\">
+            <problematic message=\"1\">
+                *
             d
+        <system_message level=\"2\" line=\"11\" message=\"1\" type=\"WARNING\">
+            <paragraph>
+                Inline emphasis start-string without end-string.
 ",
-        "<document ids=\"a\" names=\"a\" title=\"A\">
-    <title>
-        A
-    <paragraph>
-        <problematic ids=\"problematic-2\" refid=\"system-message-2\">
-            x_
-    <enumerated_list enumtype=\"arabic\" prefix=\"\" start=\"3\" suffix=\".\">
-        <list_item>
-            <paragraph>
-                y
-        <list_item>
-            <paragraph>
-                <problematic ids=\"problematic-1\" refid=\"system-message-1\">
-                    *
-                c
-            <system_message backrefs=\"problematic-1\" ids=\"system-message-1\" level=\"2\" line=\"8\" type=\"WARNING\">
-                <paragraph>
-                    Inline emphasis start-string without end-string.
-    <system_message level=\"1\" line=\"6\" type=\"INFO\">
+        "<document>
+    <section dupnames=\"a\" ids=\"a\">
+        <title>
+            A
         <paragraph>
-            Enumerated list start value not ordinal-1: \"3\" (ordinal 3)
-    <paragraph>
-        d
+            <problematic ids=\"problematic-3\" refid=\"system-message-3\">
+                x_
+        <bullet_list bullet=\"-\">
+            <list_item>
+                <paragraph>
+                    <problematic ids=\"problematic-1\" refid=\"system-message-1\">
+                        *
+                    c
+                <system_message backrefs=\"problematic-1\" ids=\"system-message-1\" level=\"2\" line=\"6\" type=\"WARNING\">
+                    <paragraph>
+                        Inline emphasis start-string without end-string.
+    <section dupnames=\"a\" ids=\"a-1\">
+        <title>
+            A
+        <system_message backrefs=\"a-1\" level=\"1\" line=\"17\" type=\"INFO\">
+            <paragraph>
+                Duplicate implicit target name: \"a\".
+        <paragraph>
+            <problematic ids=\"problematic-2\" refid=\"system-message-2\">
+                *
+            d
+        <system_message backrefs=\"problematic-2\" ids=\"system-message-2\" level=\"2\" line=\"11\" type=\"WARNING\">
+            <paragraph>
+                Inline emphasis start-string without end-string.
     <section classes=\"system-messages\">
         <title>
             Docutils System Messages
-        <system_message backrefs=\"problematic-2\" ids=\"system-message-2\" level=\"3\" line=\"6\" type=\"ERROR\">
+        <system_message backrefs=\"problematic-3\" ids=\"system-message-3\" level=\"3\" line=\"6\" type=\"ERROR\">
             <paragraph>
                 Unknown target name: \"x\".
-2 17: Inline emphasis start-string without end-string.
+2 14: Inline emphasis start-string without end-string.
 ",
     ),
     // The messages of the document come first, then those of the transforms.

@@ -353,7 +353,7 @@ const TRANSITIONS: [(&str, &str); 6] = [
             z
 ",
         "<document>
-    <system_message level=\"3\" line=\"2\" type=\"ERROR\">
+    <system_message level=\"3\" line=\"2\" message=\"0\" type=\"ERROR\">
         <paragraph>
             Document or section may not begin with a transition.
     <transition>
@@ -362,7 +362,7 @@ const TRANSITIONS: [(&str, &str); 6] = [
     <section ids=\"a\" names=\"a\" own_name=\"a\">
         <title>
             A
-        <system_message level=\"3\" line=\"8\" type=\"ERROR\">
+        <system_message level=\"3\" line=\"8\" message=\"1\" type=\"ERROR\">
             <paragraph>
                 Document or section may not begin with a transition.
         <transition>
@@ -394,7 +394,7 @@ const TRANSITIONS: [(&str, &str); 6] = [
     <paragraph>
         x
     <transition>
-    <system_message level=\"3\" line=\"5\" type=\"ERROR\">
+    <system_message level=\"3\" line=\"5\" message=\"0\" type=\"ERROR\">
         <paragraph>
             At least one body element must separate transitions; adjacent transitions are not allowed.
     <transition>
@@ -430,7 +430,7 @@ const TRANSITIONS: [(&str, &str); 6] = [
         <paragraph>
             y
         <transition>
-        <system_message level=\"3\" line=\"12\" type=\"ERROR\">
+        <system_message level=\"3\" line=\"12\" message=\"0\" type=\"ERROR\">
             <paragraph>
                 Document may not end with a transition.
 12: Document may not end with a transition.
@@ -465,7 +465,7 @@ const TRANSITIONS: [(&str, &str); 6] = [
             <paragraph>
                 x
             <transition>
-            <system_message level=\"3\" line=\"11\" type=\"ERROR\">
+            <system_message level=\"3\" line=\"11\" message=\"0\" type=\"ERROR\">
                 <paragraph>
                     At least one body element must separate transitions; adjacent transitions are not allowed.
     <transition>
@@ -492,7 +492,7 @@ const TRANSITIONS: [(&str, &str); 6] = [
     <section ids=\"a\" names=\"a\" own_name=\"a\">
         <title>
             A
-        <system_message level=\"3\" line=\"5\" type=\"ERROR\">
+        <system_message level=\"3\" line=\"5\" message=\"0\" type=\"ERROR\">
             <paragraph>
                 Document or section may not begin with a transition.
     <transition>
