@@ -163,11 +163,7 @@ pub fn printed(alloc: Global, tree: &Tree) -> Result<String, Fail> {
 
 /// The document as it is printed, and behind it each message: its line, and what it says.
 pub fn shown(alloc: Global, work: Work) -> Result<String, Fail> {
-    let Work {
-        root,
-        reports,
-        ..
-    } = work;
+    let Work { root, reports, .. } = work;
     let mut text = match Tree::of(root) {
         Ok(tree) => printed(alloc, &tree)?,
         Err(_) => String::new(alloc),

@@ -513,4 +513,3 @@ fn places_transitions(rt: HostRuntime) -> Result<(), Fail> {
     }
     Ok(())
 }
-

@@ -65,14 +65,7 @@ fn place_in(
     escape: bool,
     work: &mut Work,
 ) -> Result<Placed, TreeFault> {
-    let mut place = Place {
-        left: nodes.len(),
-        escape,
-        placed: Placed {
-            nodes: Vec::new(alloc),
-            moving: Vec::new(alloc),
-        },
-    };
+    let mut place = Place::first(alloc, nodes.len(), escape);
     for node in nodes.into_list() {
         place.left = place.left.saturating_sub(1);
         match node {
@@ -95,10 +88,9 @@ fn place_in(
                 children,
                 line,
             } => {
-                let ends = place.left == 0;
-                let follows = tag == Tag::Section && !ends;
-                let inner = place_in(alloc, children, follows || escape, work)?;
-                place.put_element(tag, attrs, line, inner, follows)?;
+                let holds = place.holds(tag);
+                let inner = place_in(alloc, children, holds || escape, work)?;
+                place.put_element(tag, attrs, line, inner, holds)?;
                 continue;
             }
         }
@@ -118,6 +110,24 @@ struct Place {
 }
 
 impl Place {
+    /// The place before the first of so many nodes.
+    fn first(alloc: Global, left: usize, escape: bool) -> Place {
+        Place {
+            left,
+            escape,
+            placed: Placed {
+                nodes: Vec::new(alloc),
+                moving: Vec::new(alloc),
+            },
+        }
+    }
+
+    /// Whether transitions that move out of an element of a kind at this place stand behind it: out of a section that isn't the
+    /// last node.
+    fn holds(&self, tag: Tag) -> bool {
+        matches!(tag, Tag::Section) && self.left > 0
+    }
+
     /// Puts a transition to its place, with the messages on it.
     fn put_transition(
         &mut self,
