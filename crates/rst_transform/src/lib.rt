@@ -11,3 +11,8 @@ mod resolve;
 mod work;
 
 pub use work::{Report, Work};
+
+#[cfg(test)]
+mod outline;
+#[cfg(test)]
+mod reference_tests;
