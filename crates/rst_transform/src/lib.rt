@@ -13,6 +13,8 @@ mod work;
 pub use work::{Report, Work};
 
 #[cfg(test)]
+mod footnote_tests;
+#[cfg(test)]
 mod outline;
 #[cfg(test)]
 mod reference_tests;

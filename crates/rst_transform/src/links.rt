@@ -258,6 +258,11 @@ impl Model for Changes {
 
     ghost Value = { List Change };
 
+    ghost use Rattle.std.specs.Coded.{codes};
+    ghost use Rattle.rst_transform.specs.contracts.links.Change as change;
+
+    ghost coded = { Prim.hlevel (codes, change.the_row.coded) };
+
     ghost view = { λ s. s.left.items };
 }
 
