@@ -1,2 +1,3 @@
 pub mod LinkKinds
 pub mod Links
+pub mod Reading

@@ -8,7 +8,7 @@ use Rattle.rst_tree.specs.declared.rewriting.Rewrite.TheVariants.{Keep, Replace}
 use Rattle.rst_tree.specs.declared.tag.Tag.{Tag}
 use Rattle.rst_tree.specs.Forest.{bare, words}
 use Rattle.rst_tree.specs.Nodes.{forest_of}
-use Rattle.rst_tree.specs.Rewritten.{kept}
+use Rattle.rst_tree.specs.Rewritten.{kept, rewritten}
 use Rattle.rst_transform.specs.declared.links.Addition.{Addition}
 use Rattle.rst_transform.specs.declared.links.Change.{Change}
 use Rattle.rst_transform.specs.declared.links.Change.TheVariants.{Stays, Becomes}
@@ -34,3 +34,8 @@ change_of s (Text t) = kept (Text t)
 abbrev pub change_next : List Change → Node → List Change
 change_next s (Element t a c l) = if is_linked t then drop 1 s else s
 change_next s (Text t) = s
+
+-- the tree of a root, changed
+abbrev pub changed_root : List Change → Node → Node
+changed_root s (Element t a c l) = Element t a (rewritten change_next change_of (λ s n. s) (λ s n. forest_of (n ∷ [])) s c).0 l
+changed_root s (Text t) = Text t

@@ -37,6 +37,10 @@ mod expand_tests;
 #[cfg(test)]
 mod finishing_tests;
 #[cfg(test)]
+mod footnote_tests;
+#[cfg(test)]
 mod outline;
 #[cfg(test)]
 mod places_tests;
+#[cfg(test)]
+mod reference_tests;

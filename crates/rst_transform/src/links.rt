@@ -5,6 +5,7 @@ ghost use Rattle.rst_tree.specs.Faults.{Gives};
 ghost use Rattle.rst_tree.specs.Forest.{bare, words};
 ghost use Rattle.rst_tree.specs.Nodes.{forest_of};
 ghost use Rattle.rst_transform.specs.LinkKinds.{is_linked, with_more};
+ghost use Rattle.rst_transform.specs.Links.{changed_root};
 
 use crate::reading::{line_of, text_said};
 use crate::work::Work;
@@ -258,6 +259,11 @@ impl Model for Changes {
 
     ghost Value = { List Change };
 
+    ghost use Rattle.std.specs.Coded.{codes};
+    ghost use Rattle.rst_transform.specs.contracts.links.Change as change;
+
+    ghost coded = { Prim.hlevel (codes, change.the_row.coded) };
+
     ghost view = { λ s. s.left.items };
 }
 
@@ -347,7 +353,9 @@ pub(crate) fn with_changes(
     alloc: Global,
     root: Node,
     mut changes: Changes,
-) -> Result<Node, TreeFault> {
+) -> Result<Node, TreeFault>
+    ensures { Gives (λ node. node ≡ changed_root changes root) result }
+{
     match root {
         Node::Element {
             tag,

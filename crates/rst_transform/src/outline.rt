@@ -2,7 +2,7 @@
 //! `<tag key="value" ..>`, and any other line as a text.
 
 use crate::work::Work;
-use rst_names::{Ids, Names};
+use rst_names::{Held, Holder, Ids, Names, Strength};
 use rst_text::Counted;
 use rst_tree::{Attrs, Key, Node, Tag, Text, Texts, Tree, TreeFault, Value, print};
 use std::alloc::Global;
@@ -29,6 +29,11 @@ fn tag_of(name: &str) -> Tag {
         "field_body" => Tag::FieldBody,
         "bullet_list" => Tag::BulletList,
         "list_item" => Tag::ListItem,
+        "footnote" => Tag::Footnote,
+        "footnote_reference" => Tag::FootnoteReference,
+        "citation" => Tag::Citation,
+        "citation_reference" => Tag::CitationReference,
+        "label" => Tag::Label,
         "transition" => Tag::Transition,
         "system_message" => Tag::SystemMessage,
         _ => Tag::Problematic,
@@ -46,8 +51,10 @@ fn attribute(alloc: Global, name: &str, said: &str) -> Result<(Key, Value), Tree
         "refname" => worded(alloc, Key::Refname, said),
         "rawsource" => worded(alloc, Key::Rawsource, said),
         "refuri" => worded(alloc, Key::Refuri, said),
-        "refid" => worded(alloc, Key::Refid, said),
         "uri" => worded(alloc, Key::Uri, said),
+        "refid" => worded(alloc, Key::Refid, said),
+        "mark" => worded(alloc, Key::Mark, said),
+        "auto" => worded(alloc, Key::Auto, said),
         "anonymous" => worded(alloc, Key::Anonymous, said),
         "inline" => worded(alloc, Key::Inline, said),
         "bullet" => worded(alloc, Key::Bullet, said),
@@ -74,7 +81,7 @@ fn listed(alloc: Global, said: &str) -> Result<Value, TreeFault> {
     Ok(Value::List(texts))
 }
 
-/// The number of a digit.
+/// The number of a digit from 0 to 4.
 fn digit(said: &str) -> Value {
     let number = match said {
         "1" => 1,
@@ -152,6 +159,49 @@ pub fn work(alloc: Global, outline: &str) -> Result<Work, TreeFault> {
         first_number: 0,
         serials: 0,
     })
+}
+
+/// The holder of the names of an element.
+fn holder(attrs: &Attrs) -> Holder {
+    match attrs.get(Key::Serial) {
+        Some(Value::Number(serial)) => Holder::Element(*serial),
+        _ => Holder::Unregistered,
+    }
+}
+
+/// Lets the elements of a node hold their names, and nobody those that they lost.
+fn hold(alloc: Global, node: &Node, names: &mut Names) -> Result<(), TreeFault> {
+    if let Node::Element {
+        attrs,
+        children,
+        ..
+    } = node
+    {
+        for (key, holder) in [(Key::Names, holder(attrs)), (Key::Dupnames, Holder::Nobody)] {
+            if let Some(Value::List(list)) = attrs.get(key) {
+                for name in list.as_slice() {
+                    let held = Held {
+                        holder,
+                        strength: Strength::Explicit,
+                        id: Text::from_str(alloc, name.as_str())?,
+                    };
+                    names.hold(alloc, name.as_str(), held)?;
+                }
+            }
+        }
+        for child in children.as_slice() {
+            hold(alloc, child, names)?;
+        }
+    }
+    Ok(())
+}
+
+/// The document of an outline with the names that stand in it; the id of each is the name itself.
+pub fn named(alloc: Global, outline: &str) -> Result<Work, TreeFault> {
+    let mut work = work(alloc, outline)?;
+    hold(alloc, &work.root, &mut work.names)?;
+    work.serials = 10;
+    Ok(work)
 }
 
 /// A document as it is printed.

@@ -242,8 +242,9 @@ fn outcomes(
             None => false,
         };
         let outcome = match meaning {
-            Some(meaning) if !gone => outcome(alloc, work, linked, *one, meaning)?,
-            _ => Outcome::same(),
+            Some(_meaning) if gone => Outcome::same(),
+            Some(meaning) => outcome(alloc, work, linked, *one, meaning)?,
+            None => Outcome::same(),
         };
         ended.push(gone || matches!(&outcome, Outcome::Fails(_)))?;
         outcomes.push(outcome)?;
