@@ -1,4 +1,7 @@
 //! Lists of texts among the attributes, and lists of nodes.
+ghost use Rattle.std.specs.Prelude.{◌≡◌, ◌++◌};
+ghost use Rattle.rst_tree.specs.Faults.{Gives};
+
 use rst_tree::{Attrs, Key, Node, Text, Texts, TreeFault, Value};
 use std::alloc::Global;
 
@@ -36,7 +39,9 @@ pub(crate) fn number(attrs: &Attrs, key: Key) -> Option<u64> {
 }
 
 /// The nodes, and then more.
-pub(crate) fn joined(mut nodes: Vec<Node>, more: Vec<Node>) -> Result<Vec<Node>, TreeFault> {
+pub(crate) fn joined(mut nodes: Vec<Node>, more: Vec<Node>) -> Result<Vec<Node>, TreeFault>
+    ensures { Gives (λ all. all.items ≡ nodes.items ++ more.items) result }
+{
     for node in more {
         nodes.push(node)?;
     }
