@@ -131,11 +131,7 @@ pub fn work(alloc: Global, outline: &str) -> Result<Work, TreeFault> {
 
 /// The document as it is printed, and behind it each message: its line, and what it says.
 pub fn shown(alloc: Global, work: Work) -> Result<String, Fail> {
-    let Work {
-        root,
-        reports,
-        ..
-    } = work;
+    let Work { root, reports, .. } = work;
     let mut out = Vec::new(alloc);
     if let Ok(tree) = Tree::of(root) {
         print(&tree, &mut Counted::of(&mut out))?;
