@@ -1,6 +1,6 @@
 //! The authors of a document.
 
-use crate::field::{Became, Field, in_only, into_last, one_paragraph};
+use crate::field::{Became, Field, in_only, into_children, into_last, one_paragraph};
 use rst_tree::{Attrs, Children, Node, Tag, TreeFault};
 use std::alloc::Global;
 
@@ -117,9 +117,8 @@ fn in_paragraph(alloc: Global, body: Children, line: usize) -> Result<Vec<Node>,
 fn in_items(alloc: Global, items: Children, line: usize) -> Result<Vec<Node>, TreeFault> {
     let mut nodes = Vec::new(alloc);
     for item in items.into_list() {
-        if let Node::Element { children, .. } = item {
-            nodes.push(author(alloc, into_last(alloc, children), line))?;
-        }
+        let paragraphs = into_children(alloc, item);
+        nodes.push(author(alloc, into_last(alloc, paragraphs), line))?;
     }
     Ok(nodes)
 }

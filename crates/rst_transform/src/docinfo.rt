@@ -3,9 +3,9 @@ ghost use Rattle.std.specs.Prelude.{◌≤◌, ◌<◌, IsTrue, length, vec_len}
 
 use crate::bibliography::Bibliography;
 use crate::field::Field;
-use crate::texts::{add_names, folded};
+use crate::texts::add_names;
 use crate::work::Work;
-use rst_tree::{Attrs, Children, Node, Tag, Text, TreeFault};
+use rst_tree::{Attrs, Children, Node, Tag, TreeFault};
 use std::alloc::Global;
 use std::mem;
 
@@ -71,46 +71,45 @@ fn is_field_list(nodes: &[Node], place: usize) -> bool
     )
 }
 
-/// The text of a field's name, by `name_of`.
-fn field_name(alloc: Global, children: &Children) -> Result<String, TreeFault> {
-    let text = match children.as_slice().first() {
-        Some(name) => name.text_of(alloc)?,
-        None => Text::from_str(alloc, "")?,
-    };
-    folded(alloc, text.as_str())
-}
-
-/// What the fields of a list become, the first of it with the list's ids and names, too.
+/// What the fields of a list become.
 fn bibliography(
     alloc: Global,
-    attrs: &Attrs,
     fields: Children,
     line: usize,
     work: &mut Work,
 ) -> Result<Vec<Node>, TreeFault> {
     let mut bibliography = Bibliography::new(alloc);
     for node in fields.into_list() {
-        if let Node::Element {
-            attrs,
-            children,
-            line,
-            ..
-        } = node
-        {
-            let name = field_name(alloc, &children)?;
-            let field = Field {
-                attrs,
-                children,
-                line,
-            };
+        if let Some(field) = Field::of(node) {
+            let name = field.name(alloc)?;
             bibliography.add(alloc, name.as_str(), field, work)?;
         }
     }
-    let mut nodes = bibliography.into_nodes(alloc, line)?;
+    bibliography.into_nodes(alloc, line)
+}
+
+/// The nodes, the first of them with more ids and names.
+fn with_names(alloc: Global, mut nodes: Vec<Node>, attrs: &Attrs) -> Result<Vec<Node>, TreeFault> {
     if !nodes.is_empty() {
         add_names(alloc, &mut nodes[0], attrs)?;
     }
     Ok(nodes)
+}
+
+/// What the fields of a field list become, the first of it with the list's ids and names, too.
+fn replaced(alloc: Global, list: Node, work: &mut Work) -> Result<Vec<Node>, TreeFault> {
+    match list {
+        Node::Element {
+            tag: _tag,
+            attrs,
+            children,
+            line,
+        } => {
+            let nodes = bibliography(alloc, children, line, work)?;
+            with_names(alloc, nodes, &attrs)
+        }
+        Node::Text(_text) => Ok(Vec::new(alloc)),
+    }
 }
 
 /// The nodes with more of them from a place on.
@@ -138,16 +137,7 @@ fn with_bibliography(
     if !is_field_list(&nodes, place) {
         return Ok(Children::of(nodes));
     }
-    let list = nodes.remove(place);
-    let made = match list {
-        Node::Element {
-            attrs,
-            children,
-            line,
-            ..
-        } => bibliography(alloc, &attrs, children, line, work)?,
-        Node::Text(_) => Vec::new(alloc),
-    };
+    let made = replaced(alloc, nodes.remove(place), work)?;
     let first = title_count(&nodes);
     Ok(Children::of(with_nodes_at(nodes, first, made)?))
 }

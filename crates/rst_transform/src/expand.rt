@@ -135,7 +135,13 @@ fn add_expanded(
                 line,
             } => {
                 let mut inner = Vec::new(alloc);
-                add_expanded(alloc, definitions, children.as_slice(), progress, &mut inner)?;
+                add_expanded(
+                    alloc,
+                    definitions,
+                    children.as_slice(),
+                    progress,
+                    &mut inner,
+                )?;
                 nodes.push(Node::Element {
                     tag: *tag,
                     attrs: copied(alloc, attrs)?,
@@ -183,7 +189,13 @@ fn expansion(
     let mut progress = Progress::start(alloc, within)?;
     let content = entered(alloc, definitions, name, &mut progress)?;
     let mut nodes = Vec::new(alloc);
-    add_expanded(alloc, definitions, content.as_slice(), &mut progress, &mut nodes)?;
+    add_expanded(
+        alloc,
+        definitions,
+        content.as_slice(),
+        &mut progress,
+        &mut nodes,
+    )?;
     Ok(nodes)
 }
 

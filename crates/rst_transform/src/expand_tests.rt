@@ -170,7 +170,9 @@ fn chain(
             outline.push_str(line.as_str())?;
         }
     }
-    let line = format!(in alloc; "    <substitution_definition own_name=\"{definitions}\">\n        ")?;
+    let line = format!(in alloc;
+        "    <substitution_definition own_name=\"{definitions}\">\n        "
+    )?;
     outline.push_str(line.as_str())?;
     for _ in 0..length {
         outline.push('x')?;
@@ -198,7 +200,10 @@ fn expansions_are_bounded(rt: HostRuntime) -> Result<(), Fail> {
             None => assert!(rt; fits),
             Some(report) => {
                 assert!(rt; !fits);
-                assert_eq!(rt; report.note.text.as_str(), "Substitution expansion too large: \"1\".");
+                assert_eq!(rt;
+                    report.note.text.as_str(),
+                    "Substitution expansion too large: \"1\"."
+                );
             }
         }
     }

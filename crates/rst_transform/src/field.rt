@@ -1,6 +1,7 @@
 //! Fields of a bibliography, and what is taken out of them.
 
-use rst_tree::{Attrs, Children, Node, Tag};
+use crate::texts::folded;
+use rst_tree::{Attrs, Children, Node, Tag, Text, TreeFault};
 use std::alloc::Global;
 
 /// A field of a field list (Document Tree, 'field'): a name, and behind it a body.
@@ -21,6 +22,32 @@ pub(crate) enum Became {
 }
 
 impl Field {
+    /// The element as a field; a text has no parts to be one.
+    pub fn of(node: Node) -> Option<Field> {
+        match node {
+            Node::Element {
+                tag: _tag,
+                attrs,
+                children,
+                line,
+            } => Some(Field {
+                attrs,
+                children,
+                line,
+            }),
+            Node::Text(_text) => None,
+        }
+    }
+
+    /// The field's name, by `name_of`.
+    pub fn name(&self, alloc: Global) -> Result<String, TreeFault> {
+        let text = match self.children.as_slice().first() {
+            Some(name) => name.text_of(alloc)?,
+            None => Text::from_str(alloc, "")?,
+        };
+        folded(alloc, text.as_str())
+    }
+
     /// The nodes in its body, if it has one.
     pub fn body(&self) -> Option<&Children> {
         inside(self.children.as_slice().last())
@@ -58,11 +85,24 @@ fn inside(node: Option<&Node>) -> Option<&Children> {
     }
 }
 
+/// The nodes in a node, taken out of it; none where that is no element.
+pub(crate) fn into_children(alloc: Global, node: Node) -> Children {
+    match node {
+        Node::Element {
+            tag: _tag,
+            attrs: _attrs,
+            children,
+            line: _line,
+        } => children,
+        Node::Text(_text) => Children::new(alloc),
+    }
+}
+
 /// The nodes in the last of the nodes, taken out of it; none where that is no element.
 pub(crate) fn into_last(alloc: Global, nodes: Children) -> Children {
     match nodes.into_list().pop() {
-        Some(Node::Element { children, .. }) => children,
-        _ => Children::new(alloc),
+        Some(node) => into_children(alloc, node),
+        None => Children::new(alloc),
     }
 }
 
