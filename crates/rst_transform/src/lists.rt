@@ -30,6 +30,25 @@ pub(crate) fn append(
     attrs.set(key, Value::List(texts))
 }
 
+/// Puts the ids, names and lost names that attributes tell behind those that others tell.
+pub(crate) fn append_names(
+    alloc: Global,
+    attrs: &mut Attrs,
+    from: &Attrs,
+) -> Result<(), TreeFault> {
+    append_from(alloc, attrs, Key::Ids, from)?;
+    append_from(alloc, attrs, Key::Names, from)?;
+    append_from(alloc, attrs, Key::Dupnames, from)
+}
+
+/// Puts the texts that an attribute lists elsewhere behind those that it lists here.
+fn append_from(alloc: Global, attrs: &mut Attrs, key: Key, from: &Attrs) -> Result<(), TreeFault> {
+    match from.get(key) {
+        Some(Value::List(more)) => append(alloc, attrs, key, more.as_slice()),
+        _ => Ok(()),
+    }
+}
+
 /// What an attribute says, where it is a number.
 pub(crate) fn number(attrs: &Attrs, key: Key) -> Option<u64> {
     match attrs.get(key) {

@@ -1,6 +1,6 @@
 //! What several transforms ask of attributes, names and nodes.
 
-use crate::lists::append;
+use crate::lists::append_names;
 use rst_text::{id_of, name_of};
 use rst_tree::{Attrs, Children, Key, Node, TreeFault, Value};
 use std::alloc::Global;
@@ -43,19 +43,7 @@ pub(crate) fn copies(alloc: Global, nodes: &Children) -> Result<Children, TreeFa
 /// Puts the ids, names and lost names that attributes tell behind those of a node.
 pub(crate) fn add_names(alloc: Global, node: &mut Node, from: &Attrs) -> Result<(), TreeFault> {
     match node {
-        Node::Element { attrs, .. } => {
-            append_from(alloc, attrs, Key::Ids, from)?;
-            append_from(alloc, attrs, Key::Names, from)?;
-            append_from(alloc, attrs, Key::Dupnames, from)
-        }
+        Node::Element { attrs, .. } => append_names(alloc, attrs, from),
         Node::Text(_) => Ok(()),
-    }
-}
-
-/// Puts the texts that an attribute lists elsewhere behind those that it lists here.
-fn append_from(alloc: Global, attrs: &mut Attrs, key: Key, from: &Attrs) -> Result<(), TreeFault> {
-    match from.get(key) {
-        Some(Value::List(more)) => append(alloc, attrs, key, more.as_slice()),
-        _ => Ok(()),
     }
 }

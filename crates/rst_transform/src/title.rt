@@ -1,5 +1,5 @@
 //! The title and the subtitle of a document.
-use crate::lists::{append, joined};
+use crate::lists::{append_names, joined};
 use crate::work::Work;
 use rst_names::{Holder, Names};
 use rst_tree::{Attrs, Children, Key, Node, Tag, TreeFault, Value};
@@ -169,17 +169,11 @@ fn take_names(
     section: &Attrs,
     names: &mut Names,
 ) -> Result<(), TreeFault> {
-    if let Some(Value::List(ids)) = section.get(Key::Ids) {
-        append(alloc, attrs, Key::Ids, ids.as_slice())?;
-    }
+    append_names(alloc, attrs, section)?;
     if let Some(Value::List(held)) = section.get(Key::Names) {
-        append(alloc, attrs, Key::Names, held.as_slice())?;
         for name in held.as_slice() {
             names.move_to(name.as_str(), Holder::Unregistered);
         }
-    }
-    if let Some(Value::List(lost)) = section.get(Key::Dupnames) {
-        append(alloc, attrs, Key::Dupnames, lost.as_slice())?;
     }
     Ok(())
 }
