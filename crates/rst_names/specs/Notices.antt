@@ -5,7 +5,6 @@ use Rattle.rst_tree.specs.declared.key.Key.TheVariants.{Backrefs}
 use Rattle.rst_tree.specs.declared.node.Node.{Node}
 use Rattle.rst_tree.specs.declared.note.Level.{Level}
 use Rattle.rst_tree.specs.declared.note.Level.TheVariants.{Error}
-use Rattle.rst_tree.specs.declared.note.Note.{Note}
 use Rattle.rst_tree.specs.Messages.{note_node}
 use Rattle.rst_tree.specs.Paths.{with_value}
 use Rattle.rst_names.specs.declared.names.Strength.{Strength}
