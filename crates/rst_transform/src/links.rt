@@ -30,7 +30,8 @@ pub(crate) struct Linked<'a> {
 pub(crate) struct Addition {
     /// This attribute, if there is one.
     pub attr: Option<Attr>,
-    /// This text in place of what stood in it, if there is one.
+    /// This text in place of what stood in it, if there is one. What gets one, a label or a reference to a footnote, holds
+    /// no linked element.
     pub shown: Option<Text>,
 }
 

@@ -101,15 +101,15 @@ fn node_of(alloc: Global, said: &str, line: usize) -> Result<Node, TreeFault> {
     let mut parts = inner.split('"');
     let mut words = parts.next().unwrap_or("").split(' ');
     let tag = tag_of(words.next().unwrap_or("").trim_end_matches('>'));
-    let mut name = words.next().unwrap_or("");
+    let mut name = String::from_str(alloc, words.next().unwrap_or(""))?;
     let mut attrs = Attrs::new(alloc);
     for _ in 0..10 {
         let Some(value) = parts.next() else {
             break;
         };
-        let (key, value) = attribute(alloc, name.trim_end_matches('='), value)?;
+        let (key, value) = attribute(alloc, name.as_str().trim_end_matches('='), value)?;
         attrs.set(key, value)?;
-        name = parts.next().unwrap_or("").trim();
+        name = String::from_str(alloc, parts.next().unwrap_or("").trim())?;
     }
     Ok(Node::Element {
         tag,
@@ -169,28 +169,38 @@ fn holder(attrs: &Attrs) -> Holder {
     }
 }
 
+/// Lets a holder have the names of a list.
+fn hold_listed(
+    alloc: Global,
+    list: Option<&Value>,
+    holder: Holder,
+    names: &mut Names,
+) -> Result<(), TreeFault> {
+    if let Some(Value::List(list)) = list {
+        for name in list.as_slice() {
+            let held = Held {
+                holder,
+                strength: Strength::Explicit,
+                id: Text::from_str(alloc, name.as_str())?,
+            };
+            names.hold(alloc, name.as_str(), held)?;
+        }
+    }
+    Ok(())
+}
+
 /// Lets the elements of a node hold their names, and nobody those that they lost.
-fn hold(alloc: Global, node: &Node, names: &mut Names) -> Result<(), TreeFault> {
+fn hold_names(alloc: Global, node: &Node, names: &mut Names) -> Result<(), TreeFault> {
     if let Node::Element {
         attrs,
         children,
         ..
     } = node
     {
-        for (key, holder) in [(Key::Names, holder(attrs)), (Key::Dupnames, Holder::Nobody)] {
-            if let Some(Value::List(list)) = attrs.get(key) {
-                for name in list.as_slice() {
-                    let held = Held {
-                        holder,
-                        strength: Strength::Explicit,
-                        id: Text::from_str(alloc, name.as_str())?,
-                    };
-                    names.hold(alloc, name.as_str(), held)?;
-                }
-            }
-        }
+        hold_listed(alloc, attrs.get(Key::Names), holder(attrs), names)?;
+        hold_listed(alloc, attrs.get(Key::Dupnames), Holder::Nobody, names)?;
         for child in children.as_slice() {
-            hold(alloc, child, names)?;
+            hold_names(alloc, child, names)?;
         }
     }
     Ok(())
@@ -199,7 +209,7 @@ fn hold(alloc: Global, node: &Node, names: &mut Names) -> Result<(), TreeFault> 
 /// The document of an outline with the names that stand in it; the id of each is the name itself.
 pub fn named(alloc: Global, outline: &str) -> Result<Work, TreeFault> {
     let mut work = work(alloc, outline)?;
-    hold(alloc, &work.root, &mut work.names)?;
+    hold_names(alloc, &work.root, &mut work.names)?;
     work.serials = 10;
     Ok(work)
 }
