@@ -100,28 +100,31 @@ fn inner(text: &str, first: char, last: char) -> &str {
         Some((_, behind)) => behind,
         None => "",
     };
-    match behind.split_once([' ', last]) {
-        Some((inner, _)) => inner,
+    let word = match behind.split_once(last) {
+        Some((word, _)) => word,
         None => behind,
+    };
+    match word.split_once(' ') {
+        Some((word, _)) => word,
+        None => word,
     }
 }
 
 /// The element of a line as `<tag name="said" ..>`, with nodes in it.
 fn element_of(alloc: Global, shown: &str, nodes: Children) -> Result<Node, TreeFault> {
+    let mut pieces = Vec::new(alloc);
+    for piece in shown.split('"') {
+        pieces.push(piece)?;
+    }
     let mut attrs = Attrs::new(alloc);
     let mut line = 1;
-    let mut tag = Tag::Document;
-    let mut name = "";
-    for (i, piece) in shown.split('"').enumerate() {
-        if i == 0 {
-            tag = tag_of(inner(piece, '<', '>'));
-        }
-        if i % 2 == 0 {
-            name = inner(piece, ' ', '=');
-        } else {
-            put_attr(alloc, &mut attrs, &mut line, name, piece)?;
+    for i in 1..pieces.len() {
+        if i % 2 == 1 {
+            let name = inner(pieces[i - 1], ' ', '=');
+            put_attr(alloc, &mut attrs, &mut line, name, pieces[i])?;
         }
     }
+    let tag = tag_of(inner(shown, '<', '>'));
     Ok(Node::Element {
         tag,
         attrs,
