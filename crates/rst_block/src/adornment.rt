@@ -1,0 +1,141 @@
+//! Lines of one punctuation character: transitions, titles with an overline, and what is neither (Markup
+//! Specification, 'Sections', 'Transitions').
+use super::fault::BlockFault;
+use super::heading::{Heading, Style, with_heading};
+use super::level::Level;
+use super::step::Step;
+use super::text::text_line;
+use super::texts::{Pass, alone, source};
+use rst_elements::message;
+use rst_marks::Adornment;
+use rst_markup::{Adorned, adorned_at, below_text};
+use rst_text::{View, indentation, skip};
+use rst_tree::{Level as Gravity, Node, Tag};
+use std::alloc::Global;
+
+/// A line of one punctuation character.
+pub(crate) fn adornment(
+    alloc: Global,
+    view: &View<'_>,
+    level: Level,
+    mark: Adornment,
+    pass: &mut Pass,
+) -> Result<Step, BlockFault> {
+    let at = level.at;
+    let next = below_text(view, at, 1, &mut pass.looks);
+    let form = adorned_at(view, at, level.titles(), mark, next, &mut pass.looks);
+    match form {
+        Adorned::Text => text_line(alloc, view, level, Vec::new(alloc), pass),
+        Adorned::ShortOverline => short(
+            alloc,
+            view,
+            level,
+            "Possible incomplete section title.\nTreating the overline as ordinary text because it's so short.",
+            pass,
+        ),
+        Adorned::ShortAdornment => short(
+            alloc,
+            view,
+            level,
+            "Unexpected possible title overline or transition.\nTreating it as ordinary text because it's so short.",
+            pass,
+        ),
+        Adorned::Transition => {
+            let level = level.closed(alloc, view, pass)?;
+            let node = Node::element(alloc, Tag::Transition, view.number(at));
+            Ok(Step::Next(level.past(at + 1).with(node)?))
+        }
+        Adorned::Title { short } => overlined(alloc, view, level, mark, short, pass),
+        Adorned::InvalidMarker => wrong(
+            alloc,
+            view,
+            level,
+            Gravity::Error,
+            "Invalid section title or transition marker.",
+            2,
+            pass,
+        ),
+        Adorned::Incomplete => wrong(alloc, view, level, Gravity::Severe, "Incomplete section title.", 2, pass),
+        Adorned::MissingUnderline { blank } => wrong(
+            alloc,
+            view,
+            level,
+            Gravity::Severe,
+            "Missing matching underline for section title overline.",
+            if blank { 2 } else { 3 },
+            pass,
+        ),
+        Adorned::Mismatch => wrong(
+            alloc,
+            view,
+            level,
+            Gravity::Severe,
+            "Title overline & underline mismatch.",
+            3,
+            pass,
+        ),
+        Adorned::Unexpected => wrong(
+            alloc,
+            view,
+            level,
+            Gravity::Severe,
+            "Unexpected section title or transition.",
+            1,
+            pass,
+        ),
+    }
+}
+
+/// A short line that is taken as text, behind a message that says so.
+fn short(alloc: Global, view: &View<'_>, level: Level, text: &str, pass: &mut Pass) -> Result<Step, BlockFault> {
+    let info = message(alloc, Gravity::Info, view.number(level.at), text, None)?;
+    text_line(alloc, view, level, alone(alloc, info)?, pass)
+}
+
+/// The message on some lines that are neither a title nor a transition.
+fn wrong(
+    alloc: Global,
+    view: &View<'_>,
+    level: Level,
+    gravity: Gravity,
+    text: &str,
+    lines: usize,
+    pass: &mut Pass,
+) -> Result<Step, BlockFault> {
+    let level = level.closed(alloc, view, pass)?;
+    let at = level.at;
+    let end = at + lines;
+    let block = source(alloc, view, at, end, pass)?;
+    let node = message(alloc, gravity, view.number(at), text, Some(block.as_str()))?;
+    Ok(Step::Next(level.past(end).with(node)?))
+}
+
+/// A title between its overline and its underline.
+fn overlined(
+    alloc: Global,
+    view: &View<'_>,
+    level: Level,
+    mark: Adornment,
+    short: bool,
+    pass: &mut Pass,
+) -> Result<Step, BlockFault> {
+    let level = level.closed(alloc, view, pass)?;
+    let at = level.at;
+    let end = at + 3;
+    let lines = source(alloc, view, at, end, pass)?;
+    let warning = if short {
+        let text = "Title overline too short.";
+        Some(message(alloc, Gravity::Warning, view.number(at), text, Some(lines.as_str()))?)
+    } else {
+        None
+    };
+    let line = view.number(at + 1);
+    let text = view.line(at + 1, &mut pass.looks);
+    let style = Style {
+        character: mark.character,
+        overlined: true,
+    };
+    let text = skip(text, indentation(text));
+    let heading = Heading::of(alloc, style, text, line, warning, lines, pass)?;
+    Ok(Step::Next(with_heading(level.past(end), heading)?))
+}

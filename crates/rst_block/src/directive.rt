@@ -1,0 +1,192 @@
+//! Directives as blocks (Markup Specification, 'Directives').
+use super::fault::BlockFault;
+use super::figure::OpenFigure;
+use super::level::Level;
+use super::paragraph::is_single_paragraph;
+use super::part::inside;
+use super::resume::Waits;
+use super::step::Step;
+use super::texts::{Pass, alone, appended, excerpt, filled, joined, source};
+use rst_directives::{Argument, Content, Directive, DirectiveFault, Name, Place, Setting, called, directive, message as fault_text};
+use rst_elements::{code_block, directive_element, figure, image, message, texted, with_title_class};
+use rst_markup::{Invocation, Part};
+use rst_text::View;
+use rst_tree::{Level as Gravity, Node, Tag};
+use std::alloc::Global;
+
+/// What a directive is, where `place` is where it stands.
+pub(crate) fn directive_at(
+    alloc: Global,
+    view: &View<'_>,
+    at: usize,
+    invocation: &Invocation,
+    place: Place,
+    pass: &mut Pass,
+) -> Result<Directive, BlockFault> {
+    let name = called(alloc, view, at, invocation, &mut pass.looks)?;
+    let paragraph = match name {
+        Some(Name::Replace) => is_single_paragraph(&inside(view, invocation.block), pass),
+        _ => false,
+    };
+    Ok(directive(alloc, view, at, invocation, place, paragraph, &mut pass.looks)?)
+}
+
+/// A directive.
+pub(crate) fn directive_block(
+    alloc: Global,
+    view: &View<'_>,
+    level: Level,
+    invocation: &Invocation,
+    pass: &mut Pass,
+) -> Result<Step, BlockFault> {
+    let at = level.at;
+    let end = invocation.block.to;
+    let place = if level.titles() { Place::Top } else { Place::Body };
+    match directive_at(alloc, view, at, invocation, place, pass)? {
+        Directive::Wrong { fault, .. } => {
+            let name = excerpt(alloc, view.line(at, &mut pass.looks), invocation.name)?;
+            let error = wrong_directive(alloc, view, at, end, &fault, name.as_str(), pass)?;
+            Ok(Step::Next(level.past(end).with(error)?))
+        }
+        Directive::Found {
+            name,
+            argument,
+            options,
+            content,
+        } => {
+            let found = Found {
+                name,
+                argument,
+                options,
+                content,
+                end,
+            };
+            directive_nodes(alloc, view, level, found, pass)
+        }
+    }
+}
+
+/// A right directive, which ends at `end`.
+#[derive(Debug, Drop)]
+struct Found {
+    name: Name,
+    argument: Argument,
+    options: Vec<Setting>,
+    content: Content,
+    end: usize,
+}
+
+/// The message on a wrong directive, with its lines. `name` is the name that the message tells.
+pub(crate) fn wrong_directive(
+    alloc: Global,
+    view: &View<'_>,
+    at: usize,
+    end: usize,
+    fault: &DirectiveFault,
+    name: &str,
+    pass: &mut Pass,
+) -> Result<Node, BlockFault> {
+    let text = fault_text(alloc, fault, name)?;
+    let lines = source(alloc, view, at, end, pass)?;
+    Ok(message(alloc, Gravity::Error, view.number(at), text.as_str(), Some(lines.as_str()))?)
+}
+
+/// What a right directive leaves, or the block that is read for it.
+fn directive_nodes(
+    alloc: Global,
+    view: &View<'_>,
+    level: Level,
+    found: Found,
+    pass: &mut Pass,
+) -> Result<Step, BlockFault> {
+    let line = view.number(level.at);
+    match (found.name, &found.argument) {
+        (Name::Image, Argument::Uri(uri)) => {
+            let node = image(alloc, uri.as_str(), found.options.as_slice(), line, false, None)?;
+            Ok(Step::Next(level.past(found.end).with(node)?))
+        }
+        (Name::Figure, Argument::Uri(uri)) => {
+            let options = found.options.as_slice();
+            let node = figure(alloc, options, line)?;
+            let node = filled(node, alone(alloc, image(alloc, uri.as_str(), options, line, true, None)?)?)?;
+            figure_block(alloc, view, level, node, &found, pass)
+        }
+        (Name::Code, _) => code_nodes(alloc, view, level, &found, pass),
+        (Name::Admonition | Name::Topic, Argument::Title(title)) => {
+            let node = titled(alloc, view, &found, *title, line, pass)?;
+            Ok(opened(level, Waits::Element(node), &found))
+        }
+        (name, _) => {
+            let node = directive_element(alloc, name, found.options.as_slice(), line)?;
+            Ok(opened(level, Waits::Element(node), &found))
+        }
+    }
+}
+
+/// The level with the content of a directive opened.
+fn opened(level: Level, waits: Waits, found: &Found) -> Step {
+    Step::Open {
+        level: level.past(found.end),
+        waits,
+        first: found.content.first,
+        second: Some(found.content.second),
+    }
+}
+
+/// The level with the content of a figure opened.
+fn figure_block(
+    alloc: Global,
+    view: &View<'_>,
+    level: Level,
+    node: Node,
+    found: &Found,
+    pass: &mut Pass,
+) -> Result<Step, BlockFault> {
+    let at = level.at;
+    let lines = source(alloc, view, at, found.end, pass)?;
+    let waits = Waits::Figure(OpenFigure {
+        figure: node,
+        line: view.number(at),
+        source: lines,
+    });
+    Ok(opened(level, waits, found))
+}
+
+/// Program code.
+fn code_nodes(
+    alloc: Global,
+    view: &View<'_>,
+    level: Level,
+    found: &Found,
+    pass: &mut Pass,
+) -> Result<Step, BlockFault> {
+    let line = view.number(level.at);
+    let text = joined(alloc, &inside(view, found.content.second), pass)?;
+    let language = match &found.argument {
+        Argument::Language(language) => Some(language.as_str()),
+        _ => None,
+    };
+    let node = code_block(alloc, language, found.options.as_slice(), text.as_str(), line)?;
+    Ok(Step::Next(level.past(found.end).with(node)?))
+}
+
+/// An admonition or a topic with its title and the messages of that.
+fn titled(
+    alloc: Global,
+    view: &View<'_>,
+    found: &Found,
+    title: Part,
+    line: usize,
+    pass: &mut Pass,
+) -> Result<Node, BlockFault> {
+    let lines = inside(view, title);
+    let title_line = if 0 < lines.len() { lines.number(0) } else { line };
+    let text = joined(alloc, &lines, pass)?;
+    let title = texted(alloc, Tag::Title, title_line, text.as_str(), title_line, &mut pass.numbers)?;
+    let mut node = directive_element(alloc, found.name, found.options.as_slice(), line)?;
+    if matches!(found.name, Name::Admonition) {
+        let words = title.element.text_of(alloc)?;
+        node = with_title_class(alloc, node, words.as_str())?;
+    }
+    filled(node, appended(alone(alloc, title.element)?, title.notes)?)
+}

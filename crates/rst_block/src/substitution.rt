@@ -1,0 +1,144 @@
+//! Substitution definitions (Markup Specification, 'Substitution Definitions').
+use super::directive::{directive_at, wrong_directive};
+use super::fault::BlockFault;
+use super::level::Level;
+use super::resume::Waits;
+use super::step::Step;
+use super::texts::{Pass, alone, excerpt, filled, source};
+use rst_directives::{Argument, Directive, DirectiveFault, Place};
+use rst_elements::{image, may_replace, message, substitution_definition as definition};
+use rst_inline::unescape;
+use rst_markup::Invocation;
+use rst_text::{View, normalized_white};
+use rst_tree::{Children, Level as Gravity, Node, Tag};
+use std::alloc::Global;
+
+/// A substitution definition whose replacement text is read.
+#[derive(Debug, Drop)]
+pub(crate) struct OpenReplacement {
+    /// The name, white runs being one space.
+    pub name: String,
+    /// The number of its first line.
+    pub line: usize,
+    /// Its lines.
+    pub source: String,
+}
+
+/// A substitution definition that ends at `end`. `written` is its name as it stands between the bars, `held` the directive
+/// that it holds.
+pub(crate) fn substitution_definition(
+    alloc: Global,
+    view: &View<'_>,
+    level: Level,
+    written: &str,
+    held: Option<Invocation>,
+    end: usize,
+    pass: &mut Pass,
+) -> Result<Step, BlockFault> {
+    let name = unescape(alloc, written)?;
+    let name = normalized_white(alloc, name.as_str())?;
+    let Some(invocation) = held else {
+        let text = about(alloc, name.as_str(), " empty or invalid.")?;
+        let lines = source(alloc, view, level.at, end, pass)?;
+        let line = view.number(level.at);
+        let warning = message(alloc, Gravity::Warning, line, text.as_str(), Some(lines.as_str()))?;
+        return Ok(Step::Next(level.past(end).with(warning)?));
+    };
+    holding(alloc, view, level, name, &invocation, end, pass)
+}
+
+/// A text on a substitution definition.
+fn about(alloc: Global, name: &str, what: &str) -> Result<String, BlockFault> {
+    let mut text = String::from_str(alloc, "Substitution definition \"")?;
+    text.push_str(name)?;
+    text.push_str("\"")?;
+    text.push_str(what)?;
+    Ok(text)
+}
+
+/// A substitution definition that holds a directive.
+fn holding(
+    alloc: Global,
+    view: &View<'_>,
+    level: Level,
+    name: String,
+    invocation: &Invocation,
+    end: usize,
+    pass: &mut Pass,
+) -> Result<Step, BlockFault> {
+    let at = level.at;
+    let line = view.number(at);
+    match directive_at(alloc, view, at, invocation, Place::Substitution, pass)? {
+        Directive::Wrong { fault, .. } => {
+            let error = wrong_definition(alloc, view, at, end, &fault, name.as_str(), invocation, pass)?;
+            Ok(Step::Next(level.past(end).with(error)?))
+        }
+        Directive::Found {
+            argument: Argument::Uri(uri),
+            options,
+            ..
+        } => {
+            let shown = image(alloc, uri.as_str(), options.as_slice(), line, false, Some(name.as_str()))?;
+            let node = filled(definition(alloc, name.as_str(), line)?, alone(alloc, shown)?)?;
+            Ok(Step::Next(level.past(end).with(node)?))
+        }
+        Directive::Found { content, .. } => {
+            let lines = source(alloc, view, at, end, pass)?;
+            Ok(Step::Open {
+                level: level.past(end),
+                waits: Waits::Replacement(OpenReplacement {
+                    name,
+                    line,
+                    source: lines,
+                }),
+                first: content.first,
+                second: Some(content.second),
+            })
+        }
+    }
+}
+
+/// The message on a substitution definition that holds a wrong directive. One that may not stand here is told by the
+/// definition's name, else the directive's name is told.
+fn wrong_definition(
+    alloc: Global,
+    view: &View<'_>,
+    at: usize,
+    end: usize,
+    fault: &DirectiveFault,
+    name: &str,
+    invocation: &Invocation,
+    pass: &mut Pass,
+) -> Result<Node, BlockFault> {
+    if matches!(fault, DirectiveFault::NotInSubstitution) {
+        return wrong_directive(alloc, view, at, end, fault, name, pass);
+    }
+    let written = excerpt(alloc, view.line(at, &mut pass.looks), invocation.name)?;
+    wrong_directive(alloc, view, at, end, fault, written.as_str(), pass)
+}
+
+/// A substitution definition with its replacement text, or the message on one that may not stand there.
+pub(crate) fn finished_replacement(alloc: Global, open: OpenReplacement, nodes: Vec<Node>) -> Result<Node, BlockFault> {
+    let OpenReplacement { name, line, source } = open;
+    let children = first_paragraph(alloc, nodes);
+    if !may_replace(children.as_slice()) {
+        let text = about(alloc, name.as_str(), " contains an illegal element.")?;
+        return Ok(message(alloc, Gravity::Error, line, text.as_str(), Some(source.as_str()))?);
+    }
+    filled(definition(alloc, name.as_str(), line)?, children.into_list())
+}
+
+/// The nodes of the first paragraph.
+fn first_paragraph(alloc: Global, nodes: Vec<Node>) -> Children {
+    for node in nodes {
+        if let Node::Element {
+            tag: Tag::Paragraph,
+            children,
+            ..
+        } = node
+        {
+            return children;
+        }
+    }
+    Children::new(alloc)
+}
