@@ -1,0 +1,119 @@
+//! Admonitions, topics and program code.
+
+use super::nodes::{element_of, preserving, text_nodes};
+use super::settings::{Holder, set_options};
+use super::values::identifier;
+use rst_directives::{Name, Setting};
+use rst_tree::{Attrs, Key, Node, Tag, Text, Texts, TreeFault, Value};
+use std::alloc::Global;
+
+/// The element that a directive makes: of `replace`, which makes none of its own, the paragraph that it holds.
+fn tag_of(name: Name) -> Tag {
+    match name {
+        Name::Attention => Tag::Attention,
+        Name::Caution => Tag::Caution,
+        Name::Danger => Tag::Danger,
+        Name::Error => Tag::Error,
+        Name::Hint => Tag::Hint,
+        Name::Important => Tag::Important,
+        Name::Note => Tag::Note,
+        Name::Tip => Tag::Tip,
+        Name::Warning => Tag::Warning,
+        Name::Admonition => Tag::Admonition,
+        Name::Topic => Tag::Topic,
+        Name::Image => Tag::Image,
+        Name::Figure => Tag::Figure,
+        Name::Replace => Tag::Paragraph,
+        Name::Code => Tag::LiteralBlock,
+    }
+}
+
+/// The element of an admonition or a topic, with the classes and the name of its options, without title and content
+/// (Docutils, Directives, 'Admonitions').
+///
+/// The only refusal is [`TreeFault::NoMemory`].
+pub fn directive_element(
+    alloc: Global,
+    name: Name,
+    options: &[Setting],
+    line: usize,
+) -> Result<Node, TreeFault> {
+    let mut attrs = Attrs::new(alloc);
+    set_options(alloc, &mut attrs, Holder::Body, options)?;
+    Ok(element_of(tag_of(name), attrs, Vec::new(alloc), line))
+}
+
+/// An element of the directive `admonition` with the class that its title gives, unless its options gave it some: the
+/// word `admonition-` with the id of the title's text (Docutils, Directives, 'Generic Admonition').
+///
+/// The only refusal is [`TreeFault::NoMemory`].
+pub fn with_title_class(alloc: Global, admonition: Node, title: &Node) -> Result<Node, TreeFault> {
+    match admonition {
+        Node::Element {
+            tag,
+            mut attrs,
+            children,
+            line,
+        } => {
+            if attrs.get(Key::Classes).is_none() {
+                attrs.set(Key::Classes, title_class(alloc, title)?)?;
+            }
+            Ok(Node::Element {
+                tag,
+                attrs,
+                children,
+                line,
+            })
+        }
+        Node::Text(text) => Ok(Node::Text(text)),
+    }
+}
+
+/// The class that a title gives.
+fn title_class(alloc: Global, title: &Node) -> Result<Value, TreeFault> {
+    let text = title.text_of(alloc)?;
+    let id = identifier(alloc, text.as_str())?;
+    let mut class = Text::from_str(alloc, "admonition-")?;
+    class.push_str(id.as_str())?;
+    let mut classes = Texts::new(alloc);
+    classes.push(class)?;
+    Ok(Value::List(classes))
+}
+
+/// Program code in a language, if one is named, with its text (Docutils, Directives, 'Code'). The classes are `code`, the
+/// language as it is written, and those of the options.
+///
+/// The only refusal is [`TreeFault::NoMemory`].
+pub fn code_block(
+    alloc: Global,
+    language: Option<&str>,
+    options: &[Setting],
+    text: &str,
+    line: usize,
+) -> Result<Node, TreeFault> {
+    let mut attrs = preserving(alloc)?;
+    set_options(alloc, &mut attrs, Holder::Body, options)?;
+    let own = attrs.remove(Key::Classes);
+    attrs.set(Key::Classes, code_classes(alloc, language, own)?)?;
+    let nodes = text_nodes(alloc, text)?;
+    Ok(element_of(Tag::LiteralBlock, attrs, nodes, line))
+}
+
+/// The classes of program code.
+fn code_classes(
+    alloc: Global,
+    language: Option<&str>,
+    own: Option<Value>,
+) -> Result<Value, TreeFault> {
+    let mut classes = Texts::new(alloc);
+    classes.push(Text::from_str(alloc, "code")?)?;
+    if let Some(word) = language {
+        classes.push(Text::from_str(alloc, word)?)?;
+    }
+    if let Some(Value::List(more)) = own {
+        for class in more.as_slice() {
+            classes.push(class.copy()?)?;
+        }
+    }
+    Ok(Value::List(classes))
+}

@@ -1,0 +1,80 @@
+//! Images and figures.
+
+use super::nodes::element_of;
+use super::settings::{Holder, set_options};
+use super::values::{name_said, normalized, said};
+use rst_directives::{OptionValue, Setting, Target};
+use rst_tree::{Attrs, Key, Node, Tag, Text, TreeFault, Value};
+use std::alloc::Global;
+
+/// An image, in a reference where its options say that it leads to a target (Docutils, Directives, 'Image'). The image of
+/// a figure has no alignment. `alt` is the text that stands for the image where no option says another.
+///
+/// The only refusal is [`TreeFault::NoMemory`].
+pub fn image(
+    alloc: Global,
+    uri: &str,
+    options: &[Setting],
+    line: usize,
+    in_figure: bool,
+    alt: Option<&str>,
+) -> Result<Node, TreeFault> {
+    let mut attrs = Attrs::new(alloc);
+    attrs.set(Key::Uri, said(alloc, uri)?)?;
+    if let Some(text) = alt {
+        attrs.set(Key::Alt, said(alloc, text)?)?;
+    }
+    let holder = if in_figure {
+        Holder::FigureImage
+    } else {
+        Holder::Image
+    };
+    set_options(alloc, &mut attrs, holder, options)?;
+    let image = element_of(Tag::Image, attrs, Vec::new(alloc), line);
+    match link_of(options) {
+        Some((to, source)) => linked(alloc, image, to, source, line),
+        None => Ok(image),
+    }
+}
+
+/// What an option `target` leads to, and the text that it is written with.
+fn link_of(options: &[Setting]) -> Option<(&Target, &str)> {
+    for setting in options {
+        if let OptionValue::Link { to, source } = &setting.value {
+            return Some((to, source.as_str()));
+        }
+    }
+    None
+}
+
+/// A reference round an image.
+fn linked(
+    alloc: Global,
+    image: Node,
+    to: &Target,
+    source: &str,
+    line: usize,
+) -> Result<Node, TreeFault> {
+    let mut attrs = Attrs::new(alloc);
+    attrs.set(Key::Rawsource, said(alloc, source)?)?;
+    match to {
+        Target::Uri(uri) => attrs.set(Key::Refuri, said(alloc, uri.as_str())?)?,
+        Target::Name(name) => {
+            let shown = normalized(alloc, name.as_str())?;
+            attrs.set(Key::Name, Value::Text(Text::new(shown)))?;
+            attrs.set(Key::Refname, name_said(alloc, name.as_str())?)?;
+        }
+    }
+    let mut nodes = Vec::new(alloc);
+    nodes.push(image)?;
+    Ok(element_of(Tag::Reference, attrs, nodes, line))
+}
+
+/// A figure, without its image, caption and legend (Docutils, Directives, 'Figure').
+///
+/// The only refusal is [`TreeFault::NoMemory`].
+pub fn figure(alloc: Global, options: &[Setting], line: usize) -> Result<Node, TreeFault> {
+    let mut attrs = Attrs::new(alloc);
+    set_options(alloc, &mut attrs, Holder::Figure, options)?;
+    Ok(element_of(Tag::Figure, attrs, Vec::new(alloc), line))
+}

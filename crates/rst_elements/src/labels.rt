@@ -1,0 +1,50 @@
+//! Footnotes and citations.
+
+use super::nodes::{element_of, plain};
+use super::values::{name_said, said};
+use rst_tree::{Attrs, Key, Node, Tag, TreeFault, Value};
+use std::alloc::Global;
+
+/// A footnote with its label, without its content (Document Tree, 'footnote'). The label is digits, which it shows and is
+/// named by; `#`, maybe with a name behind it, which numbers it; or `*`, which gives it a symbol.
+///
+/// The only refusal is [`TreeFault::NoMemory`].
+pub fn footnote(alloc: Global, label: &str, line: usize) -> Result<Node, TreeFault> {
+    let mut attrs = Attrs::new(alloc);
+    attrs.set(Key::Mark, said(alloc, label)?)?;
+    let mut shown = "";
+    if let Some(name) = label.strip_prefix("#") {
+        attrs.set(Key::Auto, Value::Number(1))?;
+        if !name.is_empty() {
+            attrs.set(Key::OwnName, name_said(alloc, name)?)?;
+        }
+    } else if label == "*" {
+        attrs.set(Key::Auto, said(alloc, "*")?)?;
+    } else {
+        attrs.set(Key::OwnName, name_said(alloc, label)?)?;
+        shown = label;
+    }
+    labelled(alloc, Tag::Footnote, attrs, shown, line)
+}
+
+/// A citation with its label, which names it, without its content (Document Tree, 'citation').
+///
+/// The only refusal is [`TreeFault::NoMemory`].
+pub fn citation(alloc: Global, label: &str, line: usize) -> Result<Node, TreeFault> {
+    let mut attrs = Attrs::new(alloc);
+    attrs.set(Key::OwnName, name_said(alloc, label)?)?;
+    labelled(alloc, Tag::Citation, attrs, label, line)
+}
+
+/// An element that begins with a label that shows a text.
+fn labelled(
+    alloc: Global,
+    tag: Tag,
+    attrs: Attrs,
+    shown: &str,
+    line: usize,
+) -> Result<Node, TreeFault> {
+    let mut nodes = Vec::new(alloc);
+    nodes.push(plain(alloc, Tag::Label, line, shown)?)?;
+    Ok(element_of(tag, attrs, nodes, line))
+}

@@ -1,0 +1,178 @@
+//! Line blocks.
+
+use super::nodes::element_of;
+use super::numbers::Numbers;
+use super::texted::with_text;
+use rst_tree::{Attrs, Node, Tag, TreeFault};
+use std::alloc::{AllocError, AllocFailed, Global};
+use thiserror::Error;
+
+/// A line of a line block: how deep it is indented behind its bar (none where nothing stands behind the bar), the number of
+/// the line with the bar, the number of the line that its text begins in, and the text.
+#[derive(Debug, Drop)]
+pub struct BarText {
+    pub indent: Option<usize>,
+    pub line: usize,
+    pub text_line: usize,
+    pub text: String,
+}
+
+/// A line block, and the messages of the texts of its lines, in order.
+#[derive(Debug, Drop)]
+pub struct LineBlock {
+    pub element: Node,
+    pub notes: Vec<Node>,
+}
+
+/// Why a line block was not made.
+#[derive(Clone, Copy, Debug, PartialEq, Eq, Error)]
+pub enum LineBlockFault {
+    /// Line blocks nest too deep; the number is that of the first line of the first line block that does.
+    #[error("line {line}: nesting too deep")]
+    TooDeep { line: usize },
+    /// A growth was refused.
+    #[error("out of memory")]
+    NoMemory,
+}
+
+impl From<AllocError> for LineBlockFault {
+    fn from(_error: AllocError) -> LineBlockFault {
+        LineBlockFault::NoMemory
+    }
+}
+
+impl<T: Drop> From<AllocFailed<T>> for LineBlockFault {
+    fn from(_error: AllocFailed<T>) -> LineBlockFault {
+        LineBlockFault::NoMemory
+    }
+}
+
+impl From<TreeFault> for LineBlockFault {
+    fn from(_fault: TreeFault) -> LineBlockFault {
+        LineBlockFault::NoMemory
+    }
+}
+
+/// The line block of some lines, of a level of nesting (Markup Specification, 'Line Blocks'). Lines that are deeper than
+/// the least indentation form line blocks of the next level, as many neighbours as there are in each. A line with nothing
+/// behind its bar is as deep as the one before it, the first not at all.
+///
+/// Refusals: [`LineBlockFault::TooDeep`] where a line block's level is above `deepest`, and
+/// [`LineBlockFault::NoMemory`].
+pub fn line_block(
+    alloc: Global,
+    lines: Vec<BarText>,
+    level: usize,
+    deepest: usize,
+    numbers: &mut Numbers,
+) -> Result<LineBlock, LineBlockFault> {
+    let indents = indents_of(alloc, &lines)?;
+    if deepest < level {
+        return Err(LineBlockFault::TooDeep {
+            line: first_line(&lines),
+        });
+    }
+    let mut notes = Vec::new(alloc);
+    let element = block_of(
+        alloc,
+        &lines,
+        &indents,
+        deepest - level,
+        numbers,
+        &mut notes,
+    )?;
+    Ok(LineBlock { element, notes })
+}
+
+/// How deep each line is.
+fn indents_of(alloc: Global, lines: &[BarText]) -> Result<Vec<usize>, AllocError> {
+    let mut indents = Vec::new(alloc);
+    let mut last = 0;
+    for line in lines {
+        last = line.indent.unwrap_or(last);
+        indents.push(last)?;
+    }
+    Ok(indents)
+}
+
+/// The number of the first line, 0 where there is none.
+fn first_line(lines: &[BarText]) -> usize {
+    match lines.first() {
+        Some(first) => first.line,
+        None => 0,
+    }
+}
+
+/// The least indentation, 0 where there is no line.
+fn least(indents: &[usize]) -> usize {
+    let mut least = match indents.first() {
+        Some(first) => *first,
+        None => 0,
+    };
+    for indent in indents {
+        least = least.min(*indent);
+    }
+    least
+}
+
+/// How many lines at the front are deeper than `least`.
+fn deeper(indents: &[usize], least: usize) -> usize {
+    let mut n = 0;
+    for indent in indents {
+        if *indent <= least {
+            break;
+        }
+        n += 1;
+    }
+    n
+}
+
+/// The line block of some lines, inside which `levels` more may nest.
+///
+/// Each line is looked at once for each line block that it stands in.
+fn block_of(
+    alloc: Global,
+    lines: &[BarText],
+    indents: &[usize],
+    levels: usize,
+    numbers: &mut Numbers,
+    notes: &mut Vec<Node>,
+) -> Result<Node, LineBlockFault> {
+    let least = least(indents);
+    let mut nodes = Vec::new(alloc);
+    let mut place = 0;
+    while place < lines.len() && place < indents.len() {
+        let run = deeper(&indents[place..], least);
+        if run == 0 {
+            nodes.push(line_of(alloc, &lines[place], numbers, notes)?)?;
+            place += 1;
+            continue;
+        }
+        let end = (place + run).min(lines.len());
+        if levels == 0 {
+            return Err(LineBlockFault::TooDeep {
+                line: lines[place].line,
+            });
+        }
+        let (inner, below) = (&lines[place..end], &indents[place..end]);
+        nodes.push(block_of(alloc, inner, below, levels - 1, numbers, notes)?)?;
+        place = end;
+    }
+    let line = first_line(lines);
+    Ok(element_of(Tag::LineBlock, Attrs::new(alloc), nodes, line))
+}
+
+/// A line, whose messages are put behind the others.
+fn line_of(
+    alloc: Global,
+    line: &BarText,
+    numbers: &mut Numbers,
+    notes: &mut Vec<Node>,
+) -> Result<Node, LineBlockFault> {
+    let text = line.text.as_str();
+    let read = with_text(alloc, Tag::Line, line.line, text, line.text_line, numbers)?;
+    for note in read.notes {
+        notes.push(note)?;
+    }
+    Ok(read.element)
+}

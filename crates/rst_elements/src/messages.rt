@@ -1,0 +1,29 @@
+//! Messages.
+
+use rst_tree::{Level, Node, Note, Text, TreeFault};
+use std::alloc::Global;
+
+/// A message on the line of a number, with the source text that it shows, if it shows some (Document Tree,
+/// 'system_message').
+///
+/// The only refusal is [`TreeFault::NoMemory`].
+pub fn message(
+    alloc: Global,
+    level: Level,
+    line: usize,
+    text: &str,
+    block: Option<&str>,
+) -> Result<Node, TreeFault> {
+    let text = Text::from_str(alloc, text)?;
+    let block = match block {
+        Some(shown) => Some(Text::from_str(alloc, shown)?),
+        None => None,
+    };
+    let note = Note {
+        level,
+        line,
+        text,
+        block,
+    };
+    note.into_node(alloc)
+}

@@ -1,0 +1,112 @@
+//! Targets and substitution definitions.
+
+use super::nodes::element_of;
+use super::values::{name_said, normalized, said, unescaped};
+use rst_directives::{Target, target_value};
+use rst_tree::{Attrs, Key, Node, Tag, TreeFault, Value};
+use std::alloc::Global;
+
+/// A target that is a block: its name as it is written, still with escapes, if it has one, and its text, whose lines are
+/// joined by line feeds and may have their indentation (Markup Specification, 'Hyperlink Targets'). It leads to a name or
+/// to a URI, or stands for its own place where nothing is left of its text. One without a name is anonymous.
+///
+/// The only refusal is [`TreeFault::NoMemory`].
+pub fn target(
+    alloc: Global,
+    name: Option<&str>,
+    text: &str,
+    line: usize,
+) -> Result<Node, TreeFault> {
+    let mut attrs = Attrs::new(alloc);
+    match name {
+        Some(written) => {
+            let name = unescaped(alloc, written)?;
+            attrs.set(Key::OwnName, name_said(alloc, name.as_str())?)?;
+        }
+        None => attrs.set(Key::Anonymous, Value::Number(1))?,
+    }
+    let Ok(value) = target_value(alloc, text) else {
+        return Err(TreeFault::NoMemory);
+    };
+    match value {
+        Some(Target::Name(name)) => attrs.set(Key::Refname, name_said(alloc, name.as_str())?)?,
+        Some(Target::Uri(uri)) => attrs.set(Key::Refuri, said(alloc, uri.as_str())?)?,
+        None => {}
+    }
+    Ok(element_of(Tag::Target, attrs, Vec::new(alloc), line))
+}
+
+/// The name of a substitution definition that is written in this way: without escapes, each run of white characters as one
+/// space, and none at the ends. Case is kept.
+///
+/// The only refusal is [`TreeFault::NoMemory`].
+pub fn substitution_name(alloc: Global, written: &str) -> Result<String, TreeFault> {
+    let name = unescaped(alloc, written)?;
+    normalized(alloc, name.as_str())
+}
+
+/// A substitution definition, without its content; the name is that of [`substitution_name`] (Document Tree,
+/// 'substitution_definition').
+///
+/// The only refusal is [`TreeFault::NoMemory`].
+pub fn substitution_definition(alloc: Global, name: &str, line: usize) -> Result<Node, TreeFault> {
+    let mut attrs = Attrs::new(alloc);
+    attrs.set(Key::OwnName, said(alloc, name)?)?;
+    Ok(element_of(Tag::SubstitutionDefinition, attrs, Vec::new(alloc), line))
+}
+
+/// Whether these nodes of a text may stand in the place of a substitution reference (Docutils, Directives, 'Replacement
+/// Text'): text, plain roles, substitution references, and references that are neither anonymous nor stand round a
+/// substitution reference.
+pub fn may_replace(nodes: &[Node]) -> bool {
+    for node in nodes {
+        if !may_stand(node) {
+            return false;
+        }
+    }
+    true
+}
+
+/// Whether a node may stand in a replacement text.
+fn may_stand(node: &Node) -> bool {
+    match node {
+        Node::Text(_) => true,
+        Node::Element {
+            tag: Tag::Reference,
+            attrs,
+            children,
+            ..
+        } => attrs.get(Key::Anonymous).is_none() && !has_substitution(children.as_slice()),
+        Node::Element { tag, .. } => is_plain_role(*tag),
+    }
+}
+
+/// Whether elements of this kind may stand in a replacement text, whatever they hold.
+fn is_plain_role(tag: Tag) -> bool {
+    matches!(
+        tag,
+        Tag::Emphasis
+            | Tag::Strong
+            | Tag::Literal
+            | Tag::Subscript
+            | Tag::Superscript
+            | Tag::TitleReference
+            | Tag::SubstitutionReference
+    )
+}
+
+/// Whether one of the nodes is a substitution reference.
+fn has_substitution(nodes: &[Node]) -> bool {
+    for node in nodes {
+        if matches!(
+            node,
+            Node::Element {
+                tag: Tag::SubstitutionReference,
+                ..
+            }
+        ) {
+            return true;
+        }
+    }
+    false
+}

@@ -1,0 +1,118 @@
+//! Elements that hold a text with inline markup.
+
+use super::nodes::element_of;
+use super::numbers::Numbers;
+use rst_inline::{Pieces, inline};
+use rst_tree::{Attrs, Key, Node, Note, Tag, TreeFault, Value};
+use std::alloc::Global;
+
+/// An element with the nodes of its text, and the messages of the text.
+#[derive(Debug, Drop)]
+pub struct Texted {
+    pub element: Node,
+    pub notes: Vec<Node>,
+}
+
+/// The nodes of a text, and its messages.
+#[derive(Debug, Drop)]
+pub(crate) struct Reading {
+    pub(crate) nodes: Vec<Node>,
+    pub(crate) notes: Vec<Node>,
+}
+
+/// An element of line `line` with the nodes of a text whose first line is `text_line`, and the text's messages (Markup
+/// Specification, 'Inline Markup'). The element says how many messages there are. A message and its problematic have one
+/// number, by which the document's messages are counted.
+///
+/// The only refusal is [`TreeFault::NoMemory`].
+pub fn with_text(
+    alloc: Global,
+    tag: Tag,
+    line: usize,
+    text: &str,
+    text_line: usize,
+    numbers: &mut Numbers,
+) -> Result<Texted, TreeFault> {
+    let Reading { nodes, notes } = read(alloc, text, text_line, numbers)?;
+    let attrs = counting(alloc, notes.len())?;
+    Ok(Texted {
+        element: element_of(tag, attrs, nodes, line),
+        notes,
+    })
+}
+
+/// The attribute that says how many messages of its text an element has.
+pub(crate) fn counting(alloc: Global, notes: usize) -> Result<Attrs, TreeFault> {
+    let mut attrs = Attrs::new(alloc);
+    attrs.set(Key::TextMessages, Value::Number(notes as u64))?;
+    Ok(attrs)
+}
+
+/// The nodes of a text whose first line has a number, and its messages.
+pub(crate) fn read(
+    alloc: Global,
+    text: &str,
+    line: usize,
+    numbers: &mut Numbers,
+) -> Result<Reading, TreeFault> {
+    let Ok(Pieces { nodes, notes }) = inline(alloc, text, line) else {
+        return Err(TreeFault::NoMemory);
+    };
+    let first = numbers.take(notes.len());
+    let nodes = numbered_on(alloc, nodes, first)?;
+    let notes = messages_of(alloc, notes, first)?;
+    Ok(Reading { nodes, notes })
+}
+
+/// The nodes with the numbers of their messages counted on from the first.
+fn numbered_on(alloc: Global, nodes: Vec<Node>, first: u64) -> Result<Vec<Node>, TreeFault> {
+    let mut numbered = Vec::new(alloc);
+    for node in nodes {
+        match message_of(&node) {
+            Some(number) => numbered.push(with_message(node, first.saturating_add(number))?)?,
+            None => numbered.push(node)?,
+        }
+    }
+    Ok(numbered)
+}
+
+/// The number of the message that a node is a problematic of.
+fn message_of(node: &Node) -> Option<u64> {
+    match node.value(Key::Message) {
+        Some(Value::Number(number)) => Some(*number),
+        _ => None,
+    }
+}
+
+/// The element with the number of a message; a text stays as it is.
+fn with_message(node: Node, number: u64) -> Result<Node, TreeFault> {
+    match node {
+        Node::Element {
+            tag,
+            mut attrs,
+            children,
+            line,
+        } => {
+            attrs.set(Key::Message, Value::Number(number))?;
+            Ok(Node::Element {
+                tag,
+                attrs,
+                children,
+                line,
+            })
+        }
+        Node::Text(text) => Ok(Node::Text(text)),
+    }
+}
+
+/// The messages as nodes, numbered on from the first.
+fn messages_of(alloc: Global, notes: Vec<Note>, first: u64) -> Result<Vec<Node>, TreeFault> {
+    let mut messages = Vec::new(alloc);
+    let mut number = first;
+    for note in notes {
+        let node = note.into_node(alloc)?;
+        messages.push(with_message(node, number)?)?;
+        number = number.saturating_add(1);
+    }
+    Ok(messages)
+}

@@ -1,0 +1,53 @@
+//! Texts as values of attributes.
+
+use rst_inline::unescape;
+use rst_text::{id_of, name_of, normalized_white};
+use rst_tree::{Text, Texts, TreeFault, Value};
+use std::alloc::Global;
+
+/// A value that says a text.
+pub(crate) fn said(alloc: Global, text: &str) -> Result<Value, TreeFault> {
+    let text = Text::from_str(alloc, text)?;
+    Ok(Value::Text(text))
+}
+
+/// A value that says the name that a text gives.
+pub(crate) fn name_said(alloc: Global, text: &str) -> Result<Value, TreeFault> {
+    match name_of(alloc, text) {
+        Ok(name) => Ok(Value::Text(Text::new(name))),
+        Err(_) => Err(TreeFault::NoMemory),
+    }
+}
+
+/// A text with each run of white characters as one space, and none at its ends.
+pub(crate) fn normalized(alloc: Global, text: &str) -> Result<String, TreeFault> {
+    match normalized_white(alloc, text) {
+        Ok(normalized) => Ok(normalized),
+        Err(_) => Err(TreeFault::NoMemory),
+    }
+}
+
+/// A text without its escapes.
+pub(crate) fn unescaped(alloc: Global, text: &str) -> Result<String, TreeFault> {
+    match unescape(alloc, text) {
+        Ok(shown) => Ok(shown),
+        Err(_) => Err(TreeFault::NoMemory),
+    }
+}
+
+/// The id that a text gives.
+pub(crate) fn identifier(alloc: Global, text: &str) -> Result<String, TreeFault> {
+    match id_of(alloc, text) {
+        Ok(id) => Ok(id),
+        Err(_) => Err(TreeFault::NoMemory),
+    }
+}
+
+/// A value that lists texts.
+pub(crate) fn listed(alloc: Global, texts: &[String]) -> Result<Value, TreeFault> {
+    let mut list = Texts::new(alloc);
+    for text in texts {
+        list.push(Text::from_str(alloc, text.as_str())?)?;
+    }
+    Ok(Value::List(list))
+}
