@@ -1,7 +1,6 @@
 -- Directives as they are called (Markup Specification, 'Directives').
-use Rattle.std.specs.Prelude.{ℕ, ◌+◌, ◌-◌, ◌<◌, ◌≤◌, Bool, ◌&&◌, ◌==◌, length, take, drop, slice_range, Option, IsTrue, if◌then◌else◌}
+use Rattle.std.specs.Prelude.{ℕ, ◌+◌, Bool, ◌&&◌, ◌==◌, drop, slice_range, Option, if◌then◌else◌}
 use Rattle.rst_text.specs.Block.{Block, front_text}
-use Rattle.rst_text.specs.MayCut.{is_indented}
 use Rattle.rst_directives.specs.Characters.{Text}
 use Rattle.rst_directives.specs.Name.{name_of}
 use Rattle.rst_directives.specs.declared.found.Content.{Content}
@@ -9,19 +8,6 @@ use Rattle.rst_directives.specs.declared.layout.Layout.{Layout}
 use Rattle.rst_directives.specs.declared.name.Name.{Name}
 use Rattle.rst_markup.specs.declared.forms.Invocation.{Invocation}
 use Rattle.rst_markup.specs.declared.part.Part.{Part}
-
--- a part of a block whose lines but the first have the spaces that they lose
-pub record IsBlock (B : Block) (block : Part) : Type 0 where
-  pub ordered : block.from ≤ block.to
-  pub within : block.to ≤ length B
-  pub indented : IsTrue (is_indented block.rest_cut (take (block.to - (block.from + 1)) (drop (block.from + 1) B)))
-
--- a directive that is called in the line at a place
-pub record IsCall (B : Block) (at : ℕ) (call : Invocation) : Type 0 where
-  pub inside : at < length B
-  pub ordered : call.name.from ≤ call.name.to
-  pub within : call.name.to ≤ length (front_text (drop at B))
-  pub block : IsBlock B call.block
 
 -- the name that a directive is called by
 abbrev pub name_text : Block → ℕ → Invocation → Text

@@ -2,6 +2,7 @@
 ghost use Rattle.std.specs.Prelude.{◌≡◌, true, ◌+◌, ◌*◌, ◌-◌, ◌≤◌, ◌<◌, ◌^◌, length, take, drop, IfOk};
 ghost use Rattle.rst_text.specs.Block.{cut};
 ghost use Rattle.rst_text.specs.Shown.{block_of};
+ghost use Rattle.rst_markup.specs.Parts.{IsBlock, IsCall};
 ghost use Rattle.rst_directives.specs.Argument as arguments;
 ghost use Rattle.rst_directives.specs.Faults.{Gives};
 ghost use Rattle.rst_directives.specs.Call as spec;
@@ -32,7 +33,7 @@ pub fn called(
     invocation: &Invocation,
     looks: &mut Looks,
 ) -> Result<Option<Name>, MarkupFault>
-    requires call { spec.IsCall (block_of view.now) at invocation.now }
+    requires call { IsCall (block_of view.now) at invocation.now }
     requires few { looks.old < 2 ^ 120 }
     ensures name { Gives (λ name. name ≡ spec.called_at true (block_of view.now) at invocation.now) result }
     ensures looks { looks.new ≡ looks.old + 1 }
@@ -55,7 +56,7 @@ pub fn directive(
     paragraph: bool,
     looks: &mut Looks,
 ) -> Result<Directive, MarkupFault>
-    requires call { spec.IsCall (block_of view.now) at invocation.now }
+    requires call { IsCall (block_of view.now) at invocation.now }
     requires few { looks.old < 2 ^ 120 }
     ensures outcome { Gives (λ found. directives.outcome_of found ≡ directives.directive_at true (block_of view.now) at invocation.now place paragraph) result }
     ensures looks { looks.new ≤ looks.old + 1 + 2 * (invocation.now.block.to - invocation.now.block.from) }
@@ -131,7 +132,7 @@ fn first_run(
 
 /// The lines of a block.
 fn lines_of<'a>(view: &View<'a>, block: Part) -> View<'a>
-    requires { spec.IsBlock (block_of view.now) block }
+    requires { IsBlock (block_of view.now) block }
     ensures lines { block_of result ≡ cut (block_of view.now) block.from block.to block.first_cut block.rest_cut }
     ensures len { length (block_of result) ≡ block.to - block.from }
 {
@@ -147,7 +148,7 @@ fn read(
     block: Part,
     looks: &mut Looks,
 ) -> Result<Result<Reading, Detail>, MarkupFault>
-    requires block { spec.IsBlock (block_of view.now) block }
+    requires block { IsBlock (block_of view.now) block }
     requires few { looks.old < 2 ^ 120 + 1 }
     ensures reading { Gives (λ reading. directives.reading_in reading ≡ directives.read_block name late block (cut (block_of view.now) block.from block.to block.first_cut block.rest_cut)) result }
     ensures looks { looks.new ≤ looks.old + 2 * (block.to - block.from) }

@@ -11,3 +11,4 @@ pub mod Border
 pub mod ExplicitMarks
 pub mod OptionMarker
 pub mod Attribution
+pub mod Options

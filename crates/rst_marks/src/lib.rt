@@ -12,6 +12,7 @@ mod explicit_marks;
 mod field;
 mod marker;
 mod option;
+mod options;
 mod place;
 mod roman;
 mod text;
@@ -34,5 +35,6 @@ pub use marker::{Marker, bullet, doctest, line_bar, marker_of};
 pub use option::{
     Argument, Delimiter, OptionMark, OptionTail, option_at, option_marker, option_tail,
 };
+pub use options::{ListedArgument, ListedOption, listed_options};
 pub use place::Characters;
 pub use text::{begins_with, front, is_blank, is_loose};

@@ -6,16 +6,17 @@ use Rattle.rst_text.specs.Reach.{reach, through_text, looked}
 use Rattle.rst_markup.specs.declared.lines.LineTest.TheVariants.{Blank}
 use Rattle.rst_markup.specs.declared.part.Part.{Part}
 use Rattle.rst_markup.specs.Lines.{lines_while}
-use Rattle.rst_markup.specs.ExplicitMarkup.{hanging_lines, hanging_part, least_of}
+use Rattle.rst_markup.specs.ExplicitMarkup.{hanging_part, least_of}
+use Rattle.rst_markup.specs.Sizes.{hanging_size}
 use Rattle.rst_markup.proofs.LineLemmas.{looked_below}
 use Rattle.rst_markup.proofs.EndLemmas.{blank_reach}
 
-pub hanging_is : (X : Block) → hanging_lines X ≡ suc (extent 1 (drop 1 X))
-unfolding hanging_lines
+pub hanging_is : (X : Block) → hanging_size X ≡ suc (extent 1 (drop 1 X))
+unfolding hanging_size
 hanging_is X = refl
 
-pub looked_hanging : (X : Block) → 1 ≤ length X → suc (looked 1 (drop 1 X)) ≡ reach (hanging_lines X) X
-unfolding hanging_lines
+pub looked_hanging : (X : Block) → 1 ≤ length X → suc (looked 1 (drop 1 X)) ≡ reach (hanging_size X) X
+unfolding hanging_size
 looked_hanging X h = looked_below 1 X h
 
 -- the first line that isn't blank is looked at
@@ -32,12 +33,12 @@ through_looked (l ∷ ls) = by (is_blank l.text) (leb 1 (indentation l.text)) (t
 pub blank_below : (Y : Block) → reach (lines_while Blank Y) Y ≤ looked 1 Y
 blank_below Y = omega (arith, blank_reach Y, through_looked Y)
 
-pub part_text : (i cut end indent : ℕ) (X : Block) (bare : Bool) → bare ≡ false → end ≡ i + hanging_lines X → indent ≡ least_of (drop 1 X)
+pub part_text : (i cut end indent : ℕ) (X : Block) (bare : Bool) → bare ≡ false → end ≡ i + hanging_size X → indent ≡ least_of (drop 1 X)
     → let p : Part = record { from = i; to = end; first_cut = cut; rest_cut = indent } in p ≡ hanging_part i cut bare X
 unfolding hanging_part
 part_text i cut end indent X bare b e d = rw (b, e, d) refl
 
-pub part_bare : (i cut end indent from : ℕ) (X : Block) (bare : Bool) → bare ≡ true → end ≡ i + hanging_lines X → indent ≡ least_of (drop 1 X)
+pub part_bare : (i cut end indent from : ℕ) (X : Block) (bare : Bool) → bare ≡ true → end ≡ i + hanging_size X → indent ≡ least_of (drop 1 X)
     → from ≡ i + 1 + min (lines_while Blank (drop 1 X)) (extent 1 (drop 1 X))
     → let p : Part = record { from = from; to = end; first_cut = indent; rest_cut = indent } in p ≡ hanging_part i cut bare X
 unfolding hanging_part

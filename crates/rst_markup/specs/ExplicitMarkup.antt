@@ -1,5 +1,5 @@
 -- Explicit markup blocks (Markup Specification, 'Explicit Markup Blocks').
-use Rattle.std.specs.Prelude.{ℕ, suc, ◌+◌, min, Bool, true, List, drop, take, if◌then◌else◌, Option, None, Some}
+use Rattle.std.specs.Prelude.{ℕ, ◌+◌, min, Bool, true, List, drop, take, if◌then◌else◌, Option, None, Some}
 use Rattle.rst_text.specs.Block.{Block}
 use Rattle.rst_text.specs.Extent.{extent, least_indent, or_zero}
 use Rattle.rst_marks.specs.Front.{begins_with}
@@ -16,6 +16,7 @@ use Rattle.rst_markup.specs.declared.explicit_markup.ExplicitForm.TheVariants.{L
 use Rattle.rst_markup.specs.declared.lines.LineTest.TheVariants.{Blank}
 use Rattle.rst_markup.specs.declared.part.Part.{Part}
 use Rattle.rst_markup.specs.Lines.{lines_while}
+use Rattle.rst_markup.specs.Sizes.{hanging_size}
 
 abbrev pub cause_by : Option SubstitutionMark → CommentCause
 cause_by (Some Unclosed) = MalformedSubstitution
@@ -45,15 +46,11 @@ or_target None t = or_substitution (target_of t) t
 unfoldable pub explicit_form : List ℕ → ExplicitForm
 explicit_form t = or_target (label_of t) t
 
--- the line and the indented block below it
-unfoldable pub hanging_lines : Block → ℕ
-hanging_lines X = suc (extent 1 (drop 1 X))
-
 abbrev pub least_of : Block → ℕ
 least_of ls = or_zero (least_indent None (take (extent 1 ls) ls))
 
 -- the hanging block of the line at place i, which X begins with
 unfoldable pub hanging_part : ℕ → ℕ → Bool → Block → Part
 hanging_part i cut bare X =
-    if bare then record { from = i + 1 + min (lines_while Blank (drop 1 X)) (extent 1 (drop 1 X)); to = i + hanging_lines X; first_cut = least_of (drop 1 X); rest_cut = least_of (drop 1 X) }
-    else record { from = i; to = i + hanging_lines X; first_cut = cut; rest_cut = least_of (drop 1 X) }
+    if bare then record { from = i + 1 + min (lines_while Blank (drop 1 X)) (extent 1 (drop 1 X)); to = i + hanging_size X; first_cut = least_of (drop 1 X); rest_cut = least_of (drop 1 X) }
+    else record { from = i; to = i + hanging_size X; first_cut = cut; rest_cut = least_of (drop 1 X) }

@@ -6,3 +6,6 @@ pub mod Rows
 pub mod RowLaws
 pub mod AdornmentLaws
 pub mod ExplicitMarkup
+pub mod Parts
+pub mod Explicit
+pub mod Attributions

@@ -4,6 +4,7 @@ ghost use Rattle.std.specs.Str.{chars};
 ghost use Rattle.rst_text.specs.Reach.{reach};
 ghost use Rattle.rst_text.specs.Shown.{block_of};
 ghost use Rattle.rst_markup.specs.ExplicitMarkup as spec;
+ghost use Rattle.rst_markup.specs.Sizes.{hanging_size};
 
 use super::forms::CommentCause;
 use super::lines::{LineTest, lines_end};
@@ -64,7 +65,7 @@ pub fn hanging_part(view: &View<'_>, i: usize, cut: usize, bare: bool, looks: &m
     requires inside { i < length (block_of view.now) }
     requires few { looks.old < 2 ^ 120 + 2 ^ 70 }
     ensures part { result ≡ spec.hanging_part i cut bare (drop i (block_of view.now)) }
-    ensures looks { looks.new + 2 ≤ looks.old + 2 * reach (spec.hanging_lines (drop i (block_of view.now))) (drop i (block_of view.now)) }
+    ensures looks { looks.new + 2 ≤ looks.old + 2 * reach (hanging_size (drop i (block_of view.now))) (drop i (block_of view.now)) }
 {
     prove!(i < view.len());
     let extent = view.block_end(i + 1, None, looks);

@@ -1,4 +1,6 @@
 //! What a line that begins with `..` or `__` is.
+ghost use Rattle.std.specs.Prelude.{◌≡◌, ◌+◌, ◌^◌, ◌<◌};
+ghost use Rattle.rst_markup.specs.Explicit as spec;
 
 use super::part::Part;
 use rst_marks::Characters;
@@ -59,4 +61,22 @@ pub enum Explicit {
     },
     /// `..` alone before a blank line or the end.
     EmptyComment,
+}
+
+impl Explicit {
+    /// The place after the markup, which begins at place `i`.
+    pub fn end(&self, i: usize) -> usize
+        requires { i + 1 < 2 ^ 64 }
+        ensures { result ≡ spec.explicit_end i self.now }
+    {
+        match self {
+            Explicit::Footnote { body, .. } | Explicit::Citation { body, .. } => body.to,
+            Explicit::Target { text, .. }
+            | Explicit::Anonymous { text }
+            | Explicit::Comment { text, .. } => text.to,
+            Explicit::Substitution { end_, .. } => *end_,
+            Explicit::Directive(call) => call.block.to,
+            Explicit::EmptyComment => i + 1,
+        }
+    }
 }

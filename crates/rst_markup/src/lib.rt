@@ -2,9 +2,11 @@
 #![tactic(auto)]
 
 mod adornment_line;
+mod attribution;
 mod construct;
 mod constructs;
 mod ends;
+mod explicit;
 mod explicit_markup;
 mod form;
 mod forms;
@@ -14,12 +16,14 @@ mod part;
 mod row;
 
 pub use adornment_line::{AdornmentLine, adorned_at};
+pub use attribution::{Attribution, attribution_at};
 pub use construct::{Construct, end_after};
 pub use constructs::{
     AnonymousTarget, BarLine, BlankLine, BlockQuote, BulletItem, DoctestBlock, EnumeratedItem,
     FieldItem, OptionListItem, TextLine,
 };
 pub use ends::{hanging_end, indented_end, item_end, literal_end, paragraph_end, text_end};
+pub use explicit::explicit;
 pub use explicit_markup::{ExplicitForm, explicit_form, hanging_part};
 pub use form::{Adorned, TextForm, adorned_alone, adorned_below, adorned_over, text_form};
 pub use forms::{CommentCause, Explicit, Invocation};

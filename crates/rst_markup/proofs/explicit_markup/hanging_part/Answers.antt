@@ -5,7 +5,8 @@ use Rattle.rst_text.specs.Reach.{looked}
 use Rattle.rst_text.specs.Shown.{block_of}
 use Rattle.rst_markup.specs.declared.lines.LineTest.TheVariants.{Blank}
 use Rattle.rst_markup.specs.Lines.{lines_while}
-use Rattle.rst_markup.specs.ExplicitMarkup.{hanging_lines, least_of}
+use Rattle.rst_markup.specs.ExplicitMarkup.{least_of}
+use Rattle.rst_markup.specs.Sizes.{hanging_size}
 use Rattle.rst_markup.proofs.LineLemmas.{drop_one}
 use Rattle.rst_markup.proofs.EndLemmas.{looked_le}
 use Rattle.rst_markup.proofs.PartLemmas.{part_text, part_bare, looked_hanging, hanging_is, blank_below}
@@ -39,7 +40,7 @@ returns-clause-part c =
     let below = drop_one c.args.i B in
     let end : c.block_end-extent.result.end ≡ c.args.i + 1 + extent 1 (drop (c.args.i + 1) B) = ap (λ e. e.end) c.block_end-extent.ensures.extent in
     let indent : c.block_end-extent.result.indent ≡ least_of (drop (c.args.i + 1) B) = ap (λ e. e.indent) c.block_end-extent.ensures.extent in
-    let whole : c.block_end-extent.result.end ≡ c.args.i + hanging_lines X = omega (arith, end, hanging_is X, ap (λ Y. extent 1 Y) below) in
+    let whole : c.block_end-extent.result.end ≡ c.args.i + hanging_size X = omega (arith, end, hanging_is X, ap (λ Y. extent 1 Y) below) in
     part_bare c.args.i c.args.cut c.block_end-extent.result.end c.block_end-extent.result.indent c.min.result X c.args.bare c.if-not-bare.false
     whole (indent ∙ ap least_of below)
     (omega (arith, c.min.ensures, c.lines_end-start.ensures.end, end, ap (λ Y. extent 1 Y) below, ap (λ Y. lines_while Blank Y) below))

@@ -1,0 +1,32 @@
+-- Attributions of block quotes (Markup Specification, 'Block Quotes'), on a block whose first line an attribution begins
+-- in; that line stands at place k.
+use Rattle.std.specs.Prelude.{ℕ, suc, ◌+◌, ◌==◌, [], ◌∷◌, drop, if◌then◌else◌, Option, None, Some, option_map}
+use Rattle.rst_text.specs.Block.{Block, front_text, is_blank, indentation}
+use Rattle.rst_marks.specs.Attribution.{attribution_of}
+use Rattle.rst_markup.specs.Kinds.{next_text}
+use Rattle.rst_markup.specs.declared.attribution.Attribution.{Attribution}
+use Rattle.rst_markup.specs.declared.part.Part.{Part}
+
+-- how many lines there are up to a blank one, if each has this indentation
+unfoldable pub level_lines : ℕ → Block → Option ℕ
+level_lines n [] = Some 0
+level_lines n (l ∷ ls) =
+    if is_blank l.text then Some 0
+    else if indentation l.text == n then option_map (λ m. suc m) (level_lines n ls)
+    else None
+
+abbrev pub attribution_with : ℕ → ℕ → ℕ → Option ℕ → Option Attribution
+attribution_with k marker indent None = None
+attribution_with k marker indent (Some n) = Some (record { marker = marker; end = k + 1 + n; indent = indent })
+
+abbrev pub attribution_by : Option ℕ → ℕ → Block → Option Attribution
+attribution_by None k X = None
+attribution_by (Some marker) k X = attribution_with k marker (indentation (next_text X)) (level_lines (indentation (next_text X)) (drop 1 X))
+
+-- a line that an attribution's mark begins, and the lines below it up to a blank one, which share one indentation
+unfoldable pub attribution_at : ℕ → Block → Option Attribution
+attribution_at k X = attribution_by (attribution_of (front_text X)) k X
+
+-- the lines of its text, without the mark and the indentation
+abbrev pub attribution_part : ℕ → Attribution → Part
+attribution_part k a = record { from = k; to = a.end; first_cut = a.marker; rest_cut = a.indent }

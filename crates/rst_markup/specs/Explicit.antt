@@ -1,0 +1,149 @@
+-- Explicit markup with its extents, on a block whose first line it begins in; that line stands at place i (Markup
+-- Specification, 'Explicit Markup Blocks').
+use Rattle.std.specs.Prelude.{ℕ, ◌+◌, ◌<◌, ◌^◌, Bool, true, false, List, drop, if◌then◌else◌, Option, None, Some}
+use Rattle.rst_text.specs.Block.{Block, front_text, is_blank}
+use Rattle.rst_marks.specs.ExplicitMarks.{dots, underscores, directive_of}
+use Rattle.rst_marks.specs.declared.explicit_marks.DirectiveMark.{DirectiveMark}
+use Rattle.rst_marks.specs.declared.explicit_marks.LabelKind.{LabelKind}
+use Rattle.rst_marks.specs.declared.explicit_marks.LabelKind.TheVariants.{Footnote as FootnoteLabel, Citation as CitationLabel}
+use Rattle.rst_marks.specs.declared.explicit_marks.TargetMark.{TargetMark}
+use Rattle.rst_marks.specs.declared.explicit_marks.TargetMark.TheVariants.{Named, Anonymous as AnonymousMark}
+use Rattle.rst_marks.specs.declared.marker.Marker.{Marker}
+use Rattle.rst_marks.specs.declared.place.Characters.{Characters}
+use Rattle.rst_markup.specs.ExplicitMarkup.{explicit_form, hanging_part}
+use Rattle.rst_markup.specs.Kinds.{next_text}
+use Rattle.rst_markup.specs.Parts.{IsBlock, IsPlace, IsCall}
+use Rattle.rst_markup.specs.Sizes.{hanging_size, indented_size}
+use Rattle.rst_markup.specs.declared.explicit_markup.ExplicitForm.{ExplicitForm}
+use Rattle.rst_markup.specs.declared.explicit_markup.ExplicitForm.TheVariants.{Label, Target as TargetForm, Substitution as SubstitutionForm, Directive as DirectiveForm, Comment as CommentForm}
+use Rattle.rst_markup.specs.declared.forms.CommentCause.TheVariants.{Plain}
+use Rattle.rst_markup.specs.declared.forms.Explicit.{Explicit}
+use Rattle.rst_markup.specs.declared.forms.Explicit.TheVariants.{Footnote, Citation, Target, Anonymous, Substitution, Directive, Comment, EmptyComment}
+use Rattle.rst_markup.specs.declared.forms.Invocation.{Invocation}
+use Rattle.rst_markup.specs.declared.kind.Kind.{Kind}
+use Rattle.rst_markup.specs.declared.kind.Kind.TheVariants.{Explicit as ExplicitKind, Anonymous as AnonymousKind}
+use Rattle.rst_markup.specs.declared.part.Part.{Part}
+
+-- a line of this kind begins explicit markup
+abbrev pub is_explicit_kind : Kind → Bool
+is_explicit_kind ExplicitKind = true
+is_explicit_kind AnonymousKind = true
+is_explicit_kind _ = false
+
+-- ---- what it is
+
+-- len characters behind others
+abbrev pub place_of : ℕ → ℕ → Characters
+place_of from len = record { from = from; to = from + len }
+
+-- the text of a target behind n characters: the line and the indented lines below it, with their indentation
+abbrev pub target_part : ℕ → ℕ → Block → Part
+target_part i n X = record { from = i; to = i + indented_size X; first_cut = n; rest_cut = 0 }
+
+-- the mark, behind n characters, ends within a line
+abbrev pub IsTargetShort : ℕ → TargetMark → Type 0
+IsTargetShort n (Named from len marker) = (n + from + len < 2 ^ 64) × (n + marker.cut < 2 ^ 64)
+IsTargetShort n (AnonymousMark marker) = n + marker.cut < 2 ^ 64
+
+-- a directive with this mark behind n characters
+abbrev pub call_of : ℕ → ℕ → DirectiveMark → Block → Invocation
+call_of i n d X = record { name = place_of n d.len; block = hanging_part i (n + d.marker.cut) d.marker.bare X }
+
+abbrev pub call_by : Option DirectiveMark → ℕ → ℕ → Block → Option Invocation
+call_by None i n X = None
+call_by (Some d) i n X = Some (call_of i n d X)
+
+-- the directive behind n characters, if there is one, with no space before its colons
+unfoldable pub held_of : ℕ → ℕ → Block → Option Invocation
+held_of i n X = call_by (directive_of false (drop n (front_text X))) i n X
+
+abbrev pub labelled : LabelKind → Characters → Part → Explicit
+labelled FootnoteLabel label body = Footnote label body
+labelled CitationLabel label body = Citation label body
+
+abbrev pub target_of : ℕ → ℕ → TargetMark → Block → Explicit
+target_of i n (Named from len marker) X = Target (place_of (n + from) len) (target_part i (n + marker.cut) X)
+target_of i n (AnonymousMark marker) X = Anonymous (target_part i (n + marker.cut) X)
+
+-- n characters stand before what the definition holds
+abbrev pub substitution_of : ℕ → Characters → ℕ → Block → Explicit
+substitution_of i name n X = Substitution name (held_of i n X) (i + hanging_size X)
+
+-- markup of a form, behind its dots
+abbrev pub explicit_by : ExplicitForm → ℕ → Marker → Block → Explicit
+explicit_by (Label l) i m X = labelled l.kind (place_of (m.cut + 1) l.len) (hanging_part i (m.cut + l.marker.cut) l.marker.bare X)
+explicit_by (TargetForm mark) i m X = target_of i m.cut mark X
+explicit_by (SubstitutionForm len marker) i m X = substitution_of i (place_of (m.cut + 1) len) (m.cut + marker.cut) X
+explicit_by (DirectiveForm d) i m X = Directive (call_of i m.cut d X)
+explicit_by (CommentForm cause) i m X = Comment (hanging_part i m.cut false X) cause
+
+-- dots alone: an empty comment before a blank line or the end
+abbrev pub dots_alone : ℕ → Marker → Block → Explicit
+dots_alone i m X = if is_blank (next_text X) then EmptyComment else Comment (hanging_part i m.cut true X) Plain
+
+unfoldable pub behind_dots : ℕ → Marker → Block → Explicit
+behind_dots i m X = if m.bare then dots_alone i m X else explicit_by (explicit_form (drop m.cut (front_text X))) i m X
+
+abbrev pub cut_of : Option Marker → ℕ
+cut_of None = 0
+cut_of (Some m) = m.cut
+
+-- an anonymous target that begins with two underscores
+unfoldable pub anonymous_of : ℕ → Block → Explicit
+anonymous_of i X = Anonymous (target_part i (cut_of (underscores (front_text X))) X)
+
+abbrev pub explicit_with : Option Marker → ℕ → Block → Explicit
+explicit_with None i X = anonymous_of i X
+explicit_with (Some m) i X = behind_dots i m X
+
+-- the explicit markup that begins in the line
+unfoldable pub explicit_of : ℕ → Block → Explicit
+explicit_of i X = explicit_with (dots (front_text X)) i X
+
+-- ---- where it ends
+
+abbrev pub form_size : ExplicitForm → Block → ℕ
+form_size (TargetForm mark) X = indented_size X
+form_size _ X = hanging_size X
+
+abbrev pub size_alone : Block → ℕ
+size_alone X = if is_blank (next_text X) then 1 else hanging_size X
+
+unfoldable pub size_behind_dots : Marker → Block → ℕ
+size_behind_dots m X = if m.bare then size_alone X else form_size (explicit_form (drop m.cut (front_text X))) X
+
+abbrev pub explicit_size_by : Option Marker → Block → ℕ
+explicit_size_by None X = indented_size X
+explicit_size_by (Some m) X = size_behind_dots m X
+
+-- how many lines it has
+unfoldable pub explicit_size : Block → ℕ
+explicit_size X = explicit_size_by (dots (front_text X)) X
+
+-- the place after it
+abbrev pub explicit_end : ℕ → Explicit → ℕ
+explicit_end i (Footnote label body) = body.to
+explicit_end i (Citation label body) = body.to
+explicit_end i (Target name text) = text.to
+explicit_end i (Anonymous text) = text.to
+explicit_end i (Substitution name held end) = end
+explicit_end i (Directive call) = call.block.to
+explicit_end i (Comment text cause) = text.to
+explicit_end i EmptyComment = i + 1
+
+-- ---- where its parts stand
+
+abbrev pub IsHeld : Block → ℕ → Option Invocation → Type 0
+IsHeld B i None = Unit {0}
+IsHeld B i (Some call) = IsCall B i call
+
+-- the extents of explicit markup that begins in line i are parts of the block, and its labels and names stand in the line
+abbrev pub IsExplicitIn : Block → ℕ → Explicit → Type 0
+IsExplicitIn B i (Footnote label body) = IsPlace (front_text (drop i B)) label × IsBlock B body
+IsExplicitIn B i (Citation label body) = IsPlace (front_text (drop i B)) label × IsBlock B body
+IsExplicitIn B i (Target name text) = IsPlace (front_text (drop i B)) name × IsBlock B text
+IsExplicitIn B i (Anonymous text) = IsBlock B text
+IsExplicitIn B i (Substitution name held end) = IsPlace (front_text (drop i B)) name × IsHeld B i held
+IsExplicitIn B i (Directive call) = IsCall B i call
+IsExplicitIn B i (Comment text cause) = IsBlock B text
+IsExplicitIn B i EmptyComment = Unit {0}

@@ -1,0 +1,63 @@
+//! Attributions of block quotes.
+ghost use Rattle.std.specs.Prelude.{◌≡◌, ◌+◌, ◌^◌, ◌<◌, ◌≤◌, IfSome, option_map, length, drop};
+ghost use Rattle.rst_text.specs.Shown.{block_of};
+ghost use Rattle.rst_markup.specs.Attributions as spec;
+ghost use Rattle.rst_markup.specs.Lines.{lines_while};
+ghost use Rattle.rst_markup.specs.Parts.{IsBlock};
+ghost use Rattle.rst_markup.specs.declared.lines.LineTest.TheVariants.{Filled};
+
+use super::lines::below_text;
+use rst_marks::{attribution_of, is_blank};
+use rst_text::{Looks, View, indentation};
+
+/// An attribution.
+#[derive(Clone, Copy, Debug, PartialEq, Eq)]
+pub struct Attribution {
+    /// How many characters stand before the text in the first line.
+    pub marker: usize,
+    /// The place after the last line.
+    pub end: usize,
+    /// How many spaces each further line begins with; 0 where there is none.
+    pub indent: usize,
+}
+
+/// The place after the lines from place `from` on, up to a blank one, if each of them is indented by `indent`.
+fn level_end(view: &View<'_>, from: usize, indent: usize, looks: &mut Looks) -> Option<usize>
+    requires inside { from ≤ length (block_of view.now) }
+    requires few { looks.old < 2 ^ 120 + 2 }
+    ensures end { result ≡ option_map (λ n. from + n) (spec.level_lines indent (drop from (block_of view.now))) }
+    ensures looks { looks.new ≤ looks.old + lines_while Filled (drop from (block_of view.now)) + 1 }
+{
+    let len = view.len();
+    for i in from..len {
+        let text = view.line(i, looks);
+        if is_blank(text) {
+            return Some(i);
+        }
+        if indentation(text) != indent {
+            return None;
+        }
+    }
+    Some(len)
+}
+
+/// The attribution that begins in the line at place `k` of a block quote's block, if one does: a dash with text behind
+/// it, and all lines below it up to a blank one, which share one indentation. Whether text and a blank line stand before
+/// it isn't looked at.
+#[tactic(auto, unfolding(crate::specs::Attributions::attribution_at))]
+pub fn attribution_at(view: &View<'_>, k: usize, looks: &mut Looks) -> Option<Attribution>
+    requires inside { k < length (block_of view.now) }
+    requires few { looks.old < 2 ^ 120 }
+    ensures attribution { result ≡ spec.attribution_at k (drop k (block_of view.now)) }
+    ensures text { IfSome result (λ a. IsBlock (block_of view.now) (spec.attribution_part k a)) }
+    ensures looks { looks.new ≤ looks.old + 2 + lines_while Filled (drop k (block_of view.now)) }
+{
+    let marker = attribution_of(view.line(k, looks))?;
+    let indent = indentation(below_text(view, k, 1, looks));
+    let end = level_end(view, k + 1, indent, looks)?;
+    Some(Attribution {
+        marker,
+        end,
+        indent,
+    })
+}
