@@ -8,7 +8,7 @@ use super::resume::Waits;
 use super::step::Step;
 use super::texts::{Pass, alone, appended, excerpt, filled, joined, source};
 use rst_directives::{Argument, Content, Directive, DirectiveFault, Name, Place, Setting, called, directive, message as fault_text};
-use rst_elements::{code_block, directive_element, figure, image, message, texted, with_title_class};
+use rst_elements::{code_block, directive_element, figure, image, message, with_text, with_title_class};
 use rst_markup::{Invocation, Part};
 use rst_text::View;
 use rst_tree::{Level as Gravity, Node, Tag};
@@ -182,11 +182,10 @@ fn titled(
     let lines = inside(view, title);
     let title_line = if 0 < lines.len() { lines.number(0) } else { line };
     let text = joined(alloc, &lines, pass)?;
-    let title = texted(alloc, Tag::Title, title_line, text.as_str(), title_line, &mut pass.numbers)?;
+    let title = with_text(alloc, Tag::Title, title_line, text.as_str(), title_line, &mut pass.numbers)?;
     let mut node = directive_element(alloc, found.name, found.options.as_slice(), line)?;
     if matches!(found.name, Name::Admonition) {
-        let words = title.element.text_of(alloc)?;
-        node = with_title_class(alloc, node, words.as_str())?;
+        node = with_title_class(alloc, node, &title.element)?;
     }
     filled(node, appended(alone(alloc, title.element)?, title.notes)?)
 }

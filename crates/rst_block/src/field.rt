@@ -6,7 +6,7 @@ use super::resume::Waits;
 use super::run::ListKind;
 use super::step::Step;
 use super::texts::{Pass, excerpt};
-use rst_elements::texted;
+use rst_elements::with_text;
 use rst_marks::FieldMark;
 use rst_text::View;
 use rst_tree::{Node, Tag};
@@ -23,7 +23,7 @@ pub(crate) fn field(
     let at = level.at;
     let line = view.number(at);
     let name = excerpt(alloc, view.line(at, &mut pass.looks), mark.name)?;
-    let name = texted(alloc, Tag::FieldName, line, name.as_str(), line, &mut pass.numbers)?;
+    let name = with_text(alloc, Tag::FieldName, line, name.as_str(), line, &mut pass.numbers)?;
     let body = hanging(view, at, mark.marker, &mut pass.looks);
     let level = joined_list(alloc, view, level, ListKind::Field, Tag::FieldList, body.to, pass)?;
     let mut heads = Vec::new(alloc);

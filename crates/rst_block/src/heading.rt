@@ -2,7 +2,7 @@
 use super::fault::BlockFault;
 use super::level::Level;
 use super::texts::Pass;
-use rst_elements::{Texted, texted};
+use rst_elements::{Texted, with_text};
 use rst_tree::{Node, Tag};
 use std::alloc::Global;
 
@@ -40,7 +40,7 @@ impl Heading {
         source: String,
         pass: &mut Pass,
     ) -> Result<Heading, BlockFault> {
-        let title = texted(alloc, Tag::Title, line, text, line, &mut pass.numbers)?;
+        let title = with_text(alloc, Tag::Title, line, text, line, &mut pass.numbers)?;
         Ok(Heading {
             before: 0,
             style,

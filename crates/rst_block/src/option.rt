@@ -8,7 +8,7 @@ use super::run::ListKind;
 use super::step::Step;
 use super::texts::{Pass, excerpt};
 use rst_elements::option;
-use rst_marks::{Delimiter, ListedOption, Marker, listed_options};
+use rst_marks::{ListedOption, Marker, listed_options};
 use rst_text::View;
 use rst_tree::{Children, Node, Tag};
 use std::alloc::Global;
@@ -46,7 +46,7 @@ pub(crate) fn option_item(
 fn option_group(alloc: Global, text: &str, line: usize) -> Result<Node, BlockFault> {
     let mut children = Children::new(alloc);
     for listed in listed_options(alloc, text)? {
-        children.push(option_of(alloc, text, listed)?)?;
+        children.push(option_of(alloc, text, listed, line)?)?;
     }
     match Node::element(alloc, Tag::OptionGroup, line) {
         Node::Element { tag, attrs, line, .. } => Ok(Node::Element { tag, attrs, children, line }),
@@ -55,16 +55,12 @@ fn option_group(alloc: Global, text: &str, line: usize) -> Result<Node, BlockFau
 }
 
 /// An option of a line.
-fn option_of(alloc: Global, text: &str, listed: ListedOption) -> Result<Node, BlockFault> {
+fn option_of(alloc: Global, text: &str, listed: ListedOption, line: usize) -> Result<Node, BlockFault> {
     let string = excerpt(alloc, text, listed.string)?;
     let Some(argument) = listed.argument else {
-        return Ok(option(alloc, string.as_str(), None)?);
+        return Ok(option(alloc, string.as_str(), None, line)?);
     };
-    let delimiter = match argument.delimiter {
-        Delimiter::Nothing => "",
-        Delimiter::Space => " ",
-        Delimiter::Equals => "=",
-    };
-    let argument = excerpt(alloc, text, argument.text)?;
-    Ok(option(alloc, string.as_str(), Some((delimiter, argument.as_str())))?)
+    let written = excerpt(alloc, text, argument.text)?;
+    let argument = Some((argument.delimiter, written.as_str()));
+    Ok(option(alloc, string.as_str(), argument, line)?)
 }

@@ -6,7 +6,7 @@ use super::level::Level;
 use super::part::{indented, inside};
 use super::step::Step;
 use super::texts::{Pass, joined, source};
-use rst_elements::{message, preserved, texted};
+use rst_elements::{message, preserved, with_text};
 use rst_marks::{begins_with, ends_in_colons, front, is_punctuation};
 use rst_markup::{Adorned, LineTest, TextForm, adorned_at, below_text, lines_end, text_at, text_form};
 use rst_text::{View, is_white};
@@ -42,16 +42,16 @@ pub(crate) fn paragraph(alloc: Global, view: &View<'_>, level: Level, pass: &mut
     let end = lines_end(view, at, LineTest::Plain, &mut pass.looks);
     let text = source(alloc, view, at, end, pass)?;
     if !ends_in_colons(text.as_str()) {
-        let level = with_text(alloc, view, level, text.as_str(), end, pass)?;
+        let level = with_paragraph(alloc, view, level, text.as_str(), end, pass)?;
         return Ok(Step::Next(level.past(end)));
     }
     let shown = announcing(alloc, text.as_str())?;
-    let level = with_text(alloc, view, level, shown.as_str(), end, pass)?;
+    let level = with_paragraph(alloc, view, level, shown.as_str(), end, pass)?;
     literal(alloc, view, level, end, pass)
 }
 
 /// The level with a paragraph that ends at `end`, unless it is empty, and the message on an indented line behind it.
-fn with_text(
+fn with_paragraph(
     alloc: Global,
     view: &View<'_>,
     mut level: Level,
@@ -61,7 +61,7 @@ fn with_text(
 ) -> Result<Level, BlockFault> {
     if !text.is_empty() {
         let line = view.number(level.at);
-        let made = texted(alloc, Tag::Paragraph, line, text, line, &mut pass.numbers)?;
+        let made = with_text(alloc, Tag::Paragraph, line, text, line, &mut pass.numbers)?;
         level = level.with(made.element)?.with_all(made.notes)?;
     }
     if !text_at(view, end, &mut pass.looks).is_empty() {

@@ -5,7 +5,7 @@ use super::part::{indented, inside};
 use super::resume::Waits;
 use super::step::Step;
 use super::texts::{Pass, joined};
-use rst_elements::{Texted, texted};
+use rst_elements::{Texted, with_text};
 use rst_markup::{Attribution, LineTest, Part, attribution_at, lines_end};
 use rst_text::View;
 use rst_tree::Tag;
@@ -94,5 +94,5 @@ fn attribution_text(
     let line = lines.number(place);
     let text = lines.part(place, found.end, found.marker, found.indent);
     let text = joined(alloc, &text, pass)?;
-    Ok(texted(alloc, Tag::Attribution, line, text.as_str(), line, &mut pass.numbers)?)
+    Ok(with_text(alloc, Tag::Attribution, line, text.as_str(), line, &mut pass.numbers)?)
 }

@@ -1,7 +1,7 @@
 //! Sections, made of the nodes and the titles of a document (Markup Specification, 'Sections').
 use super::fault::BlockFault;
 use super::heading::{Heading, Style};
-use super::texts::{alone, appended, filled};
+use super::texts::filled;
 use rst_elements::{message, section};
 use rst_tree::{Level as Gravity, Node, Tag};
 use std::alloc::Global;
@@ -123,12 +123,14 @@ impl Sections {
         if let Some(warning) = warning {
             notes.push(warning)?;
         }
-        let element = section(alloc, &title.element, notes.len(), line)?;
-        let nodes = appended(alone(alloc, title.element)?, notes)?;
+        let element = section(alloc, title.element, notes.len(), line)?;
         outer.push(current)?;
         Ok(Sections {
             outer,
-            current: OpenSection { element, nodes },
+            current: OpenSection {
+                element,
+                nodes: notes,
+            },
             styles,
         })
     }

@@ -6,10 +6,9 @@ use super::resume::Waits;
 use super::step::Step;
 use super::texts::{Pass, alone, excerpt, filled, source};
 use rst_directives::{Argument, Directive, DirectiveFault, Place};
-use rst_elements::{image, may_replace, message, substitution_definition as definition};
-use rst_inline::unescape;
+use rst_elements::{image, may_replace, message, substitution_definition as definition, substitution_name};
 use rst_markup::Invocation;
-use rst_text::{View, normalized_white};
+use rst_text::View;
 use rst_tree::{Children, Level as Gravity, Node, Tag};
 use std::alloc::Global;
 
@@ -35,8 +34,7 @@ pub(crate) fn substitution_definition(
     end: usize,
     pass: &mut Pass,
 ) -> Result<Step, BlockFault> {
-    let name = unescape(alloc, written)?;
-    let name = normalized_white(alloc, name.as_str())?;
+    let name = substitution_name(alloc, written)?;
     let Some(invocation) = held else {
         let text = about(alloc, name.as_str(), " empty or invalid.")?;
         let lines = source(alloc, view, level.at, end, pass)?;

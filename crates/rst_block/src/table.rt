@@ -68,7 +68,7 @@ pub(crate) fn table_of(
             bodies.push(row)?;
         }
     }
-    let mut group = tgroup(alloc, widths)?;
+    let mut group = tgroup(alloc, widths, line)?;
     if 0 < head {
         let head = filled(Node::element(alloc, Tag::Thead, 0), heads)?;
         group = filled(group, alone(alloc, head)?)?;
@@ -80,5 +80,5 @@ pub(crate) fn table_of(
 
 /// The entry of a cell with its nodes.
 pub(crate) fn entry_of(alloc: Global, cell: &Cell, nodes: Vec<Node>) -> Result<Node, BlockFault> {
-    filled(entry(alloc, cell.morerows, cell.morecols)?, nodes)
+    filled(entry(alloc, cell.morerows, cell.morecols, 0)?, nodes)
 }
