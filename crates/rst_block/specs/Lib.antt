@@ -1,1 +1,2 @@
--- What blocks mean.
+pub mod Begun
+pub mod Steps

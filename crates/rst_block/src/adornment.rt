@@ -1,14 +1,19 @@
 //! Lines of one punctuation character: transitions, titles with an overline, and what is neither (Markup
 //! Specification, 'Sections', 'Transitions').
+ghost use Rattle.std.specs.Prelude.{◌≡◌, ◌+◌, ◌-◌, ◌*◌, ◌^◌, ◌<◌, ◌≤◌, length, drop, IfOk, IfSome};
+ghost use Rattle.rst_text.specs.Shown.{block_of};
+ghost use Rattle.rst_markup.specs.Parts.{IsBlock, IsCall};
+ghost use Rattle.rst_block.specs.Steps as spec;
+
 use super::fault::BlockFault;
 use super::heading::{Heading, Style, with_heading};
 use super::level::Level;
 use super::step::Step;
 use super::text::text_line;
-use super::texts::{Pass, alone, source};
+use super::texts::{Pass, alone, number_at, source};
 use rst_elements::message;
 use rst_marks::Adornment;
-use rst_markup::{Adorned, adorned_at, below_text};
+use rst_markup::{Adorned, adorned_at, below_text, text_at};
 use rst_text::{View, indentation, skip};
 use rst_tree::{Level as Gravity, Node, Tag};
 use std::alloc::Global;
@@ -20,7 +25,12 @@ pub(crate) fn adornment(
     level: Level,
     mark: Adornment,
     pass: &mut Pass,
-) -> Result<Step, BlockFault> {
+) -> Result<Step, BlockFault>
+    requires inside { level.at < length (block_of view.now) }
+    requires few { pass.old.looks < 2 ^ 119 + 2 ^ 110 }
+    ensures step { IfOk result (λ s. spec.IsStep (block_of view.now) level.at s) }
+    ensures looks { IfOk result (λ _. pass.new.looks ≤ pass.old.looks + 2 ^ 80) }
+{
     let at = level.at;
     let next = below_text(view, at, 1, &mut pass.looks);
     let form = adorned_at(view, at, level.titles(), mark, next, &mut pass.looks);
@@ -42,7 +52,7 @@ pub(crate) fn adornment(
         ),
         Adorned::Transition => {
             let level = level.closed(alloc, view, pass)?;
-            let node = Node::element(alloc, Tag::Transition, view.number(at));
+            let node = Node::element(alloc, Tag::Transition, number_at(view, at));
             Ok(Step::Next(level.past(at + 1).with(node)?))
         }
         Adorned::Title { short } => overlined(alloc, view, level, mark, short, pass),
@@ -87,8 +97,13 @@ pub(crate) fn adornment(
 }
 
 /// A short line that is taken as text, behind a message that says so.
-fn short(alloc: Global, view: &View<'_>, level: Level, text: &str, pass: &mut Pass) -> Result<Step, BlockFault> {
-    let info = message(alloc, Gravity::Info, view.number(level.at), text, None)?;
+fn short(alloc: Global, view: &View<'_>, level: Level, text: &str, pass: &mut Pass) -> Result<Step, BlockFault>
+    requires inside { level.at < length (block_of view.now) }
+    requires few { pass.old.looks < 2 ^ 119 + 2 ^ 110 }
+    ensures step { IfOk result (λ s. spec.IsStep (block_of view.now) level.at s) }
+    ensures looks { IfOk result (λ _. pass.new.looks ≤ pass.old.looks + 2 ^ 80) }
+{
+    let info = message(alloc, Gravity::Info, number_at(view, level.at), text, None)?;
     text_line(alloc, view, level, alone(alloc, info)?, pass)
 }
 
@@ -101,12 +116,17 @@ fn wrong(
     text: &str,
     lines: usize,
     pass: &mut Pass,
-) -> Result<Step, BlockFault> {
+) -> Result<Step, BlockFault>
+    requires inside { level.at < length (block_of view.now) }
+    requires few { pass.old.looks < 2 ^ 119 + 2 ^ 110 }
+    ensures step { IfOk result (λ s. spec.IsStep (block_of view.now) level.at s) }
+    ensures looks { IfOk result (λ _. pass.new.looks ≤ pass.old.looks + 2 ^ 80) }
+{
     let level = level.closed(alloc, view, pass)?;
     let at = level.at;
     let end = at + lines;
     let block = source(alloc, view, at, end, pass)?;
-    let node = message(alloc, gravity, view.number(at), text, Some(block.as_str()))?;
+    let node = message(alloc, gravity, number_at(view, at), text, Some(block.as_str()))?;
     Ok(Step::Next(level.past(end).with(node)?))
 }
 
@@ -118,19 +138,24 @@ fn overlined(
     mark: Adornment,
     short: bool,
     pass: &mut Pass,
-) -> Result<Step, BlockFault> {
+) -> Result<Step, BlockFault>
+    requires inside { level.at < length (block_of view.now) }
+    requires few { pass.old.looks < 2 ^ 119 + 2 ^ 110 }
+    ensures step { IfOk result (λ s. spec.IsStep (block_of view.now) level.at s) }
+    ensures looks { IfOk result (λ _. pass.new.looks ≤ pass.old.looks + 2 ^ 80) }
+{
     let level = level.closed(alloc, view, pass)?;
     let at = level.at;
     let end = at + 3;
     let lines = source(alloc, view, at, end, pass)?;
     let warning = if short {
         let text = "Title overline too short.";
-        Some(message(alloc, Gravity::Warning, view.number(at), text, Some(lines.as_str()))?)
+        Some(message(alloc, Gravity::Warning, number_at(view, at), text, Some(lines.as_str()))?)
     } else {
         None
     };
-    let line = view.number(at + 1);
-    let text = view.line(at + 1, &mut pass.looks);
+    let line = number_at(view, at + 1);
+    let text = text_at(view, at + 1, &mut pass.looks);
     let style = Style {
         character: mark.character,
         overlined: true,

@@ -1,4 +1,10 @@
 //! What begins at a line, with what its mark says.
+ghost use Rattle.std.specs.Prelude.{◌≡◌, ◌+◌, ◌-◌, ◌*◌, ◌^◌, ◌<◌, ◌≤◌, length, drop, IfOk, IfSome};
+ghost use Rattle.rst_text.specs.Shown.{block_of};
+ghost use Rattle.rst_markup.specs.Parts.{IsBlock, IsCall};
+ghost use Rattle.rst_markup.specs.Kinds.{kind_of};
+ghost use Rattle.rst_block.specs.Begun as spec;
+
 use rst_markup::{Kind, below_text, item_enumerator, item_option, kind_by};
 use rst_marks::{Adornment, Enumerator, FieldMark, Marker, adornment_of, bullet, field_of, front, line_bar};
 use rst_text::{Looks, View};
@@ -22,7 +28,12 @@ pub(crate) enum Begun {
 }
 
 /// What begins at the line at place `at`, in three looks.
-pub(crate) fn begun(view: &View<'_>, at: usize, looks: &mut Looks) -> Begun {
+pub(crate) fn begun(view: &View<'_>, at: usize, looks: &mut Looks) -> Begun
+    requires inside { at < length (block_of view.now) }
+    requires few { looks.old < 2 ^ 120 }
+    ensures begun { spec.IsBegun (kind_of (block_of view.now) at) result }
+    ensures looks { looks.new ≤ looks.old + 3 }
+{
     let text = view.line(at, looks);
     let next = below_text(view, at, 1, looks);
     let after = below_text(view, at, 2, looks);
@@ -30,7 +41,9 @@ pub(crate) fn begun(view: &View<'_>, at: usize, looks: &mut Looks) -> Begun {
 }
 
 /// A kind with the mark in its line; each kind's line has its mark.
-fn with_mark(kind: Kind, text: &str, next: &str, after: &str) -> Option<Begun> {
+fn with_mark(kind: Kind, text: &str, next: &str, after: &str) -> Option<Begun>
+    ensures { IfSome result (spec.IsBegun kind) }
+{
     match kind {
         Kind::Blank => Some(Begun::Blank),
         Kind::Quote => Some(Begun::Quote),

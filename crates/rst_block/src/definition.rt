@@ -1,4 +1,9 @@
 //! Items of definition lists (Markup Specification, 'Definition Lists').
+ghost use Rattle.std.specs.Prelude.{◌≡◌, ◌+◌, ◌-◌, ◌*◌, ◌^◌, ◌<◌, ◌≤◌, length, drop, IfOk, IfSome};
+ghost use Rattle.rst_text.specs.Shown.{block_of};
+ghost use Rattle.rst_markup.specs.Parts.{IsBlock, IsCall};
+ghost use Rattle.rst_block.specs.Steps as spec;
+
 use super::fault::BlockFault;
 use super::field::joined_list;
 use super::level::Level;
@@ -6,7 +11,7 @@ use super::part::indented;
 use super::resume::Waits;
 use super::run::{ListKind, Run};
 use super::step::Step;
-use super::texts::Pass;
+use super::texts::{Pass, number_at};
 use rst_elements::term_and_classifiers;
 use rst_text::View;
 use rst_tree::{Node, Tag};
@@ -19,9 +24,14 @@ pub(crate) fn definition(
     level: Level,
     infos: Vec<Node>,
     pass: &mut Pass,
-) -> Result<Step, BlockFault> {
+) -> Result<Step, BlockFault>
+    requires inside { level.at < length (block_of view.now) }
+    requires few { pass.old.looks < 2 ^ 119 + 2 ^ 110 }
+    ensures step { IfOk result (λ s. spec.IsStep (block_of view.now) level.at s) }
+    ensures looks { IfOk result (λ _. pass.new.looks ≤ pass.old.looks + 2 ^ 80) }
+{
     let at = level.at;
-    let line = view.number(at);
+    let line = number_at(view, at);
     let term = view.line(at, &mut pass.looks);
     let heads = term_and_classifiers(alloc, term, line, &mut pass.numbers)?;
     let body = indented(view, at + 1, &mut pass.looks);

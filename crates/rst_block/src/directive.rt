@@ -1,4 +1,10 @@
 //! Directives as blocks (Markup Specification, 'Directives').
+ghost use Rattle.std.specs.Prelude.{◌≡◌, ℕ, ◌+◌, ◌-◌, ◌*◌, ◌^◌, ◌<◌, ◌≤◌, length, drop, IfOk, IfSome};
+ghost use Rattle.rst_text.specs.Block.{Block};
+ghost use Rattle.rst_text.specs.Shown.{block_of};
+ghost use Rattle.rst_markup.specs.Parts.{IsBlock, IsCall};
+ghost use Rattle.rst_block.specs.Steps as spec;
+
 use super::fault::BlockFault;
 use super::figure::OpenFigure;
 use super::level::Level;
@@ -6,7 +12,7 @@ use super::paragraph::is_single_paragraph;
 use super::part::inside;
 use super::resume::Waits;
 use super::step::Step;
-use super::texts::{Pass, alone, appended, excerpt, filled, joined, source};
+use super::texts::{Pass, alone, appended, excerpt, filled, joined, number_at, source};
 use rst_directives::{Argument, Content, Directive, DirectiveFault, Name, Place, Setting, called, directive, message as fault_text};
 use rst_elements::{code_block, directive_element, figure, image, message, with_text, with_title_class};
 use rst_markup::{Invocation, Part};
@@ -22,7 +28,12 @@ pub(crate) fn directive_at(
     invocation: &Invocation,
     place: Place,
     pass: &mut Pass,
-) -> Result<Directive, BlockFault> {
+) -> Result<Directive, BlockFault>
+    requires call { IsCall (block_of view.now) at invocation.now }
+    requires few { pass.old.looks < 2 ^ 119 + 2 ^ 111 }
+    ensures parts { IfOk result (spec.IsDirectiveIn (block_of view.now)) }
+    ensures looks { IfOk result (λ _. pass.new.looks ≤ pass.old.looks + 2 ^ 72) }
+{
     let name = called(alloc, view, at, invocation, &mut pass.looks)?;
     let paragraph = match name {
         Some(Name::Replace) => is_single_paragraph(&inside(view, invocation.block), pass),
@@ -38,7 +49,13 @@ pub(crate) fn directive_block(
     level: Level,
     invocation: &Invocation,
     pass: &mut Pass,
-) -> Result<Step, BlockFault> {
+) -> Result<Step, BlockFault>
+    requires call { IsCall (block_of view.now) level.at invocation.now }
+    requires inside { level.at < length (block_of view.now) }
+    requires few { pass.old.looks < 2 ^ 119 + 2 ^ 110 }
+    ensures step { IfOk result (λ s. spec.IsStep (block_of view.now) level.at s) }
+    ensures looks { IfOk result (λ _. pass.new.looks ≤ pass.old.looks + 2 ^ 80) }
+{
     let at = level.at;
     let end = invocation.block.to;
     let place = if level.titles() { Place::Top } else { Place::Body };
@@ -85,10 +102,13 @@ pub(crate) fn wrong_directive(
     fault: &DirectiveFault,
     name: &str,
     pass: &mut Pass,
-) -> Result<Node, BlockFault> {
+) -> Result<Node, BlockFault>
+    requires few { pass.old.looks < 2 ^ 120 }
+    ensures { pass.new.looks ≤ pass.old.looks + 2 ^ 64 }
+{
     let text = fault_text(alloc, fault, name)?;
     let lines = source(alloc, view, at, end, pass)?;
-    Ok(message(alloc, Gravity::Error, view.number(at), text.as_str(), Some(lines.as_str()))?)
+    Ok(message(alloc, Gravity::Error, number_at(view, at), text.as_str(), Some(lines.as_str()))?)
 }
 
 /// What a right directive leaves, or the block that is read for it.
@@ -98,8 +118,15 @@ fn directive_nodes(
     level: Level,
     found: Found,
     pass: &mut Pass,
-) -> Result<Step, BlockFault> {
-    let line = view.number(level.at);
+) -> Result<Step, BlockFault>
+    requires content { spec.IsContentIn (block_of view.now) found.content }
+    requires argument { spec.IsArgumentIn (block_of view.now) found.argument }
+    requires inside { level.at < length (block_of view.now) }
+    requires few { pass.old.looks < 2 ^ 119 + 2 ^ 110 }
+    ensures step { IfOk result (λ s. spec.IsStep (block_of view.now) level.at s) }
+    ensures looks { IfOk result (λ _. pass.new.looks ≤ pass.old.looks + 2 ^ 80) }
+{
+    let line = number_at(view, level.at);
     match (found.name, &found.argument) {
         (Name::Image, Argument::Uri(uri)) => {
             let node = image(alloc, uri.as_str(), found.options.as_slice(), line, false, None)?;
@@ -124,7 +151,11 @@ fn directive_nodes(
 }
 
 /// The level with the content of a directive opened.
-fn opened(level: Level, waits: Waits, found: &Found) -> Step {
+fn opened(level: Level, waits: Waits, found: &Found) -> Step
+    requires at { level.at < 2 ^ 64 - 1 }
+    requires waits { (B : Block) (n : ℕ) → spec.IsWaiting B n waits }
+    ensures { (B : Block) → spec.IsContentIn B found.now.content → spec.IsStep B level.at result }
+{
     Step::Open {
         level: level.past(found.end),
         waits,
@@ -141,12 +172,18 @@ fn figure_block(
     node: Node,
     found: &Found,
     pass: &mut Pass,
-) -> Result<Step, BlockFault> {
+) -> Result<Step, BlockFault>
+    requires content { spec.IsContentIn (block_of view.now) found.now.content }
+    requires inside { level.at < length (block_of view.now) }
+    requires few { pass.old.looks < 2 ^ 119 + 2 ^ 110 }
+    ensures step { IfOk result (λ s. spec.IsStep (block_of view.now) level.at s) }
+    ensures looks { IfOk result (λ _. pass.new.looks ≤ pass.old.looks + 2 ^ 80) }
+{
     let at = level.at;
     let lines = source(alloc, view, at, found.end, pass)?;
     let waits = Waits::Figure(OpenFigure {
         figure: node,
-        line: view.number(at),
+        line: number_at(view, at),
         source: lines,
     });
     Ok(opened(level, waits, found))
@@ -159,8 +196,14 @@ fn code_nodes(
     level: Level,
     found: &Found,
     pass: &mut Pass,
-) -> Result<Step, BlockFault> {
-    let line = view.number(level.at);
+) -> Result<Step, BlockFault>
+    requires content { spec.IsContentIn (block_of view.now) found.now.content }
+    requires inside { level.at < length (block_of view.now) }
+    requires few { pass.old.looks < 2 ^ 119 + 2 ^ 110 }
+    ensures step { IfOk result (λ s. spec.IsStep (block_of view.now) level.at s) }
+    ensures looks { IfOk result (λ _. pass.new.looks ≤ pass.old.looks + 2 ^ 80) }
+{
+    let line = number_at(view, level.at);
     let text = joined(alloc, &inside(view, found.content.second), pass)?;
     let language = match &found.argument {
         Argument::Language(language) => Some(language.as_str()),
@@ -178,7 +221,11 @@ fn titled(
     title: Part,
     line: usize,
     pass: &mut Pass,
-) -> Result<Node, BlockFault> {
+) -> Result<Node, BlockFault>
+    requires title { IsBlock (block_of view.now) title }
+    requires few { pass.old.looks < 2 ^ 120 }
+    ensures { pass.new.looks ≤ pass.old.looks + 2 ^ 64 }
+{
     let lines = inside(view, title);
     let title_line = if 0 < lines.len() { lines.number(0) } else { line };
     let text = joined(alloc, &lines, pass)?;

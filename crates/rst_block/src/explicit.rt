@@ -1,4 +1,12 @@
 //! Explicit markup blocks (Markup Specification, 'Explicit Markup Blocks').
+ghost use Rattle.std.specs.Prelude.{◌≡◌, ◌+◌, ◌-◌, ◌*◌, ◌^◌, ◌<◌, ◌≤◌, length, drop, IfOk, IfSome, IsTrue};
+ghost use Rattle.rst_text.specs.Block.{Block};
+ghost use Rattle.rst_text.specs.Shown.{block_of};
+ghost use Rattle.rst_markup.specs.Parts.{IsBlock, IsCall};
+ghost use Rattle.rst_markup.specs.Explicit.{IsExplicitIn, is_explicit_kind};
+ghost use Rattle.rst_markup.specs.Kinds.{kind_of};
+ghost use Rattle.rst_block.specs.Steps as spec;
+
 use super::directive::directive_block;
 use super::fault::BlockFault;
 use super::level::Level;
@@ -7,7 +15,7 @@ use super::resume::Waits;
 use super::run::Run;
 use super::step::Step;
 use super::substitution::substitution_definition;
-use super::texts::{Pass, excerpt, joined};
+use super::texts::{Pass, excerpt, joined, number_at};
 use rst_elements::{citation, footnote, message, preserved, target};
 use rst_marks::Characters;
 use rst_markup::{CommentCause, Explicit, Part, explicit};
@@ -21,7 +29,13 @@ pub(crate) fn explicit_markup(
     view: &View<'_>,
     level: Level,
     pass: &mut Pass,
-) -> Result<Step, BlockFault> {
+) -> Result<Step, BlockFault>
+    requires inside { level.at < length (block_of view.now) }
+    requires kind { IsTrue (is_explicit_kind (kind_of (block_of view.now) level.at)) }
+    requires few { pass.old.looks < 2 ^ 119 + 2 ^ 110 }
+    ensures step { IfOk result (λ s. spec.IsStep (block_of view.now) level.at s) }
+    ensures looks { IfOk result (λ _. pass.new.looks ≤ pass.old.looks + 2 ^ 80) }
+{
     let at = level.at;
     let found = explicit(view, at, &mut pass.looks);
     let mut level = match level.run {
@@ -41,9 +55,15 @@ fn markup_of(
     found: Explicit,
     end: usize,
     pass: &mut Pass,
-) -> Result<Step, BlockFault> {
+) -> Result<Step, BlockFault>
+    requires markup { IsExplicitIn (block_of view.now) level.at found }
+    requires inside { level.at < length (block_of view.now) }
+    requires few { pass.old.looks < 2 ^ 119 + 2 ^ 110 }
+    ensures step { IfOk result (λ s. spec.IsStep (block_of view.now) level.at s) }
+    ensures looks { IfOk result (λ _. pass.new.looks ≤ pass.old.looks + 2 ^ 80) }
+{
     let at = level.at;
-    let line = view.number(at);
+    let line = number_at(view, at);
     match found {
         Explicit::Footnote { label, body } => {
             let label = label_text(alloc, view, at, label, pass)?;
@@ -87,12 +107,19 @@ fn label_text(
     at: usize,
     place: Characters,
     pass: &mut Pass,
-) -> Result<String, BlockFault> {
+) -> Result<String, BlockFault>
+    requires inside { at < length (block_of view.now) }
+    requires few { pass.old.looks < 2 ^ 120 }
+    ensures { pass.new.looks ≤ pass.old.looks + 1 }
+{
     Ok(excerpt(alloc, view.line(at, &mut pass.looks), place)?)
 }
 
 /// The level with the block of a footnote or citation opened.
-fn noted(level: Level, element: Node, body: Part) -> Step {
+fn noted(level: Level, element: Node, body: Part) -> Step
+    requires { level.at < 2 ^ 64 - 1 }
+    ensures { (B : Block) → IsBlock B body → spec.IsStep B level.at result }
+{
     Step::Open {
         level: level.past(body.to),
         waits: Waits::Element(element),
@@ -102,7 +129,9 @@ fn noted(level: Level, element: Node, body: Part) -> Step {
 }
 
 /// The level with the message on a comment that isn't meant as one.
-fn with_cause(alloc: Global, level: Level, cause: CommentCause, line: usize) -> Result<Level, BlockFault> {
+fn with_cause(alloc: Global, level: Level, cause: CommentCause, line: usize) -> Result<Level, BlockFault>
+    ensures { IfOk result (λ l. l.at ≡ level.at) }
+{
     let text = match cause {
         CommentCause::Plain => return Ok(level),
         CommentCause::MalformedTarget => "malformed hyperlink target.",

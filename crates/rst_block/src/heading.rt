@@ -1,4 +1,6 @@
 //! Titles of sections, before the sections are made.
+ghost use Rattle.std.specs.Prelude.{◌≡◌, IfOk};
+
 use super::fault::BlockFault;
 use super::level::Level;
 use super::texts::Pass;
@@ -39,7 +41,9 @@ impl Heading {
         warning: Option<Node>,
         source: String,
         pass: &mut Pass,
-    ) -> Result<Heading, BlockFault> {
+    ) -> Result<Heading, BlockFault>
+        ensures { pass.new.looks ≡ pass.old.looks }
+    {
         let title = with_text(alloc, Tag::Title, line, text, line, &mut pass.numbers)?;
         Ok(Heading {
             before: 0,
@@ -53,7 +57,9 @@ impl Heading {
 }
 
 /// The level with a title behind its nodes.
-pub(crate) fn with_heading(mut level: Level, mut heading: Heading) -> Result<Level, BlockFault> {
+pub(crate) fn with_heading(mut level: Level, mut heading: Heading) -> Result<Level, BlockFault>
+    ensures { IfOk result (λ l. l.at ≡ level.at) }
+{
     heading.before = level.nodes.len();
     level.headings.push(heading)?;
     Ok(level)

@@ -1,4 +1,9 @@
 //! A block that is being read.
+ghost use Rattle.std.specs.Prelude.{◌≡◌, ◌+◌, ◌-◌, ◌*◌, ◌^◌, ◌<◌, ◌≤◌, length, drop, IfOk, IfSome};
+ghost use Rattle.rst_text.specs.Shown.{block_of};
+ghost use Rattle.rst_markup.specs.Parts.{IsBlock, IsCall};
+ghost use Rattle.rst_block.specs.Steps as spec;
+
 use super::fault::BlockFault;
 use super::heading::Heading;
 use super::run::{ListKind, OpenList, Run};
@@ -39,26 +44,37 @@ impl Level {
         self.depth == 0
     }
 
-    /// The level at a later line.
-    pub fn past(mut self, end: usize) -> Level {
-        self.at = end;
+    /// The level at a later line: behind the next one at least.
+    pub fn past(mut self, end: usize) -> Level
+        requires { self.at < 2 ^ 64 - 1 }
+        ensures later { self.at < result.at }
+        ensures within { (n : ℕ) → self.at < n → end ≤ n → result.at ≤ n }
+    {
+        self.at = end.max(self.at + 1);
         self
     }
 
     /// The level with one more node.
-    pub fn with(mut self, node: Node) -> Result<Level, BlockFault> {
+    pub fn with(mut self, node: Node) -> Result<Level, BlockFault>
+        ensures { IfOk result (λ l. l.at ≡ self.at) }
+    {
         self.nodes.push(node)?;
         Ok(self)
     }
 
     /// The level with some more nodes.
-    pub fn with_all(mut self, more: Vec<Node>) -> Result<Level, BlockFault> {
+    pub fn with_all(mut self, more: Vec<Node>) -> Result<Level, BlockFault>
+        ensures { IfOk result (λ l. l.at ≡ self.at) }
+    {
         self.nodes = appended(self.nodes, more)?;
         Ok(self)
     }
 
     /// The level with its open run ended before the next line, with the message on an end without a blank line.
-    pub fn closed(self, alloc: Global, view: &View<'_>, pass: &mut Pass) -> Result<Level, BlockFault> {
+    pub fn closed(self, alloc: Global, view: &View<'_>, pass: &mut Pass) -> Result<Level, BlockFault>
+        ensures at { IfOk result (λ l. l.at ≡ self.at) }
+        ensures looks { pass.new.looks ≡ pass.old.looks }
+    {
         let Level {
             depth,
             at,
@@ -84,7 +100,9 @@ impl Level {
     }
 
     /// The level with an item that ends at `end` announced: it joins the list that is open, which goes on as `kind`.
-    pub fn joined(mut self, kind: ListKind, end: usize) -> Level {
+    pub fn joined(mut self, kind: ListKind, end: usize) -> Level
+        ensures { result.at ≡ self.at }
+    {
         if let Run::List(open) = &mut self.run {
             open.kind = kind;
             open.end = end;
@@ -93,7 +111,9 @@ impl Level {
     }
 
     /// The level with a list begun.
-    pub fn begun(mut self, alloc: Global, kind: ListKind, list: Node, end: usize) -> Level {
+    pub fn begun(mut self, alloc: Global, kind: ListKind, list: Node, end: usize) -> Level
+        ensures { result.at ≡ self.at }
+    {
         self.run = Run::List(OpenList {
             kind,
             end,
@@ -106,7 +126,9 @@ impl Level {
     }
 
     /// The level with an item of the open list; without one it is a node of its own.
-    pub fn with_item(mut self, item: Node) -> Result<Level, BlockFault> {
+    pub fn with_item(mut self, item: Node) -> Result<Level, BlockFault>
+        ensures { IfOk result (λ l. l.at ≡ self.at) }
+    {
         match &mut self.run {
             Run::List(open) => {
                 open.items.push(item)?;
@@ -124,7 +146,11 @@ impl Level {
         end: usize,
         text: &str,
         pass: &mut Pass,
-    ) -> Result<Level, BlockFault> {
+    ) -> Result<Level, BlockFault>
+        requires few { pass.old.looks < 2 ^ 120 }
+        ensures at { IfOk result (λ l. l.at ≡ self.at) }
+        ensures looks { pass.new.looks ≤ pass.old.looks + 1 }
+    {
         if end < view.len() && !view.line(end, &mut pass.looks).is_empty() {
             return self.with(unindent(alloc, view.number(end), text)?);
         }

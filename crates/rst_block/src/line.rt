@@ -1,10 +1,15 @@
 //! Lines of line blocks (Markup Specification, 'Line Blocks').
+ghost use Rattle.std.specs.Prelude.{◌≡◌, ◌+◌, ◌-◌, ◌*◌, ◌^◌, ◌<◌, ◌≤◌, length, drop, IfOk, IfSome};
+ghost use Rattle.rst_text.specs.Shown.{block_of};
+ghost use Rattle.rst_markup.specs.Parts.{IsBlock, IsCall};
+ghost use Rattle.rst_block.specs.Steps as spec;
+
 use super::fault::BlockFault;
 use super::level::Level;
 use super::part::{indented, inside};
 use super::run::Run;
 use super::step::Step;
-use super::texts::{Pass, joined};
+use super::texts::{lines_between, Pass, joined, number_at};
 use rst_elements::BarText;
 use rst_marks::Marker;
 use rst_markup::indented_end;
@@ -18,7 +23,12 @@ pub(crate) fn bar_line(
     level: Level,
     marker: Marker,
     pass: &mut Pass,
-) -> Result<Step, BlockFault> {
+) -> Result<Step, BlockFault>
+    requires inside { level.at < length (block_of view.now) }
+    requires few { pass.old.looks < 2 ^ 119 + 2 ^ 110 }
+    ensures step { IfOk result (λ s. spec.IsStep (block_of view.now) level.at s) }
+    ensures looks { IfOk result (λ _. pass.new.looks ≤ pass.old.looks + 2 ^ 80) }
+{
     let at = level.at;
     let end = indented_end(view, at, &mut pass.looks);
     let text = bar_text(alloc, view, at, end, marker, pass)?;
@@ -49,9 +59,13 @@ fn bar_text(
     end: usize,
     marker: Marker,
     pass: &mut Pass,
-) -> Result<BarText, BlockFault> {
-    let line = view.number(at);
-    let below = view.part(at + 1, end, 0, 0);
+) -> Result<BarText, BlockFault>
+    requires inside { at < length (block_of view.now) }
+    requires few { pass.old.looks < 2 ^ 119 + 2 ^ 112 }
+    ensures { IfOk result (λ _. pass.new.looks ≤ pass.old.looks + 2 ^ 66) }
+{
+    let line = number_at(view, at);
+    let below = lines_between(view, at + 1, end);
     let below = inside(&below, indented(&below, 0, &mut pass.looks));
     let further = joined(alloc, &below, pass)?;
     if marker.bare {

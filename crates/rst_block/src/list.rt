@@ -1,11 +1,17 @@
 //! Items of bullet lists and of enumerated lists (Markup Specification, 'Bullet Lists', 'Enumerated Lists').
+ghost use Rattle.std.specs.Prelude.{◌≡◌, ◌+◌, ◌-◌, ◌*◌, ◌^◌, ◌<◌, ◌≤◌, length, drop, IfOk, IfSome};
+ghost use Rattle.rst_text.specs.Block.{Block};
+ghost use Rattle.rst_text.specs.Shown.{block_of};
+ghost use Rattle.rst_markup.specs.Parts.{IsBlock, IsCall};
+ghost use Rattle.rst_block.specs.Steps as spec;
+
 use super::fault::BlockFault;
 use super::level::Level;
 use super::part::item_part;
 use super::resume::Waits;
 use super::run::{ListKind, Run, Sequel};
 use super::step::Step;
-use super::texts::{Pass, excerpt};
+use super::texts::{Pass, excerpt, number_at};
 use rst_elements::{bullet_list, enumerated_list, start_message};
 use rst_marks::{Characters, Enumerator, Format, Marker, Ordinals, first_reading};
 use rst_markup::Part;
@@ -13,7 +19,10 @@ use rst_text::View;
 use std::alloc::Global;
 
 /// The level with the block of an item opened.
-fn opened(level: Level, line: usize, body: Part) -> Step {
+fn opened(level: Level, line: usize, body: Part) -> Step
+    requires { level.at < 2 ^ 64 - 1 }
+    ensures { (B : Block) → IsBlock B body → spec.IsStep B level.at result }
+{
     Step::Open {
         level: level.past(body.to),
         waits: Waits::ListItem { line },
@@ -30,9 +39,14 @@ pub(crate) fn bullet_item(
     mark: char,
     marker: Marker,
     pass: &mut Pass,
-) -> Result<Step, BlockFault> {
+) -> Result<Step, BlockFault>
+    requires inside { level.at < length (block_of view.now) }
+    requires few { pass.old.looks < 2 ^ 119 + 2 ^ 110 }
+    ensures step { IfOk result (λ s. spec.IsStep (block_of view.now) level.at s) }
+    ensures looks { IfOk result (λ _. pass.new.looks ≤ pass.old.looks + 2 ^ 80) }
+{
     let at = level.at;
-    let line = view.number(at);
+    let line = number_at(view, at);
     let body = item_part(view, at, marker, &mut pass.looks);
     let kind = ListKind::Bullet(mark);
     if level.run.list_kind() == Some(kind) {
@@ -50,9 +64,14 @@ pub(crate) fn enumerated_item(
     level: Level,
     enumerator: Enumerator,
     pass: &mut Pass,
-) -> Result<Step, BlockFault> {
+) -> Result<Step, BlockFault>
+    requires inside { level.at < length (block_of view.now) }
+    requires few { pass.old.looks < 2 ^ 119 + 2 ^ 110 }
+    ensures step { IfOk result (λ s. spec.IsStep (block_of view.now) level.at s) }
+    ensures looks { IfOk result (λ _. pass.new.looks ≤ pass.old.looks + 2 ^ 80) }
+{
     let at = level.at;
-    let line = view.number(at);
+    let line = number_at(view, at);
     let body = item_part(view, at, enumerator.marker, &mut pass.looks);
     if let Some(ListKind::Enumerated(sequel)) = level.run.list_kind() {
         if let Some(next) = sequel.after(enumerator) {
@@ -73,9 +92,14 @@ fn with_enumerated_list(
     enumerator: Enumerator,
     end: usize,
     pass: &mut Pass,
-) -> Result<Level, BlockFault> {
+) -> Result<Level, BlockFault>
+    requires inside { level.at < length (block_of view.now) }
+    requires few { pass.old.looks < 2 ^ 120 }
+    ensures at { IfOk result (λ l. l.at ≡ level.at) }
+    ensures looks { pass.new.looks ≤ pass.old.looks + 1 }
+{
     let at = level.at;
-    let line = view.number(at);
+    let line = number_at(view, at);
     let ordinals = enumerator.written.ordinals;
     let reading = first_reading(ordinals);
     let kind = ListKind::Enumerated(Sequel {

@@ -1,4 +1,9 @@
 //! Items of option lists (Markup Specification, 'Option Lists').
+ghost use Rattle.std.specs.Prelude.{◌≡◌, ◌+◌, ◌-◌, ◌*◌, ◌^◌, ◌<◌, ◌≤◌, length, drop, IfOk, IfSome};
+ghost use Rattle.rst_text.specs.Shown.{block_of};
+ghost use Rattle.rst_markup.specs.Parts.{IsBlock, IsCall};
+ghost use Rattle.rst_block.specs.Steps as spec;
+
 use super::fault::BlockFault;
 use super::field::joined_list;
 use super::level::Level;
@@ -6,7 +11,7 @@ use super::part::hanging;
 use super::resume::Waits;
 use super::run::ListKind;
 use super::step::Step;
-use super::texts::{Pass, excerpt};
+use super::texts::{Pass, excerpt, number_at};
 use rst_elements::option;
 use rst_marks::{ListedOption, Marker, listed_options};
 use rst_text::View;
@@ -20,9 +25,14 @@ pub(crate) fn option_item(
     level: Level,
     marker: Marker,
     pass: &mut Pass,
-) -> Result<Step, BlockFault> {
+) -> Result<Step, BlockFault>
+    requires inside { level.at < length (block_of view.now) }
+    requires few { pass.old.looks < 2 ^ 119 + 2 ^ 110 }
+    ensures step { IfOk result (λ s. spec.IsStep (block_of view.now) level.at s) }
+    ensures looks { IfOk result (λ _. pass.new.looks ≤ pass.old.looks + 2 ^ 80) }
+{
     let at = level.at;
-    let line = view.number(at);
+    let line = number_at(view, at);
     let group = option_group(alloc, view.line(at, &mut pass.looks), line)?;
     let body = hanging(view, at, marker, &mut pass.looks);
     let level = joined_list(alloc, view, level, ListKind::OptionItem, Tag::OptionList, body.to, pass)?;

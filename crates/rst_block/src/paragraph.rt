@@ -1,11 +1,16 @@
 //! Paragraphs, literal blocks and doctest blocks (Markup Specification, 'Paragraphs', 'Literal Blocks', 'Doctest
 //! Blocks').
+ghost use Rattle.std.specs.Prelude.{◌≡◌, ◌+◌, ◌-◌, ◌*◌, ◌^◌, ◌<◌, ◌≤◌, length, drop, IfOk, IfSome};
+ghost use Rattle.rst_text.specs.Shown.{block_of};
+ghost use Rattle.rst_markup.specs.Parts.{IsBlock, IsCall};
+ghost use Rattle.rst_block.specs.Steps as spec;
+
 use super::begun::{Begun, begun};
 use super::fault::BlockFault;
 use super::level::Level;
 use super::part::{indented, inside};
 use super::step::Step;
-use super::texts::{Pass, joined, source};
+use super::texts::{Pass, joined, number_at, source};
 use rst_elements::{message, preserved, with_text};
 use rst_marks::{begins_with, ends_in_colons, front, is_punctuation};
 use rst_markup::{Adorned, LineTest, TextForm, adorned_at, below_text, lines_end, text_at, text_form};
@@ -14,12 +19,17 @@ use rst_tree::{Level as Gravity, Tag};
 use std::alloc::{AllocError, Global};
 
 /// A doctest block: the lines up to a blank one.
-pub(crate) fn doctest_block(alloc: Global, view: &View<'_>, level: Level, pass: &mut Pass) -> Result<Step, BlockFault> {
+pub(crate) fn doctest_block(alloc: Global, view: &View<'_>, level: Level, pass: &mut Pass) -> Result<Step, BlockFault>
+    requires inside { level.at < length (block_of view.now) }
+    requires few { pass.old.looks < 2 ^ 119 + 2 ^ 110 }
+    ensures step { IfOk result (λ s. spec.IsStep (block_of view.now) level.at s) }
+    ensures looks { IfOk result (λ _. pass.new.looks ≤ pass.old.looks + 2 ^ 80) }
+{
     let level = level.closed(alloc, view, pass)?;
     let at = level.at;
     let end = lines_end(view, at, LineTest::Filled, &mut pass.looks);
     let text = source(alloc, view, at, end, pass)?;
-    let node = preserved(alloc, Tag::DoctestBlock, view.number(at), text.as_str())?;
+    let node = preserved(alloc, Tag::DoctestBlock, number_at(view, at), text.as_str())?;
     Ok(Step::Next(level.past(end).with(node)?))
 }
 
@@ -37,7 +47,12 @@ fn announcing(alloc: Global, text: &str) -> Result<String, AllocError> {
 }
 
 /// A paragraph, with the literal block that it announces. Of the level the open run has ended.
-pub(crate) fn paragraph(alloc: Global, view: &View<'_>, level: Level, pass: &mut Pass) -> Result<Step, BlockFault> {
+pub(crate) fn paragraph(alloc: Global, view: &View<'_>, level: Level, pass: &mut Pass) -> Result<Step, BlockFault>
+    requires inside { level.at < length (block_of view.now) }
+    requires few { pass.old.looks < 2 ^ 119 + 2 ^ 110 }
+    ensures step { IfOk result (λ s. spec.IsStep (block_of view.now) level.at s) }
+    ensures looks { IfOk result (λ _. pass.new.looks ≤ pass.old.looks + 2 ^ 80) }
+{
     let at = level.at;
     let end = lines_end(view, at, LineTest::Plain, &mut pass.looks);
     let text = source(alloc, view, at, end, pass)?;
@@ -58,21 +73,31 @@ fn with_paragraph(
     text: &str,
     end: usize,
     pass: &mut Pass,
-) -> Result<Level, BlockFault> {
+) -> Result<Level, BlockFault>
+    requires few { pass.old.looks < 2 ^ 120 }
+    ensures at { IfOk result (λ l. l.at ≡ level.at) }
+    ensures looks { IfOk result (λ _. pass.new.looks ≤ pass.old.looks + 1) }
+{
     if !text.is_empty() {
-        let line = view.number(level.at);
+        let line = number_at(view, level.at);
         let made = with_text(alloc, Tag::Paragraph, line, text, line, &mut pass.numbers)?;
         level = level.with(made.element)?.with_all(made.notes)?;
     }
-    if !text_at(view, end, &mut pass.looks).is_empty() {
-        let error = message(alloc, Gravity::Error, view.number(end), "Unexpected indentation.", None)?;
+    if end < view.len() && !view.line(end, &mut pass.looks).is_empty() {
+        let error = message(alloc, Gravity::Error, number_at(view, end), "Unexpected indentation.", None)?;
         return level.with(error);
     }
     Ok(level)
 }
 
 /// The literal block that a paragraph announces that ends at `end`.
-fn literal(alloc: Global, view: &View<'_>, level: Level, end: usize, pass: &mut Pass) -> Result<Step, BlockFault> {
+fn literal(alloc: Global, view: &View<'_>, level: Level, end: usize, pass: &mut Pass) -> Result<Step, BlockFault>
+    requires end { end ≤ length (block_of view.now) }
+    requires inside { level.at < length (block_of view.now) }
+    requires few { pass.old.looks < 2 ^ 119 + 2 ^ 110 }
+    ensures step { IfOk result (λ s. spec.IsStep (block_of view.now) level.at s) }
+    ensures looks { IfOk result (λ _. pass.new.looks ≤ pass.old.looks + 2 ^ 80) }
+{
     let start = lines_end(view, end, LineTest::Blank, &mut pass.looks);
     let text = text_at(view, start, &mut pass.looks);
     if begins_with(' ', text) {
@@ -81,9 +106,9 @@ fn literal(alloc: Global, view: &View<'_>, level: Level, end: usize, pass: &mut 
     match front(text) {
         Some(quote) if is_punctuation(quote) => quoted_literal(alloc, view, level, start, quote, pass),
         _ => {
-            let place = if start < view.len() { start } else { end - 1 };
+            let place = if start < view.len() { start } else { end.saturating_sub(1) };
             let text = "Literal block expected; none found.";
-            let warning = message(alloc, Gravity::Warning, view.number(place), text, None)?;
+            let warning = message(alloc, Gravity::Warning, number_at(view, place), text, None)?;
             Ok(Step::Next(level.past(end).with(warning)?))
         }
     }
@@ -96,10 +121,16 @@ fn indented_literal(
     level: Level,
     start: usize,
     pass: &mut Pass,
-) -> Result<Step, BlockFault> {
+) -> Result<Step, BlockFault>
+    requires start { start ≤ length (block_of view.now) }
+    requires inside { level.at < length (block_of view.now) }
+    requires few { pass.old.looks < 2 ^ 119 + 2 ^ 110 }
+    ensures step { IfOk result (λ s. spec.IsStep (block_of view.now) level.at s) }
+    ensures looks { IfOk result (λ _. pass.new.looks ≤ pass.old.looks + 2 ^ 80) }
+{
     let lines = indented(view, start, &mut pass.looks);
     let text = joined(alloc, &inside(view, lines), pass)?;
-    let node = preserved(alloc, Tag::LiteralBlock, view.number(start), text.as_str())?;
+    let node = preserved(alloc, Tag::LiteralBlock, number_at(view, start), text.as_str())?;
     let warning = "Literal block ends without a blank line; unexpected unindent.";
     let level = level.past(lines.to).with(node)?;
     Ok(Step::Next(level.warned(alloc, view, lines.to, warning, pass)?))
@@ -113,10 +144,16 @@ fn quoted_literal(
     start: usize,
     quote: char,
     pass: &mut Pass,
-) -> Result<Step, BlockFault> {
+) -> Result<Step, BlockFault>
+    requires start { start ≤ length (block_of view.now) }
+    requires inside { level.at < length (block_of view.now) }
+    requires few { pass.old.looks < 2 ^ 119 + 2 ^ 110 }
+    ensures step { IfOk result (λ s. spec.IsStep (block_of view.now) level.at s) }
+    ensures looks { IfOk result (λ _. pass.new.looks ≤ pass.old.looks + 2 ^ 80) }
+{
     let end = lines_end(view, start, LineTest::Begins(quote), &mut pass.looks);
     let text = source(alloc, view, start, end, pass)?;
-    let node = preserved(alloc, Tag::LiteralBlock, view.number(start), text.as_str())?;
+    let node = preserved(alloc, Tag::LiteralBlock, number_at(view, start), text.as_str())?;
     let level = level.past(end).with(node)?;
     let next = text_at(view, end, &mut pass.looks);
     if next.is_empty() {
@@ -127,12 +164,15 @@ fn quoted_literal(
     } else {
         "Inconsistent literal block quoting."
     };
-    let error = message(alloc, Gravity::Error, view.number(end), text, None)?;
+    let error = message(alloc, Gravity::Error, number_at(view, end), text, None)?;
     Ok(Step::Next(level.with(error)?))
 }
 
 /// Whether the lines of a block in a block are one paragraph that doesn't vanish, and nothing else.
-pub(crate) fn is_single_paragraph(view: &View<'_>, pass: &mut Pass) -> bool {
+pub(crate) fn is_single_paragraph(view: &View<'_>, pass: &mut Pass) -> bool
+    requires few { pass.old.looks < 2 ^ 119 + 2 ^ 112 }
+    ensures { pass.new.looks ≤ pass.old.looks + 2 ^ 66 }
+{
     if view.len() == 0 || !begins_paragraph(view, pass) {
         return false;
     }
@@ -145,7 +185,11 @@ pub(crate) fn is_single_paragraph(view: &View<'_>, pass: &mut Pass) -> bool {
 }
 
 /// Whether the first line of a block in a block begins a paragraph.
-fn begins_paragraph(view: &View<'_>, pass: &mut Pass) -> bool {
+fn begins_paragraph(view: &View<'_>, pass: &mut Pass) -> bool
+    requires inside { 0 < length (block_of view.now) }
+    requires few { pass.old.looks < 2 ^ 119 + 2 ^ 112 }
+    ensures { pass.new.looks ≤ pass.old.looks + 2 ^ 64 }
+{
     let text = view.line(0, &mut pass.looks);
     let next = below_text(view, 0, 1, &mut pass.looks);
     let is_text = match begun(view, 0, &mut pass.looks) {

@@ -1,10 +1,16 @@
 //! Block quotes with their attributions (Markup Specification, 'Block Quotes').
+ghost use Rattle.std.specs.Prelude.{◌≡◌, ◌+◌, ◌-◌, ◌*◌, ◌^◌, ◌<◌, ◌≤◌, length, drop, IfOk, IfSome};
+ghost use Rattle.rst_text.specs.Shown.{block_of};
+ghost use Rattle.rst_markup.specs.Parts.{IsBlock, IsCall};
+ghost use Rattle.rst_markup.specs.Attributions.{attribution_part};
+ghost use Rattle.rst_block.specs.Steps as spec;
+
 use super::fault::BlockFault;
 use super::level::Level;
 use super::part::{indented, inside};
 use super::resume::Waits;
 use super::step::Step;
-use super::texts::{Pass, joined};
+use super::texts::{Pass, joined, number_at};
 use rst_elements::{Texted, with_text};
 use rst_markup::{Attribution, LineTest, Part, attribution_at, lines_end};
 use rst_text::View;
@@ -12,7 +18,12 @@ use rst_tree::Tag;
 use std::alloc::Global;
 
 /// A block quote.
-pub(crate) fn block_quote(alloc: Global, view: &View<'_>, level: Level, pass: &mut Pass) -> Result<Step, BlockFault> {
+pub(crate) fn block_quote(alloc: Global, view: &View<'_>, level: Level, pass: &mut Pass) -> Result<Step, BlockFault>
+    requires inside { level.at < length (block_of view.now) }
+    requires few { pass.old.looks < 2 ^ 119 + 2 ^ 110 }
+    ensures step { IfOk result (λ s. spec.IsStep (block_of view.now) level.at s) }
+    ensures looks { IfOk result (λ _. pass.new.looks ≤ pass.old.looks + 2 ^ 80) }
+{
     let level = level.closed(alloc, view, pass)?;
     let quote = indented(view, level.at, &mut pass.looks);
     quote_part(alloc, view, level, quote, pass)
@@ -26,8 +37,14 @@ pub(crate) fn quote_part(
     level: Level,
     quote: Part,
     pass: &mut Pass,
-) -> Result<Step, BlockFault> {
-    let line = view.number(quote.from);
+) -> Result<Step, BlockFault>
+    requires block { IsBlock (block_of view.now) quote }
+    requires inside { level.at < length (block_of view.now) }
+    requires few { pass.old.looks < 2 ^ 119 + 2 ^ 110 }
+    ensures step { IfOk result (λ s. spec.IsStep (block_of view.now) level.at s) }
+    ensures looks { IfOk result (λ _. pass.new.looks ≤ pass.old.looks + 2 ^ 80) }
+{
+    let line = number_at(view, quote.from);
     let lines = inside(view, quote);
     let Some((place, found)) = first_attribution(&lines, pass) else {
         return Ok(Step::Open {
@@ -70,15 +87,22 @@ pub(crate) fn quote_part(
 }
 
 /// The first attribution in a quote, with its place: behind a blank line.
-fn first_attribution(lines: &View<'_>, pass: &mut Pass) -> Option<(usize, Attribution)> {
-    let mut blank = false;
-    for place in 0..lines.len() {
-        if blank {
-            if let Some(found) = attribution_at(lines, place, &mut pass.looks) {
-                return Some((place, found));
-            }
+fn first_attribution(lines: &View<'_>, pass: &mut Pass) -> Option<(usize, Attribution)>
+    requires few { pass.old.looks < 2 ^ 119 + 2 ^ 111 }
+    ensures place { IfSome result (λ found. (0 < found.0) × (found.0 ≤ found.1.end)) }
+    ensures within { IfSome result (λ found. IsBlock (block_of lines.now) (attribution_part found.0 found.1)) }
+    ensures looks { pass.new.looks ≤ pass.old.looks + 2 ^ 68 }
+{
+    let mut end = lines_end(lines, 0, LineTest::Filled, &mut pass.looks);
+    while end < lines.len() {
+        let place = lines_end(lines, end + 1, LineTest::Blank, &mut pass.looks);
+        if place >= lines.len() {
+            break;
         }
-        blank = lines.line(place, &mut pass.looks).is_empty();
+        if let Some(found) = attribution_at(lines, place, &mut pass.looks) {
+            return Some((place, found));
+        }
+        end = lines_end(lines, place + 1, LineTest::Filled, &mut pass.looks);
     }
     None
 }
@@ -90,7 +114,11 @@ fn attribution_text(
     place: usize,
     found: Attribution,
     pass: &mut Pass,
-) -> Result<Texted, BlockFault> {
+) -> Result<Texted, BlockFault>
+    requires inside { IsBlock (block_of lines.now) (attribution_part place found) }
+    requires few { pass.old.looks < 2 ^ 120 }
+    ensures { pass.new.looks ≤ pass.old.looks + 2 ^ 64 }
+{
     let line = lines.number(place);
     let text = lines.part(place, found.end, found.marker, found.indent);
     let text = joined(alloc, &text, pass)?;

@@ -1,4 +1,9 @@
 //! What is done with the nodes of a block inside once it is read.
+ghost use Rattle.std.specs.Prelude.{◌≡◌, ◌+◌, ◌-◌, ◌*◌, ◌^◌, ◌<◌, ◌≤◌, length, drop, IfOk, IfSome};
+ghost use Rattle.rst_text.specs.Shown.{block_of};
+ghost use Rattle.rst_markup.specs.Parts.{IsBlock, IsCall};
+ghost use Rattle.rst_block.specs.Steps as spec;
+
 use super::fault::BlockFault;
 use super::figure::{OpenFigure, finished_figure};
 use super::level::Level;
@@ -48,7 +53,12 @@ pub(crate) fn resume(
     waits: Waits,
     nodes: Vec<Node>,
     pass: &mut Pass,
-) -> Result<Step, BlockFault> {
+) -> Result<Step, BlockFault>
+    requires waits { spec.IsWaiting (block_of view.now) level.at waits }
+    requires few { pass.old.looks < 2 ^ 119 + 2 ^ 109 }
+    ensures step { IfOk result (λ s. spec.IsResumed (block_of view.now) level.at s) }
+    ensures looks { IfOk result (λ _. pass.new.looks ≤ pass.old.looks + 2 ^ 90) }
+{
     match waits {
         Waits::ListItem { line } => {
             let item = filled(Node::element(alloc, Tag::ListItem, line), nodes)?;
@@ -83,7 +93,9 @@ pub(crate) fn resume(
 }
 
 /// The level with a block quote, its attribution and the messages of that.
-fn attributed(alloc: Global, level: Level, quote: Node, attribution: Option<Texted>) -> Result<Level, BlockFault> {
+fn attributed(alloc: Global, level: Level, quote: Node, attribution: Option<Texted>) -> Result<Level, BlockFault>
+    ensures { IfOk result (λ l. l.at ≡ level.at) }
+{
     match attribution {
         None => level.with(quote),
         Some(Texted { element, notes }) => {
@@ -101,7 +113,12 @@ fn after_quote(
     rest: Option<Part>,
     end: usize,
     pass: &mut Pass,
-) -> Result<Step, BlockFault> {
+) -> Result<Step, BlockFault>
+    requires rest { spec.IsRest (block_of view.now) level.at rest }
+    requires few { pass.old.looks < 2 ^ 119 + 2 ^ 109 }
+    ensures step { IfOk result (λ s. spec.IsResumed (block_of view.now) level.at s) }
+    ensures looks { IfOk result (λ _. pass.new.looks ≤ pass.old.looks + 2 ^ 90) }
+{
     match rest {
         Some(rest) => quote_part(alloc, view, level, rest, pass),
         None => {

@@ -1,4 +1,9 @@
 //! Constructs that join with those before them: items of one list, lines of one line block, explicit markup.
+ghost use Rattle.std.specs.Prelude.{◌≡◌, ◌+◌, ◌-◌, ◌*◌, ◌^◌, ◌<◌, ◌≤◌, length, drop, IfOk, IfSome};
+ghost use Rattle.rst_text.specs.Shown.{block_of};
+ghost use Rattle.rst_markup.specs.Parts.{IsBlock, IsCall};
+ghost use Rattle.rst_block.specs.Steps as spec;
+
 use super::fault::BlockFault;
 use super::texts::{Pass, alone, appended, filled};
 use rst_elements::{BarText, LineBlockFault, line_block};
@@ -106,7 +111,9 @@ impl Run {
     }
 
     /// The nodes of the run, in a block of this depth.
-    pub fn nodes(self, alloc: Global, depth: usize, pass: &mut Pass) -> Result<Vec<Node>, BlockFault> {
+    pub fn nodes(self, alloc: Global, depth: usize, pass: &mut Pass) -> Result<Vec<Node>, BlockFault>
+        ensures { pass.new.looks ≡ pass.old.looks }
+    {
         match self {
             Run::None | Run::Explicit { .. } => Ok(Vec::new(alloc)),
             Run::List(open) => list_nodes(open),
@@ -130,7 +137,9 @@ fn list_nodes(open: OpenList) -> Result<Vec<Node>, BlockFault> {
 }
 
 /// A line block and the messages of its texts.
-fn lines_nodes(alloc: Global, lines: Vec<BarText>, depth: usize, pass: &mut Pass) -> Result<Vec<Node>, BlockFault> {
+fn lines_nodes(alloc: Global, lines: Vec<BarText>, depth: usize, pass: &mut Pass) -> Result<Vec<Node>, BlockFault>
+    ensures { pass.new.looks ≡ pass.old.looks }
+{
     match line_block(alloc, lines, depth, DEEPEST, &mut pass.numbers) {
         Ok(block) => appended(alone(alloc, block.element)?, block.notes),
         Err(LineBlockFault::TooDeep { line }) => Err(BlockFault::TooDeep { line }),

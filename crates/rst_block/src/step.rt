@@ -1,4 +1,9 @@
 //! One step: the construct at the next line of a block.
+ghost use Rattle.std.specs.Prelude.{◌≡◌, ◌+◌, ◌-◌, ◌*◌, ◌^◌, ◌<◌, ◌≤◌, length, drop, IfOk, IfSome};
+ghost use Rattle.rst_text.specs.Shown.{block_of};
+ghost use Rattle.rst_markup.specs.Parts.{IsBlock, IsCall};
+ghost use Rattle.rst_block.specs.Steps as spec;
+
 use super::adornment::adornment;
 use super::begun::{Begun, begun};
 use super::explicit::explicit_markup;
@@ -38,7 +43,12 @@ pub(crate) enum Step {
 }
 
 /// Reads the construct at the next line.
-pub(crate) fn step(alloc: Global, view: &View<'_>, level: Level, pass: &mut Pass) -> Result<Step, BlockFault> {
+pub(crate) fn step(alloc: Global, view: &View<'_>, level: Level, pass: &mut Pass) -> Result<Step, BlockFault>
+    requires inside { level.at < length (block_of view.now) }
+    requires few { pass.old.looks < 2 ^ 119 + 2 ^ 110 }
+    ensures step { IfOk result (λ s. spec.IsStep (block_of view.now) level.at s) }
+    ensures looks { IfOk result (λ _. pass.new.looks ≤ pass.old.looks + 2 ^ 80) }
+{
     let at = level.at;
     if at >= view.len() {
         return Ok(Step::Done(level.closed(alloc, view, pass)?));

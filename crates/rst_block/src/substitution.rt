@@ -1,10 +1,15 @@
 //! Substitution definitions (Markup Specification, 'Substitution Definitions').
+ghost use Rattle.std.specs.Prelude.{◌≡◌, ◌+◌, ◌-◌, ◌*◌, ◌^◌, ◌<◌, ◌≤◌, length, drop, IfOk, IfSome};
+ghost use Rattle.rst_text.specs.Shown.{block_of};
+ghost use Rattle.rst_markup.specs.Parts.{IsBlock, IsCall};
+ghost use Rattle.rst_block.specs.Steps as spec;
+
 use super::directive::{directive_at, wrong_directive};
 use super::fault::BlockFault;
 use super::level::Level;
 use super::resume::Waits;
 use super::step::Step;
-use super::texts::{Pass, alone, excerpt, filled, source};
+use super::texts::{Pass, alone, excerpt, filled, number_at, source};
 use rst_directives::{Argument, Directive, DirectiveFault, Place};
 use rst_elements::{image, may_replace, message, substitution_definition as definition, substitution_name};
 use rst_markup::Invocation;
@@ -33,12 +38,18 @@ pub(crate) fn substitution_definition(
     held: Option<Invocation>,
     end: usize,
     pass: &mut Pass,
-) -> Result<Step, BlockFault> {
+) -> Result<Step, BlockFault>
+    requires call { IfSome held (IsCall (block_of view.now) level.at) }
+    requires inside { level.at < length (block_of view.now) }
+    requires few { pass.old.looks < 2 ^ 119 + 2 ^ 110 }
+    ensures step { IfOk result (λ s. spec.IsStep (block_of view.now) level.at s) }
+    ensures looks { IfOk result (λ _. pass.new.looks ≤ pass.old.looks + 2 ^ 80) }
+{
     let name = substitution_name(alloc, written)?;
     let Some(invocation) = held else {
         let text = about(alloc, name.as_str(), " empty or invalid.")?;
         let lines = source(alloc, view, level.at, end, pass)?;
-        let line = view.number(level.at);
+        let line = number_at(view, level.at);
         let warning = message(alloc, Gravity::Warning, line, text.as_str(), Some(lines.as_str()))?;
         return Ok(Step::Next(level.past(end).with(warning)?));
     };
@@ -63,9 +74,15 @@ fn holding(
     invocation: &Invocation,
     end: usize,
     pass: &mut Pass,
-) -> Result<Step, BlockFault> {
+) -> Result<Step, BlockFault>
+    requires call { IsCall (block_of view.now) level.at invocation.now }
+    requires inside { level.at < length (block_of view.now) }
+    requires few { pass.old.looks < 2 ^ 119 + 2 ^ 110 }
+    ensures step { IfOk result (λ s. spec.IsStep (block_of view.now) level.at s) }
+    ensures looks { IfOk result (λ _. pass.new.looks ≤ pass.old.looks + 2 ^ 80) }
+{
     let at = level.at;
-    let line = view.number(at);
+    let line = number_at(view, at);
     match directive_at(alloc, view, at, invocation, Place::Substitution, pass)? {
         Directive::Wrong { fault, .. } => {
             let error = wrong_definition(alloc, view, at, end, &fault, name.as_str(), invocation, pass)?;
@@ -107,7 +124,11 @@ fn wrong_definition(
     name: &str,
     invocation: &Invocation,
     pass: &mut Pass,
-) -> Result<Node, BlockFault> {
+) -> Result<Node, BlockFault>
+    requires inside { at < length (block_of view.now) }
+    requires few { pass.old.looks < 2 ^ 119 + 2 ^ 111 }
+    ensures { pass.new.looks ≤ pass.old.looks + 2 ^ 65 }
+{
     if matches!(fault, DirectiveFault::NotInSubstitution) {
         return wrong_directive(alloc, view, at, end, fault, name, pass);
     }

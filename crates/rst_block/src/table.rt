@@ -1,8 +1,13 @@
 //! Tables (Markup Specification, 'Tables').
+ghost use Rattle.std.specs.Prelude.{◌≡◌, ◌+◌, ◌-◌, ◌*◌, ◌^◌, ◌<◌, ◌≤◌, length, drop, IfOk, IfSome};
+ghost use Rattle.rst_text.specs.Shown.{block_of};
+ghost use Rattle.rst_markup.specs.Parts.{IsBlock, IsCall};
+ghost use Rattle.rst_block.specs.Steps as spec;
+
 use super::fault::BlockFault;
 use super::level::Level;
 use super::step::Step;
-use super::texts::{Pass, alone, filled, source};
+use super::texts::{Pass, alone, filled, number_at, source};
 use rst_elements::{entry, message, tgroup};
 use rst_tables::{Cell, TableFault, TableResult, malformed_text};
 use rst_text::View;
@@ -16,7 +21,12 @@ pub(crate) fn table(
     level: Level,
     found: TableResult,
     pass: &mut Pass,
-) -> Result<Step, BlockFault> {
+) -> Result<Step, BlockFault>
+    requires inside { level.at < length (block_of view.now) }
+    requires few { pass.old.looks < 2 ^ 119 + 2 ^ 110 }
+    ensures step { IfOk result (λ s. spec.IsStep (block_of view.now) level.at s) }
+    ensures looks { IfOk result (λ _. pass.new.looks ≤ pass.old.looks + 2 ^ 80) }
+{
     let level = level.closed(alloc, view, pass)?;
     match found {
         TableResult::Malformed { end, note } => {
@@ -39,14 +49,21 @@ fn malformed(
     end: usize,
     fault: TableFault,
     pass: &mut Pass,
-) -> Result<Node, BlockFault> {
+) -> Result<Node, BlockFault>
+    requires few { pass.old.looks < 2 ^ 120 }
+    ensures { pass.new.looks ≤ pass.old.looks + 2 ^ 64 }
+{
     let text = malformed_text(alloc, fault.detail)?;
     let lines = source(alloc, view, at, end, pass)?;
-    Ok(message(alloc, Gravity::Error, view.number(at), text.as_str(), Some(lines.as_str()))?)
+    Ok(message(alloc, Gravity::Error, number_at(view, at), text.as_str(), Some(lines.as_str()))?)
 }
 
 /// The level behind a table, with the message on one that isn't followed by a blank line.
-pub(crate) fn after_table(alloc: Global, view: &View<'_>, level: Level, pass: &mut Pass) -> Result<Level, BlockFault> {
+pub(crate) fn after_table(alloc: Global, view: &View<'_>, level: Level, pass: &mut Pass) -> Result<Level, BlockFault>
+    requires few { pass.old.looks < 2 ^ 120 }
+    ensures at { IfOk result (λ l. l.at ≡ level.at) }
+    ensures looks { pass.new.looks ≤ pass.old.looks + 1 }
+{
     let end = level.at;
     level.warned(alloc, view, end, "Blank line required after table.", pass)
 }

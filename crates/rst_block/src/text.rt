@@ -1,14 +1,19 @@
 //! Lines of text: titles, items of definition lists and paragraphs.
+ghost use Rattle.std.specs.Prelude.{◌≡◌, ◌+◌, ◌-◌, ◌*◌, ◌^◌, ◌<◌, ◌≤◌, length, drop, IfOk, IfSome};
+ghost use Rattle.rst_text.specs.Shown.{block_of};
+ghost use Rattle.rst_markup.specs.Parts.{IsBlock, IsCall};
+ghost use Rattle.rst_block.specs.Steps as spec;
+
 use super::definition::definition;
 use super::fault::BlockFault;
 use super::heading::{Heading, Style, with_heading};
 use super::level::Level;
 use super::paragraph::paragraph;
 use super::step::Step;
-use super::texts::{Pass, source};
+use super::texts::{Pass, number_at, source};
 use rst_elements::message;
 use rst_marks::front;
-use rst_markup::{TextForm, below_text, text_form};
+use rst_markup::{TextForm, below_text, text_at, text_form};
 use rst_text::View;
 use rst_tree::{Level as Gravity, Node};
 use std::alloc::Global;
@@ -20,7 +25,12 @@ pub(crate) fn text_line(
     level: Level,
     infos: Vec<Node>,
     pass: &mut Pass,
-) -> Result<Step, BlockFault> {
+) -> Result<Step, BlockFault>
+    requires inside { level.at < length (block_of view.now) }
+    requires few { pass.old.looks < 2 ^ 119 + 2 ^ 110 }
+    ensures step { IfOk result (λ s. spec.IsStep (block_of view.now) level.at s) }
+    ensures looks { IfOk result (λ _. pass.new.looks ≤ pass.old.looks + 2 ^ 80) }
+{
     let at = level.at;
     let text = view.line(at, &mut pass.looks);
     let next = below_text(view, at, 1, &mut pass.looks);
@@ -43,12 +53,15 @@ pub(crate) fn text_line(
 }
 
 /// The level with the message on a possible underline, where titles may stand.
-fn short_underline(alloc: Global, view: &View<'_>, level: Level) -> Result<Level, BlockFault> {
+fn short_underline(alloc: Global, view: &View<'_>, level: Level) -> Result<Level, BlockFault>
+    requires { level.at < length (block_of view.now) }
+    ensures { IfOk result (λ l. l.at ≡ level.at) }
+{
     if !level.titles() {
         return Ok(level);
     }
     let text = "Possible title underline, too short for the title.\nTreating it as ordinary text because it's so short.";
-    let info = message(alloc, Gravity::Info, view.number(level.at + 1), text, None)?;
+    let info = message(alloc, Gravity::Info, number_at(view, level.at + 1), text, None)?;
     level.with(info)
 }
 
@@ -59,11 +72,16 @@ fn underlined(
     level: Level,
     short: bool,
     pass: &mut Pass,
-) -> Result<Step, BlockFault> {
+) -> Result<Step, BlockFault>
+    requires inside { level.at < length (block_of view.now) }
+    requires few { pass.old.looks < 2 ^ 119 + 2 ^ 110 }
+    ensures step { IfOk result (λ s. spec.IsStep (block_of view.now) level.at s) }
+    ensures looks { IfOk result (λ _. pass.new.looks ≤ pass.old.looks + 2 ^ 80) }
+{
     let at = level.at;
     let end = at + 2;
     let lines = source(alloc, view, at, end, pass)?;
-    let under = view.number(at + 1);
+    let under = number_at(view, at + 1);
     let warning = if short {
         let text = "Title underline too short.";
         Some(message(alloc, Gravity::Warning, under, text, Some(lines.as_str()))?)
@@ -72,11 +90,11 @@ fn underlined(
     };
     if level.titles() {
         let style = Style {
-            character: front(view.line(at + 1, &mut pass.looks)).unwrap_or(' '),
+            character: front(text_at(view, at + 1, &mut pass.looks)).unwrap_or(' '),
             overlined: false,
         };
         let text = view.line(at, &mut pass.looks);
-        let heading = Heading::of(alloc, style, text, view.number(at), warning, lines, pass)?;
+        let heading = Heading::of(alloc, style, text, number_at(view, at), warning, lines, pass)?;
         return Ok(Step::Next(with_heading(level.past(end), heading)?));
     }
     let level = match warning {

@@ -1,4 +1,10 @@
 //! Texts of lines, and what a pass over a document counts.
+ghost use Rattle.std.specs.Prelude.{◌≡◌, ◌+◌, ◌-◌, ◌*◌, ◌^◌, ◌<◌, ◌≤◌, length, drop, IfOk, IfSome};
+ghost use Rattle.rst_text.specs.Block.{first_number};
+ghost use Rattle.rst_text.specs.Shown.{block_of};
+ghost use Rattle.rst_markup.specs.Parts.{IsBlock, IsCall};
+ghost use Rattle.rst_block.specs.Steps as spec;
+
 use super::fault::BlockFault;
 use rst_elements::{Numbers, message};
 use rst_marks::Characters;
@@ -23,7 +29,10 @@ pub(crate) fn excerpt(alloc: Global, text: &str, place: Characters) -> Result<St
 }
 
 /// The lines of a view, joined by line feeds.
-pub(crate) fn joined(alloc: Global, view: &View<'_>, pass: &mut Pass) -> Result<String, BlockFault> {
+pub(crate) fn joined(alloc: Global, view: &View<'_>, pass: &mut Pass) -> Result<String, BlockFault>
+    requires few { pass.old.looks < 2 ^ 120 }
+    ensures { pass.new.looks ≤ pass.old.looks + 2 ^ 64 }
+{
     let mut text = String::new(alloc);
     for i in 0..view.len() {
         if 0 < i {
@@ -34,9 +43,32 @@ pub(crate) fn joined(alloc: Global, view: &View<'_>, pass: &mut Pass) -> Result<
     Ok(text)
 }
 
-/// Lines of a view without a cut, joined by line feeds.
-pub(crate) fn source(alloc: Global, view: &View<'_>, from: usize, to: usize, pass: &mut Pass) -> Result<String, BlockFault> {
-    joined(alloc, &view.part(from, to, 0, 0), pass)
+/// The lines of a view from place `from` up to place `to`, those that there are, joined by line feeds.
+pub(crate) fn source(alloc: Global, view: &View<'_>, from: usize, to: usize, pass: &mut Pass) -> Result<String, BlockFault>
+    requires few { pass.old.looks < 2 ^ 120 }
+    ensures { pass.new.looks ≤ pass.old.looks + 2 ^ 64 }
+{
+    joined(alloc, &lines_between(view, from, to), pass)
+}
+
+/// The lines of a view from place `from` up to place `to`, those that there are.
+pub(crate) fn lines_between<'a>(view: &View<'a>, from: usize, to: usize) -> View<'a>
+    ensures { length (block_of result) ≤ to - from }
+{
+    let to = to.min(view.len());
+    let from = from.min(to);
+    view.part(from, to, 0, 0)
+}
+
+/// The number of the line at a place; 0 where there is none.
+pub(crate) fn number_at(view: &View<'_>, place: usize) -> usize
+    ensures { result ≡ first_number (drop place (block_of view.now)) }
+{
+    if place < view.len() {
+        view.number(place)
+    } else {
+        0
+    }
 }
 
 /// The message on a construct that isn't followed by a blank line.
