@@ -2,3 +2,4 @@ pub mod TextLemmas
 pub mod Runs
 pub mod Steps
 pub mod OptionLemmas
+pub mod ListedLemmas

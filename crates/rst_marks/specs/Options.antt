@@ -2,7 +2,6 @@
 use Rattle.std.specs.Prelude.{ℕ, zero, suc, ◌+◌, ◌-◌, ◌≤◌, List, [], ◌∷◌, length, Option, None, Some, All}
 use Rattle.rst_marks.specs.OptionMarker.{option_at, option_tail, width_with}
 use Rattle.rst_marks.specs.declared.option.Argument.{Argument}
-use Rattle.rst_marks.specs.declared.option.Delimiter.{Delimiter}
 use Rattle.rst_marks.specs.declared.option.OptionMark.{OptionMark}
 use Rattle.rst_marks.specs.declared.option.OptionTail.{OptionTail}
 use Rattle.rst_marks.specs.declared.option.OptionTail.TheVariants.{Last, Next, Wrong}

@@ -6,8 +6,8 @@ mod attribution;
 mod construct;
 mod constructs;
 mod ends;
-mod explicit;
 mod explicit_markup;
+mod extents;
 mod form;
 mod forms;
 mod kind;
@@ -23,8 +23,8 @@ pub use constructs::{
     FieldItem, OptionListItem, TextLine,
 };
 pub use ends::{hanging_end, indented_end, item_end, literal_end, paragraph_end, text_end};
-pub use explicit::explicit;
 pub use explicit_markup::{ExplicitForm, explicit_form, hanging_part};
+pub use extents::explicit;
 pub use form::{Adorned, TextForm, adorned_alone, adorned_below, adorned_over, text_form};
 pub use forms::{CommentCause, Explicit, Invocation};
 pub use kind::Kind;

@@ -1,0 +1,16 @@
+use Rattle.std.proofs.Common.{◌≡◌, ◌+◌, ◌++◌, ◌≤◌, length}
+use denote.Shadow.{shadow}
+use denote.Text.{Utf8}
+use Rattle.std.specs.Str.{chars}
+use Rattle.rst_marks.specs.Options.{options_from, options_in}
+use Rattle.rst_marks.proofs.options.listed_options.Given as goal
+
+abbrev pub invariant-loop-option : goal.invariant-loop-option
+invariant-loop-option l = record {
+  text : shadow (Utf8 l.rest);
+  value : l.options.items ++ options_from 0 l.before (chars l.rest) ≡ options_in (chars l.text);
+  within : l.before + length (chars l.rest) ≤ length (chars l.text);
+}
+
+abbrev pub decreases-loop-option : goal.decreases-loop-option
+decreases-loop-option l = length (chars l.rest)
