@@ -65,7 +65,15 @@ pub(crate) fn adornment(
             2,
             pass,
         ),
-        Adorned::Incomplete => wrong(alloc, view, level, Gravity::Severe, "Incomplete section title.", 2, pass),
+        Adorned::Incomplete => wrong(
+            alloc,
+            view,
+            level,
+            Gravity::Severe,
+            "Incomplete section title.",
+            2,
+            pass,
+        ),
         Adorned::MissingUnderline { blank } => wrong(
             alloc,
             view,
@@ -97,7 +105,13 @@ pub(crate) fn adornment(
 }
 
 /// A short line that is taken as text, behind a message that says so.
-fn short(alloc: Global, view: &View<'_>, level: Level, text: &str, pass: &mut Pass) -> Result<Step, BlockFault>
+fn short(
+    alloc: Global,
+    view: &View<'_>,
+    level: Level,
+    text: &str,
+    pass: &mut Pass,
+) -> Result<Step, BlockFault>
     requires inside { level.at < length (block_of view.now) }
     requires few { pass.old.looks < 2 ^ 119 + 2 ^ 110 }
     ensures step { IfOk result (λ s. spec.IsStep (block_of view.now) level.at s) }
@@ -126,7 +140,13 @@ fn wrong(
     let at = level.at;
     let end = at + lines;
     let block = source(alloc, view, at, end, pass)?;
-    let node = message(alloc, gravity, number_at(view, at), text, Some(block.as_str()))?;
+    let node = message(
+        alloc,
+        gravity,
+        number_at(view, at),
+        text,
+        Some(block.as_str()),
+    )?;
     Ok(Step::Next(level.past(end).with(node)?))
 }
 
@@ -150,7 +170,13 @@ fn overlined(
     let lines = source(alloc, view, at, end, pass)?;
     let warning = if short {
         let text = "Title overline too short.";
-        Some(message(alloc, Gravity::Warning, number_at(view, at), text, Some(lines.as_str()))?)
+        Some(message(
+            alloc,
+            Gravity::Warning,
+            number_at(view, at),
+            text,
+            Some(lines.as_str()),
+        )?)
     } else {
         None
     };

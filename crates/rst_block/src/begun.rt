@@ -5,8 +5,10 @@ ghost use Rattle.rst_markup.specs.Parts.{IsBlock, IsCall};
 ghost use Rattle.rst_markup.specs.Kinds.{kind_of};
 ghost use Rattle.rst_block.specs.Begun as spec;
 
+use rst_marks::{
+    Adornment, Enumerator, FieldMark, Marker, adornment_of, bullet, field_of, front, line_bar,
+};
 use rst_markup::{Kind, below_text, item_enumerator, item_option, kind_by};
-use rst_marks::{Adornment, Enumerator, FieldMark, Marker, adornment_of, bullet, field_of, front, line_bar};
 use rst_text::{Looks, View};
 
 /// What begins at a line: its kind, with the mark by which it is of that kind.

@@ -13,8 +13,13 @@ use super::part::inside;
 use super::resume::Waits;
 use super::step::Step;
 use super::texts::{Pass, alone, appended, excerpt, filled, joined, number_at, source};
-use rst_directives::{Argument, Content, Directive, DirectiveFault, Name, Place, Setting, called, directive, message as fault_text};
-use rst_elements::{code_block, directive_element, figure, image, message, with_text, with_title_class};
+use rst_directives::{
+    Argument, Content, Directive, DirectiveFault, Name, Place, Setting, called, directive,
+    message as fault_text,
+};
+use rst_elements::{
+    code_block, directive_element, figure, image, message, with_text, with_title_class,
+};
 use rst_markup::{Invocation, Part};
 use rst_text::View;
 use rst_tree::{Level as Gravity, Node, Tag};
@@ -39,7 +44,15 @@ pub(crate) fn directive_at(
         Some(Name::Replace) => is_single_paragraph(&inside(view, invocation.block), pass),
         _ => false,
     };
-    Ok(directive(alloc, view, at, invocation, place, paragraph, &mut pass.looks)?)
+    Ok(directive(
+        alloc,
+        view,
+        at,
+        invocation,
+        place,
+        paragraph,
+        &mut pass.looks,
+    )?)
 }
 
 /// A directive.
@@ -58,7 +71,11 @@ pub(crate) fn directive_block(
 {
     let at = level.at;
     let end = invocation.block.to;
-    let place = if level.titles() { Place::Top } else { Place::Body };
+    let place = if level.titles() {
+        Place::Top
+    } else {
+        Place::Body
+    };
     match directive_at(alloc, view, at, invocation, place, pass)? {
         Directive::Wrong { fault, .. } => {
             let name = excerpt(alloc, view.line(at, &mut pass.looks), invocation.name)?;
@@ -108,7 +125,13 @@ pub(crate) fn wrong_directive(
 {
     let text = fault_text(alloc, fault, name)?;
     let lines = source(alloc, view, at, end, pass)?;
-    Ok(message(alloc, Gravity::Error, number_at(view, at), text.as_str(), Some(lines.as_str()))?)
+    Ok(message(
+        alloc,
+        Gravity::Error,
+        number_at(view, at),
+        text.as_str(),
+        Some(lines.as_str()),
+    )?)
 }
 
 /// What a right directive leaves, or the block that is read for it.
@@ -129,13 +152,26 @@ fn directive_nodes(
     let line = number_at(view, level.at);
     match (found.name, &found.argument) {
         (Name::Image, Argument::Uri(uri)) => {
-            let node = image(alloc, uri.as_str(), found.options.as_slice(), line, false, None)?;
+            let node = image(
+                alloc,
+                uri.as_str(),
+                found.options.as_slice(),
+                line,
+                false,
+                None,
+            )?;
             Ok(Step::Next(level.past(found.end).with(node)?))
         }
         (Name::Figure, Argument::Uri(uri)) => {
             let options = found.options.as_slice();
             let node = figure(alloc, options, line)?;
-            let node = filled(node, alone(alloc, image(alloc, uri.as_str(), options, line, true, None)?)?)?;
+            let node = filled(
+                node,
+                alone(
+                    alloc,
+                    image(alloc, uri.as_str(), options, line, true, None)?,
+                )?,
+            )?;
             figure_block(alloc, view, level, node, &found, pass)
         }
         (Name::Code, _) => code_nodes(alloc, view, level, &found, pass),
@@ -209,7 +245,13 @@ fn code_nodes(
         Argument::Language(language) => Some(language.as_str()),
         _ => None,
     };
-    let node = code_block(alloc, language, found.options.as_slice(), text.as_str(), line)?;
+    let node = code_block(
+        alloc,
+        language,
+        found.options.as_slice(),
+        text.as_str(),
+        line,
+    )?;
     Ok(Step::Next(level.past(found.end).with(node)?))
 }
 
@@ -227,9 +269,20 @@ fn titled(
     ensures { pass.new.looks ≤ pass.old.looks + 2 ^ 64 }
 {
     let lines = inside(view, title);
-    let title_line = if 0 < lines.len() { lines.number(0) } else { line };
+    let title_line = if 0 < lines.len() {
+        lines.number(0)
+    } else {
+        line
+    };
     let text = joined(alloc, &lines, pass)?;
-    let title = with_text(alloc, Tag::Title, title_line, text.as_str(), title_line, &mut pass.numbers)?;
+    let title = with_text(
+        alloc,
+        Tag::Title,
+        title_line,
+        text.as_str(),
+        title_line,
+        &mut pass.numbers,
+    )?;
     let mut node = directive_element(alloc, found.name, found.options.as_slice(), line)?;
     if matches!(found.name, Name::Admonition) {
         node = with_title_class(alloc, node, &title.element)?;

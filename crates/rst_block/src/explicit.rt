@@ -88,10 +88,16 @@ fn markup_of(
         }
         Explicit::Comment { text, cause } => {
             let text = joined(alloc, &inside(view, text), pass)?;
-            let level = level.past(end).with(preserved(alloc, Tag::Comment, line, text.as_str())?)?;
+            let level = level
+                .past(end)
+                .with(preserved(alloc, Tag::Comment, line, text.as_str())?)?;
             Ok(Step::Next(with_cause(alloc, level, cause, line)?))
         }
-        Explicit::EmptyComment => Ok(Step::Next(level.past(end).with(preserved(alloc, Tag::Comment, line, "")?)?)),
+        Explicit::EmptyComment => Ok(Step::Next(
+            level
+                .past(end)
+                .with(preserved(alloc, Tag::Comment, line, "")?)?,
+        )),
         Explicit::Directive(invocation) => directive_block(alloc, view, level, &invocation, pass),
         Explicit::Substitution { name, held, .. } => {
             let name = label_text(alloc, view, at, name, pass)?;
@@ -129,7 +135,12 @@ fn noted(level: Level, element: Node, body: Part) -> Step
 }
 
 /// The level with the message on a comment that isn't meant as one.
-fn with_cause(alloc: Global, level: Level, cause: CommentCause, line: usize) -> Result<Level, BlockFault>
+fn with_cause(
+    alloc: Global,
+    level: Level,
+    cause: CommentCause,
+    line: usize,
+) -> Result<Level, BlockFault>
     ensures { IfOk result (λ l. l.at ≡ level.at) }
 {
     let text = match cause {

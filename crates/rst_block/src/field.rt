@@ -33,9 +33,24 @@ pub(crate) fn field(
     let at = level.at;
     let line = number_at(view, at);
     let name = excerpt(alloc, view.line(at, &mut pass.looks), mark.name)?;
-    let name = with_text(alloc, Tag::FieldName, line, name.as_str(), line, &mut pass.numbers)?;
+    let name = with_text(
+        alloc,
+        Tag::FieldName,
+        line,
+        name.as_str(),
+        line,
+        &mut pass.numbers,
+    )?;
     let body = hanging(view, at, mark.marker, &mut pass.looks);
-    let level = joined_list(alloc, view, level, ListKind::Field, Tag::FieldList, body.to, pass)?;
+    let level = joined_list(
+        alloc,
+        view,
+        level,
+        ListKind::Field,
+        Tag::FieldList,
+        body.to,
+        pass,
+    )?;
     let mut heads = Vec::new(alloc);
     heads.push(name.element)?;
     Ok(Step::Open {

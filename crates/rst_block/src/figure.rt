@@ -29,8 +29,16 @@ enum Front {
 }
 
 /// A figure with the nodes of its content as caption and legend, and the messages of the caption behind it.
-pub(crate) fn finished_figure(alloc: Global, open: OpenFigure, nodes: Vec<Node>) -> Result<Vec<Node>, BlockFault> {
-    let OpenFigure { figure, line, source } = open;
+pub(crate) fn finished_figure(
+    alloc: Global,
+    open: OpenFigure,
+    nodes: Vec<Node>,
+) -> Result<Vec<Node>, BlockFault> {
+    let OpenFigure {
+        figure,
+        line,
+        source,
+    } = open;
     let mut rest = nodes.into_iter();
     match front_of(rest.next()) {
         Front::Absent => alone(alloc, figure),
@@ -74,17 +82,21 @@ pub(crate) fn finished_figure(alloc: Global, open: OpenFigure, nodes: Vec<Node>)
 fn front_of(node: Option<Node>) -> Front {
     match node {
         None => Front::Absent,
-        Some(Node::Element {
-            tag: Tag::Paragraph,
-            attrs,
-            children,
-            line,
-        }) => Front::Caption(attrs, children, line),
-        Some(Node::Element {
-            tag: Tag::Comment,
-            children,
-            ..
-        }) => {
+        Some(
+            Node::Element {
+                tag: Tag::Paragraph,
+                attrs,
+                children,
+                line,
+            },
+        ) => Front::Caption(attrs, children, line),
+        Some(
+            Node::Element {
+                tag: Tag::Comment,
+                children,
+                ..
+            },
+        ) => {
             if children.len() == 0 {
                 Front::Missing
             } else {

@@ -71,7 +71,12 @@ impl Level {
     }
 
     /// The level with its open run ended before the next line, with the message on an end without a blank line.
-    pub fn closed(self, alloc: Global, view: &View<'_>, pass: &mut Pass) -> Result<Level, BlockFault>
+    pub fn closed(
+        self,
+        alloc: Global,
+        view: &View<'_>,
+        pass: &mut Pass,
+    ) -> Result<Level, BlockFault>
         ensures at { IfOk result (λ l. l.at ≡ self.at) }
         ensures looks { pass.new.looks ≡ pass.old.looks }
     {

@@ -9,7 +9,7 @@ use super::level::Level;
 use super::part::{indented, inside};
 use super::run::Run;
 use super::step::Step;
-use super::texts::{lines_between, Pass, joined, number_at};
+use super::texts::{Pass, joined, lines_between, number_at};
 use rst_elements::BarText;
 use rst_marks::Marker;
 use rst_markup::indented_end;
@@ -69,7 +69,11 @@ fn bar_text(
     let below = inside(&below, indented(&below, 0, &mut pass.looks));
     let further = joined(alloc, &below, pass)?;
     if marker.bare {
-        let text_line = if 0 < below.len() { below.number(0) } else { line };
+        let text_line = if 0 < below.len() {
+            below.number(0)
+        } else {
+            line
+        };
         return Ok(BarText {
             indent: None,
             line,

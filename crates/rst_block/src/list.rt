@@ -123,7 +123,11 @@ fn with_enumerated_list(
 
 /// The characters of an enumerator's ordinal in its line.
 fn written_place(enumerator: Enumerator) -> Characters {
-    let from = if matches!(enumerator.format, Format::Parentheses) { 1 } else { 0 };
+    let from = if matches!(enumerator.format, Format::Parentheses) {
+        1
+    } else {
+        0
+    };
     Characters {
         from,
         to: enumerator.written.len.saturating_add(from),

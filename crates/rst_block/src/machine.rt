@@ -24,7 +24,12 @@ const MOST_LOOKS: u128 = 1 << 119;
 
 /// Reads a block that stands in as many blocks as `depth` says.
 #[cycle(machine)]
-pub(crate) fn block(alloc: Global, view: &View<'_>, depth: usize, pass: &mut Pass) -> Result<Level, BlockFault>
+pub(crate) fn block(
+    alloc: Global,
+    view: &View<'_>,
+    depth: usize,
+    pass: &mut Pass,
+) -> Result<Level, BlockFault>
     requires depth { depth ≤ 251 }
     requires few { pass.old.looks < 2 ^ 119 + 2 ^ 100 }
     ensures { IfOk result (λ _. pass.new.looks < 2 ^ 119 + 2 ^ 100) }
@@ -52,7 +57,9 @@ pub(crate) fn block(alloc: Global, view: &View<'_>, depth: usize, pass: &mut Pas
                 let nodes = nodes_inside(alloc, view, depth, first, second, pass)?;
                 resume(alloc, view, level, waits, nodes, pass)?
             }
-            Step::Cells { level, table } => Step::Next(with_table(alloc, view, level, table, depth, pass)?),
+            Step::Cells { level, table } => Step::Next(with_table(
+                alloc, view, level, table, depth, pass,
+            )?),
             Step::Done(level) => return Ok(level),
         };
     }

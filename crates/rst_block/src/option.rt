@@ -35,7 +35,15 @@ pub(crate) fn option_item(
     let line = number_at(view, at);
     let group = option_group(alloc, view.line(at, &mut pass.looks), line)?;
     let body = hanging(view, at, marker, &mut pass.looks);
-    let level = joined_list(alloc, view, level, ListKind::OptionItem, Tag::OptionList, body.to, pass)?;
+    let level = joined_list(
+        alloc,
+        view,
+        level,
+        ListKind::OptionItem,
+        Tag::OptionList,
+        body.to,
+        pass,
+    )?;
     let mut heads = Vec::new(alloc);
     heads.push(group)?;
     Ok(Step::Open {
@@ -59,13 +67,28 @@ fn option_group(alloc: Global, text: &str, line: usize) -> Result<Node, BlockFau
         children.push(option_of(alloc, text, listed, line)?)?;
     }
     match Node::element(alloc, Tag::OptionGroup, line) {
-        Node::Element { tag, attrs, line, .. } => Ok(Node::Element { tag, attrs, children, line }),
+        Node::Element {
+            tag,
+            attrs,
+            line,
+            ..
+        } => Ok(Node::Element {
+            tag,
+            attrs,
+            children,
+            line,
+        }),
         Node::Text(text) => Ok(Node::Text(text)),
     }
 }
 
 /// An option of a line.
-fn option_of(alloc: Global, text: &str, listed: ListedOption, line: usize) -> Result<Node, BlockFault> {
+fn option_of(
+    alloc: Global,
+    text: &str,
+    listed: ListedOption,
+    line: usize,
+) -> Result<Node, BlockFault> {
     let string = excerpt(alloc, text, listed.string)?;
     let Some(argument) = listed.argument else {
         return Ok(option(alloc, string.as_str(), None, line)?);

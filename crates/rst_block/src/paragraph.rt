@@ -13,13 +13,20 @@ use super::step::Step;
 use super::texts::{Pass, joined, number_at, source};
 use rst_elements::{message, preserved, with_text};
 use rst_marks::{begins_with, ends_in_colons, front, is_punctuation};
-use rst_markup::{Adorned, LineTest, TextForm, adorned_at, below_text, lines_end, text_at, text_form};
+use rst_markup::{
+    Adorned, LineTest, TextForm, adorned_at, below_text, lines_end, text_at, text_form,
+};
 use rst_text::{View, is_white};
 use rst_tree::{Level as Gravity, Tag};
 use std::alloc::{AllocError, Global};
 
 /// A doctest block: the lines up to a blank one.
-pub(crate) fn doctest_block(alloc: Global, view: &View<'_>, level: Level, pass: &mut Pass) -> Result<Step, BlockFault>
+pub(crate) fn doctest_block(
+    alloc: Global,
+    view: &View<'_>,
+    level: Level,
+    pass: &mut Pass,
+) -> Result<Step, BlockFault>
     requires inside { level.at < length (block_of view.now) }
     requires few { pass.old.looks < 2 ^ 119 + 2 ^ 110 }
     ensures step { IfOk result (λ s. spec.IsStep (block_of view.now) level.at s) }
@@ -47,7 +54,12 @@ fn announcing(alloc: Global, text: &str) -> Result<String, AllocError> {
 }
 
 /// A paragraph, with the literal block that it announces. Of the level the open run has ended.
-pub(crate) fn paragraph(alloc: Global, view: &View<'_>, level: Level, pass: &mut Pass) -> Result<Step, BlockFault>
+pub(crate) fn paragraph(
+    alloc: Global,
+    view: &View<'_>,
+    level: Level,
+    pass: &mut Pass,
+) -> Result<Step, BlockFault>
     requires inside { level.at < length (block_of view.now) }
     requires few { pass.old.looks < 2 ^ 119 + 2 ^ 110 }
     ensures step { IfOk result (λ s. spec.IsStep (block_of view.now) level.at s) }
@@ -84,14 +96,26 @@ fn with_paragraph(
         level = level.with(made.element)?.with_all(made.notes)?;
     }
     if end < view.len() && !view.line(end, &mut pass.looks).is_empty() {
-        let error = message(alloc, Gravity::Error, number_at(view, end), "Unexpected indentation.", None)?;
+        let error = message(
+            alloc,
+            Gravity::Error,
+            number_at(view, end),
+            "Unexpected indentation.",
+            None,
+        )?;
         return level.with(error);
     }
     Ok(level)
 }
 
 /// The literal block that a paragraph announces that ends at `end`.
-fn literal(alloc: Global, view: &View<'_>, level: Level, end: usize, pass: &mut Pass) -> Result<Step, BlockFault>
+fn literal(
+    alloc: Global,
+    view: &View<'_>,
+    level: Level,
+    end: usize,
+    pass: &mut Pass,
+) -> Result<Step, BlockFault>
     requires end { end ≤ length (block_of view.now) }
     requires inside { level.at < length (block_of view.now) }
     requires few { pass.old.looks < 2 ^ 119 + 2 ^ 110 }
@@ -104,9 +128,15 @@ fn literal(alloc: Global, view: &View<'_>, level: Level, end: usize, pass: &mut 
         return indented_literal(alloc, view, level, start, pass);
     }
     match front(text) {
-        Some(quote) if is_punctuation(quote) => quoted_literal(alloc, view, level, start, quote, pass),
+        Some(quote) if is_punctuation(quote) => quoted_literal(
+            alloc, view, level, start, quote, pass,
+        ),
         _ => {
-            let place = if start < view.len() { start } else { end.saturating_sub(1) };
+            let place = if start < view.len() {
+                start
+            } else {
+                end.saturating_sub(1)
+            };
             let text = "Literal block expected; none found.";
             let warning = message(alloc, Gravity::Warning, number_at(view, place), text, None)?;
             Ok(Step::Next(level.past(end).with(warning)?))
@@ -130,7 +160,12 @@ fn indented_literal(
 {
     let lines = indented(view, start, &mut pass.looks);
     let text = joined(alloc, &inside(view, lines), pass)?;
-    let node = preserved(alloc, Tag::LiteralBlock, number_at(view, start), text.as_str())?;
+    let node = preserved(
+        alloc,
+        Tag::LiteralBlock,
+        number_at(view, start),
+        text.as_str(),
+    )?;
     let warning = "Literal block ends without a blank line; unexpected unindent.";
     let level = level.past(lines.to).with(node)?;
     Ok(Step::Next(level.warned(alloc, view, lines.to, warning, pass)?))
@@ -153,7 +188,12 @@ fn quoted_literal(
 {
     let end = lines_end(view, start, LineTest::Begins(quote), &mut pass.looks);
     let text = source(alloc, view, start, end, pass)?;
-    let node = preserved(alloc, Tag::LiteralBlock, number_at(view, start), text.as_str())?;
+    let node = preserved(
+        alloc,
+        Tag::LiteralBlock,
+        number_at(view, start),
+        text.as_str(),
+    )?;
     let level = level.past(end).with(node)?;
     let next = text_at(view, end, &mut pass.looks);
     if next.is_empty() {
@@ -200,5 +240,9 @@ fn begins_paragraph(view: &View<'_>, pass: &mut Pass) -> bool
         ),
         _ => false,
     };
-    is_text && matches!(text_form(text, next), TextForm::Paragraph | TextForm::ShortUnderline)
+    is_text
+        && matches!(
+            text_form(text, next),
+            TextForm::Paragraph | TextForm::ShortUnderline
+        )
 }

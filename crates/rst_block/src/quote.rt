@@ -18,7 +18,12 @@ use rst_tree::Tag;
 use std::alloc::Global;
 
 /// A block quote.
-pub(crate) fn block_quote(alloc: Global, view: &View<'_>, level: Level, pass: &mut Pass) -> Result<Step, BlockFault>
+pub(crate) fn block_quote(
+    alloc: Global,
+    view: &View<'_>,
+    level: Level,
+    pass: &mut Pass,
+) -> Result<Step, BlockFault>
     requires inside { level.at < length (block_of view.now) }
     requires few { pass.old.looks < 2 ^ 119 + 2 ^ 110 }
     ensures step { IfOk result (λ s. spec.IsStep (block_of view.now) level.at s) }
@@ -122,5 +127,12 @@ fn attribution_text(
     let line = lines.number(place);
     let text = lines.part(place, found.end, found.marker, found.indent);
     let text = joined(alloc, &text, pass)?;
-    Ok(with_text(alloc, Tag::Attribution, line, text.as_str(), line, &mut pass.numbers)?)
+    Ok(with_text(
+        alloc,
+        Tag::Attribution,
+        line,
+        text.as_str(),
+        line,
+        &mut pass.numbers,
+    )?)
 }

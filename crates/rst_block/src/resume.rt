@@ -21,7 +21,9 @@ use std::alloc::Global;
 #[derive(Debug, Drop)]
 pub(crate) enum Waits {
     /// They are an item of the open list.
-    ListItem { line: usize },
+    ListItem {
+        line: usize,
+    },
     /// They stand behind the messages in the body of an item of the open list, which has heads before its body.
     ListedBody {
         line: usize,
@@ -87,13 +89,22 @@ pub(crate) fn resume(
             after_quote(alloc, view, level, rest, end, pass)
         }
         Waits::Element(element) => Ok(Step::Next(level.with(filled(element, nodes)?)?)),
-        Waits::Figure(figure) => Ok(Step::Next(level.with_all(finished_figure(alloc, figure, nodes)?)?)),
-        Waits::Replacement(definition) => Ok(Step::Next(level.with(finished_replacement(alloc, definition, nodes)?)?)),
+        Waits::Figure(figure) => Ok(Step::Next(level.with_all(finished_figure(
+            alloc, figure, nodes,
+        )?)?)),
+        Waits::Replacement(definition) => Ok(Step::Next(level.with(finished_replacement(
+            alloc, definition, nodes,
+        )?)?)),
     }
 }
 
 /// The level with a block quote, its attribution and the messages of that.
-fn attributed(alloc: Global, level: Level, quote: Node, attribution: Option<Texted>) -> Result<Level, BlockFault>
+fn attributed(
+    alloc: Global,
+    level: Level,
+    quote: Node,
+    attribution: Option<Texted>,
+) -> Result<Level, BlockFault>
     ensures { IfOk result (λ l. l.at ≡ level.at) }
 {
     match attribution {

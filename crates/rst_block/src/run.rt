@@ -64,8 +64,10 @@ impl ListKind {
     fn ending(self) -> &'static str {
         match self {
             ListKind::Bullet(_) => "Bullet list ends without a blank line; unexpected unindent.",
-            ListKind::Enumerated(_) => "Enumerated list ends without a blank line; unexpected unindent.",
-            ListKind::Definition => "Definition list ends without a blank line; unexpected unindent.",
+            ListKind::Enumerated(_) =>
+                "Enumerated list ends without a blank line; unexpected unindent.",
+            ListKind::Definition =>
+                "Definition list ends without a blank line; unexpected unindent.",
             ListKind::Field => "Field list ends without a blank line; unexpected unindent.",
             ListKind::OptionItem => "Option list ends without a blank line; unexpected unindent.",
         }
@@ -98,7 +100,10 @@ impl Run {
             Run::None => None,
             Run::List(list) => Some((list.end, list.kind.ending())),
             Run::Lines { end, .. } => Some((*end, "Line block ends without a blank line.")),
-            Run::Explicit { end } => Some((*end, "Explicit markup ends without a blank line; unexpected unindent.")),
+            Run::Explicit { end } => Some((
+                *end,
+                "Explicit markup ends without a blank line; unexpected unindent.",
+            )),
         }
     }
 
@@ -111,7 +116,12 @@ impl Run {
     }
 
     /// The nodes of the run, in a block of this depth.
-    pub fn nodes(self, alloc: Global, depth: usize, pass: &mut Pass) -> Result<Vec<Node>, BlockFault>
+    pub fn nodes(
+        self,
+        alloc: Global,
+        depth: usize,
+        pass: &mut Pass,
+    ) -> Result<Vec<Node>, BlockFault>
         ensures { pass.new.looks ≡ pass.old.looks }
     {
         match self {
@@ -137,7 +147,12 @@ fn list_nodes(open: OpenList) -> Result<Vec<Node>, BlockFault> {
 }
 
 /// A line block and the messages of its texts.
-fn lines_nodes(alloc: Global, lines: Vec<BarText>, depth: usize, pass: &mut Pass) -> Result<Vec<Node>, BlockFault>
+fn lines_nodes(
+    alloc: Global,
+    lines: Vec<BarText>,
+    depth: usize,
+    pass: &mut Pass,
+) -> Result<Vec<Node>, BlockFault>
     ensures { pass.new.looks ≡ pass.old.looks }
 {
     match line_block(alloc, lines, depth, DEEPEST, &mut pass.numbers) {

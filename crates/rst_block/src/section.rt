@@ -15,7 +15,11 @@ struct OpenSection {
 
 /// The document with its sections: the section of a title holds what comes up to the next title of its level or a higher
 /// one.
-pub(crate) fn document(alloc: Global, nodes: Vec<Node>, headings: Vec<Heading>) -> Result<Node, BlockFault> {
+pub(crate) fn document(
+    alloc: Global,
+    nodes: Vec<Node>,
+    headings: Vec<Heading>,
+) -> Result<Node, BlockFault> {
     let mut sections = Sections {
         outer: Vec::new(alloc),
         current: OpenSection {

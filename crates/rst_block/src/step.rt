@@ -37,13 +37,21 @@ pub(crate) enum Step {
         second: Option<Part>,
     },
     /// The cells of a table are read first.
-    Cells { level: Level, table: TableResult },
+    Cells {
+        level: Level,
+        table: TableResult,
+    },
     /// The block is read.
     Done(Level),
 }
 
 /// Reads the construct at the next line.
-pub(crate) fn step(alloc: Global, view: &View<'_>, level: Level, pass: &mut Pass) -> Result<Step, BlockFault>
+pub(crate) fn step(
+    alloc: Global,
+    view: &View<'_>,
+    level: Level,
+    pass: &mut Pass,
+) -> Result<Step, BlockFault>
     requires inside { level.at < length (block_of view.now) }
     requires few { pass.old.looks < 2 ^ 119 + 2 ^ 110 }
     ensures step { IfOk result (λ s. spec.IsStep (block_of view.now) level.at s) }

@@ -11,7 +11,9 @@ use super::resume::Waits;
 use super::step::Step;
 use super::texts::{Pass, alone, excerpt, filled, number_at, source};
 use rst_directives::{Argument, Directive, DirectiveFault, Place};
-use rst_elements::{image, may_replace, message, substitution_definition as definition, substitution_name};
+use rst_elements::{
+    image, may_replace, message, substitution_definition as definition, substitution_name,
+};
 use rst_markup::Invocation;
 use rst_text::View;
 use rst_tree::{Children, Level as Gravity, Node, Tag};
@@ -50,7 +52,13 @@ pub(crate) fn substitution_definition(
         let text = about(alloc, name.as_str(), " empty or invalid.")?;
         let lines = source(alloc, view, level.at, end, pass)?;
         let line = number_at(view, level.at);
-        let warning = message(alloc, Gravity::Warning, line, text.as_str(), Some(lines.as_str()))?;
+        let warning = message(
+            alloc,
+            Gravity::Warning,
+            line,
+            text.as_str(),
+            Some(lines.as_str()),
+        )?;
         return Ok(Step::Next(level.past(end).with(warning)?));
     };
     holding(alloc, view, level, name, &invocation, end, pass)
@@ -85,7 +93,16 @@ fn holding(
     let line = number_at(view, at);
     match directive_at(alloc, view, at, invocation, Place::Substitution, pass)? {
         Directive::Wrong { fault, .. } => {
-            let error = wrong_definition(alloc, view, at, end, &fault, name.as_str(), invocation, pass)?;
+            let error = wrong_definition(
+                alloc,
+                view,
+                at,
+                end,
+                &fault,
+                name.as_str(),
+                invocation,
+                pass,
+            )?;
             Ok(Step::Next(level.past(end).with(error)?))
         }
         Directive::Found {
@@ -93,8 +110,18 @@ fn holding(
             options,
             ..
         } => {
-            let shown = image(alloc, uri.as_str(), options.as_slice(), line, false, Some(name.as_str()))?;
-            let node = filled(definition(alloc, name.as_str(), line)?, alone(alloc, shown)?)?;
+            let shown = image(
+                alloc,
+                uri.as_str(),
+                options.as_slice(),
+                line,
+                false,
+                Some(name.as_str()),
+            )?;
+            let node = filled(
+                definition(alloc, name.as_str(), line)?,
+                alone(alloc, shown)?,
+            )?;
             Ok(Step::Next(level.past(end).with(node)?))
         }
         Directive::Found { content, .. } => {
@@ -137,14 +164,27 @@ fn wrong_definition(
 }
 
 /// A substitution definition with its replacement text, or the message on one that may not stand there.
-pub(crate) fn finished_replacement(alloc: Global, open: OpenReplacement, nodes: Vec<Node>) -> Result<Node, BlockFault> {
+pub(crate) fn finished_replacement(
+    alloc: Global,
+    open: OpenReplacement,
+    nodes: Vec<Node>,
+) -> Result<Node, BlockFault> {
     let OpenReplacement { name, line, source } = open;
     let children = first_paragraph(alloc, nodes);
     if !may_replace(children.as_slice()) {
         let text = about(alloc, name.as_str(), " contains an illegal element.")?;
-        return Ok(message(alloc, Gravity::Error, line, text.as_str(), Some(source.as_str()))?);
+        return Ok(message(
+            alloc,
+            Gravity::Error,
+            line,
+            text.as_str(),
+            Some(source.as_str()),
+        )?);
     }
-    filled(definition(alloc, name.as_str(), line)?, children.into_list())
+    filled(
+        definition(alloc, name.as_str(), line)?,
+        children.into_list(),
+    )
 }
 
 /// The nodes of the first paragraph.

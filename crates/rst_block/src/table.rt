@@ -55,11 +55,22 @@ fn malformed(
 {
     let text = malformed_text(alloc, fault.detail)?;
     let lines = source(alloc, view, at, end, pass)?;
-    Ok(message(alloc, Gravity::Error, number_at(view, at), text.as_str(), Some(lines.as_str()))?)
+    Ok(message(
+        alloc,
+        Gravity::Error,
+        number_at(view, at),
+        text.as_str(),
+        Some(lines.as_str()),
+    )?)
 }
 
 /// The level behind a table, with the message on one that isn't followed by a blank line.
-pub(crate) fn after_table(alloc: Global, view: &View<'_>, level: Level, pass: &mut Pass) -> Result<Level, BlockFault>
+pub(crate) fn after_table(
+    alloc: Global,
+    view: &View<'_>,
+    level: Level,
+    pass: &mut Pass,
+) -> Result<Level, BlockFault>
     requires few { pass.old.looks < 2 ^ 120 }
     ensures at { IfOk result (λ l. l.at ≡ level.at) }
     ensures looks { pass.new.looks ≤ pass.old.looks + 1 }

@@ -60,8 +60,15 @@ fn short_underline(alloc: Global, view: &View<'_>, level: Level) -> Result<Level
     if !level.titles() {
         return Ok(level);
     }
-    let text = "Possible title underline, too short for the title.\nTreating it as ordinary text because it's so short.";
-    let info = message(alloc, Gravity::Info, number_at(view, level.at + 1), text, None)?;
+    let text =
+        "Possible title underline, too short for the title.\nTreating it as ordinary text because it's so short.";
+    let info = message(
+        alloc,
+        Gravity::Info,
+        number_at(view, level.at + 1),
+        text,
+        None,
+    )?;
     level.with(info)
 }
 
@@ -94,7 +101,15 @@ fn underlined(
             overlined: false,
         };
         let text = view.line(at, &mut pass.looks);
-        let heading = Heading::of(alloc, style, text, number_at(view, at), warning, lines, pass)?;
+        let heading = Heading::of(
+            alloc,
+            style,
+            text,
+            number_at(view, at),
+            warning,
+            lines,
+            pass,
+        )?;
         return Ok(Step::Next(with_heading(level.past(end), heading)?));
     }
     let level = match warning {

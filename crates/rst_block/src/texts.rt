@@ -22,7 +22,10 @@ pub(crate) struct Pass {
 /// Some characters of a text.
 pub(crate) fn excerpt(alloc: Global, text: &str, place: Characters) -> Result<String, AllocError> {
     let mut part = String::new(alloc);
-    for c in skip(text, place.from).chars().take(place.to.saturating_sub(place.from)) {
+    for c in skip(text, place.from)
+        .chars()
+        .take(place.to.saturating_sub(place.from))
+    {
         part.push(c)?;
     }
     Ok(part)
@@ -44,7 +47,13 @@ pub(crate) fn joined(alloc: Global, view: &View<'_>, pass: &mut Pass) -> Result<
 }
 
 /// The lines of a view from place `from` up to place `to`, those that there are, joined by line feeds.
-pub(crate) fn source(alloc: Global, view: &View<'_>, from: usize, to: usize, pass: &mut Pass) -> Result<String, BlockFault>
+pub(crate) fn source(
+    alloc: Global,
+    view: &View<'_>,
+    from: usize,
+    to: usize,
+    pass: &mut Pass,
+) -> Result<String, BlockFault>
     requires few { pass.old.looks < 2 ^ 120 }
     ensures { pass.new.looks ≤ pass.old.looks + 2 ^ 64 }
 {
