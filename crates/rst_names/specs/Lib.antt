@@ -1,0 +1,2 @@
+pub mod Gathered
+pub mod Written

@@ -1,0 +1,70 @@
+//! Names and the elements that hold them.
+
+use rst_tree::{Text, TreeFault};
+use std::alloc::Global;
+use std::collections::BTreeMap;
+
+/// Who holds a name.
+#[derive(Clone, Copy, Debug, PartialEq, Eq)]
+pub enum Holder {
+    /// No element, since elements with equal names lost it.
+    Nobody,
+    /// The element with this `Key::Serial`.
+    Element(u64),
+    /// An element without a number of its own, to which the name went from a target.
+    Unregistered,
+}
+
+/// How a name was given (reStructuredText Markup Specification, 'Implicit Hyperlink Targets').
+#[derive(Clone, Copy, Debug, PartialEq, Eq)]
+pub enum Strength {
+    /// By a section's title.
+    Implicit,
+    /// By any other element.
+    Explicit,
+}
+
+/// What is known of a name.
+#[derive(Debug, Drop)]
+pub struct Held {
+    pub holder: Holder,
+    pub strength: Strength,
+    /// The id of the element that brought the name, the last one that held it.
+    pub id: Text,
+}
+
+/// The names of a document's elements.
+#[derive(Drop)]
+pub struct Names {
+    held: BTreeMap<String, Held>,
+}
+
+impl Names {
+    /// No name.
+    pub fn new(alloc: Global) -> Names {
+        Names {
+            held: BTreeMap::new(alloc),
+        }
+    }
+
+    /// What is known of a name, if an element was written with it.
+    pub fn get(&self, name: &str) -> Option<&Held> {
+        self.held.get(name)
+    }
+
+    /// Lets an element, or none, hold a name that is known; the id stays that of the element that brought it.
+    pub fn move_to(&mut self, name: &str, holder: Holder) {
+        if let Some(held) = self.held.get_mut(name) {
+            held.holder = holder;
+        }
+    }
+
+    /// Says what is known of a name, in place of what was known.
+    ///
+    /// The only refusal is want of memory.
+    pub fn hold(&mut self, alloc: Global, name: &str, held: Held) -> Result<(), TreeFault> {
+        let name = String::from_str(alloc, name)?;
+        self.held.insert(name, held)?;
+        Ok(())
+    }
+}

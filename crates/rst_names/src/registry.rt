@@ -1,0 +1,204 @@
+//! Names and ids, given one element after the other.
+
+use super::ids::Ids;
+use super::names::{Held, Holder, Names, Strength};
+use super::notices::{duplicate_definition, duplicate_name};
+use super::registrants::Registrant;
+use super::rulings::{Now, Ruling, ruling_for};
+use rst_tree::{Node, Tag, Text, TreeFault};
+use std::alloc::Global;
+use std::collections::BTreeMap;
+
+/// What registration gave an element.
+#[derive(Debug, Drop)]
+pub struct Standing {
+    /// Its id; a substitution definition has none.
+    pub id: Option<Text>,
+    /// Whether its name is a duplicate one.
+    pub lost: bool,
+    /// The message on its name.
+    pub notice: Option<Node>,
+}
+
+/// What is known after some elements.
+#[derive(Drop)]
+pub struct Registry {
+    pub ids: Ids,
+    pub names: Names,
+    /// The number of the last substitution definition of each name.
+    definitions: BTreeMap<String, usize>,
+    /// What each element got, by its number.
+    pub standings: Vec<Standing>,
+}
+
+impl Registry {
+    /// What is known before the first element.
+    fn new(alloc: Global) -> Registry {
+        Registry {
+            ids: Ids::new(alloc),
+            names: Names::new(alloc),
+            definitions: BTreeMap::new(alloc),
+            standings: Vec::new(alloc),
+        }
+    }
+
+    /// Registers one more element, which follows those that have a standing.
+    fn add(
+        &mut self,
+        alloc: Global,
+        earlier: &[Registrant],
+        new: &Registrant,
+    ) -> Result<(), TreeFault> {
+        let standing = if matches!(new.tag, Tag::SubstitutionDefinition) {
+            self.define(alloc, new)?
+        } else {
+            self.name(alloc, earlier, new)?
+        };
+        self.standings.push(standing)?;
+        Ok(())
+    }
+
+    /// Gives an element its id, and its name if it has one.
+    fn name(
+        &mut self,
+        alloc: Global,
+        earlier: &[Registrant],
+        new: &Registrant,
+    ) -> Result<Standing, TreeFault> {
+        let id = self.ids.give(alloc, new.tag, new.name())?;
+        if new.name().is_empty() {
+            return Ok(Standing {
+                id: Some(id),
+                lost: false,
+                notice: None,
+            });
+        }
+        let ruling = self.ruling_on(earlier, new);
+        let notice = match ruling.complaint {
+            Some(complaint) => Some(duplicate_name(alloc, complaint, new, &id)?),
+            None => None,
+        };
+        self.follow(alloc, ruling, new, &id)?;
+        Ok(Standing {
+            id: Some(id),
+            lost: ruling.new_loses,
+            notice,
+        })
+    }
+
+    /// The rule for the name of a new element.
+    fn ruling_on(&self, earlier: &[Registrant], new: &Registrant) -> Ruling {
+        let strength = strength_of(new.tag);
+        match self.names.get(new.name()) {
+            None => ruling_for(None, strength, false),
+            Some(held) => {
+                let same = is_same_refuri(held.holder, earlier, new);
+                ruling_for(Some((held.strength, held.holder)), strength, same)
+            }
+        }
+    }
+
+    /// Does what a rule says of the name and of the element that held it.
+    fn follow(
+        &mut self,
+        alloc: Global,
+        ruling: Ruling,
+        new: &Registrant,
+        id: &Text,
+    ) -> Result<(), TreeFault> {
+        if ruling.old_loses {
+            let old = self.holder_of(new.name());
+            self.lose(old);
+        }
+        match ruling.now {
+            Now::Old => Ok(()),
+            Now::Nobody => {
+                self.names.move_to(new.name(), Holder::Nobody);
+                Ok(())
+            }
+            Now::New => {
+                let held = Held {
+                    holder: Holder::Element(self.standings.len() as u64),
+                    strength: strength_of(new.tag),
+                    id: id.copy()?,
+                };
+                self.names.hold(alloc, new.name(), held)
+            }
+        }
+    }
+
+    /// Who holds a name.
+    fn holder_of(&self, name: &str) -> Holder {
+        match self.names.get(name) {
+            Some(held) => held.holder,
+            None => Holder::Nobody,
+        }
+    }
+
+    /// Lets an element have its name as a duplicate one only.
+    fn lose(&mut self, holder: Holder) {
+        if let Holder::Element(serial) = holder {
+            let place = serial as usize;
+            if place < self.standings.len() {
+                self.standings[place].lost = true;
+            }
+        }
+    }
+
+    /// Registers a substitution definition: of those with equal names the last has it.
+    fn define(&mut self, alloc: Global, new: &Registrant) -> Result<Standing, TreeFault> {
+        let name = String::from_str(alloc, new.name())?;
+        let before = self.definitions.insert(name, self.standings.len())?;
+        let notice = match before {
+            None => None,
+            Some(old) => {
+                self.lose(Holder::Element(old as u64));
+                Some(duplicate_definition(alloc, new)?)
+            }
+        };
+        Ok(Standing {
+            id: None,
+            lost: false,
+            notice,
+        })
+    }
+}
+
+/// How elements of a kind give their names.
+fn strength_of(tag: Tag) -> Strength {
+    if matches!(tag, Tag::Section) {
+        Strength::Implicit
+    } else {
+        Strength::Explicit
+    }
+}
+
+/// Whether a name's holder is a target with the URI of a new target.
+fn is_same_refuri(holder: Holder, earlier: &[Registrant], new: &Registrant) -> bool {
+    let Holder::Element(serial) = holder else {
+        return false;
+    };
+    match earlier.get(serial as usize) {
+        Some(old) => {
+            matches!((old.tag, new.tag), (Tag::Target, Tag::Target)) && is_equal_refuri(old, new)
+        }
+        None => false,
+    }
+}
+
+/// Whether both elements refer to one URI.
+fn is_equal_refuri(old: &Registrant, new: &Registrant) -> bool {
+    match (&old.refuri, &new.refuri) {
+        (Some(old), Some(new)) => old.as_str() == new.as_str(),
+        _ => false,
+    }
+}
+
+/// Registers elements, in preorder.
+pub fn registry_of(alloc: Global, elements: &[Registrant]) -> Result<Registry, TreeFault> {
+    let mut registry = Registry::new(alloc);
+    for (serial, new) in elements.iter().enumerate() {
+        registry.add(alloc, &elements[..serial], new)?;
+    }
+    Ok(registry)
+}

@@ -1,0 +1,2 @@
+pub mod LinkKinds
+pub mod Links

@@ -1,0 +1,31 @@
+//! The transforms: from the registered document to the finished tree, and the list of messages.
+#![tactic(auto)]
+
+mod anonymous;
+mod authors;
+mod bibliography;
+mod definitions;
+mod docinfo;
+mod expand;
+mod fault;
+mod field;
+mod filter;
+mod finish;
+mod footnotes;
+mod holders;
+mod indirect;
+mod last_section;
+mod links;
+mod lists;
+mod messages;
+mod reading;
+mod resolve;
+mod targets;
+mod texts;
+mod title;
+mod transitions;
+mod work;
+
+pub use fault::TransformFault;
+pub use finish::{Finished, finish};
+pub use work::{Report, Work};
