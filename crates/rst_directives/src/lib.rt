@@ -31,4 +31,8 @@ pub use target::{Target, target_value};
 pub use value::OptionValue;
 
 #[cfg(test)]
+mod directive_tests;
+#[cfg(test)]
+mod explicit_tests;
+#[cfg(test)]
 mod tests;

@@ -1,4 +1,8 @@
 //! Admonitions, topics and program code.
+ghost use Rattle.std.specs.Prelude.{◌≡◌};
+ghost use Rattle.rst_tree.specs.Faults.{Gives};
+ghost use Rattle.rst_tree.specs.Paths.{IsElement};
+ghost use Rattle.rst_elements.specs.Admonitions.{title_class, with_title_class};
 
 use super::nodes::{element_of, preserving, text_nodes};
 use super::settings::{Holder, set_options};
@@ -37,7 +41,9 @@ pub fn directive_element(
     name: Name,
     options: &[Setting],
     line: usize,
-) -> Result<Node, TreeFault> {
+) -> Result<Node, TreeFault>
+    ensures { Gives IsElement result }
+{
     let mut attrs = Attrs::new(alloc);
     set_options(alloc, &mut attrs, Holder::Body, options)?;
     Ok(element_of(tag_of(name), attrs, Vec::new(alloc), line))
@@ -47,7 +53,9 @@ pub fn directive_element(
 /// word `admonition-` with the id of the title's text (Docutils, Directives, 'Generic Admonition').
 ///
 /// The only refusal is [`TreeFault::NoMemory`].
-pub fn with_title_class(alloc: Global, admonition: Node, title: &Node) -> Result<Node, TreeFault> {
+pub fn with_title_class(alloc: Global, admonition: Node, title: &Node) -> Result<Node, TreeFault>
+    ensures { Gives (λ node. node ≡ with_title_class admonition title.now) result }
+{
     match admonition {
         Node::Element {
             tag,
@@ -70,7 +78,9 @@ pub fn with_title_class(alloc: Global, admonition: Node, title: &Node) -> Result
 }
 
 /// The class that a title gives.
-fn title_class(alloc: Global, title: &Node) -> Result<Value, TreeFault> {
+fn title_class(alloc: Global, title: &Node) -> Result<Value, TreeFault>
+    ensures { Gives (λ class. class ≡ title_class title.now) result }
+{
     let text = title.text_of(alloc)?;
     let id = identifier(alloc, text.as_str())?;
     let mut class = Text::from_str(alloc, "admonition-")?;
@@ -90,7 +100,9 @@ pub fn code_block(
     options: &[Setting],
     text: &str,
     line: usize,
-) -> Result<Node, TreeFault> {
+) -> Result<Node, TreeFault>
+    ensures { Gives IsElement result }
+{
     let mut attrs = preserving(alloc)?;
     set_options(alloc, &mut attrs, Holder::Body, options)?;
     let own = attrs.remove(Key::Classes);

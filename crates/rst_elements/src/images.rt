@@ -1,4 +1,6 @@
 //! Images and figures.
+ghost use Rattle.rst_tree.specs.Faults.{Gives};
+ghost use Rattle.rst_tree.specs.Paths.{IsElement};
 
 use super::nodes::element_of;
 use super::settings::{Holder, set_options};
@@ -18,7 +20,9 @@ pub fn image(
     line: usize,
     in_figure: bool,
     alt: Option<&str>,
-) -> Result<Node, TreeFault> {
+) -> Result<Node, TreeFault>
+    ensures { Gives IsElement result }
+{
     let mut attrs = Attrs::new(alloc);
     attrs.set(Key::Uri, said(alloc, uri)?)?;
     if let Some(text) = alt {
@@ -54,7 +58,9 @@ fn linked(
     to: &Target,
     source: &str,
     line: usize,
-) -> Result<Node, TreeFault> {
+) -> Result<Node, TreeFault>
+    ensures { Gives IsElement result }
+{
     let mut attrs = Attrs::new(alloc);
     attrs.set(Key::Rawsource, said(alloc, source)?)?;
     match to {
@@ -73,7 +79,9 @@ fn linked(
 /// A figure, without its image, caption and legend (Docutils, Directives, 'Figure').
 ///
 /// The only refusal is [`TreeFault::NoMemory`].
-pub fn figure(alloc: Global, options: &[Setting], line: usize) -> Result<Node, TreeFault> {
+pub fn figure(alloc: Global, options: &[Setting], line: usize) -> Result<Node, TreeFault>
+    ensures { Gives IsElement result }
+{
     let mut attrs = Attrs::new(alloc);
     set_options(alloc, &mut attrs, Holder::Figure, options)?;
     Ok(element_of(Tag::Figure, attrs, Vec::new(alloc), line))

@@ -1,4 +1,8 @@
 //! Footnotes and citations.
+ghost use Rattle.std.specs.Prelude.{◌≡◌};
+ghost use Rattle.rst_tree.specs.Faults.{Gives};
+ghost use Rattle.rst_tree.specs.Paths.{IsElement};
+ghost use Rattle.rst_elements.specs.Elements.{labelled_node, citation_node};
 
 use super::nodes::{element_of, plain};
 use super::values::{name_said, said};
@@ -9,7 +13,9 @@ use std::alloc::Global;
 /// named by; `#`, maybe with a name behind it, which numbers it; or `*`, which gives it a symbol.
 ///
 /// The only refusal is [`TreeFault::NoMemory`].
-pub fn footnote(alloc: Global, label: &str, line: usize) -> Result<Node, TreeFault> {
+pub fn footnote(alloc: Global, label: &str, line: usize) -> Result<Node, TreeFault>
+    ensures { Gives IsElement result }
+{
     let mut attrs = Attrs::new(alloc);
     attrs.set(Key::Mark, said(alloc, label)?)?;
     let mut shown = "";
@@ -30,7 +36,9 @@ pub fn footnote(alloc: Global, label: &str, line: usize) -> Result<Node, TreeFau
 /// A citation with its label, which names it, without its content (Document Tree, 'citation').
 ///
 /// The only refusal is [`TreeFault::NoMemory`].
-pub fn citation(alloc: Global, label: &str, line: usize) -> Result<Node, TreeFault> {
+pub fn citation(alloc: Global, label: &str, line: usize) -> Result<Node, TreeFault>
+    ensures { Gives (λ node. node ≡ citation_node label.now line) result }
+{
     let mut attrs = Attrs::new(alloc);
     attrs.set(Key::OwnName, name_said(alloc, label)?)?;
     labelled(alloc, Tag::Citation, attrs, label, line)
@@ -43,7 +51,9 @@ fn labelled(
     attrs: Attrs,
     shown: &str,
     line: usize,
-) -> Result<Node, TreeFault> {
+) -> Result<Node, TreeFault>
+    ensures { Gives (λ node. node ≡ labelled_node tag attrs shown.now line) result }
+{
     let mut nodes = Vec::new(alloc);
     nodes.push(plain(alloc, Tag::Label, line, shown)?)?;
     Ok(element_of(tag, attrs, nodes, line))

@@ -33,4 +33,12 @@ pub use terms::{Heads, term_and_classifiers};
 pub use texted::{Texted, with_text};
 
 #[cfg(test)]
+mod block_tests;
+#[cfg(test)]
+mod directive_tests;
+#[cfg(test)]
+mod mark_tests;
+#[cfg(test)]
+mod printed;
+#[cfg(test)]
 mod tests;

@@ -1,4 +1,8 @@
 //! Line blocks.
+ghost use Rattle.std.specs.Prelude.{◌≡◌, ◌≤◌, length};
+ghost use Rattle.rst_tree.specs.Paths.{IsElement};
+ghost use Rattle.rst_elements.specs.LineBlocks.{Makes};
+ghost use Rattle.rst_elements.specs.declared.line_blocks.LineBlockFault.TheVariants.{NoMemory};
 
 use super::nodes::element_of;
 use super::numbers::Numbers;
@@ -36,21 +40,36 @@ pub enum LineBlockFault {
 }
 
 impl From<AllocError> for LineBlockFault {
+    ghost from_gives = { λ _ fault. fault ≡ NoMemory };
+
     fn from(_error: AllocError) -> LineBlockFault {
         LineBlockFault::NoMemory
     }
 }
 
 impl<T: Drop> From<AllocFailed<T>> for LineBlockFault {
+    ghost from_gives = { λ _ fault. fault ≡ NoMemory };
+
     fn from(_error: AllocFailed<T>) -> LineBlockFault {
         LineBlockFault::NoMemory
     }
 }
 
 impl From<TreeFault> for LineBlockFault {
+    ghost from_gives = { λ _ fault. fault ≡ NoMemory };
+
     fn from(_fault: TreeFault) -> LineBlockFault {
         LineBlockFault::NoMemory
     }
+}
+
+/// A line with the indentation that it counts with.
+#[derive(Debug, Drop)]
+struct IndentedText {
+    indent: usize,
+    line: usize,
+    text_line: usize,
+    text: String,
 }
 
 /// The line block of some lines, of a level of nesting (Markup Specification, 'Line Blocks'). Lines that are deeper than
@@ -65,38 +84,38 @@ pub fn line_block(
     level: usize,
     deepest: usize,
     numbers: &mut Numbers,
-) -> Result<LineBlock, LineBlockFault> {
-    let indents = indents_of(alloc, &lines)?;
+) -> Result<LineBlock, LineBlockFault>
+    ensures { Makes (λ block. IsElement block.element) result }
+{
+    let lines = indented(alloc, lines)?;
     if deepest < level {
         return Err(LineBlockFault::TooDeep {
             line: first_line(&lines),
         });
     }
     let mut notes = Vec::new(alloc);
-    let element = block_of(
-        alloc,
-        &lines,
-        &indents,
-        deepest - level,
-        numbers,
-        &mut notes,
-    )?;
+    let element = block_of(alloc, &lines, deepest - level, numbers, &mut notes)?;
     Ok(LineBlock { element, notes })
 }
 
-/// How deep each line is.
-fn indents_of(alloc: Global, lines: &[BarText]) -> Result<Vec<usize>, AllocError> {
-    let mut indents = Vec::new(alloc);
+/// The lines with their indentations.
+fn indented(alloc: Global, lines: Vec<BarText>) -> Result<Vec<IndentedText>, LineBlockFault> {
+    let mut texts = Vec::new(alloc);
     let mut last = 0;
-    for line in lines {
-        last = line.indent.unwrap_or(last);
-        indents.push(last)?;
+    for bar in lines {
+        last = bar.indent.unwrap_or(last);
+        texts.push(IndentedText {
+            indent: last,
+            line: bar.line,
+            text_line: bar.text_line,
+            text: bar.text,
+        })?;
     }
-    Ok(indents)
+    Ok(texts)
 }
 
 /// The number of the first line, 0 where there is none.
-fn first_line(lines: &[BarText]) -> usize {
+fn first_line(lines: &[IndentedText]) -> usize {
     match lines.first() {
         Some(first) => first.line,
         None => 0,
@@ -104,27 +123,27 @@ fn first_line(lines: &[BarText]) -> usize {
 }
 
 /// The least indentation, 0 where there is no line.
-fn least(indents: &[usize]) -> usize {
-    let mut least = match indents.first() {
-        Some(first) => *first,
+fn least_indent(lines: &[IndentedText]) -> usize {
+    let mut least = match lines.first() {
+        Some(first) => first.indent,
         None => 0,
     };
-    for indent in indents {
-        least = least.min(*indent);
+    for line in lines {
+        least = least.min(line.indent);
     }
     least
 }
 
 /// How many lines at the front are deeper than `least`.
-fn deeper(indents: &[usize], least: usize) -> usize {
-    let mut n = 0;
-    for indent in indents {
-        if *indent <= least {
-            break;
+fn deeper_len(lines: &[IndentedText], least: usize) -> usize
+    ensures { result ≤ length lines.now }
+{
+    for (i, line) in lines.iter().enumerate() {
+        if line.indent <= least {
+            return i;
         }
-        n += 1;
     }
-    n
+    lines.len()
 }
 
 /// The line block of some lines, inside which `levels` more may nest.
@@ -132,31 +151,31 @@ fn deeper(indents: &[usize], least: usize) -> usize {
 /// Each line is looked at once for each line block that it stands in.
 fn block_of(
     alloc: Global,
-    lines: &[BarText],
-    indents: &[usize],
+    lines: &[IndentedText],
     levels: usize,
     numbers: &mut Numbers,
     notes: &mut Vec<Node>,
-) -> Result<Node, LineBlockFault> {
-    let least = least(indents);
+) -> Result<Node, LineBlockFault>
+    ensures { Makes IsElement result }
+{
+    let least = least_indent(lines);
     let mut nodes = Vec::new(alloc);
     let mut place = 0;
-    while place < lines.len() && place < indents.len() {
-        let run = deeper(&indents[place..], least);
+    while place < lines.len() {
+        let run = deeper_len(&lines[place..], least);
         if run == 0 {
             nodes.push(line_of(alloc, &lines[place], numbers, notes)?)?;
             place += 1;
             continue;
         }
-        let end = (place + run).min(lines.len());
         if levels == 0 {
             return Err(LineBlockFault::TooDeep {
                 line: lines[place].line,
             });
         }
-        let (inner, below) = (&lines[place..end], &indents[place..end]);
-        nodes.push(block_of(alloc, inner, below, levels - 1, numbers, notes)?)?;
-        place = end;
+        let inner = &lines[place..place + run];
+        nodes.push(block_of(alloc, inner, levels - 1, numbers, notes)?)?;
+        place += run;
     }
     let line = first_line(lines);
     Ok(element_of(Tag::LineBlock, Attrs::new(alloc), nodes, line))
@@ -165,7 +184,7 @@ fn block_of(
 /// A line, whose messages are put behind the others.
 fn line_of(
     alloc: Global,
-    line: &BarText,
+    line: &IndentedText,
     numbers: &mut Numbers,
     notes: &mut Vec<Node>,
 ) -> Result<Node, LineBlockFault> {

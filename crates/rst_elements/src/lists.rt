@@ -1,4 +1,8 @@
 //! Bullet lists, enumerated lists and the options of option lists.
+ghost use Rattle.std.specs.Prelude.{◌≡◌, option_map};
+ghost use Rattle.rst_tree.specs.Faults.{Gives};
+ghost use Rattle.rst_tree.specs.Paths.{IsElement};
+ghost use Rattle.rst_elements.specs.Elements.{bullet_list_node, sequence_name, prefix, suffix, enumerated_list_node, delimiter_text, option_node, option_argument_node};
 
 use super::messages::message;
 use super::nodes::{element_of, plain};
@@ -10,7 +14,9 @@ use std::alloc::Global;
 /// A bullet list whose items begin with a mark, without its items (Document Tree, 'bullet_list').
 ///
 /// The only refusal is [`TreeFault::NoMemory`].
-pub fn bullet_list(alloc: Global, mark: char, line: usize) -> Result<Node, TreeFault> {
+pub fn bullet_list(alloc: Global, mark: char, line: usize) -> Result<Node, TreeFault>
+    ensures { Gives (λ node. node ≡ bullet_list_node mark line) result }
+{
     let mut bullet = String::new(alloc);
     bullet.push(mark)?;
     let mut attrs = Attrs::new(alloc);
@@ -19,7 +25,9 @@ pub fn bullet_list(alloc: Global, mark: char, line: usize) -> Result<Node, TreeF
 }
 
 /// How the enumeration of a list is named.
-fn sequence_name(sequence: Sequence) -> &'static str {
+fn sequence_name(sequence: Sequence) -> &'static str
+    ensures { result.now ≡ sequence_name sequence }
+{
     match sequence {
         Sequence::Arabic => "arabic",
         Sequence::LowerAlpha => "loweralpha",
@@ -30,7 +38,9 @@ fn sequence_name(sequence: Sequence) -> &'static str {
 }
 
 /// What stands before an ordinal.
-fn prefix(format: Format) -> &'static str {
+fn prefix(format: Format) -> &'static str
+    ensures { result.now ≡ prefix format }
+{
     match format {
         Format::Parentheses => "(",
         Format::Parenthesis | Format::Period => "",
@@ -38,7 +48,9 @@ fn prefix(format: Format) -> &'static str {
 }
 
 /// What stands behind an ordinal.
-fn suffix(format: Format) -> &'static str {
+fn suffix(format: Format) -> &'static str
+    ensures { result.now ≡ suffix format }
+{
     match format {
         Format::Parentheses | Format::Parenthesis => ")",
         Format::Period => ".",
@@ -53,7 +65,9 @@ pub fn enumerated_list(
     alloc: Global,
     enumerator: Enumerator,
     line: usize,
-) -> Result<Node, TreeFault> {
+) -> Result<Node, TreeFault>
+    ensures { Gives (λ node. node ≡ enumerated_list_node enumerator line) result }
+{
     let reading = first_reading(enumerator.written.ordinals);
     let mut attrs = Attrs::new(alloc);
     attrs.set(Key::Enumtype, said(alloc, sequence_name(reading.sequence))?)?;
@@ -73,7 +87,9 @@ pub fn start_message(
     written: &str,
     ordinal: u64,
     line: usize,
-) -> Result<Node, TreeFault> {
+) -> Result<Node, TreeFault>
+    ensures { Gives IsElement result }
+{
     let mut text = String::from_str(alloc, "Enumerated list start value not ordinal-1: \"")?;
     text.push_str(written)?;
     text.push_str("\" (ordinal ")?;
@@ -83,7 +99,9 @@ pub fn start_message(
 }
 
 /// What stands between an option and its argument.
-fn delimiter_text(delimiter: Delimiter) -> &'static str {
+fn delimiter_text(delimiter: Delimiter) -> &'static str
+    ensures { result.now ≡ delimiter_text delimiter }
+{
     match delimiter {
         Delimiter::Nothing => "",
         Delimiter::Space => " ",
@@ -100,7 +118,9 @@ pub fn option(
     string: &str,
     argument: Option<(Delimiter, &str)>,
     line: usize,
-) -> Result<Node, TreeFault> {
+) -> Result<Node, TreeFault>
+    ensures { Gives (λ node. node ≡ option_node string.now (option_map (λ a. (a.0, a.1.now)) argument) line) result }
+{
     let mut nodes = Vec::new(alloc);
     nodes.push(plain(alloc, Tag::OptionString, line, string)?)?;
     if let Some((delimiter, text)) = argument {
@@ -115,7 +135,9 @@ fn option_argument(
     delimiter: Delimiter,
     text: &str,
     line: usize,
-) -> Result<Node, TreeFault> {
+) -> Result<Node, TreeFault>
+    ensures { Gives (λ node. node ≡ option_argument_node delimiter text.now line) result }
+{
     let mut attrs = Attrs::new(alloc);
     attrs.set(Key::Delimiter, said(alloc, delimiter_text(delimiter))?)?;
     let nodes = super::nodes::text_nodes(alloc, text)?;

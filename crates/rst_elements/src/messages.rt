@@ -1,4 +1,7 @@
 //! Messages.
+ghost use Rattle.std.specs.Prelude.{◌≡◌, option_map};
+ghost use Rattle.rst_tree.specs.Faults.{Gives};
+ghost use Rattle.rst_elements.specs.Texts.{message_node};
 
 use rst_tree::{Level, Node, Note, Text, TreeFault};
 use std::alloc::Global;
@@ -13,7 +16,9 @@ pub fn message(
     line: usize,
     text: &str,
     block: Option<&str>,
-) -> Result<Node, TreeFault> {
+) -> Result<Node, TreeFault>
+    ensures { Gives (λ node. node ≡ message_node level line text.now (option_map (λ shown. shown.now) block)) result }
+{
     let text = Text::from_str(alloc, text)?;
     let block = match block {
         Some(shown) => Some(Text::from_str(alloc, shown)?),

@@ -1,4 +1,7 @@
 //! Sections.
+ghost use Rattle.std.specs.Prelude.{◌≡◌};
+ghost use Rattle.rst_tree.specs.Faults.{Gives};
+ghost use Rattle.rst_elements.specs.Texts.{section_node};
 
 use super::nodes::element_of;
 use super::texted::counting;
@@ -10,7 +13,9 @@ use std::alloc::Global;
 /// and the section's content (Document Tree, 'section').
 ///
 /// The only refusal is [`TreeFault::NoMemory`].
-pub fn section(alloc: Global, title: Node, notes: usize, line: usize) -> Result<Node, TreeFault> {
+pub fn section(alloc: Global, title: Node, notes: usize, line: usize) -> Result<Node, TreeFault>
+    ensures { Gives (λ node. node ≡ section_node title notes line) result }
+{
     let text = title.text_of(alloc)?;
     let mut attrs = counting(alloc, notes)?;
     attrs.set(Key::OwnName, name_said(alloc, text.as_str())?)?;

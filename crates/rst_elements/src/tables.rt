@@ -1,4 +1,7 @@
 //! Parts of tables.
+ghost use Rattle.std.specs.Prelude.{◌≡◌};
+ghost use Rattle.rst_tree.specs.Faults.{Gives};
+ghost use Rattle.rst_elements.specs.Elements.{tgroup_node, colspec_node, entry_node};
 
 use super::nodes::element_of;
 use rst_tree::{Attrs, Key, Node, Tag, TreeFault, Value};
@@ -8,7 +11,9 @@ use std::alloc::Global;
 /// (Document Tree, 'tgroup').
 ///
 /// The only refusal is [`TreeFault::NoMemory`].
-pub fn tgroup(alloc: Global, widths: &[usize], line: usize) -> Result<Node, TreeFault> {
+pub fn tgroup(alloc: Global, widths: &[usize], line: usize) -> Result<Node, TreeFault>
+    ensures { Gives (λ node. node ≡ tgroup_node widths.now line) result }
+{
     let mut nodes = Vec::new(alloc);
     for width in widths {
         nodes.push(colspec(alloc, *width, line)?)?;
@@ -19,7 +24,9 @@ pub fn tgroup(alloc: Global, widths: &[usize], line: usize) -> Result<Node, Tree
 }
 
 /// A column of a width.
-fn colspec(alloc: Global, width: usize, line: usize) -> Result<Node, TreeFault> {
+fn colspec(alloc: Global, width: usize, line: usize) -> Result<Node, TreeFault>
+    ensures { Gives (λ node. node ≡ colspec_node line width) result }
+{
     let mut attrs = Attrs::new(alloc);
     attrs.set(Key::Colwidth, Value::Number(width as u64))?;
     Ok(element_of(Tag::Colspec, attrs, Vec::new(alloc), line))
@@ -33,7 +40,9 @@ pub fn entry(
     morerows: usize,
     morecols: usize,
     line: usize,
-) -> Result<Node, TreeFault> {
+) -> Result<Node, TreeFault>
+    ensures { Gives (λ node. node ≡ entry_node morerows morecols line) result }
+{
     let mut attrs = Attrs::new(alloc);
     if morecols != 0 {
         attrs.set(Key::Morecols, Value::Number(morecols as u64))?;

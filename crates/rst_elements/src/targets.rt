@@ -1,4 +1,11 @@
 //! Targets and substitution definitions.
+ghost use Rattle.std.specs.Prelude.{◌≡◌, string_bytes};
+ghost use Rattle.std.specs.List.{list_any};
+ghost use Rattle.rst_tree.specs.Faults.{Gives};
+ghost use Rattle.rst_tree.specs.Paths.{IsElement};
+ghost use Rattle.rst_elements.specs.Values.{normalized, unescaped};
+ghost use Rattle.rst_elements.specs.Elements.{substitution_definition_node};
+ghost use Rattle.rst_elements.specs.Targets.{may_replace, may_stand, is_plain_role, is_substitution};
 
 use super::nodes::element_of;
 use super::values::{name_said, normalized, said, unescaped};
@@ -11,12 +18,9 @@ use std::alloc::Global;
 /// to a URI, or stands for its own place where nothing is left of its text. One without a name is anonymous.
 ///
 /// The only refusal is [`TreeFault::NoMemory`].
-pub fn target(
-    alloc: Global,
-    name: Option<&str>,
-    text: &str,
-    line: usize,
-) -> Result<Node, TreeFault> {
+pub fn target(alloc: Global, name: Option<&str>, text: &str, line: usize) -> Result<Node, TreeFault>
+    ensures { Gives IsElement result }
+{
     let mut attrs = Attrs::new(alloc);
     match name {
         Some(written) => {
@@ -40,7 +44,9 @@ pub fn target(
 /// space, and none at the ends. Case is kept.
 ///
 /// The only refusal is [`TreeFault::NoMemory`].
-pub fn substitution_name(alloc: Global, written: &str) -> Result<String, TreeFault> {
+pub fn substitution_name(alloc: Global, written: &str) -> Result<String, TreeFault>
+    ensures { Gives (λ name. string_bytes name ≡ normalized (unescaped written.now)) result }
+{
     let name = unescaped(alloc, written)?;
     normalized(alloc, name.as_str())
 }
@@ -49,7 +55,9 @@ pub fn substitution_name(alloc: Global, written: &str) -> Result<String, TreeFau
 /// 'substitution_definition').
 ///
 /// The only refusal is [`TreeFault::NoMemory`].
-pub fn substitution_definition(alloc: Global, name: &str, line: usize) -> Result<Node, TreeFault> {
+pub fn substitution_definition(alloc: Global, name: &str, line: usize) -> Result<Node, TreeFault>
+    ensures { Gives (λ node. node ≡ substitution_definition_node name.now line) result }
+{
     let mut attrs = Attrs::new(alloc);
     attrs.set(Key::OwnName, said(alloc, name)?)?;
     Ok(element_of(Tag::SubstitutionDefinition, attrs, Vec::new(alloc), line))
@@ -58,7 +66,9 @@ pub fn substitution_definition(alloc: Global, name: &str, line: usize) -> Result
 /// Whether these nodes of a text may stand in the place of a substitution reference (Docutils, Directives, 'Replacement
 /// Text'): text, plain roles, substitution references, and references that are neither anonymous nor stand round a
 /// substitution reference.
-pub fn may_replace(nodes: &[Node]) -> bool {
+pub fn may_replace(nodes: &[Node]) -> bool
+    ensures { result ≡ may_replace nodes.now }
+{
     for node in nodes {
         if !may_stand(node) {
             return false;
@@ -68,7 +78,9 @@ pub fn may_replace(nodes: &[Node]) -> bool {
 }
 
 /// Whether a node may stand in a replacement text.
-fn may_stand(node: &Node) -> bool {
+fn may_stand(node: &Node) -> bool
+    ensures { result ≡ may_stand node.now }
+{
     match node {
         Node::Text(_) => true,
         Node::Element {
@@ -82,7 +94,9 @@ fn may_stand(node: &Node) -> bool {
 }
 
 /// Whether elements of this kind may stand in a replacement text, whatever they hold.
-fn is_plain_role(tag: Tag) -> bool {
+fn is_plain_role(tag: Tag) -> bool
+    ensures { result ≡ is_plain_role tag }
+{
     matches!(
         tag,
         Tag::Emphasis
@@ -96,7 +110,9 @@ fn is_plain_role(tag: Tag) -> bool {
 }
 
 /// Whether one of the nodes is a substitution reference.
-fn has_substitution(nodes: &[Node]) -> bool {
+fn has_substitution(nodes: &[Node]) -> bool
+    ensures { result ≡ list_any is_substitution nodes.now }
+{
     for node in nodes {
         if matches!(
             node,

@@ -1,4 +1,5 @@
 //! Terms of definition lists, with their classifiers.
+ghost use Rattle.std.specs.Prelude.{◌≤◌, length};
 
 use super::nodes::element_of;
 use super::numbers::Numbers;
@@ -118,7 +119,11 @@ fn is_bare(letters: &[Letter], place: usize, c: char) -> bool {
 }
 
 /// Where the spaces begin that stand directly before a place, at `from` or behind it.
-fn spaces_before(letters: &[Letter], from: usize, place: usize) -> usize {
+fn spaces_before(letters: &[Letter], from: usize, place: usize) -> usize
+    requires { from ≤ place }
+    ensures above { from ≤ result }
+    ensures below { result ≤ place }
+{
     let mut start = place;
     while from < start && is_bare(letters, start - 1, ' ') {
         start -= 1;
@@ -127,7 +132,10 @@ fn spaces_before(letters: &[Letter], from: usize, place: usize) -> usize {
 }
 
 /// Where the spaces end that begin at a place.
-fn spaces_behind(letters: &[Letter], place: usize) -> usize {
+fn spaces_behind(letters: &[Letter], place: usize) -> usize
+    requires { place ≤ length letters.now }
+    ensures { result ≤ length letters.now }
+{
     let mut end = place;
     while end < letters.len() && is_bare(letters, end, ' ') {
         end += 1;

@@ -1,4 +1,9 @@
 //! Elements that hold a text with inline markup.
+ghost use Rattle.std.specs.Prelude.{◌≡◌, map, length};
+ghost use Rattle.std.specs.Str.{chars};
+ghost use Rattle.rst_tree.specs.Faults.{Gives};
+ghost use Rattle.rst_elements.specs.Texts.{counted_on, counting, message_of, with_message, numbered_on, messages_from};
+ghost use Rattle.rst_elements.specs.Results.{HoldsText, ReadsText};
 
 use super::nodes::element_of;
 use super::numbers::Numbers;
@@ -32,7 +37,10 @@ pub fn with_text(
     text: &str,
     text_line: usize,
     numbers: &mut Numbers,
-) -> Result<Texted, TreeFault> {
+) -> Result<Texted, TreeFault>
+    ensures text { Gives (HoldsText tag line (chars text.now) text_line numbers.old) result }
+    ensures numbers { Gives (λ read. numbers.new ≡ counted_on numbers.old (length read.notes.items)) result }
+{
     let Reading { nodes, notes } = read(alloc, text, text_line, numbers)?;
     let attrs = counting(alloc, notes.len())?;
     Ok(Texted {
@@ -42,7 +50,9 @@ pub fn with_text(
 }
 
 /// The attribute that says how many messages of its text an element has.
-pub(crate) fn counting(alloc: Global, notes: usize) -> Result<Attrs, TreeFault> {
+pub(crate) fn counting(alloc: Global, notes: usize) -> Result<Attrs, TreeFault>
+    ensures { Gives (λ attrs. attrs ≡ counting notes) result }
+{
     let mut attrs = Attrs::new(alloc);
     attrs.set(Key::TextMessages, Value::Number(notes as u64))?;
     Ok(attrs)
@@ -54,7 +64,10 @@ pub(crate) fn read(
     text: &str,
     line: usize,
     numbers: &mut Numbers,
-) -> Result<Reading, TreeFault> {
+) -> Result<Reading, TreeFault>
+    ensures text { Gives (ReadsText (chars text.now) line numbers.old) result }
+    ensures numbers { Gives (λ reading. numbers.new ≡ counted_on numbers.old (length reading.notes.items)) result }
+{
     let Ok(Pieces { nodes, notes }) = inline(alloc, text, line) else {
         return Err(TreeFault::NoMemory);
     };
@@ -65,7 +78,9 @@ pub(crate) fn read(
 }
 
 /// The nodes with the numbers of their messages counted on from the first.
-fn numbered_on(alloc: Global, nodes: Vec<Node>, first: u64) -> Result<Vec<Node>, TreeFault> {
+fn numbered_on(alloc: Global, nodes: Vec<Node>, first: u64) -> Result<Vec<Node>, TreeFault>
+    ensures { Gives (λ numbered. numbered.items ≡ map (numbered_on first) nodes.items) result }
+{
     let mut numbered = Vec::new(alloc);
     for node in nodes {
         match message_of(&node) {
@@ -77,7 +92,9 @@ fn numbered_on(alloc: Global, nodes: Vec<Node>, first: u64) -> Result<Vec<Node>,
 }
 
 /// The number of the message that a node is a problematic of.
-fn message_of(node: &Node) -> Option<u64> {
+fn message_of(node: &Node) -> Option<u64>
+    ensures { result ≡ message_of node.now }
+{
     match node.value(Key::Message) {
         Some(Value::Number(number)) => Some(*number),
         _ => None,
@@ -85,7 +102,9 @@ fn message_of(node: &Node) -> Option<u64> {
 }
 
 /// The element with the number of a message; a text stays as it is.
-fn with_message(node: Node, number: u64) -> Result<Node, TreeFault> {
+fn with_message(node: Node, number: u64) -> Result<Node, TreeFault>
+    ensures { Gives (λ numbered. numbered ≡ with_message number node) result }
+{
     match node {
         Node::Element {
             tag,
@@ -106,7 +125,9 @@ fn with_message(node: Node, number: u64) -> Result<Node, TreeFault> {
 }
 
 /// The messages as nodes, numbered on from the first.
-fn messages_of(alloc: Global, notes: Vec<Note>, first: u64) -> Result<Vec<Node>, TreeFault> {
+fn messages_of(alloc: Global, notes: Vec<Note>, first: u64) -> Result<Vec<Node>, TreeFault>
+    ensures { Gives (λ messages. messages.items ≡ messages_from first notes.items) result }
+{
     let mut messages = Vec::new(alloc);
     let mut number = first;
     for note in notes {

@@ -1,4 +1,8 @@
 //! Texts as values of attributes.
+ghost use Rattle.std.specs.Prelude.{◌≡◌, string_bytes};
+ghost use Rattle.rst_tree.specs.Faults.{Gives};
+ghost use Rattle.rst_tree.specs.declared.attrs.Value.TheVariants.{Text as Said};
+ghost use Rattle.rst_elements.specs.Values.{name_in, normalized, unescaped, identifier, listed};
 
 use rst_inline::unescape;
 use rst_text::{id_of, name_of, normalized_white};
@@ -6,13 +10,17 @@ use rst_tree::{Text, Texts, TreeFault, Value};
 use std::alloc::Global;
 
 /// A value that says a text.
-pub(crate) fn said(alloc: Global, text: &str) -> Result<Value, TreeFault> {
+pub(crate) fn said(alloc: Global, text: &str) -> Result<Value, TreeFault>
+    ensures { Gives (λ value. value ≡ Said text.now) result }
+{
     let text = Text::from_str(alloc, text)?;
     Ok(Value::Text(text))
 }
 
 /// A value that says the name that a text gives.
-pub(crate) fn name_said(alloc: Global, text: &str) -> Result<Value, TreeFault> {
+pub(crate) fn name_said(alloc: Global, text: &str) -> Result<Value, TreeFault>
+    ensures { Gives (λ value. value ≡ Said (name_in text.now)) result }
+{
     match name_of(alloc, text) {
         Ok(name) => Ok(Value::Text(Text::new(name))),
         Err(_) => Err(TreeFault::NoMemory),
@@ -20,7 +28,9 @@ pub(crate) fn name_said(alloc: Global, text: &str) -> Result<Value, TreeFault> {
 }
 
 /// A text with each run of white characters as one space, and none at its ends.
-pub(crate) fn normalized(alloc: Global, text: &str) -> Result<String, TreeFault> {
+pub(crate) fn normalized(alloc: Global, text: &str) -> Result<String, TreeFault>
+    ensures { Gives (λ shown. string_bytes shown ≡ normalized text.now) result }
+{
     match normalized_white(alloc, text) {
         Ok(normalized) => Ok(normalized),
         Err(_) => Err(TreeFault::NoMemory),
@@ -28,7 +38,9 @@ pub(crate) fn normalized(alloc: Global, text: &str) -> Result<String, TreeFault>
 }
 
 /// A text without its escapes.
-pub(crate) fn unescaped(alloc: Global, text: &str) -> Result<String, TreeFault> {
+pub(crate) fn unescaped(alloc: Global, text: &str) -> Result<String, TreeFault>
+    ensures { Gives (λ shown. string_bytes shown ≡ unescaped text.now) result }
+{
     match unescape(alloc, text) {
         Ok(shown) => Ok(shown),
         Err(_) => Err(TreeFault::NoMemory),
@@ -36,7 +48,9 @@ pub(crate) fn unescaped(alloc: Global, text: &str) -> Result<String, TreeFault> 
 }
 
 /// The id that a text gives.
-pub(crate) fn identifier(alloc: Global, text: &str) -> Result<String, TreeFault> {
+pub(crate) fn identifier(alloc: Global, text: &str) -> Result<String, TreeFault>
+    ensures { Gives (λ id. string_bytes id ≡ identifier text.now) result }
+{
     match id_of(alloc, text) {
         Ok(id) => Ok(id),
         Err(_) => Err(TreeFault::NoMemory),
@@ -44,7 +58,9 @@ pub(crate) fn identifier(alloc: Global, text: &str) -> Result<String, TreeFault>
 }
 
 /// A value that lists texts.
-pub(crate) fn listed(alloc: Global, texts: &[String]) -> Result<Value, TreeFault> {
+pub(crate) fn listed(alloc: Global, texts: &[String]) -> Result<Value, TreeFault>
+    ensures { Gives (λ value. value ≡ listed texts.now) result }
+{
     let mut list = Texts::new(alloc);
     for text in texts {
         list.push(Text::from_str(alloc, text.as_str())?)?;

@@ -6,7 +6,7 @@ ghost use Rattle.rst_text.specs.Reach.{reach};
 ghost use Rattle.rst_text.specs.Shown.{block_of};
 ghost use Rattle.rst_marks.specs.ExplicitMarks as marks;
 ghost use Rattle.rst_markup.specs.Explicit as spec;
-ghost use Rattle.rst_markup.specs.ExplicitMarkup.{explicit_form};
+ghost use Rattle.rst_markup.specs.ExplicitMarkup.{explicit_form, hanging_part};
 ghost use Rattle.rst_markup.specs.Kinds.{kind_of};
 ghost use Rattle.rst_markup.specs.Sizes.{hanging_size, indented_size};
 
@@ -107,6 +107,7 @@ fn target_of(view: &View<'_>, i: usize, n: usize, mark: TargetMark, looks: &mut 
 }
 
 /// The substitution definition with this name; `n` characters of the line at place `i` stand before what it holds.
+#[tactic(auto, unfolding(crate::specs::Explicit::held_of))]
 fn substitution_of(
     view: &View<'_>,
     i: usize,
@@ -205,6 +206,7 @@ fn behind_dots(view: &View<'_>, i: usize, text: &str, marker: Marker, looks: &mu
 }
 
 /// The anonymous target in the line at place `i`, which begins with `__`.
+#[tactic(auto, unfolding(crate::specs::Explicit::anonymous_of))]
 fn anonymous(view: &View<'_>, i: usize, text: &str, looks: &mut Looks) -> Explicit
     requires inside { i < length (block_of view.now) }
     requires text { chars text.now ≡ front_text (drop i (block_of view.now)) }

@@ -1,4 +1,6 @@
 //! Kinds of lines.
+ghost use Rattle.std.specs.Prelude.{◌≡◌};
+ghost use Rattle.rst_markup.specs.Explicit.{is_explicit_kind};
 
 /// What begins at a line, by the rows of the table of constructs, of which the first whose condition holds counts.
 #[derive(Clone, Copy, Debug, PartialEq, Eq)]
@@ -31,4 +33,13 @@ pub enum Kind {
     Adornment,
     /// Any other line.
     Text,
+}
+
+impl Kind {
+    /// Whether a line of this kind begins explicit markup.
+    pub fn is_explicit(self) -> bool
+        ensures { result ≡ is_explicit_kind self }
+    {
+        matches!(self, Kind::Explicit | Kind::Anonymous)
+    }
 }

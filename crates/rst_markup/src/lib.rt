@@ -34,4 +34,6 @@ pub use row::{item_enumerator, item_option, kind_by, kind_of};
 pub use rst_marks::Characters;
 
 #[cfg(test)]
+mod mark_tests;
+#[cfg(test)]
 mod tests;

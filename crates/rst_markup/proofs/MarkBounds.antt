@@ -1,0 +1,208 @@
+-- Marks of explicit markup stand within their lines.
+use Rattle.std.proofs.Common.{◌≡◌, ℕ, suc, ◌+◌, ◌-◌, ◌<◌, ◌≤◌, ◌==◌, Bool, true, false, not, cond, ◌&&◌, ◌||◌, List, [], ◌∷◌, length, drop, length-drop, Option, None, Some, arith, refl, sym, ap, ◌∙◌}
+use Rattle.std.specs.Prelude.{option_map}
+use Rattle.rst_text.specs.Block.{is_blank}
+use Rattle.rst_marks.specs.Front.{begins_with}
+use Rattle.rst_marks.specs.Class.{run, begins_alphanumeric}
+use Rattle.rst_marks.specs.Closing.{closes, closed_from, closed, before_next}
+use Rattle.rst_marks.specs.ExplicitMarks.{dots, underscores, simple_name, label_kind, label_of, label_by, labelled, begins_white, quoted_target, plain_target, anonymous_target, target_of, substitution_of, spaced_bar, closing_bar, colons, directive_by, directive_of}
+use Rattle.rst_marks.specs.Marker.{marker_of}
+use Rattle.rst_marks.specs.Roman.{if_some}
+use Rattle.rst_marks.specs.declared.class.Class.TheVariants.{Name, Unbracketed}
+use Rattle.rst_marks.specs.declared.closing.Before.{Before}
+use Rattle.rst_marks.specs.declared.closing.Closing.{Closing}
+use Rattle.rst_marks.specs.declared.closing.Closing.TheVariants.{Colon, QuotedColon, Bar, SpacedBar}
+use Rattle.rst_marks.specs.declared.explicit_marks.DirectiveMark.{DirectiveMark}
+use Rattle.rst_marks.specs.declared.explicit_marks.LabelKind.{LabelKind}
+use Rattle.rst_marks.specs.declared.explicit_marks.LabelMark.{LabelMark}
+use Rattle.rst_marks.specs.declared.explicit_marks.SubstitutionMark.{SubstitutionMark}
+use Rattle.rst_marks.specs.declared.explicit_marks.SubstitutionMark.TheVariants.{Named as NamedSubstitution}
+use Rattle.rst_marks.specs.declared.explicit_marks.TargetMark.{TargetMark}
+use Rattle.rst_marks.specs.declared.explicit_marks.TargetMark.TheVariants.{Named, Anonymous}
+use Rattle.rst_marks.specs.declared.marker.Marker.{Marker}
+use Rattle.rst_marks.proofs.OptionLemmas.{marker_within, run_le, there}
+
+-- what the second of two computations gives is what it makes of the first's value
+pub some_of : {A C : Type 0} (o : Option A) (f : A → Option C) (y : C) → if_some o f ≡ Some y → (x : A) × (o ≡ Some x) × (f x ≡ Some y)
+some_of None f y h = cc
+some_of (Some x) f y h = (x, refl, h)
+
+-- a mark with n characters behind which a marker stands
+abbrev Marked : ℕ → List ℕ → Marker → Type 0
+Marked n t m = (n ≤ length t) × (m.cut ≤ length t)
+
+marked : (n : ℕ) (t : List ℕ) (m : Marker) → n ≤ length t → marker_of n t ≡ Some m → Marked n t m
+marked n t m h e = (h, marker_within n t m h e)
+
+-- ---- dots and underscores
+two_within : (c : ℕ) (t : List ℕ) (m : Marker) (a b : Bool) → begins_with c (drop 1 t) ≡ b → cond (a && b) (marker_of 2 t) None ≡ Some m → m.cut ≤ length t
+two_within c t m true true e h = marker_within 2 t m (omega (arith, there c 1 t e)) h
+two_within c t m true false e h = cc
+two_within c t m false b e h = cc
+
+pub dots_within : (t : List ℕ) (m : Marker) → dots t ≡ Some m → m.cut ≤ length t
+unfolding dots
+dots_within t m h = two_within 46 t m (begins_with 46 t) (begins_with 46 (drop 1 t)) refl h
+
+-- ---- labels
+labelled_within : (n : ℕ) (t : List ℕ) (k : Option LabelKind) (l : LabelMark) (b : Bool) → begins_with 93 (drop n (drop 1 t)) ≡ b
+    → cond b (if_some k (labelled n t)) None ≡ Some l → (1 + l.len ≤ length t) × (l.marker.cut ≤ length t)
+labelled_within n t k l true e h =
+    let kind = some_of k (labelled n t) l h in
+    let mark = some_of (marker_of (n + 2) t) (λ m. Some (record { kind = kind.0; len = n; marker = m })) l kind.2 in
+    let room : n + 2 ≤ length t = omega (arith, there 93 n (drop 1 t) e, length-drop 1 t) in
+    let len : n ≡ l.len = let whole : Some (record { kind = kind.0; len = n; marker = mark.0 }) ≡ Some l = mark.2 in cc in
+    let cut : mark.0 ≡ l.marker = let whole : Some (record { kind = kind.0; len = n; marker = mark.0 }) ≡ Some l = mark.2 in cc in
+    (omega arith, omega (arith, marker_within (n + 2) t mark.0 room mark.1, ap (λ m. m.cut) cut))
+labelled_within n t k l false e h = cc
+
+pub label_within : (t : List ℕ) (l : LabelMark) → label_of t ≡ Some l → (1 + l.len ≤ length t) × (l.marker.cut ≤ length t)
+unfolding label_of
+label_within t l h = by (begins_with 91 t) h
+  where
+    by : (b : Bool) → cond b (label_by (run Unbracketed (drop 1 t)) t) None ≡ Some l → (1 + l.len ≤ length t) × (l.marker.cut ≤ length t)
+    by true h = labelled_within (run Unbracketed (drop 1 t)) t (label_kind (run Unbracketed (drop 1 t)) (drop 1 t)) l (begins_with 93 (drop (run Unbracketed (drop 1 t)) (drop 1 t))) refl h
+    by false h = cc
+
+-- ---- what is closed
+some_suc : (o : Option ℕ) (n : ℕ) → option_map (λ m. suc m) o ≡ Some n → (m : ℕ) × (o ≡ Some m) × (n ≡ suc m)
+some_suc None n h = cc
+some_suc (Some m) n h = (m, refl, cc)
+
+pub closed_within : (closing : Closing) (before : Before) (t : List ℕ) (n : ℕ) → closed_from closing before t ≡ Some n → n < length t
+unfolding closed_from
+closed_within closing before [] n h = cc
+closed_within closing before (c ∷ cs) n h = by (closes closing before c cs) h (λ m e. closed_within closing (before_next before c) cs m e)
+  where
+    by : (b : Bool) → cond b (Some 0) (option_map (λ m. suc m) (closed_from closing (before_next before c) cs)) ≡ Some n
+        → ((m : ℕ) → closed_from closing (before_next before c) cs ≡ Some m → m < length cs) → n < length (c ∷ cs)
+    by true h later = let same : 0 ≡ n = cc in omega arith
+    by false h later =
+        let more = some_suc (closed_from closing (before_next before c) cs) n h in
+        omega (arith, later more.0 more.1, more.2)
+
+-- a quote has a colon behind it
+quote_behind : (before : Before) (c : ℕ) (cs : List ℕ) → closes QuotedColon before c cs ≡ true → 1 ≤ length cs
+unfolding closes
+quote_behind before c cs h = by before.escaped cs h
+  where
+    by : (escaped : Bool) (cs : List ℕ) → closes QuotedColon (record { escaped = escaped; dark = before.dark }) c cs ≡ true → 1 ≤ length cs
+    by true cs h = cc
+    by false [] h = two (c == 96) h
+      where
+        two : (b : Bool) → (b && false) ≡ true → 1 ≤ 0
+        two true h = cc
+        two false h = cc
+    by false (d ∷ ds) h = omega arith
+
+pub quoted_within : (before : Before) (t : List ℕ) (n : ℕ) → closed_from QuotedColon before t ≡ Some n → n + 1 < length t
+unfolding closed_from
+quoted_within before [] n h = cc
+quoted_within before (c ∷ cs) n h = by (closes QuotedColon before c cs) refl h (λ m e. quoted_within (before_next before c) cs m e)
+  where
+    by : (b : Bool) → closes QuotedColon before c cs ≡ b → cond b (Some 0) (option_map (λ m. suc m) (closed_from QuotedColon (before_next before c) cs)) ≡ Some n
+        → ((m : ℕ) → closed_from QuotedColon (before_next before c) cs ≡ Some m → m + 1 < length cs) → n + 1 < length (c ∷ cs)
+    by true e h later = let same : 0 ≡ n = cc in omega (arith, quote_behind before c cs e)
+    by false e h later =
+        let more = some_suc (closed_from QuotedColon (before_next before c) cs) n h in
+        omega (arith, later more.0 more.1, more.2)
+
+-- ---- targets
+abbrev pub TargetWithin : List ℕ → TargetMark → Type 0
+TargetWithin t (Named from len m) = (from + len ≤ length t) × (m.cut ≤ length t)
+TargetWithin t (Anonymous m) = m.cut ≤ length t
+
+named_within : (from len n : ℕ) (t : List ℕ) (mark : TargetMark) (b : Bool) → from + len ≤ length t → n ≤ length t
+    → cond b None (if_some (marker_of n t) (λ m. Some (Named from len m))) ≡ Some mark → TargetWithin t mark
+named_within from len n t mark true h k e = cc
+named_within from len n t mark false h k e =
+    let m = some_of (marker_of n t) (λ m. Some (Named from len m)) mark e in
+    let whole : Some (Named from len m.0) ≡ Some mark = m.2 in
+    let same : Named from len m.0 ≡ mark = cc in
+    rw (← same) (h, marker_within n t m.0 k m.1)
+
+pub quoted_target_within : (t : List ℕ) (mark : TargetMark) → quoted_target t ≡ Some mark → TargetWithin t mark
+unfolding quoted_target
+quoted_target_within t mark h =
+    let c = some_of (closed QuotedColon (drop 2 t)) (λ n. cond (n == 0 || (begins_white (drop 2 t) || begins_with 96 (drop 2 t))) None (if_some (marker_of (n + 4) t) (λ m. Some (Named 2 n m)))) mark h in
+    let room : c.0 + 4 ≤ length t = omega (arith, quoted_within (record { escaped = false; dark = false }) (drop 2 t) c.0 c.1, length-drop 2 t) in
+    named_within 2 c.0 (c.0 + 4) t mark (c.0 == 0 || (begins_white (drop 2 t) || begins_with 96 (drop 2 t))) (omega arith) room c.2
+
+pub plain_target_within : (t : List ℕ) (mark : TargetMark) → plain_target t ≡ Some mark → TargetWithin t mark
+unfolding plain_target
+plain_target_within t mark h =
+    let c = some_of (closed Colon (drop 1 t)) (λ n. cond (n == 0 || begins_white (drop 1 t)) None (if_some (marker_of (n + 2) t) (λ m. Some (Named 1 n m)))) mark h in
+    let room : c.0 + 2 ≤ length t = omega (arith, closed_within Colon (record { escaped = false; dark = false }) (drop 1 t) c.0 c.1, length-drop 1 t) in
+    named_within 1 c.0 (c.0 + 2) t mark (c.0 == 0 || begins_white (drop 1 t)) (omega arith) room c.2
+
+anonymous_by : (t : List ℕ) (mark : TargetMark) (b : Bool) → begins_with 58 (drop 2 t) ≡ b → cond b (if_some (marker_of 3 t) (λ m. Some (Anonymous m))) None ≡ Some mark → TargetWithin t mark
+anonymous_by t mark true e h =
+    let m = some_of (marker_of 3 t) (λ m. Some (Anonymous m)) mark h in
+    let whole : Some (Anonymous m.0) ≡ Some mark = m.2 in
+    let same : Anonymous m.0 ≡ mark = cc in
+    rw (← same) (marker_within 3 t m.0 (omega (arith, there 58 2 t e)) m.1)
+anonymous_by t mark false e h = cc
+
+pub anonymous_target_within : (t : List ℕ) (mark : TargetMark) → anonymous_target t ≡ Some mark → TargetWithin t mark
+unfolding anonymous_target
+anonymous_target_within t mark h = anonymous_by t mark (begins_with 58 (drop 2 t)) refl h
+
+pub target_within : (t : List ℕ) (mark : TargetMark) → target_of t ≡ Some mark → TargetWithin t mark
+unfolding target_of
+target_within t mark h = by (begins_with 95 t) (begins_with 95 (drop 1 t)) (begins_with 96 (drop 1 t)) h
+  where
+    by : (a b d : Bool) → cond a (cond b (anonymous_target t) (cond d (quoted_target t) (plain_target t))) None ≡ Some mark → TargetWithin t mark
+    by true true d h = anonymous_target_within t mark h
+    by true false true h = quoted_target_within t mark h
+    by true false false h = plain_target_within t mark h
+    by false b d h = cc
+
+-- ---- substitution definitions
+spaced_within : (t : List ℕ) (n : ℕ) (m : Marker) (o : Option ℕ) → closed SpacedBar (drop 1 t) ≡ o → spaced_bar t o ≡ Some (NamedSubstitution n m) → (1 + n ≤ length t) × (m.cut ≤ length t)
+spaced_within t n m None e h = by (closed Bar (drop 1 t)) h
+  where
+    by : (o : Option ℕ) → Some (closing_bar o) ≡ Some (NamedSubstitution n m) → (1 + n ≤ length t) × (m.cut ≤ length t)
+    by None h = cc
+    by (Some k) h = cc
+spaced_within t n m (Some k) e h =
+    let room : k + 2 ≤ length t = omega (arith, closed_within SpacedBar (record { escaped = false; dark = false }) (drop 1 t) k e, length-drop 1 t) in
+    let c = some_of (marker_of (k + 2) t) (λ x. Some (NamedSubstitution k x)) (NamedSubstitution n m) h in
+    let whole : Some (NamedSubstitution k c.0) ≡ Some (NamedSubstitution n m) = c.2 in
+    let len : k ≡ n = cc in
+    let mark : c.0 ≡ m = cc in
+    (omega arith, omega (arith, marker_within (k + 2) t c.0 room c.1, ap (λ x. x.cut) mark))
+
+pub substitution_within : (t : List ℕ) (n : ℕ) (m : Marker) → substitution_of t ≡ Some (NamedSubstitution n m) → (1 + n ≤ length t) × (m.cut ≤ length t)
+unfolding substitution_of
+substitution_within t n m h = by (begins_with 124 t) (is_blank (drop 1 t) || begins_white (drop 1 t)) h
+  where
+    by : (a b : Bool) → cond a (cond b None (spaced_bar t (closed SpacedBar (drop 1 t)))) None ≡ Some (NamedSubstitution n m) → (1 + n ≤ length t) × (m.cut ≤ length t)
+    by true true h = cc
+    by true false h = spaced_within t n m (closed SpacedBar (drop 1 t)) refl h
+    by false b h = cc
+
+-- ---- directives
+colons_by : (len n : ℕ) (t : List ℕ) (d : DirectiveMark) (a b : Bool) → begins_with 58 (drop (n + 1) t) ≡ b → len ≤ n
+    → cond (not a || not b) None (if_some (marker_of (n + 2) t) (λ m. Some (record { len = len; marker = m }))) ≡ Some d → (d.len ≤ length t) × (d.marker.cut ≤ length t)
+colons_by len n t d false b e s h = cc
+colons_by len n t d true false e s h = cc
+colons_by len n t d true true e s h =
+    let room : n + 2 ≤ length t = omega (arith, there 58 (n + 1) t e) in
+    let c = some_of (marker_of (n + 2) t) (λ m. Some (record { len = len; marker = m })) d h in
+    let whole : Some (record { len = len; marker = c.0 }) ≡ Some d = c.2 in
+    let same : len ≡ d.len = cc in
+    let mark : c.0 ≡ d.marker = cc in
+    (omega arith, omega (arith, marker_within (n + 2) t c.0 room c.1, ap (λ m. m.cut) mark))
+
+colons_within : (len n : ℕ) (t : List ℕ) (d : DirectiveMark) → len ≤ n → colons len n t ≡ Some d → (d.len ≤ length t) × (d.marker.cut ≤ length t)
+unfolding colons
+colons_within len n t d s h = colons_by len n t d (begins_with 58 (drop n t)) (begins_with 58 (drop (n + 1) t)) refl s h
+
+pub directive_within : (spaced : Bool) (t : List ℕ) (d : DirectiveMark) → directive_of spaced t ≡ Some d → (d.len ≤ length t) × (d.marker.cut ≤ length t)
+unfolding directive_of
+directive_within spaced t d h = by (simple_name t == 0) (spaced && begins_with 32 (drop (simple_name t) t)) h
+  where
+    by : (a b : Bool) → cond a None (cond b (colons (simple_name t) (simple_name t + 1) t) (colons (simple_name t) (simple_name t) t)) ≡ Some d → (d.len ≤ length t) × (d.marker.cut ≤ length t)
+    by true b h = cc
+    by false true h = colons_within (simple_name t) (simple_name t + 1) t d (omega arith) h
+    by false false h = colons_within (simple_name t) (simple_name t) t d (omega arith) h
