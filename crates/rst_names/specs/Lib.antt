@@ -1,2 +1,5 @@
 pub mod Gathered
+pub mod Names
+pub mod Notices
+pub mod Rulings
 pub mod Written

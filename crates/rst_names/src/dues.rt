@@ -26,6 +26,11 @@ impl Dues {
         }
     }
 
+    /// Whether no message is due.
+    pub fn is_empty(&self) -> bool {
+        self.queue.is_empty()
+    }
+
     /// More messages are due behind those.
     pub fn push(&mut self, due: Due) -> Result<(), TreeFault> {
         self.queue.push_back(due)?;

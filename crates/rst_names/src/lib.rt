@@ -18,4 +18,6 @@ pub use names::{Held, Holder, Names, Strength};
 pub use registration::{Registered, register};
 
 #[cfg(test)]
+mod place_tests;
+#[cfg(test)]
 mod tests;

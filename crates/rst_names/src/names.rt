@@ -1,4 +1,6 @@
 //! Names and the elements that hold them.
+ghost use Rattle.std.specs.Prelude.{◌≡◌, ℕ, List, MatchOption, Some, None, OnOk};
+ghost use Rattle.rst_names.specs.Names.{held_by, moved, Knows};
 
 use rst_tree::{Text, TreeFault};
 use std::alloc::Global;
@@ -41,19 +43,25 @@ pub struct Names {
 
 impl Names {
     /// No name.
-    pub fn new(alloc: Global) -> Names {
+    pub fn new(alloc: Global) -> Names
+        ensures { (name : List ℕ) → held_by result name ≡ None }
+    {
         Names {
             held: BTreeMap::new(alloc),
         }
     }
 
     /// What is known of a name, if an element was written with it.
-    pub fn get(&self, name: &str) -> Option<&Held> {
+    pub fn get(&self, name: &str) -> Option<&Held>
+        ensures { MatchOption result (held_by self.now name.now ≡ None) (λ h. held_by self.now name.now ≡ Some h.now) }
+    {
         self.held.get(name)
     }
 
     /// Lets an element, or none, hold a name that is known; the id stays that of the element that brought it.
-    pub fn move_to(&mut self, name: &str, holder: Holder) {
+    pub fn move_to(&mut self, name: &str, holder: Holder)
+        ensures { Knows name.now (moved holder (held_by self.old name.now)) self.old self.new }
+    {
         if let Some(held) = self.held.get_mut(name) {
             held.holder = holder;
         }
@@ -62,7 +70,9 @@ impl Names {
     /// Says what is known of a name, in place of what was known.
     ///
     /// The only refusal is want of memory.
-    pub fn hold(&mut self, alloc: Global, name: &str, held: Held) -> Result<(), TreeFault> {
+    pub fn hold(&mut self, alloc: Global, name: &str, held: Held) -> Result<(), TreeFault>
+        ensures { OnOk result (Knows name.now (Some held) self.old self.new) }
+    {
         let name = String::from_str(alloc, name)?;
         self.held.insert(name, held)?;
         Ok(())

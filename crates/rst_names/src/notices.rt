@@ -1,4 +1,7 @@
 //! Messages on equal names.
+ghost use Rattle.std.specs.Prelude.{◌≡◌};
+ghost use Rattle.rst_tree.specs.Faults.{Gives};
+ghost use Rattle.rst_names.specs.Notices as spec;
 
 use super::names::Strength;
 use super::registrants::Registrant;
@@ -12,22 +15,31 @@ pub fn duplicate_name(
     complaint: Complaint,
     new: &Registrant,
     id: &Text,
-) -> Result<Node, TreeFault> {
-    let words = match complaint.strength {
-        Strength::Implicit => "Duplicate implicit target name: \"",
-        Strength::Explicit => "Duplicate explicit target name: \"",
-    };
+) -> Result<Node, TreeFault>
+    ensures { Gives (λ node. node ≡ spec.duplicate_name complaint new.now id.now) result }
+{
     let mut backrefs = Texts::new(alloc);
     backrefs.push(id.copy()?)?;
+    let words = duplicate_words(complaint.strength);
     let mut node = notice(alloc, complaint.level, words, new)?;
-    if let Node::Element { attrs, .. } = &mut node {
-        attrs.set(Key::Backrefs, Value::List(backrefs))?;
-    }
+    node.set_at(&[], Key::Backrefs, Value::List(backrefs))?;
     Ok(node)
 }
 
+/// What a message says before an equal name of this strength.
+fn duplicate_words(strength: Strength) -> &'static str
+    ensures { result.now ≡ spec.duplicate_words strength }
+{
+    match strength {
+        Strength::Implicit => "Duplicate implicit target name: \"",
+        Strength::Explicit => "Duplicate explicit target name: \"",
+    }
+}
+
 /// The message on the name of a substitution definition.
-pub fn duplicate_definition(alloc: Global, new: &Registrant) -> Result<Node, TreeFault> {
+pub fn duplicate_definition(alloc: Global, new: &Registrant) -> Result<Node, TreeFault>
+    ensures { Gives (λ node. node ≡ spec.duplicate_definition new.now) result }
+{
     notice(
         alloc,
         Level::Error,
@@ -37,7 +49,9 @@ pub fn duplicate_definition(alloc: Global, new: &Registrant) -> Result<Node, Tre
 }
 
 /// A message that says some words and an element's name.
-fn notice(alloc: Global, level: Level, words: &str, new: &Registrant) -> Result<Node, TreeFault> {
+fn notice(alloc: Global, level: Level, words: &str, new: &Registrant) -> Result<Node, TreeFault>
+    ensures { Gives (λ node. node ≡ spec.notice level words.now new.now) result }
+{
     let mut text = Text::from_str(alloc, words)?;
     text.push_str(new.name())?;
     text.push_str("\".")?;

@@ -169,6 +169,9 @@ impl Placing {
 
     /// Lets messages be due as those of an element's text.
     fn leave(&mut self, alloc: Global, tag: Tag, due: Dues) -> Result<(), TreeFault> {
+        if due.is_empty() {
+            return Ok(());
+        }
         match route_of(self.parent, tag) {
             Route::Outward => self.placed.outward.append(due),
             Route::Inward => self.inward.append(due),

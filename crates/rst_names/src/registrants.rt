@@ -1,6 +1,7 @@
 //! What registration has to know of the elements.
 ghost use Rattle.std.specs.Prelude.{◌≡◌, []};
 ghost use Rattle.rst_tree.specs.Faults.{Gives};
+ghost use Rattle.rst_names.specs.Notices.{name_in};
 ghost use Rattle.rst_names.specs.Gathered.{text_at, number_at, gathered, numbered};
 
 use rst_tree::{Attrs, Key, Tag, Text, TreeFault, Value, Visitor};
@@ -23,7 +24,9 @@ pub struct Registrant {
 
 impl Registrant {
     /// The name that it was written with; the empty name is none.
-    pub fn name(&self) -> &str {
+    pub fn name(&self) -> &str
+        ensures { result.now ≡ name_in self.now.name }
+    {
         match &self.name {
             Some(name) => name.as_str(),
             None => "",

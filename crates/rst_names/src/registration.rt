@@ -8,7 +8,7 @@ use super::registrants::{Gathering, Registrant};
 use super::registry::{Registry, Standing, registry_of};
 use super::writing::{Writing, given};
 use rst_marked::Marked;
-use rst_tree::{Attr, Node, TreeFault, walk};
+use rst_tree::{Attrs, Node, TreeFault, walk};
 use std::alloc::Global;
 use std::collections::VecDeque;
 
@@ -53,7 +53,7 @@ pub fn register(alloc: Global, document: Marked) -> Result<Registered, TreeFault
         standings,
         ..
     } = registry_of(alloc, &elements)?;
-    let mut writing = Writing::of(given_to(alloc, &elements, &standings)?);
+    let mut writing = Writing::of(alloc, given_to(alloc, &elements, &standings)?);
     let root = walk(root, &mut writing)?;
     let root = place_notices(alloc, root, notices_of(alloc, standings)?)?;
     Ok(Registered {
@@ -69,7 +69,7 @@ fn given_to(
     alloc: Global,
     elements: &[Registrant],
     standings: &[Standing],
-) -> Result<VecDeque<Vec<Attr>>, TreeFault> {
+) -> Result<VecDeque<Attrs>, TreeFault> {
     let mut links = Links::between(alloc, elements, standings)?;
     let mut all = VecDeque::new(alloc);
     for (element, standing) in elements.iter().zip(standings) {
@@ -81,12 +81,10 @@ fn given_to(
 /// The messages on the elements' names.
 fn notices_of(alloc: Global, standings: Vec<Standing>) -> Result<Notices, TreeFault> {
     let mut notices = Notices::new(alloc);
-    let mut serial = 0;
-    for standing in standings {
+    for (serial, standing) in standings.into_iter().enumerate() {
         if let Some(message) = standing.notice {
-            notices.push(serial, message)?;
+            notices.push(serial as u64, message)?;
         }
-        serial += 1;
     }
     Ok(notices)
 }

@@ -1,6 +1,10 @@
 //! What becomes of a name with which one more element was written (reStructuredText Markup Specification, 'Implicit
 //! Hyperlink Targets'; Docutils, 'Duplicate Explicit Target Names').
 
+ghost use Rattle.std.specs.Prelude.{◌≡◌};
+ghost use Rattle.rst_names.specs.declared.names.Strength.TheVariants.{Implicit, Explicit};
+ghost use Rattle.rst_names.specs.Rulings as spec;
+
 use super::names::{Holder, Strength};
 use rst_tree::Level;
 
@@ -37,7 +41,9 @@ const IMPLICIT: Option<Complaint> = Some(Complaint {
 });
 
 /// No element had the name before.
-fn first_of_the_name() -> Ruling {
+fn first_of_the_name() -> Ruling
+    ensures { result ≡ spec.new_has_it }
+{
     Ruling {
         now: Now::New,
         old_loses: false,
@@ -47,7 +53,9 @@ fn first_of_the_name() -> Ruling {
 }
 
 /// A section has the name, and another element takes it.
-fn explicit_takes_implicit() -> Ruling {
+fn explicit_takes_implicit() -> Ruling
+    ensures { result ≡ spec.new_takes_it }
+{
     Ruling {
         now: Now::New,
         old_loses: true,
@@ -57,12 +65,16 @@ fn explicit_takes_implicit() -> Ruling {
 }
 
 /// Sections lost the name, and another element takes it.
-fn explicit_takes_lost_implicit() -> Ruling {
+fn explicit_takes_lost_implicit() -> Ruling
+    ensures { result ≡ spec.new_has_it }
+{
     first_of_the_name()
 }
 
 /// A target has the name and the URI of a new target.
-fn explicit_with_same_refuri() -> Ruling {
+fn explicit_with_same_refuri() -> Ruling
+    ensures { result ≡ spec.old_keeps_it Explicit }
+{
     Ruling {
         now: Now::Old,
         old_loses: false,
@@ -75,7 +87,9 @@ fn explicit_with_same_refuri() -> Ruling {
 }
 
 /// An element has the name, and another one that is no section.
-fn explicit_twice() -> Ruling {
+fn explicit_twice() -> Ruling
+    ensures { result ≡ spec.both_lose_it spec.warning }
+{
     Ruling {
         now: Now::Nobody,
         old_loses: true,
@@ -88,7 +102,9 @@ fn explicit_twice() -> Ruling {
 }
 
 /// Elements lost the name, and one more has it that is no section.
-fn explicit_after_lost_explicit() -> Ruling {
+fn explicit_after_lost_explicit() -> Ruling
+    ensures { result ≡ spec.nobody_has_it spec.warning }
+{
     Ruling {
         old_loses: false,
         ..explicit_twice()
@@ -96,7 +112,9 @@ fn explicit_after_lost_explicit() -> Ruling {
 }
 
 /// Two sections have the name.
-fn implicit_twice() -> Ruling {
+fn implicit_twice() -> Ruling
+    ensures { result ≡ spec.both_lose_it (spec.info Implicit) }
+{
     Ruling {
         now: Now::Nobody,
         old_loses: true,
@@ -106,7 +124,9 @@ fn implicit_twice() -> Ruling {
 }
 
 /// Sections lost the name, and one more has it.
-fn implicit_after_lost_implicit() -> Ruling {
+fn implicit_after_lost_implicit() -> Ruling
+    ensures { result ≡ spec.nobody_has_it (spec.info Implicit) }
+{
     Ruling {
         old_loses: false,
         ..implicit_twice()
@@ -114,7 +134,9 @@ fn implicit_after_lost_implicit() -> Ruling {
 }
 
 /// Another element has the name of a new section.
-fn implicit_under_explicit() -> Ruling {
+fn implicit_under_explicit() -> Ruling
+    ensures { result ≡ spec.old_keeps_it Implicit }
+{
     Ruling {
         now: Now::Old,
         old_loses: false,
@@ -124,12 +146,16 @@ fn implicit_under_explicit() -> Ruling {
 }
 
 /// Other elements lost the name of a new section.
-fn implicit_after_lost_explicit() -> Ruling {
+fn implicit_after_lost_explicit() -> Ruling
+    ensures { result ≡ spec.nobody_has_it (spec.info Implicit) }
+{
     implicit_after_lost_implicit()
 }
 
 /// The rule for a name, by how it was held and is given.
-pub fn ruling_for(old: Option<(Strength, Holder)>, new: Strength, same_refuri: bool) -> Ruling {
+pub fn ruling_for(old: Option<(Strength, Holder)>, new: Strength, same_refuri: bool) -> Ruling
+    ensures { result ≡ spec.ruling_for old new same_refuri }
+{
     match (old, new) {
         (None, _) => first_of_the_name(),
         (Some((Strength::Implicit, Holder::Nobody)), Strength::Explicit) => {

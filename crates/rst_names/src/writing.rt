@@ -1,11 +1,12 @@
 //! The attributes that registration gives, written at the elements.
-ghost use Rattle.std.specs.Prelude.{◌≡◌, map};
-ghost use Rattle.rst_names.specs.Written.{left_given, with_given};
+ghost use Rattle.std.specs.Prelude.{◌≡◌};
+ghost use Rattle.rst_tree.specs.Faults.{Gives};
+ghost use Rattle.rst_names.specs.Written.{with_attrs, left_given, with_given};
 
 use super::links::Links;
 use super::registrants::Registrant;
 use super::registry::Standing;
-use rst_tree::{Attr, Attrs, Key, Tag, Text, Texts, TreeFault, Value, Visitor};
+use rst_tree::{Attrs, Key, Tag, Text, Texts, TreeFault, Value, Visitor};
 use std::alloc::Global;
 use std::collections::VecDeque;
 use std::marker::Model;
@@ -16,10 +17,10 @@ pub fn given(
     element: &Registrant,
     standing: &Standing,
     links: &mut Links,
-) -> Result<Vec<Attr>, TreeFault> {
-    let mut given = Vec::new(alloc);
+) -> Result<Attrs, TreeFault> {
+    let mut given = Attrs::new(alloc);
     if let Some(id) = &standing.id {
-        given.push(list_of(alloc, Key::Ids, id.as_str())?)?;
+        given.set(Key::Ids, list_of(alloc, id.as_str())?)?;
     }
     if !element.name().is_empty() {
         let key = if standing.lost {
@@ -27,68 +28,68 @@ pub fn given(
         } else {
             Key::Names
         };
-        given.push(list_of(alloc, key, element.name())?)?;
+        given.set(key, list_of(alloc, element.name())?)?;
     }
     if let Some(number) = element.message {
-        if let Some(link) = link(element.tag, number, links)? {
-            given.push(link)?;
-        }
+        link(element.tag, number, links, &mut given)?;
     }
     Ok(given)
 }
 
-/// What links a message to its problematics, or a problematic to its message.
-fn link(tag: Tag, number: u64, links: &mut Links) -> Result<Option<Attr>, TreeFault> {
-    if !matches!(tag, Tag::Problematic) {
-        return Ok(match links.take_problematics(number) {
-            Some(ids) => Some(Attr {
-                key: Key::Backrefs,
-                value: Value::List(ids),
-            }),
-            None => None,
-        });
+/// Links a message to its problematics, or a problematic to its message.
+fn link(tag: Tag, number: u64, links: &mut Links, given: &mut Attrs) -> Result<(), TreeFault> {
+    if matches!(tag, Tag::Problematic) {
+        return match links.message(number) {
+            Some(id) => given.set(Key::Refid, Value::Text(id.copy()?)),
+            None => Ok(()),
+        };
     }
-    Ok(match links.message(number) {
-        Some(id) => Some(Attr {
-            key: Key::Refid,
-            value: Value::Text(id.copy()?),
-        }),
-        None => None,
-    })
+    match links.take_problematics(number) {
+        Some(ids) => given.set(Key::Backrefs, Value::List(ids)),
+        None => Ok(()),
+    }
 }
 
-/// An attribute that says a list of one text.
-fn list_of(alloc: Global, key: Key, text: &str) -> Result<Attr, TreeFault> {
+/// A list of one text.
+fn list_of(alloc: Global, text: &str) -> Result<Value, TreeFault> {
     let mut list = Texts::new(alloc);
     list.push(Text::from_str(alloc, text)?)?;
-    Ok(Attr {
-        key,
-        value: Value::List(list),
-    })
+    Ok(Value::List(list))
+}
+
+/// Lets attributes say what others say, one after the other.
+fn set_all(alloc: Global, attrs: &mut Attrs, given: &Attrs) -> Result<(), TreeFault>
+    ensures { Gives (λ _. attrs.new ≡ with_attrs given.now attrs.old) result }
+{
+    for attr in given.as_slice() {
+        attrs.set(attr.key, attr.value.copy(alloc)?)?;
+    }
+    Ok(())
 }
 
 /// Writes at each element with a number what it gets.
 #[derive(Drop)]
 pub struct Writing {
+    alloc: Global,
     /// What the elements get that are still to come, in preorder.
-    given: VecDeque<Vec<Attr>>,
+    given: VecDeque<Attrs>,
 }
 
 impl Model for Writing {
-    ghost use Rattle.std.specs.Prelude.{List, map};
+    ghost use Rattle.std.specs.Prelude.{List};
     ghost use Rattle.rst_tree.specs.declared.attrs.Attr.{Attr};
 
     ghost Value = { List (List Attr) };
 
-    ghost view = { λ w. map (λ given. given.items) w.given.items };
+    ghost view = { λ w. w.given.items };
 }
 
 impl Writing {
     /// Before the first element.
-    pub fn of(given: VecDeque<Vec<Attr>>) -> Writing
-        ensures { result ≡ map (λ each. each.items) given.items }
+    pub fn of(alloc: Global, given: VecDeque<Attrs>) -> Writing
+        ensures { result ≡ given.items }
     {
-        Writing { given }
+        Writing { alloc, given }
     }
 }
 
@@ -106,11 +107,9 @@ impl Visitor for Writing {
         if attrs.get(Key::Serial).is_none() {
             return Ok(());
         }
-        if let Some(given) = self.given.pop_front() {
-            for attr in given {
-                attrs.set(attr.key, attr.value)?;
-            }
+        match self.given.pop_front() {
+            Some(given) => set_all(self.alloc, attrs, &given),
+            None => Ok(()),
         }
-        Ok(())
     }
 }

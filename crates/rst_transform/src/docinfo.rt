@@ -1,4 +1,5 @@
 //! A leading field list becomes the bibliography of the document.
+ghost use Rattle.std.specs.Prelude.{◌≤◌, ◌<◌, IsTrue, length, vec_len};
 
 use crate::bibliography::Bibliography;
 use crate::field::Field;
@@ -46,7 +47,9 @@ fn list_place(nodes: &[Node]) -> usize {
 }
 
 /// How many titles stand first.
-fn title_count(nodes: &[Node]) -> usize {
+fn title_count(nodes: &[Node]) -> usize
+    ensures { result ≤ length nodes.now }
+{
     for (i, node) in nodes.iter().enumerate() {
         if !is_title(node) {
             return i;
@@ -56,7 +59,9 @@ fn title_count(nodes: &[Node]) -> usize {
 }
 
 /// Whether a field list is at a place.
-fn is_field_list(nodes: &[Node], place: usize) -> bool {
+fn is_field_list(nodes: &[Node], place: usize) -> bool
+    ensures { IsTrue result → place < length nodes.now }
+{
     matches!(
         nodes.get(place),
         Some(Node::Element {
@@ -113,7 +118,9 @@ fn with_nodes_at(
     mut nodes: Vec<Node>,
     place: usize,
     more: Vec<Node>,
-) -> Result<Vec<Node>, TreeFault> {
+) -> Result<Vec<Node>, TreeFault>
+    requires { place ≤ vec_len nodes }
+{
     for node in more.into_iter().rev() {
         nodes.insert(place, node)?;
     }

@@ -1,6 +1,8 @@
 //! Substitution references give way to the contents of their definitions.
+ghost use Rattle.std.specs.Prelude.{◌≡◌, ◌<◌, ◌≤◌, OnOk};
 
 use crate::definitions::Definitions;
+use crate::lists::joined;
 use crate::texts::said;
 use crate::work::Work;
 use rst_tree::{Attrs, Children, Key, Level, Node, Tag, TreeFault};
@@ -67,7 +69,9 @@ impl Progress {
     }
 
     /// Counts a node that is met, and then its characters if it is a text.
-    fn meet(&mut self, node: &Node) -> Result<(), ExpansionFault> {
+    fn meet(&mut self, node: &Node) -> Result<(), ExpansionFault>
+        ensures { OnOk result (self.new.left < self.old.left) }
+    {
         let size = match node {
             Node::Text(text) => text.as_str().chars().count().saturating_add(1),
             Node::Element { .. } => 1,
@@ -80,7 +84,9 @@ impl Progress {
     }
 
     /// Goes into the definition that a reference of this name found.
-    fn enter(&mut self, alloc: Global, number: usize, name: &str) -> Result<(), ExpansionFault> {
+    fn enter(&mut self, alloc: Global, number: usize, name: &str) -> Result<(), ExpansionFault>
+        ensures { self.new.left ≡ self.old.left }
+    {
         if self.path.iter().any(|entered| *entered == number) {
             return Err(ExpansionFault::Circular(String::from_str(alloc, name)?));
         }
@@ -92,7 +98,9 @@ impl Progress {
     }
 
     /// Leaves the definition that was entered last.
-    fn leave(&mut self) {
+    fn leave(&mut self)
+        ensures { self.new.left ≡ self.old.left }
+    {
         self.path.pop();
     }
 }
@@ -104,7 +112,9 @@ fn add_expanded(
     content: &[Node],
     progress: &mut Progress,
     nodes: &mut Vec<Node>,
-) -> Result<(), ExpansionFault> {
+) -> Result<(), ExpansionFault>
+    ensures { OnOk result (progress.new.left ≤ progress.old.left) }
+{
     for node in content {
         progress.meet(node)?;
         match node {
@@ -151,7 +161,9 @@ fn entered<'a>(
     definitions: &'a Definitions,
     name: &str,
     progress: &mut Progress,
-) -> Result<&'a Children, ExpansionFault> {
+) -> Result<&'a Children, ExpansionFault>
+    ensures { progress.new.left ≡ progress.old.left }
+{
     match definitions.find(alloc, name)? {
         None => Err(ExpansionFault::Undefined(String::from_str(alloc, name)?)),
         Some(definition) => {
@@ -205,12 +217,7 @@ fn with_replaced(
 ) -> Result<Vec<Node>, TreeFault> {
     let name = said(attrs, Key::Refname);
     match expansion(alloc, definitions, name, within) {
-        Ok(expanded) => {
-            for node in expanded {
-                nodes.push(node)?;
-            }
-            Ok(nodes)
-        }
+        Ok(expanded) => joined(nodes, expanded),
         Err(fault) => {
             let text = message(alloc, name, fault)?;
             let report = work.report(alloc, Level::Error, line, text, true)?;

@@ -45,11 +45,7 @@ pub(crate) fn filter(alloc: Global, root: Node, report: Threshold) -> Result<Nod
 }
 
 /// Gathers the numbers of the messages that are at or above the report level.
-fn find_shown(
-    node: &Node,
-    report: Threshold,
-    shown: &mut BTreeSet<u64>,
-) -> Result<(), TreeFault> {
+fn find_shown(node: &Node, report: Threshold, shown: &mut BTreeSet<u64>) -> Result<(), TreeFault> {
     if let Node::Element {
         tag,
         attrs,

@@ -10,7 +10,7 @@ mod expand;
 mod fault;
 mod field;
 mod filter;
-mod finish;
+mod finishing;
 mod footnotes;
 mod holders;
 mod indirect;
@@ -27,5 +27,12 @@ mod transitions;
 mod work;
 
 pub use fault::TransformFault;
-pub use finish::{Finished, finish};
+pub use finishing::{Finished, finish};
 pub use work::{Report, Work};
+
+#[cfg(test)]
+mod docinfo_tests;
+#[cfg(test)]
+mod expand_tests;
+#[cfg(test)]
+mod outline;

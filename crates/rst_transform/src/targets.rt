@@ -84,10 +84,7 @@ fn moves_in(alloc: Global, root: &Node) -> Result<Vec<bool>, TreeFault> {
         awaited: false,
     };
     followers.read(root)?;
-    let Followers {
-        mut moves,
-        awaited,
-    } = followers;
+    let Followers { mut moves, awaited } = followers;
     if awaited {
         moves.push(false)?;
     }

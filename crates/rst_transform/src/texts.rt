@@ -1,7 +1,8 @@
 //! What several transforms ask of attributes, names and nodes.
 
+use crate::lists::append;
 use rst_text::{id_of, name_of};
-use rst_tree::{Attrs, Children, Key, Node, Texts, TreeFault, Value};
+use rst_tree::{Attrs, Children, Key, Node, TreeFault, Value};
 use std::alloc::Global;
 
 /// What an attribute that is a text says; the empty text where there is none.
@@ -43,25 +44,18 @@ pub(crate) fn copies(alloc: Global, nodes: &Children) -> Result<Children, TreeFa
 pub(crate) fn add_names(alloc: Global, node: &mut Node, from: &Attrs) -> Result<(), TreeFault> {
     match node {
         Node::Element { attrs, .. } => {
-            append(alloc, attrs, Key::Ids, from)?;
-            append(alloc, attrs, Key::Names, from)?;
-            append(alloc, attrs, Key::Dupnames, from)
+            append_from(alloc, attrs, Key::Ids, from)?;
+            append_from(alloc, attrs, Key::Names, from)?;
+            append_from(alloc, attrs, Key::Dupnames, from)
         }
         Node::Text(_) => Ok(()),
     }
 }
 
-/// Puts the texts that an attribute lists behind those that it lists here.
-fn append(alloc: Global, attrs: &mut Attrs, key: Key, from: &Attrs) -> Result<(), TreeFault> {
-    let Some(Value::List(more)) = from.get(key) else {
-        return Ok(());
-    };
-    let mut all = match attrs.remove(key) {
-        Some(Value::List(own)) => own,
-        _ => Texts::new(alloc),
-    };
-    for text in more.as_slice() {
-        all.push(text.copy()?)?;
+/// Puts the texts that an attribute lists elsewhere behind those that it lists here.
+fn append_from(alloc: Global, attrs: &mut Attrs, key: Key, from: &Attrs) -> Result<(), TreeFault> {
+    match from.get(key) {
+        Some(Value::List(more)) => append(alloc, attrs, key, more.as_slice()),
+        _ => Ok(()),
     }
-    attrs.set(key, Value::List(all))
 }

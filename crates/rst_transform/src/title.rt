@@ -194,11 +194,7 @@ fn subtitle(
     let mut attrs = Attrs::new(alloc);
     take_names(alloc, &mut attrs, section, names)?;
     match title {
-        Node::Element {
-            children,
-            line,
-            ..
-        } => Ok(Node::Element {
+        Node::Element { children, line, .. } => Ok(Node::Element {
             tag: Tag::Subtitle,
             attrs,
             children,

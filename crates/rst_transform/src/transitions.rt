@@ -194,10 +194,12 @@ fn fault_before(before: &[Node]) -> Option<&'static str> {
         return Some(AT_BEGINNING);
     }
     match before.last() {
-        Some(Node::Element {
-            tag: Tag::Transition,
-            ..
-        }) => Some(ADJACENT),
+        Some(
+            Node::Element {
+                tag: Tag::Transition,
+                ..
+            },
+        ) => Some(ADJACENT),
         _ => None,
     }
 }

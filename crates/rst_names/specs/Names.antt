@@ -1,0 +1,20 @@
+-- Names and who holds them.
+use Rattle.std.specs.Prelude.{ℕ, List, Option, Some, None, if◌then◌else◌, ◌≡◌}
+use Rattle.std.specs.BTreeMap.{get_by_text}
+use Rattle.std.specs.Str.{bytes_eq}
+use Rattle.rst_names.specs.declared.names.Held.{Held}
+use Rattle.rst_names.specs.declared.names.Holder.{Holder}
+use Rattle.rst_names.specs.declared.names.Names.{Names}
+
+-- what is known of a name
+abbrev pub held_by : Names → List ℕ → Option Held
+held_by names name = get_by_text names.held name
+
+-- something is known of a name, and of the others what was
+abbrev pub Knows : List ℕ → Option Held → Names → Names → Type 0
+Knows name held old new = (other : List ℕ) → held_by new other ≡ (if bytes_eq other name then held else held_by old other)
+
+-- the same with another holder
+abbrev pub moved : Holder → Option Held → Option Held
+moved holder None = None
+moved holder (Some held) = Some (record { holder = holder; strength = held.strength; id = held.id })
