@@ -1,5 +1,5 @@
 -- What a step leads to: the block goes on behind its line, and what is read inside is a part of it.
-use Rattle.std.specs.Prelude.{◌≡◌, ℕ, ◌<◌, ◌≤◌, length, Option, None, Some}
+use Rattle.std.specs.Prelude.{◌≡◌, ℕ, ◌+◌, ◌<◌, ◌≤◌, nat_lt, if◌then◌else◌, length, Option, None, Some}
 use Rattle.rst_text.specs.Block.{Block}
 use Rattle.rst_markup.specs.Parts.{IsBlock}
 use Rattle.rst_markup.specs.declared.part.Part.{Part}
@@ -52,3 +52,9 @@ IsArgumentIn B argument = Unit {0}
 abbrev pub IsDirectiveIn : Block → Directive → Type 0
 IsDirectiveIn B (Found name argument options content) = IsArgumentIn B argument × IsContentIn B content
 IsDirectiveIn B (Wrong fault source) = Unit {0}
+
+-- what is left of a quote behind its first lines
+abbrev pub rest_of : Part → ℕ → Option Part
+rest_of quote next =
+    if nat_lt (quote.from + next) quote.to then Some (record { from = quote.from + next; to = quote.to; first_cut = quote.rest_cut; rest_cut = quote.rest_cut })
+    else None

@@ -33,75 +33,74 @@ pub(crate) fn adornment(
 {
     let at = level.at;
     let next = below_text(view, at, 1, &mut pass.looks);
-    let form = adorned_at(view, at, level.titles(), mark, next, &mut pass.looks);
-    match form {
+    match adorned_at(view, at, level.titles(), mark, next, &mut pass.looks) {
         Adorned::Text => text_line(alloc, view, level, Vec::new(alloc), pass),
-        Adorned::ShortOverline => short(
-            alloc,
-            view,
-            level,
-            "Possible incomplete section title.\nTreating the overline as ordinary text because it's so short.",
-            pass,
-        ),
-        Adorned::ShortAdornment => short(
-            alloc,
-            view,
-            level,
-            "Unexpected possible title overline or transition.\nTreating it as ordinary text because it's so short.",
-            pass,
-        ),
-        Adorned::Transition => {
-            let level = level.closed(alloc, view, pass)?;
-            let node = Node::element(alloc, Tag::Transition, number_at(view, at));
-            Ok(Step::Next(level.past(at + 1).with(node)?))
-        }
+        Adorned::ShortOverline => short(alloc, view, level, SHORT_OVERLINE, pass),
+        Adorned::ShortAdornment => short(alloc, view, level, SHORT_ADORNMENT, pass),
+        Adorned::Transition => transition(alloc, view, level, pass),
         Adorned::Title { short } => overlined(alloc, view, level, mark, short, pass),
-        Adorned::InvalidMarker => wrong(
-            alloc,
-            view,
-            level,
+        form => wrong(alloc, view, level, wrong_form(form), pass),
+    }
+}
+
+const SHORT_OVERLINE: &str =
+    "Possible incomplete section title.\nTreating the overline as ordinary text because it's so short.";
+
+const SHORT_ADORNMENT: &str =
+    "Unexpected possible title overline or transition.\nTreating it as ordinary text because it's so short.";
+
+/// What is said of lines that are neither a title nor a transition: how grave it is, the text, and how many lines they are.
+#[derive(Clone, Copy)]
+struct WrongForm {
+    gravity: Gravity,
+    text: &'static str,
+    lines: usize,
+}
+
+/// What is said of a form that is wrong.
+fn wrong_form(form: Adorned) -> WrongForm {
+    let (gravity, text, lines) = match form {
+        Adorned::InvalidMarker => (
             Gravity::Error,
             "Invalid section title or transition marker.",
             2,
-            pass,
         ),
-        Adorned::Incomplete => wrong(
-            alloc,
-            view,
-            level,
-            Gravity::Severe,
-            "Incomplete section title.",
-            2,
-            pass,
-        ),
-        Adorned::MissingUnderline { blank } => wrong(
-            alloc,
-            view,
-            level,
+        Adorned::Incomplete => (Gravity::Severe, "Incomplete section title.", 2),
+        Adorned::MissingUnderline { blank } => (
             Gravity::Severe,
             "Missing matching underline for section title overline.",
             if blank { 2 } else { 3 },
-            pass,
         ),
-        Adorned::Mismatch => wrong(
-            alloc,
-            view,
-            level,
-            Gravity::Severe,
-            "Title overline & underline mismatch.",
-            3,
-            pass,
-        ),
-        Adorned::Unexpected => wrong(
-            alloc,
-            view,
-            level,
+        Adorned::Mismatch => (Gravity::Severe, "Title overline & underline mismatch.", 3),
+        _ => (
             Gravity::Severe,
             "Unexpected section title or transition.",
             1,
-            pass,
         ),
+    };
+    WrongForm {
+        gravity,
+        text,
+        lines,
     }
+}
+
+/// A transition.
+fn transition(
+    alloc: Global,
+    view: &View<'_>,
+    level: Level,
+    pass: &mut Pass,
+) -> Result<Step, BlockFault>
+    requires inside { level.at < length (block_of view.now) }
+    requires few { pass.old.looks < 2 ^ 119 + 2 ^ 110 }
+    ensures step { IfOk result (λ s. spec.IsStep (block_of view.now) level.at s) }
+    ensures looks { IfOk result (λ _. pass.new.looks ≤ pass.old.looks + 2 ^ 80) }
+{
+    let level = level.closed(alloc, view, pass)?;
+    let at = level.at;
+    let node = Node::element(alloc, Tag::Transition, number_at(view, at));
+    Ok(Step::Next(level.past(at.saturating_add(1)).with(node)?))
 }
 
 /// A short line that is taken as text, behind a message that says so.
@@ -126,9 +125,7 @@ fn wrong(
     alloc: Global,
     view: &View<'_>,
     level: Level,
-    gravity: Gravity,
-    text: &str,
-    lines: usize,
+    form: WrongForm,
     pass: &mut Pass,
 ) -> Result<Step, BlockFault>
     requires inside { level.at < length (block_of view.now) }
@@ -138,15 +135,10 @@ fn wrong(
 {
     let level = level.closed(alloc, view, pass)?;
     let at = level.at;
-    let end = at + lines;
+    let end = at.saturating_add(form.lines);
     let block = source(alloc, view, at, end, pass)?;
-    let node = message(
-        alloc,
-        gravity,
-        number_at(view, at),
-        text,
-        Some(block.as_str()),
-    )?;
+    let line = number_at(view, at);
+    let node = message(alloc, form.gravity, line, form.text, Some(block.as_str()))?;
     Ok(Step::Next(level.past(end).with(node)?))
 }
 
@@ -166,7 +158,7 @@ fn overlined(
 {
     let level = level.closed(alloc, view, pass)?;
     let at = level.at;
-    let end = at + 3;
+    let end = at.saturating_add(3);
     let lines = source(alloc, view, at, end, pass)?;
     let warning = if short {
         let text = "Title overline too short.";
@@ -180,8 +172,8 @@ fn overlined(
     } else {
         None
     };
-    let line = number_at(view, at + 1);
-    let text = text_at(view, at + 1, &mut pass.looks);
+    let line = number_at(view, at.saturating_add(1));
+    let text = text_at(view, at.saturating_add(1), &mut pass.looks);
     let style = Style {
         character: mark.character,
         overlined: true,

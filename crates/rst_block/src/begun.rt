@@ -30,7 +30,7 @@ pub(crate) enum Begun {
 }
 
 /// What begins at the line at place `at`, in three looks.
-pub(crate) fn begun(view: &View<'_>, at: usize, looks: &mut Looks) -> Begun
+pub(crate) fn begun_at(view: &View<'_>, at: usize, looks: &mut Looks) -> Begun
     requires inside { at < length (block_of view.now) }
     requires few { looks.old < 2 ^ 120 }
     ensures begun { spec.IsBegun (kind_of (block_of view.now) at) result }

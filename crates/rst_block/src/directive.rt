@@ -150,51 +150,37 @@ fn directive_nodes(
     ensures looks { IfOk result (λ _. pass.new.looks ≤ pass.old.looks + 2 ^ 80) }
 {
     let line = number_at(view, level.at);
+    let options = found.options.as_slice();
     match (found.name, &found.argument) {
         (Name::Image, Argument::Uri(uri)) => {
-            let node = image(
-                alloc,
-                uri.as_str(),
-                found.options.as_slice(),
-                line,
-                false,
-                None,
-            )?;
+            let node = image(alloc, uri.as_str(), options, line, false, None)?;
             Ok(Step::Next(level.past(found.end).with(node)?))
         }
         (Name::Figure, Argument::Uri(uri)) => {
-            let options = found.options.as_slice();
-            let node = figure(alloc, options, line)?;
-            let node = filled(
-                node,
-                alone(
-                    alloc,
-                    image(alloc, uri.as_str(), options, line, true, None)?,
-                )?,
-            )?;
+            let shown = image(alloc, uri.as_str(), options, line, true, None)?;
+            let node = filled(figure(alloc, options, line)?, alone(alloc, shown)?)?;
             figure_block(alloc, view, level, node, &found, pass)
         }
         (Name::Code, _) => code_nodes(alloc, view, level, &found, pass),
         (Name::Admonition | Name::Topic, Argument::Title(title)) => {
             let node = titled(alloc, view, &found, *title, line, pass)?;
-            Ok(opened(level, Waits::Element(node), &found))
+            Ok(opened(level, node, &found))
         }
         (name, _) => {
-            let node = directive_element(alloc, name, found.options.as_slice(), line)?;
-            Ok(opened(level, Waits::Element(node), &found))
+            let node = directive_element(alloc, name, options, line)?;
+            Ok(opened(level, node, &found))
         }
     }
 }
 
-/// The level with the content of a directive opened.
-fn opened(level: Level, waits: Waits, found: &Found) -> Step
-    requires at { level.at < 2 ^ 64 - 1 }
-    requires waits { (B : Block) (n : ℕ) → spec.IsWaiting B n waits }
+/// The level with the content of a directive opened, which stands in its element.
+fn opened(level: Level, element: Node, found: &Found) -> Step
+    requires { level.at < 2 ^ 64 - 1 }
     ensures { (B : Block) → spec.IsContentIn B found.now.content → spec.IsStep B level.at result }
 {
     Step::Open {
         level: level.past(found.end),
-        waits,
+        waits: Waits::Element(element),
         first: found.content.first,
         second: Some(found.content.second),
     }
@@ -216,13 +202,17 @@ fn figure_block(
     ensures looks { IfOk result (λ _. pass.new.looks ≤ pass.old.looks + 2 ^ 80) }
 {
     let at = level.at;
-    let lines = source(alloc, view, at, found.end, pass)?;
     let waits = Waits::Figure(OpenFigure {
         figure: node,
         line: number_at(view, at),
-        source: lines,
+        source: source(alloc, view, at, found.end, pass)?,
     });
-    Ok(opened(level, waits, found))
+    Ok(Step::Open {
+        level: level.past(found.end),
+        waits,
+        first: found.content.first,
+        second: Some(found.content.second),
+    })
 }
 
 /// Program code.

@@ -62,48 +62,114 @@ fn markup_of(
     ensures step { IfOk result (λ s. spec.IsStep (block_of view.now) level.at s) }
     ensures looks { IfOk result (λ _. pass.new.looks ≤ pass.old.looks + 2 ^ 80) }
 {
-    let at = level.at;
-    let line = number_at(view, at);
     match found {
-        Explicit::Footnote { label, body } => {
-            let label = label_text(alloc, view, at, label, pass)?;
-            let element = footnote(alloc, label.as_str(), line)?;
-            Ok(noted(level, element, body))
+        Explicit::Footnote { label, body } => footnote_block(alloc, view, level, label, body, pass),
+        Explicit::Citation { label, body } => citation_block(alloc, view, level, label, body, pass),
+        Explicit::Target { name, text } => target_block(alloc, view, level, Some(name), text, pass),
+        Explicit::Anonymous { text } => target_block(alloc, view, level, None, text, pass),
+        Explicit::Comment { text, cause } => comment(alloc, view, level, text, cause, pass),
+        Explicit::EmptyComment => {
+            let line = number_at(view, level.at);
+            let node = preserved(alloc, Tag::Comment, line, "")?;
+            Ok(Step::Next(level.past(end).with(node)?))
         }
-        Explicit::Citation { label, body } => {
-            let label = label_text(alloc, view, at, label, pass)?;
-            let element = citation(alloc, label.as_str(), line)?;
-            Ok(noted(level, element, body))
-        }
-        Explicit::Target { name, text } => {
-            let name = label_text(alloc, view, at, name, pass)?;
-            let text = joined(alloc, &inside(view, text), pass)?;
-            let element = target(alloc, Some(name.as_str()), text.as_str(), line)?;
-            Ok(Step::Next(level.past(end).with(element)?))
-        }
-        Explicit::Anonymous { text } => {
-            let text = joined(alloc, &inside(view, text), pass)?;
-            let element = target(alloc, None, text.as_str(), line)?;
-            Ok(Step::Next(level.past(end).with(element)?))
-        }
-        Explicit::Comment { text, cause } => {
-            let text = joined(alloc, &inside(view, text), pass)?;
-            let level = level
-                .past(end)
-                .with(preserved(alloc, Tag::Comment, line, text.as_str())?)?;
-            Ok(Step::Next(with_cause(alloc, level, cause, line)?))
-        }
-        Explicit::EmptyComment => Ok(Step::Next(
-            level
-                .past(end)
-                .with(preserved(alloc, Tag::Comment, line, "")?)?,
-        )),
         Explicit::Directive(invocation) => directive_block(alloc, view, level, &invocation, pass),
         Explicit::Substitution { name, held, .. } => {
-            let name = label_text(alloc, view, at, name, pass)?;
+            let name = label_text(alloc, view, level.at, name, pass)?;
             substitution_definition(alloc, view, level, name.as_str(), held, end, pass)
         }
     }
+}
+
+/// A footnote, whose block is opened.
+fn footnote_block(
+    alloc: Global,
+    view: &View<'_>,
+    level: Level,
+    label: Characters,
+    body: Part,
+    pass: &mut Pass,
+) -> Result<Step, BlockFault>
+    requires body { IsBlock (block_of view.now) body }
+    requires inside { level.at < length (block_of view.now) }
+    requires few { pass.old.looks < 2 ^ 119 + 2 ^ 111 }
+    ensures step { IfOk result (λ s. spec.IsStep (block_of view.now) level.at s) }
+    ensures looks { IfOk result (λ _. pass.new.looks ≤ pass.old.looks + 2 ^ 70) }
+{
+    let line = number_at(view, level.at);
+    let label = label_text(alloc, view, level.at, label, pass)?;
+    let element = footnote(alloc, label.as_str(), line)?;
+    Ok(noted(level, element, body))
+}
+
+/// A citation, whose block is opened.
+fn citation_block(
+    alloc: Global,
+    view: &View<'_>,
+    level: Level,
+    label: Characters,
+    body: Part,
+    pass: &mut Pass,
+) -> Result<Step, BlockFault>
+    requires body { IsBlock (block_of view.now) body }
+    requires inside { level.at < length (block_of view.now) }
+    requires few { pass.old.looks < 2 ^ 119 + 2 ^ 111 }
+    ensures step { IfOk result (λ s. spec.IsStep (block_of view.now) level.at s) }
+    ensures looks { IfOk result (λ _. pass.new.looks ≤ pass.old.looks + 2 ^ 70) }
+{
+    let line = number_at(view, level.at);
+    let label = label_text(alloc, view, level.at, label, pass)?;
+    let element = citation(alloc, label.as_str(), line)?;
+    Ok(noted(level, element, body))
+}
+
+/// A target, with a name or anonymous.
+fn target_block(
+    alloc: Global,
+    view: &View<'_>,
+    level: Level,
+    name: Option<Characters>,
+    text: Part,
+    pass: &mut Pass,
+) -> Result<Step, BlockFault>
+    requires text { IsBlock (block_of view.now) text }
+    requires inside { level.at < length (block_of view.now) }
+    requires few { pass.old.looks < 2 ^ 119 + 2 ^ 111 }
+    ensures step { IfOk result (λ s. spec.IsStep (block_of view.now) level.at s) }
+    ensures looks { IfOk result (λ _. pass.new.looks ≤ pass.old.looks + 2 ^ 70) }
+{
+    let line = number_at(view, level.at);
+    let lines = joined(alloc, &inside(view, text), pass)?;
+    let element = match name {
+        Some(name) => {
+            let name = label_text(alloc, view, level.at, name, pass)?;
+            target(alloc, Some(name.as_str()), lines.as_str(), line)?
+        }
+        None => target(alloc, None, lines.as_str(), line)?,
+    };
+    Ok(Step::Next(level.past(text.to).with(element)?))
+}
+
+/// A comment, with the message on one that isn't meant as such.
+fn comment(
+    alloc: Global,
+    view: &View<'_>,
+    level: Level,
+    text: Part,
+    cause: CommentCause,
+    pass: &mut Pass,
+) -> Result<Step, BlockFault>
+    requires text { IsBlock (block_of view.now) text }
+    requires inside { level.at < length (block_of view.now) }
+    requires few { pass.old.looks < 2 ^ 119 + 2 ^ 111 }
+    ensures step { IfOk result (λ s. spec.IsStep (block_of view.now) level.at s) }
+    ensures looks { IfOk result (λ _. pass.new.looks ≤ pass.old.looks + 2 ^ 70) }
+{
+    let line = number_at(view, level.at);
+    let lines = joined(alloc, &inside(view, text), pass)?;
+    let node = preserved(alloc, Tag::Comment, line, lines.as_str())?;
+    let level = level.past(text.to).with(node)?;
+    Ok(Step::Next(with_cause(alloc, level, cause, line)?))
 }
 
 /// The characters of a label or name in the first line of explicit markup.

@@ -42,40 +42,45 @@ pub(crate) fn finished_figure(
     let mut rest = nodes.into_iter();
     match front_of(rest.next()) {
         Front::Absent => alone(alloc, figure),
-        Front::Caption(attrs, children, at) => {
+        Front::Caption(attrs, children, line) => {
             let count = text_messages(&attrs);
             let caption = Node::Element {
                 tag: Tag::Caption,
                 attrs,
                 children,
-                line: at,
+                line,
             };
             let figure = filled(figure, alone(alloc, caption)?)?;
-            let mut notes = Vec::new(alloc);
-            let mut legend = Vec::new(alloc);
-            for node in rest {
-                if (notes.len() as u64) < count {
-                    notes.push(node)?;
-                } else {
-                    legend.push(node)?;
-                }
-            }
-            let figure = with_legend(alloc, figure, legend)?;
-            appended(alone(alloc, figure)?, notes)
+            captioned(alloc, figure, rest, count)
         }
-        Front::Missing => {
-            let mut legend = Vec::new(alloc);
-            for node in rest {
-                legend.push(node)?;
-            }
-            alone(alloc, with_legend(alloc, figure, legend)?)
-        }
+        Front::Missing => { captioned(alloc, figure, rest, 0) }
         Front::Wrong => {
             let text = "Figure caption must be a paragraph or empty comment.";
             let error = message(alloc, Gravity::Error, line, text, Some(source.as_str()))?;
             appended(alone(alloc, figure)?, alone(alloc, error)?)
         }
     }
+}
+
+/// A figure with its caption, and the nodes behind that: the first ones, as many as `count`, are the messages of the caption and
+/// stand behind the figure, the others are its legend.
+fn captioned<I: Iterator<Item = Node>>(
+    alloc: Global,
+    figure: Node,
+    rest: I,
+    count: u64,
+) -> Result<Vec<Node>, BlockFault> {
+    let mut notes = Vec::new(alloc);
+    let mut legend = Vec::new(alloc);
+    for node in rest {
+        if (notes.len() as u64) < count {
+            notes.push(node)?;
+        } else {
+            legend.push(node)?;
+        }
+    }
+    let figure = with_legend(alloc, figure, legend)?;
+    appended(alone(alloc, figure)?, notes)
 }
 
 /// What the first node of a figure's content is.

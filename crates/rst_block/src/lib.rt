@@ -16,7 +16,7 @@ mod list;
 mod machine;
 mod option;
 mod paragraph;
-mod parse;
+mod parsing;
 mod part;
 mod quote;
 mod resume;
@@ -29,7 +29,7 @@ mod text;
 mod texts;
 
 pub use fault::BlockFault;
-pub use parse::{Parsed, parse};
+pub use parsing::{Parsed, parse};
 
 #[cfg(test)]
 mod tests;

@@ -9,7 +9,7 @@ use super::level::Level;
 use super::part::inside;
 use super::resume::resume;
 use super::run::DEEPEST;
-use super::step::{Step, step};
+use super::step::{Step, step_at};
 use super::table::{after_table, entry_of, table_of};
 use super::texts::{Pass, appended, filled};
 use rst_markup::{LineTest, Part, lines_end};
@@ -47,7 +47,7 @@ pub(crate) fn block(
             return Err(BlockFault::NoMemory);
         }
         now = match now {
-            Step::Next(level) => step(alloc, view, level, pass)?,
+            Step::Next(level) => step_at(alloc, view, level, pass)?,
             Step::Open {
                 level,
                 waits,

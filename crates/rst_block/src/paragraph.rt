@@ -5,7 +5,7 @@ ghost use Rattle.rst_text.specs.Shown.{block_of};
 ghost use Rattle.rst_markup.specs.Parts.{IsBlock, IsCall};
 ghost use Rattle.rst_block.specs.Steps as spec;
 
-use super::begun::{Begun, begun};
+use super::begun::{Begun, begun_at};
 use super::fault::BlockFault;
 use super::level::Level;
 use super::part::{indented, inside};
@@ -232,7 +232,7 @@ fn begins_paragraph(view: &View<'_>, pass: &mut Pass) -> bool
 {
     let text = view.line(0, &mut pass.looks);
     let next = below_text(view, 0, 1, &mut pass.looks);
-    let is_text = match begun(view, 0, &mut pass.looks) {
+    let is_text = match begun_at(view, 0, &mut pass.looks) {
         Begun::Text => true,
         Begun::Adornment(mark) => matches!(
             adorned_at(view, 0, false, mark, next, &mut pass.looks),

@@ -51,8 +51,8 @@ pub(crate) fn quote_part(
 {
     let line = number_at(view, quote.from);
     let lines = inside(view, quote);
-    let Some((place, found)) = first_attribution(&lines, pass) else {
-        return Ok(Step::Open {
+    match first_attribution(&lines, pass) {
+        None => Ok(Step::Open {
             level: level.past(quote.to),
             waits: Waits::Quote {
                 line,
@@ -62,33 +62,41 @@ pub(crate) fn quote_part(
             },
             first: quote,
             second: None,
-        });
-    };
-    let attribution = attribution_text(alloc, &lines, place, found, pass)?;
-    let next = lines_end(&lines, found.end, LineTest::Blank, &mut pass.looks);
-    let rest = if next < lines.len() {
-        Some(Part {
+        }),
+        Some((place, found)) => {
+            let attribution = attribution_text(alloc, &lines, place, found, pass)?;
+            let next = lines_end(&lines, found.end, LineTest::Blank, &mut pass.looks);
+            Ok(Step::Open {
+                level: level.past(quote.from + next),
+                waits: Waits::Quote {
+                    line,
+                    attribution: Some(attribution),
+                    rest: rest_of(quote, next),
+                    end: quote.to,
+                },
+                first: Part {
+                    to: quote.from + place,
+                    ..quote
+                },
+                second: None,
+            })
+        }
+    }
+}
+
+/// What is left of a quote behind its first `next` lines, if there is something.
+fn rest_of(quote: Part, next: usize) -> Option<Part>
+    requires { quote.from + next ≤ quote.to }
+    ensures { result ≡ spec.rest_of quote next }
+{
+    if quote.from + next < quote.to {
+        return Some(Part {
             from: quote.from + next,
             first_cut: quote.rest_cut,
             ..quote
-        })
-    } else {
-        None
-    };
-    Ok(Step::Open {
-        level: level.past(quote.from + next),
-        waits: Waits::Quote {
-            line,
-            attribution: Some(attribution),
-            rest,
-            end: quote.to,
-        },
-        first: Part {
-            to: quote.from + place,
-            ..quote
-        },
-        second: None,
-    })
+        });
+    }
+    None
 }
 
 /// The first attribution in a quote, with its place: behind a blank line.

@@ -80,32 +80,28 @@ impl Sections {
         if level > self.styles.len() {
             self.styles.push(heading.style)?;
         }
-        let mut sections = self;
-        while level <= sections.outer.len() {
-            sections = sections.ended()?;
-        }
+        let sections = self.ended(level)?;
         sections.entered(alloc, heading)
     }
 
-    /// The sections with the innermost one put into that round it; without one they stay.
-    fn ended(self) -> Result<Sections, BlockFault> {
+    /// The sections with those of a level or a deeper one ended: each is put into the one round it.
+    fn ended(self, level: usize) -> Result<Sections, BlockFault> {
         let Sections {
             mut outer,
-            current,
+            mut current,
             styles,
         } = self;
-        let Some(mut round) = outer.pop() else {
-            return Ok(Sections {
-                outer,
-                current,
-                styles,
-            });
-        };
-        let OpenSection { element, nodes } = current;
-        round.nodes.push(filled(element, nodes)?)?;
+        while level <= outer.len() {
+            let Some(mut round) = outer.pop() else {
+                break;
+            };
+            let OpenSection { element, nodes } = current;
+            round.nodes.push(filled(element, nodes)?)?;
+            current = round;
+        }
         Ok(Sections {
             outer,
-            current: round,
+            current,
             styles,
         })
     }
@@ -141,11 +137,7 @@ impl Sections {
 
     /// The document with all sections ended.
     fn closed(self) -> Result<Node, BlockFault> {
-        let mut sections = self;
-        while !sections.outer.is_empty() {
-            sections = sections.ended()?;
-        }
-        let OpenSection { element, nodes } = sections.current;
+        let OpenSection { element, nodes } = self.ended(1)?.current;
         filled(element, nodes)
     }
 }

@@ -5,7 +5,7 @@ ghost use Rattle.rst_markup.specs.Parts.{IsBlock, IsCall};
 ghost use Rattle.rst_block.specs.Steps as spec;
 
 use super::adornment::adornment;
-use super::begun::{Begun, begun};
+use super::begun::{Begun, begun_at};
 use super::explicit::explicit_markup;
 use super::fault::BlockFault;
 use super::field::field;
@@ -46,7 +46,7 @@ pub(crate) enum Step {
 }
 
 /// Reads the construct at the next line.
-pub(crate) fn step(
+pub(crate) fn step_at(
     alloc: Global,
     view: &View<'_>,
     level: Level,
@@ -61,7 +61,7 @@ pub(crate) fn step(
     if at >= view.len() {
         return Ok(Step::Done(level.closed(alloc, view, pass)?));
     }
-    match begun(view, at, &mut pass.looks) {
+    match begun_at(view, at, &mut pass.looks) {
         Begun::Blank => Ok(Step::Next(level.past(at + 1))),
         Begun::Quote => block_quote(alloc, view, level, pass),
         Begun::Bullet { mark, marker } => bullet_item(alloc, view, level, mark, marker, pass),

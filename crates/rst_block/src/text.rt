@@ -54,7 +54,6 @@ pub(crate) fn text_line(
 
 /// The level with the message on a possible underline, where titles may stand.
 fn short_underline(alloc: Global, view: &View<'_>, level: Level) -> Result<Level, BlockFault>
-    requires { level.at < length (block_of view.now) }
     ensures { IfOk result (λ l. l.at ≡ level.at) }
 {
     if !level.titles() {
@@ -65,7 +64,7 @@ fn short_underline(alloc: Global, view: &View<'_>, level: Level) -> Result<Level
     let info = message(
         alloc,
         Gravity::Info,
-        number_at(view, level.at + 1),
+        number_at(view, level.at.saturating_add(1)),
         text,
         None,
     )?;
@@ -86,9 +85,9 @@ fn underlined(
     ensures looks { IfOk result (λ _. pass.new.looks ≤ pass.old.looks + 2 ^ 80) }
 {
     let at = level.at;
-    let end = at + 2;
+    let end = at.saturating_add(2);
     let lines = source(alloc, view, at, end, pass)?;
-    let under = number_at(view, at + 1);
+    let under = number_at(view, at.saturating_add(1));
     let warning = if short {
         let text = "Title underline too short.";
         Some(message(alloc, Gravity::Warning, under, text, Some(lines.as_str()))?)
@@ -97,7 +96,7 @@ fn underlined(
     };
     if level.titles() {
         let style = Style {
-            character: front(text_at(view, at + 1, &mut pass.looks)).unwrap_or(' '),
+            character: front(text_at(view, at.saturating_add(1), &mut pass.looks)).unwrap_or(' '),
             overlined: false,
         };
         let text = view.line(at, &mut pass.looks);
