@@ -9,3 +9,4 @@ pub mod ExplicitMarkup
 pub mod Parts
 pub mod Explicit
 pub mod Attributions
+pub mod ExplicitRow

@@ -190,7 +190,13 @@ fn explicit_by(
 
 /// The explicit markup in the line at place `i`, behind dots that make this marker.
 #[tactic(auto, unfolding(crate::specs::Explicit::behind_dots, crate::specs::Explicit::size_behind_dots))]
-fn behind_dots(view: &View<'_>, i: usize, text: &str, marker: Marker, looks: &mut Looks) -> Explicit
+pub(crate) fn behind_dots(
+    view: &View<'_>,
+    i: usize,
+    text: &str,
+    marker: Marker,
+    looks: &mut Looks,
+) -> Explicit
     requires inside { i < length (block_of view.now) }
     requires text { chars text.now ≡ front_text (drop i (block_of view.now)) }
     requires marker { marker.cut ≤ length (chars text.now) }

@@ -6,7 +6,7 @@ use std::alloc::Global;
 use std::test::Fail;
 
 /// A text, the kind of its first line, whether titles may stand there, and how many lines belong to what it begins; of
-/// tables and of explicit markup the kind alone.
+/// tables the kind alone.
 type Case = (&'static str, Kind, bool, Option<usize>);
 
 /// Items of lists.
@@ -39,7 +39,7 @@ const ITEMS: [Case; 25] = [
 ];
 
 /// Other blocks than items and texts.
-const BLOCKS: [Case; 37] = [
+const BLOCKS: [Case; 40] = [
     ("::\nx", Kind::Adornment, true, Some(2)),
     ("::\nx", Kind::Adornment, false, Some(2)),
     (">>> a\nb\n\nc", Kind::Doctest, true, Some(2)),
@@ -48,7 +48,10 @@ const BLOCKS: [Case; 37] = [
     ("+---+---+", Kind::Grid, true, None),
     ("== ==", Kind::Simple, true, None),
     ("=  =", Kind::Simple, true, None),
-    (".. a", Kind::Explicit, true, None),
+    (".. a", Kind::Explicit, true, Some(1)),
+    (".. a\n   b\n\n  c\nd", Kind::Explicit, true, Some(4)),
+    ("..\n\n  a", Kind::Explicit, true, Some(1)),
+    (".. _a:\n   b\n   c\n\n   d", Kind::Explicit, true, Some(3)),
     ("__ x\n y\n\n z", Kind::Anonymous, true, Some(2)),
     ("    a\n\n  b\nc", Kind::Quote, true, Some(3)),
     ("=====\nTitle\n=====", Kind::Adornment, true, Some(3)),
@@ -160,7 +163,8 @@ fn end_at(kind: Kind, view: &View<'_>, titles: bool) -> Option<usize> {
         Kind::Anonymous => end_by(&AnonymousTarget, view, titles),
         Kind::Adornment => end_by(&AdornmentLine, view, titles),
         Kind::Text => end_by(&TextLine, view, titles),
-        Kind::Grid | Kind::Simple | Kind::Explicit => None,
+        Kind::Explicit => end_by(&ExplicitMarkup, view, titles),
+        Kind::Grid | Kind::Simple => None,
     }
 }
 

@@ -1,0 +1,35 @@
+//! The row of explicit markup.
+ghost use Rattle.std.specs.Prelude.{◌≡◌};
+
+use super::construct::Construct;
+use super::extents::behind_dots;
+use rst_marks::dots;
+use rst_text::{Looks, View};
+
+/// Explicit markup that begins with `..`.
+pub struct ExplicitMarkup;
+
+impl Construct for ExplicitMarkup {
+    ghost use Rattle.rst_markup.specs.ExplicitRow.{is_explicit_row, explicit_row_size, explicit_within, explicit_on_three};
+
+    ghost holds = { is_explicit_row };
+
+    ghost size = { explicit_row_size };
+
+    ghost within = { explicit_within };
+
+    ghost on_three = { explicit_on_three };
+
+    fn starts(&self, view: &View<'_>, i: usize, _titles: bool, looks: &mut Looks) -> bool {
+        dots(view.line(i, looks)).is_some()
+    }
+
+    fn end(&self, view: &View<'_>, i: usize, _titles: bool, looks: &mut Looks) -> usize {
+        prove!(i < view.len());
+        let text = view.line(i, looks);
+        let Some(marker) = dots(text) else {
+            unreachable!()
+        };
+        behind_dots(view, i, text, marker, looks).end(i)
+    }
+}
