@@ -7,5 +7,5 @@ use Rattle.std.proofs.lemmas.Str.{encodes-chars, IsUtf8-string_bytes}
 use Rattle.rst_text.specs.Text.{chars_of}
 
 -- the bytes of a text with some characters
-pub bytes-chars : {A : Type 0} (s : String A) (cs : List ℕ) → chars_of s ≡ cs → string_bytes s ≡ encode_utf8_all cs
-bytes-chars s cs e = sym (encodes-chars (string_bytes s) (IsUtf8-string_bytes s)) ∙ ap encode_utf8_all e
+pub bytes_of_chars : {A : Type 0} (s : String A) (cs : List ℕ) → chars_of s ≡ cs → string_bytes s ≡ encode_utf8_all cs
+bytes_of_chars s cs e = sym (encodes-chars (string_bytes s) (IsUtf8-string_bytes s)) ∙ ap encode_utf8_all e

@@ -1,16 +1,18 @@
 -- Elements of texts without markup, and of numbers (Document Tree, 'Element Reference').
-use Rattle.std.specs.Prelude.{ℕ, ◌==◌, List, [], ◌∷◌, ◌++◌, length, map, codes, if◌then◌else◌, Option, Some, None, encode_utf8, encode_utf8_all}
+use Rattle.std.specs.Prelude.{ℕ, ◌==◌, List, [], ◌∷◌, ◌++◌, length, map, drop, codes, decimal, if◌then◌else◌, Option, Some, None, encode_utf8_all}
 use Rattle.std.specs.Str.{chars}
+use Rattle.rst_text.specs.Block.{is_blank}
+use Rattle.rst_text.specs.Names.{name_of}
 use Rattle.rst_tree.specs.Attributes.{attr}
 use Rattle.rst_tree.specs.Forest.{bare}
 use Rattle.rst_tree.specs.Nodes.{forest_of}
 use Rattle.rst_tree.specs.declared.attrs.Attr.{Attr}
 use Rattle.rst_tree.specs.declared.attrs.Value.TheVariants.{Text as Said, Number}
-use Rattle.rst_tree.specs.declared.key.Key.TheVariants.{Bullet, Cols, Colwidth, Delimiter as DelimiterKey, Enumtype, Morecols, Morerows, OwnName, Prefix, Start, Suffix, XmlSpace}
+use Rattle.rst_tree.specs.declared.key.Key.TheVariants.{Auto, Bullet, Cols, Colwidth, Delimiter as DelimiterKey, Enumtype, Mark, Morecols, Morerows, OwnName, Prefix, Start, Suffix, XmlSpace}
 use Rattle.rst_tree.specs.declared.node.Node.{Node}
 use Rattle.rst_tree.specs.declared.node.Node.TheVariants.{Element, Text as Words}
 use Rattle.rst_tree.specs.declared.tag.Tag.{Tag}
-use Rattle.rst_tree.specs.declared.tag.Tag.TheVariants.{BulletList, EnumeratedList, Option as OptionTag, OptionString, OptionArgument, Label, Citation, SubstitutionDefinition, Tgroup, Colspec, Entry}
+use Rattle.rst_tree.specs.declared.tag.Tag.TheVariants.{BulletList, EnumeratedList, Option as OptionTag, OptionString, OptionArgument, Label, Footnote, Citation, SubstitutionDefinition, Tgroup, Colspec, Entry}
 use Rattle.rst_marks.specs.declared.enumerator.Enumerator.{Enumerator}
 use Rattle.rst_marks.specs.declared.enumerator.Format.{Format}
 use Rattle.rst_marks.specs.declared.enumerator.Format.TheVariants.{Parentheses, Parenthesis, Period}
@@ -20,6 +22,7 @@ use Rattle.rst_marks.specs.declared.enumerator.Sequence.TheVariants.{Arabic, Low
 use Rattle.rst_marks.specs.declared.option.Delimiter.{Delimiter}
 use Rattle.rst_marks.specs.declared.option.Delimiter.TheVariants.{Nothing, Space, Equals}
 use Rattle.rst_marks.specs.Enumerator.{first_reading}
+use Rattle.rst_marks.specs.Front.{begins_with}
 use Rattle.rst_elements.specs.Values.{name_in}
 
 -- an element with attributes and nodes
@@ -76,6 +79,11 @@ abbrev pub enumerated_list_node : Enumerator → ℕ → Node
 enumerated_list_node enumerator line =
     Element EnumeratedList (enumerated_attrs (first_reading enumerator.written.ordinals) enumerator.format) bare line
 
+-- the message that the first ordinal isn't 1
+abbrev pub start_text : List ℕ → ℕ → List ℕ
+start_text written ordinal =
+    codes "Enumerated list start value not ordinal-1: \"" ++ written ++ codes "\" (ordinal " ++ decimal ordinal ++ codes ")"
+
 -- ---- options
 
 abbrev pub delimiter_text : Delimiter → List ℕ
@@ -99,6 +107,30 @@ option_node string argument line = element_of OptionTag [] (option_nodes string 
 -- an element that begins with a label
 abbrev pub labelled_node : Tag → List Attr → List ℕ → ℕ → Node
 labelled_node tag attrs shown line = element_of tag attrs (plain_node Label line shown ∷ []) line
+
+-- named by its digits, which it shows
+abbrev pub named_node : List ℕ → ℕ → Node
+named_node label line = labelled_node Footnote (attr Mark (Said label) ∷ attr OwnName (Said (name_in label)) ∷ []) label line
+
+-- `#` alone, or with a name
+abbrev pub numbered_attrs : List ℕ → List ℕ → List Attr
+numbered_attrs label name =
+    if is_blank name
+    then attr Auto (Number 1) ∷ attr Mark (Said label) ∷ []
+    else attr Auto (Number 1) ∷ attr Mark (Said label) ∷ attr OwnName (Said (encode_utf8_all (name_of name))) ∷ []
+
+abbrev pub numbered_node : List ℕ → ℕ → Node
+numbered_node label line = labelled_node Footnote (numbered_attrs label (drop 1 (chars label))) [] line
+
+-- `*`
+abbrev pub symbol_node : List ℕ → ℕ → Node
+symbol_node label line = labelled_node Footnote (attr Auto (Said (codes "*")) ∷ attr Mark (Said label) ∷ []) [] line
+
+abbrev pub footnote_node : List ℕ → ℕ → Node
+footnote_node label line =
+    if begins_with 35 (chars label) then numbered_node label line
+    else if begins_with 42 (chars label) then symbol_node label line
+    else named_node label line
 
 abbrev pub citation_node : List ℕ → ℕ → Node
 citation_node label line = labelled_node Citation (attr OwnName (Said (name_in label)) ∷ []) label line

@@ -5,3 +5,4 @@ pub mod Results
 pub mod Targets
 pub mod Admonitions
 pub mod LineBlocks
+pub mod Options

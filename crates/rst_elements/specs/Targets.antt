@@ -1,15 +1,43 @@
--- What may stand in a replacement text (Directives, 'Replacement Text').
-use Rattle.std.specs.Prelude.{Bool, true, false, ◌&&◌, not, List, Option, Some, None, is_some}
+-- Targets (Markup Specification, 'Hyperlink Targets'), and what may stand in a replacement text (Directives, 'Replacement
+-- Text').
+use Rattle.std.specs.Prelude.{ℕ, Bool, true, false, ◌&&◌, not, List, [], ◌∷◌, Option, Some, None, encode_utf8_all}
 use Rattle.std.specs.List.{list_all, list_any}
-use Rattle.rst_tree.specs.Attributes.{value_of}
-use Rattle.rst_tree.specs.Forest.{Forest}
+use Rattle.std.specs.Option.{is_some}
+use Rattle.std.specs.Str.{chars}
+use Rattle.rst_text.specs.Names.{name_of}
+use Rattle.rst_tree.specs.Attributes.{attr, value_of, with_attr}
+use Rattle.rst_tree.specs.Forest.{Forest, bare}
 use Rattle.rst_tree.specs.Nodes.{nodes_of}
 use Rattle.rst_tree.specs.declared.attrs.Attr.{Attr}
-use Rattle.rst_tree.specs.declared.key.Key.TheVariants.{Anonymous}
+use Rattle.rst_tree.specs.declared.attrs.Value.TheVariants.{Text as Said, Number}
+use Rattle.rst_tree.specs.declared.key.Key.TheVariants.{Anonymous, OwnName, Refname, Refuri}
 use Rattle.rst_tree.specs.declared.node.Node.{Node}
 use Rattle.rst_tree.specs.declared.node.Node.TheVariants.{Element, Text as Words}
 use Rattle.rst_tree.specs.declared.tag.Tag.{Tag}
-use Rattle.rst_tree.specs.declared.tag.Tag.TheVariants.{Emphasis, Strong, Literal, Subscript, Superscript, TitleReference, SubstitutionReference, Reference}
+use Rattle.rst_tree.specs.declared.tag.Tag.TheVariants.{Emphasis, Strong, Literal, Subscript, Superscript, TitleReference, SubstitutionReference, Reference, Target}
+use Rattle.rst_directives.specs.Target.{Destination, named, located, target_value}
+use Rattle.rst_elements.specs.Values.{name_in, unescaped}
+
+-- ---- targets
+
+-- the name, as it is written, if there is one
+abbrev pub name_attrs : Option (List ℕ) → List Attr
+name_attrs (Some written) = attr OwnName (Said (name_in (unescaped written))) ∷ []
+name_attrs None = attr Anonymous (Number 1) ∷ []
+
+-- with what the target leads to
+abbrev pub leading_attrs : List Attr → Option Destination → List Attr
+leading_attrs attrs (Some (named name)) = with_attr Refname (Said (encode_utf8_all (name_of name))) attrs
+leading_attrs attrs (Some (located uri)) = with_attr Refuri (Said (encode_utf8_all uri)) attrs
+leading_attrs attrs None = attrs
+
+abbrev pub leading_node : List Attr → Option Destination → ℕ → Node
+leading_node attrs destination line = Element Target (leading_attrs attrs destination) bare line
+
+abbrev pub target_node : Option (List ℕ) → List ℕ → ℕ → Node
+target_node name text line = leading_node (name_attrs name) (target_value (chars text)) line
+
+-- ---- replacement texts
 
 -- elements of this kind may stand there, whatever they hold
 abbrev pub is_plain_role : Tag → Bool

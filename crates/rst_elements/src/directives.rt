@@ -1,8 +1,8 @@
 //! Admonitions, topics and program code.
-ghost use Rattle.std.specs.Prelude.{◌≡◌};
+ghost use Rattle.std.specs.Prelude.{◌≡◌, ◌++◌, option_map};
 ghost use Rattle.rst_tree.specs.Faults.{Gives};
-ghost use Rattle.rst_tree.specs.Paths.{IsElement};
-ghost use Rattle.rst_elements.specs.Admonitions.{title_class, with_title_class};
+ghost use Rattle.rst_elements.specs.Admonitions.{title_class, with_class, with_title_class};
+ghost use Rattle.rst_elements.specs.Options.{tag_of, directive_node, code_node, code_classes, language_classes};
 
 use super::nodes::{element_of, preserving, text_nodes};
 use super::settings::{Holder, set_options};
@@ -12,7 +12,9 @@ use rst_tree::{Attrs, Key, Node, Tag, Text, Texts, TreeFault, Value};
 use std::alloc::Global;
 
 /// The element that a directive makes: of `replace`, which makes none of its own, the paragraph that it holds.
-fn tag_of(name: Name) -> Tag {
+fn tag_of(name: Name) -> Tag
+    ensures { result ≡ tag_of name }
+{
     match name {
         Name::Attention => Tag::Attention,
         Name::Caution => Tag::Caution,
@@ -42,7 +44,7 @@ pub fn directive_element(
     options: &[Setting],
     line: usize,
 ) -> Result<Node, TreeFault>
-    ensures { Gives IsElement result }
+    ensures { Gives (λ node. node ≡ directive_node name options.now line) result }
 {
     let mut attrs = Attrs::new(alloc);
     set_options(alloc, &mut attrs, Holder::Body, options)?;
@@ -59,13 +61,11 @@ pub fn with_title_class(alloc: Global, admonition: Node, title: &Node) -> Result
     match admonition {
         Node::Element {
             tag,
-            mut attrs,
+            attrs,
             children,
             line,
         } => {
-            if attrs.get(Key::Classes).is_none() {
-                attrs.set(Key::Classes, title_class(alloc, title)?)?;
-            }
+            let attrs = with_class(alloc, attrs, title)?;
             Ok(Node::Element {
                 tag,
                 attrs,
@@ -75,6 +75,18 @@ pub fn with_title_class(alloc: Global, admonition: Node, title: &Node) -> Result
         }
         Node::Text(text) => Ok(Node::Text(text)),
     }
+}
+
+/// The attributes with the class that a title gives, unless they have some.
+fn with_class(alloc: Global, attrs: Attrs, title: &Node) -> Result<Attrs, TreeFault>
+    ensures { Gives (λ classed. classed ≡ with_class (title_class title.now) attrs) result }
+{
+    if attrs.get(Key::Classes).is_some() {
+        return Ok(attrs);
+    }
+    let mut attrs = attrs;
+    attrs.set(Key::Classes, title_class(alloc, title)?)?;
+    Ok(attrs)
 }
 
 /// The class that a title gives.
@@ -101,7 +113,7 @@ pub fn code_block(
     text: &str,
     line: usize,
 ) -> Result<Node, TreeFault>
-    ensures { Gives IsElement result }
+    ensures { Gives (λ node. node ≡ code_node (option_map (λ word. word.now) language) options.now text.now line) result }
 {
     let mut attrs = preserving(alloc)?;
     set_options(alloc, &mut attrs, Holder::Body, options)?;
@@ -116,16 +128,38 @@ fn code_classes(
     alloc: Global,
     language: Option<&str>,
     own: Option<Value>,
-) -> Result<Value, TreeFault> {
+) -> Result<Value, TreeFault>
+    ensures { Gives (λ classes. classes ≡ code_classes (option_map (λ word. word.now) language) own) result }
+{
+    let classes = language_classes(alloc, language)?;
+    match own {
+        Some(Value::List(more)) => Ok(Value::List(joined(classes, &more)?)),
+        _ => Ok(Value::List(classes)),
+    }
+}
+
+/// The classes that program code has whatever its options are.
+fn language_classes(alloc: Global, language: Option<&str>) -> Result<Texts, TreeFault>
+    ensures { Gives (λ classes. classes ≡ language_classes (option_map (λ word. word.now) language)) result }
+{
     let mut classes = Texts::new(alloc);
     classes.push(Text::from_str(alloc, "code")?)?;
-    if let Some(word) = language {
-        classes.push(Text::from_str(alloc, word)?)?;
-    }
-    if let Some(Value::List(more)) = own {
-        for class in more.as_slice() {
-            classes.push(class.copy()?)?;
+    match language {
+        Some(word) => {
+            classes.push(Text::from_str(alloc, word)?)?;
+            Ok(classes)
         }
+        None => Ok(classes),
     }
-    Ok(Value::List(classes))
+}
+
+/// The classes, and then more.
+fn joined(classes: Texts, more: &Texts) -> Result<Texts, TreeFault>
+    ensures { Gives (λ all. all ≡ classes ++ more.now) result }
+{
+    let mut all = classes;
+    for class in more.as_slice() {
+        all.push(class.copy()?)?;
+    }
+    Ok(all)
 }

@@ -1,11 +1,12 @@
 //! Footnotes and citations.
 ghost use Rattle.std.specs.Prelude.{◌≡◌};
 ghost use Rattle.rst_tree.specs.Faults.{Gives};
-ghost use Rattle.rst_tree.specs.Paths.{IsElement};
-ghost use Rattle.rst_elements.specs.Elements.{labelled_node, citation_node};
+ghost use Rattle.rst_elements.specs.Elements.{labelled_node, footnote_node, numbered_node, symbol_node, citation_node};
 
 use super::nodes::{element_of, plain};
 use super::values::{name_said, said};
+use rst_marks::{begins_with, is_blank};
+use rst_text::skip;
 use rst_tree::{Attrs, Key, Node, Tag, TreeFault, Value};
 use std::alloc::Global;
 
@@ -14,23 +15,42 @@ use std::alloc::Global;
 ///
 /// The only refusal is [`TreeFault::NoMemory`].
 pub fn footnote(alloc: Global, label: &str, line: usize) -> Result<Node, TreeFault>
-    ensures { Gives IsElement result }
+    ensures { Gives (λ node. node ≡ footnote_node label.now line) result }
 {
+    if begins_with('#', label) {
+        return numbered(alloc, label, line);
+    }
+    if begins_with('*', label) {
+        return symbol(alloc, label, line);
+    }
     let mut attrs = Attrs::new(alloc);
     attrs.set(Key::Mark, said(alloc, label)?)?;
-    let mut shown = "";
-    if let Some(name) = label.strip_prefix("#") {
-        attrs.set(Key::Auto, Value::Number(1))?;
-        if !name.is_empty() {
-            attrs.set(Key::OwnName, name_said(alloc, name)?)?;
-        }
-    } else if label == "*" {
-        attrs.set(Key::Auto, said(alloc, "*")?)?;
-    } else {
-        attrs.set(Key::OwnName, name_said(alloc, label)?)?;
-        shown = label;
+    attrs.set(Key::OwnName, name_said(alloc, label)?)?;
+    labelled(alloc, Tag::Footnote, attrs, label, line)
+}
+
+/// A footnote that is numbered, and named by what stands behind the first character of its label.
+fn numbered(alloc: Global, label: &str, line: usize) -> Result<Node, TreeFault>
+    ensures { Gives (λ node. node ≡ numbered_node label.now line) result }
+{
+    let name = skip(label, 1);
+    let mut attrs = Attrs::new(alloc);
+    attrs.set(Key::Auto, Value::Number(1))?;
+    attrs.set(Key::Mark, said(alloc, label)?)?;
+    if !is_blank(name) {
+        attrs.set(Key::OwnName, name_said(alloc, name)?)?;
     }
-    labelled(alloc, Tag::Footnote, attrs, shown, line)
+    labelled(alloc, Tag::Footnote, attrs, "", line)
+}
+
+/// A footnote that has a symbol.
+fn symbol(alloc: Global, label: &str, line: usize) -> Result<Node, TreeFault>
+    ensures { Gives (λ node. node ≡ symbol_node label.now line) result }
+{
+    let mut attrs = Attrs::new(alloc);
+    attrs.set(Key::Auto, said(alloc, "*")?)?;
+    attrs.set(Key::Mark, said(alloc, label)?)?;
+    labelled(alloc, Tag::Footnote, attrs, "", line)
 }
 
 /// A citation with its label, which names it, without its content (Document Tree, 'citation').

@@ -1,12 +1,13 @@
 //! Bullet lists, enumerated lists and the options of option lists.
-ghost use Rattle.std.specs.Prelude.{◌≡◌, option_map};
+ghost use Rattle.std.specs.Prelude.{◌≡◌, None, option_map};
 ghost use Rattle.rst_tree.specs.Faults.{Gives};
-ghost use Rattle.rst_tree.specs.Paths.{IsElement};
-ghost use Rattle.rst_elements.specs.Elements.{bullet_list_node, sequence_name, prefix, suffix, enumerated_list_node, delimiter_text, option_node, option_argument_node};
+ghost use Rattle.rst_elements.specs.Elements.{bullet_list_node, sequence_name, prefix, suffix, enumerated_list_node, start_text, delimiter_text, option_node, option_argument_node};
+ghost use Rattle.rst_elements.specs.Texts.{message_node};
 
 use super::messages::message;
 use super::nodes::{element_of, plain};
 use super::values::said;
+use itoa::Buffer;
 use rst_marks::{Delimiter, Enumerator, Format, Sequence, first_reading};
 use rst_tree::{Attrs, Key, Level, Node, Tag, Text, TreeFault, Value};
 use std::alloc::Global;
@@ -88,12 +89,13 @@ pub fn start_message(
     ordinal: u64,
     line: usize,
 ) -> Result<Node, TreeFault>
-    ensures { Gives IsElement result }
+    ensures { Gives (λ node. node ≡ message_node Level.Info line (start_text written.now ordinal) None) result }
 {
+    let mut buffer = Buffer::new();
     let mut text = String::from_str(alloc, "Enumerated list start value not ordinal-1: \"")?;
     text.push_str(written)?;
     text.push_str("\" (ordinal ")?;
-    text.push_str(format!(in alloc; "{ordinal}")?.as_str())?;
+    text.push_str(buffer.format(ordinal))?;
     text.push_str(")")?;
     message(alloc, Level::Info, line, text.as_str(), None)
 }

@@ -1,4 +1,7 @@
 //! The attributes that the options of directives give.
+ghost use Rattle.std.specs.Prelude.{◌≡◌};
+ghost use Rattle.rst_tree.specs.Faults.{Gives};
+ghost use Rattle.rst_elements.specs.Options.{with_options, value_in, alignment_name};
 
 use super::values::{listed, said};
 use rst_directives::{Alignment, OptionName, OptionValue, Setting};
@@ -19,8 +22,12 @@ pub(crate) enum Holder {
 }
 
 impl Holder {
+    ghost use Rattle.rst_elements.specs.Options.{option_key};
+
     /// The attribute that an option gives the element, if it gives one.
-    fn key(self, option: OptionName) -> Option<Key> {
+    fn key(self, option: OptionName) -> Option<Key>
+        ensures { result ≡ option_key self option }
+    {
         match (self, option) {
             (Holder::Figure, OptionName::Align) => Some(Key::Align),
             (Holder::Figure, OptionName::FigureWidth) => Some(Key::Width),
@@ -45,7 +52,9 @@ pub(crate) fn set_options(
     attrs: &mut Attrs,
     holder: Holder,
     options: &[Setting],
-) -> Result<(), TreeFault> {
+) -> Result<(), TreeFault>
+    ensures { Gives (λ _. attrs.new ≡ with_options holder options.now attrs.old) result }
+{
     for setting in options {
         if let Some(key) = holder.key(setting.option) {
             attrs.set(key, value_of(alloc, &setting.value)?)?;
@@ -55,7 +64,9 @@ pub(crate) fn set_options(
 }
 
 /// What the value of an option says as the value of an attribute: of a target, the text that it is written with.
-fn value_of(alloc: Global, value: &OptionValue) -> Result<Value, TreeFault> {
+fn value_of(alloc: Global, value: &OptionValue) -> Result<Value, TreeFault>
+    ensures { Gives (λ said. said ≡ value_in value.now) result }
+{
     match value {
         OptionValue::Text(text) => said(alloc, text.as_str()),
         OptionValue::Measure(measure) => said(alloc, measure.as_str()),
@@ -68,7 +79,9 @@ fn value_of(alloc: Global, value: &OptionValue) -> Result<Value, TreeFault> {
 }
 
 /// How an alignment is named.
-fn alignment_name(alignment: Alignment) -> &'static str {
+fn alignment_name(alignment: Alignment) -> &'static str
+    ensures { result.now ≡ alignment_name alignment }
+{
     match alignment {
         Alignment::Top => "top",
         Alignment::Middle => "middle",

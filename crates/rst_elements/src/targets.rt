@@ -1,16 +1,16 @@
 //! Targets and substitution definitions.
-ghost use Rattle.std.specs.Prelude.{◌≡◌, string_bytes};
+ghost use Rattle.std.specs.Prelude.{◌≡◌, string_bytes, option_map};
 ghost use Rattle.std.specs.List.{list_any};
 ghost use Rattle.rst_tree.specs.Faults.{Gives};
-ghost use Rattle.rst_tree.specs.Paths.{IsElement};
+ghost use Rattle.rst_directives.specs.Target.{destination_of};
 ghost use Rattle.rst_elements.specs.Values.{normalized, unescaped};
 ghost use Rattle.rst_elements.specs.Elements.{substitution_definition_node};
-ghost use Rattle.rst_elements.specs.Targets.{may_replace, may_stand, is_plain_role, is_substitution};
+ghost use Rattle.rst_elements.specs.Targets.{target_node, name_attrs, leading_node, may_replace, may_stand, is_plain_role, is_substitution};
 
 use super::nodes::element_of;
 use super::values::{name_said, normalized, said, unescaped};
 use rst_directives::{Target, target_value};
-use rst_tree::{Attrs, Key, Node, Tag, TreeFault, Value};
+use rst_tree::{Attrs, Key, Node, Tag, Text, TreeFault, Value};
 use std::alloc::Global;
 
 /// A target that is a block: its name as it is written, still with escapes, if it has one, and its text, whose lines are
@@ -19,25 +19,54 @@ use std::alloc::Global;
 ///
 /// The only refusal is [`TreeFault::NoMemory`].
 pub fn target(alloc: Global, name: Option<&str>, text: &str, line: usize) -> Result<Node, TreeFault>
-    ensures { Gives IsElement result }
+    ensures { Gives (λ node. node ≡ target_node (option_map (λ written. written.now) name) text.now line) result }
+{
+    let attrs = name_attrs(alloc, name)?;
+    match target_value(alloc, text) {
+        Ok(destination) => leading(alloc, attrs, destination, line),
+        Err(_) => Err(TreeFault::NoMemory),
+    }
+}
+
+/// The attribute that says a target's name, or that it has none.
+fn name_attrs(alloc: Global, name: Option<&str>) -> Result<Attrs, TreeFault>
+    ensures { Gives (λ attrs. attrs ≡ name_attrs (option_map (λ written. written.now) name)) result }
 {
     let mut attrs = Attrs::new(alloc);
     match name {
         Some(written) => {
             let name = unescaped(alloc, written)?;
             attrs.set(Key::OwnName, name_said(alloc, name.as_str())?)?;
+            Ok(attrs)
         }
-        None => attrs.set(Key::Anonymous, Value::Number(1))?,
+        None => {
+            attrs.set(Key::Anonymous, Value::Number(1))?;
+            Ok(attrs)
+        }
     }
-    let Ok(value) = target_value(alloc, text) else {
-        return Err(TreeFault::NoMemory);
-    };
-    match value {
-        Some(Target::Name(name)) => attrs.set(Key::Refname, name_said(alloc, name.as_str())?)?,
-        Some(Target::Uri(uri)) => attrs.set(Key::Refuri, said(alloc, uri.as_str())?)?,
-        None => {}
+}
+
+/// A target with what it leads to.
+fn leading(
+    alloc: Global,
+    attrs: Attrs,
+    destination: Option<Target>,
+    line: usize,
+) -> Result<Node, TreeFault>
+    ensures { Gives (λ node. node ≡ leading_node attrs (option_map destination_of destination) line) result }
+{
+    let mut attrs = attrs;
+    match destination {
+        Some(Target::Name(name)) => {
+            attrs.set(Key::Refname, name_said(alloc, name.as_str())?)?;
+            Ok(element_of(Tag::Target, attrs, Vec::new(alloc), line))
+        }
+        Some(Target::Uri(uri)) => {
+            attrs.set(Key::Refuri, Value::Text(Text::new(uri)))?;
+            Ok(element_of(Tag::Target, attrs, Vec::new(alloc), line))
+        }
+        None => Ok(element_of(Tag::Target, attrs, Vec::new(alloc), line)),
     }
-    Ok(element_of(Tag::Target, attrs, Vec::new(alloc), line))
 }
 
 /// The name of a substitution definition that is written in this way: without escapes, each run of white characters as one

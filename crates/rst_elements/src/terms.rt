@@ -124,11 +124,12 @@ fn spaces_before(letters: &[Letter], from: usize, place: usize) -> usize
     ensures above { from ≤ result }
     ensures below { result ≤ place }
 {
-    let mut start = place;
-    while from < start && is_bare(letters, start - 1, ' ') {
-        start -= 1;
+    for n in 0..place - from {
+        if !is_bare(letters, place - n - 1, ' ') {
+            return place - n;
+        }
     }
-    start
+    from
 }
 
 /// Where the spaces end that begin at a place.
@@ -136,11 +137,12 @@ fn spaces_behind(letters: &[Letter], place: usize) -> usize
     requires { place ≤ length letters.now }
     ensures { result ≤ length letters.now }
 {
-    let mut end = place;
-    while end < letters.len() && is_bare(letters, end, ' ') {
-        end += 1;
+    for end in place..letters.len() {
+        if !is_bare(letters, end, ' ') {
+            return end;
+        }
     }
-    end
+    letters.len()
 }
 
 /// The text that letters spell.

@@ -125,6 +125,7 @@ fn with_message(node: Node, number: u64) -> Result<Node, TreeFault>
 }
 
 /// The messages as nodes, numbered on from the first.
+#[tactic(auto, using(crate::proofs::MessageLemmas::messages_from_append, crate::proofs::MessageLemmas::number_behind_append))]
 fn messages_of(alloc: Global, notes: Vec<Note>, first: u64) -> Result<Vec<Node>, TreeFault>
     ensures { Gives (λ messages. messages.items ≡ messages_from first notes.items) result }
 {

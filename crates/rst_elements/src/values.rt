@@ -18,6 +18,7 @@ pub(crate) fn said(alloc: Global, text: &str) -> Result<Value, TreeFault>
 }
 
 /// A value that says the name that a text gives.
+#[tactic(auto, using(crate::proofs::TextLemmas::bytes_of_chars))]
 pub(crate) fn name_said(alloc: Global, text: &str) -> Result<Value, TreeFault>
     ensures { Gives (λ value. value ≡ Said (name_in text.now)) result }
 {
@@ -28,6 +29,7 @@ pub(crate) fn name_said(alloc: Global, text: &str) -> Result<Value, TreeFault>
 }
 
 /// A text with each run of white characters as one space, and none at its ends.
+#[tactic(auto, using(crate::proofs::TextLemmas::bytes_of_chars))]
 pub(crate) fn normalized(alloc: Global, text: &str) -> Result<String, TreeFault>
     ensures { Gives (λ shown. string_bytes shown ≡ normalized text.now) result }
 {
@@ -38,6 +40,7 @@ pub(crate) fn normalized(alloc: Global, text: &str) -> Result<String, TreeFault>
 }
 
 /// A text without its escapes.
+#[tactic(auto, using(crate::proofs::TextLemmas::bytes_of_chars))]
 pub(crate) fn unescaped(alloc: Global, text: &str) -> Result<String, TreeFault>
     ensures { Gives (λ shown. string_bytes shown ≡ unescaped text.now) result }
 {
@@ -48,6 +51,7 @@ pub(crate) fn unescaped(alloc: Global, text: &str) -> Result<String, TreeFault>
 }
 
 /// The id that a text gives.
+#[tactic(auto, using(crate::proofs::TextLemmas::bytes_of_chars))]
 pub(crate) fn identifier(alloc: Global, text: &str) -> Result<String, TreeFault>
     ensures { Gives (λ id. string_bytes id ≡ identifier text.now) result }
 {
