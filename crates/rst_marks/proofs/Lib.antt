@@ -3,3 +3,4 @@ pub mod Runs
 pub mod Steps
 pub mod OptionLemmas
 pub mod ListedLemmas
+pub mod MarkBounds

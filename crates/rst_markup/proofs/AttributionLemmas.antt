@@ -1,16 +1,14 @@
 -- Lines of one indentation, and attributions.
-use Rattle.std.proofs.Common.{◌≡◌, ℕ, zero, suc, ◌+◌, ◌-◌, ◌<◌, ◌≤◌, ◌==◌, ◌||◌, ◌&&◌, Bool, true, false, not, cond, leb, List, [], ◌∷◌, length, take, drop, length-drop, Option, None, Some, arith, refl, sym, ap, ◌∙◌}
+use Rattle.std.proofs.Common.{◌≡◌, ℕ, zero, suc, ◌+◌, ◌-◌, ◌<◌, ◌≤◌, ◌==◌, ◌||◌, ◌&&◌, Bool, true, false, cond, leb, List, [], ◌∷◌, length, take, drop, length-drop, Option, None, Some, arith, refl, sym, ap, ◌∙◌}
 use Rattle.std.specs.Prelude.{option_map}
 use Rattle.std.proofs.lemmas.Bool.{le-leb, eqb-true}
 use Rattle.std.proofs.lemmas.List.{drop_all}
 use Rattle.rst_text.specs.Block.{Block, front_text, is_blank, indentation}
 use Rattle.rst_text.specs.MayCut.{is_indented}
-use Rattle.rst_marks.specs.Attribution.{attribution_of, dash_len}
-use Rattle.rst_marks.specs.Class.{run}
-use Rattle.rst_markup.specs.Attributions.{level_lines}
-use Rattle.rst_markup.specs.Lines.{lines_while}
+use Rattle.rst_markup.specs.Attributions.{level_lines, attribution_behind, attribution_with}
+use Rattle.rst_markup.specs.Kinds.{next_text}
 use Rattle.rst_markup.specs.Parts.{IsBlock}
-use Rattle.rst_markup.specs.declared.lines.LineTest.TheVariants.{Filled}
+use Rattle.rst_markup.specs.declared.attribution.Attribution.{Attribution}
 use Rattle.rst_markup.specs.declared.part.Part.{Part}
 use Rattle.rst_markup.proofs.LineLemmas.{drop_one}
 
@@ -99,16 +97,29 @@ attribution_block k n marker indent B h e =
           ∙ ap (λ Y. is_indented indent (take n Y)) below ∙ level_indented indent n (drop 1 (drop k B)) e;
     }
 
--- an attribution's first line isn't blank
-nothing_attributed : attribution_of [] ≡ None
-unfolding attribution_of dash_len run
-nothing_attributed = refl
-
-pub attribution_filled : (X : Block) (m : ℕ) → attribution_of (front_text X) ≡ Some m → lines_while Filled X ≡ 1 + lines_while Filled (drop 1 X)
-unfolding lines_while
-attribution_filled [] m e = let no : None ≡ Some m = sym nothing_attributed ∙ e in cc
-attribution_filled (l ∷ ls) m e = go l.text e
+-- ---- what is read at a line
+pub lines_none : (k d : ℕ) (B : Block) → None ≡ option_map (λ n. k + 1 + n) (level_lines d (drop (k + 1) B)) → level_lines d (drop 1 (drop k B)) ≡ None
+lines_none k d B h = by (level_lines d (drop 1 (drop k B))) (h ∙ ap (λ X. option_map (λ n. k + 1 + n) (level_lines d X)) (drop_one k B))
   where
-    go : (t : List ℕ) → attribution_of t ≡ Some m → cond (not (is_blank t)) (suc (lines_while Filled ls)) 0 ≡ 1 + lines_while Filled ls
-    go [] e = let no : None ≡ Some m = sym nothing_attributed ∙ e in cc
-    go (c ∷ cs) e = omega arith
+    by : (o : Option ℕ) → None ≡ option_map (λ n. k + 1 + n) o → o ≡ None
+    by None h = refl
+    by (Some n) h = cc
+
+pub lines_some : (k d end : ℕ) (B : Block) → Some end ≡ option_map (λ n. k + 1 + n) (level_lines d (drop (k + 1) B))
+    → (n : ℕ) × (level_lines d (drop 1 (drop k B)) ≡ Some n) × (end ≡ k + 1 + n)
+lines_some k d end B h = by (level_lines d (drop 1 (drop k B))) (h ∙ ap (λ X. option_map (λ n. k + 1 + n) (level_lines d X)) (drop_one k B))
+  where
+    by : (o : Option ℕ) → Some end ≡ option_map (λ n. k + 1 + n) o → (n : ℕ) × (o ≡ Some n) × (end ≡ k + 1 + n)
+    by None h = cc
+    by (Some n) h = (n, refl, cc)
+
+pub attribution_none : (k d marker : ℕ) (X : Block) → d ≡ indentation (next_text X) → level_lines d (drop 1 X) ≡ None → None ≡ attribution_behind k marker X
+unfolding attribution_behind
+attribution_none k d marker X f h =
+    let g : level_lines (indentation (next_text X)) (drop 1 X) ≡ None = ap (λ i. level_lines i (drop 1 X)) (sym f) ∙ h in rw g refl
+
+pub attribution_some : (k d marker n end : ℕ) (X : Block) → d ≡ indentation (next_text X) → level_lines d (drop 1 X) ≡ Some n → end ≡ k + 1 + n
+    → let a : Attribution = record { marker = marker; end = end; indent = d } in Some a ≡ attribution_behind k marker X
+unfolding attribution_behind
+attribution_some k d marker n end X f h p =
+    let g : level_lines (indentation (next_text X)) (drop 1 X) ≡ Some n = ap (λ i. level_lines i (drop 1 X)) (sym f) ∙ h in rw (g, f, p) refl

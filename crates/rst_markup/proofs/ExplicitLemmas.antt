@@ -1,7 +1,7 @@
 -- Explicit markup: its parts stand in its block, and it ends where its size says.
-use Rattle.std.proofs.Common.{◌≡◌, ℕ, suc, ◌+◌, ◌-◌, ◌<◌, ◌≤◌, ◌==◌, Bool, true, false, not, cond, ◌&&◌, ◌||◌, List, [], ◌∷◌, min, length, take, drop, length-drop, Option, None, Some, arith, refl, sym, ap, ◌∙◌, leb, zero}
+use Rattle.std.proofs.Common.{◌≡◌, ℕ, suc, ◌+◌, ◌-◌, ◌^◌, ◌<◌, ◌≤◌, Bool, true, false, cond, ◌&&◌, ◌||◌, List, [], ◌∷◌, min, length, take, drop, length-drop, Option, None, Some, arith, refl, sym, ap, ◌∙◌, leb, zero}
 use Rattle.std.specs.Prelude.{is_some, IsTrue}
-use Rattle.std.proofs.lemmas.List.{drop-drop}
+use Rattle.std.proofs.lemmas.Bool.{le-leb}
 use Rattle.rst_text.specs.Block.{Block, front_text, is_blank, indentation}
 use Rattle.rst_text.proofs.CutLaws.{take_of}
 use Rattle.rst_text.specs.Extent.{extent}
@@ -34,14 +34,14 @@ use Rattle.rst_markup.specs.declared.explicit_markup.ExplicitForm.{ExplicitForm}
 use Rattle.rst_markup.specs.declared.explicit_markup.ExplicitForm.TheVariants.{Label, Target as TargetForm, Substitution as SubstitutionForm, Directive as DirectiveForm, Comment as CommentForm}
 use Rattle.rst_markup.specs.declared.forms.CommentCause.TheVariants.{Plain}
 use Rattle.rst_markup.specs.declared.forms.Explicit.{Explicit}
-use Rattle.rst_markup.specs.declared.forms.Explicit.TheVariants.{Comment, EmptyComment}
+use Rattle.rst_markup.specs.declared.forms.Explicit.TheVariants.{Comment, EmptyComment, Substitution}
 use Rattle.rst_markup.specs.declared.forms.Invocation.{Invocation}
 use Rattle.rst_markup.specs.declared.lines.LineTest.TheVariants.{Blank, Indented}
 use Rattle.rst_markup.specs.declared.kind.Kind.TheVariants.{Blank as BlankKind, Quote, Bullet, Enumerator as EnumeratorKind, Field, OptionItem, Doctest, Line, Grid, Simple, Explicit as ExplicitKind, Anonymous as AnonymousKind, Adornment, Text}
 use Rattle.rst_markup.specs.declared.part.Part.{Part}
-use Rattle.rst_markup.proofs.LineLemmas.{drop_far}
+use Rattle.rst_markup.proofs.LineLemmas.{drop_one, drop_far}
 use Rattle.rst_markup.proofs.PartLemmas.{hanging_is}
-use Rattle.rst_markup.proofs.MarkBounds.{TargetWithin, dots_within, label_within, target_within, substitution_within, directive_within}
+use Rattle.rst_marks.proofs.MarkBounds.{TargetWithin, dots_within, label_within, target_within, substitution_within, directive_within}
 
 -- ---- the marks of a form stand within the text
 abbrev pub FormWithin : List ℕ → ExplicitForm → Type 0
@@ -88,8 +88,7 @@ indented_le B i h = omega (arith, while_le Indented (drop 1 (drop i B)), length-
 -- the lines of a hanging block below its first, for the cut that they get
 below_indented : (i : ℕ) (B : Block) → is_indented (least_of (drop 1 (drop i B))) (take (extent 1 (drop 1 (drop i B))) (drop (i + 1) B)) ≡ true
 below_indented i B =
-    let same : drop (i + 1) B ≡ drop 1 (drop i B) = sym (drop-drop 1 i B) in
-    rw same (is_indented-least (take (extent 1 (drop 1 (drop i B))) (drop 1 (drop i B))))
+    rw (drop_one i B) (is_indented-least (take (extent 1 (drop 1 (drop i B))) (drop 1 (drop i B))))
 
 indented_from : (r j n : ℕ) (Y : Block) → is_indented r (take n Y) ≡ true → is_indented r (take (n - j) (drop j Y)) ≡ true
 indented_from r j n Y h = by (n - j) refl
@@ -140,7 +139,7 @@ uncut (l ∷ ls) = by (is_blank l.text) (uncut ls)
   where
     by : (b : Bool) → is_indented 0 ls ≡ true → ((b || leb 0 (indentation l.text)) && is_indented 0 ls) ≡ true
     by true h = h
-    by false h = h
+    by false h = rw (le-leb 0 (indentation l.text) (omega arith)) h
 
 target_block : (B : Block) (i n : ℕ) → i < length B → IsBlock B (target_part i n (drop i B))
 target_block B i n h = record {
@@ -308,3 +307,14 @@ kind_underscores t next after q e =
     by false false false false false false false false false false false true m p q = refl
     by false false false false false false false false false false false false true p q = cc
     by false false false false false false false false false false false false false p q = cc
+
+-- ---- what is read behind the dots
+pub substitution_some : (i n : ℕ) (name : Characters) (d : DirectiveMark) (call : Invocation) (X : Block) → directive_of false (drop n (front_text X)) ≡ Some d → call ≡ call_of i n d X
+    → Substitution name (Some call) call.block.to ≡ substitution_of i name n X
+unfolding held_of
+substitution_some i n name d call X e c =
+    rw (e, c) (ap (λ m. Substitution name (Some (call_of i n d X)) m) (hanging_to i (n + d.marker.cut) d.marker.bare X))
+
+pub target_short : (n : ℕ) (t : List ℕ) (mark : TargetMark) → TargetWithin (drop n t) mark → n ≤ length t → length t < 2 ^ 64 → IsTargetShort n mark
+target_short n t (Named from len m) w h s = (omega (arith, w.0, length-drop n t), omega (arith, w.1, length-drop n t))
+target_short n t (AnonymousMark m) w h s = omega (arith, w, length-drop n t)

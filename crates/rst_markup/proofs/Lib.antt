@@ -1,6 +1,5 @@
 pub mod LineLemmas
 pub mod EndLemmas
 pub mod PartLemmas
-pub mod MarkBounds
 pub mod ExplicitLemmas
 pub mod AttributionLemmas

@@ -19,9 +19,13 @@ abbrev pub attribution_with : ℕ → ℕ → ℕ → Option ℕ → Option Attr
 attribution_with k marker indent None = None
 attribution_with k marker indent (Some n) = Some (record { marker = marker; end = k + 1 + n; indent = indent })
 
+-- where a mark of this many characters is in the line
+unfoldable pub attribution_behind : ℕ → ℕ → Block → Option Attribution
+attribution_behind k marker X = attribution_with k marker (indentation (next_text X)) (level_lines (indentation (next_text X)) (drop 1 X))
+
 abbrev pub attribution_by : Option ℕ → ℕ → Block → Option Attribution
 attribution_by None k X = None
-attribution_by (Some marker) k X = attribution_with k marker (indentation (next_text X)) (level_lines (indentation (next_text X)) (drop 1 X))
+attribution_by (Some marker) k X = attribution_behind k marker X
 
 -- a line that an attribution's mark begins, and the lines below it up to a blank one, which share one indentation
 unfoldable pub attribution_at : ℕ → Block → Option Attribution

@@ -41,23 +41,42 @@ fn level_end(view: &View<'_>, from: usize, indent: usize, looks: &mut Looks) -> 
     Some(len)
 }
 
+/// The attribution with a mark of `marker` characters in the line at place `k`.
+fn attribution_behind(
+    view: &View<'_>,
+    k: usize,
+    marker: usize,
+    looks: &mut Looks,
+) -> Option<Attribution>
+    requires inside { k < length (block_of view.now) }
+    requires few { looks.old < 2 ^ 120 + 1 }
+    ensures attribution { result ≡ spec.attribution_behind k marker (drop k (block_of view.now)) }
+    ensures text { IfSome result (λ a. IsBlock (block_of view.now) (spec.attribution_part k a)) }
+    ensures looks { looks.new ≤ looks.old + 2 + lines_while Filled (drop 1 (drop k (block_of view.now))) }
+{
+    prove!(k < view.len());
+    let indent = indentation(below_text(view, k, 1, looks));
+    match level_end(view, k + 1, indent, looks) {
+        Some(end) => Some(Attribution {
+            marker,
+            end,
+            indent,
+        }),
+        None => None,
+    }
+}
+
 /// The attribution that begins in the line at place `k` of a block quote's block, if one does: a dash with text behind
 /// it, and all lines below it up to a blank one, which share one indentation. Whether text and a blank line stand before
-/// it isn't looked at.
+/// it isn't looked at. It makes at most three looks more than it has further lines.
 #[tactic(auto, unfolding(crate::specs::Attributions::attribution_at))]
 pub fn attribution_at(view: &View<'_>, k: usize, looks: &mut Looks) -> Option<Attribution>
     requires inside { k < length (block_of view.now) }
     requires few { looks.old < 2 ^ 120 }
     ensures attribution { result ≡ spec.attribution_at k (drop k (block_of view.now)) }
     ensures text { IfSome result (λ a. IsBlock (block_of view.now) (spec.attribution_part k a)) }
-    ensures looks { looks.new ≤ looks.old + 2 + lines_while Filled (drop k (block_of view.now)) }
+    ensures looks { looks.new ≤ looks.old + 3 + lines_while Filled (drop 1 (drop k (block_of view.now))) }
 {
     let marker = attribution_of(view.line(k, looks))?;
-    let indent = indentation(below_text(view, k, 1, looks));
-    let end = level_end(view, k + 1, indent, looks)?;
-    Some(Attribution {
-        marker,
-        end,
-        indent,
-    })
+    attribution_behind(view, k, marker, looks)
 }

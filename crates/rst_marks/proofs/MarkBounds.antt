@@ -27,13 +27,6 @@ pub some_of : {A C : Type 0} (o : Option A) (f : A → Option C) (y : C) → if_
 some_of None f y h = cc
 some_of (Some x) f y h = (x, refl, h)
 
--- a mark with n characters behind which a marker stands
-abbrev Marked : ℕ → List ℕ → Marker → Type 0
-Marked n t m = (n ≤ length t) × (m.cut ≤ length t)
-
-marked : (n : ℕ) (t : List ℕ) (m : Marker) → n ≤ length t → marker_of n t ≡ Some m → Marked n t m
-marked n t m h e = (h, marker_within n t m h e)
-
 -- ---- dots and underscores
 two_within : (c : ℕ) (t : List ℕ) (m : Marker) (a b : Bool) → begins_with c (drop 1 t) ≡ b → cond (a && b) (marker_of 2 t) None ≡ Some m → m.cut ≤ length t
 two_within c t m true true e h = marker_within 2 t m (omega (arith, there c 1 t e)) h
@@ -45,15 +38,27 @@ unfolding dots
 dots_within t m h = two_within 46 t m (begins_with 46 t) (begins_with 46 (drop 1 t)) refl h
 
 -- ---- labels
+abbrev label_with : ℕ → LabelKind → Marker → Option LabelMark
+label_with n k m = Some (record { kind = k; len = n; marker = m })
+
+abbrev label_len : Option LabelMark → ℕ
+label_len None = 0
+label_len (Some l) = l.len
+
+abbrev label_cut : Option LabelMark → ℕ
+label_cut None = 0
+label_cut (Some l) = l.marker.cut
+
 labelled_within : (n : ℕ) (t : List ℕ) (k : Option LabelKind) (l : LabelMark) (b : Bool) → begins_with 93 (drop n (drop 1 t)) ≡ b
     → cond b (if_some k (labelled n t)) None ≡ Some l → (1 + l.len ≤ length t) × (l.marker.cut ≤ length t)
 labelled_within n t k l true e h =
     let kind = some_of k (labelled n t) l h in
-    let mark = some_of (marker_of (n + 2) t) (λ m. Some (record { kind = kind.0; len = n; marker = m })) l kind.2 in
+    let mark = some_of (marker_of (n + 2) t) (label_with n kind.0) l kind.2 in
     let room : n + 2 ≤ length t = omega (arith, there 93 n (drop 1 t) e, length-drop 1 t) in
-    let len : n ≡ l.len = let whole : Some (record { kind = kind.0; len = n; marker = mark.0 }) ≡ Some l = mark.2 in cc in
-    let cut : mark.0 ≡ l.marker = let whole : Some (record { kind = kind.0; len = n; marker = mark.0 }) ≡ Some l = mark.2 in cc in
-    (omega arith, omega (arith, marker_within (n + 2) t mark.0 room mark.1, ap (λ m. m.cut) cut))
+    let whole : label_with n kind.0 mark.0 ≡ Some l = mark.2 in
+    let len : n ≡ l.len = ap (λ o. label_len o) whole in
+    let cut : mark.0.cut ≡ l.marker.cut = ap (λ o. label_cut o) whole in
+    (omega arith, omega (arith, marker_within (n + 2) t mark.0 room mark.1))
 labelled_within n t k l false e h = cc
 
 pub label_within : (t : List ℕ) (l : LabelMark) → label_of t ≡ Some l → (1 + l.len ≤ length t) × (l.marker.cut ≤ length t)
@@ -81,19 +86,19 @@ closed_within closing before (c ∷ cs) n h = by (closes closing before c cs) h 
         let more = some_suc (closed_from closing (before_next before c) cs) n h in
         omega (arith, later more.0 more.1, more.2)
 
+and_false : (b : Bool) → (b && false) ≡ true → ⊥
+and_false true h = cc
+and_false false h = cc
+
 -- a quote has a colon behind it
 quote_behind : (before : Before) (c : ℕ) (cs : List ℕ) → closes QuotedColon before c cs ≡ true → 1 ≤ length cs
 unfolding closes
-quote_behind before c cs h = by before.escaped cs h
+quote_behind before c [] h = by before.escaped h
   where
-    by : (escaped : Bool) (cs : List ℕ) → closes QuotedColon (record { escaped = escaped; dark = before.dark }) c cs ≡ true → 1 ≤ length cs
-    by true cs h = cc
-    by false [] h = two (c == 96) h
-      where
-        two : (b : Bool) → (b && false) ≡ true → 1 ≤ 0
-        two true h = cc
-        two false h = cc
-    by false (d ∷ ds) h = omega arith
+    by : (escaped : Bool) → cond escaped false ((c == 96) && false) ≡ true → 1 ≤ 0
+    by true h = cc
+    by false h = absurd (and_false (c == 96) h)
+quote_behind before c (d ∷ ds) h = omega arith
 
 pub quoted_within : (before : Before) (t : List ℕ) (n : ℕ) → closed_from QuotedColon before t ≡ Some n → n + 1 < length t
 unfolding closed_from
@@ -169,8 +174,8 @@ spaced_within t n m (Some k) e h =
     let c = some_of (marker_of (k + 2) t) (λ x. Some (NamedSubstitution k x)) (NamedSubstitution n m) h in
     let whole : Some (NamedSubstitution k c.0) ≡ Some (NamedSubstitution n m) = c.2 in
     let len : k ≡ n = cc in
-    let mark : c.0 ≡ m = cc in
-    (omega arith, omega (arith, marker_within (k + 2) t c.0 room c.1, ap (λ x. x.cut) mark))
+    let cut : c.0.cut ≡ m.cut = cc in
+    (omega arith, omega (arith, marker_within (k + 2) t c.0 room c.1))
 
 pub substitution_within : (t : List ℕ) (n : ℕ) (m : Marker) → substitution_of t ≡ Some (NamedSubstitution n m) → (1 + n ≤ length t) × (m.cut ≤ length t)
 unfolding substitution_of
@@ -182,17 +187,28 @@ substitution_within t n m h = by (begins_with 124 t) (is_blank (drop 1 t) || beg
     by false b h = cc
 
 -- ---- directives
+abbrev directive_with : ℕ → Marker → Option DirectiveMark
+directive_with len m = Some (record { len = len; marker = m })
+
+abbrev directive_len : Option DirectiveMark → ℕ
+directive_len None = 0
+directive_len (Some d) = d.len
+
+abbrev directive_cut : Option DirectiveMark → ℕ
+directive_cut None = 0
+directive_cut (Some d) = d.marker.cut
+
 colons_by : (len n : ℕ) (t : List ℕ) (d : DirectiveMark) (a b : Bool) → begins_with 58 (drop (n + 1) t) ≡ b → len ≤ n
-    → cond (not a || not b) None (if_some (marker_of (n + 2) t) (λ m. Some (record { len = len; marker = m }))) ≡ Some d → (d.len ≤ length t) × (d.marker.cut ≤ length t)
+    → cond (not a || not b) None (if_some (marker_of (n + 2) t) (directive_with len)) ≡ Some d → (d.len ≤ length t) × (d.marker.cut ≤ length t)
 colons_by len n t d false b e s h = cc
 colons_by len n t d true false e s h = cc
 colons_by len n t d true true e s h =
     let room : n + 2 ≤ length t = omega (arith, there 58 (n + 1) t e) in
-    let c = some_of (marker_of (n + 2) t) (λ m. Some (record { len = len; marker = m })) d h in
-    let whole : Some (record { len = len; marker = c.0 }) ≡ Some d = c.2 in
-    let same : len ≡ d.len = cc in
-    let mark : c.0 ≡ d.marker = cc in
-    (omega arith, omega (arith, marker_within (n + 2) t c.0 room c.1, ap (λ m. m.cut) mark))
+    let c = some_of (marker_of (n + 2) t) (directive_with len) d h in
+    let whole : directive_with len c.0 ≡ Some d = c.2 in
+    let same : len ≡ d.len = ap (λ o. directive_len o) whole in
+    let cut : c.0.cut ≡ d.marker.cut = ap (λ o. directive_cut o) whole in
+    (omega arith, omega (arith, marker_within (n + 2) t c.0 room c.1))
 
 colons_within : (len n : ℕ) (t : List ℕ) (d : DirectiveMark) → len ≤ n → colons len n t ≡ Some d → (d.len ≤ length t) × (d.marker.cut ≤ length t)
 unfolding colons
