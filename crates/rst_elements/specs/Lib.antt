@@ -6,3 +6,4 @@ pub mod Targets
 pub mod Admonitions
 pub mod LineBlocks
 pub mod Options
+pub mod Terms

@@ -1,10 +1,12 @@
 //! Terms of definition lists, with their classifiers.
-ghost use Rattle.std.specs.Prelude.{◌≤◌, length};
+ghost use Rattle.std.specs.Prelude.{◌≡◌, ◌≤◌, false, length, IfOk};
+ghost use Rattle.rst_tree.specs.Faults.{Gives};
+ghost use Rattle.rst_elements.specs.Terms.{letters_from, parts_of, is_bare, is_delimiter, begins_with_space, ends_in_space, dark_len, spelled};
 
 use super::nodes::element_of;
 use super::numbers::Numbers;
 use super::texted::{Reading, counting, read};
-use rst_pieces::{Kind, Piece, pieces_of};
+use rst_pieces::{Kind, Piece, escapes, pieces_of};
 use rst_text::{characters_of, is_white};
 use rst_tree::{Attrs, Node, Tag, Text, TreeFault};
 use std::alloc::{AllocError, Global};
@@ -68,85 +70,104 @@ fn part(text: &[char], low: usize, high: usize) -> &[char] {
 }
 
 /// The characters that are left when escapes are gone: a backslash vanishes, and white behind one.
-fn letters_of(alloc: Global, text: &[char]) -> Result<Vec<Letter>, AllocError> {
+fn letters_of(alloc: Global, text: &[char]) -> Result<Vec<Letter>, AllocError>
+    ensures { IfOk result (λ letters. letters.items ≡ letters_from false text.now) }
+{
     let mut letters = Vec::new(alloc);
     let mut escaped = false;
     for c in text {
-        if *c == '\\' && !escaped {
+        if escapes(*c, escaped) {
             escaped = true;
             continue;
         }
-        if !escaped || !is_white(*c) {
-            letters.push(Letter {
-                character: *c,
-                escaped,
-            })?;
+        if escaped && is_white(*c) {
+            escaped = false;
+            continue;
         }
+        letters.push(Letter {
+            character: *c,
+            escaped,
+        })?;
         escaped = false;
     }
     Ok(letters)
 }
 
-/// The texts before, between and behind the colons with spaces on both sides.
-fn parts_of(alloc: Global, letters: &[Letter]) -> Result<Vec<Text>, TreeFault> {
+/// The texts before, between and behind the colons with spaces on both sides, without these spaces.
+fn parts_of(alloc: Global, letters: &[Letter]) -> Result<Vec<Text>, TreeFault>
+    ensures { Gives (λ parts. parts.items ≡ parts_of letters.now) result }
+{
     let mut parts = Vec::new(alloc);
-    let mut from = 0;
+    let mut part = Vec::new(alloc);
+    let mut skipping = false;
     for place in 0..letters.len() {
-        if from < place && is_delimiter(letters, place) {
-            let end = spaces_before(letters, from, place);
-            parts.push(spelled(alloc, &letters[from..end])?)?;
-            from = spaces_behind(letters, place + 1);
+        let letter = letters[place];
+        if skipping && is_bare(letter, ' ') {
+            continue;
         }
+        skipping = is_delimiter(&part, letter, &letters[place + 1..]);
+        if skipping {
+            parts.push(spelled(alloc, &part[..dark_len(&part)])?)?;
+            part = Vec::new(alloc);
+            continue;
+        }
+        part.push(letter)?;
     }
-    parts.push(spelled(alloc, &letters[from..])?)?;
+    parts.push(spelled(alloc, &part)?)?;
     Ok(parts)
 }
 
-/// Whether a colon with a space on both sides stands at a place.
-fn is_delimiter(letters: &[Letter], place: usize) -> bool {
-    0 < place
-        && is_bare(letters, place - 1, ' ')
-        && is_bare(letters, place, ':')
-        && is_bare(letters, place + 1, ' ')
+/// Whether a letter is a character that isn't escaped.
+fn is_bare(letter: Letter, c: char) -> bool
+    ensures { result ≡ is_bare letter c }
+{
+    letter.character == c && !letter.escaped
 }
 
-/// Whether a character stands at a place, and isn't escaped.
-fn is_bare(letters: &[Letter], place: usize, c: char) -> bool {
-    match letters.get(place) {
-        Some(letter) => letter.character == c && !letter.escaped,
+/// Whether a letter behind some and before others is a colon with a space on both sides.
+fn is_delimiter(before: &[Letter], letter: Letter, behind: &[Letter]) -> bool
+    ensures { result ≡ is_delimiter before.now letter behind.now }
+{
+    is_bare(letter, ':') && (ends_in_space(before) && begins_with_space(behind))
+}
+
+fn begins_with_space(letters: &[Letter]) -> bool
+    ensures { result ≡ begins_with_space letters.now }
+{
+    match letters.first() {
+        Some(first) => is_bare(*first, ' '),
         None => false,
     }
 }
 
-/// Where the spaces begin that stand directly before a place, at `from` or behind it.
-fn spaces_before(letters: &[Letter], from: usize, place: usize) -> usize
-    requires { from ≤ place }
-    ensures above { from ≤ result }
-    ensures below { result ≤ place }
+#[tactic(auto, using(crate::proofs::TermLemmas::ends_in_space_append))]
+fn ends_in_space(letters: &[Letter]) -> bool
+    ensures { result ≡ ends_in_space letters.now }
 {
-    for n in 0..place - from {
-        if !is_bare(letters, place - n - 1, ' ') {
-            return place - n;
-        }
+    match letters.split_last() {
+        Some((last, _)) => is_bare(*last, ' '),
+        None => false,
     }
-    from
 }
 
-/// Where the spaces end that begin at a place.
-fn spaces_behind(letters: &[Letter], place: usize) -> usize
-    requires { place ≤ length letters.now }
-    ensures { result ≤ length letters.now }
+/// How many letters stand before the spaces at the end.
+fn dark_len(letters: &[Letter]) -> usize
+    ensures value { result ≡ dark_len letters.now }
+    ensures within { result ≤ length letters.now }
 {
-    for end in place..letters.len() {
-        if !is_bare(letters, end, ' ') {
-            return end;
+    let mut len = 0;
+    for (i, letter) in letters.iter().enumerate() {
+        if !is_bare(*letter, ' ') {
+            len = i + 1;
         }
     }
-    letters.len()
+    len
 }
 
 /// The text that letters spell.
-fn spelled(alloc: Global, letters: &[Letter]) -> Result<Text, AllocError> {
+fn spelled(alloc: Global, letters: &[Letter]) -> Result<Text, AllocError>
+    ensures { IfOk result (λ text. text ≡ spelled letters.now) }
+{
     let mut text = String::new(alloc);
     for letter in letters {
         text.push(letter.character)?;
