@@ -10,7 +10,7 @@ use super::level::Level;
 use super::resume::Waits;
 use super::step::Step;
 use super::texts::{Pass, alone, excerpt, filled, number_at, source};
-use rst_directives::{Argument, Directive, DirectiveFault, Place};
+use rst_directives::{Argument, Content, Directive, DirectiveFault, Place, Setting};
 use rst_elements::{
     image, may_replace, message, substitution_definition as definition, substitution_name,
 };
@@ -106,38 +106,60 @@ fn holding(
             Ok(Step::Next(level.past(end).with(error)?))
         }
         Directive::Found {
-            argument: Argument::Uri(uri),
+            argument,
             options,
+            content,
             ..
-        } => {
-            let shown = image(
-                alloc,
-                uri.as_str(),
-                options.as_slice(),
-                line,
-                false,
-                Some(name.as_str()),
-            )?;
-            let node = filled(
-                definition(alloc, name.as_str(), line)?,
-                alone(alloc, shown)?,
-            )?;
-            Ok(Step::Next(level.past(end).with(node)?))
-        }
-        Directive::Found { content, .. } => {
-            let lines = source(alloc, view, at, end, pass)?;
-            Ok(Step::Open {
-                level: level.past(end),
-                waits: Waits::Replacement(OpenReplacement {
-                    name,
-                    line,
-                    source: lines,
-                }),
-                first: content.first,
-                second: Some(content.second),
-            })
-        }
+        } => match argument {
+            Argument::Uri(uri) => {
+                let shown = image_named(alloc, uri.as_str(), &options, name.as_str(), line)?;
+                Ok(Step::Next(level.past(end).with(shown)?))
+            }
+            _ => replacement(alloc, view, level, name, content, end, pass),
+        },
     }
+}
+
+/// A substitution definition that holds an image, which it names unless the image has a text of its own.
+fn image_named(
+    alloc: Global,
+    uri: &str,
+    options: &Vec<Setting>,
+    name: &str,
+    line: usize,
+) -> Result<Node, BlockFault> {
+    let shown = image(alloc, uri, options.as_slice(), line, false, Some(name))?;
+    filled(definition(alloc, name, line)?, alone(alloc, shown)?)
+}
+
+/// The level with a replacement text opened.
+fn replacement(
+    alloc: Global,
+    view: &View<'_>,
+    level: Level,
+    name: String,
+    content: Content,
+    end: usize,
+    pass: &mut Pass,
+) -> Result<Step, BlockFault>
+    requires content { spec.IsContentIn (block_of view.now) content }
+    requires inside { level.at < length (block_of view.now) }
+    requires few { pass.old.looks < 2 ^ 119 + 2 ^ 110 }
+    ensures step { IfOk result (λ s. spec.IsStep (block_of view.now) level.at s) }
+    ensures looks { IfOk result (λ _. pass.new.looks ≤ pass.old.looks + 2 ^ 80) }
+{
+    let at = level.at;
+    let waits = Waits::Replacement(OpenReplacement {
+        name,
+        line: number_at(view, at),
+        source: source(alloc, view, at, end, pass)?,
+    });
+    Ok(Step::Open {
+        level: level.past(end),
+        waits,
+        first: content.first,
+        second: Some(content.second),
+    })
 }
 
 /// The message on a substitution definition that holds a wrong directive. One that may not stand here is told by the
