@@ -7,7 +7,6 @@ mod construct;
 mod constructs;
 mod ends;
 mod explicit_markup;
-mod explicit_row;
 mod extents;
 mod form;
 mod forms;
@@ -25,7 +24,6 @@ pub use constructs::{
 };
 pub use ends::{hanging_end, indented_end, item_end, literal_end, paragraph_end, text_end};
 pub use explicit_markup::{ExplicitForm, explicit_form, hanging_part};
-pub use explicit_row::ExplicitMarkup;
 pub use extents::explicit;
 pub use form::{Adorned, TextForm, adorned_alone, adorned_below, adorned_over, text_form};
 pub use forms::{CommentCause, Explicit, Invocation};
