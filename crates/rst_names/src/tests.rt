@@ -94,19 +94,27 @@ fn put_attr(
     }
 }
 
-/// What stands behind the first character of a kind, and before the end, a space or a character of another kind.
+/// What stands behind the first character of a kind, and before a space or a character of another kind.
 fn inner(text: &str, first: char, last: char) -> &str {
-    let behind = match text.split_once(first) {
-        Some((_, behind)) => behind,
+    match text.split_once(first) {
+        Some((_, behind)) => front(behind, last),
         None => "",
-    };
-    let word = match behind.split_once(last) {
+    }
+}
+
+/// What stands before a space or a character of a kind.
+fn front(text: &str, last: char) -> &str {
+    match text.split_once(last) {
+        Some((front, _)) => first_word(front),
+        None => first_word(text),
+    }
+}
+
+/// What stands before a space.
+fn first_word(text: &str) -> &str {
+    match text.split_once(' ') {
         Some((word, _)) => word,
-        None => behind,
-    };
-    match word.split_once(' ') {
-        Some((word, _)) => word,
-        None => word,
+        None => text,
     }
 }
 
