@@ -94,34 +94,45 @@ fn put_attr(
     }
 }
 
-/// What stands behind the first character of a kind, and before the end, a space or a character of another kind.
+/// What stands behind the first character of a kind, and before a space or a character of another kind.
 fn inner(text: &str, first: char, last: char) -> &str {
-    let behind = match text.split_once(first) {
-        Some((_, behind)) => behind,
+    match text.split_once(first) {
+        Some((_, behind)) => front(behind, last),
         None => "",
-    };
-    match behind.split_once([' ', last]) {
-        Some((inner, _)) => inner,
-        None => behind,
+    }
+}
+
+/// What stands before a space or a character of a kind.
+fn front(text: &str, last: char) -> &str {
+    match text.split_once(last) {
+        Some((front, _)) => first_word(front),
+        None => first_word(text),
+    }
+}
+
+/// What stands before a space.
+fn first_word(text: &str) -> &str {
+    match text.split_once(' ') {
+        Some((word, _)) => word,
+        None => text,
     }
 }
 
 /// The element of a line as `<tag name="said" ..>`, with nodes in it.
 fn element_of(alloc: Global, shown: &str, nodes: Children) -> Result<Node, TreeFault> {
+    let mut pieces = Vec::new(alloc);
+    for piece in shown.split('"') {
+        pieces.push(piece)?;
+    }
     let mut attrs = Attrs::new(alloc);
     let mut line = 1;
-    let mut tag = Tag::Document;
-    let mut name = "";
-    for (i, piece) in shown.split('"').enumerate() {
-        if i == 0 {
-            tag = tag_of(inner(piece, '<', '>'));
-        }
-        if i % 2 == 0 {
-            name = inner(piece, ' ', '=');
-        } else {
-            put_attr(alloc, &mut attrs, &mut line, name, piece)?;
+    for i in 1..pieces.len() {
+        if i % 2 == 1 {
+            let name = inner(pieces[i - 1], ' ', '=');
+            put_attr(alloc, &mut attrs, &mut line, name, pieces[i])?;
         }
     }
+    let tag = tag_of(inner(shown, '<', '>'));
     Ok(Node::Element {
         tag,
         attrs,
