@@ -5,7 +5,8 @@ use crate::bibliography::Bibliography;
 use crate::field::Field;
 use crate::texts::add_names;
 use crate::work::Work;
-use rst_tree::{Attrs, Children, Node, Tag, TreeFault};
+use rst_names::Names;
+use rst_tree::{Attrs, Children, Key, Node, Tag, TreeFault, Value};
 use std::alloc::Global;
 use std::mem;
 
@@ -71,6 +72,38 @@ fn is_field_list(nodes: &[Node], place: usize) -> bool
     )
 }
 
+/// Keeps where the names of the targets in a node lead that have a URI: a field's name may leave the document.
+fn keep_uris(alloc: Global, node: &Node, names: &mut Names) -> Result<(), TreeFault> {
+    if let Node::Element {
+        tag,
+        attrs,
+        children,
+        ..
+    } = node
+    {
+        if matches!(tag, Tag::Target) {
+            keep_uri(alloc, attrs, names)?;
+        }
+        for child in children.as_slice() {
+            keep_uris(alloc, child, names)?;
+        }
+    }
+    Ok(())
+}
+
+/// Keeps where the names of a target lead, if it has a URI.
+fn keep_uri(alloc: Global, target: &Attrs, names: &mut Names) -> Result<(), TreeFault> {
+    if let (Some(Value::Text(uri)), Some(Value::List(list))) = (
+        target.get(Key::Refuri),
+        target.get(Key::Names),
+    ) {
+        for name in list.as_slice() {
+            names.keep_uri(alloc, name.as_str(), uri.as_str())?;
+        }
+    }
+    Ok(())
+}
+
 /// What the fields of a list become.
 fn bibliography(
     alloc: Global,
@@ -81,6 +114,9 @@ fn bibliography(
     let mut bibliography = Bibliography::new(alloc);
     for node in fields.into_list() {
         if let Some(field) = Field::of(node) {
+            if let Some(name) = field.children.get(0) {
+                keep_uris(alloc, name, &mut work.names)?;
+            }
             let name = field.name(alloc)?;
             bibliography.add(alloc, name.as_str(), field, work)?;
         }

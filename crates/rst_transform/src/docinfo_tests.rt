@@ -244,3 +244,29 @@ fn field_lists_become_bibliographies(rt: HostRuntime) -> Result<(), Fail> {
     }
     Ok(())
 }
+
+#[test]
+fn uris_of_targets_that_leave_are_kept(rt: HostRuntime) -> Result<(), Fail> {
+    let alloc = rt.alloc();
+    let before = "<document>
+    <field_list>
+        <field>
+            <field_name>
+                <reference refuri=\"u\">
+                    Author
+                <target ids=\"author\" names=\"author\" refuri=\"u\">
+            <field_body>
+                <paragraph>
+                    Ann
+";
+    let after = "<document>
+    <docinfo>
+        <author>
+            Ann
+";
+    let changed = docinfo(alloc, work(alloc, before)?)?;
+    assert_eq!(rt; changed.names.kept_uri("author"), Some("u"));
+    assert_eq!(rt; changed.names.kept_uri("u"), None);
+    assert_eq!(rt; shown(alloc, changed)?.as_str(), after);
+    Ok(())
+}

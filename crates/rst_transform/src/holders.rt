@@ -2,7 +2,7 @@
 
 use crate::links::Linked;
 use crate::reading::{is_a, number_said, text_said};
-use rst_names::{Held, Holder};
+use rst_names::{Held, Holder, Names};
 use rst_tree::{Attr, Key, Node, Tag, Text, TreeFault, Value};
 use std::alloc::Global;
 
@@ -67,9 +67,11 @@ pub(crate) fn lead_of(alloc: Global, target: &Node) -> Result<Option<Attr>, Tree
 }
 
 /// Where a name leads by which another target isn't meant: to where its holder leads if that is a target, and else to the
-/// id of the element that brought the name.
+/// id of the element that brought the name. A target with a URI leads there though it has left the document.
 pub(crate) fn lead_by_name(
     alloc: Global,
+    names: &Names,
+    name: &str,
     held: &Held,
     holder: Option<&Node>,
 ) -> Result<Attr, TreeFault> {
@@ -80,5 +82,8 @@ pub(crate) fn lead_by_name(
             }
         }
     }
-    text_attr(alloc, Key::Refid, held.id.as_str())
+    match names.kept_uri(name) {
+        Some(uri) => text_attr(alloc, Key::Refuri, uri),
+        None => text_attr(alloc, Key::Refid, held.id.as_str()),
+    }
 }

@@ -123,11 +123,11 @@ fn first_step(
                     if indirect_name(holder).is_some() {
                         Ok(Step::To(place))
                     } else {
-                        let attr = lead_by_name(alloc, held, Some(holder))?;
+                        let attr = lead_by_name(alloc, names, name, held, Some(holder))?;
                         Ok(Step::Ends(Answer::Leads(attr)))
                     }
                 }
-                _ => Ok(Step::Ends(Answer::Leads(lead_by_name(alloc, held, None)?))),
+                _ => Ok(Step::Ends(Answer::Leads(lead_by_name(alloc, names, name, held, None)?))),
             };
         }
     }

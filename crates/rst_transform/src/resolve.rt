@@ -160,7 +160,7 @@ impl Lookup<'_> {
         if to_note && note.is_none() {
             return Ok(Meaning::Unknown);
         }
-        let attr = lead_by_name(alloc, held, holder)?;
+        let attr = lead_by_name(alloc, self.names, name, held, holder)?;
         Ok(Meaning::Leads { attr, note })
     }
 
