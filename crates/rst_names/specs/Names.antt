@@ -1,7 +1,9 @@
 -- Names and who holds them.
-use Rattle.std.specs.Prelude.{ℕ, List, Option, Some, None, if◌then◌else◌, ◌≡◌}
+use Rattle.std.specs.Prelude.{ℕ, List, Option, Some, None, if◌then◌else◌, ◌≡◌, Result, Ok, Err}
 use Rattle.std.specs.BTreeMap.{get_by_text}
 use Rattle.std.specs.Str.{bytes_eq}
+use Rattle.rst_tree.specs.declared.fault.TreeFault.{TreeFault}
+use Rattle.rst_tree.specs.declared.fault.TreeFault.TheVariants.{NoMemory}
 use Rattle.rst_names.specs.declared.names.Held.{Held}
 use Rattle.rst_names.specs.declared.names.Holder.{Holder}
 use Rattle.rst_names.specs.declared.names.Names.{Names}
@@ -13,6 +15,15 @@ held_by names name = get_by_text names.held name
 -- something is known of a name, and of the others what was
 abbrev pub Knows : List ℕ → Option Held → Names → Names → Type 0
 Knows name held old new = (other : List ℕ) → held_by new other ≡ (if bytes_eq other name then held else held_by old other)
+
+-- of each name the same is known as before
+abbrev pub KnowsTheSame : Names → Names → Type 0
+KnowsTheSame old new = (other : List ℕ) → held_by new other ≡ held_by old other
+
+-- what is known of a name was said, or memory ran out and nothing changed
+abbrev pub Holds : {A : Type 0} → List ℕ → Held → Names → Names → Result A TreeFault → Type 0
+Holds name held old new (Ok done) = Knows name (Some held) old new
+Holds name held old new (Err NoMemory) = KnowsTheSame old new
 
 -- the same with another holder
 abbrev pub moved : Holder → Option Held → Option Held

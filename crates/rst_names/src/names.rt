@@ -1,6 +1,6 @@
 //! Names and the elements that hold them.
-ghost use Rattle.std.specs.Prelude.{◌≡◌, ℕ, List, MatchOption, Some, None, OnOk};
-ghost use Rattle.rst_names.specs.Names.{held_by, moved, Knows};
+ghost use Rattle.std.specs.Prelude.{◌≡◌, ℕ, List, MatchOption, Some, None};
+ghost use Rattle.rst_names.specs.Names.{held_by, moved, Knows, Holds};
 
 use rst_tree::{Text, TreeFault};
 use std::alloc::Global;
@@ -69,9 +69,9 @@ impl Names {
 
     /// Says what is known of a name, in place of what was known.
     ///
-    /// The only refusal is want of memory.
+    /// The only refusal is want of memory; then what is known is as before.
     pub fn hold(&mut self, alloc: Global, name: &str, held: Held) -> Result<(), TreeFault>
-        ensures { OnOk result (Knows name.now (Some held) self.old self.new) }
+        ensures { Holds name.now held self.old self.new result }
     {
         let name = String::from_str(alloc, name)?;
         self.held.insert(name, held)?;
