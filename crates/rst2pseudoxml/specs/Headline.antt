@@ -2,7 +2,8 @@
 use Rattle.std.specs.Prelude.{◌≡◌, ◌<◌, ◌≤◌, ℕ, true, false, List, length, take, Result, Ok, Err, Vec}
 use Rattle.rst_text.specs.Counted.{Stream, Untouched, Gains, HandsOut, IsReadOut}
 use Rattle.rst2pseudoxml.specs.declared.end.End.{End}
-use Rattle.rst2pseudoxml.specs.declared.end.End.TheVariants.{Done, Read, TooLong, NotUtf8, NoMemory, WriteErr, WriteOut, NotYet}
+use Rattle.rst2pseudoxml.specs.declared.end.End.TheVariants.{Done, Read, TooLong, NotUtf8, NoMemory, WriteErr, WriteOut, TooDeep}
+use Rattle.rst_tree.specs.Faults.{CutShort}
 use Rattle.rst2pseudoxml.specs.Shown.{Parts}
 
 -- the writer gained all of a text, and no write of it has failed
@@ -13,20 +14,24 @@ IsWritten writer text = Gains writer text × (writer.failed ≡ false)
 abbrev pub IsCutShort : Stream → List ℕ → ℕ → Type 0
 IsCutShort writer text done = (done < length text) × Gains writer (take done text) × (writer.failed ≡ true)
 
--- The end of a run that was handed bytes whose answer is this.
-abbrev pub Ends : Result Parts End → Stream → Stream → Stream → End → Type 0
-Ends answer input out err (Done status) = IsReadOut input × (parts : Parts) × (answer ≡ Ok parts) × (status ≡ parts.status) × IsWritten err parts.err × IsWritten out parts.out
-Ends answer input out err (WriteErr done) = IsReadOut input × (parts : Parts) × (answer ≡ Ok parts) × IsCutShort err parts.err done × Untouched out
-Ends answer input out err (WriteOut done) = IsReadOut input × (parts : Parts) × (answer ≡ Ok parts) × IsWritten err parts.err × IsCutShort out parts.out done
-Ends answer input out err (NotUtf8 at) = IsReadOut input × (answer ≡ Err (NotUtf8 at)) × Untouched out × Untouched err
-Ends answer input out err (NotYet line) = IsReadOut input × (answer ≡ Err (NotYet line)) × Untouched out × Untouched err
-Ends answer input out err TooLong = (answer ≡ Err TooLong) × Untouched out × Untouched err
-Ends answer input out err Read = (input.failed ≡ true) × Untouched out × Untouched err
-Ends answer input out err NoMemory = Untouched out × Untouched err
+-- a print failed when the writer had taken the first bytes of a text; they are counted up to the largest `usize`
+abbrev pub IsPrintedInPart : Stream → List ℕ → ℕ → Type 0
+IsPrintedInPart writer text done = CutShort writer text done
+
+-- The end of a run, where this is the answer to the bytes that it was handed.
+abbrev pub Ends : (Result Parts End → Type 0) → Stream → Stream → Stream → End → Type 0
+Ends Answer input out err (Done status) = IsReadOut input × (parts : Parts) × Answer (Ok parts) × (status ≡ parts.status) × IsWritten err parts.err × IsWritten out parts.out
+Ends Answer input out err (WriteErr done) = IsReadOut input × (parts : Parts) × Answer (Ok parts) × IsCutShort err parts.err done × Untouched out
+Ends Answer input out err (WriteOut done) = IsReadOut input × (parts : Parts) × Answer (Ok parts) × IsWritten err parts.err × IsPrintedInPart out parts.out done
+Ends Answer input out err (NotUtf8 at) = IsReadOut input × Answer (Err (NotUtf8 at)) × Untouched out × Untouched err
+Ends Answer input out err (TooDeep line) = IsReadOut input × Answer (Err (TooDeep line)) × Untouched out × Untouched err
+Ends Answer input out err TooLong = Answer (Err TooLong) × Untouched out × Untouched err
+Ends Answer input out err Read = (input.failed ≡ true) × Untouched out × Untouched err
+Ends Answer input out err NoMemory = Untouched out × Untouched err
 
 -- For every input, what a run shows and how it ends is the answer to the bytes that the reads handed out, each once.
-abbrev pub Headline : (List ℕ → Result Parts End) → Stream → Stream → Stream → End → Type 0
-Headline answer input out err end = (bytes : List ℕ) × HandsOut input bytes × Ends (answer bytes) input out err end
+abbrev pub Headline : (List ℕ → Result Parts End → Type 0) → Stream → Stream → Stream → End → Type 0
+Headline Answer input out err end = (bytes : List ℕ) × HandsOut input bytes × Ends (Answer bytes) input out err end
 
 -- ---- the parts of a run
 

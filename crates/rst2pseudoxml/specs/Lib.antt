@@ -1,6 +1,4 @@
-pub mod Paragraphs
-pub mod Paragraph
-pub mod Printed
 pub mod Shown
+pub mod Source
 pub mod Headline
 pub mod Report

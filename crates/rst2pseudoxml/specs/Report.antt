@@ -2,7 +2,7 @@
 use Rattle.std.specs.Prelude.{◌≡◌, ℕ, ◌≤◌, false, List, [], ◌∷◌, ◌++◌, length, take, codes, decimal, string_bytes}
 use Rattle.rst_text.specs.Counted.{Stream, Gains}
 use Rattle.rst2pseudoxml.specs.declared.end.End.{End}
-use Rattle.rst2pseudoxml.specs.declared.end.End.TheVariants.{Done, Read, TooLong, NotUtf8, NoMemory, WriteErr, WriteOut, NotYet}
+use Rattle.rst2pseudoxml.specs.declared.end.End.TheVariants.{Done, Read, TooLong, NotUtf8, NoMemory, WriteErr, WriteOut, TooDeep}
 use Rattle.rst2pseudoxml.specs.declared.report.Stop.{Stop}
 use Rattle.rst2pseudoxml.specs.declared.report.Stop.TheVariants.{Words, Options, Open, Ran}
 use Rattle.rst_options.specs.declared.fault.OptionFault.{OptionFault}
@@ -16,7 +16,7 @@ message_of (NotUtf8 at) = codes "not UTF-8 at byte " ++ decimal at
 message_of NoMemory = codes "out of memory"
 message_of (WriteErr done) = codes "write failed"
 message_of (WriteOut done) = codes "write failed"
-message_of (NotYet line) = codes "line " ++ decimal line ++ codes ": not yet"
+message_of (TooDeep line) = codes "line " ++ decimal line ++ codes ": nesting too deep"
 
 abbrev pub option_message : OptionFault → List ℕ
 option_message Usage = codes "bad arguments"

@@ -1,16 +1,21 @@
--- What the program shows for an input: standard output, standard error and the exit status, or a refusal.
-use Rattle.std.specs.Prelude.{◌≡◌, ℕ, List, [], length, nat_lt, if◌then◌else◌, Option, None, Some, Result, Ok, Err, string_bytes}
+-- What the program shows of a finished document: standard output, standard error and the exit status.
+use Rattle.std.specs.Prelude.{◌≡◌, ℕ, ◌+◌, ◌<◌, ◌≤◌, Bool, true, false, ◌||◌, List, [], ◌∷◌, ◌++◌, length, filter, nat_le, if◌then◌else◌, Option, None, Some, IsSome, Result, Ok, Err, Vec, codes}
+use Rattle.std.specs.Fmt.{decimal}
+use Rattle.std.specs.List.{flat_map}
 use Rattle.std.specs.Str.Lossy.{utf8_valid_len}
-use Rattle.rst_text.specs.Block.{Block}
+use Rattle.rst_text.specs.Counted.{inner_of}
 use Rattle.rst_text.specs.Text.{text_of}
-use Rattle.rst_text.specs.Lines.{lines_of}
-use Rattle.rst2pseudoxml.specs.declared.end.End.{End}
-use Rattle.rst2pseudoxml.specs.declared.end.End.TheVariants.{TooLong, NotUtf8, NoMemory, NotYet}
+use Rattle.rst_text.specs.declared.counted.Counted.{Counted}
 use Rattle.rst_settings.specs.declared.Settings.{Settings}
-use Rattle.rst2pseudoxml.specs.declared.shown.Shown.{Shown}
-use Rattle.rst_settings.specs.Profile.{Profile}
-use Rattle.rst2pseudoxml.specs.Paragraphs.{texts, paragraphs, first_outside}
-use Rattle.rst2pseudoxml.specs.Printed.{printed}
+use Rattle.rst_settings.specs.Threshold.{is_reached}
+use Rattle.rst_transform.specs.declared.finishing.Finished.{Finished}
+use Rattle.rst_tree.specs.LevelNames.{level_name, level_number}
+use Rattle.rst_tree.specs.Message.{message_of}
+use Rattle.rst_tree.specs.Print.{print_of}
+use Rattle.rst_tree.specs.declared.note.Level.{Level}
+use Rattle.rst_tree.specs.declared.note.Note.{Note}
+use Rattle.rst2pseudoxml.specs.declared.end.End.{End}
+use Rattle.rst2pseudoxml.specs.declared.end.End.TheVariants.{TooLong, NotUtf8, TooDeep, NoMemory}
 
 -- standard output, standard error and the exit status
 pub record Parts : Type 0 where
@@ -18,30 +23,61 @@ pub record Parts : Type 0 where
   pub err : List ℕ
   pub status : ℕ
 
--- where a line is outside the part that is read so far, that is all that is said
-abbrev pub result_unless : List ℕ → List (List ℕ) → Option ℕ → Result Parts End
-result_unless source lines (Some line) = Err (NotYet line)
-result_unless source lines None = Ok (record { out = printed source (paragraphs lines); err = []; status = 0 })
+-- a message that is told: it is at or above the report level or the halt level
+abbrev pub is_told : Settings → Note → Bool
+is_told settings note = is_reached settings.report (level_number note.level) || is_reached settings.halt (level_number note.level)
 
-abbrev pub result_of_lines : Profile → List ℕ → Block → Result Parts End
-result_of_lines profile source lines = result_unless source (texts lines) (first_outside profile.line_limit 1 (texts lines))
+abbrev pub last_level : List Note → Option Level
+last_level [] = None
+last_level (note ∷ []) = Some note.level
+last_level (note ∷ notes) = last_level notes
 
-abbrev pub result_of_text : Profile → Settings → List ℕ → List ℕ → Option (List ℕ) → Result Parts End
-result_of_text profile settings source bytes None = Err (NotUtf8 (utf8_valid_len bytes))
-result_of_text profile settings source bytes (Some text) = result_of_lines profile source (lines_of settings.tab text)
+abbrev pub if_reached : Settings → Option Level → Option Level
+if_reached settings None = None
+if_reached settings (Some level) = if is_reached settings.halt (level_number level) then Some level else None
 
--- The first of these that applies: the input is too long, it is no UTF-8, or it is shown.
-abbrev pub result_of : Profile → Settings → List ℕ → List ℕ → Result Parts End
-result_of profile settings source bytes = if nat_lt 16777216 (length bytes) then Err TooLong
-    else result_of_text profile settings source bytes (text_of bytes)
+-- the level of the message that halts a run, if one does: the last
+abbrev pub halting : Settings → List Note → Option Level
+halting settings notes = if_reached settings (last_level notes)
 
-abbrev pub parts_of : Shown → Parts
-parts_of shown = record { out = string_bytes shown.out; err = string_bytes shown.err; status = shown.status }
+-- that a message halts the run
+abbrev pub exit_line : Option Level → List ℕ
+exit_line None = []
+exit_line (Some level) = codes "Exiting due to level-" ++ decimal (level_number level) ++ codes " (" ++ level_name level ++ codes ") system message.\n"
 
--- the parts were made, or the input was refused, or memory ran out
-abbrev pub Shows : Result Parts End → Result Shown End → Type 0
-Shows answer (Ok shown) = answer ≡ Ok (parts_of shown)
-Shows answer (Err (NotUtf8 at)) = answer ≡ Err (NotUtf8 at)
-Shows answer (Err (NotYet line)) = answer ≡ Err (NotYet line)
-Shows answer (Err NoMemory) = Unit {0}
-Shows answer (Err _) = ⊥
+abbrev pub told : Settings → List ℕ → List Note → List ℕ
+told settings source notes = flat_map (message_of source) (filter (is_told settings) notes) ++ exit_line (halting settings notes)
+
+abbrev pub status_by : Settings → ℕ → ℕ
+status_by settings highest = if is_reached settings.exit highest then 10 + highest else 0
+
+abbrev pub parts_by : Settings → List ℕ → Finished → Option Level → Parts
+parts_by settings source finished None = record { out = print_of finished.tree; err = told settings source finished.notes.items; status = status_by settings finished.highest }
+parts_by settings source finished (Some level) = record { out = []; err = told settings source finished.notes.items; status = 1 }
+
+-- what is shown of a finished document: its tree and its messages, or its messages alone where one halts the run
+abbrev pub parts_of : Settings → List ℕ → Finished → Parts
+parts_of settings source finished = parts_by settings source finished (halting settings finished.notes.items)
+
+-- The answer to some bytes: what is shown of a document that they were read as, or the refusal of what is too long, no UTF-8 or
+-- nested too deeply.
+abbrev pub Answers : Settings → List ℕ → List ℕ → Result Parts End → Type 0
+Answers settings source bytes (Ok parts) = (length bytes ≤ 16777216) × IsSome (text_of bytes) × (finished : Finished) × (parts ≡ parts_of settings source finished)
+Answers settings source bytes (Err TooLong) = 16777216 < length bytes
+Answers settings source bytes (Err (NotUtf8 at)) = (length bytes ≤ 16777216) × (text_of bytes ≡ None) × (at ≡ utf8_valid_len bytes)
+Answers settings source bytes (Err (TooDeep line)) = (length bytes ≤ 16777216) × IsSome (text_of bytes)
+Answers settings source bytes (Err _) = ⊥
+
+-- a document was made of the bytes, or they were refused, or memory ran out
+abbrev pub Reads : List ℕ → Result Finished End → Type 0
+Reads bytes (Ok finished) = IsSome (text_of bytes)
+Reads bytes (Err (NotUtf8 at)) = (text_of bytes ≡ None) × (at ≡ utf8_valid_len bytes)
+Reads bytes (Err (TooDeep line)) = IsSome (text_of bytes)
+Reads bytes (Err NoMemory) = Unit {0}
+Reads bytes (Err _) = ⊥
+
+-- the text of the messages was made, or memory ran out
+abbrev pub Tells : {A : Type 0} → Settings → List ℕ → List Note → Result (Counted (Vec ℕ A)) End → Type 0
+Tells settings source notes (Ok text) = (inner_of text).items ≡ told settings source notes
+Tells settings source notes (Err NoMemory) = Unit {0}
+Tells settings source notes (Err _) = ⊥

@@ -2,6 +2,7 @@
 ghost use Rattle.std.specs.Prelude.{◌≡◌};
 ghost use Rattle.rst2pseudoxml.specs.declared.end.End.TheVariants.{NoMemory};
 
+use rst_tree::TreeFault;
 use std::alloc::{AllocError, AllocFailed};
 
 /// An exit status, or the fault that ended the run.
@@ -15,14 +16,14 @@ pub enum End {
     TooLong,
     /// The input is no UTF-8; `at` bytes are its longest front that is.
     NotUtf8 { at: usize },
+    /// A block that isn't blank is nested too deeply; its first line that isn't blank has this number.
+    TooDeep { line: usize },
     /// A growth was refused.
     NoMemory,
     /// A write to standard error failed when it had taken `done` bytes.
     WriteErr { done: usize },
     /// A write to standard output failed when it had taken `done` bytes.
     WriteOut { done: usize },
-    /// Line `line` holds what isn't read yet.
-    NotYet { line: usize },
 }
 
 impl From<AllocError> for End {
@@ -37,6 +38,14 @@ impl<T: Drop> From<AllocFailed<T>> for End {
     ghost from_gives = { λ _ end. end ≡ NoMemory };
 
     fn from(_error: AllocFailed<T>) -> End {
+        End::NoMemory
+    }
+}
+
+impl From<TreeFault> for End {
+    ghost from_gives = { λ _ end. end ≡ NoMemory };
+
+    fn from(_error: TreeFault) -> End {
         End::NoMemory
     }
 }

@@ -4,13 +4,13 @@
 ghost use Rattle.std.specs.Prelude.{◌≡◌, false};
 ghost use Rattle.rst_text.specs.Counted.{has_failed};
 
+mod document;
 mod end;
 mod input;
-mod output;
-mod paragraph;
 mod report;
 mod run;
-mod shown;
+mod source;
+mod telling;
 
 use report::{Stop, report};
 use rst_options::{OptionFault, options};

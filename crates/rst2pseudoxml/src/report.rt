@@ -54,7 +54,7 @@ pub fn report<E: Write>(stop: &Stop, err: &mut Counted<E>) -> u8
                 End::NoMemory => say("out of memory", err),
                 End::WriteErr { .. } => say("write failed", err),
                 End::WriteOut { .. } => say("write failed", err),
-                End::NotYet { line } => say_number("line ", *line, ": not yet", err),
+                End::TooDeep { line } => say_number("line ", *line, ": nesting too deep", err),
             }
             1
         }

@@ -2,15 +2,16 @@
 ghost use Rattle.std.specs.Prelude.{◌≡◌, false};
 ghost use Rattle.rst_text.specs.Counted.{has_failed, between};
 ghost use Rattle.rst2pseudoxml.specs.Headline.{Headline, Puts};
-ghost use Rattle.rst_settings.specs.Profile.{profile_of};
-ghost use Rattle.rst2pseudoxml.specs.Shown.{result_of};
+ghost use Rattle.rst2pseudoxml.specs.Shown.{Answers};
 
 use super::end::End;
 use super::input::read_input;
-use super::shown::result_of;
+use super::document::document_of;
+use super::telling::{halting, status_of, told};
 use rst_settings::Settings;
 use rst_text::Counted;
 use std::alloc::Global;
+use rst_tree::{PrintFault, print};
 use std::io::{Read, Write};
 
 /// Reads the input to its end and writes what the program shows for it: all of standard error, then standard output.
@@ -29,7 +30,7 @@ pub fn run<R: Read, O: Write, E: Write>(
     requires out { has_failed out.old ≡ false }
     requires err { has_failed err.old ≡ false }
 
-    ensures { Headline (result_of (profile_of settings.now) settings.now source.now)
+    ensures { Headline (Answers settings.now source.now)
         (between R.remaining input.old input.new)
         (between O.contents out.old out.new)
         (between E.contents err.old err.new) result }
@@ -38,17 +39,25 @@ pub fn run<R: Read, O: Write, E: Write>(
         Ok(bytes) => bytes,
         Err(end) => return end,
     };
-    let shown = match result_of(alloc, settings, source, bytes.as_slice()) {
-        Ok(shown) => shown,
+    let finished = match document_of(alloc, settings, source, bytes.as_slice()) {
+        Ok(finished) => finished,
         Err(end) => return end,
     };
-    if let Err(done) = write_text(shown.err.as_bytes(), err) {
+    let notes = finished.notes.as_slice();
+    let messages = match told(alloc, notes, settings, source) {
+        Ok(messages) => messages,
+        Err(end) => return end,
+    };
+    if let Err(done) = write_text(messages.inner().as_slice(), err) {
         return End::WriteErr { done };
     }
-    if let Err(done) = write_text(shown.out.as_bytes(), out) {
-        return End::WriteOut { done };
+    if halting(notes, settings).is_some() {
+        return End::Done(1);
     }
-    End::Done(shown.status)
+    match print(&finished.tree, out) {
+        Ok(()) => End::Done(status_of(finished.highest, settings)),
+        Err(PrintFault::Write { done }) => End::WriteOut { done },
+    }
 }
 
 /// Writes the text; an empty one makes no write. An `Err` says how many of its bytes the writer took.

@@ -1,6 +1,6 @@
 //! Names and the elements that hold them.
 ghost use Rattle.std.specs.Prelude.{◌≡◌, ℕ, List, MatchOption, Some, None};
-ghost use Rattle.rst_names.specs.Names.{held_by, moved, Knows, Holds};
+ghost use Rattle.rst_names.specs.Names.{held_by, moved, Knows, KnowsTheSame, Holds};
 
 use rst_tree::{Text, TreeFault};
 use std::alloc::Global;
@@ -39,6 +39,8 @@ pub struct Held {
 #[derive(Drop)]
 pub struct Names {
     held: BTreeMap<String, Held>,
+    /// Where a name leads whose holder was a target with a URI and has left the document.
+    uris: BTreeMap<String, String>,
 }
 
 impl Names {
@@ -48,6 +50,7 @@ impl Names {
     {
         Names {
             held: BTreeMap::new(alloc),
+            uris: BTreeMap::new(alloc),
         }
     }
 
@@ -76,5 +79,24 @@ impl Names {
         let name = String::from_str(alloc, name)?;
         self.held.insert(name, held)?;
         Ok(())
+    }
+
+    /// Keeps where a name leads by its holder, a target with this URI, though that leaves the document.
+    ///
+    /// The only refusal is want of memory.
+    pub fn keep_uri(&mut self, alloc: Global, name: &str, uri: &str) -> Result<(), TreeFault>
+        ensures { KnowsTheSame self.old self.new }
+    {
+        let uri = String::from_str(alloc, uri)?;
+        self.uris.insert(String::from_str(alloc, name)?, uri)?;
+        Ok(())
+    }
+
+    /// The URI that was kept for a name, if one was.
+    pub fn kept_uri(&self, name: &str) -> Option<&str> {
+        match self.uris.get(name) {
+            Some(uri) => Some(uri.as_str()),
+            None => None,
+        }
     }
 }

@@ -2,6 +2,7 @@
 #![tactic(auto)]
 
 ghost use Rattle.std.specs.Prelude.{◌≡◌, ◌≤◌, true};
+ghost use Rattle.rst_settings.specs.Threshold.{threshold_number, is_reached};
 ghost use Rattle.rst_settings.specs.declared.Threshold.TheVariants.{Warning, Severe, Never};
 
 /// From which level of system messages on something is done (Configuration, `report_level`, `halt_level`,
@@ -14,6 +15,28 @@ pub enum Threshold {
     Severe,
     /// At no level.
     Never,
+}
+
+impl Threshold {
+    /// The number of its level: 1 to 4, and 5 for none.
+    fn number(self) -> u8
+        ensures { result ≡ threshold_number self }
+    {
+        match self {
+            Threshold::Info => 1,
+            Threshold::Warning => 2,
+            Threshold::Error => 3,
+            Threshold::Severe => 4,
+            Threshold::Never => 5,
+        }
+    }
+
+    /// Whether a level, by its number from 1 to 4, is at or above it; 0 stands for no message.
+    pub fn is_reached(self, level: u8) -> bool
+        ensures { result ≡ is_reached self level }
+    {
+        self.number() <= level
+    }
 }
 
 /// The settings of a run (Configuration, 'General').

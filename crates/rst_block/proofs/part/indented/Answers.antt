@@ -1,0 +1,11 @@
+use Rattle.std.proofs.Common.{◌≡◌, ◌+◌, drop, length-drop, arith}
+use Rattle.rst_text.specs.Shown.{block_of}
+use Rattle.rst_markup.proofs.EndLemmas.{looked_le}
+use Rattle.rst_block.proofs.Blocks.{indented_block}
+use Rattle.rst_block.proofs.part.indented.Goals as goal
+
+pub returns-clause-block : goal.returns-clause-block
+returns-clause-block c = indented_block (block_of c.args.view.now) c.args.from c.block_end-extent.result c.requires.inside c.block_end-extent.ensures.extent
+
+pub returns-clause-looks : goal.returns-clause-looks
+returns-clause-looks c = omega (arith, c.block_end-extent.ensures.looks, looked_le 1 (drop c.args.from (block_of c.args.view.now)))

@@ -1,0 +1,184 @@
+//! Lines of one punctuation character: transitions, titles with an overline, and what is neither (Markup
+//! Specification, 'Sections', 'Transitions').
+ghost use Rattle.std.specs.Prelude.{◌≡◌, ◌+◌, ◌-◌, ◌*◌, ◌^◌, ◌<◌, ◌≤◌, length, drop, IfOk, IfSome};
+ghost use Rattle.rst_text.specs.Shown.{block_of};
+ghost use Rattle.rst_markup.specs.Parts.{IsBlock, IsCall};
+ghost use Rattle.rst_block.specs.Steps as spec;
+
+use super::fault::BlockFault;
+use super::heading::{Heading, Style, with_heading};
+use super::level::Level;
+use super::step::Step;
+use super::text::text_line;
+use super::texts::{Pass, alone, number_at, source};
+use rst_elements::message;
+use rst_marks::Adornment;
+use rst_markup::{Adorned, adorned_at, below_text, text_at};
+use rst_text::{View, indentation, skip};
+use rst_tree::{Level as Gravity, Node, Tag};
+use std::alloc::Global;
+
+/// A line of one punctuation character.
+pub(crate) fn adornment(
+    alloc: Global,
+    view: &View<'_>,
+    level: Level,
+    mark: Adornment,
+    pass: &mut Pass,
+) -> Result<Step, BlockFault>
+    requires inside { level.at < length (block_of view.now) }
+    requires few { pass.old.looks < 2 ^ 119 + 2 ^ 110 }
+    ensures step { IfOk result (λ s. spec.IsStep (block_of view.now) level.at s) }
+    ensures looks { IfOk result (λ _. pass.new.looks ≤ pass.old.looks + 2 ^ 80) }
+{
+    let at = level.at;
+    let next = below_text(view, at, 1, &mut pass.looks);
+    match adorned_at(view, at, level.titles(), mark, next, &mut pass.looks) {
+        Adorned::Text => text_line(alloc, view, level, Vec::new(alloc), pass),
+        Adorned::ShortOverline => short(alloc, view, level, SHORT_OVERLINE, pass),
+        Adorned::ShortAdornment => short(alloc, view, level, SHORT_ADORNMENT, pass),
+        Adorned::Transition => transition(alloc, view, level, pass),
+        Adorned::Title { short } => overlined(alloc, view, level, mark, short, pass),
+        form => wrong(alloc, view, level, wrong_form(form), pass),
+    }
+}
+
+const SHORT_OVERLINE: &str =
+    "Possible incomplete section title.\nTreating the overline as ordinary text because it's so short.";
+
+const SHORT_ADORNMENT: &str =
+    "Unexpected possible title overline or transition.\nTreating it as ordinary text because it's so short.";
+
+/// What is said of lines that are neither a title nor a transition: how grave it is, the text, and how many lines they are.
+#[derive(Clone, Copy)]
+struct WrongForm {
+    gravity: Gravity,
+    text: &'static str,
+    lines: usize,
+}
+
+/// What is said of a form that is wrong.
+fn wrong_form(form: Adorned) -> WrongForm {
+    let (gravity, text, lines) = match form {
+        Adorned::InvalidMarker => (
+            Gravity::Error,
+            "Invalid section title or transition marker.",
+            2,
+        ),
+        Adorned::Incomplete => (Gravity::Severe, "Incomplete section title.", 2),
+        Adorned::MissingUnderline { blank } => (
+            Gravity::Severe,
+            "Missing matching underline for section title overline.",
+            if blank { 2 } else { 3 },
+        ),
+        Adorned::Mismatch => (Gravity::Severe, "Title overline & underline mismatch.", 3),
+        _ => (
+            Gravity::Severe,
+            "Unexpected section title or transition.",
+            1,
+        ),
+    };
+    WrongForm {
+        gravity,
+        text,
+        lines,
+    }
+}
+
+/// A transition.
+fn transition(
+    alloc: Global,
+    view: &View<'_>,
+    level: Level,
+    pass: &mut Pass,
+) -> Result<Step, BlockFault>
+    requires inside { level.at < length (block_of view.now) }
+    requires few { pass.old.looks < 2 ^ 119 + 2 ^ 110 }
+    ensures step { IfOk result (λ s. spec.IsStep (block_of view.now) level.at s) }
+    ensures looks { IfOk result (λ _. pass.new.looks ≤ pass.old.looks + 2 ^ 80) }
+{
+    let level = level.closed(alloc, view, pass)?;
+    let at = level.at;
+    let node = Node::element(alloc, Tag::Transition, number_at(view, at));
+    Ok(Step::Next(level.past(at.saturating_add(1)).with(node)?))
+}
+
+/// A short line that is taken as text, behind a message that says so.
+fn short(
+    alloc: Global,
+    view: &View<'_>,
+    level: Level,
+    text: &str,
+    pass: &mut Pass,
+) -> Result<Step, BlockFault>
+    requires inside { level.at < length (block_of view.now) }
+    requires few { pass.old.looks < 2 ^ 119 + 2 ^ 110 }
+    ensures step { IfOk result (λ s. spec.IsStep (block_of view.now) level.at s) }
+    ensures looks { IfOk result (λ _. pass.new.looks ≤ pass.old.looks + 2 ^ 80) }
+{
+    let info = message(alloc, Gravity::Info, number_at(view, level.at), text, None)?;
+    text_line(alloc, view, level, alone(alloc, info)?, pass)
+}
+
+/// The message on some lines that are neither a title nor a transition.
+fn wrong(
+    alloc: Global,
+    view: &View<'_>,
+    level: Level,
+    form: WrongForm,
+    pass: &mut Pass,
+) -> Result<Step, BlockFault>
+    requires inside { level.at < length (block_of view.now) }
+    requires few { pass.old.looks < 2 ^ 119 + 2 ^ 110 }
+    ensures step { IfOk result (λ s. spec.IsStep (block_of view.now) level.at s) }
+    ensures looks { IfOk result (λ _. pass.new.looks ≤ pass.old.looks + 2 ^ 80) }
+{
+    let level = level.closed(alloc, view, pass)?;
+    let at = level.at;
+    let end = at.saturating_add(form.lines);
+    let block = source(alloc, view, at, end, pass)?;
+    let line = number_at(view, at);
+    let node = message(alloc, form.gravity, line, form.text, Some(block.as_str()))?;
+    Ok(Step::Next(level.past(end).with(node)?))
+}
+
+/// A title between its overline and its underline.
+fn overlined(
+    alloc: Global,
+    view: &View<'_>,
+    level: Level,
+    mark: Adornment,
+    short: bool,
+    pass: &mut Pass,
+) -> Result<Step, BlockFault>
+    requires inside { level.at < length (block_of view.now) }
+    requires few { pass.old.looks < 2 ^ 119 + 2 ^ 110 }
+    ensures step { IfOk result (λ s. spec.IsStep (block_of view.now) level.at s) }
+    ensures looks { IfOk result (λ _. pass.new.looks ≤ pass.old.looks + 2 ^ 80) }
+{
+    let level = level.closed(alloc, view, pass)?;
+    let at = level.at;
+    let end = at.saturating_add(3);
+    let lines = source(alloc, view, at, end, pass)?;
+    let warning = if short {
+        let text = "Title overline too short.";
+        Some(message(
+            alloc,
+            Gravity::Warning,
+            number_at(view, at),
+            text,
+            Some(lines.as_str()),
+        )?)
+    } else {
+        None
+    };
+    let line = number_at(view, at.saturating_add(1));
+    let text = text_at(view, at.saturating_add(1), &mut pass.looks);
+    let style = Style {
+        character: mark.character,
+        overlined: true,
+    };
+    let text = skip(text, indentation(text));
+    let heading = Heading::of(alloc, style, text, line, warning, lines, pass)?;
+    Ok(Step::Next(with_heading(level.past(end), heading)?))
+}

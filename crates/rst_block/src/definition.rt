@@ -1,0 +1,57 @@
+//! Items of definition lists (Markup Specification, 'Definition Lists').
+ghost use Rattle.std.specs.Prelude.{◌≡◌, ◌+◌, ◌-◌, ◌*◌, ◌^◌, ◌<◌, ◌≤◌, length, drop, IfOk, IfSome};
+ghost use Rattle.rst_text.specs.Shown.{block_of};
+ghost use Rattle.rst_markup.specs.Parts.{IsBlock, IsCall};
+ghost use Rattle.rst_block.specs.Steps as spec;
+
+use super::fault::BlockFault;
+use super::field::joined_list;
+use super::level::Level;
+use super::part::indented;
+use super::resume::Waits;
+use super::run::{ListKind, Run};
+use super::step::Step;
+use super::texts::{Pass, number_at};
+use rst_elements::term_and_classifiers;
+use rst_text::View;
+use rst_tree::{Node, Tag};
+use std::alloc::Global;
+
+/// An item of a definition list. The messages that say why its term is a text stand before the whole list.
+pub(crate) fn definition(
+    alloc: Global,
+    view: &View<'_>,
+    level: Level,
+    infos: Vec<Node>,
+    pass: &mut Pass,
+) -> Result<Step, BlockFault>
+    requires inside { level.at < length (block_of view.now) }
+    requires few { pass.old.looks < 2 ^ 119 + 2 ^ 110 }
+    ensures step { IfOk result (λ s. spec.IsStep (block_of view.now) level.at s) }
+    ensures looks { IfOk result (λ _. pass.new.looks ≤ pass.old.looks + 2 ^ 80) }
+{
+    let at = level.at;
+    let line = number_at(view, at);
+    let term = view.line(at, &mut pass.looks);
+    let heads = term_and_classifiers(alloc, term, line, &mut pass.numbers)?;
+    let body = indented(view, at + 1, &mut pass.looks);
+    let kind = ListKind::Definition;
+    let mut level = joined_list(alloc, view, level, kind, Tag::DefinitionList, body.to, pass)?;
+    if let Run::List(open) = &mut level.run {
+        for info in infos {
+            open.before.push(info)?;
+        }
+    }
+    Ok(Step::Open {
+        level: level.past(body.to),
+        waits: Waits::ListedBody {
+            line,
+            item: Tag::DefinitionListItem,
+            body: Tag::Definition,
+            heads: heads.heads,
+            notes: heads.notes,
+        },
+        first: body,
+        second: None,
+    })
+}

@@ -1,0 +1,281 @@
+//! Directives as blocks (Markup Specification, 'Directives').
+ghost use Rattle.std.specs.Prelude.{◌≡◌, ℕ, ◌+◌, ◌-◌, ◌*◌, ◌^◌, ◌<◌, ◌≤◌, length, drop, IfOk, IfSome};
+ghost use Rattle.rst_text.specs.Block.{Block};
+ghost use Rattle.rst_text.specs.Shown.{block_of};
+ghost use Rattle.rst_markup.specs.Parts.{IsBlock, IsCall};
+ghost use Rattle.rst_block.specs.Steps as spec;
+
+use super::fault::BlockFault;
+use super::figure::OpenFigure;
+use super::level::Level;
+use super::paragraph::is_single_paragraph;
+use super::part::inside;
+use super::resume::Waits;
+use super::step::Step;
+use super::texts::{Pass, alone, appended, excerpt, filled, joined, number_at, source};
+use rst_directives::{
+    Argument, Content, Directive, DirectiveFault, Name, Place, Setting, called, directive,
+    message as fault_text,
+};
+use rst_elements::{
+    code_block, directive_element, figure, image, message, with_text, with_title_class,
+};
+use rst_markup::{Invocation, Part};
+use rst_text::View;
+use rst_tree::{Level as Gravity, Node, Tag};
+use std::alloc::Global;
+
+/// What a directive is, where `place` is where it stands.
+pub(crate) fn directive_at(
+    alloc: Global,
+    view: &View<'_>,
+    at: usize,
+    invocation: &Invocation,
+    place: Place,
+    pass: &mut Pass,
+) -> Result<Directive, BlockFault>
+    requires call { IsCall (block_of view.now) at invocation.now }
+    requires few { pass.old.looks < 2 ^ 119 + 2 ^ 111 }
+    ensures parts { IfOk result (spec.IsDirectiveIn (block_of view.now)) }
+    ensures looks { IfOk result (λ _. pass.new.looks ≤ pass.old.looks + 2 ^ 72) }
+{
+    let name = called(alloc, view, at, invocation, &mut pass.looks)?;
+    let paragraph = match name {
+        Some(Name::Replace) => is_single_paragraph(&inside(view, invocation.block), pass),
+        _ => false,
+    };
+    Ok(directive(
+        alloc,
+        view,
+        at,
+        invocation,
+        place,
+        paragraph,
+        &mut pass.looks,
+    )?)
+}
+
+/// A directive.
+pub(crate) fn directive_block(
+    alloc: Global,
+    view: &View<'_>,
+    level: Level,
+    invocation: &Invocation,
+    pass: &mut Pass,
+) -> Result<Step, BlockFault>
+    requires call { IsCall (block_of view.now) level.at invocation.now }
+    requires inside { level.at < length (block_of view.now) }
+    requires few { pass.old.looks < 2 ^ 119 + 2 ^ 110 }
+    ensures step { IfOk result (λ s. spec.IsStep (block_of view.now) level.at s) }
+    ensures looks { IfOk result (λ _. pass.new.looks ≤ pass.old.looks + 2 ^ 80) }
+{
+    let at = level.at;
+    let end = invocation.block.to;
+    let place = if level.titles() {
+        Place::Top
+    } else {
+        Place::Body
+    };
+    match directive_at(alloc, view, at, invocation, place, pass)? {
+        Directive::Wrong { fault, .. } => {
+            let name = excerpt(alloc, view.line(at, &mut pass.looks), invocation.name)?;
+            let error = wrong_directive(alloc, view, at, end, &fault, name.as_str(), pass)?;
+            Ok(Step::Next(level.past(end).with(error)?))
+        }
+        Directive::Found {
+            name,
+            argument,
+            options,
+            content,
+        } => {
+            let found = Found {
+                name,
+                argument,
+                options,
+                content,
+                end,
+            };
+            directive_nodes(alloc, view, level, found, pass)
+        }
+    }
+}
+
+/// A right directive, which ends at `end`.
+#[derive(Debug, Drop)]
+struct Found {
+    name: Name,
+    argument: Argument,
+    options: Vec<Setting>,
+    content: Content,
+    end: usize,
+}
+
+/// The message on a wrong directive, with its lines. `name` is the name that the message tells.
+pub(crate) fn wrong_directive(
+    alloc: Global,
+    view: &View<'_>,
+    at: usize,
+    end: usize,
+    fault: &DirectiveFault,
+    name: &str,
+    pass: &mut Pass,
+) -> Result<Node, BlockFault>
+    requires few { pass.old.looks < 2 ^ 120 }
+    ensures { pass.new.looks ≤ pass.old.looks + 2 ^ 64 }
+{
+    let text = fault_text(alloc, fault, name)?;
+    let lines = source(alloc, view, at, end, pass)?;
+    Ok(message(
+        alloc,
+        Gravity::Error,
+        number_at(view, at),
+        text.as_str(),
+        Some(lines.as_str()),
+    )?)
+}
+
+/// What a right directive leaves, or the block that is read for it.
+fn directive_nodes(
+    alloc: Global,
+    view: &View<'_>,
+    level: Level,
+    found: Found,
+    pass: &mut Pass,
+) -> Result<Step, BlockFault>
+    requires content { spec.IsContentIn (block_of view.now) found.content }
+    requires argument { spec.IsArgumentIn (block_of view.now) found.argument }
+    requires inside { level.at < length (block_of view.now) }
+    requires few { pass.old.looks < 2 ^ 119 + 2 ^ 110 }
+    ensures step { IfOk result (λ s. spec.IsStep (block_of view.now) level.at s) }
+    ensures looks { IfOk result (λ _. pass.new.looks ≤ pass.old.looks + 2 ^ 80) }
+{
+    let line = number_at(view, level.at);
+    let options = found.options.as_slice();
+    match (found.name, &found.argument) {
+        (Name::Image, Argument::Uri(uri)) => {
+            let node = image(alloc, uri.as_str(), options, line, false, None)?;
+            Ok(Step::Next(level.past(found.end).with(node)?))
+        }
+        (Name::Figure, Argument::Uri(uri)) => {
+            let shown = image(alloc, uri.as_str(), options, line, true, None)?;
+            let node = filled(figure(alloc, options, line)?, alone(alloc, shown)?)?;
+            figure_block(alloc, view, level, node, &found, pass)
+        }
+        (Name::Code, _) => code_nodes(alloc, view, level, &found, pass),
+        (Name::Admonition | Name::Topic, Argument::Title(title)) => {
+            let node = titled(alloc, view, &found, *title, line, pass)?;
+            Ok(opened(level, node, &found))
+        }
+        (name, _) => {
+            let node = directive_element(alloc, name, options, line)?;
+            Ok(opened(level, node, &found))
+        }
+    }
+}
+
+/// The level with the content of a directive opened, which stands in its element.
+fn opened(level: Level, element: Node, found: &Found) -> Step
+    requires { level.at < 2 ^ 64 - 1 }
+    ensures { (B : Block) → spec.IsContentIn B found.now.content → spec.IsStep B level.at result }
+{
+    Step::Open {
+        level: level.past(found.end),
+        waits: Waits::Element(element),
+        first: found.content.first,
+        second: Some(found.content.second),
+    }
+}
+
+/// The level with the content of a figure opened.
+fn figure_block(
+    alloc: Global,
+    view: &View<'_>,
+    level: Level,
+    node: Node,
+    found: &Found,
+    pass: &mut Pass,
+) -> Result<Step, BlockFault>
+    requires content { spec.IsContentIn (block_of view.now) found.now.content }
+    requires inside { level.at < length (block_of view.now) }
+    requires few { pass.old.looks < 2 ^ 119 + 2 ^ 110 }
+    ensures step { IfOk result (λ s. spec.IsStep (block_of view.now) level.at s) }
+    ensures looks { IfOk result (λ _. pass.new.looks ≤ pass.old.looks + 2 ^ 80) }
+{
+    let at = level.at;
+    let waits = Waits::Figure(OpenFigure {
+        figure: node,
+        line: number_at(view, at),
+        source: source(alloc, view, at, found.end, pass)?,
+    });
+    Ok(Step::Open {
+        level: level.past(found.end),
+        waits,
+        first: found.content.first,
+        second: Some(found.content.second),
+    })
+}
+
+/// Program code.
+fn code_nodes(
+    alloc: Global,
+    view: &View<'_>,
+    level: Level,
+    found: &Found,
+    pass: &mut Pass,
+) -> Result<Step, BlockFault>
+    requires content { spec.IsContentIn (block_of view.now) found.now.content }
+    requires inside { level.at < length (block_of view.now) }
+    requires few { pass.old.looks < 2 ^ 119 + 2 ^ 110 }
+    ensures step { IfOk result (λ s. spec.IsStep (block_of view.now) level.at s) }
+    ensures looks { IfOk result (λ _. pass.new.looks ≤ pass.old.looks + 2 ^ 80) }
+{
+    let line = number_at(view, level.at);
+    let text = joined(alloc, &inside(view, found.content.second), pass)?;
+    let language = match &found.argument {
+        Argument::Language(language) => Some(language.as_str()),
+        _ => None,
+    };
+    let node = code_block(
+        alloc,
+        language,
+        found.options.as_slice(),
+        text.as_str(),
+        line,
+    )?;
+    Ok(Step::Next(level.past(found.end).with(node)?))
+}
+
+/// An admonition or a topic with its title and the messages of that.
+fn titled(
+    alloc: Global,
+    view: &View<'_>,
+    found: &Found,
+    title: Part,
+    line: usize,
+    pass: &mut Pass,
+) -> Result<Node, BlockFault>
+    requires title { IsBlock (block_of view.now) title }
+    requires few { pass.old.looks < 2 ^ 120 }
+    ensures { pass.new.looks ≤ pass.old.looks + 2 ^ 64 }
+{
+    let lines = inside(view, title);
+    let title_line = if 0 < lines.len() {
+        lines.number(0)
+    } else {
+        line
+    };
+    let text = joined(alloc, &lines, pass)?;
+    let title = with_text(
+        alloc,
+        Tag::Title,
+        title_line,
+        text.as_str(),
+        title_line,
+        &mut pass.numbers,
+    )?;
+    let mut node = directive_element(alloc, found.name, found.options.as_slice(), line)?;
+    if matches!(found.name, Name::Admonition) {
+        node = with_title_class(alloc, node, &title.element)?;
+    }
+    filled(node, appended(alone(alloc, title.element)?, title.notes)?)
+}

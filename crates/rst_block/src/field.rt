@@ -1,0 +1,90 @@
+//! Fields (Markup Specification, 'Field Lists').
+ghost use Rattle.std.specs.Prelude.{◌≡◌, ◌+◌, ◌-◌, ◌*◌, ◌^◌, ◌<◌, ◌≤◌, length, drop, IfOk, IfSome};
+ghost use Rattle.rst_text.specs.Shown.{block_of};
+ghost use Rattle.rst_markup.specs.Parts.{IsBlock, IsCall};
+ghost use Rattle.rst_block.specs.Steps as spec;
+
+use super::fault::BlockFault;
+use super::level::Level;
+use super::part::hanging;
+use super::resume::Waits;
+use super::run::ListKind;
+use super::step::Step;
+use super::texts::{Pass, excerpt, number_at};
+use rst_elements::with_text;
+use rst_marks::FieldMark;
+use rst_text::View;
+use rst_tree::{Node, Tag};
+use std::alloc::Global;
+
+/// A field.
+pub(crate) fn field(
+    alloc: Global,
+    view: &View<'_>,
+    level: Level,
+    mark: FieldMark,
+    pass: &mut Pass,
+) -> Result<Step, BlockFault>
+    requires inside { level.at < length (block_of view.now) }
+    requires few { pass.old.looks < 2 ^ 119 + 2 ^ 110 }
+    ensures step { IfOk result (λ s. spec.IsStep (block_of view.now) level.at s) }
+    ensures looks { IfOk result (λ _. pass.new.looks ≤ pass.old.looks + 2 ^ 80) }
+{
+    let at = level.at;
+    let line = number_at(view, at);
+    let name = excerpt(alloc, view.line(at, &mut pass.looks), mark.name)?;
+    let name = with_text(
+        alloc,
+        Tag::FieldName,
+        line,
+        name.as_str(),
+        line,
+        &mut pass.numbers,
+    )?;
+    let body = hanging(view, at, mark.marker, &mut pass.looks);
+    let level = joined_list(
+        alloc,
+        view,
+        level,
+        ListKind::Field,
+        Tag::FieldList,
+        body.to,
+        pass,
+    )?;
+    let mut heads = Vec::new(alloc);
+    heads.push(name.element)?;
+    Ok(Step::Open {
+        level: level.past(body.to),
+        waits: Waits::ListedBody {
+            line,
+            item: Tag::Field,
+            body: Tag::FieldBody,
+            heads,
+            notes: name.notes,
+        },
+        first: body,
+        second: None,
+    })
+}
+
+/// The level with a list of this kind open: that before the next line, or a new one, whose element has this tag. The
+/// item that joins it ends at `end`.
+pub(crate) fn joined_list(
+    alloc: Global,
+    view: &View<'_>,
+    level: Level,
+    kind: ListKind,
+    tag: Tag,
+    end: usize,
+    pass: &mut Pass,
+) -> Result<Level, BlockFault>
+    ensures at { IfOk result (λ l. l.at ≡ level.at) }
+    ensures looks { pass.new.looks ≡ pass.old.looks }
+{
+    if level.run.list_kind() == Some(kind) {
+        return Ok(level.joined(kind, end));
+    }
+    let line = number_at(view, level.at);
+    let level = level.closed(alloc, view, pass)?;
+    Ok(level.begun(alloc, kind, Node::element(alloc, tag, line), end))
+}

@@ -1,0 +1,35 @@
+//! Blocks: the lines of a document, or of a part of it, as nodes and sections (Markup Specification, 'Syntax Details').
+#![tactic(auto)]
+
+mod adornment;
+mod begun;
+mod definition;
+mod directive;
+mod explicit;
+mod fault;
+mod field;
+mod figure;
+mod heading;
+mod level;
+mod line;
+mod list;
+mod machine;
+mod option;
+mod paragraph;
+mod parsing;
+mod part;
+mod quote;
+mod resume;
+mod run;
+mod section;
+mod step;
+mod substitution;
+mod table;
+mod text;
+mod texts;
+
+pub use fault::BlockFault;
+pub use parsing::{Parsed, parse};
+
+#[cfg(test)]
+mod tests;

@@ -1,0 +1,95 @@
+//! Lines of line blocks (Markup Specification, 'Line Blocks').
+ghost use Rattle.std.specs.Prelude.{◌≡◌, ◌+◌, ◌-◌, ◌*◌, ◌^◌, ◌<◌, ◌≤◌, length, drop, IfOk, IfSome};
+ghost use Rattle.rst_text.specs.Shown.{block_of};
+ghost use Rattle.rst_markup.specs.Parts.{IsBlock, IsCall};
+ghost use Rattle.rst_block.specs.Steps as spec;
+
+use super::fault::BlockFault;
+use super::level::Level;
+use super::part::{indented, inside};
+use super::run::Run;
+use super::step::Step;
+use super::texts::{Pass, joined, lines_between, number_at};
+use rst_elements::BarText;
+use rst_marks::Marker;
+use rst_markup::indented_end;
+use rst_text::{View, skip};
+use std::alloc::Global;
+
+/// A line of a line block. It joins the lines before it where no blank one stands between.
+pub(crate) fn bar_line(
+    alloc: Global,
+    view: &View<'_>,
+    level: Level,
+    marker: Marker,
+    pass: &mut Pass,
+) -> Result<Step, BlockFault>
+    requires inside { level.at < length (block_of view.now) }
+    requires few { pass.old.looks < 2 ^ 119 + 2 ^ 110 }
+    ensures step { IfOk result (λ s. spec.IsStep (block_of view.now) level.at s) }
+    ensures looks { IfOk result (λ _. pass.new.looks ≤ pass.old.looks + 2 ^ 80) }
+{
+    let at = level.at;
+    let end = indented_end(view, at, &mut pass.looks);
+    let text = bar_text(alloc, view, at, end, marker, pass)?;
+    let mut level = match &level.run {
+        Run::Lines { end, .. } if *end == at => level,
+        _ => {
+            let mut level = level.closed(alloc, view, pass)?;
+            level.run = Run::Lines {
+                lines: Vec::new(alloc),
+                end: at,
+            };
+            level
+        }
+    };
+    if let Run::Lines { lines, end: last } = &mut level.run {
+        lines.push(text)?;
+        *last = end;
+    }
+    Ok(Step::Next(level.past(end)))
+}
+
+/// The text behind a bar and in the indented lines below it. A bar that stands alone has no indentation of its own, and
+/// its text begins in the next line.
+fn bar_text(
+    alloc: Global,
+    view: &View<'_>,
+    at: usize,
+    end: usize,
+    marker: Marker,
+    pass: &mut Pass,
+) -> Result<BarText, BlockFault>
+    requires inside { at < length (block_of view.now) }
+    requires few { pass.old.looks < 2 ^ 119 + 2 ^ 112 }
+    ensures { IfOk result (λ _. pass.new.looks ≤ pass.old.looks + 2 ^ 66) }
+{
+    let line = number_at(view, at);
+    let below = lines_between(view, at + 1, end);
+    let below = inside(&below, indented(&below, 0, &mut pass.looks));
+    let further = joined(alloc, &below, pass)?;
+    if marker.bare {
+        let text_line = if 0 < below.len() {
+            below.number(0)
+        } else {
+            line
+        };
+        return Ok(BarText {
+            indent: None,
+            line,
+            text_line,
+            text: further,
+        });
+    }
+    let mut text = String::from_str(alloc, skip(view.line(at, &mut pass.looks), marker.cut))?;
+    if 0 < below.len() {
+        text.push('\n')?;
+        text.push_str(further.as_str())?;
+    }
+    Ok(BarText {
+        indent: Some(marker.cut.saturating_sub(2)),
+        line,
+        text_line: line,
+        text,
+    })
+}

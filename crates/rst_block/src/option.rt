@@ -1,0 +1,99 @@
+//! Items of option lists (Markup Specification, 'Option Lists').
+ghost use Rattle.std.specs.Prelude.{◌≡◌, ◌+◌, ◌-◌, ◌*◌, ◌^◌, ◌<◌, ◌≤◌, length, drop, IfOk, IfSome};
+ghost use Rattle.rst_text.specs.Shown.{block_of};
+ghost use Rattle.rst_markup.specs.Parts.{IsBlock, IsCall};
+ghost use Rattle.rst_block.specs.Steps as spec;
+
+use super::fault::BlockFault;
+use super::field::joined_list;
+use super::level::Level;
+use super::part::hanging;
+use super::resume::Waits;
+use super::run::ListKind;
+use super::step::Step;
+use super::texts::{Pass, excerpt, number_at};
+use rst_elements::option;
+use rst_marks::{ListedOption, Marker, listed_options};
+use rst_text::View;
+use rst_tree::{Children, Node, Tag};
+use std::alloc::Global;
+
+/// An item of an option list.
+pub(crate) fn option_item(
+    alloc: Global,
+    view: &View<'_>,
+    level: Level,
+    marker: Marker,
+    pass: &mut Pass,
+) -> Result<Step, BlockFault>
+    requires inside { level.at < length (block_of view.now) }
+    requires few { pass.old.looks < 2 ^ 119 + 2 ^ 110 }
+    ensures step { IfOk result (λ s. spec.IsStep (block_of view.now) level.at s) }
+    ensures looks { IfOk result (λ _. pass.new.looks ≤ pass.old.looks + 2 ^ 80) }
+{
+    let at = level.at;
+    let line = number_at(view, at);
+    let group = option_group(alloc, view.line(at, &mut pass.looks), line)?;
+    let body = hanging(view, at, marker, &mut pass.looks);
+    let level = joined_list(
+        alloc,
+        view,
+        level,
+        ListKind::OptionItem,
+        Tag::OptionList,
+        body.to,
+        pass,
+    )?;
+    let mut heads = Vec::new(alloc);
+    heads.push(group)?;
+    Ok(Step::Open {
+        level: level.past(body.to),
+        waits: Waits::ListedBody {
+            line,
+            item: Tag::OptionListItem,
+            body: Tag::Description,
+            heads,
+            notes: Vec::new(alloc),
+        },
+        first: body,
+        second: None,
+    })
+}
+
+/// The options at the front of a line.
+fn option_group(alloc: Global, text: &str, line: usize) -> Result<Node, BlockFault> {
+    let mut children = Children::new(alloc);
+    for listed in listed_options(alloc, text)? {
+        children.push(option_of(alloc, text, listed, line)?)?;
+    }
+    match Node::element(alloc, Tag::OptionGroup, line) {
+        Node::Element {
+            tag,
+            attrs,
+            line,
+            ..
+        } => Ok(Node::Element {
+            tag,
+            attrs,
+            children,
+            line,
+        }),
+        Node::Text(text) => Ok(Node::Text(text)),
+    }
+}
+
+/// An option of a line.
+fn option_of(
+    alloc: Global,
+    text: &str,
+    listed: ListedOption,
+    line: usize,
+) -> Result<Node, BlockFault> {
+    let string = excerpt(alloc, text, listed.string)?;
+    let Some(argument) = listed.argument else {
+        return Ok(option(alloc, string.as_str(), None, line)?);
+    };
+    let written = excerpt(alloc, text, argument.text)?;
+    let argument = Some((argument.delimiter, written.as_str()));
+    Ok(option(alloc, string.as_str(), argument, line)?)
+}

@@ -1,0 +1,248 @@
+//! Paragraphs, literal blocks and doctest blocks (Markup Specification, 'Paragraphs', 'Literal Blocks', 'Doctest
+//! Blocks').
+ghost use Rattle.std.specs.Prelude.{◌≡◌, ◌+◌, ◌-◌, ◌*◌, ◌^◌, ◌<◌, ◌≤◌, length, drop, IfOk, IfSome};
+ghost use Rattle.rst_text.specs.Shown.{block_of};
+ghost use Rattle.rst_markup.specs.Parts.{IsBlock, IsCall};
+ghost use Rattle.rst_block.specs.Steps as spec;
+
+use super::begun::{Begun, begun_at};
+use super::fault::BlockFault;
+use super::level::Level;
+use super::part::{indented, inside};
+use super::step::Step;
+use super::texts::{Pass, joined, number_at, source};
+use rst_elements::{message, preserved, with_text};
+use rst_marks::{begins_with, ends_in_colons, front, is_punctuation};
+use rst_markup::{
+    Adorned, LineTest, TextForm, adorned_at, below_text, lines_end, text_at, text_form,
+};
+use rst_text::{View, is_white};
+use rst_tree::{Level as Gravity, Tag};
+use std::alloc::{AllocError, Global};
+
+/// A doctest block: the lines up to a blank one.
+pub(crate) fn doctest_block(
+    alloc: Global,
+    view: &View<'_>,
+    level: Level,
+    pass: &mut Pass,
+) -> Result<Step, BlockFault>
+    requires inside { level.at < length (block_of view.now) }
+    requires few { pass.old.looks < 2 ^ 119 + 2 ^ 110 }
+    ensures step { IfOk result (λ s. spec.IsStep (block_of view.now) level.at s) }
+    ensures looks { IfOk result (λ _. pass.new.looks ≤ pass.old.looks + 2 ^ 80) }
+{
+    let level = level.closed(alloc, view, pass)?;
+    let at = level.at;
+    let end = lines_end(view, at, LineTest::Filled, &mut pass.looks);
+    let text = source(alloc, view, at, end, pass)?;
+    let node = preserved(alloc, Tag::DoctestBlock, number_at(view, at), text.as_str())?;
+    Ok(Step::Next(level.past(end).with(node)?))
+}
+
+/// The text of a paragraph that announces a literal block: without both colons and the white before them, where white or
+/// nothing stands before them, else without one.
+fn announcing(alloc: Global, text: &str) -> Result<String, AllocError> {
+    let before = text.strip_suffix("::").unwrap_or(text);
+    let bare = before.trim_end();
+    if bare.len() < before.len() || bare.is_empty() {
+        return String::from_str(alloc, bare);
+    }
+    let mut text = String::from_str(alloc, before)?;
+    text.push(':')?;
+    Ok(text)
+}
+
+/// A paragraph, with the literal block that it announces. Of the level the open run has ended.
+pub(crate) fn paragraph(
+    alloc: Global,
+    view: &View<'_>,
+    level: Level,
+    pass: &mut Pass,
+) -> Result<Step, BlockFault>
+    requires inside { level.at < length (block_of view.now) }
+    requires few { pass.old.looks < 2 ^ 119 + 2 ^ 110 }
+    ensures step { IfOk result (λ s. spec.IsStep (block_of view.now) level.at s) }
+    ensures looks { IfOk result (λ _. pass.new.looks ≤ pass.old.looks + 2 ^ 80) }
+{
+    let at = level.at;
+    let end = lines_end(view, at, LineTest::Plain, &mut pass.looks);
+    let text = source(alloc, view, at, end, pass)?;
+    if !ends_in_colons(text.as_str()) {
+        let level = with_paragraph(alloc, view, level, text.as_str(), end, pass)?;
+        return Ok(Step::Next(level.past(end)));
+    }
+    let shown = announcing(alloc, text.as_str())?;
+    let level = with_paragraph(alloc, view, level, shown.as_str(), end, pass)?;
+    literal(alloc, view, level, end, pass)
+}
+
+/// The level with a paragraph that ends at `end`, unless it is empty, and the message on an indented line behind it.
+fn with_paragraph(
+    alloc: Global,
+    view: &View<'_>,
+    mut level: Level,
+    text: &str,
+    end: usize,
+    pass: &mut Pass,
+) -> Result<Level, BlockFault>
+    requires few { pass.old.looks < 2 ^ 120 }
+    ensures at { IfOk result (λ l. l.at ≡ level.at) }
+    ensures looks { IfOk result (λ _. pass.new.looks ≤ pass.old.looks + 1) }
+{
+    if !text.is_empty() {
+        let line = number_at(view, level.at);
+        let made = with_text(alloc, Tag::Paragraph, line, text, line, &mut pass.numbers)?;
+        level = level.with(made.element)?.with_all(made.notes)?;
+    }
+    if end < view.len() && !view.line(end, &mut pass.looks).is_empty() {
+        let error = message(
+            alloc,
+            Gravity::Error,
+            number_at(view, end),
+            "Unexpected indentation.",
+            None,
+        )?;
+        return level.with(error);
+    }
+    Ok(level)
+}
+
+/// The literal block that a paragraph announces that ends at `end`.
+fn literal(
+    alloc: Global,
+    view: &View<'_>,
+    level: Level,
+    end: usize,
+    pass: &mut Pass,
+) -> Result<Step, BlockFault>
+    requires end { end ≤ length (block_of view.now) }
+    requires inside { level.at < length (block_of view.now) }
+    requires few { pass.old.looks < 2 ^ 119 + 2 ^ 110 }
+    ensures step { IfOk result (λ s. spec.IsStep (block_of view.now) level.at s) }
+    ensures looks { IfOk result (λ _. pass.new.looks ≤ pass.old.looks + 2 ^ 80) }
+{
+    let start = lines_end(view, end, LineTest::Blank, &mut pass.looks);
+    let text = text_at(view, start, &mut pass.looks);
+    if begins_with(' ', text) {
+        return indented_literal(alloc, view, level, start, pass);
+    }
+    match front(text) {
+        Some(quote) if is_punctuation(quote) => quoted_literal(
+            alloc, view, level, start, quote, pass,
+        ),
+        _ => {
+            let place = if start < view.len() {
+                start
+            } else {
+                end.saturating_sub(1)
+            };
+            let text = "Literal block expected; none found.";
+            let warning = message(alloc, Gravity::Warning, number_at(view, place), text, None)?;
+            Ok(Step::Next(level.past(end).with(warning)?))
+        }
+    }
+}
+
+/// An indented literal block.
+fn indented_literal(
+    alloc: Global,
+    view: &View<'_>,
+    level: Level,
+    start: usize,
+    pass: &mut Pass,
+) -> Result<Step, BlockFault>
+    requires start { start ≤ length (block_of view.now) }
+    requires inside { level.at < length (block_of view.now) }
+    requires few { pass.old.looks < 2 ^ 119 + 2 ^ 110 }
+    ensures step { IfOk result (λ s. spec.IsStep (block_of view.now) level.at s) }
+    ensures looks { IfOk result (λ _. pass.new.looks ≤ pass.old.looks + 2 ^ 80) }
+{
+    let lines = indented(view, start, &mut pass.looks);
+    let text = joined(alloc, &inside(view, lines), pass)?;
+    let node = preserved(
+        alloc,
+        Tag::LiteralBlock,
+        number_at(view, start),
+        text.as_str(),
+    )?;
+    let warning = "Literal block ends without a blank line; unexpected unindent.";
+    let level = level.past(lines.to).with(node)?;
+    Ok(Step::Next(level.warned(alloc, view, lines.to, warning, pass)?))
+}
+
+/// A quoted literal block: lines that begin with one punctuation character.
+fn quoted_literal(
+    alloc: Global,
+    view: &View<'_>,
+    level: Level,
+    start: usize,
+    quote: char,
+    pass: &mut Pass,
+) -> Result<Step, BlockFault>
+    requires start { start ≤ length (block_of view.now) }
+    requires inside { level.at < length (block_of view.now) }
+    requires few { pass.old.looks < 2 ^ 119 + 2 ^ 110 }
+    ensures step { IfOk result (λ s. spec.IsStep (block_of view.now) level.at s) }
+    ensures looks { IfOk result (λ _. pass.new.looks ≤ pass.old.looks + 2 ^ 80) }
+{
+    let end = lines_end(view, start, LineTest::Begins(quote), &mut pass.looks);
+    let text = source(alloc, view, start, end, pass)?;
+    let node = preserved(
+        alloc,
+        Tag::LiteralBlock,
+        number_at(view, start),
+        text.as_str(),
+    )?;
+    let level = level.past(end).with(node)?;
+    let next = text_at(view, end, &mut pass.looks);
+    if next.is_empty() {
+        return Ok(Step::Next(level));
+    }
+    let text = if begins_with(' ', next) {
+        "Unexpected indentation."
+    } else {
+        "Inconsistent literal block quoting."
+    };
+    let error = message(alloc, Gravity::Error, number_at(view, end), text, None)?;
+    Ok(Step::Next(level.with(error)?))
+}
+
+/// Whether the lines of a block in a block are one paragraph that doesn't vanish, and nothing else.
+pub(crate) fn is_single_paragraph(view: &View<'_>, pass: &mut Pass) -> bool
+    requires few { pass.old.looks < 2 ^ 119 + 2 ^ 112 }
+    ensures { pass.new.looks ≤ pass.old.looks + 2 ^ 66 }
+{
+    if view.len() == 0 || !begins_paragraph(view, pass) {
+        return false;
+    }
+    let end = lines_end(view, 0, LineTest::Plain, &mut pass.looks);
+    if end < view.len() {
+        return false;
+    }
+    // A paragraph vanishes where it is nothing but the two colons that announce a literal block.
+    1 < end || view.line(0, &mut pass.looks) != "::"
+}
+
+/// Whether the first line of a block in a block begins a paragraph.
+fn begins_paragraph(view: &View<'_>, pass: &mut Pass) -> bool
+    requires inside { 0 < length (block_of view.now) }
+    requires few { pass.old.looks < 2 ^ 119 + 2 ^ 112 }
+    ensures { pass.new.looks ≤ pass.old.looks + 2 ^ 64 }
+{
+    let text = view.line(0, &mut pass.looks);
+    let next = below_text(view, 0, 1, &mut pass.looks);
+    let is_text = match begun_at(view, 0, &mut pass.looks) {
+        Begun::Text => true,
+        Begun::Adornment(mark) => matches!(
+            adorned_at(view, 0, false, mark, next, &mut pass.looks),
+            Adorned::Text | Adorned::ShortAdornment
+        ),
+        _ => false,
+    };
+    is_text
+        && matches!(
+            text_form(text, next),
+            TextForm::Paragraph | TextForm::ShortUnderline
+        )
+}

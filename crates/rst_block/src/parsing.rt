@@ -1,0 +1,38 @@
+//! A document's tree.
+use super::fault::BlockFault;
+use super::machine::block;
+use super::section::document;
+use super::texts::Pass;
+use rst_elements::Numbers;
+use rst_marked::Marked;
+use rst_text::{Lines, Looks, View};
+use std::alloc::Global;
+
+/// What was read of a document.
+#[derive(Debug, Drop)]
+pub struct Parsed {
+    /// The tree, with the places of the elements that registration needs.
+    pub document: Marked,
+    /// How many numbers its messages and problematics have among them.
+    pub messages: u64,
+    /// How many looks at lines were taken.
+    pub looks: u128,
+}
+
+/// Reads a document (Markup Specification, 'Syntax Details').
+///
+/// It is refused with [`BlockFault::TooDeep`] where a block that isn't blank stands in more than 250 blocks: at the first such
+/// block; and with [`BlockFault::NoMemory`].
+pub fn parse(alloc: Global, lines: &Lines) -> Result<Parsed, BlockFault> {
+    let mut pass = Pass {
+        looks: Looks::none(),
+        numbers: Numbers::none(),
+    };
+    let level = block(alloc, &View::whole(lines), 0, &mut pass)?;
+    let root = document(alloc, level.nodes, level.headings)?;
+    Ok(Parsed {
+        document: Marked::of(alloc, root)?,
+        messages: pass.numbers.given(),
+        looks: pass.looks.count(),
+    })
+}

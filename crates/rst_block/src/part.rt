@@ -1,0 +1,62 @@
+//! Parts of a view that are blocks inside.
+ghost use Rattle.std.specs.Prelude.{◌≡◌, ◌+◌, ◌-◌, ◌*◌, ◌^◌, ◌<◌, ◌≤◌, length, drop, IfOk, IfSome};
+ghost use Rattle.rst_text.specs.Shown.{block_of};
+ghost use Rattle.rst_markup.specs.Parts.{IsBlock, IsCall};
+ghost use Rattle.rst_block.specs.Steps as spec;
+
+use rst_marks::Marker;
+use rst_markup::{Part, hanging_part, item_end};
+use rst_text::{Looks, View};
+
+/// The lines from place `from` on that are blank or indented, without their least indentation.
+pub(crate) fn indented(view: &View<'_>, from: usize, looks: &mut Looks) -> Part
+    requires inside { from ≤ length (block_of view.now) }
+    requires few { looks.old < 2 ^ 120 }
+    ensures block { IsBlock (block_of view.now) result }
+    ensures from { result.from ≡ from }
+    ensures looks { looks.new ≤ looks.old + 2 ^ 64 }
+{
+    let extent = view.block_end(from, None, looks);
+    Part {
+        from,
+        to: extent.end,
+        first_cut: extent.indent,
+        rest_cut: extent.indent,
+    }
+}
+
+/// What stands behind a marker, and the indented block below.
+pub(crate) fn hanging(view: &View<'_>, at: usize, marker: Marker, looks: &mut Looks) -> Part
+    requires inside { at < length (block_of view.now) }
+    requires few { looks.old < 2 ^ 120 }
+    ensures block { IsBlock (block_of view.now) result }
+    ensures looks { looks.new ≤ looks.old + 2 ^ 66 }
+{
+    hanging_part(view, at, marker.cut, marker.bare, looks)
+}
+
+/// The block of a list's item with this marker.
+pub(crate) fn item_part(view: &View<'_>, at: usize, marker: Marker, looks: &mut Looks) -> Part
+    requires inside { at < length (block_of view.now) }
+    requires few { looks.old < 2 ^ 120 }
+    ensures block { IsBlock (block_of view.now) result }
+    ensures looks { looks.new ≤ looks.old + 2 ^ 66 }
+{
+    if marker.bare {
+        return hanging(view, at, marker, looks);
+    }
+    Part {
+        from: at,
+        to: item_end(view, at, marker, looks),
+        first_cut: marker.cut,
+        rest_cut: marker.cut,
+    }
+}
+
+/// A part of a view as a view.
+pub(crate) fn inside<'a>(view: &View<'a>, part: Part) -> View<'a>
+    requires { IsBlock (block_of view.now) part }
+    ensures { length (block_of result) ≡ part.to - part.from }
+{
+    view.part(part.from, part.to, part.first_cut, part.rest_cut)
+}

@@ -1,0 +1,146 @@
+//! Block quotes with their attributions (Markup Specification, 'Block Quotes').
+ghost use Rattle.std.specs.Prelude.{◌≡◌, ◌+◌, ◌-◌, ◌*◌, ◌^◌, ◌<◌, ◌≤◌, length, drop, IfOk, IfSome};
+ghost use Rattle.rst_text.specs.Shown.{block_of};
+ghost use Rattle.rst_markup.specs.Parts.{IsBlock, IsCall};
+ghost use Rattle.rst_markup.specs.Attributions.{attribution_part};
+ghost use Rattle.rst_block.specs.Steps as spec;
+
+use super::fault::BlockFault;
+use super::level::Level;
+use super::part::{indented, inside};
+use super::resume::Waits;
+use super::step::Step;
+use super::texts::{Pass, joined, number_at};
+use rst_elements::{Texted, with_text};
+use rst_markup::{Attribution, LineTest, Part, attribution_at, lines_end};
+use rst_text::View;
+use rst_tree::Tag;
+use std::alloc::Global;
+
+/// A block quote.
+pub(crate) fn block_quote(
+    alloc: Global,
+    view: &View<'_>,
+    level: Level,
+    pass: &mut Pass,
+) -> Result<Step, BlockFault>
+    requires inside { level.at < length (block_of view.now) }
+    requires few { pass.old.looks < 2 ^ 119 + 2 ^ 110 }
+    ensures step { IfOk result (λ s. spec.IsStep (block_of view.now) level.at s) }
+    ensures looks { IfOk result (λ _. pass.new.looks ≤ pass.old.looks + 2 ^ 80) }
+{
+    let level = level.closed(alloc, view, pass)?;
+    let quote = indented(view, level.at, &mut pass.looks);
+    quote_part(alloc, view, level, quote, pass)
+}
+
+/// The lines of a block quote up to and with its first attribution, which ends it; what follows is another. The first
+/// line isn't blank.
+pub(crate) fn quote_part(
+    alloc: Global,
+    view: &View<'_>,
+    level: Level,
+    quote: Part,
+    pass: &mut Pass,
+) -> Result<Step, BlockFault>
+    requires block { IsBlock (block_of view.now) quote }
+    requires inside { level.at < length (block_of view.now) }
+    requires few { pass.old.looks < 2 ^ 119 + 2 ^ 110 }
+    ensures step { IfOk result (λ s. spec.IsStep (block_of view.now) level.at s) }
+    ensures looks { IfOk result (λ _. pass.new.looks ≤ pass.old.looks + 2 ^ 80) }
+{
+    let line = number_at(view, quote.from);
+    let lines = inside(view, quote);
+    match first_attribution(&lines, pass) {
+        None => Ok(Step::Open {
+            level: level.past(quote.to),
+            waits: Waits::Quote {
+                line,
+                attribution: None,
+                rest: None,
+                end: quote.to,
+            },
+            first: quote,
+            second: None,
+        }),
+        Some((place, found)) => {
+            let attribution = attribution_text(alloc, &lines, place, found, pass)?;
+            let next = lines_end(&lines, found.end, LineTest::Blank, &mut pass.looks);
+            Ok(Step::Open {
+                level: level.past(quote.from + next),
+                waits: Waits::Quote {
+                    line,
+                    attribution: Some(attribution),
+                    rest: rest_of(quote, next),
+                    end: quote.to,
+                },
+                first: Part {
+                    to: quote.from + place,
+                    ..quote
+                },
+                second: None,
+            })
+        }
+    }
+}
+
+/// What is left of a quote behind its first `next` lines, if there is something.
+fn rest_of(quote: Part, next: usize) -> Option<Part>
+    requires { quote.from + next ≤ quote.to }
+    ensures { result ≡ spec.rest_of quote next }
+{
+    if quote.from + next < quote.to {
+        return Some(Part {
+            from: quote.from + next,
+            first_cut: quote.rest_cut,
+            ..quote
+        });
+    }
+    None
+}
+
+/// The first attribution in a quote, with its place: behind a blank line.
+fn first_attribution(lines: &View<'_>, pass: &mut Pass) -> Option<(usize, Attribution)>
+    requires few { pass.old.looks < 2 ^ 119 + 2 ^ 111 }
+    ensures place { IfSome result (λ found. (0 < found.0) × (found.0 ≤ found.1.end)) }
+    ensures within { IfSome result (λ found. IsBlock (block_of lines.now) (attribution_part found.0 found.1)) }
+    ensures looks { pass.new.looks ≤ pass.old.looks + 2 ^ 68 }
+{
+    let mut end = lines_end(lines, 0, LineTest::Filled, &mut pass.looks);
+    while end < lines.len() {
+        let place = lines_end(lines, end + 1, LineTest::Blank, &mut pass.looks);
+        if place >= lines.len() {
+            break;
+        }
+        if let Some(found) = attribution_at(lines, place, &mut pass.looks) {
+            return Some((place, found));
+        }
+        end = lines_end(lines, place + 1, LineTest::Filled, &mut pass.looks);
+    }
+    None
+}
+
+/// The element of an attribution, with its messages.
+fn attribution_text(
+    alloc: Global,
+    lines: &View<'_>,
+    place: usize,
+    found: Attribution,
+    pass: &mut Pass,
+) -> Result<Texted, BlockFault>
+    requires inside { IsBlock (block_of lines.now) (attribution_part place found) }
+    requires few { pass.old.looks < 2 ^ 120 }
+    ensures { pass.new.looks ≤ pass.old.looks + 2 ^ 64 }
+{
+    let line = lines.number(place);
+    let text = lines.part(place, found.end, found.marker, found.indent);
+    let text = joined(alloc, &text, pass)?;
+    Ok(with_text(
+        alloc,
+        Tag::Attribution,
+        line,
+        text.as_str(),
+        line,
+        &mut pass.numbers,
+    )?)
+}

@@ -1,0 +1,163 @@
+//! Constructs that join with those before them: items of one list, lines of one line block, explicit markup.
+ghost use Rattle.std.specs.Prelude.{◌≡◌, ◌+◌, ◌-◌, ◌*◌, ◌^◌, ◌<◌, ◌≤◌, length, drop, IfOk, IfSome};
+ghost use Rattle.rst_text.specs.Shown.{block_of};
+ghost use Rattle.rst_markup.specs.Parts.{IsBlock, IsCall};
+ghost use Rattle.rst_block.specs.Steps as spec;
+
+use super::fault::BlockFault;
+use super::texts::{Pass, alone, appended, filled};
+use rst_elements::{BarText, LineBlockFault, line_block};
+use rst_marks::{Enumerator, Format, Ordinals, Sequence, is_same_format, ordinal_in};
+use rst_tree::Node;
+use std::alloc::Global;
+
+/// How many blocks a block may stand in.
+pub(crate) const DEEPEST: usize = 250;
+
+/// What an item must be to join an enumerated list.
+#[derive(Clone, Copy, Debug, PartialEq, Eq)]
+pub(crate) struct Sequel {
+    pub format: Format,
+    pub sequence: Sequence,
+    /// The ordinal after that of the last item.
+    pub next: u64,
+    /// Whether the last item's enumerator is `#`: then only `#` goes on.
+    pub auto: bool,
+}
+
+/// What makes items those of one list.
+#[derive(Clone, Copy, Debug, PartialEq, Eq)]
+pub(crate) enum ListKind {
+    Bullet(char),
+    Enumerated(Sequel),
+    Definition,
+    Field,
+    OptionItem,
+}
+
+/// A list that more items may join.
+#[derive(Debug, Drop)]
+pub(crate) struct OpenList {
+    pub kind: ListKind,
+    /// The place after the last item.
+    pub end: usize,
+    /// Messages that stand before the list.
+    pub before: Vec<Node>,
+    /// The list without its items.
+    pub list: Node,
+    pub items: Vec<Node>,
+    /// Messages that stand after the list.
+    pub behind: Vec<Node>,
+}
+
+/// Neighbouring constructs that may go on.
+#[derive(Debug, Drop)]
+pub(crate) enum Run {
+    None,
+    List(OpenList),
+    Lines { lines: Vec<BarText>, end: usize },
+    Explicit { end: usize },
+}
+
+impl ListKind {
+    /// What is said where no blank line follows the list.
+    fn ending(self) -> &'static str {
+        match self {
+            ListKind::Bullet(_) => "Bullet list ends without a blank line; unexpected unindent.",
+            ListKind::Enumerated(_) =>
+                "Enumerated list ends without a blank line; unexpected unindent.",
+            ListKind::Definition =>
+                "Definition list ends without a blank line; unexpected unindent.",
+            ListKind::Field => "Field list ends without a blank line; unexpected unindent.",
+            ListKind::OptionItem => "Option list ends without a blank line; unexpected unindent.",
+        }
+    }
+}
+
+impl Sequel {
+    /// What must follow an enumerator that joins the list, or none where it doesn't.
+    pub fn after(self, enumerator: Enumerator) -> Option<Sequel> {
+        if !is_same_format(self.format, enumerator.format) {
+            return None;
+        }
+        let ordinals = enumerator.written.ordinals;
+        let auto = matches!(ordinals, Ordinals::Auto);
+        if auto || (!self.auto && ordinal_in(self.sequence, ordinals) == Some(self.next)) {
+            return Some(Sequel {
+                next: self.next.saturating_add(1),
+                auto,
+                ..self
+            });
+        }
+        None
+    }
+}
+
+impl Run {
+    /// The place after the run, and what is said where no blank line follows it.
+    pub fn ending(&self) -> Option<(usize, &'static str)> {
+        match self {
+            Run::None => None,
+            Run::List(list) => Some((list.end, list.kind.ending())),
+            Run::Lines { end, .. } => Some((*end, "Line block ends without a blank line.")),
+            Run::Explicit { end } => Some((
+                *end,
+                "Explicit markup ends without a blank line; unexpected unindent.",
+            )),
+        }
+    }
+
+    /// The kind of the list that is open, if one is.
+    pub fn list_kind(&self) -> Option<ListKind> {
+        match self {
+            Run::List(list) => Some(list.kind),
+            _ => None,
+        }
+    }
+
+    /// The nodes of the run, in a block of this depth.
+    pub fn nodes(
+        self,
+        alloc: Global,
+        depth: usize,
+        pass: &mut Pass,
+    ) -> Result<Vec<Node>, BlockFault>
+        ensures { pass.new.looks ≡ pass.old.looks }
+    {
+        match self {
+            Run::None | Run::Explicit { .. } => Ok(Vec::new(alloc)),
+            Run::List(open) => list_nodes(open),
+            Run::Lines { lines, .. } => lines_nodes(alloc, lines, depth, pass),
+        }
+    }
+}
+
+/// A list between its messages.
+fn list_nodes(open: OpenList) -> Result<Vec<Node>, BlockFault> {
+    let OpenList {
+        before,
+        list,
+        items,
+        behind,
+        ..
+    } = open;
+    let mut nodes = before;
+    nodes.push(filled(list, items)?)?;
+    appended(nodes, behind)
+}
+
+/// A line block and the messages of its texts.
+fn lines_nodes(
+    alloc: Global,
+    lines: Vec<BarText>,
+    depth: usize,
+    pass: &mut Pass,
+) -> Result<Vec<Node>, BlockFault>
+    ensures { pass.new.looks ≡ pass.old.looks }
+{
+    match line_block(alloc, lines, depth, DEEPEST, &mut pass.numbers) {
+        Ok(block) => appended(alone(alloc, block.element)?, block.notes),
+        Err(LineBlockFault::TooDeep { line }) => Err(BlockFault::TooDeep { line }),
+        Err(LineBlockFault::NoMemory) => Err(BlockFault::NoMemory),
+    }
+}

@@ -1,0 +1,85 @@
+//! One step: the construct at the next line of a block.
+ghost use Rattle.std.specs.Prelude.{◌≡◌, ◌+◌, ◌-◌, ◌*◌, ◌^◌, ◌<◌, ◌≤◌, length, drop, IfOk, IfSome};
+ghost use Rattle.rst_text.specs.Shown.{block_of};
+ghost use Rattle.rst_markup.specs.Parts.{IsBlock, IsCall};
+ghost use Rattle.rst_block.specs.Steps as spec;
+
+use super::adornment::adornment;
+use super::begun::{Begun, begun_at};
+use super::explicit::explicit_markup;
+use super::fault::BlockFault;
+use super::field::field;
+use super::level::Level;
+use super::line::bar_line;
+use super::list::{bullet_item, enumerated_item};
+use super::option::option_item;
+use super::paragraph::doctest_block;
+use super::quote::block_quote;
+use super::resume::Waits;
+use super::table::table;
+use super::text::text_line;
+use super::texts::Pass;
+use rst_markup::Part;
+use rst_tables::{TableResult, grid, simple};
+use rst_text::View;
+use std::alloc::Global;
+
+/// What a step leads to.
+#[derive(Debug, Drop)]
+pub(crate) enum Step {
+    /// The block goes on.
+    Next(Level),
+    /// A block inside is read first: these two parts of the view, one after the other.
+    Open {
+        level: Level,
+        waits: Waits,
+        first: Part,
+        second: Option<Part>,
+    },
+    /// The cells of a table are read first.
+    Cells {
+        level: Level,
+        table: TableResult,
+    },
+    /// The block is read.
+    Done(Level),
+}
+
+/// Reads the construct at the next line.
+pub(crate) fn step_at(
+    alloc: Global,
+    view: &View<'_>,
+    level: Level,
+    pass: &mut Pass,
+) -> Result<Step, BlockFault>
+    requires inside { level.at < length (block_of view.now) }
+    requires few { pass.old.looks < 2 ^ 119 + 2 ^ 110 }
+    ensures step { IfOk result (λ s. spec.IsStep (block_of view.now) level.at s) }
+    ensures looks { IfOk result (λ _. pass.new.looks ≤ pass.old.looks + 2 ^ 80) }
+{
+    let at = level.at;
+    if at >= view.len() {
+        return Ok(Step::Done(level.closed(alloc, view, pass)?));
+    }
+    match begun_at(view, at, &mut pass.looks) {
+        Begun::Blank => Ok(Step::Next(level.past(at + 1))),
+        Begun::Quote => block_quote(alloc, view, level, pass),
+        Begun::Bullet { mark, marker } => bullet_item(alloc, view, level, mark, marker, pass),
+        Begun::Enumerator(enumerator) => enumerated_item(alloc, view, level, enumerator, pass),
+        Begun::Field(mark) => field(alloc, view, level, mark, pass),
+        Begun::OptionItem(marker) => option_item(alloc, view, level, marker, pass),
+        Begun::Doctest => doctest_block(alloc, view, level, pass),
+        Begun::Line(marker) => bar_line(alloc, view, level, marker, pass),
+        Begun::Grid => {
+            let found = grid(alloc, view, at, &mut pass.looks)?;
+            table(alloc, view, level, found, pass)
+        }
+        Begun::Simple => {
+            let found = simple(alloc, view, at, &mut pass.looks)?;
+            table(alloc, view, level, found, pass)
+        }
+        Begun::Explicit => explicit_markup(alloc, view, level, pass),
+        Begun::Adornment(mark) => adornment(alloc, view, level, mark, pass),
+        Begun::Text => text_line(alloc, view, level, Vec::new(alloc), pass),
+    }
+}

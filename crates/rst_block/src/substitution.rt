@@ -1,0 +1,225 @@
+//! Substitution definitions (Markup Specification, 'Substitution Definitions').
+ghost use Rattle.std.specs.Prelude.{◌≡◌, ◌+◌, ◌-◌, ◌*◌, ◌^◌, ◌<◌, ◌≤◌, length, drop, IfOk, IfSome};
+ghost use Rattle.rst_text.specs.Shown.{block_of};
+ghost use Rattle.rst_markup.specs.Parts.{IsBlock, IsCall};
+ghost use Rattle.rst_block.specs.Steps as spec;
+
+use super::directive::{directive_at, wrong_directive};
+use super::fault::BlockFault;
+use super::level::Level;
+use super::resume::Waits;
+use super::step::Step;
+use super::texts::{Pass, alone, excerpt, filled, number_at, source};
+use rst_directives::{Argument, Content, Directive, DirectiveFault, Place, Setting};
+use rst_elements::{
+    image, may_replace, message, substitution_definition as definition, substitution_name,
+};
+use rst_markup::Invocation;
+use rst_text::View;
+use rst_tree::{Children, Level as Gravity, Node, Tag};
+use std::alloc::Global;
+
+/// A substitution definition whose replacement text is read.
+#[derive(Debug, Drop)]
+pub(crate) struct OpenReplacement {
+    /// The name, white runs being one space.
+    pub name: String,
+    /// The number of its first line.
+    pub line: usize,
+    /// Its lines.
+    pub source: String,
+}
+
+/// A substitution definition that ends at `end`. `written` is its name as it stands between the bars, `held` the directive
+/// that it holds.
+pub(crate) fn substitution_definition(
+    alloc: Global,
+    view: &View<'_>,
+    level: Level,
+    written: &str,
+    held: Option<Invocation>,
+    end: usize,
+    pass: &mut Pass,
+) -> Result<Step, BlockFault>
+    requires call { IfSome held (IsCall (block_of view.now) level.at) }
+    requires inside { level.at < length (block_of view.now) }
+    requires few { pass.old.looks < 2 ^ 119 + 2 ^ 110 }
+    ensures step { IfOk result (λ s. spec.IsStep (block_of view.now) level.at s) }
+    ensures looks { IfOk result (λ _. pass.new.looks ≤ pass.old.looks + 2 ^ 80) }
+{
+    let name = substitution_name(alloc, written)?;
+    let Some(invocation) = held else {
+        let text = about(alloc, name.as_str(), " empty or invalid.")?;
+        let lines = source(alloc, view, level.at, end, pass)?;
+        let line = number_at(view, level.at);
+        let warning = message(
+            alloc,
+            Gravity::Warning,
+            line,
+            text.as_str(),
+            Some(lines.as_str()),
+        )?;
+        return Ok(Step::Next(level.past(end).with(warning)?));
+    };
+    holding(alloc, view, level, name, &invocation, end, pass)
+}
+
+/// A text on a substitution definition.
+fn about(alloc: Global, name: &str, what: &str) -> Result<String, BlockFault> {
+    let mut text = String::from_str(alloc, "Substitution definition \"")?;
+    text.push_str(name)?;
+    text.push_str("\"")?;
+    text.push_str(what)?;
+    Ok(text)
+}
+
+/// A substitution definition that holds a directive.
+fn holding(
+    alloc: Global,
+    view: &View<'_>,
+    level: Level,
+    name: String,
+    invocation: &Invocation,
+    end: usize,
+    pass: &mut Pass,
+) -> Result<Step, BlockFault>
+    requires call { IsCall (block_of view.now) level.at invocation.now }
+    requires inside { level.at < length (block_of view.now) }
+    requires few { pass.old.looks < 2 ^ 119 + 2 ^ 110 }
+    ensures step { IfOk result (λ s. spec.IsStep (block_of view.now) level.at s) }
+    ensures looks { IfOk result (λ _. pass.new.looks ≤ pass.old.looks + 2 ^ 80) }
+{
+    let at = level.at;
+    let line = number_at(view, at);
+    match directive_at(alloc, view, at, invocation, Place::Substitution, pass)? {
+        Directive::Wrong { fault, .. } => {
+            let error = wrong_definition(
+                alloc,
+                view,
+                at,
+                end,
+                &fault,
+                name.as_str(),
+                invocation,
+                pass,
+            )?;
+            Ok(Step::Next(level.past(end).with(error)?))
+        }
+        Directive::Found {
+            argument,
+            options,
+            content,
+            ..
+        } => match argument {
+            Argument::Uri(uri) => {
+                let shown = image_named(alloc, uri.as_str(), &options, name.as_str(), line)?;
+                Ok(Step::Next(level.past(end).with(shown)?))
+            }
+            _ => replacement(alloc, view, level, name, content, end, pass),
+        },
+    }
+}
+
+/// A substitution definition that holds an image, which it names unless the image has a text of its own.
+fn image_named(
+    alloc: Global,
+    uri: &str,
+    options: &Vec<Setting>,
+    name: &str,
+    line: usize,
+) -> Result<Node, BlockFault> {
+    let shown = image(alloc, uri, options.as_slice(), line, false, Some(name))?;
+    filled(definition(alloc, name, line)?, alone(alloc, shown)?)
+}
+
+/// The level with a replacement text opened.
+fn replacement(
+    alloc: Global,
+    view: &View<'_>,
+    level: Level,
+    name: String,
+    content: Content,
+    end: usize,
+    pass: &mut Pass,
+) -> Result<Step, BlockFault>
+    requires content { spec.IsContentIn (block_of view.now) content }
+    requires inside { level.at < length (block_of view.now) }
+    requires few { pass.old.looks < 2 ^ 119 + 2 ^ 110 }
+    ensures step { IfOk result (λ s. spec.IsStep (block_of view.now) level.at s) }
+    ensures looks { IfOk result (λ _. pass.new.looks ≤ pass.old.looks + 2 ^ 80) }
+{
+    let at = level.at;
+    let waits = Waits::Replacement(OpenReplacement {
+        name,
+        line: number_at(view, at),
+        source: source(alloc, view, at, end, pass)?,
+    });
+    Ok(Step::Open {
+        level: level.past(end),
+        waits,
+        first: content.first,
+        second: Some(content.second),
+    })
+}
+
+/// The message on a substitution definition that holds a wrong directive. One that may not stand here is told by the
+/// definition's name, else the directive's name is told.
+fn wrong_definition(
+    alloc: Global,
+    view: &View<'_>,
+    at: usize,
+    end: usize,
+    fault: &DirectiveFault,
+    name: &str,
+    invocation: &Invocation,
+    pass: &mut Pass,
+) -> Result<Node, BlockFault>
+    requires inside { at < length (block_of view.now) }
+    requires few { pass.old.looks < 2 ^ 119 + 2 ^ 111 }
+    ensures { pass.new.looks ≤ pass.old.looks + 2 ^ 65 }
+{
+    if matches!(fault, DirectiveFault::NotInSubstitution) {
+        return wrong_directive(alloc, view, at, end, fault, name, pass);
+    }
+    let written = excerpt(alloc, view.line(at, &mut pass.looks), invocation.name)?;
+    wrong_directive(alloc, view, at, end, fault, written.as_str(), pass)
+}
+
+/// A substitution definition with its replacement text, or the message on one that may not stand there.
+pub(crate) fn finished_replacement(
+    alloc: Global,
+    open: OpenReplacement,
+    nodes: Vec<Node>,
+) -> Result<Node, BlockFault> {
+    let OpenReplacement { name, line, source } = open;
+    let children = first_paragraph(alloc, nodes);
+    if !may_replace(children.as_slice()) {
+        let text = about(alloc, name.as_str(), " contains an illegal element.")?;
+        return Ok(message(
+            alloc,
+            Gravity::Error,
+            line,
+            text.as_str(),
+            Some(source.as_str()),
+        )?);
+    }
+    filled(
+        definition(alloc, name.as_str(), line)?,
+        children.into_list(),
+    )
+}
+
+/// The nodes of the first paragraph.
+fn first_paragraph(alloc: Global, nodes: Vec<Node>) -> Children {
+    for node in nodes {
+        if let Node::Element {
+            tag: Tag::Paragraph,
+            children,
+            ..
+        } = node
+        {
+            return children;
+        }
+    }
+    Children::new(alloc)
+}

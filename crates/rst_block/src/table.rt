@@ -1,0 +1,112 @@
+//! Tables (Markup Specification, 'Tables').
+ghost use Rattle.std.specs.Prelude.{◌≡◌, ◌+◌, ◌-◌, ◌*◌, ◌^◌, ◌<◌, ◌≤◌, length, drop, IfOk, IfSome};
+ghost use Rattle.rst_text.specs.Shown.{block_of};
+ghost use Rattle.rst_markup.specs.Parts.{IsBlock, IsCall};
+ghost use Rattle.rst_block.specs.Steps as spec;
+
+use super::fault::BlockFault;
+use super::level::Level;
+use super::step::Step;
+use super::texts::{Pass, alone, filled, number_at, source};
+use rst_elements::{entry, message, tgroup};
+use rst_tables::{Cell, TableFault, TableResult, malformed_text};
+use rst_text::View;
+use rst_tree::{Level as Gravity, Node, Tag};
+use std::alloc::Global;
+
+/// A table, or the message on one that is malformed.
+pub(crate) fn table(
+    alloc: Global,
+    view: &View<'_>,
+    level: Level,
+    found: TableResult,
+    pass: &mut Pass,
+) -> Result<Step, BlockFault>
+    requires inside { level.at < length (block_of view.now) }
+    requires few { pass.old.looks < 2 ^ 119 + 2 ^ 110 }
+    ensures step { IfOk result (λ s. spec.IsStep (block_of view.now) level.at s) }
+    ensures looks { IfOk result (λ _. pass.new.looks ≤ pass.old.looks + 2 ^ 80) }
+{
+    let level = level.closed(alloc, view, pass)?;
+    match found {
+        TableResult::Malformed { end, note } => {
+            let error = malformed(alloc, view, level.at, end, note, pass)?;
+            let level = level.past(end).with(error)?;
+            Ok(Step::Next(after_table(alloc, view, level, pass)?))
+        }
+        found => Ok(Step::Cells {
+            level,
+            table: found,
+        }),
+    }
+}
+
+/// The message on a malformed table, with its lines.
+fn malformed(
+    alloc: Global,
+    view: &View<'_>,
+    at: usize,
+    end: usize,
+    fault: TableFault,
+    pass: &mut Pass,
+) -> Result<Node, BlockFault>
+    requires few { pass.old.looks < 2 ^ 120 }
+    ensures { pass.new.looks ≤ pass.old.looks + 2 ^ 64 }
+{
+    let text = malformed_text(alloc, fault.detail)?;
+    let lines = source(alloc, view, at, end, pass)?;
+    Ok(message(
+        alloc,
+        Gravity::Error,
+        number_at(view, at),
+        text.as_str(),
+        Some(lines.as_str()),
+    )?)
+}
+
+/// The level behind a table, with the message on one that isn't followed by a blank line.
+pub(crate) fn after_table(
+    alloc: Global,
+    view: &View<'_>,
+    level: Level,
+    pass: &mut Pass,
+) -> Result<Level, BlockFault>
+    requires few { pass.old.looks < 2 ^ 120 }
+    ensures at { IfOk result (λ l. l.at ≡ level.at) }
+    ensures looks { pass.new.looks ≤ pass.old.looks + 1 }
+{
+    let end = level.at;
+    level.warned(alloc, view, end, "Blank line required after table.", pass)
+}
+
+/// A table of its rows' entries, of which the first rows, as many as `head`, are its head.
+pub(crate) fn table_of(
+    alloc: Global,
+    line: usize,
+    widths: &[usize],
+    head: usize,
+    rows: Vec<Node>,
+) -> Result<Node, BlockFault> {
+    let mut heads = Vec::new(alloc);
+    let mut bodies = Vec::new(alloc);
+    for row in rows {
+        if heads.len() < head {
+            heads.push(row)?;
+        } else {
+            bodies.push(row)?;
+        }
+    }
+    let mut group = tgroup(alloc, widths, line)?;
+    if 0 < head {
+        let head = filled(Node::element(alloc, Tag::Thead, 0), heads)?;
+        group = filled(group, alone(alloc, head)?)?;
+    }
+    let body = filled(Node::element(alloc, Tag::Tbody, 0), bodies)?;
+    let group = filled(group, alone(alloc, body)?)?;
+    filled(Node::element(alloc, Tag::Table, line), alone(alloc, group)?)
+}
+
+/// The entry of a cell with its nodes.
+pub(crate) fn entry_of(alloc: Global, cell: &Cell, nodes: Vec<Node>) -> Result<Node, BlockFault> {
+    filled(entry(alloc, cell.morerows, cell.morecols, 0)?, nodes)
+}

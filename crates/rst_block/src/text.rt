@@ -1,0 +1,121 @@
+//! Lines of text: titles, items of definition lists and paragraphs.
+ghost use Rattle.std.specs.Prelude.{◌≡◌, ◌+◌, ◌-◌, ◌*◌, ◌^◌, ◌<◌, ◌≤◌, length, drop, IfOk, IfSome};
+ghost use Rattle.rst_text.specs.Shown.{block_of};
+ghost use Rattle.rst_markup.specs.Parts.{IsBlock, IsCall};
+ghost use Rattle.rst_block.specs.Steps as spec;
+
+use super::definition::definition;
+use super::fault::BlockFault;
+use super::heading::{Heading, Style, with_heading};
+use super::level::Level;
+use super::paragraph::paragraph;
+use super::step::Step;
+use super::texts::{Pass, number_at, source};
+use rst_elements::message;
+use rst_marks::front;
+use rst_markup::{TextForm, below_text, text_at, text_form};
+use rst_text::View;
+use rst_tree::{Level as Gravity, Node};
+use std::alloc::Global;
+
+/// A line of text, behind messages that say why it is one.
+pub(crate) fn text_line(
+    alloc: Global,
+    view: &View<'_>,
+    level: Level,
+    infos: Vec<Node>,
+    pass: &mut Pass,
+) -> Result<Step, BlockFault>
+    requires inside { level.at < length (block_of view.now) }
+    requires few { pass.old.looks < 2 ^ 119 + 2 ^ 110 }
+    ensures step { IfOk result (λ s. spec.IsStep (block_of view.now) level.at s) }
+    ensures looks { IfOk result (λ _. pass.new.looks ≤ pass.old.looks + 2 ^ 80) }
+{
+    let at = level.at;
+    let text = view.line(at, &mut pass.looks);
+    let next = below_text(view, at, 1, &mut pass.looks);
+    match text_form(text, next) {
+        TextForm::Definition => definition(alloc, view, level, infos, pass),
+        TextForm::Paragraph => {
+            let level = level.closed(alloc, view, pass)?.with_all(infos)?;
+            paragraph(alloc, view, level, pass)
+        }
+        TextForm::ShortUnderline => {
+            let level = level.closed(alloc, view, pass)?.with_all(infos)?;
+            let level = short_underline(alloc, view, level)?;
+            paragraph(alloc, view, level, pass)
+        }
+        TextForm::Title { short } => {
+            let level = level.closed(alloc, view, pass)?.with_all(infos)?;
+            underlined(alloc, view, level, short, pass)
+        }
+    }
+}
+
+/// The level with the message on a possible underline, where titles may stand.
+fn short_underline(alloc: Global, view: &View<'_>, level: Level) -> Result<Level, BlockFault>
+    ensures { IfOk result (λ l. l.at ≡ level.at) }
+{
+    if !level.titles() {
+        return Ok(level);
+    }
+    let text =
+        "Possible title underline, too short for the title.\nTreating it as ordinary text because it's so short.";
+    let info = message(
+        alloc,
+        Gravity::Info,
+        number_at(view, level.at.saturating_add(1)),
+        text,
+        None,
+    )?;
+    level.with(info)
+}
+
+/// A title over its underline, or the messages on one where none may stand.
+fn underlined(
+    alloc: Global,
+    view: &View<'_>,
+    level: Level,
+    short: bool,
+    pass: &mut Pass,
+) -> Result<Step, BlockFault>
+    requires inside { level.at < length (block_of view.now) }
+    requires few { pass.old.looks < 2 ^ 119 + 2 ^ 110 }
+    ensures step { IfOk result (λ s. spec.IsStep (block_of view.now) level.at s) }
+    ensures looks { IfOk result (λ _. pass.new.looks ≤ pass.old.looks + 2 ^ 80) }
+{
+    let at = level.at;
+    let end = at.saturating_add(2);
+    let lines = source(alloc, view, at, end, pass)?;
+    let under = number_at(view, at.saturating_add(1));
+    let warning = if short {
+        let text = "Title underline too short.";
+        Some(message(alloc, Gravity::Warning, under, text, Some(lines.as_str()))?)
+    } else {
+        None
+    };
+    if level.titles() {
+        let style = Style {
+            character: front(text_at(view, at.saturating_add(1), &mut pass.looks)).unwrap_or(' '),
+            overlined: false,
+        };
+        let text = view.line(at, &mut pass.looks);
+        let heading = Heading::of(
+            alloc,
+            style,
+            text,
+            number_at(view, at),
+            warning,
+            lines,
+            pass,
+        )?;
+        return Ok(Step::Next(with_heading(level.past(end), heading)?));
+    }
+    let level = match warning {
+        Some(warning) => level.with(warning)?,
+        None => level,
+    };
+    let text = "Unexpected section title.";
+    let severe = message(alloc, Gravity::Severe, under, text, Some(lines.as_str()))?;
+    Ok(Step::Next(level.past(end).with(severe)?))
+}

@@ -1,0 +1,125 @@
+//! Texts of lines, and what a pass over a document counts.
+ghost use Rattle.std.specs.Prelude.{◌≡◌, ◌+◌, ◌-◌, ◌*◌, ◌^◌, ◌<◌, ◌≤◌, length, drop, IfOk, IfSome};
+ghost use Rattle.rst_text.specs.Block.{first_number};
+ghost use Rattle.rst_text.specs.Shown.{block_of};
+ghost use Rattle.rst_markup.specs.Parts.{IsBlock, IsCall};
+ghost use Rattle.rst_block.specs.Steps as spec;
+
+use super::fault::BlockFault;
+use rst_elements::{Numbers, message};
+use rst_marks::Characters;
+use rst_text::{Looks, View, skip};
+use rst_tree::{Level, Node};
+use std::alloc::{AllocError, Global};
+
+/// What is counted while a document is read: looks at lines, and messages that have problematics.
+#[derive(Debug, Drop)]
+pub(crate) struct Pass {
+    pub looks: Looks,
+    pub numbers: Numbers,
+}
+
+/// Some characters of a text.
+pub(crate) fn excerpt(alloc: Global, text: &str, place: Characters) -> Result<String, AllocError> {
+    let mut part = String::new(alloc);
+    for c in skip(text, place.from)
+        .chars()
+        .take(place.to.saturating_sub(place.from))
+    {
+        part.push(c)?;
+    }
+    Ok(part)
+}
+
+/// The lines of a view, joined by line feeds.
+pub(crate) fn joined(alloc: Global, view: &View<'_>, pass: &mut Pass) -> Result<String, BlockFault>
+    requires few { pass.old.looks < 2 ^ 120 }
+    ensures { pass.new.looks ≤ pass.old.looks + 2 ^ 64 }
+{
+    let mut text = String::new(alloc);
+    for i in 0..view.len() {
+        if 0 < i {
+            text.push('\n')?;
+        }
+        text.push_str(view.line(i, &mut pass.looks))?;
+    }
+    Ok(text)
+}
+
+/// The lines of a view from place `from` up to place `to`, those that there are, joined by line feeds.
+pub(crate) fn source(
+    alloc: Global,
+    view: &View<'_>,
+    from: usize,
+    to: usize,
+    pass: &mut Pass,
+) -> Result<String, BlockFault>
+    requires few { pass.old.looks < 2 ^ 120 }
+    ensures { pass.new.looks ≤ pass.old.looks + 2 ^ 64 }
+{
+    joined(alloc, &lines_between(view, from, to), pass)
+}
+
+/// The lines of a view from place `from` up to place `to`, those that there are.
+pub(crate) fn lines_between<'a>(view: &View<'a>, from: usize, to: usize) -> View<'a>
+    ensures { length (block_of result) ≤ to - from }
+{
+    let to = to.min(view.len());
+    let from = from.min(to);
+    view.part(from, to, 0, 0)
+}
+
+/// The number of the line at a place; 0 where there is none.
+pub(crate) fn number_at(view: &View<'_>, place: usize) -> usize
+    ensures { result ≡ first_number (drop place (block_of view.now)) }
+{
+    if place < view.len() {
+        view.number(place)
+    } else {
+        0
+    }
+}
+
+/// The message on a construct that isn't followed by a blank line.
+pub(crate) fn unindent(alloc: Global, line: usize, text: &str) -> Result<Node, BlockFault> {
+    let node = message(alloc, Level::Warning, line, text, None)?;
+    Ok(node)
+}
+
+/// One node in a list of its own.
+pub(crate) fn alone(alloc: Global, node: Node) -> Result<Vec<Node>, BlockFault> {
+    let mut nodes = Vec::new(alloc);
+    nodes.push(node)?;
+    Ok(nodes)
+}
+
+/// Nodes, and then more.
+pub(crate) fn appended(mut nodes: Vec<Node>, more: Vec<Node>) -> Result<Vec<Node>, BlockFault> {
+    for node in more {
+        nodes.push(node)?;
+    }
+    Ok(nodes)
+}
+
+/// An element with more nodes in it; a text stays as it is.
+pub(crate) fn filled(element: Node, more: Vec<Node>) -> Result<Node, BlockFault> {
+    match element {
+        Node::Element {
+            tag,
+            attrs,
+            mut children,
+            line,
+        } => {
+            for node in more {
+                children.push(node)?;
+            }
+            Ok(Node::Element {
+                tag,
+                attrs,
+                children,
+                line,
+            })
+        }
+        Node::Text(text) => Ok(Node::Text(text)),
+    }
+}

@@ -1,0 +1,4 @@
+pub mod TextLemmas
+pub mod MessageLemmas
+pub mod ReadLemmas
+pub mod TermLemmas

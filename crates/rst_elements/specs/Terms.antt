@@ -1,0 +1,60 @@
+-- Parts of terms (Markup Specification, 'Definition Lists').
+use Rattle.std.specs.Prelude.{ℕ, zero, suc, Bool, true, false, ◌&&◌, ◌==◌, not, List, [], ◌∷◌, ◌++◌, take, map, if◌then◌else◌, encode_utf8_all}
+use Rattle.rst_text.specs.Characters.{is_white}
+use Rattle.rst_pieces.specs.Escapes.{escapes}
+use Rattle.rst_elements.specs.declared.terms.Letter.{Letter}
+
+-- a character, and whether it was escaped
+abbrev pub letter_of : ℕ → Bool → Letter
+letter_of c escaped = record { character = c; escaped = escaped }
+
+-- the characters that are left when escapes are gone
+abbrev pub letters_from : Bool → List ℕ → List Letter
+letters_from escaped [] = []
+letters_from escaped (c ∷ cs) =
+    if escapes c escaped then letters_from true cs
+    else if escaped && is_white c then letters_from false cs
+    else letter_of c escaped ∷ letters_from false cs
+
+abbrev pub is_bare : Letter → ℕ → Bool
+is_bare l c = l.character == c && not l.escaped
+
+-- how many letters stand before the spaces at the end
+abbrev pub dark_onto : Letter → ℕ → ℕ
+dark_onto l zero = if is_bare l 32 then 0 else 1
+dark_onto l (suc n) = suc (suc n)
+
+abbrev pub dark_len : List Letter → ℕ
+dark_len [] = 0
+dark_len (l ∷ ls) = dark_onto l (dark_len ls)
+
+abbrev pub ends_behind : Letter → List Letter → Bool
+ends_behind l [] = is_bare l 32
+ends_behind l (m ∷ ls) = ends_behind m ls
+
+abbrev pub ends_in_space : List Letter → Bool
+ends_in_space [] = false
+ends_in_space (l ∷ ls) = ends_behind l ls
+
+abbrev pub begins_with_space : List Letter → Bool
+begins_with_space [] = false
+begins_with_space (l ∷ ls) = is_bare l 32
+
+-- a colon with a space on both sides
+abbrev pub is_delimiter : List Letter → Letter → List Letter → Bool
+is_delimiter before l behind = is_bare l 58 && (ends_in_space before && begins_with_space behind)
+
+-- The letters cut at delimiters, with the spaces round them. `part` stands in front; the spaces at the front are skipped.
+abbrev pub cut : Bool → List Letter → List Letter → List (List Letter)
+cut skipping part [] = part ∷ []
+cut skipping part (l ∷ ls) =
+    if skipping && is_bare l 32 then cut true part ls
+    else if is_delimiter part l ls then take (dark_len part) part ∷ cut true [] ls
+    else cut false (part ++ l ∷ []) ls
+
+abbrev pub spelled : List Letter → List ℕ
+spelled ls = encode_utf8_all (map (λ l. l.character) ls)
+
+-- the texts of the parts
+abbrev pub parts_of : List Letter → List (List ℕ)
+parts_of ls = map spelled (cut false [] ls)

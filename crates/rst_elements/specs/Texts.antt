@@ -1,0 +1,62 @@
+-- Elements that hold a text with inline markup, and messages.
+use Rattle.std.specs.Prelude.{ℕ, ◌+◌, ◌-◌, ◌^◌, min, List, [], ◌∷◌, Option, Some, None}
+use Rattle.rst_tree.specs.Attributes.{attr, with_attr, value_of}
+use Rattle.rst_tree.specs.Messages.{note_node}
+use Rattle.rst_tree.specs.Nodes.{forest_of}
+use Rattle.rst_tree.specs.Tree.{text_in}
+use Rattle.rst_tree.specs.declared.attrs.Attr.{Attr}
+use Rattle.rst_tree.specs.declared.attrs.Value.{Value}
+use Rattle.rst_tree.specs.declared.attrs.Value.TheVariants.{Text as Said, Number}
+use Rattle.rst_tree.specs.declared.key.Key.TheVariants.{Message, OwnName, TextMessages}
+use Rattle.rst_tree.specs.declared.node.Node.{Node}
+use Rattle.rst_tree.specs.declared.node.Node.TheVariants.{Element, Text as Words}
+use Rattle.rst_tree.specs.declared.note.Level.{Level}
+use Rattle.rst_tree.specs.declared.note.Note.{Note}
+use Rattle.rst_tree.specs.declared.tag.Tag.TheVariants.{Section}
+use Rattle.rst_elements.specs.Elements.{element_of}
+use Rattle.rst_elements.specs.Values.{name_in}
+
+-- a message
+abbrev pub message_node : Level → ℕ → List ℕ → Option (List ℕ) → Node
+message_node level line text block = note_node (record { level = level; line = line; text = text; block = block })
+
+-- numbers are counted up to the largest that there is
+abbrev pub counted_on : ℕ → ℕ → ℕ
+counted_on first n = min (first + n) (2 ^ 64 - 1)
+
+-- the attribute that says how many messages of its text an element has
+abbrev pub counting : ℕ → List Attr
+counting notes = attr TextMessages (Number notes) ∷ []
+
+-- the element with the number of a message; a text stays as it is
+abbrev pub with_message : ℕ → Node → Node
+with_message number (Element t a c l) = Element t (with_attr Message (Number number) a) c l
+with_message number (Words t) = Words t
+
+-- the number of a message that an element is of
+abbrev pub number_in : Option Value → Option ℕ
+number_in (Some (Number n)) = Some n
+number_in _ = None
+
+abbrev pub message_of : Node → Option ℕ
+message_of (Element t a c l) = number_in (value_of Message a)
+message_of (Words t) = None
+
+abbrev pub numbered_by : ℕ → Option ℕ → Node → Node
+numbered_by first (Some n) node = with_message (counted_on first n) node
+numbered_by first None node = node
+
+-- a node, whose message's number is counted on from the first
+abbrev pub numbered_on : ℕ → Node → Node
+numbered_on first node = numbered_by first (message_of node) node
+
+-- the messages as nodes, numbered from the first on
+abbrev pub messages_from : ℕ → List Note → List Node
+messages_from first [] = []
+messages_from first (note ∷ notes) = with_message first (note_node note) ∷ messages_from (counted_on first 1) notes
+
+-- ---- sections
+
+abbrev pub section_node : Node → ℕ → ℕ → Node
+section_node title notes line =
+    element_of Section (attr OwnName (Said (name_in (text_in title))) ∷ attr TextMessages (Number notes) ∷ []) (title ∷ []) line

@@ -1,0 +1,45 @@
+//! The numbers by which messages of texts and their problematics know each other.
+ghost use Rattle.std.specs.Prelude.{◌≡◌, ◌+◌, ◌-◌, ◌^◌, min};
+
+use std::marker::Model;
+
+/// How many messages of texts a document has been given so far: they are numbered from 0. Contracts see it as a number.
+#[derive(Debug, Drop)]
+pub struct Numbers {
+    given: u64,
+}
+
+impl Model for Numbers {
+    ghost use Rattle.std.specs.Prelude.{ℕ};
+
+    ghost Value = { ℕ };
+
+    ghost view = { λ n. n.given };
+}
+
+impl Numbers {
+    /// No message was given yet.
+    pub fn none() -> Numbers
+        ensures { result ≡ 0 }
+    {
+        Numbers { given: 0 }
+    }
+
+    /// How many messages were given.
+    pub fn given(&self) -> u64
+        ensures { result ≡ self.now }
+    {
+        self.given
+    }
+
+    /// Gives `n` messages more their numbers, of which this is the first. The sum can't pass the largest `u64`: each message
+    /// takes memory.
+    pub(crate) fn take(&mut self, n: usize) -> u64
+        ensures first { result ≡ self.old }
+        ensures given { self.new ≡ min (self.old + n) (2 ^ 64 - 1) }
+    {
+        let first = self.given;
+        self.given = first.saturating_add(n as u64);
+        first
+    }
+}

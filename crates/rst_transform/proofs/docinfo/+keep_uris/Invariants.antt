@@ -1,0 +1,5 @@
+use Rattle.rst_tree.specs.Nodes.{node_height}
+use Rattle.rst_transform.proofs.docinfo.+keep_uris.Given as goal
+
+abbrev pub decreases-keep_uris : goal.decreases-keep_uris
+decreases-keep_uris l = node_height l.node.now

@@ -1,0 +1,3 @@
+pub mod LinkKinds
+pub mod Links
+pub mod Reading

@@ -1,0 +1,41 @@
+-- What the changes of linked elements, taken in turn, make of the elements of a tree.
+use Rattle.std.specs.Prelude.{ℕ, List, [], ◌∷◌, drop, if◌then◌else◌, Option, Some, None}
+use Rattle.rst_tree.specs.declared.attrs.Attr.{Attr}
+use Rattle.rst_tree.specs.declared.node.Node.{Node}
+use Rattle.rst_tree.specs.declared.node.Node.TheVariants.{Element, Text}
+use Rattle.rst_tree.specs.declared.rewriting.Rewrite.{Rewrite}
+use Rattle.rst_tree.specs.declared.rewriting.Rewrite.TheVariants.{Keep, Replace}
+use Rattle.rst_tree.specs.declared.tag.Tag.{Tag}
+use Rattle.rst_tree.specs.Forest.{bare, words}
+use Rattle.rst_tree.specs.Nodes.{forest_of}
+use Rattle.rst_tree.specs.Rewritten.{kept, rewritten}
+use Rattle.rst_transform.specs.declared.links.Addition.{Addition}
+use Rattle.rst_transform.specs.declared.links.Change.{Change}
+use Rattle.rst_transform.specs.declared.links.Change.TheVariants.{Stays, Becomes}
+use Rattle.rst_transform.specs.LinkKinds.{is_linked, with_more}
+
+-- an element that stays, or shows a text in place of what stood in it
+abbrev pub shown_as : Option (List ℕ) → Tag → List Attr → ℕ → Rewrite
+shown_as None t a l = Keep t a l
+shown_as (Some text) t a l = Replace (forest_of (Element t a (words text bare) l ∷ []))
+
+-- what the first change makes of an element
+abbrev pub changed_by : List Change → Tag → List Attr → ℕ → Rewrite
+changed_by [] t a l = Keep t a l
+changed_by (Stays x ∷ more) t a l = shown_as x.shown t (with_more x.attr a) l
+changed_by (Becomes n ∷ more) t a l = Replace (forest_of (n ∷ []))
+
+-- what becomes of an element
+abbrev pub change_of : List Change → Node → Rewrite
+change_of s (Element t a c l) = if is_linked t then changed_by s t a l else Keep t a l
+change_of s (Text t) = kept (Text t)
+
+-- the changes that are left behind an element
+abbrev pub change_next : List Change → Node → List Change
+change_next s (Element t a c l) = if is_linked t then drop 1 s else s
+change_next s (Text t) = s
+
+-- the tree of a root, changed
+abbrev pub changed_root : List Change → Node → Node
+changed_root s (Element t a c l) = Element t a (rewritten change_next change_of (λ s n. s) (λ s n. forest_of (n ∷ [])) s c).0 l
+changed_root s (Text t) = Text t

@@ -1,0 +1,43 @@
+-- What the attributes of an element say.
+use Rattle.std.specs.Prelude.{ℕ, List, [], ◌∷◌, Option, Some, None}
+use Rattle.rst_tree.specs.declared.attrs.Value.{Value}
+use Rattle.rst_tree.specs.declared.attrs.Value.TheVariants.{Text, Number, List as Listed}
+use Rattle.rst_tree.specs.declared.key.Key.{Key}
+use Rattle.rst_tree.specs.declared.node.Node.{Node}
+use Rattle.rst_tree.specs.declared.node.Node.TheVariants.{Element, Text as Words}
+use Rattle.rst_tree.specs.Paths.{node_value}
+
+-- the text that a value is
+abbrev pub text_in : Option Value → Option (List ℕ)
+text_in None = None
+text_in (Some (Text text)) = Some text
+text_in (Some (Number number)) = None
+text_in (Some (Listed texts)) = None
+
+-- the number that a value is
+abbrev pub number_in : Option Value → Option ℕ
+number_in None = None
+number_in (Some (Text text)) = None
+number_in (Some (Number number)) = Some number
+number_in (Some (Listed texts)) = None
+
+-- the members of the list that a value is, or none
+abbrev pub members_in : Option Value → List (List ℕ)
+members_in None = []
+members_in (Some (Text text)) = []
+members_in (Some (Number number)) = []
+members_in (Some (Listed texts)) = texts
+
+abbrev pub text_said : Key → Node → Option (List ℕ)
+text_said k n = text_in (node_value k n)
+
+abbrev pub number_said : Key → Node → Option ℕ
+number_said k n = number_in (node_value k n)
+
+abbrev pub list_said : Key → Node → List (List ℕ)
+list_said k n = members_in (node_value k n)
+
+-- the number of an element's first line, 0 for a text
+abbrev pub line_of : Node → ℕ
+line_of (Element t a c l) = l
+line_of (Words t) = 0

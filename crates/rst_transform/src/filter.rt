@@ -1,0 +1,137 @@
+//! What of a document is shown.
+use crate::lists::number;
+use crate::messages::{level_number, reaches};
+use rst_settings::Threshold;
+use rst_tree::{Attrs, Children, Key, Node, Tag, Text, TreeFault};
+use std::alloc::Global;
+use std::collections::BTreeSet;
+
+/// Takes the messages below the report level out of a document, lets each problematic whose message is gone become its text, and
+/// takes off the attributes that serve the transforms alone (Configuration, `report_level`).
+///
+/// Before, where WARNINGs aren't shown:
+///
+///     <paragraph>
+///         <problematic message="0">
+///             *
+///         a
+///     <system_message level="2" message="0">
+///
+/// After:
+///
+///     <paragraph>
+///         *
+///         a
+pub(crate) fn filter(alloc: Global, root: Node, report: Threshold) -> Result<Node, TreeFault> {
+    let mut shown = BTreeSet::new(alloc);
+    find_shown(&root, report, &mut shown)?;
+    match root {
+        Node::Element {
+            tag,
+            mut attrs,
+            children,
+            line,
+        } => {
+            attrs.remove_hidden();
+            Ok(Node::Element {
+                tag,
+                attrs,
+                children: filtered(alloc, children, report, &shown)?,
+                line,
+            })
+        }
+        Node::Text(text) => Ok(Node::Text(text)),
+    }
+}
+
+/// Gathers the numbers of the messages that are at or above the report level.
+fn find_shown(node: &Node, report: Threshold, shown: &mut BTreeSet<u64>) -> Result<(), TreeFault> {
+    if let Node::Element {
+        tag,
+        attrs,
+        children,
+        ..
+    } = node
+    {
+        if matches!(tag, Tag::SystemMessage) && reaches(level_number(attrs), report) {
+            if let Some(message) = number(attrs, Key::Message) {
+                shown.insert(message)?;
+            }
+        }
+        for child in children.as_slice() {
+            find_shown(child, report, shown)?;
+        }
+    }
+    Ok(())
+}
+
+/// What becomes of an element.
+#[derive(Clone, Copy, Debug, PartialEq, Eq)]
+enum Fate {
+    Stays,
+    BecomesText,
+    Vanishes,
+}
+
+/// What becomes of an element of a kind with these attributes.
+fn fate_of(tag: Tag, attrs: &Attrs, report: Threshold, shown: &BTreeSet<u64>) -> Fate {
+    match tag {
+        Tag::SystemMessage if !reaches(level_number(attrs), report) => Fate::Vanishes,
+        Tag::Problematic => match number(attrs, Key::Message) {
+            Some(message) if shown.contains(&message) => Fate::Stays,
+            _ => Fate::BecomesText,
+        },
+        _ => Fate::Stays,
+    }
+}
+
+/// Nodes without what isn't shown.
+fn filtered(
+    alloc: Global,
+    nodes: Children,
+    report: Threshold,
+    shown: &BTreeSet<u64>,
+) -> Result<Children, TreeFault> {
+    let mut done = Vec::new(alloc);
+    for node in nodes.into_list() {
+        match node {
+            Node::Text(text) => {
+                done.push(Node::Text(text))?;
+                continue;
+            }
+            Node::Element {
+                tag,
+                mut attrs,
+                children,
+                line,
+            } => match fate_of(tag, &attrs, report, shown) {
+                Fate::Vanishes => continue,
+                Fate::BecomesText => {
+                    done.push(Node::Text(text_in(alloc, &children)?))?;
+                    continue;
+                }
+                Fate::Stays => {
+                    attrs.remove_hidden();
+                    let children = filtered(alloc, children, report, shown)?;
+                    done.push(Node::Element {
+                        tag,
+                        attrs,
+                        children,
+                        line,
+                    })?;
+                    continue;
+                }
+            },
+        }
+    }
+    Ok(Children::of(done))
+}
+
+/// The texts in nodes, joined.
+fn text_in(alloc: Global, nodes: &Children) -> Result<Text, TreeFault> {
+    let mut text = Text::from_str(alloc, "")?;
+    for node in nodes.as_slice() {
+        text.push_str(node.text_of(alloc)?.as_str())?;
+    }
+    Ok(text)
+}

@@ -1,0 +1,86 @@
+//! All transforms, in order.
+use crate::anonymous::anonymous;
+use crate::docinfo::docinfo;
+use crate::expand::expand;
+use crate::fault::TransformFault;
+use crate::filter::filter;
+use crate::footnotes::footnotes;
+use crate::indirect::indirect;
+use crate::last_section::last_section;
+use crate::messages::Messages;
+use crate::resolve::resolve;
+use crate::targets::targets;
+use crate::title::title;
+use crate::transitions::transitions;
+use crate::work::Work;
+use rst_marked::Marked;
+use rst_names::{Registered, register};
+use rst_settings::Settings;
+use rst_tree::{Note, Tree, TreeFault};
+use std::alloc::Global;
+
+/// A document as it is printed, and the messages of the run.
+#[derive(Debug, Drop)]
+pub struct Finished {
+    /// The document, without what isn't shown, and without `source`.
+    pub tree: Tree,
+    /// The messages in order, up to the first that halts the run.
+    pub notes: Vec<Note>,
+    /// The number of the highest level among these, 0 where there are none.
+    pub highest: u8,
+}
+
+/// Finishes a parsed document, in which `messages` numbers were given to messages: names and ids, then all transforms, the last
+/// section, and the messages below the report level taken out (Document Tree, 'Introduction').
+pub fn finish(
+    alloc: Global,
+    document: Marked,
+    messages: u64,
+    settings: &Settings,
+) -> Result<Finished, TransformFault> {
+    let Registered {
+        root,
+        ids,
+        names,
+        serials,
+    } = register(alloc, document)?;
+    let mut list = Messages::new(alloc, settings.halt);
+    list.read(alloc, &root)?;
+    let work = Work {
+        root,
+        ids,
+        names,
+        reports: Vec::new(alloc),
+        first_number: messages,
+        serials,
+    };
+    let work = transformed(alloc, work, settings)?;
+    let Work { root, reports, .. } = last_section(alloc, work, settings.report)?;
+    list.add_reports(reports)?;
+    let (notes, highest) = list.end();
+    match Tree::of(filter(alloc, root, settings.report)?) {
+        Ok(tree) => Ok(Finished {
+            tree,
+            notes,
+            highest,
+        }),
+        Err(_) => Err(TransformFault::NoTree),
+    }
+}
+
+/// A document after all transforms.
+fn transformed(alloc: Global, work: Work, settings: &Settings) -> Result<Work, TreeFault> {
+    let work = expand(alloc, work)?;
+    let mut work = targets(alloc, work)?;
+    if settings.title {
+        work = title(alloc, work)?;
+    }
+    if settings.info {
+        work = docinfo(alloc, work)?;
+    }
+    let work = anonymous(alloc, work)?;
+    let work = indirect(alloc, work)?;
+    let work = footnotes(alloc, work)?;
+    let work = resolve(alloc, work)?;
+    transitions(alloc, work)
+}

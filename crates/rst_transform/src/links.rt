@@ -1,0 +1,377 @@
+//! The elements that references join, and what the transforms of references make of them.
+ghost use Rattle.std.specs.Prelude.{◌≡◌, ◌∷◌, []};
+ghost use Rattle.rst_tree.specs.declared.node.Node.TheVariants.{Element};
+ghost use Rattle.rst_tree.specs.Faults.{Gives};
+ghost use Rattle.rst_tree.specs.Forest.{bare, words};
+ghost use Rattle.rst_tree.specs.Nodes.{forest_of};
+ghost use Rattle.rst_transform.specs.LinkKinds.{is_linked, with_more};
+ghost use Rattle.rst_transform.specs.Links.{changed_root};
+
+use crate::reading::{line_of, text_said};
+use crate::work::Work;
+use rst_tree::{
+    Attr, Attrs, Children, Key, Node, Rewrite, Rewriter, Tag, Text, TreeFault, rewrite_in,
+};
+use std::alloc::Global;
+use std::collections::VecDeque;
+use std::marker::Model;
+use std::mem;
+
+/// An element at one of the two ends of a link.
+#[derive(Clone, Copy)]
+pub(crate) struct Linked<'a> {
+    pub element: &'a Node,
+    /// The place, in the list of all, of the innermost of these elements that it stands in.
+    pub outer: Option<usize>,
+}
+
+/// What an element that stays has more in the end.
+#[derive(Debug, Drop)]
+pub(crate) struct Addition {
+    /// This attribute, if there is one.
+    pub attr: Option<Attr>,
+    /// This text in place of what stood in it, if there is one. What gets one, a label or a reference to a footnote, holds
+    /// no linked element.
+    pub shown: Option<Text>,
+}
+
+impl Addition {
+    /// Nothing.
+    fn none() -> Addition {
+        Addition {
+            attr: None,
+            shown: None,
+        }
+    }
+}
+
+/// What becomes of a linked element.
+#[derive(Debug, Drop)]
+pub(crate) enum Outcome {
+    /// It stays.
+    Stays(Addition),
+    /// It becomes a problematic of the message at this place among the reports.
+    Fails(usize),
+}
+
+impl Outcome {
+    /// It stays as it is.
+    pub(crate) fn same() -> Outcome {
+        Outcome::Stays(Addition::none())
+    }
+
+    /// It stays, and says this.
+    pub(crate) fn says(attr: Attr) -> Outcome {
+        Outcome::Stays(Addition {
+            attr: Some(attr),
+            shown: None,
+        })
+    }
+}
+
+/// What becomes of a linked element that is still met in the end.
+#[derive(Debug, Drop)]
+pub(crate) enum Change {
+    /// It stays.
+    Stays(Addition),
+    /// It becomes this node.
+    Becomes(Node),
+}
+
+/// Whether elements of this kind refer to others, or are what others refer to; a label stands for its footnote.
+fn is_linked(tag: Tag) -> bool
+    ensures { result ≡ is_linked tag }
+{
+    matches!(
+        tag,
+        Tag::Citation
+            | Tag::CitationReference
+            | Tag::Footnote
+            | Tag::FootnoteReference
+            | Tag::Label
+            | Tag::Reference
+            | Tag::Target
+    )
+}
+
+/// The root of a document, taken out until it is put back.
+pub(crate) fn take_root(alloc: Global, work: &mut Work) -> Node {
+    mem::replace(&mut work.root, Node::element(alloc, Tag::Document, 0))
+}
+
+/// The linked elements of a tree, in preorder.
+pub(crate) fn linked_in<'a>(alloc: Global, root: &'a Node) -> Result<Vec<Linked<'a>>, TreeFault> {
+    let mut list = Vec::new(alloc);
+    add_linked(root, None, &mut list)?;
+    Ok(list)
+}
+
+/// Adds the linked elements of a node that stands in the one at the place `outer`.
+fn add_linked<'a>(
+    node: &'a Node,
+    outer: Option<usize>,
+    list: &mut Vec<Linked<'a>>,
+) -> Result<(), TreeFault> {
+    if let Node::Element { tag, children, .. } = node {
+        let mut inner = outer;
+        if is_linked(*tag) {
+            inner = Some(list.len());
+            list.push(Linked {
+                element: node,
+                outer,
+            })?;
+        }
+        for child in children.as_slice() {
+            add_linked(child, inner, list)?;
+        }
+    }
+    Ok(())
+}
+
+/// For each element the first report for which one that it stands in becomes a problematic.
+fn first_around(
+    alloc: Global,
+    linked: &[Linked<'_>],
+    outcomes: &[Outcome],
+) -> Result<Vec<Option<usize>>, TreeFault> {
+    let mut around: Vec<Option<usize>> = Vec::new(alloc);
+    for element in linked {
+        let first = match element.outer {
+            Some(outer) => match (around.get(outer), outcomes.get(outer)) {
+                (Some(first), Some(outcome)) => earlier(*first, outcome),
+                _ => None,
+            },
+            None => None,
+        };
+        around.push(first)?;
+    }
+    Ok(around)
+}
+
+/// The earlier of a report and that of an outcome, where there are such.
+fn earlier(first: Option<usize>, outcome: &Outcome) -> Option<usize> {
+    match (first, outcome) {
+        (Some(first), Outcome::Fails(report)) => Some(first.min(*report)),
+        (None, Outcome::Fails(report)) => Some(*report),
+        (first, Outcome::Stays(_)) => first,
+    }
+}
+
+/// Whether an element still stands when the turn of a report comes: one inside another is gone once that one became a
+/// problematic.
+fn still_stands(report: usize, around: Option<usize>) -> bool {
+    match around {
+        Some(first) => report < first,
+        None => true,
+    }
+}
+
+/// The places of the elements that become problematics, report by report, under each in preorder.
+fn turns(
+    alloc: Global,
+    reports: usize,
+    outcomes: &[Outcome],
+    around: &[Option<usize>],
+) -> Result<Vec<Vec<usize>>, TreeFault> {
+    let mut turns = Vec::new(alloc);
+    for _ in 0..reports {
+        turns.push(Vec::new(alloc))?;
+    }
+    for (place, (outcome, first)) in outcomes.iter().zip(around).enumerate() {
+        if let Outcome::Fails(report) = outcome {
+            if *report < turns.len() && still_stands(*report, *first) {
+                turns[*report].push(place)?;
+            }
+        }
+    }
+    Ok(turns)
+}
+
+/// The problematic of each element that becomes one at its turn.
+fn problematics(
+    alloc: Global,
+    work: &mut Work,
+    linked: &[Linked<'_>],
+    turns: &[Vec<usize>],
+) -> Result<Vec<Option<Node>>, TreeFault> {
+    let mut made: Vec<Option<Node>> = Vec::new(alloc);
+    for _ in linked {
+        made.push(None)?;
+    }
+    for (report, places) in turns.iter().enumerate() {
+        for place in places {
+            if *place < linked.len() && *place < made.len() {
+                let element = linked[*place].element;
+                let source = text_said(element, Key::Rawsource).unwrap_or("");
+                let node = work.problematic(alloc, report, source, line_of(element))?;
+                made[*place] = Some(node);
+            }
+        }
+    }
+    Ok(made)
+}
+
+/// The outcomes of linked elements settled: each that is still met in preorder, with its problematic if it becomes one.
+///
+/// The problematics take their ids here, message by message. An element inside one that became a problematic is gone:
+/// it makes none afterwards, and isn't met in the end.
+pub(crate) fn settled(
+    alloc: Global,
+    work: &mut Work,
+    linked: &[Linked<'_>],
+    outcomes: Vec<Outcome>,
+) -> Result<Changes, TreeFault> {
+    let around = first_around(alloc, linked, outcomes.as_slice())?;
+    let turns = turns(
+        alloc,
+        work.reports.len(),
+        outcomes.as_slice(),
+        around.as_slice(),
+    )?;
+    let made = problematics(alloc, work, linked, turns.as_slice())?;
+    let mut left = VecDeque::new(alloc);
+    for ((outcome, first), problematic) in outcomes.into_iter().zip(around).zip(made) {
+        if first.is_none() {
+            left.push_back(changed(outcome, problematic))?;
+        }
+    }
+    Ok(Changes { left })
+}
+
+/// The change of an element with its problematic, if it has become one.
+fn changed(outcome: Outcome, problematic: Option<Node>) -> Change {
+    match (outcome, problematic) {
+        (_, Some(node)) => Change::Becomes(node),
+        (Outcome::Stays(addition), None) => Change::Stays(addition),
+        (Outcome::Fails(_), None) => Change::Stays(Addition::none()),
+    }
+}
+
+/// The changes of the linked elements of a tree, in the order in which they are met, which contracts see as the list of
+/// them.
+#[derive(Debug, Drop)]
+pub(crate) struct Changes {
+    left: VecDeque<Change>,
+}
+
+impl Model for Changes {
+    ghost use Rattle.std.specs.Prelude.{List};
+    ghost use Rattle.rst_transform.specs.declared.links.Change.{Change};
+
+    ghost Value = { List Change };
+
+    ghost use Rattle.std.specs.Coded.{codes};
+    ghost use Rattle.rst_transform.specs.contracts.links.Change as change;
+
+    ghost coded = { Prim.hlevel (codes, change.the_row.coded) };
+
+    ghost view = { λ s. s.left.items };
+}
+
+/// Attributes, and one more if there is one.
+fn with_attr(mut attrs: Attrs, more: Option<Attr>) -> Result<Attrs, TreeFault>
+    ensures { Gives (λ all. all ≡ with_more more attrs) result }
+{
+    if let Some(attr) = more {
+        attrs.set(attr.key, attr.value)?;
+    }
+    Ok(attrs)
+}
+
+/// One node.
+fn lone(alloc: Global, node: Node) -> Result<Children, TreeFault>
+    ensures { Gives (λ nodes. nodes ≡ forest_of (node ∷ [])) result }
+{
+    let mut nodes = Children::new(alloc);
+    nodes.push(node)?;
+    Ok(nodes)
+}
+
+/// An element that shows a text.
+fn showing(
+    alloc: Global,
+    tag: Tag,
+    attrs: Attrs,
+    text: Text,
+    line: usize,
+) -> Result<Children, TreeFault>
+    ensures { Gives (λ nodes. nodes ≡ forest_of (Element tag attrs (words text bare) line ∷ [])) result }
+{
+    let children = lone(alloc, Node::Text(text))?;
+    lone(
+        alloc,
+        Node::Element {
+            tag,
+            attrs,
+            children,
+            line,
+        },
+    )
+}
+
+impl Rewriter for Changes {
+    ghost use Rattle.rst_transform.specs.Links.{change_next, change_of};
+
+    ghost entered = { change_next };
+
+    ghost becomes = { change_of };
+
+    ghost left = { λ s n. s };
+
+    ghost stands = { λ s n. forest_of (n ∷ []) };
+
+    fn enter(
+        &mut self,
+        alloc: Global,
+        tag: Tag,
+        attrs: Attrs,
+        _children: &Children,
+        line: usize,
+    ) -> Result<Rewrite, TreeFault> {
+        if !is_linked(tag) {
+            return Ok(Rewrite::Keep { tag, attrs, line });
+        }
+        match self.left.pop_front() {
+            Some(Change::Becomes(node)) => Ok(Rewrite::Replace(lone(alloc, node)?)),
+            Some(Change::Stays(addition)) => {
+                let attrs = with_attr(attrs, addition.attr)?;
+                match addition.shown {
+                    Some(text) => Ok(Rewrite::Replace(showing(alloc, tag, attrs, text, line)?)),
+                    None => Ok(Rewrite::Keep { tag, attrs, line }),
+                }
+            }
+            None => Ok(Rewrite::Keep { tag, attrs, line }),
+        }
+    }
+
+    fn leave(&mut self, alloc: Global, element: Node) -> Result<Children, TreeFault> {
+        lone(alloc, element)
+    }
+}
+
+/// A tree in which its linked elements changed.
+pub(crate) fn with_changes(
+    alloc: Global,
+    root: Node,
+    mut changes: Changes,
+) -> Result<Node, TreeFault>
+    ensures { Gives (λ node. node ≡ changed_root changes root) result }
+{
+    match root {
+        Node::Element {
+            tag,
+            attrs,
+            children,
+            line,
+        } => {
+            let children = rewrite_in(alloc, children, &mut changes)?;
+            Ok(Node::Element {
+                tag,
+                attrs,
+                children,
+                line,
+            })
+        }
+        text => Ok(text),
+    }
+}

@@ -1,0 +1,68 @@
+//! Lists of texts among the attributes, and lists of nodes.
+ghost use Rattle.std.specs.Prelude.{◌≡◌, ◌++◌};
+ghost use Rattle.rst_tree.specs.Faults.{Gives};
+
+use rst_tree::{Attrs, Key, Node, Text, Texts, TreeFault, Value};
+use std::alloc::Global;
+
+/// Takes out an attribute, and gives the texts that it lists; none where it is missing or no list.
+pub(crate) fn take_list(alloc: Global, attrs: &mut Attrs, key: Key) -> Texts {
+    match attrs.remove(key) {
+        Some(Value::List(texts)) => texts,
+        _ => Texts::new(alloc),
+    }
+}
+
+/// Puts texts behind those that an attribute lists.
+pub(crate) fn append(
+    alloc: Global,
+    attrs: &mut Attrs,
+    key: Key,
+    more: &[Text],
+) -> Result<(), TreeFault> {
+    if more.is_empty() {
+        return Ok(());
+    }
+    let mut texts = take_list(alloc, attrs, key);
+    for text in more {
+        texts.push(text.copy()?)?;
+    }
+    attrs.set(key, Value::List(texts))
+}
+
+/// Puts the ids, names and lost names that attributes tell behind those that others tell.
+pub(crate) fn append_names(
+    alloc: Global,
+    attrs: &mut Attrs,
+    from: &Attrs,
+) -> Result<(), TreeFault> {
+    append_from(alloc, attrs, Key::Ids, from)?;
+    append_from(alloc, attrs, Key::Names, from)?;
+    append_from(alloc, attrs, Key::Dupnames, from)
+}
+
+/// Puts the texts that an attribute lists elsewhere behind those that it lists here.
+fn append_from(alloc: Global, attrs: &mut Attrs, key: Key, from: &Attrs) -> Result<(), TreeFault> {
+    match from.get(key) {
+        Some(Value::List(more)) => append(alloc, attrs, key, more.as_slice()),
+        _ => Ok(()),
+    }
+}
+
+/// What an attribute says, where it is a number.
+pub(crate) fn number(attrs: &Attrs, key: Key) -> Option<u64> {
+    match attrs.get(key) {
+        Some(Value::Number(number)) => Some(*number),
+        _ => None,
+    }
+}
+
+/// The nodes, and then more.
+pub(crate) fn joined(mut nodes: Vec<Node>, more: Vec<Node>) -> Result<Vec<Node>, TreeFault>
+    ensures { Gives (λ all. all.items ≡ nodes.items ++ more.items) result }
+{
+    for node in more {
+        nodes.push(node)?;
+    }
+    Ok(nodes)
+}

@@ -1,0 +1,123 @@
+//! The list of messages, and the levels at which they count.
+use crate::lists::number;
+use crate::work::Report;
+use rst_settings::Threshold;
+use rst_tree::{Attrs, Children, Key, Level, Node, Note, Tag, Text, TreeFault};
+use std::alloc::Global;
+
+/// Whether a level of that number is at or above a threshold.
+pub(crate) fn reaches(level: u64, threshold: Threshold) -> bool {
+    match threshold {
+        Threshold::Info => level >= 1,
+        Threshold::Warning => level >= 2,
+        Threshold::Error => level >= 3,
+        Threshold::Severe => level >= 4,
+        Threshold::Never => false,
+    }
+}
+
+/// The level of a `system_message` by its number.
+pub(crate) fn level_number(attrs: &Attrs) -> u64 {
+    match number(attrs, Key::Level) {
+        Some(level) => level,
+        None => 0,
+    }
+}
+
+/// The messages of a run in order, up to the first that halts it.
+#[derive(Drop)]
+pub(crate) struct Messages {
+    notes: Vec<Note>,
+    /// From which level on a message halts the run.
+    halt: Threshold,
+    /// Whether the last message does.
+    halted: bool,
+}
+
+impl Messages {
+    /// No message, of a run that halts at a threshold.
+    pub(crate) fn new(alloc: Global, halt: Threshold) -> Messages {
+        Messages {
+            notes: Vec::new(alloc),
+            halt,
+            halted: false,
+        }
+    }
+
+    /// Adds a message, unless an earlier one halts the run.
+    fn push(&mut self, note: Note) -> Result<(), TreeFault> {
+        if self.halted {
+            return Ok(());
+        }
+        self.halted = reaches(u64::from(note.level.number()), self.halt);
+        self.notes.push(note)?;
+        Ok(())
+    }
+
+    /// Adds the messages in a tree, in preorder.
+    pub(crate) fn read(&mut self, alloc: Global, node: &Node) -> Result<(), TreeFault> {
+        if let Node::Element {
+            tag,
+            attrs,
+            children,
+            line,
+        } = node
+        {
+            if matches!(tag, Tag::SystemMessage) {
+                return self.push(note_of(alloc, attrs, children, *line)?);
+            }
+            for child in children.as_slice() {
+                self.read(alloc, child)?;
+            }
+        }
+        Ok(())
+    }
+
+    /// Adds the messages of the transforms.
+    pub(crate) fn add_reports(&mut self, reports: Vec<Report>) -> Result<(), TreeFault> {
+        for report in reports {
+            self.push(report.note)?;
+        }
+        Ok(())
+    }
+
+    /// The messages, and the number of their highest level, 0 where there are none.
+    pub(crate) fn end(self) -> (Vec<Note>, u8) {
+        let mut highest = 0;
+        for note in &self.notes {
+            if note.level.number() > highest {
+                highest = note.level.number();
+            }
+        }
+        (self.notes, highest)
+    }
+}
+
+/// The message that a `system_message` with these attributes and nodes tells.
+fn note_of(
+    alloc: Global,
+    attrs: &Attrs,
+    children: &Children,
+    line: usize,
+) -> Result<Note, TreeFault> {
+    let level = match level_number(attrs) {
+        0 | 1 => Level::Info,
+        2 => Level::Warning,
+        3 => Level::Error,
+        _ => Level::Severe,
+    };
+    let text = match children.get(0) {
+        Some(paragraph) => paragraph.text_of(alloc)?,
+        None => Text::from_str(alloc, "")?,
+    };
+    let block = match children.get(1) {
+        Some(block) => Some(block.text_of(alloc)?),
+        None => None,
+    };
+    Ok(Note {
+        level,
+        line,
+        text,
+        block,
+    })
+}

@@ -1,0 +1,74 @@
+//! What the attributes of an element say.
+ghost use Rattle.std.specs.Prelude.{◌≡◌, MatchOption, Some, None, is_some};
+ghost use Rattle.rst_tree.specs.Faults.{Gives};
+ghost use Rattle.rst_tree.specs.Paths.{node_value};
+ghost use Rattle.rst_transform.specs.Reading.{text_said, number_said, list_said, line_of};
+
+use rst_tree::{Key, Node, Tag, Texts, TreeFault, Value};
+use std::alloc::Global;
+
+/// What an attribute says, where it is a text.
+pub(crate) fn text_said<'a>(node: &'a Node, key: Key) -> Option<&'a str>
+    ensures { MatchOption result (text_said key node.now ≡ None) (λ text. text_said key node.now ≡ Some text.now) }
+{
+    match node.value(key) {
+        Some(Value::Text(text)) => Some(text.as_str()),
+        _ => None,
+    }
+}
+
+/// What an attribute says, where it is a number.
+pub(crate) fn number_said(node: &Node, key: Key) -> Option<u64>
+    ensures { result ≡ number_said key node.now }
+{
+    match node.value(key) {
+        Some(Value::Number(number)) => Some(*number),
+        _ => None,
+    }
+}
+
+/// The first member of what an attribute says, where it is a list that has one.
+pub(crate) fn first_said<'a>(node: &'a Node, key: Key) -> Option<&'a str> {
+    match node.value(key) {
+        Some(Value::List(list)) => match list.as_slice().first() {
+            Some(text) => Some(text.as_str()),
+            None => None,
+        },
+        _ => None,
+    }
+}
+
+/// A copy of what an attribute says, where it is a list, or else an empty list.
+pub(crate) fn list_said(alloc: Global, node: &Node, key: Key) -> Result<Texts, TreeFault>
+    ensures { Gives (λ list. list ≡ list_said key node.now) result }
+{
+    match node.value(key) {
+        Some(Value::List(list)) => list.copy(alloc),
+        _ => Ok(Texts::new(alloc)),
+    }
+}
+
+/// Whether an element has an attribute.
+pub(crate) fn has(node: &Node, key: Key) -> bool
+    ensures { result ≡ is_some (node_value key node.now) }
+{
+    node.value(key).is_some()
+}
+
+/// Whether a node is an element of a kind.
+pub(crate) fn is_a(node: &Node, kind: Tag) -> bool {
+    match node {
+        Node::Element { tag, .. } => *tag == kind,
+        Node::Text(_) => false,
+    }
+}
+
+/// The number of the first line of an element; 0 for a text, which has none of its own.
+pub(crate) fn line_of(node: &Node) -> usize
+    ensures { result ≡ line_of node.now }
+{
+    match node {
+        Node::Element { line, .. } => *line,
+        Node::Text(_) => 0,
+    }
+}

@@ -1,0 +1,320 @@
+//! References by name.
+
+use crate::footnotes::{found_by_order, mark_of, spelled_number};
+use crate::holders::{Holders, lead_by_name, text_attr};
+use crate::links::{
+    Addition, Changes, Linked, Outcome, linked_in, settled, take_root, with_changes,
+};
+use crate::reading::{first_said, has, is_a, line_of, text_said};
+use crate::work::Work;
+use rst_names::{Holder, Names};
+use rst_tree::{Attr, Key, Level, Node, Tag, Text, Texts, TreeFault, Value};
+use std::alloc::Global;
+
+/// What a name means to a reference.
+#[derive(Debug, Drop)]
+enum Meaning {
+    /// It leads where the attribute says: to the footnote or citation at this place, if it is one.
+    Leads { attr: Attr, note: Option<usize> },
+    /// No element of the kind that is looked for has it.
+    Unknown,
+    /// Elements with equal names lost it.
+    Duplicate,
+}
+
+/// What the names of a document are looked up in.
+#[derive(Drop)]
+struct Lookup<'a> {
+    linked: &'a [Linked<'a>],
+    names: &'a Names,
+    holders: Holders,
+    /// The places of the footnotes that were numbered and not named, by their numbers.
+    numbers: Vec<Option<usize>>,
+}
+
+/// Lets each reference by name refer to what the name means, and each footnote and citation tell its references (Markup
+/// Specification, 'Hyperlink References').
+///
+/// Before:
+///
+/// ```text
+/// <paragraph>
+///     <reference name="here">                       refers to `here`
+///         here
+///     <footnote_reference ids="footnote-reference-1">   refers to `1`
+///         1
+/// <target ids="here" names="here" refuri="https://x.org/">
+/// <footnote ids="footnote-1" names="1">
+///     <label>
+///         1
+/// ```
+///
+/// After:
+///
+/// ```text
+/// <paragraph>
+///     <reference name="here" refuri="https://x.org/">
+///         here
+///     <footnote_reference ids="footnote-reference-1" refid="footnote-1">
+///         1
+/// <target ids="here" names="here" refuri="https://x.org/">
+/// <footnote backrefs="footnote-reference-1" ids="footnote-1" names="1">
+///     <label>
+///         1
+/// ```
+///
+/// A name that means nothing gives an ERROR, and the reference becomes a problematic; the references inside it are gone, and
+/// give no message.
+pub(crate) fn resolve(alloc: Global, mut work: Work) -> Result<Work, TreeFault> {
+    let root = take_root(alloc, &mut work);
+    let changes = changes_of(alloc, &mut work, &root)?;
+    work.root = with_changes(alloc, root, changes)?;
+    Ok(work)
+}
+
+/// The changes of a tree's linked elements.
+fn changes_of(alloc: Global, work: &mut Work, root: &Node) -> Result<Changes, TreeFault> {
+    let linked = linked_in(alloc, root)?;
+    let meanings = meanings(alloc, work, linked.as_slice())?;
+    let found = found_by_order(alloc, linked.as_slice())?;
+    let notes = notes_meant(
+        alloc,
+        linked.as_slice(),
+        meanings.as_slice(),
+        found.as_slice(),
+    )?;
+    let outcomes = outcomes(alloc, work, linked.as_slice(), meanings)?;
+    let outcomes = with_backrefs(alloc, linked.as_slice(), notes.as_slice(), outcomes)?;
+    settled(alloc, work, linked.as_slice(), outcomes)
+}
+
+/// The name of a reference by name.
+fn reference_name<'a>(node: &'a Node) -> Option<&'a str> {
+    if is_a(node, Tag::Reference) || is_note_reference(node) {
+        text_said(node, Key::Refname)
+    } else {
+        None
+    }
+}
+
+/// Whether an element is a reference to a footnote or a citation.
+fn is_note_reference(node: &Node) -> bool {
+    is_a(node, Tag::FootnoteReference) || is_a(node, Tag::CitationReference)
+}
+
+/// Whether an element is a footnote or a citation.
+fn is_note(node: &Node) -> bool {
+    is_a(node, Tag::Footnote) || is_a(node, Tag::Citation)
+}
+
+/// The label that a footnote or a citation shows.
+fn label_of(alloc: Global, note: &Node) -> Result<Option<Text>, TreeFault> {
+    if let Node::Element { children, .. } = note {
+        if let Some(label) = children.get(0) {
+            return Ok(Some(label.text_of(alloc)?));
+        }
+    }
+    Ok(None)
+}
+
+/// The places of the footnotes that were numbered and not named, by their numbers.
+fn numbers(alloc: Global, linked: &[Linked<'_>]) -> Result<Vec<Option<usize>>, TreeFault> {
+    let mut numbers: Vec<Option<usize>> = Vec::new(alloc);
+    numbers.push(None)?;
+    for _ in linked {
+        numbers.push(None)?;
+    }
+    for (place, one) in linked.iter().enumerate() {
+        if mark_of(one.element) != Some("#") {
+            continue;
+        }
+        if let Some(label) = label_of(alloc, one.element)? {
+            if let Some(number) = spelled_number(label.as_str()) {
+                if number < numbers.len() {
+                    numbers[number] = Some(place);
+                }
+            }
+        }
+    }
+    Ok(numbers)
+}
+
+impl Lookup<'_> {
+    /// What a name means to a reference, which may be one to footnotes and citations alone.
+    fn meaning(&self, alloc: Global, name: &str, to_note: bool) -> Result<Meaning, TreeFault> {
+        let Some(held) = self.names.get(name) else {
+            return self.numbered(alloc, name);
+        };
+        if held.holder == Holder::Nobody {
+            return Ok(Meaning::Duplicate);
+        }
+        let place = self.holders.place(held.holder);
+        let holder = match place {
+            Some(place) => self.linked.get(place).map(|one| one.element),
+            None => None,
+        };
+        let note = match holder {
+            Some(holder) if is_note(holder) => place,
+            _ => None,
+        };
+        if to_note && note.is_none() {
+            return Ok(Meaning::Unknown);
+        }
+        let attr = lead_by_name(alloc, self.names, name, held, holder)?;
+        Ok(Meaning::Leads { attr, note })
+    }
+
+    /// What a name means that no element was written with: the footnote that got it as its number, if there is one.
+    fn numbered(&self, alloc: Global, name: &str) -> Result<Meaning, TreeFault> {
+        if let Some(number) = spelled_number(name) {
+            if let Some(Some(place)) = self.numbers.get(number) {
+                if let Some(one) = self.linked.get(*place) {
+                    if let Some(id) = first_said(one.element, Key::Ids) {
+                        let attr = text_attr(alloc, Key::Refid, id)?;
+                        return Ok(Meaning::Leads {
+                            attr,
+                            note: Some(*place),
+                        });
+                    }
+                }
+            }
+        }
+        Ok(Meaning::Unknown)
+    }
+}
+
+/// What the name of each reference by name means; there is nothing for the other elements.
+fn meanings(
+    alloc: Global,
+    work: &Work,
+    linked: &[Linked<'_>],
+) -> Result<Vec<Option<Meaning>>, TreeFault> {
+    let lookup = Lookup {
+        linked,
+        names: &work.names,
+        holders: Holders::of(alloc, linked, work.serials)?,
+        numbers: numbers(alloc, linked)?,
+    };
+    let mut meanings = Vec::new(alloc);
+    for one in linked {
+        match reference_name(one.element) {
+            Some(name) => {
+                let to_note = is_note_reference(one.element);
+                meanings.push(Some(lookup.meaning(alloc, name, to_note)?))?;
+            }
+            None => meanings.push(None)?,
+        }
+    }
+    Ok(meanings)
+}
+
+/// For each reference to a footnote or citation the place of that.
+fn notes_meant(
+    alloc: Global,
+    linked: &[Linked<'_>],
+    meanings: &[Option<Meaning>],
+    found: &[Option<usize>],
+) -> Result<Vec<Option<usize>>, TreeFault> {
+    let mut notes = Vec::new(alloc);
+    for ((one, meaning), found) in linked.iter().zip(meanings).zip(found) {
+        match meaning {
+            Some(Meaning::Leads { note, .. }) if is_note_reference(one.element) => {
+                notes.push(*note)?
+            }
+            _ => notes.push(*found)?,
+        }
+    }
+    Ok(notes)
+}
+
+/// What becomes of the references by name; the messages of those that fail are made here.
+fn outcomes(
+    alloc: Global,
+    work: &mut Work,
+    linked: &[Linked<'_>],
+    meanings: Vec<Option<Meaning>>,
+) -> Result<Vec<Outcome>, TreeFault> {
+    let mut outcomes = Vec::new(alloc);
+    let mut ended: Vec<bool> = Vec::new(alloc);
+    for (one, meaning) in linked.iter().zip(meanings) {
+        let gone = match one.outer {
+            Some(outer) => outer < ended.len() && ended[outer],
+            None => false,
+        };
+        let outcome = match meaning {
+            Some(_meaning) if gone => Outcome::same(),
+            Some(meaning) => outcome(alloc, work, linked, *one, meaning)?,
+            None => Outcome::same(),
+        };
+        ended.push(gone || matches!(&outcome, Outcome::Fails(_)))?;
+        outcomes.push(outcome)?;
+    }
+    Ok(outcomes)
+}
+
+/// What becomes of a reference whose name means this.
+fn outcome(
+    alloc: Global,
+    work: &mut Work,
+    linked: &[Linked<'_>],
+    one: Linked<'_>,
+    meaning: Meaning,
+) -> Result<Outcome, TreeFault> {
+    let name = text_said(one.element, Key::Refname).unwrap_or("");
+    let text = match meaning {
+        Meaning::Leads { attr, note } => {
+            let shown = match note {
+                Some(place) if is_note_reference(one.element) && has(one.element, Key::Auto) => {
+                    match linked.get(place) {
+                        Some(note) => label_of(alloc, note.element)?,
+                        None => None,
+                    }
+                }
+                _ => None,
+            };
+            return Ok(Outcome::Stays(Addition {
+                attr: Some(attr),
+                shown,
+            }));
+        }
+        Meaning::Unknown => format!(in alloc; "Unknown target name: \"{}\".", name)?,
+        Meaning::Duplicate => format!(in alloc;
+            "Duplicate target name, cannot be used as a unique reference: \"{}\".",
+            name
+        )?,
+    };
+    let report = work.report(alloc, Level::Error, line_of(one.element), text, true)?;
+    Ok(Outcome::Fails(report))
+}
+
+/// The outcomes, with those of the footnotes and citations that references mean: they tell the ids of these, in order.
+fn with_backrefs(
+    alloc: Global,
+    linked: &[Linked<'_>],
+    notes: &[Option<usize>],
+    outcomes: Vec<Outcome>,
+) -> Result<Vec<Outcome>, TreeFault> {
+    let mut backrefs = Vec::new(alloc);
+    for _ in linked {
+        backrefs.push(Texts::new(alloc))?;
+    }
+    for (one, note) in linked.iter().zip(notes) {
+        if let (Some(note), Some(id)) = (note, first_said(one.element, Key::Ids)) {
+            if *note < backrefs.len() {
+                backrefs[*note].push(Text::from_str(alloc, id)?)?;
+            }
+        }
+    }
+    let mut all = Vec::new(alloc);
+    for (outcome, ids) in outcomes.into_iter().zip(backrefs) {
+        if ids.as_slice().is_empty() {
+            all.push(outcome)?;
+        } else {
+            all.push(Outcome::says(Attr {
+                key: Key::Backrefs,
+                value: Value::List(ids),
+            }))?;
+        }
+    }
+    Ok(all)
+}

@@ -1,0 +1,240 @@
+//! Internal targets.
+use crate::lists::{append, number, take_list};
+use crate::work::Work;
+use rst_names::{Holder, Names};
+use rst_tree::{Attrs, Children, Key, Node, Tag, Text, TreeFault, Value};
+use std::alloc::Global;
+
+/// Lets each internal target of the document's body hand its ids and names to the element that follows it, and refer to that
+/// by its own id (Markup Specification, 'Internal Hyperlink Targets').
+///
+/// Before, from `.. _a:` and `.. _b:` above a paragraph:
+///
+///     <target ids="a" names="a">
+///     <target ids="b" names="b">
+///     <paragraph>
+///
+/// After:
+///
+///     <target refid="a">
+///     <target refid="b">
+///     <paragraph ids="b a" names="b a">
+///
+/// A target that no element follows, or one that takes no ids, stays as it is.
+pub(crate) fn targets(alloc: Global, work: Work) -> Result<Work, TreeFault> {
+    let Work {
+        root,
+        ids,
+        mut names,
+        reports,
+        first_number,
+        serials,
+    } = work;
+    let mut moving = Moving {
+        moves: moves_in(alloc, &root)?,
+        at: 0,
+        ids: Vec::new(alloc),
+        names: Vec::new(alloc),
+    };
+    let root = match root {
+        Node::Element {
+            tag,
+            attrs,
+            children,
+            line,
+        } => Node::Element {
+            tag,
+            attrs,
+            children: moved(alloc, children, &mut moving, &mut names)?,
+            line,
+        },
+        Node::Text(text) => Node::Text(text),
+    };
+    Ok(Work {
+        root,
+        ids,
+        names,
+        reports,
+        first_number,
+        serials,
+    })
+}
+
+/// Whether an element is an internal target of the body: one that stands in no text, and tells neither a URI nor a name.
+fn is_internal(tag: Tag, attrs: &Attrs) -> bool {
+    matches!(tag, Tag::Target)
+        && attrs.get(Key::Inline).is_none()
+        && attrs.get(Key::Refuri).is_none()
+        && attrs.get(Key::Refname).is_none()
+}
+
+/// Whether an element of a kind takes the ids and names of a target before it.
+fn takes_ids(tag: Tag) -> bool {
+    !matches!(
+        tag,
+        Tag::Comment | Tag::SubstitutionDefinition | Tag::SystemMessage | Tag::Transition
+    )
+}
+
+/// For each internal target of a document, in preorder, whether the element that follows it in preorder takes its ids: since
+/// such a target holds no element, that is its next sibling or else the next one of the nearest ancestor that has one.
+fn moves_in(alloc: Global, root: &Node) -> Result<Vec<bool>, TreeFault> {
+    let mut followers = Followers {
+        moves: Vec::new(alloc),
+        awaited: false,
+    };
+    followers.read(root)?;
+    let Followers { mut moves, awaited } = followers;
+    if awaited {
+        moves.push(false)?;
+    }
+    Ok(moves)
+}
+
+/// What was found of the elements that follow internal targets.
+#[derive(Drop)]
+struct Followers {
+    /// For each target but one at the end: whether the element behind it takes its ids.
+    moves: Vec<bool>,
+    /// Whether the last element was an internal target.
+    awaited: bool,
+}
+
+impl Followers {
+    /// Takes in the elements of a node, in preorder.
+    fn read(&mut self, node: &Node) -> Result<(), TreeFault> {
+        if let Node::Element {
+            tag,
+            attrs,
+            children,
+            ..
+        } = node
+        {
+            if self.awaited {
+                self.moves.push(takes_ids(*tag))?;
+            }
+            self.awaited = is_internal(*tag, attrs);
+            for child in children.as_slice() {
+                self.read(child)?;
+            }
+        }
+        Ok(())
+    }
+}
+
+/// What targets have handed on and no element has got yet.
+#[derive(Drop)]
+struct Moving {
+    /// For each internal target whether it hands on its ids and names.
+    moves: Vec<bool>,
+    /// How many of these were met.
+    at: usize,
+    /// The ids that are handed on, the last first: so each target adds its own at the end.
+    ids: Vec<Text>,
+    /// The names, likewise.
+    names: Vec<Text>,
+}
+
+impl Moving {
+    /// Lets an element that is met hand on its ids and names, or take those that were handed on.
+    fn visit(
+        &mut self,
+        alloc: Global,
+        tag: Tag,
+        attrs: &mut Attrs,
+        names: &mut Names,
+    ) -> Result<(), TreeFault> {
+        if is_internal(tag, attrs) && self.next_moves() {
+            return self.hand_on(alloc, attrs);
+        }
+        self.hand_over(alloc, attrs, names)
+    }
+
+    /// Whether the next target hands on its ids.
+    fn next_moves(&mut self) -> bool {
+        let at = self.at;
+        self.at = at.saturating_add(1);
+        match self.moves.get(at) {
+            Some(moves) => *moves,
+            None => false,
+        }
+    }
+
+    /// Takes the ids and names from a target, which refers to its first id from now on.
+    fn hand_on(&mut self, alloc: Global, attrs: &mut Attrs) -> Result<(), TreeFault> {
+        let ids = take_list(alloc, attrs, Key::Ids);
+        let names = take_list(alloc, attrs, Key::Names);
+        attrs.remove(Key::Dupnames);
+        if let Some(id) = ids.as_slice().first() {
+            attrs.set(Key::Refid, Value::Text(id.copy()?))?;
+        }
+        add_backwards(&mut self.ids, ids.as_slice())?;
+        add_backwards(&mut self.names, names.as_slice())
+    }
+
+    /// Gives the ids and names that were handed on to an element, which holds these names from now on.
+    fn hand_over(
+        &mut self,
+        alloc: Global,
+        attrs: &mut Attrs,
+        names: &mut Names,
+    ) -> Result<(), TreeFault> {
+        let holder = match number(attrs, Key::Serial) {
+            Some(serial) => Holder::Element(serial),
+            None => Holder::Unregistered,
+        };
+        for name in &self.names {
+            names.move_to(name.as_str(), holder);
+        }
+        self.ids.reverse();
+        self.names.reverse();
+        append(alloc, attrs, Key::Ids, self.ids.as_slice())?;
+        append(alloc, attrs, Key::Names, self.names.as_slice())?;
+        self.ids.clear();
+        self.names.clear();
+        Ok(())
+    }
+}
+
+/// Puts texts behind others, the last first.
+fn add_backwards(texts: &mut Vec<Text>, more: &[Text]) -> Result<(), TreeFault> {
+    for text in more.iter().rev() {
+        texts.push(text.copy()?)?;
+    }
+    Ok(())
+}
+
+/// Nodes whose internal targets have handed on their ids and names.
+fn moved(
+    alloc: Global,
+    nodes: Children,
+    moving: &mut Moving,
+    names: &mut Names,
+) -> Result<Children, TreeFault> {
+    let mut done = Vec::new(alloc);
+    for node in nodes.into_list() {
+        match node {
+            Node::Text(text) => {
+                done.push(Node::Text(text))?;
+                continue;
+            }
+            Node::Element {
+                tag,
+                mut attrs,
+                children,
+                line,
+            } => {
+                moving.visit(alloc, tag, &mut attrs, names)?;
+                let children = moved(alloc, children, moving, names)?;
+                done.push(Node::Element {
+                    tag,
+                    attrs,
+                    children,
+                    line,
+                })?;
+                continue;
+            }
+        }
+    }
+    Ok(Children::of(done))
+}

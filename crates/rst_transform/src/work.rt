@@ -1,0 +1,181 @@
+//! The document between two transforms.
+use rst_names::{Ids, Names};
+use rst_tree::{Attrs, Children, Key, Level, Node, Note, Tag, Text, Texts, TreeFault, Value};
+use std::alloc::Global;
+
+/// A message of a transform.
+#[derive(Debug, Drop)]
+pub struct Report {
+    /// What it says.
+    pub note: Note,
+    /// The number that it and its problematics carry (`Key::Message`), which no other message has.
+    pub number: u64,
+    /// Its id, which it gets with its first problematic.
+    pub id: Option<Text>,
+    /// The ids of its problematics, in the order in which they were made.
+    pub backrefs: Texts,
+    /// Whether it stands in the last section. One that doesn't stands where its transform put it.
+    pub own: bool,
+}
+
+impl Report {
+    /// The message as a `system_message`.
+    pub fn node(&self, alloc: Global) -> Result<Node, TreeFault> {
+        let block = match &self.note.block {
+            Some(block) => Some(block.copy()?),
+            None => None,
+        };
+        let note = Note {
+            level: self.note.level,
+            line: self.note.line,
+            text: self.note.text.copy()?,
+            block,
+        };
+        match note.into_node(alloc)? {
+            Node::Element {
+                tag,
+                mut attrs,
+                children,
+                line,
+            } => {
+                self.add_references(alloc, &mut attrs)?;
+                Ok(Node::Element {
+                    tag,
+                    attrs,
+                    children,
+                    line,
+                })
+            }
+            node => Ok(node),
+        }
+    }
+
+    /// Lets the attributes of the message tell its number, its id and those of its problematics.
+    fn add_references(&self, alloc: Global, attrs: &mut Attrs) -> Result<(), TreeFault> {
+        attrs.set(Key::Message, Value::Number(self.number))?;
+        attrs.set(Key::Backrefs, Value::List(self.backrefs.copy(alloc)?))?;
+        if let Some(id) = &self.id {
+            attrs.set(Key::Ids, Value::List(lone(alloc, id)?))?;
+        }
+        Ok(())
+    }
+
+    /// Adds a problematic by its id, and gives the message's own, which it gets with the first.
+    fn refer_back(&mut self, alloc: Global, ids: &mut Ids, id: &Text) -> Result<Text, TreeFault> {
+        self.backrefs.push(id.copy()?)?;
+        let own = match &self.id {
+            Some(own) => own.copy()?,
+            None => ids.give(alloc, Tag::SystemMessage, "")?,
+        };
+        self.id = Some(own.copy()?);
+        Ok(own)
+    }
+}
+
+/// A list with one text.
+fn lone(alloc: Global, text: &Text) -> Result<Texts, TreeFault> {
+    let mut texts = Texts::new(alloc);
+    texts.push(text.copy()?)?;
+    Ok(texts)
+}
+
+/// The document between two transforms, with what registration left, and the messages of the transforms so far.
+#[derive(Drop)]
+pub struct Work {
+    /// The document.
+    pub root: Node,
+    /// The ids that are taken.
+    pub ids: Ids,
+    /// The names and their holders.
+    pub names: Names,
+    /// The messages of the transforms, in order.
+    pub reports: Vec<Report>,
+    /// The number of the first report: those of the messages that the parser gave end below.
+    pub first_number: u64,
+    /// How many elements were registered.
+    pub serials: u64,
+}
+
+impl Work {
+    /// The next message, which has no problematics yet.
+    fn next_report(
+        &self,
+        alloc: Global,
+        level: Level,
+        line: usize,
+        text: String,
+        own: bool,
+    ) -> Report {
+        Report {
+            note: Note {
+                level,
+                line,
+                text: Text::new(text),
+                block: None,
+            },
+            // The sum can't saturate: memory doesn't hold so many messages.
+            number: self.first_number.saturating_add(self.reports.len() as u64),
+            id: None,
+            backrefs: Texts::new(alloc),
+            own,
+        }
+    }
+
+    /// Adds a message, and gives its place among the reports. It stands in the last section if it is `own`, and else where
+    /// the caller puts its `node`.
+    pub fn report(
+        &mut self,
+        alloc: Global,
+        level: Level,
+        line: usize,
+        text: String,
+        own: bool,
+    ) -> Result<usize, TreeFault> {
+        let place = self.reports.len();
+        let report = self.next_report(alloc, level, line, text, own);
+        self.reports.push(report)?;
+        Ok(place)
+    }
+
+    /// Adds a message that stands in the tree itself, and gives its node, for the caller to put into its place.
+    pub fn report_in_place(
+        &mut self,
+        alloc: Global,
+        level: Level,
+        line: usize,
+        text: String,
+    ) -> Result<Node, TreeFault> {
+        let report = self.next_report(alloc, level, line, text, false);
+        let node = report.node(alloc)?;
+        self.reports.push(report)?;
+        Ok(node)
+    }
+
+    /// The problematic with the source text of a reference that is at fault, as the message at a place among the reports
+    /// tells. It gets its id before the message gets one. A place behind the last report gives a problematic without message.
+    pub fn problematic(
+        &mut self,
+        alloc: Global,
+        report: usize,
+        source: &str,
+        line: usize,
+    ) -> Result<Node, TreeFault> {
+        let id = self.ids.give(alloc, Tag::Problematic, "")?;
+        let mut attrs = Attrs::new(alloc);
+        attrs.set(Key::Ids, Value::List(lone(alloc, &id)?))?;
+        if report < self.reports.len() {
+            let report = &mut self.reports[report];
+            let refid = report.refer_back(alloc, &mut self.ids, &id)?;
+            attrs.set(Key::Message, Value::Number(report.number))?;
+            attrs.set(Key::Refid, Value::Text(refid))?;
+        }
+        let mut children = Children::new(alloc);
+        children.push(Node::text(alloc, source)?)?;
+        Ok(Node::Element {
+            tag: Tag::Problematic,
+            attrs,
+            children,
+            line,
+        })
+    }
+}
