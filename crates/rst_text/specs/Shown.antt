@@ -1,8 +1,10 @@
 -- The part of the lines that a view shows. A view keeps its cuts in bytes.
-use Rattle.std.specs.Prelude.{ℕ, ◌-◌, List, [], ◌∷◌, take, drop, map, string_bytes}
+use Rattle.std.specs.Prelude.{ℕ, ◌-◌, ◌≤◌, IsTrue, List, [], ◌∷◌, take, drop, map, length, string_bytes}
 use Rattle.std.specs.Str.{chars}
 use Rattle.rst_text.specs.Block.{Line, Block}
+use Rattle.rst_text.specs.MayCut.{may_cut_at}
 use Rattle.rst_text.specs.declared.lines.SourceLine.{SourceLine}
+use Rattle.rst_text.specs.declared.view.Portion.{Portion}
 use Rattle.rst_text.specs.declared.view.View.{View}
 
 -- a line without its first n bytes
@@ -17,3 +19,15 @@ byte_cut f r (l ∷ ls) = without_bytes f l ∷ map (without_bytes r) ls
 -- the block that a view shows
 unfoldable pub block_of : View → Block
 block_of v = byte_cut v.first v.rest (take (v.to - v.from) (drop v.from v.lines.now))
+
+-- the lines of the text of which a view shows a part
+abbrev pub source_of : View → List SourceLine
+source_of v = v.lines.now
+
+-- the block that stands somewhere in a text
+unfoldable pub portion_block : List SourceLine → Portion → Block
+portion_block S p = byte_cut p.first p.rest (take (p.to - p.from) (drop p.from S))
+
+-- lines of a text that may be cut so
+abbrev pub IsPortion : List SourceLine → Portion → Type 0
+IsPortion S p = (p.from ≤ p.to) × (p.to ≤ length S) × IsTrue (may_cut_at p.first p.rest (take (p.to - p.from) (drop p.from S)))

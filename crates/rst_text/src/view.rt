@@ -26,6 +26,15 @@ pub struct View<'a> {
     ghost of_lines: { IsTrue (are_lines (block_from lines.now)) },
 }
 
+/// Where a view stands in its text, without the text: the lines at which it begins and ends, and its cuts.
+#[derive(Clone, Copy, Debug, PartialEq, Eq)]
+pub struct Portion {
+    from: usize,
+    to: usize,
+    first: usize,
+    rest: usize,
+}
+
 /// Lines that are blank or indented: the place after the last of them that isn't blank, the least indentation of
 /// those that aren't blank (in spaces, 0 if there is none), and whether a blank line or the end of the view follows.
 #[derive(Debug, Clone, Copy, PartialEq, Eq)]
@@ -54,7 +63,7 @@ fn line_at(lines: &[SourceLine], i: usize) -> &SourceLine
 
 impl<'a> View<'a> {
     ghost use Rattle.rst_text.specs.Block.{cut, front_text, first_number};
-    ghost use Rattle.rst_text.specs.Shown.{block_of};
+    ghost use Rattle.rst_text.specs.Shown.{block_of, source_of, IsPortion, portion_block};
     ghost use Rattle.rst_text.specs.Extent.{at_least, extent_of};
     ghost use Rattle.rst_text.specs.Reach.{looked};
 
@@ -69,6 +78,34 @@ impl<'a> View<'a> {
             to: lines.len(),
             first: 0,
             rest: 0,
+        }
+    }
+
+    /// Where the view stands in its text.
+    pub fn portion(&self) -> Portion
+        ensures inside { IsPortion (source_of self.now) result }
+        ensures block { portion_block (source_of self.now) result ≡ block_of self.now }
+    {
+        Portion {
+            from: self.from,
+            to: self.to,
+            first: self.first,
+            rest: self.rest,
+        }
+    }
+
+    /// The view of the same text that stands where a view of it stood.
+    pub fn at(&self, portion: Portion) -> View<'a>
+        requires { IsPortion (source_of self.now) portion }
+        ensures block { block_of result ≡ portion_block (source_of self.now) portion }
+        ensures text { source_of result ≡ source_of self.now }
+    {
+        View {
+            lines: self.lines,
+            from: portion.from,
+            to: portion.to,
+            first: portion.first,
+            rest: portion.rest,
         }
     }
 
@@ -127,7 +164,8 @@ impl<'a> View<'a> {
         requires in_order { from ≤ to }
         requires in_range { to ≤ length (block_of self.now) }
         requires spaces { IsTrue (is_indented rest_cut (take (to - (from + 1)) (drop (from + 1) (block_of self.now)))) }
-        ensures { block_of result ≡ cut (block_of self.now) from to first_cut rest_cut }
+        ensures block { block_of result ≡ cut (block_of self.now) from to first_cut rest_cut }
+        ensures text { source_of result ≡ source_of self.now }
     {
         let mut first = 0;
         if from < to {

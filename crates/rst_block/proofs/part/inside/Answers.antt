@@ -4,4 +4,4 @@ use Rattle.rst_text.proofs.CutLaws.{length-cut}
 use Rattle.rst_block.proofs.part.inside.Goals as goal
 
 pub returns : goal.returns
-returns c = ap length c.part.ensures ∙ length-cut (block_of c.args.view.now) c.args.part.from c.args.part.to c.args.part.first_cut c.args.part.rest_cut c.requires.within
+returns c = ap length c.part.ensures.block ∙ length-cut (block_of c.args.view.now) c.args.part.from c.args.part.to c.args.part.first_cut c.args.part.rest_cut c.requires.within

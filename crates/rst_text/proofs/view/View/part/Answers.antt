@@ -34,9 +34,9 @@ invariant_of-result c =
     let n : (v.from + c.args.to) - (v.from + c.args.from) ≡ c.args.to - c.args.from = omega arith in
     record { ordered = omega arith; fits = omega (arith, part_fits v c.args.to c.requires.in_range); may_cut = rw (c.saturating_add.ensures, n) p.0; of_lines = v.of_lines }
 
-pub returns : goal.returns
+pub returns-clause-block : goal.returns-clause-block
 unfolding block_of
-returns c =
+returns-clause-block c =
     let v = c.args.self.now in
     let p = part_of v c.args.from c.args.to c.args.first_cut c.args.rest_cut c.if-from-to.first c.requires.in_order (rw length-block_of at c.requires.in_range) c.requires.spaces (λ (h : c.args.from < c.args.to). elim c.if-from-to.branch [
       | then-from-to w ↦ (λ (d : SourceLine). leaves_at v c.args.from c.args.first_cut c.if-from-to.first d w.source.result.now w.as_str-text.result.now w.skip-left.result.now w.tail.result.now w.cut_at.result (in_view v c.args.from (omega (arith, c.requires.in_range))) w.source.ensures w.as_str-text.ensures.value w.cut_at.ensures w.tail.ensures w.skip-left.ensures.suffix w.skip-left.utf8 w.skip-left.ensures.chars w.first-is)
