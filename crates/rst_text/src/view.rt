@@ -27,7 +27,7 @@ pub struct View<'a> {
 }
 
 /// Where a view stands in its text, without the text: the lines at which it begins and ends, and its cuts.
-#[derive(Clone, Copy, Debug, PartialEq, Eq)]
+#[derive(Clone, Copy, Debug, Default, PartialEq, Eq)]
 pub struct Portion {
     from: usize,
     to: usize,
