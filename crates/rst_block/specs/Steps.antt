@@ -3,11 +3,6 @@ use Rattle.std.specs.Prelude.{◌≡◌, ℕ, ◌+◌, ◌<◌, ◌≤◌, nat_l
 use Rattle.rst_text.specs.Block.{Block}
 use Rattle.rst_markup.specs.Parts.{IsBlock}
 use Rattle.rst_markup.specs.declared.part.Part.{Part}
-use Rattle.rst_directives.specs.declared.argument.Argument.{Argument}
-use Rattle.rst_directives.specs.declared.argument.Argument.TheVariants.{Title}
-use Rattle.rst_directives.specs.declared.found.Content.{Content}
-use Rattle.rst_directives.specs.declared.found.Directive.{Directive}
-use Rattle.rst_directives.specs.declared.found.Directive.TheVariants.{Found, Wrong}
 use Rattle.rst_block.specs.declared.step.Step.{Step}
 use Rattle.rst_block.specs.declared.step.Step.TheVariants.{Next, Open, Cells, Done}
 use Rattle.rst_block.specs.declared.resume.Waits.{Waits}
@@ -17,41 +12,32 @@ abbrev pub IsBlockIf : Block → Option Part → Type 0
 IsBlockIf B None = Unit {0}
 IsBlockIf B (Some p) = IsBlock B p
 
--- the rest of a block quote, which isn't blank
+-- the rest of a block quote, which isn't blank, in a block that goes on no later
 abbrev pub IsRest : Block → ℕ → Option Part → Type 0
 IsRest B at None = Unit {0}
-IsRest B at (Some p) = IsBlock B p × (p.from < p.to) × (at < length B)
+IsRest B at (Some p) = IsBlock B p × (p.from < p.to) × (at ≤ p.from)
 
 -- what a block that goes on at a place waits for
 abbrev pub IsWaiting : Block → ℕ → Waits → Type 0
 IsWaiting B at (Quote line attribution rest end) = IsRest B at rest
 IsWaiting B at w = Unit {0}
 
+-- a block inside one that goes on behind a place
+abbrev pub IsOpening : Block → ℕ → Step → Type 0
+IsOpening B at (Open l w first second) = (at < l.at) × IsBlock B first × IsBlockIf B second × IsWaiting B l.at w
+IsOpening B at s = ⊥
+
 -- a step at a place
 abbrev pub IsStep : Block → ℕ → Step → Type 0
 IsStep B at (Next l) = at < l.at
-IsStep B at (Open l w first second) = (at < l.at) × IsBlock B first × IsBlockIf B second × IsWaiting B l.at w
-IsStep B at (Cells l table) = l.at ≡ at
+IsStep B at (Open l w first second) = IsOpening B at (Open l w first second)
+IsStep B at (Cells l table) = (l.at ≡ at) × (at < length B)
 IsStep B at (Done l) = Unit {0}
 
 -- what follows a block inside
 abbrev pub IsResumed : Block → ℕ → Step → Type 0
 IsResumed B at (Next l) = l.at ≡ at
-IsResumed B at s = IsStep B at s
-
--- the content of a directive
-abbrev pub IsContentIn : Block → Content → Type 0
-IsContentIn B content = IsBlock B content.first × IsBlock B content.second
-
--- the argument of a directive
-abbrev pub IsArgumentIn : Block → Argument → Type 0
-IsArgumentIn B (Title part) = IsBlock B part
-IsArgumentIn B argument = Unit {0}
-
--- a directive whose parts are those of a block
-abbrev pub IsDirectiveIn : Block → Directive → Type 0
-IsDirectiveIn B (Found name argument options content) = IsArgumentIn B argument × IsContentIn B content
-IsDirectiveIn B (Wrong fault source) = Unit {0}
+IsResumed B at s = IsOpening B at s
 
 -- what is left of a quote behind its first lines
 abbrev pub rest_of : Part → ℕ → Option Part

@@ -2,6 +2,7 @@
 ghost use Rattle.std.specs.Prelude.{◌≡◌, ℕ, ◌+◌, ◌-◌, ◌*◌, ◌^◌, ◌<◌, ◌≤◌, length, drop, IfOk, IfSome};
 ghost use Rattle.rst_text.specs.Block.{Block};
 ghost use Rattle.rst_text.specs.Shown.{block_of};
+ghost use Rattle.rst_directives.specs.Call.{IsArgumentIn, IsContentIn, IsDirectiveIn};
 ghost use Rattle.rst_markup.specs.Parts.{IsBlock, IsCall};
 ghost use Rattle.rst_block.specs.Steps as spec;
 
@@ -36,7 +37,7 @@ pub(crate) fn directive_at(
 ) -> Result<Directive, BlockFault>
     requires call { IsCall (block_of view.now) at invocation.now }
     requires few { pass.old.looks < 2 ^ 119 + 2 ^ 111 }
-    ensures parts { IfOk result (spec.IsDirectiveIn (block_of view.now)) }
+    ensures parts { IfOk result (IsDirectiveIn (block_of view.now)) }
     ensures looks { IfOk result (λ _. pass.new.looks ≤ pass.old.looks + 2 ^ 72) }
 {
     let name = called(alloc, view, at, invocation, &mut pass.looks)?;
@@ -142,8 +143,8 @@ fn directive_nodes(
     found: Found,
     pass: &mut Pass,
 ) -> Result<Step, BlockFault>
-    requires content { spec.IsContentIn (block_of view.now) found.content }
-    requires argument { spec.IsArgumentIn (block_of view.now) found.argument }
+    requires content { IsContentIn (block_of view.now) found.content }
+    requires argument { IsArgumentIn (block_of view.now) found.argument }
     requires inside { level.at < length (block_of view.now) }
     requires few { pass.old.looks < 2 ^ 119 + 2 ^ 110 }
     ensures step { IfOk result (λ s. spec.IsStep (block_of view.now) level.at s) }
@@ -176,7 +177,7 @@ fn directive_nodes(
 /// The level with the content of a directive opened, which stands in its element.
 fn opened(level: Level, element: Node, found: &Found) -> Step
     requires { level.at < 2 ^ 64 - 1 }
-    ensures { (B : Block) → spec.IsContentIn B found.now.content → spec.IsStep B level.at result }
+    ensures { (B : Block) → IsContentIn B found.now.content → spec.IsStep B level.at result }
 {
     Step::Open {
         level: level.past(found.end),
@@ -195,7 +196,7 @@ fn figure_block(
     found: &Found,
     pass: &mut Pass,
 ) -> Result<Step, BlockFault>
-    requires content { spec.IsContentIn (block_of view.now) found.now.content }
+    requires content { IsContentIn (block_of view.now) found.now.content }
     requires inside { level.at < length (block_of view.now) }
     requires few { pass.old.looks < 2 ^ 119 + 2 ^ 110 }
     ensures step { IfOk result (λ s. spec.IsStep (block_of view.now) level.at s) }
@@ -223,7 +224,7 @@ fn code_nodes(
     found: &Found,
     pass: &mut Pass,
 ) -> Result<Step, BlockFault>
-    requires content { spec.IsContentIn (block_of view.now) found.now.content }
+    requires content { IsContentIn (block_of view.now) found.now.content }
     requires inside { level.at < length (block_of view.now) }
     requires few { pass.old.looks < 2 ^ 119 + 2 ^ 110 }
     ensures step { IfOk result (λ s. spec.IsStep (block_of view.now) level.at s) }

@@ -9,6 +9,7 @@ mod explicit;
 mod fault;
 mod field;
 mod figure;
+mod frame;
 mod heading;
 mod level;
 mod line;

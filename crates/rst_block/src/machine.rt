@@ -5,68 +5,117 @@ ghost use Rattle.rst_markup.specs.Parts.{IsBlock, IsCall};
 ghost use Rattle.rst_block.specs.Steps as spec;
 
 use super::fault::BlockFault;
+use super::frame::{Ended, Frame, closed, opened};
 use super::level::Level;
 use super::part::inside;
-use super::resume::resume;
+use super::resume::{Waits, resume};
 use super::run::DEEPEST;
 use super::step::{Step, step_at};
 use super::table::{after_table, entry_of, table_of};
-use super::texts::{Pass, appended, filled};
+use super::texts::{Pass, filled};
+use arrayvec::ArrayVec;
 use rst_markup::{LineTest, Part, lines_end};
 use rst_tables::{Cell, TableResult};
 use rst_text::{Lines, View};
 use rst_tree::{Node, Tag};
 use std::alloc::Global;
 
+/// The blocks that wait for one inside them, the outermost first.
+pub(crate) type Frames = ArrayVec<Frame, 250, Global>;
+
 /// More looks than any document can take that a machine holds: with so many the reading is given up. That they are never
 /// reached isn't proved yet.
 const MOST_LOOKS: u128 = 1 << 119;
 
-/// Reads a block that stands in as many blocks as `depth` says.
-#[cycle(machine)]
-pub(crate) fn block(
-    alloc: Global,
-    view: &View<'_>,
-    depth: usize,
-    pass: &mut Pass,
-) -> Result<Level, BlockFault>
-    requires depth { depth ≤ 251 }
-    requires few { pass.old.looks < 2 ^ 119 + 2 ^ 100 }
-    ensures { IfOk result (λ _. pass.new.looks < 2 ^ 119 + 2 ^ 100) }
+/// Refuses to go on behind more looks than any document can take.
+fn go_on(pass: &Pass) -> Result<(), BlockFault>
+    ensures { IfOk result (λ _. pass.now.looks < 2 ^ 119) }
 {
     if pass.looks.count() >= MOST_LOOKS {
         return Err(BlockFault::NoMemory);
     }
+    Ok(())
+}
+
+/// Reads the lines of a text: of a document, or of a table's cell, that stands in as many blocks as `depth` says. The blocks that
+/// wait, those of the text behind those round it, stand in `frames`.
+#[cycle(machine)]
+pub(crate) fn read(
+    alloc: Global,
+    lines: &Lines,
+    depth: usize,
+    frames: &mut Frames,
+    pass: &mut Pass,
+) -> Result<Level, BlockFault>
+    requires depth { depth ≤ 251 }
+    requires room { length frames.old.items ≤ depth }
+    ensures frames { IfOk result (λ _. frames.new.items ≡ frames.old.items) }
+    ensures few { IfOk result (λ _. pass.new.looks < 2 ^ 119) }
+{
+    let whole = View::whole(lines);
+    go_on(pass)?;
     if depth > DEEPEST {
-        too_deep(view, pass)?;
+        not_blank(&whole, pass)?;
+        go_on(pass)?;
         return Ok(Level::new(alloc, depth));
     }
+    let base = frames.len();
+    let mut view = whole;
     let mut now = Step::Next(Level::new(alloc, depth));
     loop {
-        if pass.looks.count() >= MOST_LOOKS {
-            return Err(BlockFault::NoMemory);
-        }
+        go_on(pass)?;
+        let inner = depth + (frames.len() - base) + 1;
         now = match now {
-            Step::Next(level) => step_at(alloc, view, level, pass)?,
+            Step::Next(level) => {
+                if level.at < view.len() {
+                    step_at(alloc, &view, level, pass)?
+                } else {
+                    Step::Done(level.closed(alloc, &view, pass)?)
+                }
+            }
+            Step::Cells { level, table } => {
+                Step::Next(with_table(alloc, &view, level, table, inner, frames, pass)?)
+            }
             Step::Open {
                 level,
                 waits,
                 first,
                 second,
             } => {
-                let nodes = nodes_inside(alloc, view, depth, first, second, pass)?;
-                resume(alloc, view, level, waits, nodes, pass)?
+                if inner > DEEPEST {
+                    flat(alloc, &view, level, waits, first, second, pass)?
+                } else {
+                    let (frame, reader) = opened(alloc, &view, level, waits, first, second, inner);
+                    frames.push(frame);
+                    view = reader.view;
+                    reader.now
+                }
             }
-            Step::Cells { level, table } => Step::Next(with_table(
-                alloc, view, level, table, depth, pass,
-            )?),
-            Step::Done(level) => return Ok(level),
+            Step::Done(level) => {
+                if frames.len() == base {
+                    return Ok(level);
+                }
+                let Some(frame) = frames.pop() else {
+                    return Ok(level);
+                };
+                match closed(alloc, &whole, frame, level, inner - 1, pass)? {
+                    Ended::Waiting(frame, reader) => {
+                        frames.push(frame);
+                        view = reader.view;
+                        reader.now
+                    }
+                    Ended::GoesOn(reader) => {
+                        view = reader.view;
+                        reader.now
+                    }
+                }
+            }
         };
     }
 }
 
-/// Refuses a block that is nested too deeply, unless it is blank.
-fn too_deep(view: &View<'_>, pass: &mut Pass) -> Result<(), BlockFault>
+/// Refuses lines that are nested too deeply, unless they are blank.
+fn not_blank(view: &View<'_>, pass: &mut Pass) -> Result<(), BlockFault>
     requires few { pass.old.looks < 2 ^ 120 }
     ensures { pass.new.looks ≤ pass.old.looks + 2 ^ 65 }
 {
@@ -79,33 +128,31 @@ fn too_deep(view: &View<'_>, pass: &mut Pass) -> Result<(), BlockFault>
     Ok(())
 }
 
-/// The nodes of a block inside one of this depth: of its first part, and of its second, if it has one.
-#[cycle(machine)]
-fn nodes_inside(
+/// Goes on with a block so deep that those inside it must be blank.
+fn flat(
     alloc: Global,
     view: &View<'_>,
-    depth: usize,
+    level: Level,
+    waits: Waits,
     first: Part,
     second: Option<Part>,
     pass: &mut Pass,
-) -> Result<Vec<Node>, BlockFault>
-    requires depth { depth ≤ 250 }
+) -> Result<Step, BlockFault>
     requires first { IsBlock (block_of view.now) first }
     requires second { spec.IsBlockIf (block_of view.now) second }
-    requires few { pass.old.looks < 2 ^ 119 + 2 ^ 100 }
-    ensures { IfOk result (λ _. pass.new.looks < 2 ^ 119 + 2 ^ 100) }
+    requires waits { spec.IsWaiting (block_of view.now) level.at waits }
+    requires few { pass.old.looks < 2 ^ 119 }
+    ensures step { IfOk result (λ s. spec.IsResumed (block_of view.now) level.at s) }
+    ensures looks { IfOk result (λ _. pass.new.looks ≤ pass.old.looks + 2 ^ 91) }
 {
-    let nodes = block(alloc, &inside(view, first), depth + 1, pass)?.nodes;
-    match second {
-        None => Ok(nodes),
-        Some(second) => {
-            let more = block(alloc, &inside(view, second), depth + 1, pass)?.nodes;
-            appended(nodes, more)
-        }
+    not_blank(&inside(view, first), pass)?;
+    if let Some(second) = second {
+        not_blank(&inside(view, second), pass)?;
     }
+    resume(alloc, view, level, waits, Vec::new(alloc), pass)
 }
 
-/// The level with a table behind its nodes.
+/// The level with a table behind its nodes, whose cells stand in as many blocks as `depth` says.
 #[cycle(machine)]
 fn with_table(
     alloc: Global,
@@ -113,13 +160,16 @@ fn with_table(
     level: Level,
     found: TableResult,
     depth: usize,
+    frames: &mut Frames,
     pass: &mut Pass,
 ) -> Result<Level, BlockFault>
     requires inside { level.at < length (block_of view.now) }
-    requires depth { depth ≤ 250 }
-    requires few { pass.old.looks < 2 ^ 119 + 2 ^ 100 }
+    requires depth { depth ≤ 251 }
+    requires room { length frames.old.items ≤ depth }
+    requires few { pass.old.looks < 2 ^ 119 }
+    ensures frames { IfOk result (λ _. frames.new.items ≡ frames.old.items) }
     ensures later { IfOk result (λ l. level.at < l.at) }
-    ensures looks { IfOk result (λ _. pass.new.looks < 2 ^ 119 + 2 ^ 101) }
+    ensures looks { IfOk result (λ _. pass.new.looks < 2 ^ 119 + 2 ^ 10) }
 {
     let TableResult::Table {
         cols,
@@ -128,29 +178,37 @@ fn with_table(
         end,
     } = found
     else {
-        return Ok(level);
+        return Ok(level.past(0));
     };
     let line = view.number(level.at);
     let mut made = Vec::new(alloc);
     for cells in rows.as_slice() {
-        made.push(row_of(alloc, cells, depth, pass)?)?;
+        made.push(row_of(alloc, cells, depth, frames, pass)?)?;
     }
     let table = table_of(alloc, line, cols.as_slice(), head, made)?;
     let level = level.past(end).with(table)?;
     after_table(alloc, view, level, pass)
 }
 
-/// A row of cells in a block of this depth.
+/// A row of cells that stand in as many blocks as `depth` says.
 #[cycle(machine)]
-fn row_of(alloc: Global, cells: &[Cell], depth: usize, pass: &mut Pass) -> Result<Node, BlockFault>
-    requires depth { depth ≤ 250 }
-    requires few { pass.old.looks < 2 ^ 119 + 2 ^ 100 }
-    ensures { IfOk result (λ _. pass.new.looks < 2 ^ 119 + 2 ^ 100) }
+fn row_of(
+    alloc: Global,
+    cells: &[Cell],
+    depth: usize,
+    frames: &mut Frames,
+    pass: &mut Pass,
+) -> Result<Node, BlockFault>
+    requires depth { depth ≤ 251 }
+    requires room { length frames.old.items ≤ depth }
+    requires few { pass.old.looks < 2 ^ 119 }
+    ensures frames { IfOk result (λ _. frames.new.items ≡ frames.old.items) }
+    ensures few { IfOk result (λ _. pass.new.looks < 2 ^ 119) }
 {
     let mut entries = Vec::new(alloc);
     for cell in cells {
         let lines = Lines::numbered(alloc, cell.lines.as_slice())?;
-        let nodes = block(alloc, &View::whole(&lines), depth + 1, pass)?.nodes;
+        let nodes = read(alloc, &lines, depth, frames, pass)?.nodes;
         entries.push(entry_of(alloc, cell, nodes)?)?;
     }
     filled(Node::element(alloc, Tag::Row, 0), entries)

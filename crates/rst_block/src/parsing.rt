@@ -1,11 +1,12 @@
 //! A document's tree.
 use super::fault::BlockFault;
-use super::machine::block;
+use super::machine::{Frames, read};
 use super::section::document;
 use super::texts::Pass;
+use arrayvec::ArrayVec;
 use rst_elements::Numbers;
 use rst_marked::Marked;
-use rst_text::{Lines, Looks, View};
+use rst_text::{Lines, Looks};
 use std::alloc::Global;
 
 /// What was read of a document.
@@ -28,7 +29,8 @@ pub fn parse(alloc: Global, lines: &Lines) -> Result<Parsed, BlockFault> {
         looks: Looks::none(),
         numbers: Numbers::none(),
     };
-    let level = block(alloc, &View::whole(lines), 0, &mut pass)?;
+    let mut frames: Frames = ArrayVec::new_in(alloc);
+    let level = read(alloc, lines, 0, &mut frames, &mut pass)?;
     let root = document(alloc, level.nodes, level.headings)?;
     Ok(Parsed {
         document: Marked::of(alloc, root)?,

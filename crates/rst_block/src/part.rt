@@ -1,6 +1,6 @@
 //! Parts of a view that are blocks inside.
 ghost use Rattle.std.specs.Prelude.{◌≡◌, ◌+◌, ◌-◌, ◌*◌, ◌^◌, ◌<◌, ◌≤◌, length, drop, IfOk, IfSome};
-ghost use Rattle.rst_text.specs.Shown.{block_of};
+ghost use Rattle.rst_text.specs.Shown.{block_of, source_of};
 ghost use Rattle.rst_markup.specs.Parts.{IsBlock, IsCall};
 ghost use Rattle.rst_block.specs.Steps as spec;
 
@@ -56,7 +56,8 @@ pub(crate) fn item_part(view: &View<'_>, at: usize, marker: Marker, looks: &mut 
 /// A part of a view as a view.
 pub(crate) fn inside<'a>(view: &View<'a>, part: Part) -> View<'a>
     requires { IsBlock (block_of view.now) part }
-    ensures { length (block_of result) ≡ part.to - part.from }
+    ensures lines { length (block_of result) ≡ part.to - part.from }
+    ensures text { source_of result ≡ source_of view.now }
 {
     view.part(part.from, part.to, part.first_cut, part.rest_cut)
 }

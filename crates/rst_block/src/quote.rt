@@ -44,9 +44,10 @@ pub(crate) fn quote_part(
     pass: &mut Pass,
 ) -> Result<Step, BlockFault>
     requires block { IsBlock (block_of view.now) quote }
+    requires at { level.at ≤ quote.from }
     requires inside { level.at < length (block_of view.now) }
     requires few { pass.old.looks < 2 ^ 119 + 2 ^ 110 }
-    ensures step { IfOk result (λ s. spec.IsStep (block_of view.now) level.at s) }
+    ensures step { IfOk result (λ s. spec.IsOpening (block_of view.now) level.at s) }
     ensures looks { IfOk result (λ _. pass.new.looks ≤ pass.old.looks + 2 ^ 80) }
 {
     let line = number_at(view, quote.from);

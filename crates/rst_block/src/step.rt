@@ -58,9 +58,6 @@ pub(crate) fn step_at(
     ensures looks { IfOk result (λ _. pass.new.looks ≤ pass.old.looks + 2 ^ 80) }
 {
     let at = level.at;
-    if at >= view.len() {
-        return Ok(Step::Done(level.closed(alloc, view, pass)?));
-    }
     match begun_at(view, at, &mut pass.looks) {
         Begun::Blank => Ok(Step::Next(level.past(at + 1))),
         Begun::Quote => block_quote(alloc, view, level, pass),

@@ -1,6 +1,7 @@
 //! Substitution definitions (Markup Specification, 'Substitution Definitions').
 ghost use Rattle.std.specs.Prelude.{◌≡◌, ◌+◌, ◌-◌, ◌*◌, ◌^◌, ◌<◌, ◌≤◌, length, drop, IfOk, IfSome};
 ghost use Rattle.rst_text.specs.Shown.{block_of};
+ghost use Rattle.rst_directives.specs.Call.{IsContentIn};
 ghost use Rattle.rst_markup.specs.Parts.{IsBlock, IsCall};
 ghost use Rattle.rst_block.specs.Steps as spec;
 
@@ -142,7 +143,7 @@ fn replacement(
     end: usize,
     pass: &mut Pass,
 ) -> Result<Step, BlockFault>
-    requires content { spec.IsContentIn (block_of view.now) content }
+    requires content { IsContentIn (block_of view.now) content }
     requires inside { level.at < length (block_of view.now) }
     requires few { pass.old.looks < 2 ^ 119 + 2 ^ 110 }
     ensures step { IfOk result (λ s. spec.IsStep (block_of view.now) level.at s) }

@@ -3,5 +3,5 @@ use Rattle.rst_text.specs.Shown.{block_of}
 use Rattle.rst_text.proofs.CutLaws.{length-cut}
 use Rattle.rst_block.proofs.part.inside.Goals as goal
 
-pub returns : goal.returns
-returns c = ap length c.part.ensures.block ∙ length-cut (block_of c.args.view.now) c.args.part.from c.args.part.to c.args.part.first_cut c.args.part.rest_cut c.requires.within
+pub returns-clause-lines : goal.returns-clause-lines
+returns-clause-lines c = ap length c.part.ensures.block ∙ length-cut (block_of c.args.view.now) c.args.part.from c.args.part.to c.args.part.first_cut c.args.part.rest_cut c.requires.within

@@ -1,0 +1,120 @@
+-- The blocks that wait, and the work that is left in them.
+use Rattle.std.proofs.Common.{◌≡◌, ℕ, zero, suc, ◌+◌, ◌-◌, ◌*◌, ◌<◌, ◌≤◌, ◌++◌, List, [], ◌∷◌, length, length-append, take, drop, map, Option, None, Some, arith, refl, sym, ap, ◌∙◌, subst}
+use Rattle.std.proofs.lemmas.List.{drop-append-le, take-append-le, map-append, length-drop, take_all, drop_all, length-map}
+use Rattle.rst_text.specs.Block.{Block}
+use Rattle.rst_text.specs.Shown.{block_of, source_of, portion_block}
+use Rattle.rst_text.specs.declared.lines.SourceLine.{SourceLine}
+use Rattle.rst_markup.specs.declared.part.Part.{Part}
+use Rattle.rst_block.specs.Frames.{IsFrame, AreFrames, IsBegin, IsNow, IsEnded, HasSecond}
+use Rattle.rst_block.specs.Steps.{IsStep, IsOpening, IsResumed}
+use Rattle.rst_block.specs.declared.frame.Frame.{Frame}
+use Rattle.rst_block.specs.declared.level.Level.{Level}
+use Rattle.rst_block.specs.declared.frame.Ended.TheVariants.{Waiting, GoesOn}
+use Rattle.rst_block.specs.declared.step.Step.{Step}
+use Rattle.rst_block.specs.declared.step.Step.TheVariants.{Next, Open, Cells, Done}
+use Rattle.rst_block.proofs.Work.{work, less, more, last}
+
+-- what is left in a block of n lines, by what comes next
+abbrev pub cost : ℕ → Step → ℕ
+cost n (Next l) = 5 * (n - l.at) + 2
+cost n (Open l w first second) = 5 * (n - l.at) + 5
+cost n (Cells l table) = 5 * (n - l.at) + 1
+cost n (Done l) = 0
+
+-- more is left where another part comes
+abbrev pub parts_left : Option Part → ℕ
+parts_left None = 3
+parts_left (Some p) = 4
+
+-- what is left in a block that waits
+abbrev pub left : List SourceLine → Frame → ℕ
+left S f = 5 * (length (portion_block S f.portion) - f.level.at) + parts_left f.second
+
+-- all that is left where a text has n lines, there is room for so many blocks, and these wait
+abbrev pub all_left : ℕ → ℕ → List SourceLine → List Frame → ℕ → Step → ℕ
+all_left n room S fs lines now = work (5 * n + 6) room (map (left S) fs) (cost lines now)
+
+pub now_of_step : (B : Block) (at : ℕ) (s : Step) → IsStep B at s → IsNow B s
+now_of_step B at (Next l) h = tt
+now_of_step B at (Open l w first second) h = (h.1, h.2, h.3)
+now_of_step B at (Cells l table) h = omega (arith, h.0, h.1)
+now_of_step B at (Done l) h = tt
+
+pub now_of_resumed : (B : Block) (at : ℕ) (s : Step) → IsResumed B at s → IsNow B s
+now_of_resumed B at (Next l) h = tt
+now_of_resumed B at (Open l w first second) h = (h.1, h.2, h.3)
+now_of_resumed B at (Cells l table) h = absurd h
+now_of_resumed B at (Done l) h = tt
+
+pub now_of_begin : (B : Block) (s : Step) → IsBegin s → IsNow B s
+now_of_begin B (Next l) h = tt
+now_of_begin B (Open l w first second) h = absurd h
+now_of_begin B (Cells l table) h = absurd h
+now_of_begin B (Done l) h = tt
+
+cost_of_begin : (n m : ℕ) (s : Step) → IsBegin s → m ≤ n → cost m s < 5 * n + 6
+cost_of_begin n m (Next l) b h = omega arith
+cost_of_begin n m (Open l w first second) b h = absurd b
+cost_of_begin n m (Cells l table) b h = absurd b
+cost_of_begin n m (Done l) b h = absurd b
+
+cost_of_resumed : (B : Block) (at : ℕ) (s : Step) → at ≤ length B → IsResumed B at s → cost (length B) s < 5 * (length B - at) + 3
+cost_of_resumed B at (Next l) i h = omega (arith, h)
+cost_of_resumed B at (Open l w first second) i h = omega (arith, h.0)
+cost_of_resumed B at (Cells l table) i h = absurd h
+cost_of_resumed B at (Done l) i h = absurd h
+
+cost_of_step : (B : Block) (at : ℕ) (s : Step) → at < length B → IsStep B at s → cost (length B) s < 5 * (length B - at) + 2
+cost_of_step B at (Next l) i h = omega (arith, h)
+cost_of_step B at (Open l w first second) i h = omega (arith, h.0)
+cost_of_step B at (Cells l table) i h = omega (arith, h.0)
+cost_of_step B at (Done l) i h = omega arith
+
+fewer : (S : List SourceLine) (fs : List Frame) → length (map (left S) fs) ≡ length fs
+fewer S fs = length-map (left S) fs
+
+-- less is left in the block that is read
+pub goes_on : (n room : ℕ) (S : List SourceLine) (fs : List Frame) (k j : ℕ) (s t : Step) → cost j t < cost k s → all_left n room S fs j t < all_left n room S fs k s
+goes_on n room S fs k j s t h = less (5 * n + 6) room (map (left S) fs) (omega arith) h
+
+-- a step
+pub stepped : (n room : ℕ) (S : List SourceLine) (fs : List Frame) (B : Block) (l : Level) (s : Step) → l.at < length B → IsStep B l.at s
+    → all_left n room S fs (length B) s < all_left n room S fs (length B) (Next l)
+stepped n room S fs B l s i h = goes_on n room S fs (length B) (length B) (Next l) s (cost_of_step B l.at s i h)
+
+-- a block inside is opened
+pub opens : (n room : ℕ) (S : List SourceLine) (fs : List Frame) (B : Block) (s t : Step) (f : Frame) (m : ℕ)
+    → length fs < room → portion_block S f.portion ≡ B → left S f < cost (length B) s → m ≤ n → IsBegin t
+    → all_left n room S (fs ++ f ∷ []) m t < all_left n room S fs (length B) s
+opens n room S fs B s t f m r e h i b =
+    rw map-append (left S) fs (f ∷ []) (more (5 * n + 6) room (map (left S) fs) (omega (arith, fewer S fs, r)) h (cost_of_begin n m t b i))
+
+-- a block that waited goes on
+pub resumes : (n room : ℕ) (S : List SourceLine) (fs : List Frame) (f : Frame) (k j : ℕ) (s t : Step)
+    → length fs < room → cost j t < left S f → all_left n room S fs j t < all_left n room S (fs ++ f ∷ []) k s
+resumes n room S fs f k j s t r h =
+    rw map-append (left S) fs (f ∷ []) (
+      let a = less (5 * n + 6) room (map (left S) fs) (omega arith) h in
+      let b = last (5 * n + 6) room (map (left S) fs) (left S f) (cost k s) (omega (arith, fewer S fs, r)) in
+      omega (arith, a, b))
+
+-- a block that waited waits for another part
+pub waits_again : (n room : ℕ) (S : List SourceLine) (fs : List Frame) (f g : Frame) (k m : ℕ) (s t : Step)
+    → length fs < room → left S g < left S f → m ≤ n → IsBegin t → all_left n room S (fs ++ g ∷ []) m t < all_left n room S (fs ++ f ∷ []) k s
+waits_again n room S fs f g k m s t r h i b =
+    rw map-append (left S) fs (f ∷ []) (rw map-append (left S) fs (g ∷ []) (
+      let a = more (5 * n + 6) room (map (left S) fs) (omega (arith, fewer S fs, r)) h (cost_of_begin n m t b i) in
+      let b = last (5 * n + 6) room (map (left S) fs) (left S f) (cost k s) (omega (arith, fewer S fs, r)) in
+      omega (arith, a, b)))
+
+pub second_left : (p : Option Part) → HasSecond p → parts_left p ≡ 4
+second_left (Some p) h = refl
+second_left None h = absurd h
+
+pub pushed : (S : List SourceLine) (fs : List Frame) (f : Frame) → AreFrames S fs → IsFrame S f → AreFrames S (fs ++ f ∷ [])
+pushed S [] f h i = (i, tt)
+pushed S (g ∷ fs) f h i = (h.0, pushed S fs f h.1 i)
+
+pub popped : (S : List SourceLine) (fs : List Frame) (f : Frame) → AreFrames S (fs ++ f ∷ []) → AreFrames S fs × IsFrame S f
+popped S [] f h = (tt, h.0)
+popped S (g ∷ fs) f h = let r = popped S fs f h.1 in ((h.0, r.0), r.1)
