@@ -1,4 +1,4 @@
-use Rattle.std.proofs.Common.{◌≡◌, ◌∙◌, ap}
+use Rattle.std.proofs.Common.{◌∙◌, ap}
 use Rattle.std.specs.Str.{all_scalars, drop_trailing_whitespace}
 use Rattle.rst_text.specs.Lines.{is_line_text}
 use Rattle.rst_text.proofs.LineTexts.{is_line_text-trimmed}
