@@ -1,6 +1,7 @@
 -- The lines of a cell.
-use Rattle.std.proofs.Common.{◌≡◌, ℕ, zero, suc, ◌+◌, ◌-◌, ◌<◌, ◌≤◌, true, false, cond, ◌&&◌, eqb, List, [], ◌∷◌, ◌++◌, length, drop, take, get_or, refl, sym, ap, ◌∙◌, arith, Option, Some, None, length-append}
+use Rattle.std.proofs.Common.{◌≡◌, ℕ, zero, suc, ◌+◌, ◌-◌, ◌<◌, ◌≤◌, true, false, cond, ◌&&◌, eqb, List, [], ◌∷◌, ◌++◌, length, drop, take, get_or, refl, sym, ap, ◌∙◌, subst, arith, Option, Some, None, length-append}
 use Rattle.std.specs.Char.{is_whitespace}
+use Rattle.std.specs.List.{list_any}
 use Rattle.std.specs.Str.{drop_trailing_whitespace, all_scalars}
 use Rattle.std.proofs.lemmas.List.{take_more}
 use Rattle.std.proofs.lemmas.Bool.{ne_eqb, and_right, and_parts, and_from, cond_both}
@@ -11,6 +12,8 @@ use Rattle.rst_tables.specs.declared.places.Place.{Place}
 use Rattle.rst_tables.specs.declared.places.Place.TheVariants.{Character, Second}
 use Rattle.rst_text.specs.Block.{Line, Block, indentation, is_blank}
 use Rattle.rst_text.specs.Extent.{least_indent, lower}
+use Rattle.rst_text.specs.Lines.{is_line_end, is_line_text, are_lines}
+use Rattle.rst_text.proofs.LineTexts.{unended-take, unended-drop}
 
 pub least_indent-blank : (m : Option ℕ) (l : Line) (ls : Block) → is_blank l.text ≡ true → least_indent m (l ∷ ls) ≡ least_indent m ls
 unfolding least_indent
@@ -58,23 +61,49 @@ pub characters-places : (cs : List ℕ) → characters (places_of cs) ≡ cs
 characters-places [] = refl
 characters-places (c ∷ cs) = ap (λ l. c ∷ l) (cond_both (is_double c) (Second ∷ places_of cs) (places_of cs) (λ l. characters l ≡ cs) (λ e. characters-places cs) (λ e. characters-places cs))
 
-scalars-take_places : (ps : List Place) (n : ℕ) → all_scalars (characters ps) ≡ true → all_scalars (characters (take n ps)) ≡ true
-scalars-take_places ps zero h = refl
-scalars-take_places [] (suc n) h = refl
-scalars-take_places (Character c ∷ ps) (suc n) h =
-    let parts = and_parts (scalar c) (all_scalars (characters ps)) h in
-    and_from (scalar c) (all_scalars (characters (take n ps))) parts.0 (scalars-take_places ps n parts.1)
-scalars-take_places (Second ∷ ps) (suc n) h = scalars-take_places ps n h
+scalars-take : (cs : List ℕ) (n : ℕ) → all_scalars cs ≡ true → all_scalars (take n cs) ≡ true
+scalars-take cs zero h = refl
+scalars-take [] (suc n) h = refl
+scalars-take (c ∷ cs) (suc n) h =
+    let parts = and_parts (scalar c) (all_scalars cs) h in
+    and_from (scalar c) (all_scalars (take n cs)) parts.0 (scalars-take cs n parts.1)
 
-scalars-drop_places : (ps : List Place) (n : ℕ) → all_scalars (characters ps) ≡ true → all_scalars (characters (drop n ps)) ≡ true
-scalars-drop_places ps zero h = h
-scalars-drop_places [] (suc n) h = refl
-scalars-drop_places (Character c ∷ ps) (suc n) h = scalars-drop_places ps n (and_parts (scalar c) (all_scalars (characters ps)) h).1
-scalars-drop_places (Second ∷ ps) (suc n) h = scalars-drop_places ps n h
+-- the characters at the first places are the first characters, and those behind them the others
+characters-take : (n : ℕ) (ps : List Place) → (m : ℕ) × (characters (take n ps) ≡ take m (characters ps))
+characters-take zero ps = (0, refl)
+characters-take (suc n) [] = (0, refl)
+characters-take (suc n) (Character c ∷ ps) = let rest = characters-take n ps in (suc rest.0, ap (λ l. c ∷ l) rest.1)
+characters-take (suc n) (Second ∷ ps) = characters-take n ps
+
+characters-drop : (n : ℕ) (ps : List Place) → (m : ℕ) × (characters (drop n ps) ≡ drop m (characters ps))
+characters-drop zero ps = (0, refl)
+characters-drop (suc n) [] = (0, refl)
+characters-drop (suc n) (Character c ∷ ps) = let rest = characters-drop n ps in (suc rest.0, rest.1)
+characters-drop (suc n) (Second ∷ ps) = characters-drop n ps
+
+-- what holds of each front and each rest of a text holds of the characters between two places
+cut-keeps : (P : List ℕ → Type 0) → ((n : ℕ) (cs : List ℕ) → P cs → P (take n cs)) → ((n : ℕ) (cs : List ℕ) → P cs → P (drop n cs))
+    → (left : ℕ) (right : Option ℕ) (ps : List Place) → P (characters ps) → P (characters (cut_places left right ps))
+cut-keeps P fronts rests left (Some right) ps h =
+    let front = characters-take (right - left) (drop left ps) in
+    let rest = characters-drop left ps in
+    subst P (sym front.1) (fronts front.0 (characters (drop left ps)) (subst P (sym rest.1) (rests rest.0 (characters ps) h)))
+cut-keeps P fronts rests left None ps h = let rest = characters-drop left ps in subst P (sym rest.1) (rests rest.0 (characters ps) h)
 
 pub scalars-cut : (left : ℕ) (right : Option ℕ) (ps : List Place) → all_scalars (characters ps) ≡ true → all_scalars (characters (cut_places left right ps)) ≡ true
-scalars-cut left (Some right) ps h = scalars-take_places (drop left ps) (right - left) (scalars-drop_places ps left h)
-scalars-cut left None ps h = scalars-drop_places ps left h
+scalars-cut left right ps h = cut-keeps (λ cs. all_scalars cs ≡ true) (λ n cs. scalars-take cs n) (λ n cs. scalars-drop cs n) left right ps h
+
+-- ---- characters of a line
+
+pub unended-cut : (left : ℕ) (right : Option ℕ) (ps : List Place) → list_any is_line_end (characters ps) ≡ false → list_any is_line_end (characters (cut_places left right ps)) ≡ false
+unended-cut left right ps h = cut-keeps (λ cs. list_any is_line_end cs ≡ false) unended-take unended-drop left right ps h
+
+-- a line more at the end
+pub are_lines-push : (B : Block) (l : Line) → are_lines B ≡ true → is_line_text l.text ≡ true → are_lines (B ++ l ∷ []) ≡ true
+are_lines-push [] l h e = rw e refl
+are_lines-push (b ∷ B) l h e =
+    let parts = and_parts (is_line_text b.text) (are_lines B) h in
+    and_from (is_line_text b.text) (are_lines (B ++ l ∷ [])) parts.0 (are_lines-push B l parts.1 e)
 
 -- ---- trimming from the end
 

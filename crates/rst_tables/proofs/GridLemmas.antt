@@ -1,10 +1,12 @@
 -- The lines of a grid table.
-use Rattle.std.proofs.Common.{◌≡◌, ℕ, zero, suc, ◌+◌, ◌<◌, ◌≤◌, Bool, true, false, List, [], ◌∷◌, length, drop, get_or, map, refl, sym, ap, ◌∙◌, arith, eqb}
+use Rattle.std.proofs.Common.{◌≡◌, ℕ, zero, suc, ◌+◌, ◌<◌, ◌≤◌, Bool, true, false, ◌||◌, List, [], ◌∷◌, length, drop, get_or, map, refl, sym, ap, ◌∙◌, arith, eqb}
 use Rattle.std.proofs.lemmas.List.{drop_more, get_or_read, drop-map, get_or-drop}
 use Rattle.std.proofs.lemmas.Bool.{cond_both, and_from, and_parts}
 use Rattle.std.proofs.Math.Utf8.{scalar}
+use Rattle.std.specs.List.{list_any}
 use Rattle.std.specs.Str.{all_scalars}
 use Rattle.rst_text.specs.Block.{Line, Block, front_text, first_number}
+use Rattle.rst_text.specs.Lines.{is_line_end}
 use Rattle.rst_tables.specs.Places.{Row, Grid, no_row, row_of, rows_of, row_at}
 use Rattle.rst_tables.specs.Cells.{characters}
 use Rattle.rst_tables.specs.GridTable.{is_border, through_last, one_more, is_grid_row, scanned, grid_looked, dash}
@@ -67,6 +69,19 @@ scalars-dashed (Character c ∷ ps) h =
     (λ e. scalars-dashed ps parts.1)
     (λ e. and_from (scalar c) (all_scalars (characters (map dash ps))) parts.0 (scalars-dashed ps parts.1))
 scalars-dashed (Second ∷ ps) h = scalars-dashed ps h
+
+pub unended-dashed : (ps : List Place) → list_any is_line_end (characters ps) ≡ false → list_any is_line_end (characters (map dash ps)) ≡ false
+unended-dashed [] h = refl
+unended-dashed (Character c ∷ ps) h =
+    let parts = or_parts (is_line_end c) (list_any is_line_end (characters ps)) h in
+    cond_both (eqb c 61) (Character 45) (Character c) (λ p. list_any is_line_end (characters (p ∷ map dash ps)) ≡ false)
+    (λ e. unended-dashed ps parts.1)
+    (λ e. rw parts.0 (unended-dashed ps parts.1))
+  where
+    or_parts : (a b : Bool) → (a || b) ≡ false → (a ≡ false) × (b ≡ false)
+    or_parts true b h = cc
+    or_parts false b h = (refl, h)
+unended-dashed (Second ∷ ps) h = unended-dashed ps h
 
 -- ---- rows of a block by their places
 

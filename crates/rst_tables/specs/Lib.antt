@@ -1,6 +1,5 @@
 pub mod Places
 pub mod Counts
-pub mod Texts
 pub mod Results
 pub mod Messages
 pub mod Laws

@@ -1,11 +1,11 @@
 //! The lines of a cell.
-ghost use Rattle.std.specs.Prelude.{◌≡◌, drop, true, None, IfOk, map};
+ghost use Rattle.std.specs.Prelude.{◌≡◌, drop, true, None, IfOk, IsTrue, map};
 ghost use Rattle.std.specs.Str.{all_scalars, drop_trailing_whitespace};
 ghost use Rattle.rst_text.specs.Block as spec;
 ghost use Rattle.rst_text.specs.Extent.{least_indent, lower, or_zero};
+ghost use Rattle.rst_text.specs.Lines.{is_line_text};
 ghost use Rattle.rst_text.specs.Text.{chars_of};
 ghost use Rattle.rst_tables.specs.Cells.{characters, cut_places, cell_line, cell_block};
-ghost use Rattle.rst_tables.specs.Texts.{block_of_pairs};
 
 use super::places::{Place, TableLine};
 use super::results::CellLines;
@@ -26,16 +26,18 @@ impl Model for CutLine {
 
     ghost view = { λ l. record { number = l.number; text = l.text.items } };
 
-    ghost use Rattle.std.specs.Prelude.{◌≡◌, true};
+    ghost use Rattle.std.specs.Prelude.{◌≡◌, true, IsTrue};
     ghost use Rattle.std.specs.Str.{all_scalars};
+    ghost use Rattle.rst_text.specs.Lines.{is_line_text};
 
-    // The characters are some that a text can hold.
-    ghost invariant = { λ l. all_scalars l.text.items ≡ true };
+    // The characters are some that a text can hold, and stand in a line as they are.
+    ghost invariant = { λ l. (all_scalars l.text.items ≡ true) × IsTrue (is_line_text l.text.items) };
 }
 
 impl CutLine {
     fn of(number: usize, text: Vec<char>) -> CutLine
-        requires { all_scalars text.items ≡ true }
+        requires scalars { all_scalars text.items ≡ true }
+        requires line { IsTrue (is_line_text text.items) }
         ensures { result ≡ record { number = number; text = text.items } }
     {
         CutLine { number, text }
@@ -50,6 +52,7 @@ impl CutLine {
     fn text(&self) -> &[char]
         ensures value { result.now ≡ self.now.text }
         ensures scalars { all_scalars result.now ≡ true }
+        ensures line { IsTrue (is_line_text result.now) }
     {
         self.text.as_slice()
     }

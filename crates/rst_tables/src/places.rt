@@ -42,22 +42,27 @@ impl Model for TableLine {
 
     ghost view = { λ l. record { number = l.number; places = l.places.items } };
 
-    ghost use Rattle.std.specs.Prelude.{◌≡◌, true};
+    ghost use Rattle.std.specs.Prelude.{◌≡◌, true, false};
+    ghost use Rattle.std.specs.List.{list_any};
     ghost use Rattle.std.specs.Str.{all_scalars};
+    ghost use Rattle.rst_text.specs.Lines.{is_line_end};
     ghost use Rattle.rst_tables.specs.Cells.{characters};
 
-    // The characters are some that a text can hold.
-    ghost invariant = { λ l. all_scalars (characters l.places.items) ≡ true };
+    // The characters are some that a text can hold, and none of them ends a line.
+    ghost invariant = { λ l. (all_scalars (characters l.places.items) ≡ true) × (list_any is_line_end (characters l.places.items) ≡ false) };
 }
 
 impl TableLine {
-    ghost use Rattle.std.specs.Prelude.{true};
+    ghost use Rattle.std.specs.Prelude.{true, false, IsTrue};
+    ghost use Rattle.std.specs.List.{list_any};
     ghost use Rattle.std.specs.Str.{all_scalars};
+    ghost use Rattle.rst_text.specs.Lines.{is_line_end, is_line_text};
     ghost use Rattle.rst_tables.specs.Cells.{characters};
     ghost use Rattle.rst_tables.specs.Places.{row_of};
 
     /// The line with this number and text.
     pub(crate) fn of(alloc: Global, number: usize, text: &str) -> Result<TableLine, AllocError>
+        requires { IsTrue (is_line_text (chars text.now)) }
         ensures { IfOk result (λ line. line ≡ row_of (record { number = number; text = chars text.now })) }
     {
         let places = places_of(alloc, text)?;
@@ -66,7 +71,8 @@ impl TableLine {
 
     /// The line with this number and these places.
     pub(crate) fn with(number: usize, places: Vec<Place>) -> TableLine
-        requires { all_scalars (characters places.items) ≡ true }
+        requires scalars { all_scalars (characters places.items) ≡ true }
+        requires unended { list_any is_line_end (characters places.items) ≡ false }
         ensures { result ≡ record { number = number; places = places.items } }
     {
         TableLine { number, places }
@@ -83,6 +89,7 @@ impl TableLine {
     pub(crate) fn places(&self) -> &[Place]
         ensures value { result.now ≡ self.now.places }
         ensures scalars { all_scalars (characters result.now) ≡ true }
+        ensures unended { list_any is_line_end (characters result.now) ≡ false }
     {
         self.places.as_slice()
     }

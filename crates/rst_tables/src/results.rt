@@ -3,7 +3,8 @@ ghost use Rattle.std.specs.Prelude.{◌≡◌};
 
 use std::marker::Model;
 
-/// The lines of a cell: their numbers in the document and their texts. Contracts see them as a block.
+/// The lines of a cell: their numbers in the document and their texts, in which no character ends a line and no white
+/// one is the last. Contracts see them as a block.
 #[derive(Debug, Drop)]
 pub struct CellLines {
     lines: Vec<(usize, String)>,
@@ -14,24 +15,34 @@ impl Model for CellLines {
 
     ghost Value = { Block };
 
-    ghost use Rattle.rst_tables.specs.Texts.{block_of_pairs};
+    ghost use Rattle.rst_text.specs.Source.{block_with};
 
-    ghost view = { λ l. block_of_pairs l.lines.items };
+    ghost view = { λ l. block_with l.lines.items };
+
+    ghost use Rattle.std.specs.Prelude.{IsTrue};
+    ghost use Rattle.rst_text.specs.Lines.{are_lines};
+
+    ghost invariant = { λ l. IsTrue (are_lines (block_with l.lines.items)) };
 }
 
 impl CellLines {
-    ghost use Rattle.rst_tables.specs.Texts.{block_of_pairs};
+    ghost use Rattle.std.specs.Prelude.{IsTrue};
+    ghost use Rattle.rst_text.specs.Lines.{are_lines};
+    ghost use Rattle.rst_text.specs.Source.{block_with};
 
     /// These lines.
     pub(crate) fn of(lines: Vec<(usize, String)>) -> CellLines
-        ensures { result ≡ block_of_pairs lines.items }
+        requires { IsTrue (are_lines (block_with lines.items)) }
+        ensures { result ≡ block_with lines.items }
     {
         CellLines { lines }
     }
 
-    /// The lines as they are kept.
+    /// The lines as they are kept: a number and a text each, in which no character ends a line and no white one is the
+    /// last (Markup Specification, 'Whitespace').
     pub fn as_slice(&self) -> &[(usize, String)]
-        ensures { block_of_pairs result.now ≡ self.now }
+        ensures value { block_with result.now ≡ self.now }
+        ensures lines { IsTrue (are_lines (block_with result.now)) }
     {
         self.lines.as_slice()
     }

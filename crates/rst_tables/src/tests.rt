@@ -364,3 +364,29 @@ fn simples(rt: HostRuntime) -> Result<(), Fail> {
     }
     Ok(())
 }
+
+#[test]
+fn table_in_a_cell(rt: HostRuntime) -> Result<(), Fail> {
+    let text = "+-------+\n| +---+ |\n| | x | |\n| +---+ |\n+-------+";
+    let lines = Lines::of(rt.alloc(), text, 8)?;
+    let view = View::whole(&lines);
+    assert!(rt; view.len() > 0);
+    let mut looks = Looks::none();
+    let TableResult::Table { rows, .. } = grid(rt.alloc(), &view, 0, &mut looks)? else {
+        assert!(rt; false);
+        return Ok(());
+    };
+    assert_eq!(rt; rows.as_slice().len(), 1);
+    for row in rows.as_slice() {
+        for cell in row {
+            let lines = Lines::numbered(rt.alloc(), cell.lines.as_slice())?;
+            let view = View::whole(&lines);
+            assert!(rt; view.len() > 0);
+            let mut looks = Looks::none();
+            let table = grid(rt.alloc(), &view, 0, &mut looks)?;
+            let shown = show(rt.alloc(), &table)?;
+            assert_eq!(rt; shown.as_str(), "T3 w3 h0 / [0 0 3:x;]");
+        }
+    }
+    Ok(())
+}

@@ -1,8 +1,13 @@
-use Rattle.std.proofs.Common.{◌∙◌, ap₂, ℕ, List}
+use Rattle.std.proofs.Common.{◌∙◌, ap, ap₂, ℕ, List}
+use Rattle.rst_text.specs.Lines.{is_line_text}
 use Rattle.rst_text.specs.Shown.{block_of}
+use Rattle.rst_text.proofs.Cuts.{is_line_text-line}
 use Rattle.rst_tables.specs.Places.{Row, row_of}
 use Rattle.rst_tables.proofs.GridLemmas.{rows_more}
 use Rattle.rst_tables.proofs.places.read_line.Goals as goal
+
+pub of-requires : goal.of-requires
+of-requires c = ap is_line_text c.line-text.ensures.text ∙ is_line_text-line c.args.view.now c.args.k
 
 pub returns-clause-line : goal.returns-clause-line
 returns-clause-line c =
