@@ -1,39 +1,27 @@
-"""The inputs of the benchmark: families of documents that grow with n, and documents of ordinary prose."""
+"""The families of the benchmark: documents that grow with n, each of one construct, some of them hostile."""
 
-import random
-
-WORDS = (
-    "the of and to in is was for on that with as his they be at one have this from or had by hot word but what some we can out other "
-    "were all there when up use your how said an each she which do their time if will way about many then them write would like so these "
-    "her long make thing see him two has look more day could go come did number sound no most people my over know water than call first who "
-    "may down side been now find any new work part take get place made live where after back little only round man year came show every "
-    "good me give our under name very through just form sentence great think say help low line differ turn cause much mean before move "
-    "right boy old too same tell does set three want air well also play small end put home read hand port large spell add even land here "
-    "must big high such follow act why ask men change went light kind off need house picture try us again animal point mother world near"
-).split()
-
-
-def prose(size):
-    """Ordinary prose of about `size` bytes: paragraphs of some sentences, broken at 72 columns."""
-    rng, out, total = random.Random(1), [], 0
-    while total < size:
-        line, lines = "", []
-        for _ in range(rng.randint(20, 120)):
-            word = rng.choice(WORDS) + ("," if rng.random() < 0.08 else "")
-            if len(line) + len(word) > 71:
-                lines.append(line)
-                line = ""
-            line = f"{line} {word}" if line else word
-        paragraph = "\n".join([*lines, line.rstrip(",")]) + "\n\n"
-        out.append(paragraph)
-        total += len(paragraph)
-    return "".join(out)
+# How deep the nested families go: Docutils reads no more than 163 blocks in one another.
+DEPTH = 100
 
 
 def nested(n, mark):
-    """Blocks in blocks, as deep as may be, again and again."""
-    depth = 200
-    return "".join("".join(mark * k + "a\n\n" for k in range(depth)) for _ in range(max(1, n // depth)))
+    """Blocks in blocks, as deep as `DEPTH`, again and again; about 100 n bytes for each character of the mark."""
+    return "".join(mark * depth + "a\n\n" for depth in range(DEPTH)) * max(1, n // DEPTH)
+
+
+def outwards(n):
+    """Block quotes, each one space less indented than the one before."""
+    return "".join(" " * depth + "a\n\n" for depth in reversed(range(DEPTH))) * max(1, n // DEPTH)
+
+
+def numbered(n, text):
+    """A text for each number below n, which stands in the place of each `{k}`."""
+    return "".join(text.replace("{k}", str(k)) for k in range(n))
+
+
+def lines(n, text):
+    """A text n times over, sixteen in a line."""
+    return "".join(text * min(16, n - k) + "\n" for k in range(0, n, 16))
 
 
 def simple_table(rows, columns):
@@ -41,50 +29,83 @@ def simple_table(rows, columns):
     return rule + (" ".join(["cell "] * columns).rstrip() + "\n") * rows + rule
 
 
+def spanned_table(rows):
+    """A simple table in which a rule under its span ends every second row."""
+    return "===== =====\n" + "cell  cell\n===========\n".replace("=", "-") * rows + "cell  cell\n===== =====\n"
+
+
 def grid_table(rows, columns):
     rule = "+-----" * columns + "+\n"
     return rule + ("| cel " * columns + "|\n" + rule) * rows
 
 
-# A family gives for n a document of some multiple of n bytes; each is called at n, 2n and 4n.
+def open_grid(rows):
+    """A grid whose last cells lack a corner, so that no cells cover it."""
+    return "+--+--+\n" + "|  |  |\n+--+--+\n" * (rows - 1) + "|  |  |\n+-----+\n"
+
+
+def wide_open_grid(columns):
+    """A grid of one row whose cells lack their lower corners."""
+    return "+-" * columns + "+\n" + "| " * columns + "|\n+" + "-" * (2 * columns - 1) + "+\n"
+
+
+# A family gives for n a document of some multiple of n bytes; each is made for n, 2n and 4n.
 FAMILIES = {
     "paragraphs": lambda n: "some words\nin two lines\n\n" * n,
     "one paragraph": lambda n: "some words\n" * n,
     "blank lines": lambda n: "\n" * n,
-    "sections": lambda n: "".join(f"Title {k}\n==========\n\ntext\n\n" for k in range(n)),
+    "sections": lambda n: numbered(n, "Title {k}\n==========\n\ntext\n\n"),
+    "sections of one title": lambda n: "Title\n=====\n\ntext\n\n" * n,
     "bullet lists": lambda n: "* item\n" * n,
     "separate bullet lists": lambda n: "* item\n\n- item\n\n" * n,
-    "enumerated lists": lambda n: "".join(f"{k}. item\n" for k in range(1, n + 1)),
-    "nested lists": lambda n: nested(n, "- "),
-    "nested quotes": lambda n: nested(n, " "),
-    "definition lists": lambda n: "".join(f"term {k}\n  definition\n" for k in range(n)),
+    "enumerated lists": lambda n: "#. item\n" * n,
+    "definition lists": lambda n: numbered(n, "term {k}\n  definition\n"),
     "field lists": lambda n: "text\n\n" + ":name: body\n" * n,
+    "docinfo": lambda n: ":name: body\n" * n,
     "option lists": lambda n: "-a  description\n" * n,
     "line blocks": lambda n: "| a\n|   b\n" * n,
+    "nested lists": lambda n: nested(n, "- "),
+    "nested quotes": lambda n: nested(n, " "),
+    "nested quotes, outwards": lambda n: outwards(n),
     "literal blocks": lambda n: "a::\n\n  b\n\n" * n,
     "comments": lambda n: ".. a comment\n\n" * n,
     "transitions": lambda n: "a\n\n----\n\n" * n + "a\n",
+    "transitions alone": lambda n: "a\n\n" + "----\n\n" * n + "a\n",
     "simple table": lambda n: simple_table(n, 4),
+    "simple table with spans": lambda n: spanned_table(n),
     "wide simple table": lambda n: simple_table(20, max(2, n // 20)),
     "grid table": lambda n: grid_table(n, 4),
     "wide grid table": lambda n: grid_table(4, n),
-    "references": lambda n: "".join(f"a{k}_\n\n.. _a{k}: u\n\n" for k in range(n)),
-    "targets in a row": lambda n: "".join(f".. _a{k}:\n" for k in range(n)) + "\ntext\n",
+    "square grid table": lambda n: grid_table(*[max(2, round(n**0.5))] * 2),
+    "malformed grid": lambda n: open_grid(n),
+    "malformed wide grid": lambda n: wide_open_grid(n),
+    "references": lambda n: numbered(n, "a{k}_\n\n.. _a{k}: u\n\n"),
+    "unknown references": lambda n: numbered(n, "a{k}_\n\n"),
+    "anonymous references": lambda n: "a__\n\n__ u\n\n" * n,
+    "indirect targets": lambda n: "".join(f".. _a{k}: a{k + 1}_\n" for k in range(n)) + f".. _a{n}: u\n",
+    "targets": lambda n: numbered(n, ".. _a{k}: u\n"),
+    "targets in a row": lambda n: numbered(n, ".. _a{k}:\n") + "\ntext\n",
     "duplicate targets": lambda n: ".. _a: u\n" * n,
+    "duplicate targets, other URIs": lambda n: numbered(n, ".. _a: u{k}\n"),
     "footnotes": lambda n: "[#]_\n\n" * n + ".. [#] note\n" * n,
-    "citations": lambda n: "".join(f"[a{k}]_\n\n.. [a{k}] text\n\n" for k in range(n)),
-    "substitutions": lambda n: "|a| " * n + "\n\n.. |a| replace:: text\n",
+    "citations": lambda n: numbered(n, "[a{k}]_\n\n.. [a{k}] text\n\n"),
+    "substitutions": lambda n: lines(n, "|a| ") + "\n.. |a| replace:: text\n",
+    "substitution definitions": lambda n: numbered(n, "|a{k}|\n\n.. |a{k}| replace:: text\n\n"),
     "directives": lambda n: ".. note:: text\n\n" * n,
-    "emphasis": lambda n: "*a* " * n + "\n",
-    "unclosed emphasis": lambda n: "*a " * n + "\n",
-    "unclosed strong": lambda n: "**a " * n + "\n",
-    "unclosed literal": lambda n: "``a " * n + "\n",
-    "unclosed phrase": lambda n: "`a " * n + "\n",
-    "unclosed substitution": lambda n: "|a " * n + "\n",
-    "unclosed roles": lambda n: ":a`b " * n + "\n",
+    "unknown directives": lambda n: ".. unknown:: text\n\n" * n,
+    "emphasis": lambda n: lines(n, "*a* "),
+    "names": lambda n: lines(n, "a_ "),
+    "URIs": lambda n: lines(n, "http://a/ "),
+    "unclosed emphasis": lambda n: lines(n, "*a "),
+    "unclosed strong": lambda n: lines(n, "**a "),
+    "unclosed literal": lambda n: lines(n, "``a "),
+    "unclosed phrase": lambda n: lines(n, "`a "),
+    "unclosed target": lambda n: lines(n, "_`a "),
+    "unclosed substitution": lambda n: lines(n, "|a "),
+    "unclosed roles": lambda n: lines(n, ":a:`b "),
     "unclosed labels": lambda n: "[" * n + "\n",
-    "names": lambda n: "a_ " * n + "\n",
+    "unclosed of each kind": lambda n: lines(n, "*a **b ``c `d _`e |f "),
     "one long word with dashes": lambda n: "a-" * n + "\n",
-    "URIs": lambda n: "http://a/ " * n + "\n",
+    "one long URI": lambda n: "http://" + "a/" * n + "\n",
     "backslashes": lambda n: "\\" * n + "\n",
 }

@@ -1,17 +1,20 @@
 #!/usr/bin/env python3
 """Measures the program, and Docutils and pandoc where they are installed, in one run.
 
-    bench/run.py [--n N] [--only WORD] [--no-others] [PROGRAM]
+    bench/run.py [--n N] [--only WORD] [--limit SECONDS] [--no-others] [PROGRAM]
 
-It makes its inputs: two documents of ordinary prose (1 MB and 10 MB), and families of documents at n, 2n and 4n. For each it prints
-CPU seconds (user and system, the least of three runs for the program), megabytes a second, peak memory, and for a family the
-exponent of its growth from n to 4n: 1 is linear, 2 quadratic. A document that is refused says so.
+It makes its inputs: documents of ordinary prose (1 MB and 10 MB), and families of documents at n, 2n and 4n. For each input and
+each program it prints CPU seconds (user and system, the least of three runs for PROGRAM, one run for the others), megabytes a
+second, and peak memory; for a family also the exponent of its growth from n to 4n, without what an empty document costs: 1
+is linear, 2 quadratic. A run past the limit of CPU seconds is stopped, and larger members of its family aren't tried.
+PROGRAM is by itself the one that was built here, or else the one in dist/.
 """
 
 import argparse
 import math
 import os
 import pathlib
+import platform
 import resource
 import shutil
 import subprocess
@@ -19,9 +22,23 @@ import sys
 import tempfile
 import time
 
-from families import FAMILIES, prose
+from families import FAMILIES
+from prose import prose
 
 TOP = pathlib.Path(__file__).resolve().parent.parent
+PROGRAMS = [TOP / "crates/rst2pseudoxml/out/rst2pseudoxml", TOP / "dist/rst2pseudoxml"]
+# Nothing halts a run, and lines may be as long as inputs.
+WORDS = ["--halt=5", "--line-length-limit=16777216"]
+
+
+class Run:
+    """What a run over an input cost: CPU seconds, the most memory in MB, and the exit status (below 0 where it was killed)."""
+
+    def __init__(self, seconds, memory, status):
+        self.seconds, self.memory, self.status = seconds, memory, status
+
+    def failed(self):
+        return self.status not in (0, *range(10, 15))
 
 
 def peak(pid):
@@ -33,78 +50,138 @@ def peak(pid):
         return 0.0
 
 
-def measured(words, path, runs=1):
-    """The least CPU seconds of some runs over a file, the most memory in MB, and the status."""
-    least, memory, status = math.inf, 0.0, 0
-    for _ in range(runs):
-        with open(path, "rb") as given, open(os.devnull, "wb") as nothing:
-            process = subprocess.Popen(words, stdin=given, stdout=nothing, stderr=nothing)
-        ended = 0
-        # What the system tells of a process that has ended counts the memory of this one, so it is looked at while it runs.
-        while not ended:
-            memory = max(memory, peak(process.pid))
-            ended, wait_status, usage = os.wait4(process.pid, os.WNOHANG)
-        least = min(least, usage.ru_utime + usage.ru_stime)
-        status = os.waitstatus_to_exitcode(wait_status)
-    return least, memory, status
+def run(words, path, limit):
+    """A run over a file with a limit of CPU seconds."""
+    with open(path, "rb") as given, open(os.devnull, "wb") as nothing:
+        process = subprocess.Popen(
+            words,
+            stdin=given,
+            stdout=nothing,
+            stderr=nothing,
+            preexec_fn=lambda: resource.setrlimit(resource.RLIMIT_CPU, (limit, limit + 5)),
+        )
+    began, memory, ended = time.monotonic(), 0.0, 0
+    # What the system tells of a process that has ended counts the memory of this one, so it is looked at while it runs.
+    while not ended:
+        memory = max(memory, peak(process.pid))
+        time.sleep(min(0.01, (time.monotonic() - began) / 50))
+        ended, status, usage = os.wait4(process.pid, os.WNOHANG)
+    process.returncode = os.waitstatus_to_exitcode(status)
+    return Run(usage.ru_utime + usage.ru_stime, memory, process.returncode)
+
+
+def best(words, path, limit, runs):
+    """The least CPU seconds of some runs, with the most memory."""
+    done = [run(words, path, limit)]
+    while len(done) < runs and not done[-1].failed() and done[-1].seconds < 10:
+        done.append(run(words, path, limit))
+    return Run(min(one.seconds for one in done), max(one.memory for one in done), done[-1].status)
+
+
+def version(words):
+    """The first line that a program prints."""
+    try:
+        return subprocess.run(words, stdout=subprocess.PIPE, stderr=subprocess.DEVNULL).stdout.decode().split("\n")[0]
+    except OSError:
+        return ""
 
 
 def others():
-    """Other programs that read reStructuredText, by name."""
+    """Other programs that read reStructuredText, by name and version."""
     found = {}
+    for python in (sys.executable, "/usr/bin/python3"):
+        number = version([python, "-c", "import docutils, sys; print(docutils.__version__, 'on Python', sys.version.split()[0])"])
+        if number:
+            call = "import docutils.core as c; c.publish_cmdline(writer_name='pseudoxml')"
+            found[f"Docutils {number}"] = [python, "-c", call, *WORDS]
+            break
     if shutil.which("pandoc"):
-        found["pandoc"] = ["pandoc", "-f", "rst", "-t", "native"]
-    try:
-        import docutils.core  # noqa: F401
-
-        found["Docutils"] = [sys.executable, "-c", "import docutils.core as c; c.publish_cmdline(writer_name='pseudoxml')", "--quiet", "--halt=5"]
-    except ImportError:
-        pass
+        found[version(["pandoc", "--version"])] = ["pandoc", "-f", "rst", "-t", "native"]
     return found
 
 
-def show(name, size, seconds, memory, status, note=""):
-    rate = size / 1e6 / seconds if seconds > 0 else math.inf
-    refused = "" if status in (0, *range(10, 15)) else f"  status {status}"
-    print(f"  {name:<28}{size / 1e6:9.2f} MB{seconds:10.3f} s{rate:10.1f} MB/s{memory:9.1f} MB peak{note}{refused}", flush=True)
+def processor():
+    try:
+        with open("/proc/cpuinfo", encoding="utf-8") as file:
+            return next((line.split(":")[1].strip() for line in file if line.startswith("model name")), platform.machine())
+    except OSError:
+        return platform.machine()
+
+
+class Bench:
+    """The programs, and what each costs for an empty document."""
+
+    def __init__(self, folder, programs, limit):
+        self.path, self.programs, self.limit = os.path.join(folder, "input.rst"), programs, limit
+        self.write("")
+        self.start = {name: self.measured(name).seconds for name in programs}
+
+    def write(self, text):
+        with open(self.path, "w", encoding="utf-8") as file:
+            file.write(text)
+        return os.path.getsize(self.path)
+
+    def measured(self, name):
+        return best(self.programs[name], self.path, self.limit, 3 if name == "rst2pseudoxml" else 1)
+
+    def exponent(self, name, runs):
+        """The exponent of the growth from the first to the last of runs that each have twice the input of the one before."""
+        least = 0.001
+        first, last = (max(one.seconds - self.start[name], least) for one in (runs[0], runs[-1]))
+        return math.log2(last / first) / (len(runs) - 1)
+
+    def document(self, title, text):
+        """Shows what the programs need for one document."""
+        size = self.write(text)
+        print(title)
+        for name in self.programs:
+            show(name, size, self.measured(name))
+
+    def family(self, title, made, n):
+        """Shows what the programs need for the members of a family."""
+        print(title)
+        runs = {name: [] for name in self.programs}
+        for count in (n, 2 * n, 4 * n):
+            size = self.write(made(count))
+            for name, done in runs.items():
+                if done and done[-1].failed():
+                    continue
+                done.append(self.measured(name))
+                whole = [one for one in done if not one.failed()]
+                grown = f"  exponent {self.exponent(name, whole):.2f}" if count == 4 * n and len(whole) == 3 else ""
+                show(f"{name}, {count}", size, done[-1], grown)
+
+
+def show(name, size, measured, note=""):
+    rate = size / 1e6 / measured.seconds if measured.seconds > 0 else math.inf
+    failed = f"  status {measured.status}" if measured.failed() else ""
+    memory = f"{measured.memory:8.1f}" if measured.memory else "       -"
+    print(
+        f"  {name:<44}{size / 1e6:8.3f} MB{measured.seconds:9.3f} s{rate:9.2f} MB/s{memory} MB peak{note}{failed}",
+        flush=True,
+    )
 
 
 def main():
     parser = argparse.ArgumentParser(description="Measures the program, and others where they are installed.")
-    parser.add_argument("program", nargs="?", default=str(TOP / "rst2pseudoxml"))
+    parser.add_argument("program", nargs="?", help="the program; by itself the one that was built here, or else that in dist/")
     parser.add_argument("--n", type=int, default=20000, help="the least size of a family")
-    parser.add_argument("--only", default="", help="the families whose names hold this word")
+    parser.add_argument("--only", default="", help="the inputs whose names hold this word")
+    parser.add_argument("--limit", type=int, default=60, help="the most CPU seconds of a run")
     parser.add_argument("--no-others", action="store_true", help="no other programs")
     given = parser.parse_args()
-    programs = {"rst2pseudoxml": [given.program]}
-    compared = {} if given.no_others else others()
-    print(f"{time.strftime('%Y-%m-%d')}, {os.cpu_count()} processors; {given.program}; beside it: {', '.join(compared) or 'none'}")
+    program = given.program or str(next((path for path in PROGRAMS if path.exists()), PROGRAMS[-1]))
+    programs = {"rst2pseudoxml": [os.path.abspath(program), *WORDS], **({} if given.no_others else others())}
+    print(f"{time.strftime('%Y-%m-%d')}, {processor()}, {os.cpu_count()} processors, {platform.system()} {platform.release()}")
+    print(f"{program}; beside it: {', '.join(list(programs)[1:]) or 'none'}")
     with tempfile.TemporaryDirectory() as folder:
-        path = os.path.join(folder, "input.rst")
-
-        def write(text):
-            with open(path, "w", encoding="utf-8") as file:
-                file.write(text)
-            return os.path.getsize(path)
-
-        for size in (12, 1_000_000, 10_000_000):
-            if given.only and given.only not in "prose":
-                continue
-            print(f"prose of {size} bytes" if size > 12 else "Hello, world")
-            length = write(prose(size) if size > 12 else "Hello, world")
-            for name, words in {**programs, **(compared if size <= 1_000_000 else {})}.items():
-                show(name, length, *measured(words, path, 3 if name == "rst2pseudoxml" else 1))
-        for family, made in FAMILIES.items():
-            if given.only not in family:
-                continue
-            print(family)
-            times = []
-            for n in (given.n, 2 * given.n, 4 * given.n):
-                length = write(made(n))
-                seconds, memory, status = measured(programs["rst2pseudoxml"], path, 3)
-                times.append(seconds)
-                grown = math.log(max(times[-1], 1e-3) / max(times[0], 1e-3), 4) if len(times) == 3 else None
-                show(f"n = {n}", length, seconds, memory, status, f"  exponent {grown:.2f}" if grown is not None else "")
+        bench = Bench(folder, programs, given.limit)
+        for title, size in (("Hello, world", 0), ("prose, 1 MB", 1_000_000), ("prose, 10 MB", 10_000_000)):
+            if given.only in title:
+                bench.document(title, prose(size) if size else "Hello, world\n")
+        for title, made in FAMILIES.items():
+            if given.only in title:
+                bench.family(title, made, given.n)
     return 0
 
 

@@ -35,6 +35,10 @@ printf 'Hello, world' >'two words'
 same 'a file' "0 ${hello/<stdin>/two words}" "$(answer 'not read' 'two words')"
 same 'a folder as a file' '1 rst2pseudoxml: read failed' "$(answer 'a' .)"
 same 'settings' "0 ${hello/Hello, world/a   b}" "$(answer 'a\tb' --tab-width 4)"
+warning='<stdin>:1: (WARNING/2) Inline emphasis start-string without end-string.'
+same 'a message that halts' "1 $warning"$'\nExiting due to level-2 (WARNING) system message.' "$(answer '*a' --halt=2)"
+same 'an exit status' "12 ${hello/Hello, world/$'*\n        a'}" "$(answer '*a' -q --exit-status=2)"
+same 'nested too deep' '1 rst2pseudoxml: line 3: nesting too deep' "$(answer "text\n\n$(printf -- '- %.0s' {1..251})a")"
 same 'by a link' "$hello" "$(printf 'Hello, world' | ./linked)"
 head -c 16777217 /dev/zero | "$top/rst2pseudoxml" >out 2>err
 same 'too long' '1 rst2pseudoxml: input too long' "$? $(cat out err)"

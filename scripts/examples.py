@@ -2,8 +2,9 @@
 """Runs every example of the README and of docs/ and compares its output with what the page shows.
 
 An example is a fenced block marked `console`. A line that begins with `$ ` is a command for bash, run at the top of the
-repository; the lines below it, up to the next command, are what it prints on standard output. The commands of a block share
-one shell.
+repository; lines directly below it that begin with `> ` (or are `>` alone) are further lines of the command. The lines below
+these, up to the next command, are what it prints on standard output; standard error isn't looked at. The commands of a block
+share one shell.
 """
 
 import pathlib
@@ -26,6 +27,8 @@ def blocks(page):
             start = None
         elif line.startswith("$ "):
             pairs.append((line[2:], []))
+        elif pairs and not pairs[-1][1] and (line + " ").startswith("> "):
+            pairs[-1] = (pairs[-1][0] + "\n" + line[2:], [])
         elif pairs:
             pairs[-1][1].append(line)
         else:
@@ -35,7 +38,9 @@ def blocks(page):
 def outputs(commands):
     """What each of the commands prints, in one shell."""
     script = "".join(f"{command}\n__status=$?; echo '{MARK}'; (exit $__status)\n" for command in commands)
-    run = subprocess.run(["bash", "-c", script], cwd=TOP, stdin=subprocess.DEVNULL, stdout=subprocess.PIPE)
+    run = subprocess.run(
+        ["bash", "-c", script], cwd=TOP, stdin=subprocess.DEVNULL, stdout=subprocess.PIPE, stderr=subprocess.DEVNULL
+    )
     return run.stdout.decode("utf-8", "replace").split(MARK + "\n")[:-1]
 
 
