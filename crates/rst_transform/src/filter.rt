@@ -95,10 +95,7 @@ fn filtered(
     let mut done = Vec::new(alloc);
     for node in nodes.into_list() {
         match node {
-            Node::Text(text) => {
-                done.push(Node::Text(text))?;
-                continue;
-            }
+            Node::Text(text) => done.push(Node::Text(text))?,
             Node::Element {
                 tag,
                 mut attrs,
