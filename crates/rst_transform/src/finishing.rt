@@ -1,4 +1,8 @@
 //! All transforms, in order.
+ghost use Rattle.std.specs.Prelude.{◌≡◌, ◌≤◌, IfOk, true};
+ghost use Rattle.rst_transform.specs.Messages.{EndsAtHalt, highest_level};
+ghost use Rattle.rst_transform.specs.Shown.{is_shown_in};
+
 use crate::anonymous::anonymous;
 use crate::docinfo::docinfo;
 use crate::expand::expand;
@@ -32,12 +36,19 @@ pub struct Finished {
 
 /// Finishes a parsed document, in which `messages` numbers were given to messages: names and ids, then all transforms, the last
 /// section, and the messages below the report level taken out (Document Tree, 'Introduction').
+///
+/// It refuses for want of memory (`NoMemory`), or where the finished document is no tree (`NoTree`).
 pub fn finish(
     alloc: Global,
     document: Marked,
     messages: u64,
     settings: &Settings,
-) -> Result<Finished, TransformFault> {
+) -> Result<Finished, TransformFault>
+    ensures shown { IfOk result (λ done. is_shown_in settings.now.report done.tree ≡ true) }
+    ensures halt { IfOk result (λ done. EndsAtHalt settings.now.halt done.notes.items) }
+    ensures highest { IfOk result (λ done. done.highest ≡ highest_level done.notes.items) }
+    ensures few { IfOk result (λ done. done.highest ≤ 4) }
+{
     let Registered {
         root,
         ids,

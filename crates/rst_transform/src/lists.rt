@@ -1,6 +1,8 @@
 //! Lists of texts among the attributes, and lists of nodes.
 ghost use Rattle.std.specs.Prelude.{◌≡◌, ◌++◌};
+ghost use Rattle.rst_tree.specs.Attributes.{value_of};
 ghost use Rattle.rst_tree.specs.Faults.{Gives};
+ghost use Rattle.rst_transform.specs.Reading.{number_in};
 
 use rst_tree::{Attrs, Key, Node, Text, Texts, TreeFault, Value};
 use std::alloc::Global;
@@ -50,7 +52,9 @@ fn append_from(alloc: Global, attrs: &mut Attrs, key: Key, from: &Attrs) -> Resu
 }
 
 /// What an attribute says, where it is a number.
-pub(crate) fn number(attrs: &Attrs, key: Key) -> Option<u64> {
+pub(crate) fn number(attrs: &Attrs, key: Key) -> Option<u64>
+    ensures { result ≡ number_in (value_of key attrs.now) }
+{
     match attrs.get(key) {
         Some(Value::Number(number)) => Some(*number),
         _ => None,
