@@ -1,5 +1,5 @@
 -- Nodes that are shown.
-use Rattle.std.proofs.Common.{◌≡◌, ℕ, unwrap_or, List, [], ◌∷◌, ◌++◌, Bool, true, false, not, ◌&&◌, ◌||◌, refl, ap, sym, ◌∙◌, arith}
+use Rattle.std.proofs.Common.{◌≡◌, ℕ, unwrap_or, List, [], ◌∷◌, ◌++◌, Bool, true, false, not, ◌&&◌, refl, ap, sym, ◌∙◌, arith}
 use Rattle.rst_settings.specs.declared.Threshold.{Threshold}
 use Rattle.rst_tree.specs.declared.attrs.Attr.{Attr}
 use Rattle.rst_tree.specs.declared.key.Key.{Key}

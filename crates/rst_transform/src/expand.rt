@@ -3,7 +3,7 @@ ghost use Rattle.std.specs.Prelude.{◌≡◌, ◌<◌, ◌≤◌, OnOk};
 
 use crate::definitions::Definitions;
 use crate::lists::joined;
-use crate::texts::said;
+use crate::reading::said;
 use crate::work::Work;
 use rst_tree::{Attrs, Children, Key, Level, Node, Tag, TreeFault};
 use std::alloc::{AllocError, AllocFailed, Global};

@@ -3,8 +3,8 @@ ghost use Rattle.std.specs.Prelude.{◌≡◌, true};
 ghost use Rattle.rst_tree.specs.Faults.{Gives};
 ghost use Rattle.rst_transform.specs.Shown.{is_below, is_gone, are_shown, is_shown_in};
 
-use crate::lists::number;
 use crate::messages::{level_number, reaches};
+use crate::reading::number;
 use rst_settings::Threshold;
 use rst_tree::{Attrs, Children, Key, Node, Tag, Text, TreeFault};
 use std::alloc::Global;

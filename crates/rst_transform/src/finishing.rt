@@ -49,22 +49,9 @@ pub fn finish(
     ensures highest { IfOk result (λ done. done.highest ≡ highest_level done.notes.items) }
     ensures few { IfOk result (λ done. done.highest ≤ 4) }
 {
-    let Registered {
-        root,
-        ids,
-        names,
-        serials,
-    } = register(alloc, document)?;
+    let work = registered(alloc, document, messages)?;
     let mut list = Messages::new(alloc, settings.halt);
-    list.read(alloc, &root)?;
-    let work = Work {
-        root,
-        ids,
-        names,
-        reports: Vec::new(alloc),
-        first_number: messages,
-        serials,
-    };
+    list.read(alloc, &work.root)?;
     let work = transformed(alloc, work, settings)?;
     let Work { root, reports, .. } = last_section(alloc, work, settings.report)?;
     list.add_reports(reports)?;
@@ -77,6 +64,24 @@ pub fn finish(
         }),
         Err(_) => Err(TransformFault::NoTree),
     }
+}
+
+/// A document with names and ids, before the transforms.
+fn registered(alloc: Global, document: Marked, messages: u64) -> Result<Work, TreeFault> {
+    let Registered {
+        root,
+        ids,
+        names,
+        serials,
+    } = register(alloc, document)?;
+    Ok(Work {
+        root,
+        ids,
+        names,
+        reports: Vec::new(alloc),
+        first_number: messages,
+        serials,
+    })
 }
 
 /// A document after all transforms.

@@ -1,8 +1,6 @@
 //! Lists of texts among the attributes, and lists of nodes.
 ghost use Rattle.std.specs.Prelude.{◌≡◌, ◌++◌};
-ghost use Rattle.rst_tree.specs.Attributes.{value_of};
 ghost use Rattle.rst_tree.specs.Faults.{Gives};
-ghost use Rattle.rst_transform.specs.Reading.{number_in};
 
 use rst_tree::{Attrs, Key, Node, Text, Texts, TreeFault, Value};
 use std::alloc::Global;
@@ -48,16 +46,6 @@ fn append_from(alloc: Global, attrs: &mut Attrs, key: Key, from: &Attrs) -> Resu
     match from.get(key) {
         Some(Value::List(more)) => append(alloc, attrs, key, more.as_slice()),
         _ => Ok(()),
-    }
-}
-
-/// What an attribute says, where it is a number.
-pub(crate) fn number(attrs: &Attrs, key: Key) -> Option<u64>
-    ensures { result ≡ number_in (value_of key attrs.now) }
-{
-    match attrs.get(key) {
-        Some(Value::Number(number)) => Some(*number),
-        _ => None,
     }
 }
 

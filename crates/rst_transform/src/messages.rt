@@ -4,7 +4,7 @@ ghost use Rattle.rst_settings.specs.Threshold.{is_reached};
 ghost use Rattle.rst_tree.specs.Attributes.{value_of};
 ghost use Rattle.rst_transform.specs.Messages.{has_halt, EndsAtHalt, highest_level, level_said};
 
-use crate::lists::number;
+use crate::reading::number;
 use crate::work::Report;
 use rst_settings::Threshold;
 use rst_tree::{Attrs, Children, Key, Level, Node, Note, Tag, Text, TreeFault};

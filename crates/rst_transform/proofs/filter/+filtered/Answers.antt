@@ -24,5 +24,5 @@ loop-node-preserved-in-BecomesText t c = rw c.in_ok-push-in-BecomesText.ensures.
 pub loop-node-preserved-in-Stays : goal.loop-node-preserved-in-Stays
 loop-node-preserved-in-Stays t c =
     let shown = element_shown c.args.report c.in-Element.tag c.in-Element.attrs c.remove_hidden.new.self c.in_ok-children-in-Stays.children c.in-Element.line
-                c.in-Stays.ensures c.remove_hidden.ensures c.in_ok-children-in-Stays.ensures in
+    c.in-Stays.ensures c.remove_hidden.ensures c.in_ok-children-in-Stays.ensures in
     rw c.in_ok-push-in-Stays.ensures.items (shown_more c.args.report c.loop-node.done.items _ c.loop-node.invariant shown)
