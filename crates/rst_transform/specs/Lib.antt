@@ -1,3 +1,5 @@
 pub mod LinkKinds
 pub mod Links
+pub mod Messages
 pub mod Reading
+pub mod Shown

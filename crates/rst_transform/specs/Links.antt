@@ -9,7 +9,6 @@ use Rattle.rst_tree.specs.declared.tag.Tag.{Tag}
 use Rattle.rst_tree.specs.Forest.{bare, words}
 use Rattle.rst_tree.specs.Nodes.{forest_of}
 use Rattle.rst_tree.specs.Rewritten.{kept, rewritten}
-use Rattle.rst_transform.specs.declared.links.Addition.{Addition}
 use Rattle.rst_transform.specs.declared.links.Change.{Change}
 use Rattle.rst_transform.specs.declared.links.Change.TheVariants.{Stays, Becomes}
 use Rattle.rst_transform.specs.LinkKinds.{is_linked, with_more}

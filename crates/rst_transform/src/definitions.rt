@@ -1,6 +1,7 @@
 //! The substitution definitions of a document, by their names.
 
-use crate::texts::{copies, folded, said};
+use crate::reading::said;
+use crate::texts::{copies, folded};
 use rst_tree::{Children, Key, Node, Tag, TreeFault};
 use std::alloc::Global;
 use std::collections::BTreeMap;

@@ -3,7 +3,7 @@ ghost use Rattle.std.specs.Prelude.{◌≡◌, ◌<◌, ◌≤◌, OnOk};
 
 use crate::definitions::Definitions;
 use crate::lists::joined;
-use crate::texts::said;
+use crate::reading::said;
 use crate::work::Work;
 use rst_tree::{Attrs, Children, Key, Level, Node, Tag, TreeFault};
 use std::alloc::{AllocError, AllocFailed, Global};
@@ -135,30 +135,31 @@ fn add_expanded(
                 line,
             } => {
                 let mut inner = Vec::new(alloc);
-                add_expanded(
-                    alloc,
-                    definitions,
-                    children.as_slice(),
-                    progress,
-                    &mut inner,
-                )?;
-                nodes.push(Node::Element {
-                    tag: *tag,
-                    attrs: copied(alloc, attrs)?,
-                    children: Children::of(inner),
-                    line: *line,
-                })?;
+                let content = children.as_slice();
+                add_expanded(alloc, definitions, content, progress, &mut inner)?;
+                nodes.push(copied(alloc, *tag, attrs, inner, *line)?)?;
             }
         }
     }
     Ok(())
 }
 
-/// The attributes of a copy: the registered element stays the one that was copied.
-fn copied(alloc: Global, attrs: &Attrs) -> Result<Attrs, TreeFault> {
+/// A copy of an element around other nodes: the registered element stays the one that was copied.
+fn copied(
+    alloc: Global,
+    tag: Tag,
+    attrs: &Attrs,
+    children: Vec<Node>,
+    line: usize,
+) -> Result<Node, TreeFault> {
     let mut attrs = attrs.copy(alloc)?;
     attrs.remove(Key::Serial);
-    Ok(attrs)
+    Ok(Node::Element {
+        tag,
+        attrs,
+        children: Children::of(children),
+        line,
+    })
 }
 
 /// The content of the definition that a name finds, which is gone into.

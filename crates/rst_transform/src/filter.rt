@@ -1,6 +1,10 @@
 //! What of a document is shown.
-use crate::lists::number;
+ghost use Rattle.std.specs.Prelude.{◌≡◌, true};
+ghost use Rattle.rst_tree.specs.Faults.{Gives};
+ghost use Rattle.rst_transform.specs.Shown.{is_below, is_gone, are_shown, is_shown_in};
+
 use crate::messages::{level_number, reaches};
+use crate::reading::number;
 use rst_settings::Threshold;
 use rst_tree::{Attrs, Children, Key, Node, Tag, Text, TreeFault};
 use std::alloc::Global;
@@ -22,7 +26,9 @@ use std::collections::BTreeSet;
 ///     <paragraph>
 ///         *
 ///         a
-pub(crate) fn filter(alloc: Global, root: Node, report: Threshold) -> Result<Node, TreeFault> {
+pub(crate) fn filter(alloc: Global, root: Node, report: Threshold) -> Result<Node, TreeFault>
+    ensures { Gives (λ node. is_shown_in report node ≡ true) result }
+{
     let mut shown = BTreeSet::new(alloc);
     find_shown(&root, report, &mut shown)?;
     match root {
@@ -74,7 +80,9 @@ enum Fate {
 }
 
 /// What becomes of an element of a kind with these attributes.
-fn fate_of(tag: Tag, attrs: &Attrs, report: Threshold, shown: &BTreeSet<u64>) -> Fate {
+fn fate_of(tag: Tag, attrs: &Attrs, report: Threshold, shown: &BTreeSet<u64>) -> Fate
+    ensures { is_gone result ≡ is_below report tag attrs.now }
+{
     match tag {
         Tag::SystemMessage if !reaches(level_number(attrs), report) => Fate::Vanishes,
         Tag::Problematic => match number(attrs, Key::Message) {
@@ -91,14 +99,13 @@ fn filtered(
     nodes: Children,
     report: Threshold,
     shown: &BTreeSet<u64>,
-) -> Result<Children, TreeFault> {
+) -> Result<Children, TreeFault>
+    ensures { Gives (λ nodes. are_shown report nodes ≡ true) result }
+{
     let mut done = Vec::new(alloc);
     for node in nodes.into_list() {
         match node {
-            Node::Text(text) => {
-                done.push(Node::Text(text))?;
-                continue;
-            }
+            Node::Text(text) => done.push(Node::Text(text))?,
             Node::Element {
                 tag,
                 mut attrs,

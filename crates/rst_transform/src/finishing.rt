@@ -1,4 +1,8 @@
 //! All transforms, in order.
+ghost use Rattle.std.specs.Prelude.{◌≡◌, ◌≤◌, IfOk, true};
+ghost use Rattle.rst_transform.specs.Messages.{EndsAtHalt, highest_level};
+ghost use Rattle.rst_transform.specs.Shown.{is_shown_in};
+
 use crate::anonymous::anonymous;
 use crate::docinfo::docinfo;
 use crate::expand::expand;
@@ -32,28 +36,22 @@ pub struct Finished {
 
 /// Finishes a parsed document, in which `messages` numbers were given to messages: names and ids, then all transforms, the last
 /// section, and the messages below the report level taken out (Document Tree, 'Introduction').
+///
+/// It refuses for want of memory (`NoMemory`), or where the finished document is no tree (`NoTree`).
 pub fn finish(
     alloc: Global,
     document: Marked,
     messages: u64,
     settings: &Settings,
-) -> Result<Finished, TransformFault> {
-    let Registered {
-        root,
-        ids,
-        names,
-        serials,
-    } = register(alloc, document)?;
+) -> Result<Finished, TransformFault>
+    ensures shown { IfOk result (λ done. is_shown_in settings.now.report done.tree ≡ true) }
+    ensures halt { IfOk result (λ done. EndsAtHalt settings.now.halt done.notes.items) }
+    ensures highest { IfOk result (λ done. done.highest ≡ highest_level done.notes.items) }
+    ensures few { IfOk result (λ done. done.highest ≤ 4) }
+{
+    let work = registered(alloc, document, messages)?;
     let mut list = Messages::new(alloc, settings.halt);
-    list.read(alloc, &root)?;
-    let work = Work {
-        root,
-        ids,
-        names,
-        reports: Vec::new(alloc),
-        first_number: messages,
-        serials,
-    };
+    list.read(alloc, &work.root)?;
     let work = transformed(alloc, work, settings)?;
     let Work { root, reports, .. } = last_section(alloc, work, settings.report)?;
     list.add_reports(reports)?;
@@ -66,6 +64,24 @@ pub fn finish(
         }),
         Err(_) => Err(TransformFault::NoTree),
     }
+}
+
+/// A document with names and ids, before the transforms.
+fn registered(alloc: Global, document: Marked, messages: u64) -> Result<Work, TreeFault> {
+    let Registered {
+        root,
+        ids,
+        names,
+        serials,
+    } = register(alloc, document)?;
+    Ok(Work {
+        root,
+        ids,
+        names,
+        reports: Vec::new(alloc),
+        first_number: messages,
+        serials,
+    })
 }
 
 /// A document after all transforms.

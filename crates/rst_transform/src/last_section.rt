@@ -1,5 +1,8 @@
 //! The last section of a document, with the messages of the transforms.
-use crate::messages::reaches;
+ghost use Rattle.std.specs.Prelude.{◌≡◌, ◌&&◌};
+ghost use Rattle.rst_settings.specs.Threshold.{is_reached};
+ghost use Rattle.rst_tree.specs.LevelNames.{level_number};
+
 use crate::work::{Report, Work};
 use rst_settings::Threshold;
 use rst_tree::{Attrs, Children, Key, Node, Tag, Text, Texts, TreeFault, Value};
@@ -28,8 +31,10 @@ pub(crate) fn last_section(
 }
 
 /// Whether a message stands in the last section and is at or above the report level.
-fn is_shown(report: &Report, threshold: Threshold) -> bool {
-    report.own && reaches(u64::from(report.note.level.number()), threshold)
+fn is_shown(report: &Report, threshold: Threshold) -> bool
+    ensures { result ≡ (report.now.own && is_reached threshold (level_number report.now.note.level)) }
+{
+    report.own && threshold.is_reached(report.note.level.number())
 }
 
 /// The section with the messages that stand in it.

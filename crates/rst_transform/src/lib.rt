@@ -44,3 +44,5 @@ mod outline;
 mod places_tests;
 #[cfg(test)]
 mod reference_tests;
+#[cfg(test)]
+mod transition_tests;

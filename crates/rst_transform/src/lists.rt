@@ -49,14 +49,6 @@ fn append_from(alloc: Global, attrs: &mut Attrs, key: Key, from: &Attrs) -> Resu
     }
 }
 
-/// What an attribute says, where it is a number.
-pub(crate) fn number(attrs: &Attrs, key: Key) -> Option<u64> {
-    match attrs.get(key) {
-        Some(Value::Number(number)) => Some(*number),
-        _ => None,
-    }
-}
-
 /// The nodes, and then more.
 pub(crate) fn joined(mut nodes: Vec<Node>, more: Vec<Node>) -> Result<Vec<Node>, TreeFault>
     ensures { Gives (λ all. all.items ≡ nodes.items ++ more.items) result }

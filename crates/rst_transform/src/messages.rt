@@ -1,30 +1,33 @@
 //! The list of messages, and the levels at which they count.
-use crate::lists::number;
+ghost use Rattle.std.specs.Prelude.{◌≡◌, ◌≤◌, min};
+ghost use Rattle.rst_settings.specs.Threshold.{is_reached};
+ghost use Rattle.rst_tree.specs.Attributes.{value_of};
+ghost use Rattle.rst_transform.specs.Messages.{has_halt, EndsAtHalt, highest_level, level_said};
+
+use crate::reading::number;
 use crate::work::Report;
 use rst_settings::Threshold;
 use rst_tree::{Attrs, Children, Key, Level, Node, Note, Tag, Text, TreeFault};
 use std::alloc::Global;
 
-/// Whether a level of that number is at or above a threshold.
-pub(crate) fn reaches(level: u64, threshold: Threshold) -> bool {
-    match threshold {
-        Threshold::Info => level >= 1,
-        Threshold::Warning => level >= 2,
-        Threshold::Error => level >= 3,
-        Threshold::Severe => level >= 4,
-        Threshold::Never => false,
-    }
+/// Whether a level of that number is at or above a threshold; a number above 4 counts as 4.
+pub(crate) fn reaches(level: u64, threshold: Threshold) -> bool
+    ensures { result ≡ is_reached threshold (min level 4) }
+{
+    threshold.is_reached(level.min(4) as u8)
 }
 
 /// The level of a `system_message` by its number.
-pub(crate) fn level_number(attrs: &Attrs) -> u64 {
+pub(crate) fn level_number(attrs: &Attrs) -> u64
+    ensures { result ≡ level_said attrs.now }
+{
     match number(attrs, Key::Level) {
         Some(level) => level,
         None => 0,
     }
 }
 
-/// The messages of a run in order, up to the first that halts it.
+/// The messages of a run in order, up to the first that halts it (Configuration, `halt_level`).
 #[derive(Drop)]
 pub(crate) struct Messages {
     notes: Vec<Note>,
@@ -32,11 +35,15 @@ pub(crate) struct Messages {
     halt: Threshold,
     /// Whether the last message does.
     halted: bool,
+    pub ghost halted_is: { halted ≡ has_halt halt notes.items },
+    pub ghost ends: { EndsAtHalt halt notes.items },
 }
 
 impl Messages {
     /// No message, of a run that halts at a threshold.
-    pub(crate) fn new(alloc: Global, halt: Threshold) -> Messages {
+    pub(crate) fn new(alloc: Global, halt: Threshold) -> Messages
+        ensures { result.halt ≡ halt }
+    {
         Messages {
             notes: Vec::new(alloc),
             halt,
@@ -45,17 +52,22 @@ impl Messages {
     }
 
     /// Adds a message, unless an earlier one halts the run.
-    fn push(&mut self, note: Note) -> Result<(), TreeFault> {
+    fn push(&mut self, note: Note) -> Result<(), TreeFault>
+        ensures { self.new.halt ≡ self.old.halt }
+    {
         if self.halted {
             return Ok(());
         }
-        self.halted = reaches(u64::from(note.level.number()), self.halt);
+        let halts = self.halt.is_reached(note.level.number());
         self.notes.push(note)?;
+        self.halted = halts;
         Ok(())
     }
 
     /// Adds the messages in a tree, in preorder.
-    pub(crate) fn read(&mut self, alloc: Global, node: &Node) -> Result<(), TreeFault> {
+    pub(crate) fn read(&mut self, alloc: Global, node: &Node) -> Result<(), TreeFault>
+        ensures { self.new.halt ≡ self.old.halt }
+    {
         if let Node::Element {
             tag,
             attrs,
@@ -74,7 +86,9 @@ impl Messages {
     }
 
     /// Adds the messages of the transforms.
-    pub(crate) fn add_reports(&mut self, reports: Vec<Report>) -> Result<(), TreeFault> {
+    pub(crate) fn add_reports(&mut self, reports: Vec<Report>) -> Result<(), TreeFault>
+        ensures { self.new.halt ≡ self.old.halt }
+    {
         for report in reports {
             self.push(report.note)?;
         }
@@ -82,7 +96,11 @@ impl Messages {
     }
 
     /// The messages, and the number of their highest level, 0 where there are none.
-    pub(crate) fn end(self) -> (Vec<Note>, u8) {
+    pub(crate) fn end(self) -> (Vec<Note>, u8)
+        ensures halt { EndsAtHalt self.halt result.0.items }
+        ensures highest { result.1 ≡ highest_level result.0.items }
+        ensures few { result.1 ≤ 4 }
+    {
         let mut highest = 0;
         for note in &self.notes {
             if note.level.number() > highest {

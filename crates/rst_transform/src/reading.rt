@@ -1,29 +1,55 @@
 //! What the attributes of an element say.
 ghost use Rattle.std.specs.Prelude.{◌≡◌, MatchOption, Some, None, is_some};
+ghost use Rattle.rst_tree.specs.Attributes.{value_of};
 ghost use Rattle.rst_tree.specs.Faults.{Gives};
 ghost use Rattle.rst_tree.specs.Paths.{node_value};
-ghost use Rattle.rst_transform.specs.Reading.{text_said, number_said, list_said, line_of};
+ghost use Rattle.rst_transform.specs.Reading.{text_in, number_in, text_said, number_said, list_said, line_of};
 
-use rst_tree::{Key, Node, Tag, Texts, TreeFault, Value};
+use rst_tree::{Attrs, Key, Node, Tag, Texts, TreeFault, Value};
 use std::alloc::Global;
 
-/// What an attribute says, where it is a text.
-pub(crate) fn text_said<'a>(node: &'a Node, key: Key) -> Option<&'a str>
-    ensures { MatchOption result (text_said key node.now ≡ None) (λ text. text_said key node.now ≡ Some text.now) }
+/// What the attribute of a name says, where it is a text.
+fn text<'a>(attrs: &'a Attrs, key: Key) -> Option<&'a str>
+    ensures { MatchOption result (text_in (value_of key attrs.now) ≡ None) (λ text. text_in (value_of key attrs.now) ≡ Some text.now) }
 {
-    match node.value(key) {
+    match attrs.get(key) {
         Some(Value::Text(text)) => Some(text.as_str()),
         _ => None,
     }
 }
 
+/// The same; the empty text where there is none.
+pub(crate) fn said(attrs: &Attrs, key: Key) -> &str {
+    text(attrs, key).unwrap_or("")
+}
+
+/// What an attribute of a node says, where it is a text.
+pub(crate) fn text_said<'a>(node: &'a Node, key: Key) -> Option<&'a str>
+    ensures { MatchOption result (text_said key node.now ≡ None) (λ text. text_said key node.now ≡ Some text.now) }
+{
+    match node {
+        Node::Element { attrs, .. } => text(attrs, key),
+        Node::Text(_) => None,
+    }
+}
+
 /// What an attribute says, where it is a number.
+pub(crate) fn number(attrs: &Attrs, key: Key) -> Option<u64>
+    ensures { result ≡ number_in (value_of key attrs.now) }
+{
+    match attrs.get(key) {
+        Some(Value::Number(number)) => Some(*number),
+        _ => None,
+    }
+}
+
+/// What an attribute of a node says, where it is a number.
 pub(crate) fn number_said(node: &Node, key: Key) -> Option<u64>
     ensures { result ≡ number_said key node.now }
 {
-    match node.value(key) {
-        Some(Value::Number(number)) => Some(*number),
-        _ => None,
+    match node {
+        Node::Element { attrs, .. } => number(attrs, key),
+        Node::Text(_) => None,
     }
 }
 

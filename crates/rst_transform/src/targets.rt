@@ -1,5 +1,6 @@
 //! Internal targets.
-use crate::lists::{append, number, take_list};
+use crate::lists::{append, take_list};
+use crate::reading::number;
 use crate::work::Work;
 use rst_names::{Holder, Names};
 use rst_tree::{Attrs, Children, Key, Node, Tag, Text, TreeFault, Value};

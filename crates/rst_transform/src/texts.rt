@@ -2,16 +2,8 @@
 
 use crate::lists::append_names;
 use rst_text::{id_of, name_of};
-use rst_tree::{Attrs, Children, Key, Node, TreeFault, Value};
+use rst_tree::{Attrs, Children, Node, TreeFault};
 use std::alloc::Global;
-
-/// What an attribute that is a text says; the empty text where there is none.
-pub(crate) fn said(attrs: &Attrs, key: Key) -> &str {
-    match attrs.get(key) {
-        Some(Value::Text(text)) => text.as_str(),
-        _ => "",
-    }
-}
 
 /// The name that a text gives, by `name_of`.
 pub(crate) fn folded(alloc: Global, text: &str) -> Result<String, TreeFault> {

@@ -1,0 +1,44 @@
+-- What of a finished document is shown (Configuration, `report_level`).
+use Rattle.std.specs.Prelude.{ℕ, min, List, [], ◌∷◌, Bool, true, false, not, ◌&&◌, ◌||◌}
+use Rattle.rst_settings.specs.declared.Threshold.{Threshold}
+use Rattle.rst_settings.specs.Threshold.{is_reached}
+use Rattle.rst_tree.specs.declared.attrs.Attr.{Attr}
+use Rattle.rst_tree.specs.declared.node.Node.{Node}
+use Rattle.rst_tree.specs.declared.node.Node.TheVariants.{Element, Text}
+use Rattle.rst_tree.specs.declared.tag.Tag.{Tag}
+use Rattle.rst_tree.specs.declared.tag.Tag.TheVariants.{SystemMessage}
+use Rattle.rst_tree.specs.Forest.{Forest, bare, element, words}
+use Rattle.rst_tree.specs.KeyNames.{is_hidden}
+use Rattle.rst_transform.specs.declared.filter.Fate.{Fate}
+use Rattle.rst_transform.specs.declared.filter.Fate.TheVariants.{Stays, BecomesText, Vanishes}
+use Rattle.rst_transform.specs.Messages.{level_said}
+
+-- whether an element that tells this number of a level is a message below the report level
+abbrev pub is_low : Threshold → Tag → ℕ → Bool
+is_low report SystemMessage level = not (is_reached report (min level 4))
+is_low report _ level = false
+
+abbrev pub is_below : Threshold → Tag → List Attr → Bool
+is_below report tag attrs = is_low report tag (level_said attrs)
+
+-- whether it is gone in the end
+abbrev pub is_gone : Fate → Bool
+is_gone Stays = false
+is_gone BecomesText = false
+is_gone Vanishes = true
+
+-- whether one of the attributes serves the transforms alone
+abbrev pub has_hidden : List Attr → Bool
+has_hidden [] = false
+has_hidden (a ∷ more) = is_hidden a.key || has_hidden more
+
+-- no element of the nodes, or in them, is a message below the report level, and none has an attribute that serves the transforms alone
+abbrev pub are_shown : Threshold → Forest → Bool
+are_shown report bare = true
+are_shown report (element t a c l r) = not (is_below report t a) && (not (has_hidden a) && (are_shown report c && are_shown report r))
+are_shown report (words t r) = are_shown report r
+
+-- the same for what stands in a document, and the document's own attributes
+abbrev pub is_shown_in : Threshold → Node → Bool
+is_shown_in report (Element t a c l) = not (has_hidden a) && are_shown report c
+is_shown_in report (Text t) = true
