@@ -43,6 +43,14 @@ Takes input bytes (Err Read) = input.failed ≡ true
 Takes input bytes (Err NoMemory) = Unit {0}
 Takes input bytes (Err _) = ⊥
 
+-- The end of the writing of some parts: all of them was written, standard error first, or a write failed, or memory ran out before it.
+abbrev pub Shows : Parts → Stream → Stream → End → Type 0
+Shows parts out err (Done status) = (status ≡ parts.status) × IsWritten err parts.err × IsWritten out parts.out
+Shows parts out err (WriteErr done) = IsCutShort err parts.err done × Untouched out
+Shows parts out err (WriteOut done) = IsWritten err parts.err × IsPrintedInPart out parts.out done
+Shows parts out err NoMemory = Untouched out × Untouched err
+Shows parts out err _ = ⊥
+
 -- the whole text was written, or the front of it up to a failed write
 abbrev pub Puts : {A : Type 0} → Stream → List ℕ → Result A ℕ → Type 0
 Puts out text (Ok _) = Gains out text × (out.failed ≡ out.had_failed)

@@ -1,4 +1,5 @@
-pub mod Shown
 pub mod Source
+pub mod Shown
+pub mod Reading
 pub mod Headline
 pub mod Report

@@ -1,9 +1,11 @@
 -- What the program shows of a finished document: standard output, standard error and the exit status.
-use Rattle.std.specs.Prelude.{◌≡◌, ℕ, ◌+◌, ◌<◌, ◌≤◌, Bool, true, false, ◌||◌, List, [], ◌∷◌, ◌++◌, length, filter, nat_le, if◌then◌else◌, Option, None, Some, IsSome, Result, Ok, Err, Vec, codes}
+use Rattle.std.specs.Prelude.{◌≡◌, ℕ, ◌+◌, ◌<◌, ◌≤◌, Bool, ◌||◌, List, [], ◌∷◌, ◌++◌, length, filter, if◌then◌else◌, Option, None, Some, IsSome, Result, Ok, Err, Vec, codes}
 use Rattle.std.specs.Fmt.{decimal}
 use Rattle.std.specs.List.{flat_map}
 use Rattle.std.specs.Str.Lossy.{utf8_valid_len}
 use Rattle.rst_text.specs.Counted.{inner_of}
+use Rattle.rst_text.specs.Block.{Block}
+use Rattle.rst_text.specs.Lines.{lines_of, first_longer}
 use Rattle.rst_text.specs.Text.{text_of}
 use Rattle.rst_text.specs.declared.counted.Counted.{Counted}
 use Rattle.rst_settings.specs.declared.Settings.{Settings}
@@ -12,8 +14,10 @@ use Rattle.rst_transform.specs.declared.finishing.Finished.{Finished}
 use Rattle.rst_tree.specs.LevelNames.{level_name, level_number}
 use Rattle.rst_tree.specs.Message.{message_of}
 use Rattle.rst_tree.specs.Print.{print_of}
+use Rattle.rst_tree.specs.declared.node.Node.{Node}
 use Rattle.rst_tree.specs.declared.note.Level.{Level}
 use Rattle.rst_tree.specs.declared.note.Note.{Note}
+use Rattle.rst2pseudoxml.specs.Source.{with_source}
 use Rattle.rst2pseudoxml.specs.declared.end.End.{End}
 use Rattle.rst2pseudoxml.specs.declared.end.End.TheVariants.{TooLong, NotUtf8, TooDeep, NoMemory}
 
@@ -59,22 +63,27 @@ parts_by settings source finished (Some level) = record { out = []; err = told s
 abbrev pub parts_of : Settings → List ℕ → Finished → Parts
 parts_of settings source finished = parts_by settings source finished (halting settings finished.notes.items)
 
+-- a document as it is printed: it tells its source, and its highest level is that of a message or 0
+abbrev pub IsFinished : List ℕ → Finished → Type 0
+IsFinished source finished = (tree : Node) × (finished.tree ≡ with_source source tree) × (finished.highest ≤ 4)
+
+-- no line is longer than the settings say
+abbrev pub IsShort : Settings → Block → Type 0
+IsShort settings lines = first_longer settings.limit lines ≡ None
+
+-- there is a text, and its lines are short
+abbrev pub HasShortLines : Settings → Option (List ℕ) → Type 0
+HasShortLines settings None = ⊥
+HasShortLines settings (Some text) = IsShort settings (lines_of settings.tab text)
+
 -- The answer to some bytes: what is shown of a document that they were read as, or the refusal of what is too long, no UTF-8 or
 -- nested too deeply.
 abbrev pub Answers : Settings → List ℕ → List ℕ → Result Parts End → Type 0
-Answers settings source bytes (Ok parts) = (length bytes ≤ 16777216) × IsSome (text_of bytes) × (finished : Finished) × (parts ≡ parts_of settings source finished)
+Answers settings source bytes (Ok parts) = (length bytes ≤ 16777216) × IsSome (text_of bytes) × (finished : Finished) × IsFinished source finished × (parts ≡ parts_of settings source finished)
 Answers settings source bytes (Err TooLong) = 16777216 < length bytes
 Answers settings source bytes (Err (NotUtf8 at)) = (length bytes ≤ 16777216) × (text_of bytes ≡ None) × (at ≡ utf8_valid_len bytes)
-Answers settings source bytes (Err (TooDeep line)) = (length bytes ≤ 16777216) × IsSome (text_of bytes)
+Answers settings source bytes (Err (TooDeep line)) = (length bytes ≤ 16777216) × HasShortLines settings (text_of bytes)
 Answers settings source bytes (Err _) = ⊥
-
--- a document was made of the bytes, or they were refused, or memory ran out
-abbrev pub Reads : List ℕ → Result Finished End → Type 0
-Reads bytes (Ok finished) = IsSome (text_of bytes)
-Reads bytes (Err (NotUtf8 at)) = (text_of bytes ≡ None) × (at ≡ utf8_valid_len bytes)
-Reads bytes (Err (TooDeep line)) = IsSome (text_of bytes)
-Reads bytes (Err NoMemory) = Unit {0}
-Reads bytes (Err _) = ⊥
 
 -- the text of the messages was made, or memory ran out
 abbrev pub Tells : {A : Type 0} → Settings → List ℕ → List Note → Result (Counted (Vec ℕ A)) End → Type 0

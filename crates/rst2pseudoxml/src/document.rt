@@ -1,17 +1,19 @@
 //! The document that an input is: its tree and its messages.
-ghost use Rattle.std.specs.Prelude.{◌≤◌, length};
-ghost use Rattle.rst2pseudoxml.specs.Shown.{Reads};
+ghost use Rattle.std.specs.Prelude.{◌≡◌, IfOk, string_bytes};
+ghost use Rattle.rst_tree.specs.Faults.{Gives};
+ghost use Rattle.rst2pseudoxml.specs.Reading as spec;
 
 use super::end::End;
+use super::source::with_source;
+use itoa::Buffer;
 use rst_block::{BlockFault, Parsed, parse};
 use rst_elements::message;
 use rst_marked::Marked;
 use rst_settings::Settings;
 use rst_text::{Lines, TextFault, decode};
-use super::source::with_source;
 use rst_transform::{Finished, finish};
-use rst_tree::{Attrs, Children, Key, Level, Node, Tag, Text, Tree, TreeFault, Value};
-use std::alloc::Global;
+use rst_tree::{Attrs, Children, Level, Node, Tag, TreeFault};
+use std::alloc::{AllocError, Global};
 
 /// The finished document of the bytes, or why they are refused.
 pub fn document_of(
@@ -20,8 +22,7 @@ pub fn document_of(
     source: &str,
     bytes: &[u8],
 ) -> Result<Finished, End>
-    requires { length bytes.now ≤ 16777216 }
-    ensures { Reads bytes.now result }
+    ensures { spec.Reads settings.now source.now bytes.now result }
 {
     let text = match decode(alloc, bytes) {
         Ok(text) => text,
@@ -33,25 +34,26 @@ pub fn document_of(
         Err(_) => return Err(End::NoMemory),
     };
     let parsed = parsed_of(alloc, settings, &lines)?;
-    let Finished {
-        tree,
-        notes,
-        highest,
-    } = match finish(alloc, parsed.document, parsed.messages, settings) {
+    let finished = match finish(alloc, parsed.document, parsed.messages, settings) {
         Ok(finished) => finished,
         Err(_) => return Err(End::NoMemory),
     };
     Ok(Finished {
-        tree: with_source(alloc, tree, source)?,
-        notes,
-        highest,
+        tree: with_source(alloc, finished.tree, source)?,
+        notes: finished.notes,
+        highest: finished.highest,
     })
 }
 
 /// What is read of the lines: a line that is too long is all that is told of a document.
-fn parsed_of(alloc: Global, settings: &Settings, lines: &Lines) -> Result<Parsed, End> {
+fn parsed_of(alloc: Global, settings: &Settings, lines: &Lines) -> Result<Parsed, End>
+    ensures { spec.Parses settings.now lines.now result }
+{
     if let Some(line) = lines.first_longer(settings.limit) {
-        return Ok(long_line(alloc, line)?);
+        return match long_line(alloc, line) {
+            Ok(parsed) => Ok(parsed),
+            Err(_) => Err(End::NoMemory),
+        };
     }
     match parse(alloc, lines) {
         Ok(parsed) => Ok(parsed),
@@ -60,10 +62,24 @@ fn parsed_of(alloc: Global, settings: &Settings, lines: &Lines) -> Result<Parsed
     }
 }
 
+/// What is said of a line that is too long.
+fn long_text(alloc: Global, line: usize) -> Result<String, AllocError>
+    ensures { IfOk result (λ text. string_bytes text ≡ spec.long_text line) }
+{
+    let mut buffer = Buffer::new();
+    let mut text = String::from_str(alloc, "Line ")?;
+    text.push_str(buffer.format(line))?;
+    text.push_str(" exceeds the line-length-limit.")?;
+    Ok(text)
+}
+
 /// The document of lines of which the one with this number is too long: the message that says so (Configuration,
 /// `line_length_limit`).
-fn long_line(alloc: Global, line: usize) -> Result<Parsed, TreeFault> {
-    let text = format!(in alloc; "Line {line} exceeds the line-length-limit.")?;
+fn long_line(alloc: Global, line: usize) -> Result<Parsed, TreeFault>
+    ensures document { Gives (λ parsed. parsed.document ≡ spec.long_document line) result }
+    ensures messages { Gives (λ parsed. parsed.messages ≡ 0) result }
+{
+    let text = long_text(alloc, line)?;
     let mut children = Children::new(alloc);
     children.push(message(alloc, Level::Error, line, text.as_str(), None)?)?;
     let root = Node::Element {

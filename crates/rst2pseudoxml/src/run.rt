@@ -1,17 +1,18 @@
 //! A run from a reader to two writers.
-ghost use Rattle.std.specs.Prelude.{◌≡◌, false};
+ghost use Rattle.std.specs.Prelude.{◌≡◌, ◌≤◌, false};
 ghost use Rattle.rst_text.specs.Counted.{has_failed, between};
-ghost use Rattle.rst2pseudoxml.specs.Headline.{Headline, Puts};
-ghost use Rattle.rst2pseudoxml.specs.Shown.{Answers};
+ghost use Rattle.rst2pseudoxml.specs.Headline.{Headline, Shows, Puts};
+ghost use Rattle.rst2pseudoxml.specs.Shown.{Answers, parts_of};
 
+use super::document::document_of;
 use super::end::End;
 use super::input::read_input;
-use super::document::document_of;
 use super::telling::{halting, status_of, told};
 use rst_settings::Settings;
 use rst_text::Counted;
-use std::alloc::Global;
+use rst_transform::Finished;
 use rst_tree::{PrintFault, print};
+use std::alloc::Global;
 use std::io::{Read, Write};
 
 /// Reads the input to its end and writes what the program shows for it: all of standard error, then standard output.
@@ -39,19 +40,37 @@ pub fn run<R: Read, O: Write, E: Write>(
         Ok(bytes) => bytes,
         Err(end) => return end,
     };
-    let finished = match document_of(alloc, settings, source, bytes.as_slice()) {
-        Ok(finished) => finished,
-        Err(end) => return end,
-    };
+    match document_of(alloc, settings, source, bytes.as_slice()) {
+        Ok(finished) => show(alloc, settings, source, &finished, out, err),
+        Err(end) => end,
+    }
+}
+
+/// Writes what the program shows of a finished document: all of standard error, then standard output.
+fn show<O: Write, E: Write>(
+    alloc: Global,
+    settings: &Settings,
+    source: &str,
+    finished: &Finished,
+    out: &mut Counted<O>,
+    err: &mut Counted<E>,
+) -> End
+    requires highest { finished.now.highest ≤ 4 }
+    requires out { has_failed out.old ≡ false }
+    requires err { has_failed err.old ≡ false }
+    ensures { Shows (parts_of settings.now source.now finished.now)
+        (between O.contents out.old out.new)
+        (between E.contents err.old err.new) result }
+{
     let notes = finished.notes.as_slice();
     let messages = match told(alloc, notes, settings, source) {
         Ok(messages) => messages,
-        Err(end) => return end,
+        Err(_) => return End::NoMemory,
     };
     if let Err(done) = write_text(messages.inner().as_slice(), err) {
         return End::WriteErr { done };
     }
-    if halting(notes, settings).is_some() {
+    if let Some(_) = halting(notes, settings) {
         return End::Done(1);
     }
     match print(&finished.tree, out) {

@@ -5,6 +5,7 @@ ghost use Rattle.rst2pseudoxml.specs.Shown as spec;
 
 use super::end::End;
 use super::run::write_text;
+use itoa::Buffer;
 use rst_settings::Settings;
 use rst_text::Counted;
 use rst_tree::{Level, Note, message_line};
@@ -14,7 +15,9 @@ use std::alloc::{AllocError, Global};
 pub fn halting(notes: &[Note], settings: &Settings) -> Option<Level>
     ensures { result ≡ spec.halting settings.now notes.now }
 {
-    let note = notes.last()?;
+    let Some(note) = notes.last() else {
+        return None;
+    };
     if settings.halt.is_reached(note.level.number()) {
         Some(note.level)
     } else {
@@ -34,14 +37,16 @@ fn is_told(note: &Note, settings: &Settings) -> bool
 fn exit_line(alloc: Global, level: Option<Level>) -> Result<String, AllocError>
     ensures { IfOk result (λ line. string_bytes line ≡ spec.exit_line level) }
 {
-    match level {
-        None => Ok(String::new(alloc)),
-        Some(level) => {
-            let number = level.number();
-            let name = level.name();
-            format!(in alloc; "Exiting due to level-{number} ({name}) system message.\n")
-        }
-    }
+    let Some(level) = level else {
+        return Ok(String::new(alloc));
+    };
+    let mut buffer = Buffer::new();
+    let mut line = String::from_str(alloc, "Exiting due to level-")?;
+    line.push_str(buffer.format(level.number()))?;
+    line.push_str(" (")?;
+    line.push_str(level.name())?;
+    line.push_str(") system message.\n")?;
+    Ok(line)
 }
 
 /// What is told on standard error: the messages at or above the report level, the one that halts the run, and that it does.
@@ -57,7 +62,10 @@ pub fn told(
 {
     let mut text = Counted::of(Vec::new(alloc));
     for note in notes {
-        if is_told(note, settings) && message_line(note, source, &mut text).is_err() {
+        if !is_told(note, settings) {
+            continue;
+        }
+        if let Err(_) = message_line(note, source, &mut text) {
             return Err(End::NoMemory);
         }
     }

@@ -1,4 +1,4 @@
-use Rattle.std.proofs.Common.{refl, ap, sym, append-nil, subst, List, ℕ, codes, decimal, string_bytes, ◌∙◌, ◌++◌}
+use Rattle.std.proofs.Common.{refl, ap, append-nil, subst, List, ℕ, codes, decimal, ◌∙◌, ◌++◌}
 use Rattle.rst_text.specs.Counted.{between}
 use Rattle.rst2pseudoxml.specs.Report.{Reports, fault_line}
 use Rattle.rst2pseudoxml.proofs.report.report.Goals as goal
@@ -34,5 +34,5 @@ returns-in-WriteErr g c = rw (c.in-Ran.is, c.in-WriteErr.is) (record { line = c.
 pub returns-in-WriteOut : goal.returns-in-WriteOut
 returns-in-WriteOut g c = rw (c.in-Ran.is, c.in-WriteOut.is) (record { line = c.say-in-WriteOut.ensures; status = refl })
 
-pub returns-in-NotYet : goal.returns-in-NotYet
-returns-in-NotYet g c = rw (c.in-Ran.is, c.in-NotYet.is) (record { line = c.say_number-in-NotYet.ensures; status = refl })
+pub returns-in-TooDeep : goal.returns-in-TooDeep
+returns-in-TooDeep g c = rw (c.in-Ran.is, c.in-TooDeep.is) (record { line = c.say_number-in-TooDeep.ensures; status = refl })
