@@ -1,5 +1,5 @@
 -- The class that a title gives (Directives, 'Generic Admonition').
-use Rattle.std.specs.Prelude.{ℕ, List, [], ◌∷◌, ◌++◌, codes, if◌then◌else◌}
+use Rattle.std.specs.Prelude.{List, [], ◌∷◌, ◌++◌, codes, if◌then◌else◌}
 use Rattle.std.specs.Option.{is_some}
 use Rattle.rst_tree.specs.Attributes.{value_of, with_attr}
 use Rattle.rst_tree.specs.Tree.{text_in}

@@ -18,7 +18,7 @@ use Rattle.rst_directives.specs.declared.measure.Alignment.TheVariants.{Top, Mid
 use Rattle.rst_directives.specs.declared.name.Name.{Name as Directive}
 use Rattle.rst_directives.specs.declared.name.Name.TheVariants.{Attention, Caution, Danger, Error, Hint, Important, Note, Tip, Warning, Admonition, Topic, Image as ImageName, Figure as FigureName, Replace, Code}
 use Rattle.rst_directives.specs.declared.option.OptionName.{OptionName}
-use Rattle.rst_directives.specs.declared.option.OptionName.TheVariants.{Alt as AltOption, Height as HeightOption, Width as WidthOption, Scale as ScaleOption, Align as AlignOption, Target as TargetOption, Class as ClassOption, Name as NameOption, FigureWidth, FigureClass}
+use Rattle.rst_directives.specs.declared.option.OptionName.TheVariants.{Alt as AltOption, Height as HeightOption, Width as WidthOption, Scale as ScaleOption, Align as AlignOption, Class as ClassOption, Name as NameOption, FigureWidth, FigureClass}
 use Rattle.rst_directives.specs.declared.options.Setting.{Setting}
 use Rattle.rst_directives.specs.declared.value.OptionValue.{OptionValue}
 use Rattle.rst_directives.specs.declared.value.OptionValue.TheVariants.{Text as TextValue, Measure, Number as NumberValue, Place, Classes as ClassesValue, Link, Name as NameValue}

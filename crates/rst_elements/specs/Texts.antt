@@ -2,7 +2,6 @@
 use Rattle.std.specs.Prelude.{ℕ, ◌+◌, ◌-◌, ◌^◌, min, List, [], ◌∷◌, Option, Some, None}
 use Rattle.rst_tree.specs.Attributes.{attr, with_attr, value_of}
 use Rattle.rst_tree.specs.Messages.{note_node}
-use Rattle.rst_tree.specs.Nodes.{forest_of}
 use Rattle.rst_tree.specs.Tree.{text_in}
 use Rattle.rst_tree.specs.declared.attrs.Attr.{Attr}
 use Rattle.rst_tree.specs.declared.attrs.Value.{Value}

@@ -5,7 +5,7 @@ use Rattle.std.specs.declared.string.String.{String}
 use Rattle.rst_text.specs.Names as names
 use Rattle.rst_pieces.specs.Escapes as escapes
 use Rattle.rst_tree.specs.declared.attrs.Value.{Value}
-use Rattle.rst_tree.specs.declared.attrs.Value.TheVariants.{Text as Said, List as Listed}
+use Rattle.rst_tree.specs.declared.attrs.Value.TheVariants.{List as Listed}
 
 -- the name that a text gives
 abbrev pub name_in : List ℕ → List ℕ

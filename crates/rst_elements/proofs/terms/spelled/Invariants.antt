@@ -1,4 +1,4 @@
-use Rattle.std.proofs.Common.{◌≡◌, ◌++◌, drop, string_bytes, encode_utf8_all}
+use Rattle.std.proofs.Common.{◌≡◌, ◌++◌, drop, string_bytes}
 use Rattle.rst_elements.specs.Terms.{spelled}
 use Rattle.rst_elements.proofs.terms.spelled.Given as goal
 
