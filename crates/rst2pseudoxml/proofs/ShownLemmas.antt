@@ -1,31 +1,33 @@
 -- Lemmas on what is shown of a finished document.
-use Rattle.std.proofs.Common.{◌≡◌, ℕ, List, Ok, ◌∙◌, subst, refl, Vec}
+use Rattle.std.proofs.Common.{◌≡◌, ℕ, List, Ok, Result, ◌∙◌, ap, subst, Vec}
 use Rattle.rst_settings.specs.declared.Settings.{Settings}
 use Rattle.rst_text.specs.Counted.{Stream, HandsOut, IsReadOut}
 use Rattle.rst_transform.specs.declared.finishing.Finished.{Finished}
 use Rattle.rst2pseudoxml.specs.declared.end.End.{End}
 use Rattle.rst2pseudoxml.specs.declared.end.End.TheVariants.{Done, Read, TooLong, NotUtf8, NoMemory, WriteErr, WriteOut, TooDeep}
-use Rattle.rst2pseudoxml.specs.Headline.{Headline, Shows, Takes}
+use Rattle.rst2pseudoxml.specs.Headline.{Headline, Ends, Shows, Takes}
+use Rattle.rst2pseudoxml.specs.Source.{with_source}
 use Rattle.rst2pseudoxml.specs.Reading.{Reads}
-use Rattle.rst2pseudoxml.specs.Shown.{Answers, parts_of}
+use Rattle.rst2pseudoxml.specs.Shown.{Parts, Answers, parts_of}
 
--- what is shown of the document that was made of the bytes
-ends_shown : (settings : Settings) (source : List ℕ) (finished : Finished) (input out err : Stream) (bytes : List ℕ) (end : End)
-    → HandsOut input bytes → IsReadOut input → Answers settings source bytes (Ok (parts_of settings source finished)) → Shows (parts_of settings source finished) out err end
-    → Headline (Answers settings source) input out err end
-ends_shown settings source finished input out err bytes (Done status) handed read answer (e, x, y) = (bytes, handed, (read, parts_of settings source finished, answer, e, x, y))
-ends_shown settings source finished input out err bytes (WriteErr done) handed read answer (x, y) = (bytes, handed, (read, parts_of settings source finished, answer, x, y))
-ends_shown settings source finished input out err bytes (WriteOut done) handed read answer (x, y) = (bytes, handed, (read, parts_of settings source finished, answer, x, y))
-ends_shown settings source finished input out err bytes NoMemory handed read answer shows = (bytes, handed, shows)
-ends_shown settings source finished input out err bytes Read handed read answer shows = absurd shows
-ends_shown settings source finished input out err bytes TooLong handed read answer shows = absurd shows
-ends_shown settings source finished input out err bytes (NotUtf8 at) handed read answer shows = absurd shows
-ends_shown settings source finished input out err bytes (TooDeep line) handed read answer shows = absurd shows
+-- the end of a run over bytes to which some parts are the answer
+ends_shown : (Answer : Result Parts End → Type 0) (parts : Parts) (input out err : Stream) (end : End)
+    → IsReadOut input → Answer (Ok parts) → Shows parts out err end → Ends Answer input out err end
+ends_shown Answer parts input out err (Done status) read answer (e, x, y) = (read, parts, answer, e, x, y)
+ends_shown Answer parts input out err (WriteErr done) read answer (x, y) = (read, parts, answer, x, y)
+ends_shown Answer parts input out err (WriteOut done) read answer (x, y) = (read, parts, answer, x, y)
+ends_shown Answer parts input out err NoMemory read answer shows = shows
+ends_shown Answer parts input out err Read read answer shows = absurd shows
+ends_shown Answer parts input out err TooLong read answer shows = absurd shows
+ends_shown Answer parts input out err (NotUtf8 at) read answer shows = absurd shows
+ends_shown Answer parts input out err (TooDeep line) read answer shows = absurd shows
 
 -- a run over bytes of which a document was made
 pub ends_read : {A : Type 0} (settings : Settings) (source : List ℕ) (finished : Finished) (input out err : Stream) (taken : Vec ℕ A) (slice : List ℕ) (end : End)
     → ((bytes : List ℕ) × HandsOut input bytes × Takes input bytes (Ok taken)) → slice ≡ taken.items → Reads settings source slice (Ok finished)
-    → Shows (parts_of settings source finished) out err end → Headline (Answers settings source) input out err end
+    → Shows (parts_of settings source finished.tree finished.notes.items) out err end → Headline (Answers settings source) input out err end
 ends_read settings source finished input out err taken slice end (bytes, handed, (read, same, short)) e reads shows =
     let made : Reads settings source bytes (Ok finished) = subst (λ l. Reads settings source l (Ok finished)) (e ∙ same) reads in
-    ends_shown settings source finished input out err bytes end handed read (short, made.0, finished, made.1, refl) shows
+    let parts : parts_of settings source finished.tree finished.notes.items ≡ parts_of settings source (with_source source made.1.0) finished.notes.items =
+    ap (λ document. parts_of settings source document finished.notes.items) made.1.2 in
+    (bytes, handed, ends_shown (Answers settings source bytes) _ input out err end read (short, made.0, made.1.0, finished.notes.items, made.1.1, parts) shows)

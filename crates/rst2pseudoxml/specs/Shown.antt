@@ -1,5 +1,5 @@
 -- What the program shows of a finished document: standard output, standard error and the exit status.
-use Rattle.std.specs.Prelude.{◌≡◌, ℕ, ◌+◌, ◌<◌, ◌≤◌, Bool, ◌||◌, List, [], ◌∷◌, ◌++◌, length, filter, if◌then◌else◌, Option, None, Some, IsSome, Result, Ok, Err, Vec, codes}
+use Rattle.std.specs.Prelude.{◌≡◌, ℕ, ◌+◌, ◌<◌, ◌≤◌, Bool, true, ◌||◌, List, [], ◌∷◌, ◌++◌, length, filter, if◌then◌else◌, Option, None, Some, IsSome, Result, Ok, Err, Vec, codes}
 use Rattle.std.specs.Fmt.{decimal}
 use Rattle.std.specs.List.{flat_map}
 use Rattle.std.specs.Str.Lossy.{utf8_valid_len}
@@ -10,7 +10,8 @@ use Rattle.rst_text.specs.Text.{text_of}
 use Rattle.rst_text.specs.declared.counted.Counted.{Counted}
 use Rattle.rst_settings.specs.declared.Settings.{Settings}
 use Rattle.rst_settings.specs.Threshold.{is_reached}
-use Rattle.rst_transform.specs.declared.finishing.Finished.{Finished}
+use Rattle.rst_transform.specs.Messages.{EndsAtHalt, highest_level}
+use Rattle.rst_transform.specs.Shown.{is_shown_in}
 use Rattle.rst_tree.specs.LevelNames.{level_name, level_number}
 use Rattle.rst_tree.specs.Message.{message_of}
 use Rattle.rst_tree.specs.Print.{print_of}
@@ -55,17 +56,18 @@ told settings source notes = flat_map (message_of source) (filter (is_told setti
 abbrev pub status_by : Settings → ℕ → ℕ
 status_by settings highest = if is_reached settings.exit highest then 10 + highest else 0
 
-abbrev pub parts_by : Settings → List ℕ → Finished → Option Level → Parts
-parts_by settings source finished None = record { out = print_of finished.tree; err = told settings source finished.notes.items; status = status_by settings finished.highest }
-parts_by settings source finished (Some level) = record { out = []; err = told settings source finished.notes.items; status = 1 }
+abbrev pub parts_by : Settings → List ℕ → Node → List Note → Option Level → Parts
+parts_by settings source document notes None = record { out = print_of document; err = told settings source notes; status = status_by settings (highest_level notes) }
+parts_by settings source document notes (Some level) = record { out = []; err = told settings source notes; status = 1 }
 
--- what is shown of a finished document: its tree and its messages, or its messages alone where one halts the run
-abbrev pub parts_of : Settings → List ℕ → Finished → Parts
-parts_of settings source finished = parts_by settings source finished (halting settings finished.notes.items)
+-- what is shown of a document and its messages, or of its messages alone where one halts the run
+abbrev pub parts_of : Settings → List ℕ → Node → List Note → Parts
+parts_of settings source document notes = parts_by settings source document notes (halting settings notes)
 
--- a document as it is printed: it tells its source, and its highest level is that of a message or 0
-abbrev pub IsFinished : List ℕ → Finished → Type 0
-IsFinished source finished = (tree : Node) × (finished.tree ≡ with_source source tree) × (finished.highest ≤ 4)
+-- a document and its messages as they are shown: no message in the document is below the report level, no attribute serves the
+-- transforms alone, and no message but the last one halts the run
+abbrev pub IsFinished : Settings → Node → List Note → Type 0
+IsFinished settings document notes = (is_shown_in settings.report document ≡ true) × EndsAtHalt settings.halt notes
 
 -- no line is longer than the settings say
 abbrev pub IsShort : Settings → Block → Type 0
@@ -76,10 +78,10 @@ abbrev pub HasShortLines : Settings → Option (List ℕ) → Type 0
 HasShortLines settings None = ⊥
 HasShortLines settings (Some text) = IsShort settings (lines_of settings.tab text)
 
--- The answer to some bytes: what is shown of a document that they were read as, or the refusal of what is too long, no UTF-8 or
--- nested too deeply.
+-- The answer to some bytes: what is shown of the document that they were read as, with its source, and of its messages; or the
+-- refusal of what is too long, no UTF-8 or nested too deeply.
 abbrev pub Answers : Settings → List ℕ → List ℕ → Result Parts End → Type 0
-Answers settings source bytes (Ok parts) = (length bytes ≤ 16777216) × IsSome (text_of bytes) × (finished : Finished) × IsFinished source finished × (parts ≡ parts_of settings source finished)
+Answers settings source bytes (Ok parts) = (length bytes ≤ 16777216) × IsSome (text_of bytes) × (document : Node) × (notes : List Note) × IsFinished settings document notes × (parts ≡ parts_of settings source (with_source source document) notes)
 Answers settings source bytes (Err TooLong) = 16777216 < length bytes
 Answers settings source bytes (Err (NotUtf8 at)) = (length bytes ≤ 16777216) × (text_of bytes ≡ None) × (at ≡ utf8_valid_len bytes)
 Answers settings source bytes (Err (TooDeep line)) = (length bytes ≤ 16777216) × HasShortLines settings (text_of bytes)

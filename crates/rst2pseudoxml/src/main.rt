@@ -68,4 +68,20 @@ fn words(rt: &HostRuntime) -> Result<Vec<String>, Stop> {
 }
 
 #[cfg(test)]
+mod rows;
+#[cfg(test)]
+mod rows_bodies;
+#[cfg(test)]
+mod rows_directives;
+#[cfg(test)]
+mod rows_inline;
+#[cfg(test)]
+mod rows_references;
+#[cfg(test)]
+mod rows_tables;
+#[cfg(test)]
+mod rows_titles;
+#[cfg(test)]
+mod stream_tests;
+#[cfg(test)]
 mod tests;

@@ -1,6 +1,7 @@
 //! A run from a reader to two writers.
 ghost use Rattle.std.specs.Prelude.{◌≡◌, ◌≤◌, false};
 ghost use Rattle.rst_text.specs.Counted.{has_failed, between};
+ghost use Rattle.rst_transform.specs.Messages.{highest_level};
 ghost use Rattle.rst2pseudoxml.specs.Headline.{Headline, Shows, Puts};
 ghost use Rattle.rst2pseudoxml.specs.Shown.{Answers, parts_of};
 
@@ -55,10 +56,11 @@ fn show<O: Write, E: Write>(
     out: &mut Counted<O>,
     err: &mut Counted<E>,
 ) -> End
-    requires highest { finished.now.highest ≤ 4 }
+    requires highest { finished.now.highest ≡ highest_level finished.now.notes.items }
+    requires few { finished.now.highest ≤ 4 }
     requires out { has_failed out.old ≡ false }
     requires err { has_failed err.old ≡ false }
-    ensures { Shows (parts_of settings.now source.now finished.now)
+    ensures { Shows (parts_of settings.now source.now finished.now.tree finished.now.notes.items)
         (between O.contents out.old out.new)
         (between E.contents err.old err.new) result }
 {

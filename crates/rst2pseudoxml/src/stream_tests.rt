@@ -1,0 +1,307 @@
+//! Runs over readers and writers in memory that fail in mid-stream, and what is reported of each end.
+ghost use Rattle.std.specs.Prelude.{Some};
+
+use super::end::End;
+use super::report::{Stop, report};
+use super::run::run;
+use rst_options::OptionFault;
+use rst_settings::Settings;
+use rst_text::Counted;
+use std::alloc::Global;
+use std::io::{Error, ErrorKind, Read, Result, Write};
+use std::test::Fail;
+
+/// A writer that takes at most `step` bytes a call and `room` in all. Once full it takes 0 bytes, or fails.
+#[derive(Drop)]
+struct Narrow {
+    held: Vec<u8>,
+    room: usize,
+    step: usize,
+    fails: bool,
+}
+
+impl Narrow {
+    fn new(alloc: Global, room: usize, step: usize, fails: bool) -> Narrow {
+        Narrow {
+            held: Vec::new(alloc),
+            room,
+            step,
+            fails,
+        }
+    }
+}
+
+impl Write for Narrow {
+    ghost contents = { λ w. Some w.held.items };
+
+    fn write(&mut self, buf: &[u8]) -> Result<usize> {
+        let n = buf.len().min(self.room).min(self.step);
+        if n == 0 && self.fails {
+            return Err(Error::from(ErrorKind::StorageFull));
+        }
+        self.held.extend_from_slice(&buf[..n])?;
+        self.room -= n;
+        Ok(n)
+    }
+
+    fn flush(&mut self) -> Result<()> {
+        Ok(())
+    }
+}
+
+/// A reader that gives `left` times a byte, at most `step` a call, and then ends, or fails. It counts its calls.
+#[derive(Drop)]
+struct Bytes {
+    byte: u8,
+    step: usize,
+    left: usize,
+    fails: bool,
+    calls: u64,
+}
+
+impl Read for Bytes {
+    fn read(&mut self, buf: &mut [u8]) -> Result<usize> {
+        self.calls = self.calls.saturating_add(1);
+        if self.left == 0 && self.fails {
+            return Err(Error::from(ErrorKind::UnexpectedEof));
+        }
+        let n = buf.len().min(self.step).min(self.left);
+        buf[..n].fill(self.byte);
+        self.left -= n;
+        Ok(n)
+    }
+}
+
+/// How a run over a text ends, and what its writer to standard output holds then.
+fn run_into(alloc: Global, text: &[u8], mut out: Narrow) -> (End, Narrow) {
+    let mut input = Counted::of(text);
+    let mut counted = Counted::of(&mut out);
+    let mut err = Counted::of(Narrow::new(alloc, 0, 0, true));
+    let settings = Settings::usual();
+    let end = run(
+        alloc,
+        &settings,
+        "<stdin>",
+        &mut input,
+        &mut counted,
+        &mut err,
+    );
+    (end, out)
+}
+
+/// How a run over so many bytes, all the same, ends, and how often the reader was called.
+fn run_over(alloc: Global, byte: u8, step: usize, left: usize, fails: bool) -> (End, u64) {
+    let mut input = Counted::of(Bytes {
+        byte,
+        step,
+        left,
+        fails,
+        calls: 0,
+    });
+    let mut out = Counted::of(Narrow::new(alloc, 0, 0, true));
+    let mut err = Counted::of(Narrow::new(alloc, 0, 0, true));
+    let settings = Settings::usual();
+    let end = run(alloc, &settings, "<stdin>", &mut input, &mut out, &mut err);
+    (end, input.inner().calls)
+}
+
+const HELLO: &str = "<document source=\"<stdin>\">\n    <paragraph>\n        Hello, world\n";
+
+#[test]
+fn shows_texts(rt: HostRuntime) -> std::result::Result<(), Fail> {
+    let two =
+        "<document source=\"<stdin>\">\n    <paragraph>\n        a\n        b\n    <paragraph>\n        c\n        d\n";
+    let rows: [(&[u8], &str); 9] = [
+        (b"", "<document source=\"<stdin>\">\n"),
+        (b" \t\n\r\n", "<document source=\"<stdin>\">\n"),
+        (b"Hello, world", HELLO),
+        (b"Hello, world\n", HELLO),
+        (b"Hello, world\r\n", HELLO),
+        (b"Hello, world\xE2\x80\xA8", HELLO),
+        (b"\xEF\xBB\xBFHello, world", HELLO),
+        (b"\n\na\r\nb  \n \t\n\nc\rd\n", two),
+        (b"a\xC2\x85b\x1C\x1Cc\x1Ed\xE2\x80\xA9", two),
+    ];
+    for (text, want) in rows {
+        let (end, out) = run_into(rt.alloc(), text, Narrow::new(rt.alloc(), 1000, 1000, true));
+        assert_eq!(rt; end, End::Done(0));
+        assert_eq!(rt; out.held.as_slice(), want.as_bytes());
+    }
+    Ok(())
+}
+
+#[test]
+fn refuses_texts(rt: HostRuntime) -> std::result::Result<(), Fail> {
+    let rows: [(&[u8], End); 6] = [
+        (b"a\xFF", End::NotUtf8 { at: 1 }),
+        (b"\xEF\xBB\xBF\xFF", End::NotUtf8 { at: 3 }),
+        (b"\xC0\x80", End::NotUtf8 { at: 0 }),
+        (b"ab\xED\xA0\x80", End::NotUtf8 { at: 2 }),
+        (b"\xF4\x90\x80\x80", End::NotUtf8 { at: 0 }),
+        (b"abc\xE2\x80", End::NotUtf8 { at: 3 }),
+    ];
+    for (text, want) in rows {
+        let (end, out) = run_into(rt.alloc(), text, Narrow::new(rt.alloc(), 1000, 1000, true));
+        assert_eq!(rt; end, want);
+        assert!(rt; out.held.is_empty());
+    }
+    Ok(())
+}
+
+#[test]
+fn keeps_what_a_narrow_writer_took(rt: HostRuntime) -> std::result::Result<(), Fail> {
+    for step in [1usize, 7, 1000] {
+        for room in 0usize..65 {
+            for fails in [false, true] {
+                let narrow = Narrow::new(rt.alloc(), room, step, fails);
+                let (end, out) = run_into(rt.alloc(), b"Hello, world", narrow);
+                assert_eq!(rt; end, End::WriteOut { done: room });
+                assert_eq!(rt; out.held.as_slice(), &HELLO.as_bytes()[..room]);
+            }
+        }
+        let narrow = Narrow::new(rt.alloc(), 65, step, true);
+        let (end, out) = run_into(rt.alloc(), b"Hello, world", narrow);
+        assert_eq!(rt; end, End::Done(0));
+        assert_eq!(rt; out.held.as_slice(), HELLO.as_bytes());
+    }
+    Ok(())
+}
+
+#[test]
+fn keeps_what_a_narrow_error_writer_took(rt: HostRuntime) -> std::result::Result<(), Fail> {
+    let message = "<stdin>:1: (WARNING/2) Inline emphasis start-string without end-string.\n";
+    for step in [1usize, 7, 1000] {
+        for room in [0usize, 1, 30, 71] {
+            for fails in [false, true] {
+                let mut input = Counted::of(b"*a".as_slice());
+                let mut out = Narrow::new(rt.alloc(), 1000, 1000, true);
+                let mut err = Narrow::new(rt.alloc(), room, step, fails);
+                let end = run(
+                    rt.alloc(),
+                    &Settings::usual(),
+                    "<stdin>",
+                    &mut input,
+                    &mut Counted::of(&mut out),
+                    &mut Counted::of(&mut err),
+                );
+                assert_eq!(rt; end, End::WriteErr { done: room });
+                assert_eq!(rt; err.held.as_slice(), &message.as_bytes()[..room]);
+                assert!(rt; out.held.is_empty());
+            }
+        }
+    }
+    Ok(())
+}
+
+// The bytes are no UTF-8, so that nothing is made of them.
+#[test]
+fn reads_to_the_limit(rt: HostRuntime) {
+    assert_eq!(rt;
+        run_over(rt.alloc(), 0xFF, 8192, 16_777_216, false),
+        (End::NotUtf8 { at: 0 }, 2049)
+    );
+    assert_eq!(rt;
+        run_over(rt.alloc(), 0xFF, 8192, 16_777_217, false),
+        (End::TooLong, 2049)
+    );
+    assert_eq!(rt;
+        run_over(rt.alloc(), 0xFF, 1, 20_000_000, true),
+        (End::TooLong, 16_777_217)
+    );
+}
+
+#[test]
+fn tells_a_failed_read(rt: HostRuntime) {
+    for n in 0usize..40 {
+        let (end, calls) = run_over(rt.alloc(), b'a', 1, n, true);
+        assert_eq!(rt; end, End::Read);
+        assert_eq!(rt; calls, n as u64 + 1);
+    }
+}
+
+#[test]
+fn reports_each_stop(rt: HostRuntime) -> std::result::Result<(), Fail> {
+    let source = String::from_str(rt.alloc(), "no such file")?;
+    let rows: [(Stop, &str, u8); 16] = [
+        (Stop::Words, "rst2pseudoxml: bad arguments\n", 2),
+        (
+            Stop::Options(OptionFault::Usage),
+            "rst2pseudoxml: bad arguments\n",
+            2,
+        ),
+        (
+            Stop::Options(OptionFault::BadLevel),
+            "rst2pseudoxml: bad level\n",
+            2,
+        ),
+        (
+            Stop::Options(OptionFault::BadTab),
+            "rst2pseudoxml: bad tab width\n",
+            2,
+        ),
+        (
+            Stop::Options(OptionFault::BadLimit),
+            "rst2pseudoxml: bad line limit\n",
+            2,
+        ),
+        (
+            Stop::Options(OptionFault::TwoLevels),
+            "rst2pseudoxml: two levels\n",
+            2,
+        ),
+        (
+            Stop::Options(OptionFault::NoMemory),
+            "rst2pseudoxml: out of memory\n",
+            2,
+        ),
+        (
+            Stop::Open(source),
+            "rst2pseudoxml: cannot open no such file\n",
+            1,
+        ),
+        (Stop::Ran(End::Done(13)), "", 13),
+        (Stop::Ran(End::Read), "rst2pseudoxml: read failed\n", 1),
+        (
+            Stop::Ran(End::TooLong),
+            "rst2pseudoxml: input too long\n",
+            1,
+        ),
+        (
+            Stop::Ran(End::NotUtf8 { at: 16_777_215 }),
+            "rst2pseudoxml: not UTF-8 at byte 16777215\n",
+            1,
+        ),
+        (
+            Stop::Ran(End::NoMemory),
+            "rst2pseudoxml: out of memory\n",
+            1,
+        ),
+        (
+            Stop::Ran(End::WriteErr { done: 3 }),
+            "rst2pseudoxml: write failed\n",
+            1,
+        ),
+        (
+            Stop::Ran(End::WriteOut { done: 3 }),
+            "rst2pseudoxml: write failed\n",
+            1,
+        ),
+        (
+            Stop::Ran(End::TooDeep { line: 7 }),
+            "rst2pseudoxml: line 7: nesting too deep\n",
+            1,
+        ),
+    ];
+    for (stop, want, status) in &rows {
+        for step in [1usize, 1000] {
+            let mut err = Counted::of(Narrow::new(rt.alloc(), 100, step, true));
+            assert_eq!(rt; report(stop, &mut err), *status);
+            assert_eq!(rt; err.inner().held.as_slice(), want.as_bytes());
+            assert!(rt; !err.failed());
+        }
+        let mut full = Counted::of(Narrow::new(rt.alloc(), 10, 4, false));
+        assert_eq!(rt; report(stop, &mut full), *status);
+        assert_eq!(rt; full.failed(), !want.is_empty());
+    }
+    Ok(())
+}
