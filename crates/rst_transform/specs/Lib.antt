@@ -2,4 +2,5 @@ pub mod LinkKinds
 pub mod Links
 pub mod Messages
 pub mod Reading
+pub mod Reports
 pub mod Shown

@@ -1,4 +1,8 @@
 //! The document between two transforms.
+ghost use Rattle.std.specs.Prelude.{◌≡◌, ◌+◌, ◌∷◌, [], vec_len};
+ghost use Rattle.rst_tree.specs.Faults.{Gives};
+ghost use Rattle.rst_transform.specs.Reports.{with_references, report_node};
+
 use rst_names::{Ids, Names};
 use rst_tree::{Attrs, Children, Key, Level, Node, Note, Tag, Text, Texts, TreeFault, Value};
 use std::alloc::Global;
@@ -20,7 +24,9 @@ pub struct Report {
 
 impl Report {
     /// The message as a `system_message`.
-    pub fn node(&self, alloc: Global) -> Result<Node, TreeFault> {
+    pub fn node(&self, alloc: Global) -> Result<Node, TreeFault>
+        ensures { Gives (λ node. node ≡ report_node self.now) result }
+    {
         let block = match &self.note.block {
             Some(block) => Some(block.copy()?),
             None => None,
@@ -51,7 +57,9 @@ impl Report {
     }
 
     /// Lets the attributes of the message tell its number, its id and those of its problematics.
-    fn add_references(&self, alloc: Global, attrs: &mut Attrs) -> Result<(), TreeFault> {
+    fn add_references(&self, alloc: Global, attrs: &mut Attrs) -> Result<(), TreeFault>
+        ensures { Gives (λ _. attrs.new ≡ with_references self.now attrs.old) result }
+    {
         attrs.set(Key::Message, Value::Number(self.number))?;
         attrs.set(Key::Backrefs, Value::List(self.backrefs.copy(alloc)?))?;
         if let Some(id) = &self.id {
@@ -73,7 +81,9 @@ impl Report {
 }
 
 /// A list with one text.
-fn lone(alloc: Global, text: &Text) -> Result<Texts, TreeFault> {
+fn lone(alloc: Global, text: &Text) -> Result<Texts, TreeFault>
+    ensures { Gives (λ texts. texts ≡ text.now ∷ []) result }
+{
     let mut texts = Texts::new(alloc);
     texts.push(text.copy()?)?;
     Ok(texts)
@@ -130,7 +140,9 @@ impl Work {
         line: usize,
         text: String,
         own: bool,
-    ) -> Result<usize, TreeFault> {
+    ) -> Result<usize, TreeFault>
+        ensures { Gives (λ place. (place ≡ vec_len self.old.reports) × (vec_len self.new.reports ≡ place + 1)) result }
+    {
         let place = self.reports.len();
         let report = self.next_report(alloc, level, line, text, own);
         self.reports.push(report)?;
@@ -144,7 +156,9 @@ impl Work {
         level: Level,
         line: usize,
         text: String,
-    ) -> Result<Node, TreeFault> {
+    ) -> Result<Node, TreeFault>
+        ensures { Gives (λ _. vec_len self.new.reports ≡ vec_len self.old.reports + 1) result }
+    {
         let report = self.next_report(alloc, level, line, text, false);
         let node = report.node(alloc)?;
         self.reports.push(report)?;

@@ -1,0 +1,25 @@
+-- The messages of the transforms as elements (Document Tree, 'system_message').
+use Rattle.std.specs.Prelude.{ℕ, List, [], ◌∷◌, Option, Some, None}
+use Rattle.rst_tree.specs.declared.attrs.Attr.{Attr}
+use Rattle.rst_tree.specs.declared.attrs.Value.TheVariants.{Number, List as Listed}
+use Rattle.rst_tree.specs.declared.key.Key.TheVariants.{Backrefs, Ids, Message}
+use Rattle.rst_tree.specs.declared.node.Node.{Node}
+use Rattle.rst_tree.specs.declared.node.Node.TheVariants.{Element}
+use Rattle.rst_tree.specs.declared.tag.Tag.TheVariants.{SystemMessage}
+use Rattle.rst_tree.specs.Attributes.{with_attr}
+use Rattle.rst_tree.specs.Messages.{note_attrs, note_nodes}
+use Rattle.rst_tree.specs.Nodes.{forest_of}
+use Rattle.rst_transform.specs.declared.work.Report.{Report}
+
+-- the attributes with an id, if there is one
+abbrev pub with_id : Option (List ℕ) → List Attr → List Attr
+with_id None attrs = attrs
+with_id (Some id) attrs = with_attr Ids (Listed (id ∷ [])) attrs
+
+-- the attributes with the number of a message, the ids of its problematics and its own
+abbrev pub with_references : Report → List Attr → List Attr
+with_references r attrs = with_id r.id (with_attr Backrefs (Listed r.backrefs) (with_attr Message (Number r.number) attrs))
+
+-- the message as a `system_message`
+abbrev pub report_node : Report → Node
+report_node r = Element SystemMessage (with_references r (note_attrs r.note.level r.note.line)) (forest_of (note_nodes r.note.text r.note.block r.note.line)) r.note.line
