@@ -36,6 +36,7 @@ pub(crate) fn directive_at(
     pass: &mut Pass,
 ) -> Result<Directive, BlockFault>
     requires call { IsCall (block_of view.now) at invocation.now }
+    requires short { length (block_of view.now) < 2 ^ 64 }
     requires few { pass.old.looks < 2 ^ 119 + 2 ^ 111 }
     ensures parts { IfOk result (IsDirectiveIn (block_of view.now)) }
     ensures looks { IfOk result (λ _. pass.new.looks ≤ pass.old.looks + 2 ^ 72) }
@@ -66,6 +67,7 @@ pub(crate) fn directive_block(
 ) -> Result<Step, BlockFault>
     requires call { IsCall (block_of view.now) level.at invocation.now }
     requires inside { level.at < length (block_of view.now) }
+    requires short { length (block_of view.now) < 2 ^ 64 }
     requires few { pass.old.looks < 2 ^ 119 + 2 ^ 110 }
     ensures step { IfOk result (λ s. spec.IsStep (block_of view.now) level.at s) }
     ensures looks { IfOk result (λ _. pass.new.looks ≤ pass.old.looks + 2 ^ 80) }
@@ -121,6 +123,7 @@ pub(crate) fn wrong_directive(
     name: &str,
     pass: &mut Pass,
 ) -> Result<Node, BlockFault>
+    requires short { length (block_of view.now) < 2 ^ 64 }
     requires few { pass.old.looks < 2 ^ 120 }
     ensures { pass.new.looks ≤ pass.old.looks + 2 ^ 64 }
 {
@@ -146,6 +149,7 @@ fn directive_nodes(
     requires content { IsContentIn (block_of view.now) found.content }
     requires argument { IsArgumentIn (block_of view.now) found.argument }
     requires inside { level.at < length (block_of view.now) }
+    requires short { length (block_of view.now) < 2 ^ 64 }
     requires few { pass.old.looks < 2 ^ 119 + 2 ^ 110 }
     ensures step { IfOk result (λ s. spec.IsStep (block_of view.now) level.at s) }
     ensures looks { IfOk result (λ _. pass.new.looks ≤ pass.old.looks + 2 ^ 80) }
@@ -198,6 +202,7 @@ fn figure_block(
 ) -> Result<Step, BlockFault>
     requires content { IsContentIn (block_of view.now) found.now.content }
     requires inside { level.at < length (block_of view.now) }
+    requires short { length (block_of view.now) < 2 ^ 64 }
     requires few { pass.old.looks < 2 ^ 119 + 2 ^ 110 }
     ensures step { IfOk result (λ s. spec.IsStep (block_of view.now) level.at s) }
     ensures looks { IfOk result (λ _. pass.new.looks ≤ pass.old.looks + 2 ^ 80) }
@@ -226,6 +231,7 @@ fn code_nodes(
 ) -> Result<Step, BlockFault>
     requires content { IsContentIn (block_of view.now) found.now.content }
     requires inside { level.at < length (block_of view.now) }
+    requires short { length (block_of view.now) < 2 ^ 64 }
     requires few { pass.old.looks < 2 ^ 119 + 2 ^ 110 }
     ensures step { IfOk result (λ s. spec.IsStep (block_of view.now) level.at s) }
     ensures looks { IfOk result (λ _. pass.new.looks ≤ pass.old.looks + 2 ^ 80) }
@@ -256,6 +262,7 @@ fn titled(
     pass: &mut Pass,
 ) -> Result<Node, BlockFault>
     requires title { IsBlock (block_of view.now) title }
+    requires short { length (block_of view.now) < 2 ^ 64 }
     requires few { pass.old.looks < 2 ^ 120 }
     ensures { pass.new.looks ≤ pass.old.looks + 2 ^ 64 }
 {

@@ -32,6 +32,7 @@ pub(crate) fn explicit_markup(
 ) -> Result<Step, BlockFault>
     requires inside { level.at < length (block_of view.now) }
     requires kind { IsTrue (is_explicit_kind (kind_of (block_of view.now) level.at)) }
+    requires short { length (block_of view.now) < 2 ^ 64 }
     requires few { pass.old.looks < 2 ^ 119 + 2 ^ 110 }
     ensures step { IfOk result (λ s. spec.IsStep (block_of view.now) level.at s) }
     ensures looks { IfOk result (λ _. pass.new.looks ≤ pass.old.looks + 2 ^ 80) }
@@ -58,6 +59,7 @@ fn markup_of(
 ) -> Result<Step, BlockFault>
     requires markup { IsExplicitIn (block_of view.now) level.at found }
     requires inside { level.at < length (block_of view.now) }
+    requires short { length (block_of view.now) < 2 ^ 64 }
     requires few { pass.old.looks < 2 ^ 119 + 2 ^ 110 }
     ensures step { IfOk result (λ s. spec.IsStep (block_of view.now) level.at s) }
     ensures looks { IfOk result (λ _. pass.new.looks ≤ pass.old.looks + 2 ^ 80) }
@@ -92,6 +94,7 @@ fn footnote_block(
 ) -> Result<Step, BlockFault>
     requires body { IsBlock (block_of view.now) body }
     requires inside { level.at < length (block_of view.now) }
+    requires short { length (block_of view.now) < 2 ^ 64 }
     requires few { pass.old.looks < 2 ^ 119 + 2 ^ 111 }
     ensures step { IfOk result (λ s. spec.IsStep (block_of view.now) level.at s) }
     ensures looks { IfOk result (λ _. pass.new.looks ≤ pass.old.looks + 2 ^ 70) }
@@ -113,6 +116,7 @@ fn citation_block(
 ) -> Result<Step, BlockFault>
     requires body { IsBlock (block_of view.now) body }
     requires inside { level.at < length (block_of view.now) }
+    requires short { length (block_of view.now) < 2 ^ 64 }
     requires few { pass.old.looks < 2 ^ 119 + 2 ^ 111 }
     ensures step { IfOk result (λ s. spec.IsStep (block_of view.now) level.at s) }
     ensures looks { IfOk result (λ _. pass.new.looks ≤ pass.old.looks + 2 ^ 70) }
@@ -134,6 +138,7 @@ fn target_block(
 ) -> Result<Step, BlockFault>
     requires text { IsBlock (block_of view.now) text }
     requires inside { level.at < length (block_of view.now) }
+    requires short { length (block_of view.now) < 2 ^ 64 }
     requires few { pass.old.looks < 2 ^ 119 + 2 ^ 111 }
     ensures step { IfOk result (λ s. spec.IsStep (block_of view.now) level.at s) }
     ensures looks { IfOk result (λ _. pass.new.looks ≤ pass.old.looks + 2 ^ 70) }
@@ -161,6 +166,7 @@ fn comment(
 ) -> Result<Step, BlockFault>
     requires text { IsBlock (block_of view.now) text }
     requires inside { level.at < length (block_of view.now) }
+    requires short { length (block_of view.now) < 2 ^ 64 }
     requires few { pass.old.looks < 2 ^ 119 + 2 ^ 111 }
     ensures step { IfOk result (λ s. spec.IsStep (block_of view.now) level.at s) }
     ensures looks { IfOk result (λ _. pass.new.looks ≤ pass.old.looks + 2 ^ 70) }
@@ -181,6 +187,7 @@ fn label_text(
     pass: &mut Pass,
 ) -> Result<String, BlockFault>
     requires inside { at < length (block_of view.now) }
+    requires short { length (block_of view.now) < 2 ^ 64 }
     requires few { pass.old.looks < 2 ^ 120 }
     ensures { pass.new.looks ≤ pass.old.looks + 1 }
 {

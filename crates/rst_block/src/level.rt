@@ -152,6 +152,7 @@ impl Level {
         text: &str,
         pass: &mut Pass,
     ) -> Result<Level, BlockFault>
+        requires short { length (block_of view.now) < 2 ^ 64 }
         requires few { pass.old.looks < 2 ^ 120 }
         ensures at { IfOk result (λ l. l.at ≡ self.at) }
         ensures looks { pass.new.looks ≤ pass.old.looks + 1 }

@@ -41,6 +41,7 @@ pub(crate) fn bullet_item(
     pass: &mut Pass,
 ) -> Result<Step, BlockFault>
     requires inside { level.at < length (block_of view.now) }
+    requires short { length (block_of view.now) < 2 ^ 64 }
     requires few { pass.old.looks < 2 ^ 119 + 2 ^ 110 }
     ensures step { IfOk result (λ s. spec.IsStep (block_of view.now) level.at s) }
     ensures looks { IfOk result (λ _. pass.new.looks ≤ pass.old.looks + 2 ^ 80) }
@@ -66,6 +67,7 @@ pub(crate) fn enumerated_item(
     pass: &mut Pass,
 ) -> Result<Step, BlockFault>
     requires inside { level.at < length (block_of view.now) }
+    requires short { length (block_of view.now) < 2 ^ 64 }
     requires few { pass.old.looks < 2 ^ 119 + 2 ^ 110 }
     ensures step { IfOk result (λ s. spec.IsStep (block_of view.now) level.at s) }
     ensures looks { IfOk result (λ _. pass.new.looks ≤ pass.old.looks + 2 ^ 80) }
@@ -94,6 +96,7 @@ fn with_enumerated_list(
     pass: &mut Pass,
 ) -> Result<Level, BlockFault>
     requires inside { level.at < length (block_of view.now) }
+    requires short { length (block_of view.now) < 2 ^ 64 }
     requires few { pass.old.looks < 2 ^ 120 }
     ensures at { IfOk result (λ l. l.at ≡ level.at) }
     ensures looks { pass.new.looks ≤ pass.old.looks + 1 }

@@ -28,6 +28,7 @@ pub(crate) fn doctest_block(
     pass: &mut Pass,
 ) -> Result<Step, BlockFault>
     requires inside { level.at < length (block_of view.now) }
+    requires short { length (block_of view.now) < 2 ^ 64 }
     requires few { pass.old.looks < 2 ^ 119 + 2 ^ 110 }
     ensures step { IfOk result (λ s. spec.IsStep (block_of view.now) level.at s) }
     ensures looks { IfOk result (λ _. pass.new.looks ≤ pass.old.looks + 2 ^ 80) }
@@ -61,6 +62,7 @@ pub(crate) fn paragraph(
     pass: &mut Pass,
 ) -> Result<Step, BlockFault>
     requires inside { level.at < length (block_of view.now) }
+    requires short { length (block_of view.now) < 2 ^ 64 }
     requires few { pass.old.looks < 2 ^ 119 + 2 ^ 110 }
     ensures step { IfOk result (λ s. spec.IsStep (block_of view.now) level.at s) }
     ensures looks { IfOk result (λ _. pass.new.looks ≤ pass.old.looks + 2 ^ 80) }
@@ -86,6 +88,7 @@ fn with_paragraph(
     end: usize,
     pass: &mut Pass,
 ) -> Result<Level, BlockFault>
+    requires short { length (block_of view.now) < 2 ^ 64 }
     requires few { pass.old.looks < 2 ^ 120 }
     ensures at { IfOk result (λ l. l.at ≡ level.at) }
     ensures looks { IfOk result (λ _. pass.new.looks ≤ pass.old.looks + 1) }
@@ -118,6 +121,7 @@ fn literal(
 ) -> Result<Step, BlockFault>
     requires end { end ≤ length (block_of view.now) }
     requires inside { level.at < length (block_of view.now) }
+    requires short { length (block_of view.now) < 2 ^ 64 }
     requires few { pass.old.looks < 2 ^ 119 + 2 ^ 110 }
     ensures step { IfOk result (λ s. spec.IsStep (block_of view.now) level.at s) }
     ensures looks { IfOk result (λ _. pass.new.looks ≤ pass.old.looks + 2 ^ 80) }
@@ -154,6 +158,7 @@ fn indented_literal(
 ) -> Result<Step, BlockFault>
     requires start { start ≤ length (block_of view.now) }
     requires inside { level.at < length (block_of view.now) }
+    requires short { length (block_of view.now) < 2 ^ 64 }
     requires few { pass.old.looks < 2 ^ 119 + 2 ^ 110 }
     ensures step { IfOk result (λ s. spec.IsStep (block_of view.now) level.at s) }
     ensures looks { IfOk result (λ _. pass.new.looks ≤ pass.old.looks + 2 ^ 80) }
@@ -182,6 +187,7 @@ fn quoted_literal(
 ) -> Result<Step, BlockFault>
     requires start { start ≤ length (block_of view.now) }
     requires inside { level.at < length (block_of view.now) }
+    requires short { length (block_of view.now) < 2 ^ 64 }
     requires few { pass.old.looks < 2 ^ 119 + 2 ^ 110 }
     ensures step { IfOk result (λ s. spec.IsStep (block_of view.now) level.at s) }
     ensures looks { IfOk result (λ _. pass.new.looks ≤ pass.old.looks + 2 ^ 80) }
@@ -210,6 +216,7 @@ fn quoted_literal(
 
 /// Whether the lines of a block in a block are one paragraph that doesn't vanish, and nothing else.
 pub(crate) fn is_single_paragraph(view: &View<'_>, pass: &mut Pass) -> bool
+    requires short { length (block_of view.now) < 2 ^ 64 }
     requires few { pass.old.looks < 2 ^ 119 + 2 ^ 112 }
     ensures { pass.new.looks ≤ pass.old.looks + 2 ^ 66 }
 {
@@ -227,6 +234,7 @@ pub(crate) fn is_single_paragraph(view: &View<'_>, pass: &mut Pass) -> bool
 /// Whether the first line of a block in a block begins a paragraph.
 fn begins_paragraph(view: &View<'_>, pass: &mut Pass) -> bool
     requires inside { 0 < length (block_of view.now) }
+    requires short { length (block_of view.now) < 2 ^ 64 }
     requires few { pass.old.looks < 2 ^ 119 + 2 ^ 112 }
     ensures { pass.new.looks ≤ pass.old.looks + 2 ^ 64 }
 {

@@ -44,6 +44,7 @@ pub(crate) fn substitution_definition(
 ) -> Result<Step, BlockFault>
     requires call { IfSome held (IsCall (block_of view.now) level.at) }
     requires inside { level.at < length (block_of view.now) }
+    requires short { length (block_of view.now) < 2 ^ 64 }
     requires few { pass.old.looks < 2 ^ 119 + 2 ^ 110 }
     ensures step { IfOk result (λ s. spec.IsStep (block_of view.now) level.at s) }
     ensures looks { IfOk result (λ _. pass.new.looks ≤ pass.old.looks + 2 ^ 80) }
@@ -86,6 +87,7 @@ fn holding(
 ) -> Result<Step, BlockFault>
     requires call { IsCall (block_of view.now) level.at invocation.now }
     requires inside { level.at < length (block_of view.now) }
+    requires short { length (block_of view.now) < 2 ^ 64 }
     requires few { pass.old.looks < 2 ^ 119 + 2 ^ 110 }
     ensures step { IfOk result (λ s. spec.IsStep (block_of view.now) level.at s) }
     ensures looks { IfOk result (λ _. pass.new.looks ≤ pass.old.looks + 2 ^ 80) }
@@ -145,6 +147,7 @@ fn replacement(
 ) -> Result<Step, BlockFault>
     requires content { IsContentIn (block_of view.now) content }
     requires inside { level.at < length (block_of view.now) }
+    requires short { length (block_of view.now) < 2 ^ 64 }
     requires few { pass.old.looks < 2 ^ 119 + 2 ^ 110 }
     ensures step { IfOk result (λ s. spec.IsStep (block_of view.now) level.at s) }
     ensures looks { IfOk result (λ _. pass.new.looks ≤ pass.old.looks + 2 ^ 80) }
@@ -176,6 +179,7 @@ fn wrong_definition(
     pass: &mut Pass,
 ) -> Result<Node, BlockFault>
     requires inside { at < length (block_of view.now) }
+    requires short { length (block_of view.now) < 2 ^ 64 }
     requires few { pass.old.looks < 2 ^ 119 + 2 ^ 111 }
     ensures { pass.new.looks ≤ pass.old.looks + 2 ^ 65 }
 {
