@@ -37,7 +37,8 @@ IsStep B at (Done l) = Unit {0}
 -- what follows a block inside
 abbrev pub IsResumed : Block → ℕ → Step → Type 0
 IsResumed B at (Next l) = l.at ≡ at
-IsResumed B at s = IsOpening B at s
+IsResumed B at (Open l w first second) = (at < length B) × (at < l.at) × IsBlock B first × IsBlockIf B second × IsWaiting B l.at w
+IsResumed B at s = ⊥
 
 -- what is left of a quote behind its first lines
 abbrev pub rest_of : Part → ℕ → Option Part

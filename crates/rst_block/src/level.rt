@@ -29,7 +29,9 @@ pub(crate) struct Level {
 
 impl Level {
     /// A block of which nothing was read.
-    pub fn new(alloc: Global, depth: usize) -> Level {
+    pub fn new(alloc: Global, depth: usize) -> Level
+        ensures { result.at ≡ 0 }
+    {
         Level {
             depth,
             at: 0,
