@@ -1,3 +1,4 @@
 pub mod Blocks
+pub mod Reached
 pub mod Work
 pub mod Stack
