@@ -2,3 +2,4 @@ pub mod Blocks
 pub mod Reached
 pub mod Work
 pub mod Stack
+pub mod Quotes

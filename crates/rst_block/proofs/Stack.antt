@@ -6,7 +6,7 @@ use Rattle.rst_text.specs.Shown.{block_of, source_of, portion_block}
 use Rattle.rst_text.specs.declared.lines.SourceLine.{SourceLine}
 use Rattle.rst_markup.specs.declared.part.Part.{Part}
 use Rattle.rst_block.specs.Frames.{IsFrame, AreFrames, IsBegin, IsNow, IsEnded, HasSecond}
-use Rattle.rst_block.specs.Steps.{IsStep, IsOpening, IsResumed}
+use Rattle.rst_block.specs.Steps.{IsStep, IsResumed}
 use Rattle.rst_block.specs.declared.frame.Frame.{Frame}
 use Rattle.rst_block.specs.declared.level.Level.{Level}
 use Rattle.rst_block.specs.declared.frame.Ended.TheVariants.{Waiting, GoesOn}

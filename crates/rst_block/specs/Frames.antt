@@ -5,7 +5,7 @@ use Rattle.rst_text.specs.Shown.{block_of, source_of, IsPortion, portion_block}
 use Rattle.rst_text.specs.declared.lines.SourceLine.{SourceLine}
 use Rattle.rst_markup.specs.Parts.{IsBlock}
 use Rattle.rst_markup.specs.declared.part.Part.{Part}
-use Rattle.rst_block.specs.Steps.{IsBlockIf, IsWaiting, IsOpening, IsResumed}
+use Rattle.rst_block.specs.Steps.{IsBlockIf, IsWaiting, IsResumed}
 use Rattle.rst_block.specs.declared.frame.Frame.{Frame}
 use Rattle.rst_block.specs.declared.frame.Reader.{Reader}
 use Rattle.rst_block.specs.declared.frame.Ended.{Ended}

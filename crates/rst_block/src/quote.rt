@@ -49,7 +49,8 @@ pub(crate) fn quote_part(
     requires inside { level.at < length (block_of view.now) }
     requires short { length (block_of view.now) < 2 ^ 64 }
     requires few { pass.old.looks < 2 ^ 119 + 2 ^ 110 }
-    ensures step { IfOk result (λ s. spec.IsOpening (block_of view.now) level.at s) }
+    ensures step { IfOk result (λ s. spec.IsStep (block_of view.now) level.at s) }
+    ensures resumed { IfOk result (λ s. spec.IsResumed (block_of view.now) level.at s) }
     ensures looks { IfOk result (λ _. pass.new.looks ≤ pass.old.looks + 2 ^ 80) }
 {
     let line = number_at(view, quote.from);
