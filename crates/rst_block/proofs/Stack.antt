@@ -118,3 +118,27 @@ pushed S (g ∷ fs) f h i = (h.0, pushed S fs f h.1 i)
 pub popped : (S : List SourceLine) (fs : List Frame) (f : Frame) → AreFrames S (fs ++ f ∷ []) → AreFrames S fs × IsFrame S f
 popped S [] f h = (tt, h.0)
 popped S (g ∷ fs) f h = let r = popped S fs f h.1 in ((h.0, r.0), r.1)
+
+pub parts_at_most : (p : Option Part) → parts_left p ≤ 4
+parts_at_most None = omega arith
+parts_at_most (Some p) = omega arith
+
+pub parts_at_least : (p : Option Part) → 3 ≤ parts_left p
+parts_at_least None = omega arith
+parts_at_least (Some p) = omega arith
+
+-- the last of some blocks that wait is taken off
+pub taken : (S : List SourceLine) (base : ℕ) (items xs : List Frame) (f : Frame) → items ≡ xs ++ f ∷ [] → base < length items → AreFrames S (drop base items)
+    → (base ≤ length xs) × (drop base items ≡ drop base xs ++ f ∷ []) × (take base items ≡ take base xs) × AreFrames S (drop base xs) × IsFrame S f
+taken S base items xs f e h a =
+    let b : base ≤ length xs = omega (arith, ap length e, length-append xs (f ∷ []), h) in
+    let d : drop base items ≡ drop base xs ++ f ∷ [] = ap (drop base) e ∙ drop-append-le base xs (f ∷ []) b in
+    let p = popped S (drop base xs) f (rw d at a) in
+    (b, d, ap (take base) e ∙ take-append-le base xs (f ∷ []) b, p.0, p.1)
+
+-- one more is put behind them
+pub placed : (S : List SourceLine) (base : ℕ) (xs : List Frame) (f : Frame) → base ≤ length xs → AreFrames S (drop base xs) → IsFrame S f
+    → (base ≤ length (xs ++ f ∷ [])) × (drop base (xs ++ f ∷ []) ≡ drop base xs ++ f ∷ []) × (take base (xs ++ f ∷ []) ≡ take base xs) × AreFrames S (drop base (xs ++ f ∷ []))
+placed S base xs f h a i =
+    let d : drop base (xs ++ f ∷ []) ≡ drop base xs ++ f ∷ [] = drop-append-le base xs (f ∷ []) h in
+    (omega (arith, length-append xs (f ∷ []), h), d, take-append-le base xs (f ∷ []) h, rw d (pushed S (drop base xs) f a i))

@@ -23,7 +23,6 @@ invariant-read-loop-now l = record {
   text : source_of l.view ≡ source_of l.whole;
   short : length (block_of l.view) < 2 ^ 64;
   now : IsNow (block_of l.view) l.now;
-  few : l.pass.looks < 2 ^ 120;
 }
 
 abbrev pub decreases-read-loop-now : goal.decreases-read-loop-now

@@ -19,3 +19,8 @@ loop-end-preserved c =
       c.lines_end-end-in-loop-end.ensures.within,
       omega (arith, below, c.lines_end-place.ensures.end, c.lines_end-place.ensures.few, c.attribution_at.ensures.looks, c.lines_end-end-in-loop-end.ensures.end, c.lines_end-end-in-loop-end.ensures.few, c.loop-end.invariant.1),
     )
+
+pub lines_end-end-requires-in-loop-end-clause-few : goal.lines_end-end-requires-in-loop-end-clause-few
+lines_end-end-requires-in-loop-end-clause-few c =
+    let B : Block = block_of c.args.lines.now in
+    omega (arith, c.requires.short, c.requires.few, c.lines_end-place.ensures.end, c.lines_end-place.ensures.few, c.lines_end-place.ensures.within, c.attribution_at.ensures.looks, c.loop-end.invariant.0, c.loop-end.invariant.1, while_le Filled (drop 1 (drop c.lines_end-place.result B)), length-drop 1 (drop c.lines_end-place.result B), length-drop c.lines_end-place.result B)
