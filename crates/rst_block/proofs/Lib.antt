@@ -1,4 +1,4 @@
 pub mod Blocks
 pub mod Work
 pub mod Stack
-pub mod Reached
+pub mod Looked
