@@ -1,4 +1,5 @@
 pub mod Blocks
+pub mod Reached
 pub mod Work
 pub mod Stack
 pub mod Looked
