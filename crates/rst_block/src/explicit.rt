@@ -24,6 +24,7 @@ use rst_tree::{Level as Gravity, Node, Tag};
 use std::alloc::Global;
 
 /// Explicit markup, which joins other explicit markup before it.
+#[tactic(auto, using(crate::proofs::Looked::explicit_looks))]
 pub(crate) fn explicit_markup(
     alloc: Global,
     view: &View<'_>,
