@@ -1,5 +1,6 @@
 pub mod Blocks
-pub mod Reached
-pub mod Work
-pub mod Stack
+pub mod Looked
 pub mod Quotes
+pub mod Reached
+pub mod Stack
+pub mod Work

@@ -28,9 +28,9 @@ pub(crate) fn adornment(
 ) -> Result<Step, BlockFault>
     requires inside { level.at < length (block_of view.now) }
     requires short { length (block_of view.now) < 2 ^ 64 }
-    requires few { pass.old.looks < 2 ^ 119 + 2 ^ 110 }
+    requires few { pass.old.looks < 2 ^ 119 + 2 ^ 111 }
     ensures step { IfOk result (λ s. spec.IsStep (block_of view.now) level.at s) }
-    ensures looks { IfOk result (λ _. pass.new.looks ≤ pass.old.looks + 2 ^ 80) }
+    ensures looks { IfOk result (λ _. pass.new.looks ≤ pass.old.looks + 2 ^ 79) }
 {
     let at = level.at;
     let next = below_text(view, at, 1, &mut pass.looks);
@@ -95,9 +95,9 @@ fn transition(
 ) -> Result<Step, BlockFault>
     requires inside { level.at < length (block_of view.now) }
     requires short { length (block_of view.now) < 2 ^ 64 }
-    requires few { pass.old.looks < 2 ^ 119 + 2 ^ 110 }
+    requires few { pass.old.looks < 2 ^ 119 + 2 ^ 112 }
     ensures step { IfOk result (λ s. spec.IsStep (block_of view.now) level.at s) }
-    ensures looks { IfOk result (λ _. pass.new.looks ≤ pass.old.looks + 2 ^ 80) }
+    ensures looks { IfOk result (λ _. pass.new.looks ≤ pass.old.looks + 2 ^ 78) }
 {
     let level = level.closed(alloc, view, pass)?;
     let at = level.at;
@@ -115,9 +115,9 @@ fn short(
 ) -> Result<Step, BlockFault>
     requires inside { level.at < length (block_of view.now) }
     requires short { length (block_of view.now) < 2 ^ 64 }
-    requires few { pass.old.looks < 2 ^ 119 + 2 ^ 110 }
+    requires few { pass.old.looks < 2 ^ 119 + 2 ^ 112 }
     ensures step { IfOk result (λ s. spec.IsStep (block_of view.now) level.at s) }
-    ensures looks { IfOk result (λ _. pass.new.looks ≤ pass.old.looks + 2 ^ 80) }
+    ensures looks { IfOk result (λ _. pass.new.looks ≤ pass.old.looks + 2 ^ 78) }
 {
     let info = message(alloc, Gravity::Info, number_at(view, level.at), text, None)?;
     text_line(alloc, view, level, alone(alloc, info)?, pass)
@@ -133,9 +133,9 @@ fn wrong(
 ) -> Result<Step, BlockFault>
     requires inside { level.at < length (block_of view.now) }
     requires short { length (block_of view.now) < 2 ^ 64 }
-    requires few { pass.old.looks < 2 ^ 119 + 2 ^ 110 }
+    requires few { pass.old.looks < 2 ^ 119 + 2 ^ 112 }
     ensures step { IfOk result (λ s. spec.IsStep (block_of view.now) level.at s) }
-    ensures looks { IfOk result (λ _. pass.new.looks ≤ pass.old.looks + 2 ^ 80) }
+    ensures looks { IfOk result (λ _. pass.new.looks ≤ pass.old.looks + 2 ^ 78) }
 {
     let level = level.closed(alloc, view, pass)?;
     let at = level.at;
@@ -157,9 +157,9 @@ fn overlined(
 ) -> Result<Step, BlockFault>
     requires inside { level.at < length (block_of view.now) }
     requires short { length (block_of view.now) < 2 ^ 64 }
-    requires few { pass.old.looks < 2 ^ 119 + 2 ^ 110 }
+    requires few { pass.old.looks < 2 ^ 119 + 2 ^ 112 }
     ensures step { IfOk result (λ s. spec.IsStep (block_of view.now) level.at s) }
-    ensures looks { IfOk result (λ _. pass.new.looks ≤ pass.old.looks + 2 ^ 80) }
+    ensures looks { IfOk result (λ _. pass.new.looks ≤ pass.old.looks + 2 ^ 78) }
 {
     let level = level.closed(alloc, view, pass)?;
     let at = level.at;

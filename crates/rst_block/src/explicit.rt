@@ -24,6 +24,7 @@ use rst_tree::{Level as Gravity, Node, Tag};
 use std::alloc::Global;
 
 /// Explicit markup, which joins other explicit markup before it.
+#[tactic(auto, using(crate::proofs::Looked::explicit_looks))]
 pub(crate) fn explicit_markup(
     alloc: Global,
     view: &View<'_>,
@@ -33,9 +34,9 @@ pub(crate) fn explicit_markup(
     requires inside { level.at < length (block_of view.now) }
     requires kind { IsTrue (is_explicit_kind (kind_of (block_of view.now) level.at)) }
     requires short { length (block_of view.now) < 2 ^ 64 }
-    requires few { pass.old.looks < 2 ^ 119 + 2 ^ 110 }
+    requires few { pass.old.looks < 2 ^ 119 + 2 ^ 111 }
     ensures step { IfOk result (λ s. spec.IsStep (block_of view.now) level.at s) }
-    ensures looks { IfOk result (λ _. pass.new.looks ≤ pass.old.looks + 2 ^ 80) }
+    ensures looks { IfOk result (λ _. pass.new.looks ≤ pass.old.looks + 2 ^ 79) }
 {
     let at = level.at;
     let found = explicit(view, at, &mut pass.looks);
@@ -60,9 +61,9 @@ fn markup_of(
     requires markup { IsExplicitIn (block_of view.now) level.at found }
     requires inside { level.at < length (block_of view.now) }
     requires short { length (block_of view.now) < 2 ^ 64 }
-    requires few { pass.old.looks < 2 ^ 119 + 2 ^ 110 }
+    requires few { pass.old.looks < 2 ^ 119 + 2 ^ 112 }
     ensures step { IfOk result (λ s. spec.IsStep (block_of view.now) level.at s) }
-    ensures looks { IfOk result (λ _. pass.new.looks ≤ pass.old.looks + 2 ^ 80) }
+    ensures looks { IfOk result (λ _. pass.new.looks ≤ pass.old.looks + 2 ^ 78) }
 {
     match found {
         Explicit::Footnote { label, body } => footnote_block(alloc, view, level, label, body, pass),
@@ -95,7 +96,7 @@ fn footnote_block(
     requires body { IsBlock (block_of view.now) body }
     requires inside { level.at < length (block_of view.now) }
     requires short { length (block_of view.now) < 2 ^ 64 }
-    requires few { pass.old.looks < 2 ^ 119 + 2 ^ 111 }
+    requires few { pass.old.looks < 2 ^ 119 + 2 ^ 113 }
     ensures step { IfOk result (λ s. spec.IsStep (block_of view.now) level.at s) }
     ensures looks { IfOk result (λ _. pass.new.looks ≤ pass.old.looks + 2 ^ 70) }
 {
@@ -117,7 +118,7 @@ fn citation_block(
     requires body { IsBlock (block_of view.now) body }
     requires inside { level.at < length (block_of view.now) }
     requires short { length (block_of view.now) < 2 ^ 64 }
-    requires few { pass.old.looks < 2 ^ 119 + 2 ^ 111 }
+    requires few { pass.old.looks < 2 ^ 119 + 2 ^ 113 }
     ensures step { IfOk result (λ s. spec.IsStep (block_of view.now) level.at s) }
     ensures looks { IfOk result (λ _. pass.new.looks ≤ pass.old.looks + 2 ^ 70) }
 {
@@ -139,7 +140,7 @@ fn target_block(
     requires text { IsBlock (block_of view.now) text }
     requires inside { level.at < length (block_of view.now) }
     requires short { length (block_of view.now) < 2 ^ 64 }
-    requires few { pass.old.looks < 2 ^ 119 + 2 ^ 111 }
+    requires few { pass.old.looks < 2 ^ 119 + 2 ^ 113 }
     ensures step { IfOk result (λ s. spec.IsStep (block_of view.now) level.at s) }
     ensures looks { IfOk result (λ _. pass.new.looks ≤ pass.old.looks + 2 ^ 70) }
 {
@@ -167,7 +168,7 @@ fn comment(
     requires text { IsBlock (block_of view.now) text }
     requires inside { level.at < length (block_of view.now) }
     requires short { length (block_of view.now) < 2 ^ 64 }
-    requires few { pass.old.looks < 2 ^ 119 + 2 ^ 111 }
+    requires few { pass.old.looks < 2 ^ 119 + 2 ^ 113 }
     ensures step { IfOk result (λ s. spec.IsStep (block_of view.now) level.at s) }
     ensures looks { IfOk result (λ _. pass.new.looks ≤ pass.old.looks + 2 ^ 70) }
 {

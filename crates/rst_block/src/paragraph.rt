@@ -29,9 +29,9 @@ pub(crate) fn doctest_block(
 ) -> Result<Step, BlockFault>
     requires inside { level.at < length (block_of view.now) }
     requires short { length (block_of view.now) < 2 ^ 64 }
-    requires few { pass.old.looks < 2 ^ 119 + 2 ^ 110 }
+    requires few { pass.old.looks < 2 ^ 119 + 2 ^ 111 }
     ensures step { IfOk result (λ s. spec.IsStep (block_of view.now) level.at s) }
-    ensures looks { IfOk result (λ _. pass.new.looks ≤ pass.old.looks + 2 ^ 80) }
+    ensures looks { IfOk result (λ _. pass.new.looks ≤ pass.old.looks + 2 ^ 79) }
 {
     let level = level.closed(alloc, view, pass)?;
     let at = level.at;
@@ -63,9 +63,9 @@ pub(crate) fn paragraph(
 ) -> Result<Step, BlockFault>
     requires inside { level.at < length (block_of view.now) }
     requires short { length (block_of view.now) < 2 ^ 64 }
-    requires few { pass.old.looks < 2 ^ 119 + 2 ^ 110 }
+    requires few { pass.old.looks < 2 ^ 119 + 2 ^ 114 }
     ensures step { IfOk result (λ s. spec.IsStep (block_of view.now) level.at s) }
-    ensures looks { IfOk result (λ _. pass.new.looks ≤ pass.old.looks + 2 ^ 80) }
+    ensures looks { IfOk result (λ _. pass.new.looks ≤ pass.old.looks + 2 ^ 76) }
 {
     let at = level.at;
     let end = lines_end(view, at, LineTest::Plain, &mut pass.looks);
@@ -122,9 +122,9 @@ fn literal(
     requires end { end ≤ length (block_of view.now) }
     requires inside { level.at < length (block_of view.now) }
     requires short { length (block_of view.now) < 2 ^ 64 }
-    requires few { pass.old.looks < 2 ^ 119 + 2 ^ 110 }
+    requires few { pass.old.looks < 2 ^ 119 + 2 ^ 115 }
     ensures step { IfOk result (λ s. spec.IsStep (block_of view.now) level.at s) }
-    ensures looks { IfOk result (λ _. pass.new.looks ≤ pass.old.looks + 2 ^ 80) }
+    ensures looks { IfOk result (λ _. pass.new.looks ≤ pass.old.looks + 2 ^ 75) }
 {
     let start = lines_end(view, end, LineTest::Blank, &mut pass.looks);
     let text = text_at(view, start, &mut pass.looks);
@@ -159,9 +159,9 @@ fn indented_literal(
     requires start { start ≤ length (block_of view.now) }
     requires inside { level.at < length (block_of view.now) }
     requires short { length (block_of view.now) < 2 ^ 64 }
-    requires few { pass.old.looks < 2 ^ 119 + 2 ^ 110 }
+    requires few { pass.old.looks < 2 ^ 119 + 2 ^ 116 }
     ensures step { IfOk result (λ s. spec.IsStep (block_of view.now) level.at s) }
-    ensures looks { IfOk result (λ _. pass.new.looks ≤ pass.old.looks + 2 ^ 80) }
+    ensures looks { IfOk result (λ _. pass.new.looks ≤ pass.old.looks + 2 ^ 74) }
 {
     let lines = indented(view, start, &mut pass.looks);
     let text = joined(alloc, &inside(view, lines), pass)?;
@@ -188,9 +188,9 @@ fn quoted_literal(
     requires start { start ≤ length (block_of view.now) }
     requires inside { level.at < length (block_of view.now) }
     requires short { length (block_of view.now) < 2 ^ 64 }
-    requires few { pass.old.looks < 2 ^ 119 + 2 ^ 110 }
+    requires few { pass.old.looks < 2 ^ 119 + 2 ^ 116 }
     ensures step { IfOk result (λ s. spec.IsStep (block_of view.now) level.at s) }
-    ensures looks { IfOk result (λ _. pass.new.looks ≤ pass.old.looks + 2 ^ 80) }
+    ensures looks { IfOk result (λ _. pass.new.looks ≤ pass.old.looks + 2 ^ 74) }
 {
     let end = lines_end(view, start, LineTest::Begins(quote), &mut pass.looks);
     let text = source(alloc, view, start, end, pass)?;
@@ -217,7 +217,7 @@ fn quoted_literal(
 /// Whether the lines of a block in a block are one paragraph that doesn't vanish, and nothing else.
 pub(crate) fn is_single_paragraph(view: &View<'_>, pass: &mut Pass) -> bool
     requires short { length (block_of view.now) < 2 ^ 64 }
-    requires few { pass.old.looks < 2 ^ 119 + 2 ^ 112 }
+    requires few { pass.old.looks < 2 ^ 119 + 2 ^ 116 }
     ensures { pass.new.looks ≤ pass.old.looks + 2 ^ 66 }
 {
     if view.len() == 0 || !begins_paragraph(view, pass) {
@@ -235,7 +235,7 @@ pub(crate) fn is_single_paragraph(view: &View<'_>, pass: &mut Pass) -> bool
 fn begins_paragraph(view: &View<'_>, pass: &mut Pass) -> bool
     requires inside { 0 < length (block_of view.now) }
     requires short { length (block_of view.now) < 2 ^ 64 }
-    requires few { pass.old.looks < 2 ^ 119 + 2 ^ 112 }
+    requires few { pass.old.looks < 2 ^ 119 + 2 ^ 117 }
     ensures { pass.new.looks ≤ pass.old.looks + 2 ^ 64 }
 {
     let text = view.line(0, &mut pass.looks);

@@ -45,9 +45,9 @@ pub(crate) fn substitution_definition(
     requires call { IfSome held (IsCall (block_of view.now) level.at) }
     requires inside { level.at < length (block_of view.now) }
     requires short { length (block_of view.now) < 2 ^ 64 }
-    requires few { pass.old.looks < 2 ^ 119 + 2 ^ 110 }
+    requires few { pass.old.looks < 2 ^ 119 + 2 ^ 113 }
     ensures step { IfOk result (λ s. spec.IsStep (block_of view.now) level.at s) }
-    ensures looks { IfOk result (λ _. pass.new.looks ≤ pass.old.looks + 2 ^ 80) }
+    ensures looks { IfOk result (λ _. pass.new.looks ≤ pass.old.looks + 2 ^ 77) }
 {
     let name = substitution_name(alloc, written)?;
     let Some(invocation) = held else {
@@ -88,9 +88,9 @@ fn holding(
     requires call { IsCall (block_of view.now) level.at invocation.now }
     requires inside { level.at < length (block_of view.now) }
     requires short { length (block_of view.now) < 2 ^ 64 }
-    requires few { pass.old.looks < 2 ^ 119 + 2 ^ 110 }
+    requires few { pass.old.looks < 2 ^ 119 + 2 ^ 114 }
     ensures step { IfOk result (λ s. spec.IsStep (block_of view.now) level.at s) }
-    ensures looks { IfOk result (λ _. pass.new.looks ≤ pass.old.looks + 2 ^ 80) }
+    ensures looks { IfOk result (λ _. pass.new.looks ≤ pass.old.looks + 2 ^ 76) }
 {
     let at = level.at;
     let line = number_at(view, at);
@@ -148,9 +148,9 @@ fn replacement(
     requires content { IsContentIn (block_of view.now) content }
     requires inside { level.at < length (block_of view.now) }
     requires short { length (block_of view.now) < 2 ^ 64 }
-    requires few { pass.old.looks < 2 ^ 119 + 2 ^ 110 }
+    requires few { pass.old.looks < 2 ^ 119 + 2 ^ 115 }
     ensures step { IfOk result (λ s. spec.IsStep (block_of view.now) level.at s) }
-    ensures looks { IfOk result (λ _. pass.new.looks ≤ pass.old.looks + 2 ^ 80) }
+    ensures looks { IfOk result (λ _. pass.new.looks ≤ pass.old.looks + 2 ^ 75) }
 {
     let at = level.at;
     let waits = Waits::Replacement(OpenReplacement {
@@ -180,7 +180,7 @@ fn wrong_definition(
 ) -> Result<Node, BlockFault>
     requires inside { at < length (block_of view.now) }
     requires short { length (block_of view.now) < 2 ^ 64 }
-    requires few { pass.old.looks < 2 ^ 119 + 2 ^ 111 }
+    requires few { pass.old.looks < 2 ^ 119 + 2 ^ 115 }
     ensures { pass.new.looks ≤ pass.old.looks + 2 ^ 65 }
 {
     if matches!(fault, DirectiveFault::NotInSubstitution) {
