@@ -1,5 +1,5 @@
 -- Parts of a view are blocks of it.
-use Rattle.std.proofs.Common.{◌≡◌, ℕ, zero, suc, ◌+◌, ◌-◌, ◌<◌, ◌≤◌, Bool, true, false, List, [], ◌∷◌, ◌||◌, ◌&&◌, length, take, drop, length-drop, Option, None, Some, arith, refl, sym, ap, ◌∙◌, leb}
+use Rattle.std.proofs.Common.{◌≡◌, ℕ, zero, suc, ◌+◌, ◌-◌, ◌<◌, ◌≤◌, Bool, true, false, List, [], ◌∷◌, ◌||◌, ◌&&◌, length, take, drop, length-drop, Option, None, Some, arith, refl, sym, ap, ◌∙◌, le-leb}
 use Rattle.std.proofs.lemmas.List.{drop-drop}
 use Rattle.rst_text.specs.Block.{Block, is_blank, indentation}
 use Rattle.rst_text.specs.Extent.{extent, extent_of, at_least, least_indent, or_zero}
@@ -16,9 +16,9 @@ use Rattle.rst_text.specs.declared.view.Extent.{Extent}
 
 pub uncut : (X : Block) → is_indented 0 X ≡ true
 uncut [] = refl
-uncut (l ∷ ls) = by (is_blank l.text) (uncut ls)
+uncut (l ∷ ls) = rw (le-leb 0 (indentation l.text) (omega arith)) (by (is_blank l.text) (uncut ls))
   where
-    by : (b : Bool) → is_indented 0 ls ≡ true → ((b || leb 0 (indentation l.text)) && is_indented 0 ls) ≡ true
+    by : (b : Bool) → is_indented 0 ls ≡ true → ((b || true) && is_indented 0 ls) ≡ true
     by true h = h
     by false h = h
 

@@ -1,3 +1,6 @@
 pub mod Blocks
-pub mod Work
+pub mod Looked
+pub mod Quotes
+pub mod Reached
 pub mod Stack
+pub mod Work

@@ -6,7 +6,7 @@ use Rattle.rst_text.specs.Shown.{block_of, source_of, portion_block}
 use Rattle.rst_text.specs.declared.lines.SourceLine.{SourceLine}
 use Rattle.rst_markup.specs.declared.part.Part.{Part}
 use Rattle.rst_block.specs.Frames.{IsFrame, AreFrames, IsBegin, IsNow, IsEnded, HasSecond}
-use Rattle.rst_block.specs.Steps.{IsStep, IsOpening, IsResumed}
+use Rattle.rst_block.specs.Steps.{IsStep, IsResumed}
 use Rattle.rst_block.specs.declared.frame.Frame.{Frame}
 use Rattle.rst_block.specs.declared.level.Level.{Level}
 use Rattle.rst_block.specs.declared.frame.Ended.TheVariants.{Waiting, GoesOn}
@@ -42,7 +42,7 @@ now_of_step B at (Done l) h = tt
 
 pub now_of_resumed : (B : Block) (at : ℕ) (s : Step) → IsResumed B at s → IsNow B s
 now_of_resumed B at (Next l) h = tt
-now_of_resumed B at (Open l w first second) h = (h.1, h.2, h.3)
+now_of_resumed B at (Open l w first second) h = (h.2, h.3, h.4)
 now_of_resumed B at (Cells l table) h = absurd h
 now_of_resumed B at (Done l) h = tt
 
@@ -58,11 +58,11 @@ cost_of_begin n m (Open l w first second) b h = absurd b
 cost_of_begin n m (Cells l table) b h = absurd b
 cost_of_begin n m (Done l) b h = absurd b
 
-cost_of_resumed : (B : Block) (at : ℕ) (s : Step) → at ≤ length B → IsResumed B at s → cost (length B) s < 5 * (length B - at) + 3
-cost_of_resumed B at (Next l) i h = omega (arith, h)
-cost_of_resumed B at (Open l w first second) i h = omega (arith, h.0)
-cost_of_resumed B at (Cells l table) i h = absurd h
-cost_of_resumed B at (Done l) i h = absurd h
+pub cost_of_resumed : (B : Block) (at : ℕ) (s : Step) → IsResumed B at s → cost (length B) s < 5 * (length B - at) + 3
+cost_of_resumed B at (Next l) h = omega (arith, h)
+cost_of_resumed B at (Open l w first second) h = omega (arith, h.0, h.1)
+cost_of_resumed B at (Cells l table) h = absurd h
+cost_of_resumed B at (Done l) h = absurd h
 
 cost_of_step : (B : Block) (at : ℕ) (s : Step) → at < length B → IsStep B at s → cost (length B) s < 5 * (length B - at) + 2
 cost_of_step B at (Next l) i h = omega (arith, h)
@@ -71,7 +71,7 @@ cost_of_step B at (Cells l table) i h = omega (arith, h.0)
 cost_of_step B at (Done l) i h = omega arith
 
 fewer : (S : List SourceLine) (fs : List Frame) → length (map (left S) fs) ≡ length fs
-fewer S fs = length-map (left S) fs
+fewer S fs = length-map fs (left S)
 
 -- less is left in the block that is read
 pub goes_on : (n room : ℕ) (S : List SourceLine) (fs : List Frame) (k j : ℕ) (s t : Step) → cost j t < cost k s → all_left n room S fs j t < all_left n room S fs k s
@@ -87,13 +87,13 @@ pub opens : (n room : ℕ) (S : List SourceLine) (fs : List Frame) (B : Block) (
     → length fs < room → portion_block S f.portion ≡ B → left S f < cost (length B) s → m ≤ n → IsBegin t
     → all_left n room S (fs ++ f ∷ []) m t < all_left n room S fs (length B) s
 opens n room S fs B s t f m r e h i b =
-    rw map-append (left S) fs (f ∷ []) (more (5 * n + 6) room (map (left S) fs) (omega (arith, fewer S fs, r)) h (cost_of_begin n m t b i))
+    rw (map-append (left S) fs (f ∷ [])) (more (5 * n + 6) room (map (left S) fs) (omega (arith, fewer S fs, r)) h (cost_of_begin n m t b i))
 
 -- a block that waited goes on
 pub resumes : (n room : ℕ) (S : List SourceLine) (fs : List Frame) (f : Frame) (k j : ℕ) (s t : Step)
     → length fs < room → cost j t < left S f → all_left n room S fs j t < all_left n room S (fs ++ f ∷ []) k s
 resumes n room S fs f k j s t r h =
-    rw map-append (left S) fs (f ∷ []) (
+    rw (map-append (left S) fs (f ∷ [])) (
       let a = less (5 * n + 6) room (map (left S) fs) (omega arith) h in
       let b = last (5 * n + 6) room (map (left S) fs) (left S f) (cost k s) (omega (arith, fewer S fs, r)) in
       omega (arith, a, b))
@@ -102,7 +102,7 @@ resumes n room S fs f k j s t r h =
 pub waits_again : (n room : ℕ) (S : List SourceLine) (fs : List Frame) (f g : Frame) (k m : ℕ) (s t : Step)
     → length fs < room → left S g < left S f → m ≤ n → IsBegin t → all_left n room S (fs ++ g ∷ []) m t < all_left n room S (fs ++ f ∷ []) k s
 waits_again n room S fs f g k m s t r h i b =
-    rw map-append (left S) fs (f ∷ []) (rw map-append (left S) fs (g ∷ []) (
+    rw (map-append (left S) fs (f ∷ [])) (rw (map-append (left S) fs (g ∷ [])) (
       let a = more (5 * n + 6) room (map (left S) fs) (omega (arith, fewer S fs, r)) h (cost_of_begin n m t b i) in
       let b = last (5 * n + 6) room (map (left S) fs) (left S f) (cost k s) (omega (arith, fewer S fs, r)) in
       omega (arith, a, b)))
@@ -118,3 +118,27 @@ pushed S (g ∷ fs) f h i = (h.0, pushed S fs f h.1 i)
 pub popped : (S : List SourceLine) (fs : List Frame) (f : Frame) → AreFrames S (fs ++ f ∷ []) → AreFrames S fs × IsFrame S f
 popped S [] f h = (tt, h.0)
 popped S (g ∷ fs) f h = let r = popped S fs f h.1 in ((h.0, r.0), r.1)
+
+pub parts_at_most : (p : Option Part) → parts_left p ≤ 4
+parts_at_most None = omega arith
+parts_at_most (Some p) = omega arith
+
+pub parts_at_least : (p : Option Part) → 3 ≤ parts_left p
+parts_at_least None = omega arith
+parts_at_least (Some p) = omega arith
+
+-- the last of some blocks that wait is taken off
+pub taken : (S : List SourceLine) (base : ℕ) (items xs : List Frame) (f : Frame) → items ≡ xs ++ f ∷ [] → base < length items → AreFrames S (drop base items)
+    → (base ≤ length xs) × (drop base items ≡ drop base xs ++ f ∷ []) × (take base items ≡ take base xs) × AreFrames S (drop base xs) × IsFrame S f
+taken S base items xs f e h a =
+    let b : base ≤ length xs = omega (arith, ap length e, length-append xs (f ∷ []), h) in
+    let d : drop base items ≡ drop base xs ++ f ∷ [] = ap (drop base) e ∙ drop-append-le base xs (f ∷ []) b in
+    let p = popped S (drop base xs) f (rw d at a) in
+    (b, d, ap (take base) e ∙ take-append-le base xs (f ∷ []) b, p.0, p.1)
+
+-- one more is put behind them
+pub placed : (S : List SourceLine) (base : ℕ) (xs : List Frame) (f : Frame) → base ≤ length xs → AreFrames S (drop base xs) → IsFrame S f
+    → (base ≤ length (xs ++ f ∷ [])) × (drop base (xs ++ f ∷ []) ≡ drop base xs ++ f ∷ []) × (take base (xs ++ f ∷ []) ≡ take base xs) × AreFrames S (drop base (xs ++ f ∷ []))
+placed S base xs f h a i =
+    let d : drop base (xs ++ f ∷ []) ≡ drop base xs ++ f ∷ [] = drop-append-le base xs (f ∷ []) h in
+    (omega (arith, length-append xs (f ∷ []), h), d, take-append-le base xs (f ∷ []) h, rw d (pushed S (drop base xs) f a i))

@@ -1,11 +1,11 @@
 -- Blocks that wait for one inside them, and the block that is being read.
-use Rattle.std.specs.Prelude.{◌≡◌, ℕ, ◌+◌, ◌-◌, ◌<◌, ◌≤◌, List, [], ◌∷◌, length, Option, None, Some}
+use Rattle.std.specs.Prelude.{◌≡◌, ℕ, ◌+◌, ◌-◌, ◌^◌, ◌<◌, ◌≤◌, List, [], ◌∷◌, length, Option, None, Some}
 use Rattle.rst_text.specs.Block.{Block}
 use Rattle.rst_text.specs.Shown.{block_of, source_of, IsPortion, portion_block}
 use Rattle.rst_text.specs.declared.lines.SourceLine.{SourceLine}
 use Rattle.rst_markup.specs.Parts.{IsBlock}
 use Rattle.rst_markup.specs.declared.part.Part.{Part}
-use Rattle.rst_block.specs.Steps.{IsBlockIf, IsWaiting, IsOpening, IsResumed}
+use Rattle.rst_block.specs.Steps.{IsBlockIf, IsWaiting, IsResumed}
 use Rattle.rst_block.specs.declared.frame.Frame.{Frame}
 use Rattle.rst_block.specs.declared.frame.Reader.{Reader}
 use Rattle.rst_block.specs.declared.frame.Ended.{Ended}
@@ -15,7 +15,7 @@ use Rattle.rst_block.specs.declared.step.Step.TheVariants.{Next, Open, Cells, Do
 
 -- a block of a text that waits: its parts are those of its lines
 abbrev pub IsFrame : List SourceLine → Frame → Type 0
-IsFrame S f = IsPortion S f.portion × IsBlockIf (portion_block S f.portion) f.second × IsWaiting (portion_block S f.portion) f.level.at f.waits
+IsFrame S f = IsPortion S f.portion × (length (portion_block S f.portion) < 2 ^ 64) × IsBlockIf (portion_block S f.portion) f.second × IsWaiting (portion_block S f.portion) f.level.at f.waits
 
 -- all of them are
 abbrev pub AreFrames : List SourceLine → List Frame → Type 0

@@ -22,22 +22,18 @@ abbrev pub IsWaiting : Block → ℕ → Waits → Type 0
 IsWaiting B at (Quote line attribution rest end) = IsRest B at rest
 IsWaiting B at w = Unit {0}
 
--- a block inside one that goes on behind a place
-abbrev pub IsOpening : Block → ℕ → Step → Type 0
-IsOpening B at (Open l w first second) = (at < l.at) × IsBlock B first × IsBlockIf B second × IsWaiting B l.at w
-IsOpening B at s = ⊥
-
 -- a step at a place
 abbrev pub IsStep : Block → ℕ → Step → Type 0
 IsStep B at (Next l) = at < l.at
-IsStep B at (Open l w first second) = IsOpening B at (Open l w first second)
+IsStep B at (Open l w first second) = (at < l.at) × IsBlock B first × IsBlockIf B second × IsWaiting B l.at w
 IsStep B at (Cells l table) = (l.at ≡ at) × (at < length B)
 IsStep B at (Done l) = Unit {0}
 
 -- what follows a block inside
 abbrev pub IsResumed : Block → ℕ → Step → Type 0
 IsResumed B at (Next l) = l.at ≡ at
-IsResumed B at s = IsOpening B at s
+IsResumed B at (Open l w first second) = (at < length B) × (at < l.at) × IsBlock B first × IsBlockIf B second × IsWaiting B l.at w
+IsResumed B at s = ⊥
 
 -- what is left of a quote behind its first lines
 abbrev pub rest_of : Part → ℕ → Option Part

@@ -27,9 +27,10 @@ pub(crate) fn adornment(
     pass: &mut Pass,
 ) -> Result<Step, BlockFault>
     requires inside { level.at < length (block_of view.now) }
-    requires few { pass.old.looks < 2 ^ 119 + 2 ^ 110 }
+    requires short { length (block_of view.now) < 2 ^ 64 }
+    requires few { pass.old.looks < 2 ^ 119 + 2 ^ 111 }
     ensures step { IfOk result (λ s. spec.IsStep (block_of view.now) level.at s) }
-    ensures looks { IfOk result (λ _. pass.new.looks ≤ pass.old.looks + 2 ^ 80) }
+    ensures looks { IfOk result (λ _. pass.new.looks ≤ pass.old.looks + 2 ^ 79) }
 {
     let at = level.at;
     let next = below_text(view, at, 1, &mut pass.looks);
@@ -93,9 +94,10 @@ fn transition(
     pass: &mut Pass,
 ) -> Result<Step, BlockFault>
     requires inside { level.at < length (block_of view.now) }
-    requires few { pass.old.looks < 2 ^ 119 + 2 ^ 110 }
+    requires short { length (block_of view.now) < 2 ^ 64 }
+    requires few { pass.old.looks < 2 ^ 119 + 2 ^ 112 }
     ensures step { IfOk result (λ s. spec.IsStep (block_of view.now) level.at s) }
-    ensures looks { IfOk result (λ _. pass.new.looks ≤ pass.old.looks + 2 ^ 80) }
+    ensures looks { IfOk result (λ _. pass.new.looks ≤ pass.old.looks + 2 ^ 78) }
 {
     let level = level.closed(alloc, view, pass)?;
     let at = level.at;
@@ -112,9 +114,10 @@ fn short(
     pass: &mut Pass,
 ) -> Result<Step, BlockFault>
     requires inside { level.at < length (block_of view.now) }
-    requires few { pass.old.looks < 2 ^ 119 + 2 ^ 110 }
+    requires short { length (block_of view.now) < 2 ^ 64 }
+    requires few { pass.old.looks < 2 ^ 119 + 2 ^ 112 }
     ensures step { IfOk result (λ s. spec.IsStep (block_of view.now) level.at s) }
-    ensures looks { IfOk result (λ _. pass.new.looks ≤ pass.old.looks + 2 ^ 80) }
+    ensures looks { IfOk result (λ _. pass.new.looks ≤ pass.old.looks + 2 ^ 78) }
 {
     let info = message(alloc, Gravity::Info, number_at(view, level.at), text, None)?;
     text_line(alloc, view, level, alone(alloc, info)?, pass)
@@ -129,9 +132,10 @@ fn wrong(
     pass: &mut Pass,
 ) -> Result<Step, BlockFault>
     requires inside { level.at < length (block_of view.now) }
-    requires few { pass.old.looks < 2 ^ 119 + 2 ^ 110 }
+    requires short { length (block_of view.now) < 2 ^ 64 }
+    requires few { pass.old.looks < 2 ^ 119 + 2 ^ 112 }
     ensures step { IfOk result (λ s. spec.IsStep (block_of view.now) level.at s) }
-    ensures looks { IfOk result (λ _. pass.new.looks ≤ pass.old.looks + 2 ^ 80) }
+    ensures looks { IfOk result (λ _. pass.new.looks ≤ pass.old.looks + 2 ^ 78) }
 {
     let level = level.closed(alloc, view, pass)?;
     let at = level.at;
@@ -152,9 +156,10 @@ fn overlined(
     pass: &mut Pass,
 ) -> Result<Step, BlockFault>
     requires inside { level.at < length (block_of view.now) }
-    requires few { pass.old.looks < 2 ^ 119 + 2 ^ 110 }
+    requires short { length (block_of view.now) < 2 ^ 64 }
+    requires few { pass.old.looks < 2 ^ 119 + 2 ^ 112 }
     ensures step { IfOk result (λ s. spec.IsStep (block_of view.now) level.at s) }
-    ensures looks { IfOk result (λ _. pass.new.looks ≤ pass.old.looks + 2 ^ 80) }
+    ensures looks { IfOk result (λ _. pass.new.looks ≤ pass.old.looks + 2 ^ 78) }
 {
     let level = level.closed(alloc, view, pass)?;
     let at = level.at;

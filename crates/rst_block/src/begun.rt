@@ -32,6 +32,7 @@ pub(crate) enum Begun {
 /// What begins at the line at place `at`, in three looks.
 pub(crate) fn begun_at(view: &View<'_>, at: usize, looks: &mut Looks) -> Begun
     requires inside { at < length (block_of view.now) }
+    requires short { length (block_of view.now) < 2 ^ 64 }
     requires few { looks.old < 2 ^ 120 }
     ensures begun { spec.IsBegun (kind_of (block_of view.now) at) result }
     ensures looks { looks.new ≤ looks.old + 3 }

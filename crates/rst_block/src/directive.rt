@@ -36,7 +36,8 @@ pub(crate) fn directive_at(
     pass: &mut Pass,
 ) -> Result<Directive, BlockFault>
     requires call { IsCall (block_of view.now) at invocation.now }
-    requires few { pass.old.looks < 2 ^ 119 + 2 ^ 111 }
+    requires short { length (block_of view.now) < 2 ^ 64 }
+    requires few { pass.old.looks < 2 ^ 119 + 2 ^ 115 }
     ensures parts { IfOk result (IsDirectiveIn (block_of view.now)) }
     ensures looks { IfOk result (λ _. pass.new.looks ≤ pass.old.looks + 2 ^ 72) }
 {
@@ -66,9 +67,10 @@ pub(crate) fn directive_block(
 ) -> Result<Step, BlockFault>
     requires call { IsCall (block_of view.now) level.at invocation.now }
     requires inside { level.at < length (block_of view.now) }
-    requires few { pass.old.looks < 2 ^ 119 + 2 ^ 110 }
+    requires short { length (block_of view.now) < 2 ^ 64 }
+    requires few { pass.old.looks < 2 ^ 119 + 2 ^ 113 }
     ensures step { IfOk result (λ s. spec.IsStep (block_of view.now) level.at s) }
-    ensures looks { IfOk result (λ _. pass.new.looks ≤ pass.old.looks + 2 ^ 80) }
+    ensures looks { IfOk result (λ _. pass.new.looks ≤ pass.old.looks + 2 ^ 77) }
 {
     let at = level.at;
     let end = invocation.block.to;
@@ -121,6 +123,7 @@ pub(crate) fn wrong_directive(
     name: &str,
     pass: &mut Pass,
 ) -> Result<Node, BlockFault>
+    requires short { length (block_of view.now) < 2 ^ 64 }
     requires few { pass.old.looks < 2 ^ 120 }
     ensures { pass.new.looks ≤ pass.old.looks + 2 ^ 64 }
 {
@@ -146,9 +149,10 @@ fn directive_nodes(
     requires content { IsContentIn (block_of view.now) found.content }
     requires argument { IsArgumentIn (block_of view.now) found.argument }
     requires inside { level.at < length (block_of view.now) }
-    requires few { pass.old.looks < 2 ^ 119 + 2 ^ 110 }
+    requires short { length (block_of view.now) < 2 ^ 64 }
+    requires few { pass.old.looks < 2 ^ 119 + 2 ^ 114 }
     ensures step { IfOk result (λ s. spec.IsStep (block_of view.now) level.at s) }
-    ensures looks { IfOk result (λ _. pass.new.looks ≤ pass.old.looks + 2 ^ 80) }
+    ensures looks { IfOk result (λ _. pass.new.looks ≤ pass.old.looks + 2 ^ 76) }
 {
     let line = number_at(view, level.at);
     let options = found.options.as_slice();
@@ -198,9 +202,10 @@ fn figure_block(
 ) -> Result<Step, BlockFault>
     requires content { IsContentIn (block_of view.now) found.now.content }
     requires inside { level.at < length (block_of view.now) }
-    requires few { pass.old.looks < 2 ^ 119 + 2 ^ 110 }
+    requires short { length (block_of view.now) < 2 ^ 64 }
+    requires few { pass.old.looks < 2 ^ 119 + 2 ^ 115 }
     ensures step { IfOk result (λ s. spec.IsStep (block_of view.now) level.at s) }
-    ensures looks { IfOk result (λ _. pass.new.looks ≤ pass.old.looks + 2 ^ 80) }
+    ensures looks { IfOk result (λ _. pass.new.looks ≤ pass.old.looks + 2 ^ 75) }
 {
     let at = level.at;
     let waits = Waits::Figure(OpenFigure {
@@ -226,9 +231,10 @@ fn code_nodes(
 ) -> Result<Step, BlockFault>
     requires content { IsContentIn (block_of view.now) found.now.content }
     requires inside { level.at < length (block_of view.now) }
-    requires few { pass.old.looks < 2 ^ 119 + 2 ^ 110 }
+    requires short { length (block_of view.now) < 2 ^ 64 }
+    requires few { pass.old.looks < 2 ^ 119 + 2 ^ 115 }
     ensures step { IfOk result (λ s. spec.IsStep (block_of view.now) level.at s) }
-    ensures looks { IfOk result (λ _. pass.new.looks ≤ pass.old.looks + 2 ^ 80) }
+    ensures looks { IfOk result (λ _. pass.new.looks ≤ pass.old.looks + 2 ^ 75) }
 {
     let line = number_at(view, level.at);
     let text = joined(alloc, &inside(view, found.content.second), pass)?;
@@ -256,6 +262,7 @@ fn titled(
     pass: &mut Pass,
 ) -> Result<Node, BlockFault>
     requires title { IsBlock (block_of view.now) title }
+    requires short { length (block_of view.now) < 2 ^ 64 }
     requires few { pass.old.looks < 2 ^ 120 }
     ensures { pass.new.looks ≤ pass.old.looks + 2 ^ 64 }
 {

@@ -24,6 +24,7 @@ use rst_tree::{Level as Gravity, Node, Tag};
 use std::alloc::Global;
 
 /// Explicit markup, which joins other explicit markup before it.
+#[tactic(auto, using(crate::proofs::Looked::explicit_looks))]
 pub(crate) fn explicit_markup(
     alloc: Global,
     view: &View<'_>,
@@ -32,9 +33,10 @@ pub(crate) fn explicit_markup(
 ) -> Result<Step, BlockFault>
     requires inside { level.at < length (block_of view.now) }
     requires kind { IsTrue (is_explicit_kind (kind_of (block_of view.now) level.at)) }
-    requires few { pass.old.looks < 2 ^ 119 + 2 ^ 110 }
+    requires short { length (block_of view.now) < 2 ^ 64 }
+    requires few { pass.old.looks < 2 ^ 119 + 2 ^ 111 }
     ensures step { IfOk result (λ s. spec.IsStep (block_of view.now) level.at s) }
-    ensures looks { IfOk result (λ _. pass.new.looks ≤ pass.old.looks + 2 ^ 80) }
+    ensures looks { IfOk result (λ _. pass.new.looks ≤ pass.old.looks + 2 ^ 79) }
 {
     let at = level.at;
     let found = explicit(view, at, &mut pass.looks);
@@ -58,9 +60,10 @@ fn markup_of(
 ) -> Result<Step, BlockFault>
     requires markup { IsExplicitIn (block_of view.now) level.at found }
     requires inside { level.at < length (block_of view.now) }
-    requires few { pass.old.looks < 2 ^ 119 + 2 ^ 110 }
+    requires short { length (block_of view.now) < 2 ^ 64 }
+    requires few { pass.old.looks < 2 ^ 119 + 2 ^ 112 }
     ensures step { IfOk result (λ s. spec.IsStep (block_of view.now) level.at s) }
-    ensures looks { IfOk result (λ _. pass.new.looks ≤ pass.old.looks + 2 ^ 80) }
+    ensures looks { IfOk result (λ _. pass.new.looks ≤ pass.old.looks + 2 ^ 78) }
 {
     match found {
         Explicit::Footnote { label, body } => footnote_block(alloc, view, level, label, body, pass),
@@ -92,7 +95,8 @@ fn footnote_block(
 ) -> Result<Step, BlockFault>
     requires body { IsBlock (block_of view.now) body }
     requires inside { level.at < length (block_of view.now) }
-    requires few { pass.old.looks < 2 ^ 119 + 2 ^ 111 }
+    requires short { length (block_of view.now) < 2 ^ 64 }
+    requires few { pass.old.looks < 2 ^ 119 + 2 ^ 113 }
     ensures step { IfOk result (λ s. spec.IsStep (block_of view.now) level.at s) }
     ensures looks { IfOk result (λ _. pass.new.looks ≤ pass.old.looks + 2 ^ 70) }
 {
@@ -113,7 +117,8 @@ fn citation_block(
 ) -> Result<Step, BlockFault>
     requires body { IsBlock (block_of view.now) body }
     requires inside { level.at < length (block_of view.now) }
-    requires few { pass.old.looks < 2 ^ 119 + 2 ^ 111 }
+    requires short { length (block_of view.now) < 2 ^ 64 }
+    requires few { pass.old.looks < 2 ^ 119 + 2 ^ 113 }
     ensures step { IfOk result (λ s. spec.IsStep (block_of view.now) level.at s) }
     ensures looks { IfOk result (λ _. pass.new.looks ≤ pass.old.looks + 2 ^ 70) }
 {
@@ -134,7 +139,8 @@ fn target_block(
 ) -> Result<Step, BlockFault>
     requires text { IsBlock (block_of view.now) text }
     requires inside { level.at < length (block_of view.now) }
-    requires few { pass.old.looks < 2 ^ 119 + 2 ^ 111 }
+    requires short { length (block_of view.now) < 2 ^ 64 }
+    requires few { pass.old.looks < 2 ^ 119 + 2 ^ 113 }
     ensures step { IfOk result (λ s. spec.IsStep (block_of view.now) level.at s) }
     ensures looks { IfOk result (λ _. pass.new.looks ≤ pass.old.looks + 2 ^ 70) }
 {
@@ -161,7 +167,8 @@ fn comment(
 ) -> Result<Step, BlockFault>
     requires text { IsBlock (block_of view.now) text }
     requires inside { level.at < length (block_of view.now) }
-    requires few { pass.old.looks < 2 ^ 119 + 2 ^ 111 }
+    requires short { length (block_of view.now) < 2 ^ 64 }
+    requires few { pass.old.looks < 2 ^ 119 + 2 ^ 113 }
     ensures step { IfOk result (λ s. spec.IsStep (block_of view.now) level.at s) }
     ensures looks { IfOk result (λ _. pass.new.looks ≤ pass.old.looks + 2 ^ 70) }
 {
@@ -181,6 +188,7 @@ fn label_text(
     pass: &mut Pass,
 ) -> Result<String, BlockFault>
     requires inside { at < length (block_of view.now) }
+    requires short { length (block_of view.now) < 2 ^ 64 }
     requires few { pass.old.looks < 2 ^ 120 }
     ensures { pass.new.looks ≤ pass.old.looks + 1 }
 {

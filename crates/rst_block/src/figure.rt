@@ -4,6 +4,7 @@ use super::texts::{alone, appended, filled};
 use rst_elements::message;
 use rst_tree::{Attrs, Children, Key, Level as Gravity, Node, Tag, Value};
 use std::alloc::Global;
+use std::vec::IntoIter;
 
 /// A figure whose content is read.
 #[derive(Debug, Drop)]
@@ -64,10 +65,10 @@ pub(crate) fn finished_figure(
 
 /// A figure with its caption, and the nodes behind that: the first ones, as many as `count`, are the messages of the caption and
 /// stand behind the figure, the others are its legend.
-fn captioned<I: Iterator<Item = Node>>(
+fn captioned(
     alloc: Global,
     figure: Node,
-    rest: I,
+    rest: IntoIter<Node, Global>,
     count: u64,
 ) -> Result<Vec<Node>, BlockFault> {
     let mut notes = Vec::new(alloc);

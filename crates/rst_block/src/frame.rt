@@ -84,6 +84,7 @@ pub(crate) fn opened<'a>(
     requires first { IsBlock (block_of view.now) first }
     requires second { spec.IsBlockIf (block_of view.now) second }
     requires waits { spec.IsWaiting (block_of view.now) level.at waits }
+    requires short { length (block_of view.now) < 2 ^ 64 }
     ensures frame { frames.IsFrame (source_of view.now) result.0 }
     ensures block { portion_block (source_of view.now) result.0.portion ≡ block_of view.now }
     ensures at { result.0.level.at ≡ level.at }

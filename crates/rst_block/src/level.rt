@@ -29,7 +29,9 @@ pub(crate) struct Level {
 
 impl Level {
     /// A block of which nothing was read.
-    pub fn new(alloc: Global, depth: usize) -> Level {
+    pub fn new(alloc: Global, depth: usize) -> Level
+        ensures { result.at ≡ 0 }
+    {
         Level {
             depth,
             at: 0,
@@ -152,6 +154,7 @@ impl Level {
         text: &str,
         pass: &mut Pass,
     ) -> Result<Level, BlockFault>
+        requires short { length (block_of view.now) < 2 ^ 64 }
         requires few { pass.old.looks < 2 ^ 120 }
         ensures at { IfOk result (λ l. l.at ≡ self.at) }
         ensures looks { pass.new.looks ≤ pass.old.looks + 1 }

@@ -53,8 +53,8 @@ pub(crate) fn read(
     ensures few { IfOk result (λ _. pass.new.looks < 2 ^ 119) }
 {
     let whole = View::whole(lines);
-    go_on(pass)?;
-    if depth > DEEPEST {
+    if whole.len() == 0 || depth > DEEPEST {
+        go_on(pass)?;
         not_blank(&whole, pass)?;
         go_on(pass)?;
         return Ok(Level::new(alloc, depth));
@@ -116,6 +116,7 @@ pub(crate) fn read(
 
 /// Refuses lines that are nested too deeply, unless they are blank.
 fn not_blank(view: &View<'_>, pass: &mut Pass) -> Result<(), BlockFault>
+    requires short { length (block_of view.now) < 2 ^ 64 }
     requires few { pass.old.looks < 2 ^ 120 }
     ensures { pass.new.looks ≤ pass.old.looks + 2 ^ 65 }
 {
@@ -141,6 +142,7 @@ fn flat(
     requires first { IsBlock (block_of view.now) first }
     requires second { spec.IsBlockIf (block_of view.now) second }
     requires waits { spec.IsWaiting (block_of view.now) level.at waits }
+    requires short { length (block_of view.now) < 2 ^ 64 }
     requires few { pass.old.looks < 2 ^ 119 }
     ensures step { IfOk result (λ s. spec.IsResumed (block_of view.now) level.at s) }
     ensures looks { IfOk result (λ _. pass.new.looks ≤ pass.old.looks + 2 ^ 91) }
@@ -166,6 +168,7 @@ fn with_table(
     requires inside { level.at < length (block_of view.now) }
     requires depth { depth ≤ 251 }
     requires room { length frames.old.items ≤ depth }
+    requires short { length (block_of view.now) < 2 ^ 64 }
     requires few { pass.old.looks < 2 ^ 119 }
     ensures frames { IfOk result (λ _. frames.new.items ≡ frames.old.items) }
     ensures later { IfOk result (λ l. level.at < l.at) }

@@ -28,9 +28,10 @@ pub(crate) fn doctest_block(
     pass: &mut Pass,
 ) -> Result<Step, BlockFault>
     requires inside { level.at < length (block_of view.now) }
-    requires few { pass.old.looks < 2 ^ 119 + 2 ^ 110 }
+    requires short { length (block_of view.now) < 2 ^ 64 }
+    requires few { pass.old.looks < 2 ^ 119 + 2 ^ 111 }
     ensures step { IfOk result (λ s. spec.IsStep (block_of view.now) level.at s) }
-    ensures looks { IfOk result (λ _. pass.new.looks ≤ pass.old.looks + 2 ^ 80) }
+    ensures looks { IfOk result (λ _. pass.new.looks ≤ pass.old.looks + 2 ^ 79) }
 {
     let level = level.closed(alloc, view, pass)?;
     let at = level.at;
@@ -61,9 +62,10 @@ pub(crate) fn paragraph(
     pass: &mut Pass,
 ) -> Result<Step, BlockFault>
     requires inside { level.at < length (block_of view.now) }
-    requires few { pass.old.looks < 2 ^ 119 + 2 ^ 110 }
+    requires short { length (block_of view.now) < 2 ^ 64 }
+    requires few { pass.old.looks < 2 ^ 119 + 2 ^ 114 }
     ensures step { IfOk result (λ s. spec.IsStep (block_of view.now) level.at s) }
-    ensures looks { IfOk result (λ _. pass.new.looks ≤ pass.old.looks + 2 ^ 80) }
+    ensures looks { IfOk result (λ _. pass.new.looks ≤ pass.old.looks + 2 ^ 76) }
 {
     let at = level.at;
     let end = lines_end(view, at, LineTest::Plain, &mut pass.looks);
@@ -86,6 +88,7 @@ fn with_paragraph(
     end: usize,
     pass: &mut Pass,
 ) -> Result<Level, BlockFault>
+    requires short { length (block_of view.now) < 2 ^ 64 }
     requires few { pass.old.looks < 2 ^ 120 }
     ensures at { IfOk result (λ l. l.at ≡ level.at) }
     ensures looks { IfOk result (λ _. pass.new.looks ≤ pass.old.looks + 1) }
@@ -118,9 +121,10 @@ fn literal(
 ) -> Result<Step, BlockFault>
     requires end { end ≤ length (block_of view.now) }
     requires inside { level.at < length (block_of view.now) }
-    requires few { pass.old.looks < 2 ^ 119 + 2 ^ 110 }
+    requires short { length (block_of view.now) < 2 ^ 64 }
+    requires few { pass.old.looks < 2 ^ 119 + 2 ^ 115 }
     ensures step { IfOk result (λ s. spec.IsStep (block_of view.now) level.at s) }
-    ensures looks { IfOk result (λ _. pass.new.looks ≤ pass.old.looks + 2 ^ 80) }
+    ensures looks { IfOk result (λ _. pass.new.looks ≤ pass.old.looks + 2 ^ 75) }
 {
     let start = lines_end(view, end, LineTest::Blank, &mut pass.looks);
     let text = text_at(view, start, &mut pass.looks);
@@ -154,9 +158,10 @@ fn indented_literal(
 ) -> Result<Step, BlockFault>
     requires start { start ≤ length (block_of view.now) }
     requires inside { level.at < length (block_of view.now) }
-    requires few { pass.old.looks < 2 ^ 119 + 2 ^ 110 }
+    requires short { length (block_of view.now) < 2 ^ 64 }
+    requires few { pass.old.looks < 2 ^ 119 + 2 ^ 116 }
     ensures step { IfOk result (λ s. spec.IsStep (block_of view.now) level.at s) }
-    ensures looks { IfOk result (λ _. pass.new.looks ≤ pass.old.looks + 2 ^ 80) }
+    ensures looks { IfOk result (λ _. pass.new.looks ≤ pass.old.looks + 2 ^ 74) }
 {
     let lines = indented(view, start, &mut pass.looks);
     let text = joined(alloc, &inside(view, lines), pass)?;
@@ -182,9 +187,10 @@ fn quoted_literal(
 ) -> Result<Step, BlockFault>
     requires start { start ≤ length (block_of view.now) }
     requires inside { level.at < length (block_of view.now) }
-    requires few { pass.old.looks < 2 ^ 119 + 2 ^ 110 }
+    requires short { length (block_of view.now) < 2 ^ 64 }
+    requires few { pass.old.looks < 2 ^ 119 + 2 ^ 116 }
     ensures step { IfOk result (λ s. spec.IsStep (block_of view.now) level.at s) }
-    ensures looks { IfOk result (λ _. pass.new.looks ≤ pass.old.looks + 2 ^ 80) }
+    ensures looks { IfOk result (λ _. pass.new.looks ≤ pass.old.looks + 2 ^ 74) }
 {
     let end = lines_end(view, start, LineTest::Begins(quote), &mut pass.looks);
     let text = source(alloc, view, start, end, pass)?;
@@ -210,7 +216,8 @@ fn quoted_literal(
 
 /// Whether the lines of a block in a block are one paragraph that doesn't vanish, and nothing else.
 pub(crate) fn is_single_paragraph(view: &View<'_>, pass: &mut Pass) -> bool
-    requires few { pass.old.looks < 2 ^ 119 + 2 ^ 112 }
+    requires short { length (block_of view.now) < 2 ^ 64 }
+    requires few { pass.old.looks < 2 ^ 119 + 2 ^ 116 }
     ensures { pass.new.looks ≤ pass.old.looks + 2 ^ 66 }
 {
     if view.len() == 0 || !begins_paragraph(view, pass) {
@@ -227,7 +234,8 @@ pub(crate) fn is_single_paragraph(view: &View<'_>, pass: &mut Pass) -> bool
 /// Whether the first line of a block in a block begins a paragraph.
 fn begins_paragraph(view: &View<'_>, pass: &mut Pass) -> bool
     requires inside { 0 < length (block_of view.now) }
-    requires few { pass.old.looks < 2 ^ 119 + 2 ^ 112 }
+    requires short { length (block_of view.now) < 2 ^ 64 }
+    requires few { pass.old.looks < 2 ^ 119 + 2 ^ 117 }
     ensures { pass.new.looks ≤ pass.old.looks + 2 ^ 64 }
 {
     let text = view.line(0, &mut pass.looks);

@@ -11,6 +11,7 @@ use rst_text::{Looks, View};
 /// The lines from place `from` on that are blank or indented, without their least indentation.
 pub(crate) fn indented(view: &View<'_>, from: usize, looks: &mut Looks) -> Part
     requires inside { from ≤ length (block_of view.now) }
+    requires short { length (block_of view.now) < 2 ^ 64 }
     requires few { looks.old < 2 ^ 120 }
     ensures block { IsBlock (block_of view.now) result }
     ensures from { result.from ≡ from }
@@ -28,6 +29,7 @@ pub(crate) fn indented(view: &View<'_>, from: usize, looks: &mut Looks) -> Part
 /// What stands behind a marker, and the indented block below.
 pub(crate) fn hanging(view: &View<'_>, at: usize, marker: Marker, looks: &mut Looks) -> Part
     requires inside { at < length (block_of view.now) }
+    requires short { length (block_of view.now) < 2 ^ 64 }
     requires few { looks.old < 2 ^ 120 }
     ensures block { IsBlock (block_of view.now) result }
     ensures looks { looks.new ≤ looks.old + 2 ^ 66 }
@@ -38,6 +40,7 @@ pub(crate) fn hanging(view: &View<'_>, at: usize, marker: Marker, looks: &mut Lo
 /// The block of a list's item with this marker.
 pub(crate) fn item_part(view: &View<'_>, at: usize, marker: Marker, looks: &mut Looks) -> Part
     requires inside { at < length (block_of view.now) }
+    requires short { length (block_of view.now) < 2 ^ 64 }
     requires few { looks.old < 2 ^ 120 }
     ensures block { IsBlock (block_of view.now) result }
     ensures looks { looks.new ≤ looks.old + 2 ^ 66 }
@@ -57,6 +60,7 @@ pub(crate) fn item_part(view: &View<'_>, at: usize, marker: Marker, looks: &mut 
 pub(crate) fn inside<'a>(view: &View<'a>, part: Part) -> View<'a>
     requires { IsBlock (block_of view.now) part }
     ensures lines { length (block_of result) ≡ part.to - part.from }
+    ensures fewer { length (block_of result) ≤ length (block_of view.now) }
     ensures text { source_of result ≡ source_of view.now }
 {
     view.part(part.from, part.to, part.first_cut, part.rest_cut)

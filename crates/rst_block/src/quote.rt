@@ -25,6 +25,7 @@ pub(crate) fn block_quote(
     pass: &mut Pass,
 ) -> Result<Step, BlockFault>
     requires inside { level.at < length (block_of view.now) }
+    requires short { length (block_of view.now) < 2 ^ 64 }
     requires few { pass.old.looks < 2 ^ 119 + 2 ^ 110 }
     ensures step { IfOk result (λ s. spec.IsStep (block_of view.now) level.at s) }
     ensures looks { IfOk result (λ _. pass.new.looks ≤ pass.old.looks + 2 ^ 80) }
@@ -46,8 +47,10 @@ pub(crate) fn quote_part(
     requires block { IsBlock (block_of view.now) quote }
     requires at { level.at ≤ quote.from }
     requires inside { level.at < length (block_of view.now) }
+    requires short { length (block_of view.now) < 2 ^ 64 }
     requires few { pass.old.looks < 2 ^ 119 + 2 ^ 110 }
-    ensures step { IfOk result (λ s. spec.IsOpening (block_of view.now) level.at s) }
+    ensures step { IfOk result (λ s. spec.IsStep (block_of view.now) level.at s) }
+    ensures resumed { IfOk result (λ s. spec.IsResumed (block_of view.now) level.at s) }
     ensures looks { IfOk result (λ _. pass.new.looks ≤ pass.old.looks + 2 ^ 80) }
 {
     let line = number_at(view, quote.from);
@@ -102,6 +105,7 @@ fn rest_of(quote: Part, next: usize) -> Option<Part>
 
 /// The first attribution in a quote, with its place: behind a blank line.
 fn first_attribution(lines: &View<'_>, pass: &mut Pass) -> Option<(usize, Attribution)>
+    requires short { length (block_of lines.now) < 2 ^ 64 }
     requires few { pass.old.looks < 2 ^ 119 + 2 ^ 111 }
     ensures place { IfSome result (λ found. (0 < found.0) × (found.0 ≤ found.1.end)) }
     ensures within { IfSome result (λ found. IsBlock (block_of lines.now) (attribution_part found.0 found.1)) }
@@ -130,6 +134,7 @@ fn attribution_text(
     pass: &mut Pass,
 ) -> Result<Texted, BlockFault>
     requires inside { IsBlock (block_of lines.now) (attribution_part place found) }
+    requires short { length (block_of lines.now) < 2 ^ 64 }
     requires few { pass.old.looks < 2 ^ 120 }
     ensures { pass.new.looks ≤ pass.old.looks + 2 ^ 64 }
 {

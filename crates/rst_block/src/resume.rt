@@ -57,6 +57,7 @@ pub(crate) fn resume(
     pass: &mut Pass,
 ) -> Result<Step, BlockFault>
     requires waits { spec.IsWaiting (block_of view.now) level.at waits }
+    requires short { length (block_of view.now) < 2 ^ 64 }
     requires few { pass.old.looks < 2 ^ 119 + 2 ^ 109 }
     ensures step { IfOk result (λ s. spec.IsResumed (block_of view.now) level.at s) }
     ensures looks { IfOk result (λ _. pass.new.looks ≤ pass.old.looks + 2 ^ 90) }
@@ -126,6 +127,7 @@ fn after_quote(
     pass: &mut Pass,
 ) -> Result<Step, BlockFault>
     requires rest { spec.IsRest (block_of view.now) level.at rest }
+    requires short { length (block_of view.now) < 2 ^ 64 }
     requires few { pass.old.looks < 2 ^ 119 + 2 ^ 109 }
     ensures step { IfOk result (λ s. spec.IsResumed (block_of view.now) level.at s) }
     ensures looks { IfOk result (λ _. pass.new.looks ≤ pass.old.looks + 2 ^ 90) }

@@ -44,9 +44,10 @@ pub(crate) fn substitution_definition(
 ) -> Result<Step, BlockFault>
     requires call { IfSome held (IsCall (block_of view.now) level.at) }
     requires inside { level.at < length (block_of view.now) }
-    requires few { pass.old.looks < 2 ^ 119 + 2 ^ 110 }
+    requires short { length (block_of view.now) < 2 ^ 64 }
+    requires few { pass.old.looks < 2 ^ 119 + 2 ^ 113 }
     ensures step { IfOk result (λ s. spec.IsStep (block_of view.now) level.at s) }
-    ensures looks { IfOk result (λ _. pass.new.looks ≤ pass.old.looks + 2 ^ 80) }
+    ensures looks { IfOk result (λ _. pass.new.looks ≤ pass.old.looks + 2 ^ 77) }
 {
     let name = substitution_name(alloc, written)?;
     let Some(invocation) = held else {
@@ -86,9 +87,10 @@ fn holding(
 ) -> Result<Step, BlockFault>
     requires call { IsCall (block_of view.now) level.at invocation.now }
     requires inside { level.at < length (block_of view.now) }
-    requires few { pass.old.looks < 2 ^ 119 + 2 ^ 110 }
+    requires short { length (block_of view.now) < 2 ^ 64 }
+    requires few { pass.old.looks < 2 ^ 119 + 2 ^ 114 }
     ensures step { IfOk result (λ s. spec.IsStep (block_of view.now) level.at s) }
-    ensures looks { IfOk result (λ _. pass.new.looks ≤ pass.old.looks + 2 ^ 80) }
+    ensures looks { IfOk result (λ _. pass.new.looks ≤ pass.old.looks + 2 ^ 76) }
 {
     let at = level.at;
     let line = number_at(view, at);
@@ -145,9 +147,10 @@ fn replacement(
 ) -> Result<Step, BlockFault>
     requires content { IsContentIn (block_of view.now) content }
     requires inside { level.at < length (block_of view.now) }
-    requires few { pass.old.looks < 2 ^ 119 + 2 ^ 110 }
+    requires short { length (block_of view.now) < 2 ^ 64 }
+    requires few { pass.old.looks < 2 ^ 119 + 2 ^ 115 }
     ensures step { IfOk result (λ s. spec.IsStep (block_of view.now) level.at s) }
-    ensures looks { IfOk result (λ _. pass.new.looks ≤ pass.old.looks + 2 ^ 80) }
+    ensures looks { IfOk result (λ _. pass.new.looks ≤ pass.old.looks + 2 ^ 75) }
 {
     let at = level.at;
     let waits = Waits::Replacement(OpenReplacement {
@@ -176,7 +179,8 @@ fn wrong_definition(
     pass: &mut Pass,
 ) -> Result<Node, BlockFault>
     requires inside { at < length (block_of view.now) }
-    requires few { pass.old.looks < 2 ^ 119 + 2 ^ 111 }
+    requires short { length (block_of view.now) < 2 ^ 64 }
+    requires few { pass.old.looks < 2 ^ 119 + 2 ^ 115 }
     ensures { pass.new.looks ≤ pass.old.looks + 2 ^ 65 }
 {
     if matches!(fault, DirectiveFault::NotInSubstitution) {

@@ -23,9 +23,10 @@ pub(crate) fn table(
     pass: &mut Pass,
 ) -> Result<Step, BlockFault>
     requires inside { level.at < length (block_of view.now) }
-    requires few { pass.old.looks < 2 ^ 119 + 2 ^ 110 }
+    requires short { length (block_of view.now) < 2 ^ 64 }
+    requires few { pass.old.looks < 2 ^ 119 + 2 ^ 111 }
     ensures step { IfOk result (λ s. spec.IsStep (block_of view.now) level.at s) }
-    ensures looks { IfOk result (λ _. pass.new.looks ≤ pass.old.looks + 2 ^ 80) }
+    ensures looks { IfOk result (λ _. pass.new.looks ≤ pass.old.looks + 2 ^ 79) }
 {
     let level = level.closed(alloc, view, pass)?;
     match found {
@@ -50,6 +51,7 @@ fn malformed(
     fault: TableFault,
     pass: &mut Pass,
 ) -> Result<Node, BlockFault>
+    requires short { length (block_of view.now) < 2 ^ 64 }
     requires few { pass.old.looks < 2 ^ 120 }
     ensures { pass.new.looks ≤ pass.old.looks + 2 ^ 64 }
 {
@@ -71,6 +73,7 @@ pub(crate) fn after_table(
     level: Level,
     pass: &mut Pass,
 ) -> Result<Level, BlockFault>
+    requires short { length (block_of view.now) < 2 ^ 64 }
     requires few { pass.old.looks < 2 ^ 120 }
     ensures at { IfOk result (λ l. l.at ≡ level.at) }
     ensures looks { pass.new.looks ≤ pass.old.looks + 1 }

@@ -33,6 +33,7 @@ pub(crate) fn excerpt(alloc: Global, text: &str, place: Characters) -> Result<St
 
 /// The lines of a view, joined by line feeds.
 pub(crate) fn joined(alloc: Global, view: &View<'_>, pass: &mut Pass) -> Result<String, BlockFault>
+    requires short { length (block_of view.now) < 2 ^ 64 }
     requires few { pass.old.looks < 2 ^ 120 }
     ensures { pass.new.looks ≤ pass.old.looks + 2 ^ 64 }
 {
@@ -54,6 +55,7 @@ pub(crate) fn source(
     to: usize,
     pass: &mut Pass,
 ) -> Result<String, BlockFault>
+    requires short { length (block_of view.now) < 2 ^ 64 }
     requires few { pass.old.looks < 2 ^ 120 }
     ensures { pass.new.looks ≤ pass.old.looks + 2 ^ 64 }
 {

@@ -8,4 +8,6 @@ pub returns-clause-block : goal.returns-clause-block
 returns-clause-block c = indented_block (block_of c.args.view.now) c.args.from c.block_end-extent.result c.requires.inside c.block_end-extent.ensures.extent
 
 pub returns-clause-looks : goal.returns-clause-looks
-returns-clause-looks c = omega (arith, c.block_end-extent.ensures.looks, looked_le 1 (drop c.args.from (block_of c.args.view.now)))
+returns-clause-looks c =
+    let B = block_of c.args.view.now in
+    omega (arith, c.block_end-extent.ensures.looks, looked_le 1 (drop c.args.from B), length-drop c.args.from B, c.requires.short)
