@@ -11,7 +11,7 @@ use rst_elements::message;
 use rst_marked::Marked;
 use rst_settings::Settings;
 use rst_text::{Lines, TextFault, decode};
-use rst_transform::{Finished, finish};
+use rst_transform::{Finished, TransformFault, finish};
 use rst_tree::{Attrs, Children, Level, Node, Tag, TreeFault};
 use std::alloc::{AllocError, Global};
 
@@ -36,7 +36,8 @@ pub fn document_of(
     let parsed = parsed_of(alloc, settings, &lines)?;
     let finished = match finish(alloc, parsed.document, parsed.messages, settings) {
         Ok(finished) => finished,
-        Err(_) => return Err(End::NoMemory),
+        // `NoTree` is not expected of a document that was parsed, but that is not proved.
+        Err(TransformFault::NoMemory | TransformFault::NoTree) => return Err(End::NoMemory),
     };
     Ok(Finished {
         tree: with_source(alloc, finished.tree, source)?,
