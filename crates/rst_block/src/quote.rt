@@ -26,9 +26,9 @@ pub(crate) fn block_quote(
 ) -> Result<Step, BlockFault>
     requires inside { level.at < length (block_of view.now) }
     requires short { length (block_of view.now) < 2 ^ 64 }
-    requires few { pass.old.looks < 2 ^ 119 + 2 ^ 110 }
+    requires few { pass.old.looks < 2 ^ 119 + 2 ^ 111 }
     ensures step { IfOk result (λ s. spec.IsStep (block_of view.now) level.at s) }
-    ensures looks { IfOk result (λ _. pass.new.looks ≤ pass.old.looks + 2 ^ 80) }
+    ensures looks { IfOk result (λ _. pass.new.looks ≤ pass.old.looks + 2 ^ 79) }
 {
     let level = level.closed(alloc, view, pass)?;
     let quote = indented(view, level.at, &mut pass.looks);
@@ -48,10 +48,10 @@ pub(crate) fn quote_part(
     requires at { level.at ≤ quote.from }
     requires inside { level.at < length (block_of view.now) }
     requires short { length (block_of view.now) < 2 ^ 64 }
-    requires few { pass.old.looks < 2 ^ 119 + 2 ^ 110 }
+    requires few { pass.old.looks < 2 ^ 119 + 2 ^ 112 }
     ensures step { IfOk result (λ s. spec.IsStep (block_of view.now) level.at s) }
     ensures resumed { IfOk result (λ s. spec.IsResumed (block_of view.now) level.at s) }
-    ensures looks { IfOk result (λ _. pass.new.looks ≤ pass.old.looks + 2 ^ 80) }
+    ensures looks { IfOk result (λ _. pass.new.looks ≤ pass.old.looks + 2 ^ 78) }
 {
     let line = number_at(view, quote.from);
     let lines = inside(view, quote);
@@ -106,7 +106,7 @@ fn rest_of(quote: Part, next: usize) -> Option<Part>
 /// The first attribution in a quote, with its place: behind a blank line.
 fn first_attribution(lines: &View<'_>, pass: &mut Pass) -> Option<(usize, Attribution)>
     requires short { length (block_of lines.now) < 2 ^ 64 }
-    requires few { pass.old.looks < 2 ^ 119 + 2 ^ 111 }
+    requires few { pass.old.looks < 2 ^ 119 + 2 ^ 113 }
     ensures place { IfSome result (λ found. (0 < found.0) × (found.0 ≤ found.1.end)) }
     ensures within { IfSome result (λ found. IsBlock (block_of lines.now) (attribution_part found.0 found.1)) }
     ensures looks { pass.new.looks ≤ pass.old.looks + 2 ^ 68 }
@@ -138,8 +138,16 @@ fn attribution_text(
     requires few { pass.old.looks < 2 ^ 120 }
     ensures { pass.new.looks ≤ pass.old.looks + 2 ^ 64 }
 {
-    let line = lines.number(place);
-    let text = lines.part(place, found.end, found.marker, found.indent);
+    let line = number_at(lines, place);
+    let text = inside(
+        lines,
+        Part {
+            from: place,
+            to: found.end,
+            first_cut: found.marker,
+            rest_cut: found.indent,
+        },
+    );
     let text = joined(alloc, &text, pass)?;
     Ok(with_text(
         alloc,

@@ -46,6 +46,7 @@ pub(crate) enum Step {
 }
 
 /// Reads the construct at the next line.
+#[tactic(auto, using(crate::proofs::Looked::grid_looks, crate::proofs::Looked::simple_looks))]
 pub(crate) fn step_at(
     alloc: Global,
     view: &View<'_>,

@@ -57,7 +57,7 @@ read-loop-now-smaller-else-inner-gt-DEEPEST t c =
     let S : List SourceLine = source_of c.whole-whole.result in
     let B : Block = block_of c.loop-now.view in
     let f : Frame = c.opened-frame.result.0 in
-    let same : portion_block S f.portion ≡ B = rw c.loop-now.invariant.text at c.opened-frame.ensures.block in
+    let same : portion_block S f.portion ≡ B = ap (λ (T : List SourceLine). portion_block T f.portion) (sym c.loop-now.invariant.text) ∙ c.opened-frame.ensures.block in
     let fewer : left S f < 5 * (length B - c.in-Open.level.at) + 5 = omega (arith, ap length same, c.opened-frame.ensures.at, parts_at_most f.second) in
     let few : length (drop c.len-base.result c.loop-now.frames.items) < 250 - c.args.depth = omega (arith, length-drop c.len-base.result c.loop-now.frames.items, c.len-in-loop-now.ensures.value, c.if-inner-gt-DEEPEST.false, c.loop-now.invariant.base) in
     rw (c.in-Open.is, c.push.ensures.items, drop-append-le c.len-base.result c.loop-now.frames.items (f ∷ []) c.loop-now.invariant.base)
