@@ -58,7 +58,7 @@ looked_fits R i wide None h e = omega arith
 looked_fits R i wide (Some first) h e =
     let b : first < length R = border_fits R (i + 1) first (omega arith) e in
     either (eqb (length (row_at R first)) wide) (is_empty (row_at R (first + 1))) (first + 1) (scan_end R (next_border R (first + 1))) (length R)
-      (omega arith) (scan_fits R (first + 1) (next_border R (first + 1)) (omega arith) refl)
+    (omega arith) (scan_fits R (first + 1) (next_border R (first + 1)) (omega arith) refl)
 
 pub simple_looks : (B : Block) (i : ℕ) → i < length B → simple_looked (rows_of B) i ≤ length B
 simple_looks B i h =

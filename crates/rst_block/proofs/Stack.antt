@@ -94,18 +94,18 @@ pub resumes : (n room : ℕ) (S : List SourceLine) (fs : List Frame) (f : Frame)
     → length fs < room → cost j t < left S f → all_left n room S fs j t < all_left n room S (fs ++ f ∷ []) k s
 resumes n room S fs f k j s t r h =
     rw (map-append (left S) fs (f ∷ [])) (
-      let a = less (5 * n + 6) room (map (left S) fs) (omega arith) h in
-      let b = last (5 * n + 6) room (map (left S) fs) (left S f) (cost k s) (omega (arith, fewer S fs, r)) in
-      omega (arith, a, b))
+    let a = less (5 * n + 6) room (map (left S) fs) (omega arith) h in
+    let b = last (5 * n + 6) room (map (left S) fs) (left S f) (cost k s) (omega (arith, fewer S fs, r)) in
+    omega (arith, a, b))
 
 -- a block that waited waits for another part
 pub waits_again : (n room : ℕ) (S : List SourceLine) (fs : List Frame) (f g : Frame) (k m : ℕ) (s t : Step)
     → length fs < room → left S g < left S f → m ≤ n → IsBegin t → all_left n room S (fs ++ g ∷ []) m t < all_left n room S (fs ++ f ∷ []) k s
 waits_again n room S fs f g k m s t r h i b =
     rw (map-append (left S) fs (f ∷ [])) (rw (map-append (left S) fs (g ∷ [])) (
-      let a = more (5 * n + 6) room (map (left S) fs) (omega (arith, fewer S fs, r)) h (cost_of_begin n m t b i) in
-      let b = last (5 * n + 6) room (map (left S) fs) (left S f) (cost k s) (omega (arith, fewer S fs, r)) in
-      omega (arith, a, b)))
+    let a = more (5 * n + 6) room (map (left S) fs) (omega (arith, fewer S fs, r)) h (cost_of_begin n m t b i) in
+    let b = last (5 * n + 6) room (map (left S) fs) (left S f) (cost k s) (omega (arith, fewer S fs, r)) in
+    omega (arith, a, b)))
 
 pub second_left : (p : Option Part) → HasSecond p → parts_left p ≡ 4
 second_left (Some p) h = refl

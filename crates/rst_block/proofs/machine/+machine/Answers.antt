@@ -31,7 +31,7 @@ read-closed-requires-in-Done-clause-frame t c =
 pub read-loop-now-smaller-in_ok-now-in-Next : goal.read-loop-now-smaller-in_ok-now-in-Next
 read-loop-now-smaller-in_ok-now-in-Next t c =
     rw c.in-Next.is (stepped (2 ^ 64) (250 - c.args.depth) (source_of c.whole-whole.result) (drop c.len-base.result c.loop-now.frames.items) (block_of c.loop-now.view) c.in-Next.level c.in_ok-now-in-Next.now
-      (omega (arith, c.if-level-len.true, c.len-in-Next.ensures)) c.in_ok-now-in-Next.ensures.step)
+    (omega (arith, c.if-level-len.true, c.len-in-Next.ensures)) c.in_ok-now-in-Next.ensures.step)
 
 pub read-loop-now-smaller-in_ok-closed-in-Next : goal.read-loop-now-smaller-in_ok-closed-in-Next
 read-loop-now-smaller-in_ok-closed-in-Next t c =
@@ -43,14 +43,14 @@ read-loop-now-smaller-in_ok-with_table-in-Cells t c =
     let n : ℕ = length (block_of c.loop-now.view) in
     let inside : c.in-Cells.level.at < n = rw c.in-Cells.is at c.loop-now.invariant.now in
     rw (c.in-Cells.is, c.in_ok-with_table-in-Cells.ensures.frames) (goes_on (2 ^ 64) (250 - c.args.depth) (source_of c.whole-whole.result) (drop c.len-base.result c.loop-now.frames.items) n n
-      (Cells c.in-Cells.level c.in-Cells.table) (Next c.in_ok-with_table-in-Cells.field-0) (omega (arith, inside, c.in_ok-with_table-in-Cells.ensures.later)))
+    (Cells c.in-Cells.level c.in-Cells.table) (Next c.in_ok-with_table-in-Cells.field-0) (omega (arith, inside, c.in_ok-with_table-in-Cells.ensures.later)))
 
 pub read-loop-now-smaller-in_ok-now-in-Open : goal.read-loop-now-smaller-in_ok-now-in-Open
 read-loop-now-smaller-in_ok-now-in-Open t c =
     let n : ℕ = length (block_of c.loop-now.view) in
     rw c.in-Open.is (goes_on (2 ^ 64) (250 - c.args.depth) (source_of c.whole-whole.result) (drop c.len-base.result c.loop-now.frames.items) n n
-      (Open c.in-Open.level c.in-Open.waits c.in-Open.first c.in-Open.second) c.in_ok-now-in-Open.now
-      (omega (arith, cost_of_resumed (block_of c.loop-now.view) c.in-Open.level.at c.in_ok-now-in-Open.now c.in_ok-now-in-Open.ensures.step)))
+    (Open c.in-Open.level c.in-Open.waits c.in-Open.first c.in-Open.second) c.in_ok-now-in-Open.now
+    (omega (arith, cost_of_resumed (block_of c.loop-now.view) c.in-Open.level.at c.in_ok-now-in-Open.now c.in_ok-now-in-Open.ensures.step)))
 
 pub read-loop-now-smaller-else-inner-gt-DEEPEST : goal.read-loop-now-smaller-else-inner-gt-DEEPEST
 read-loop-now-smaller-else-inner-gt-DEEPEST t c =
@@ -61,8 +61,8 @@ read-loop-now-smaller-else-inner-gt-DEEPEST t c =
     let fewer : left S f < 5 * (length B - c.in-Open.level.at) + 5 = omega (arith, ap length same, c.opened-frame.ensures.at, parts_at_most f.second) in
     let few : length (drop c.len-base.result c.loop-now.frames.items) < 250 - c.args.depth = omega (arith, length-drop c.len-base.result c.loop-now.frames.items, c.len-in-loop-now.ensures.value, c.if-inner-gt-DEEPEST.false, c.loop-now.invariant.base) in
     rw (c.in-Open.is, c.push.ensures.items, drop-append-le c.len-base.result c.loop-now.frames.items (f ∷ []) c.loop-now.invariant.base)
-      (opens (2 ^ 64) (250 - c.args.depth) S (drop c.len-base.result c.loop-now.frames.items) B (Open c.in-Open.level c.in-Open.waits c.in-Open.first c.in-Open.second) c.opened-frame.result.1.now f
-        (length (block_of c.opened-frame.result.1.view)) few same fewer (omega (arith, c.opened-frame.ensures.lines, c.loop-now.invariant.short)) c.opened-frame.ensures.now)
+    (opens (2 ^ 64) (250 - c.args.depth) S (drop c.len-base.result c.loop-now.frames.items) B (Open c.in-Open.level c.in-Open.waits c.in-Open.first c.in-Open.second) c.opened-frame.result.1.now f
+    (length (block_of c.opened-frame.result.1.view)) few same fewer (omega (arith, c.opened-frame.ensures.lines, c.loop-now.invariant.short)) c.opened-frame.ensures.now)
 
 pub read-loop-now-preserved-else-inner-gt-DEEPEST : goal.read-loop-now-preserved-else-inner-gt-DEEPEST
 read-loop-now-preserved-else-inner-gt-DEEPEST t c =
@@ -91,8 +91,8 @@ read-loop-now-smaller-in-Waiting t c =
     let fewer : left S g < left S f = omega (arith, lines, e.2, ap parts_left e.3, second_left f.second e.4) in
     let few : length (drop c.len-base.result c.pop.new.self.items) < 250 - c.args.depth = omega (arith, length-drop c.len-base.result c.pop.new.self.items, ap length c.in-Some.ensures.items, length-append c.pop.new.self.items (f ∷ []), c.loop-now.invariant.room, some) in
     rw (c.push-in-Waiting.ensures.items, drop-append-le c.len-base.result c.pop.new.self.items (g ∷ []) off.0, off.1)
-      (waits_again (2 ^ 64) (250 - c.args.depth) S (drop c.len-base.result c.pop.new.self.items) f g (length (block_of c.loop-now.view)) (length (block_of c.in-Waiting.reader.view)) c.loop-now.now c.in-Waiting.reader.now
-        few fewer (omega (arith, e.6, off.4.1)) e.7)
+    (waits_again (2 ^ 64) (250 - c.args.depth) S (drop c.len-base.result c.pop.new.self.items) f g (length (block_of c.loop-now.view)) (length (block_of c.in-Waiting.reader.view)) c.loop-now.now c.in-Waiting.reader.now
+    few fewer (omega (arith, e.6, off.4.1)) e.7)
 
 pub read-loop-now-preserved-in-Waiting : goal.read-loop-now-preserved-in-Waiting
 read-loop-now-preserved-in-Waiting t c =
@@ -124,7 +124,7 @@ read-loop-now-smaller t c =
     let v = c.in-GoesOn.reader.view in
     let few : length (drop c.len-base.result c.pop.new.self.items) < 250 - c.args.depth = omega (arith, length-drop c.len-base.result c.pop.new.self.items, ap length c.in-Some.ensures.items, length-append c.pop.new.self.items (f ∷ []), c.loop-now.invariant.room, some) in
     rw off.1 (resumes (2 ^ 64) (250 - c.args.depth) S (drop c.len-base.result c.pop.new.self.items) f (length (block_of c.loop-now.view)) (length (block_of v)) c.loop-now.now c.in-GoesOn.reader.now few
-      (omega (arith, cost_of_resumed (block_of v) f.level.at c.in-GoesOn.reader.now e.2, ap length e.1, parts_at_least f.second)))
+    (omega (arith, cost_of_resumed (block_of v) f.level.at c.in-GoesOn.reader.now e.2, ap length e.1, parts_at_least f.second)))
 
 pub read-loop-now-preserved : goal.read-loop-now-preserved
 read-loop-now-preserved t c =
