@@ -1,8 +1,8 @@
 -- Parts of a view are blocks of it.
-use Rattle.std.proofs.Common.{◌≡◌, ℕ, zero, suc, ◌+◌, ◌-◌, ◌<◌, ◌≤◌, Bool, true, false, List, [], ◌∷◌, ◌||◌, ◌&&◌, length, take, drop, length-drop, Option, None, Some, arith, refl, sym, ap, ◌∙◌, le-leb}
+use Rattle.std.proofs.Common.{◌≡◌, ℕ, zero, suc, ◌+◌, ◌-◌, ◌<◌, ◌≤◌, Bool, true, false, [], ◌∷◌, ◌||◌, ◌&&◌, length, take, drop, length-drop, arith, refl, sym, ap, ◌∙◌, le-leb}
 use Rattle.std.proofs.lemmas.List.{drop-drop}
 use Rattle.rst_text.specs.Block.{Block, is_blank, indentation}
-use Rattle.rst_text.specs.Extent.{extent, extent_of, at_least, least_indent, or_zero}
+use Rattle.rst_text.specs.Extent.{extent, extent_of}
 use Rattle.rst_text.specs.MayCut.{is_indented}
 use Rattle.rst_text.proofs.CutLaws.{take_of}
 use Rattle.rst_text.proofs.Indented.{is_indented-drop, is_indented-take, is_indented-extent, is_indented-rest}

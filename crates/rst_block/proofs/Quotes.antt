@@ -1,5 +1,5 @@
 -- Block quotes that go on behind an attribution.
-use Rattle.std.proofs.Common.{◌≡◌, ℕ, ◌+◌, ◌<◌, ◌≤◌, length, Option, None, Some, arith, refl, lt-ltb, le-ltb, inl, inr}
+use Rattle.std.proofs.Common.{ℕ, ◌+◌, ◌≤◌, lt-ltb, le-ltb, inl, inr}
 use Rattle.std.proofs.lemmas.Bool.{cases_lt}
 use Rattle.rst_text.specs.Block.{Block}
 use Rattle.rst_markup.specs.Parts.{IsBlock}

@@ -1,15 +1,14 @@
 -- The blocks that wait, and the work that is left in them.
-use Rattle.std.proofs.Common.{◌≡◌, ℕ, zero, suc, ◌+◌, ◌-◌, ◌*◌, ◌<◌, ◌≤◌, ◌++◌, List, [], ◌∷◌, length, length-append, take, drop, map, Option, None, Some, arith, refl, sym, ap, ◌∙◌, subst}
-use Rattle.std.proofs.lemmas.List.{drop-append-le, take-append-le, map-append, length-drop, take_all, drop_all, length-map}
+use Rattle.std.proofs.Common.{◌≡◌, ℕ, ◌+◌, ◌-◌, ◌*◌, ◌<◌, ◌≤◌, ◌++◌, List, [], ◌∷◌, length, length-append, take, drop, map, Option, None, Some, arith, refl, ap, ◌∙◌}
+use Rattle.std.proofs.lemmas.List.{drop-append-le, take-append-le, map-append, length-map}
 use Rattle.rst_text.specs.Block.{Block}
-use Rattle.rst_text.specs.Shown.{block_of, source_of, portion_block}
+use Rattle.rst_text.specs.Shown.{portion_block}
 use Rattle.rst_text.specs.declared.lines.SourceLine.{SourceLine}
 use Rattle.rst_markup.specs.declared.part.Part.{Part}
-use Rattle.rst_block.specs.Frames.{IsFrame, AreFrames, IsBegin, IsNow, IsEnded, HasSecond}
+use Rattle.rst_block.specs.Frames.{IsFrame, AreFrames, IsBegin, IsNow, HasSecond}
 use Rattle.rst_block.specs.Steps.{IsStep, IsResumed}
 use Rattle.rst_block.specs.declared.frame.Frame.{Frame}
 use Rattle.rst_block.specs.declared.level.Level.{Level}
-use Rattle.rst_block.specs.declared.frame.Ended.TheVariants.{Waiting, GoesOn}
 use Rattle.rst_block.specs.declared.step.Step.{Step}
 use Rattle.rst_block.specs.declared.step.Step.TheVariants.{Next, Open, Cells, Done}
 use Rattle.rst_block.proofs.Work.{work, less, more, last}

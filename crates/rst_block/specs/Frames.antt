@@ -1,5 +1,5 @@
 -- Blocks that wait for one inside them, and the block that is being read.
-use Rattle.std.specs.Prelude.{◌≡◌, ℕ, ◌+◌, ◌-◌, ◌^◌, ◌<◌, ◌≤◌, List, [], ◌∷◌, length, Option, None, Some}
+use Rattle.std.specs.Prelude.{◌≡◌, ◌^◌, ◌<◌, ◌≤◌, List, [], ◌∷◌, length, Option, None, Some}
 use Rattle.rst_text.specs.Block.{Block}
 use Rattle.rst_text.specs.Shown.{block_of, source_of, IsPortion, portion_block}
 use Rattle.rst_text.specs.declared.lines.SourceLine.{SourceLine}
@@ -7,7 +7,6 @@ use Rattle.rst_markup.specs.Parts.{IsBlock}
 use Rattle.rst_markup.specs.declared.part.Part.{Part}
 use Rattle.rst_block.specs.Steps.{IsBlockIf, IsWaiting, IsResumed}
 use Rattle.rst_block.specs.declared.frame.Frame.{Frame}
-use Rattle.rst_block.specs.declared.frame.Reader.{Reader}
 use Rattle.rst_block.specs.declared.frame.Ended.{Ended}
 use Rattle.rst_block.specs.declared.frame.Ended.TheVariants.{Waiting, GoesOn}
 use Rattle.rst_block.specs.declared.step.Step.{Step}

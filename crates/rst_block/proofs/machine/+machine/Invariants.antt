@@ -1,4 +1,4 @@
-use Rattle.std.proofs.Common.{◌≡◌, ℕ, ◌+◌, ◌-◌, ◌*◌, ◌^◌, ◌<◌, ◌≤◌, length, take, drop}
+use Rattle.std.proofs.Common.{◌≡◌, ◌+◌, ◌-◌, ◌*◌, ◌^◌, ◌<◌, ◌≤◌, length, take, drop}
 use Rattle.rst_text.specs.Shown.{block_of, source_of}
 use Rattle.rst_block.specs.Frames.{AreFrames, IsNow}
 use Rattle.rst_block.proofs.Stack.{all_left}

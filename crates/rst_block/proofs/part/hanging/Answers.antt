@@ -1,4 +1,4 @@
-use Rattle.std.proofs.Common.{◌≡◌, ◌+◌, drop, arith}
+use Rattle.std.proofs.Common.{arith}
 use Rattle.rst_text.specs.Shown.{block_of}
 use Rattle.rst_markup.proofs.ExplicitLemmas.{hanging_block}
 use Rattle.rst_block.proofs.Reached.{reach_hanging}

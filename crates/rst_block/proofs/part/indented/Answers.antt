@@ -1,4 +1,4 @@
-use Rattle.std.proofs.Common.{◌≡◌, ◌+◌, drop, length-drop, arith}
+use Rattle.std.proofs.Common.{drop, length-drop, arith}
 use Rattle.rst_text.specs.Shown.{block_of}
 use Rattle.rst_markup.proofs.EndLemmas.{looked_le}
 use Rattle.rst_block.proofs.Blocks.{indented_block}

@@ -1,4 +1,4 @@
-use Rattle.std.proofs.Common.{◌≡◌, ◌+◌, ◌-◌, drop, take, length, ap, ◌∙◌, arith}
+use Rattle.std.proofs.Common.{◌+◌, ◌-◌, drop, take, length, ap, ◌∙◌, arith}
 use Rattle.rst_text.specs.Shown.{block_of}
 use Rattle.rst_text.proofs.CutLaws.{length-cut}
 use Rattle.rst_block.proofs.Blocks.{uncut}
