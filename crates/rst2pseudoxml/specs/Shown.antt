@@ -56,13 +56,20 @@ told settings source notes = flat_map (message_of source) (filter (is_told setti
 abbrev pub status_by : Settings → ℕ → ℕ
 status_by settings highest = if is_reached settings.exit highest then 10 + highest else 0
 
-abbrev pub parts_by : Settings → List ℕ → Node → List Note → Option Level → Parts
-parts_by settings source document notes None = record { out = print_of document; err = told settings source notes; status = status_by settings (highest_level notes) }
-parts_by settings source document notes (Some level) = record { out = []; err = told settings source notes; status = 1 }
+-- standard output: the document, or nothing where a message halts the run
+abbrev pub shown_by : Node → Option Level → List ℕ
+shown_by document None = print_of document
+shown_by document (Some level) = []
+
+-- the exit status: by the level of the messages, or 1 where one halts the run
+abbrev pub ended_by : Settings → List Note → Option Level → ℕ
+ended_by settings notes None = status_by settings (highest_level notes)
+ended_by settings notes (Some level) = 1
 
 -- what is shown of a document and its messages, or of its messages alone where one halts the run
 abbrev pub parts_of : Settings → List ℕ → Node → List Note → Parts
-parts_of settings source document notes = parts_by settings source document notes (halting settings notes)
+parts_of settings source document notes =
+    record { out = shown_by document (halting settings notes); err = told settings source notes; status = ended_by settings notes (halting settings notes) }
 
 -- a document and its messages as they are shown: no message in the document is below the report level, no attribute serves the
 -- transforms alone, and no message but the last one halts the run
@@ -92,3 +99,9 @@ abbrev pub Tells : {A : Type 0} → Settings → List ℕ → List Note → Resu
 Tells settings source notes (Ok text) = (inner_of text).items ≡ told settings source notes
 Tells settings source notes (Err NoMemory) = Unit {0}
 Tells settings source notes (Err _) = ⊥
+
+-- the text of the document was made, or memory ran out
+abbrev pub Draws : {A : Type 0} → Node → Option Level → Result (Counted (Vec ℕ A)) End → Type 0
+Draws document halting (Ok text) = (inner_of text).items ≡ shown_by document halting
+Draws document halting (Err NoMemory) = Unit {0}
+Draws document halting (Err _) = ⊥

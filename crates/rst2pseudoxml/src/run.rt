@@ -8,11 +8,10 @@ ghost use Rattle.rst2pseudoxml.specs.Shown.{Answers, parts_of};
 use super::document::document_of;
 use super::end::End;
 use super::input::read_input;
-use super::telling::{halting, status_of, told};
+use super::telling::{halting, shown, status_of, told};
 use rst_settings::Settings;
 use rst_text::Counted;
 use rst_transform::Finished;
-use rst_tree::{PrintFault, print};
 use std::alloc::Global;
 use std::io::{Read, Write};
 
@@ -48,6 +47,9 @@ pub fn run<R: Read, O: Write, E: Write>(
 }
 
 /// Writes what the program shows of a finished document: all of standard error, then standard output.
+///
+/// Both texts are made before the first write: where memory runs out nothing was written, and a stream takes its text in few
+/// writes.
 fn show<O: Write, E: Write>(
     alloc: Global,
     settings: &Settings,
@@ -69,15 +71,20 @@ fn show<O: Write, E: Write>(
         Ok(messages) => messages,
         Err(_) => return End::NoMemory,
     };
+    let halts = halting(notes, settings);
+    let document = match shown(alloc, &finished.tree, halts) {
+        Ok(document) => document,
+        Err(_) => return End::NoMemory,
+    };
     if let Err(done) = write_text(messages.inner().as_slice(), err) {
         return End::WriteErr { done };
     }
-    if let Some(_) = halting(notes, settings) {
-        return End::Done(1);
+    if let Err(done) = write_text(document.inner().as_slice(), out) {
+        return End::WriteOut { done };
     }
-    match print(&finished.tree, out) {
-        Ok(()) => End::Done(status_of(finished.highest, settings)),
-        Err(PrintFault::Write { done }) => End::WriteOut { done },
+    match halts {
+        Some(_) => End::Done(1),
+        None => End::Done(status_of(finished.highest, settings)),
     }
 }
 
