@@ -40,6 +40,8 @@ same 'a message that halts' "1 $warning"$'\nExiting due to level-2 (WARNING) sys
 same 'an exit status' "12 ${hello/Hello, world/$'*\n        a'}" "$(answer '*a' -q --exit-status=2)"
 same 'nested too deep' '1 rst2pseudoxml: line 3: nesting too deep' "$(answer "text\n\n$(printf -- '- %.0s' {1..251})a")"
 same 'by a link' "$hello" "$(printf 'Hello, world' | ./linked)"
+head -c 16777216 /dev/zero | tr '\0' '\n' | "$top/rst2pseudoxml" >out 2>err
+same 'as many bytes as are read' '0 <document source="<stdin>">' "$? $(cat out err)"
 head -c 16777217 /dev/zero | "$top/rst2pseudoxml" >out 2>err
 same 'too long' '1 rst2pseudoxml: input too long' "$? $(cat out err)"
 printf 'a' | "$top/rst2pseudoxml" >/dev/full 2>err

@@ -68,6 +68,8 @@ fn words(rt: &HostRuntime) -> Result<Vec<String>, Stop> {
 }
 
 #[cfg(test)]
+mod large_tests;
+#[cfg(test)]
 mod rows;
 #[cfg(test)]
 mod rows_bodies;

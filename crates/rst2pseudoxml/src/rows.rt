@@ -35,6 +35,17 @@ fn words_of(alloc: Global, text: &str) -> Result<Vec<String>, Fail> {
     Ok(words)
 }
 
+/// Texts joined, each so often.
+pub(super) fn joined(alloc: Global, texts: &[(&str, usize)]) -> Result<String, Fail> {
+    let mut all = String::new(alloc);
+    for (text, times) in texts {
+        for _ in 0..*times {
+            all.push_str(text)?;
+        }
+    }
+    Ok(all)
+}
+
 /// Runs over an input in memory, as the program does over standard input.
 pub(super) fn shown(alloc: Global, words: &str, input: &[u8]) -> Result<Output, Fail> {
     let words = words_of(alloc, words)?;
