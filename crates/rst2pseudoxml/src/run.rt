@@ -14,6 +14,7 @@ use rst_text::Counted;
 use rst_transform::Finished;
 use std::alloc::Global;
 use std::io::{Read, Write};
+use std::mem;
 
 /// Reads the input to its end and writes what the program shows for it: all of standard error, then standard output.
 ///
@@ -41,7 +42,12 @@ pub fn run<R: Read, O: Write, E: Write>(
         Err(end) => return end,
     };
     match document_of(alloc, settings, source, bytes.as_slice()) {
-        Ok(finished) => show(alloc, settings, source, &finished, out, err),
+        Ok(finished) => {
+            let end = show(alloc, settings, source, &finished, out, err);
+            // A run is the last that a process does: its memory goes back as a whole, not node by node.
+            mem::forget(finished);
+            end
+        }
         Err(end) => end,
     }
 }
