@@ -29,12 +29,3 @@ pub use option::OptionName;
 pub use options::Setting;
 pub use target::{Target, target_value};
 pub use value::OptionValue;
-
-#[cfg(test)]
-mod directive_cases;
-#[cfg(test)]
-mod directive_tests;
-#[cfg(test)]
-mod explicit_tests;
-#[cfg(test)]
-mod tests;

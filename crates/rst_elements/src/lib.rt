@@ -31,14 +31,3 @@ pub use tables::{entry, tgroup};
 pub use targets::{may_replace, substitution_definition, substitution_name, target};
 pub use terms::{Heads, term_and_classifiers};
 pub use texted::{Texted, with_text};
-
-#[cfg(test)]
-mod block_tests;
-#[cfg(test)]
-mod directive_tests;
-#[cfg(test)]
-mod mark_tests;
-#[cfg(test)]
-mod printed;
-#[cfg(test)]
-mod tests;

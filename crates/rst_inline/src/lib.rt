@@ -16,6 +16,3 @@ pub use fault::InlineFault;
 pub use nodes::{Pieces, inline};
 pub use rst_pieces::plain_uri;
 pub use texts::unescape;
-
-#[cfg(test)]
-mod tests;

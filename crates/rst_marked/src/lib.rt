@@ -4,6 +4,3 @@
 mod marks;
 
 pub use marks::{Marked, Path};
-
-#[cfg(test)]
-mod tests;

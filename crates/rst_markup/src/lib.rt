@@ -36,8 +36,3 @@ pub use lines::{LineTest, below_end, below_text, lines_end, text_at};
 pub use part::Part;
 pub use row::{item_enumerator, item_option, kind_by, kind_of};
 pub use rst_marks::Characters;
-
-#[cfg(test)]
-mod mark_tests;
-#[cfg(test)]
-mod tests;

@@ -16,8 +16,3 @@ mod writing;
 pub use ids::Ids;
 pub use names::{Held, Holder, Names, Strength};
 pub use registration::{Registered, register};
-
-#[cfg(test)]
-mod place_tests;
-#[cfg(test)]
-mod tests;

@@ -46,6 +46,3 @@ fn is_dashed(source: Option<&str>) -> bool
         None => false,
     }
 }
-
-#[cfg(test)]
-mod tests;

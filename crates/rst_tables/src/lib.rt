@@ -23,6 +23,3 @@ pub use messages::malformed_text;
 pub use results::{Cell, CellLines, Rows, TableDetail, TableFault, TableResult, Widths};
 pub use simple_table::simple;
 pub use table::grid;
-
-#[cfg(test)]
-mod tests;

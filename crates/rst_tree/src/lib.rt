@@ -29,8 +29,3 @@ pub use tag::Tag;
 pub use text::{Text, Texts};
 pub use tree::Tree;
 pub use walking::{Visitor, walk};
-
-#[cfg(test)]
-mod change_tests;
-#[cfg(test)]
-mod tests;

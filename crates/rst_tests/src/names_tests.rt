@@ -2,8 +2,8 @@
 //! the profile of the reference implementation gives.
 ghost use Rattle.std.specs.Prelude.{Some};
 
-use super::register;
 use rst_marked::Marked;
+use rst_names::register;
 use rst_text::Counted;
 use rst_tree::{Attrs, Children, Key, Node, Tag, Text, Texts, Tree, TreeFault, Value, print};
 use std::alloc::Global;

@@ -1,6 +1,6 @@
 //! Texts, terms and messages. The expected nodes were worked out from the public Markup Specification, not by this crate.
 use super::printed::{shown, shown_node, shown_with};
-use super::{Numbers, message, plain, preserved, section, term_and_classifiers, with_text};
+use rst_elements::{Numbers, message, plain, preserved, section, term_and_classifiers, with_text};
 use rst_tree::{Level, Tag};
 use std::test::Fail;
 

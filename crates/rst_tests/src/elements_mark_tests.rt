@@ -1,6 +1,6 @@
 //! Lists, labels and targets. The expected nodes were worked out from the public Markup Specification, not by this crate.
 use super::printed::{shown_node, shown_with};
-use super::{
+use rst_elements::{
     bullet_list, citation, enumerated_list, footnote, may_replace, option, start_message,
     substitution_definition, substitution_name, target,
 };

@@ -1,5 +1,5 @@
 //! Examples whose answers come from outside, and that the calls succeed.
-use super::{Cell, TableResult, grid, malformed_text, simple};
+use rst_tables::{Cell, TableResult, grid, malformed_text, simple};
 use rst_text::{Lines, Looks, View};
 use std::alloc::{AllocError, Global};
 use std::test::Fail;

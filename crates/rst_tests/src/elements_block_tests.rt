@@ -1,6 +1,6 @@
 //! Line blocks and tables. The expected nodes were worked out from the public Markup Specification, not by this crate.
 use super::printed::{shown_node, shown_with};
-use super::{BarText, LineBlockFault, Numbers, entry, line_block, tgroup};
+use rst_elements::{BarText, LineBlockFault, Numbers, entry, line_block, tgroup};
 use std::alloc::Global;
 use std::test::Fail;
 

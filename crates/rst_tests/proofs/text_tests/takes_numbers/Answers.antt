@@ -1,7 +1,7 @@
 use Rattle.std.proofs.Common.{◌≡◌, refl, true, ◌∷◌, []}
 use Rattle.std.specs.Str.{chars}
 use Rattle.rst_text.specs.Lines.{is_line_text}
-use Rattle.rst_text.proofs.tests.takes_numbers.Goals as goal
+use Rattle.rst_tests.proofs.text_tests.takes_numbers.Goals as goal
 
 x : is_line_text (chars (120 ∷ [])) ≡ true
 unfolding is_line_text chars

@@ -8,8 +8,8 @@ ghost use Rattle.rst_tree.specs.declared.node.Node.TheVariants.{Element};
 ghost use Rattle.rst_tree.specs.declared.rewriting.Rewrite.TheVariants.{Replace};
 ghost use Rattle.rst_tree.specs.declared.tag.Tag.TheVariants.{Transition};
 
-use super::tests::{Said, element, holding, printed, text, titled};
-use super::{
+use super::tree_tests::{Said, element, holding, printed, text, titled};
+use rst_tree::{
     Attr, Attrs, Children, Key, Node, Reader, Rewrite, Rewriter, Tag, Text, Tree, TreeFault, Value,
     Visitor, read_elements, rewrite_in, walk,
 };

@@ -1,5 +1,5 @@
 //! Nodes and messages of texts. The answers were worked out from the public Markup Specification, not by this crate.
-use super::{inline, plain_uri, unescape};
+use rst_inline::{inline, plain_uri, unescape};
 use rst_text::Counted;
 use rst_tree::{Attrs, Children, Node, Tag, Tree, print};
 use std::alloc::Global;

@@ -1,6 +1,6 @@
 //! Attributions and the options of option lists, on examples from outside.
-use super::{Attribution, attribution_at};
 use rst_marks::{Delimiter, ListedOption, listed_options};
+use rst_markup::{Attribution, attribution_at};
 use rst_text::{Lines, Looks, View, skip};
 use std::alloc::Global;
 use std::test::Fail;

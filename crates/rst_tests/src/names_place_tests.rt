@@ -1,6 +1,6 @@
 //! Documents before and after registration: the places of messages on names.
 
-use super::tests::is_registered_as;
+use super::names_tests::is_registered_as;
 use std::test::Fail;
 
 #[test]

@@ -1,7 +1,9 @@
 //! The elements of directives. The expected nodes were worked out from the public Directives reference, not by this crate.
 use super::printed::shown_node;
-use super::{Numbers, code_block, directive_element, figure, image, with_text, with_title_class};
 use rst_directives::{Alignment, Name, OptionName, OptionValue, Setting, target_value};
+use rst_elements::{
+    Numbers, code_block, directive_element, figure, image, with_text, with_title_class,
+};
 use rst_tree::{Node, Tag, TreeFault};
 use std::alloc::Global;
 use std::test::Fail;

@@ -1,7 +1,7 @@
 //! Directives as they are called, on examples from outside.
-use super::directive_cases::{DIRECTIVES, MORE_DIRECTIVES};
-use super::explicit_tests::{push_part, text_of};
-use super::{
+use super::directives_call_cases::{DIRECTIVES, MORE_DIRECTIVES};
+use super::markup_explicit_tests::{push_part, text_of};
+use rst_directives::{
     Alignment, Argument, Directive, DirectiveFault, Name, OptionName, OptionValue, Place, Setting,
     Target, directive, message,
 };

@@ -1,6 +1,6 @@
 //! What no clause says: that the calls succeed, and that the definitions are those of the program that is meant, on
 //! answers from outside.
-use super::options;
+use rst_options::options;
 use std::alloc::{AllocError, Global};
 use std::test::Fail;
 

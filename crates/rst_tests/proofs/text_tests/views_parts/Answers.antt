@@ -5,7 +5,7 @@ use Rattle.rst_text.specs.Extent.{extent}
 use Rattle.rst_text.specs.MayCut.{is_indented}
 use Rattle.rst_text.specs.Shown.{block_of}
 use Rattle.rst_text.proofs.Reaches.{extent_indented}
-use Rattle.rst_text.proofs.tests.views_parts.Goals as goal
+use Rattle.rst_tests.proofs.text_tests.views_parts.Goals as goal
 
 pub part-inside-requires-clause-spaces : goal.part-inside-requires-clause-spaces
 part-inside-requires-clause-spaces g c =

@@ -1,6 +1,10 @@
 //! What no clause says: kinds, ends and forms on examples from outside.
-use super::*;
 use rst_marks::{LabelKind, TargetMark};
+use rst_markup::{
+    AdornmentLine, AnonymousTarget, BarLine, BlankLine, BlockQuote, BulletItem, CommentCause,
+    Construct, DoctestBlock, EnumeratedItem, ExplicitForm, ExplicitMarkup, FieldItem, Kind,
+    OptionListItem, TextLine, end_of, explicit_form, kind_of,
+};
 use rst_text::{Lines, Looks, TextFault, View};
 use std::alloc::Global;
 use std::test::Fail;

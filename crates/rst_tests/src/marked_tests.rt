@@ -1,7 +1,7 @@
 //! Marks of a small document, and a visit of what they mark.
 ghost use Rattle.rst_tree.specs.Walk.{item};
 
-use super::Marked;
+use rst_marked::Marked;
 use rst_tree::{Attrs, Node, Tag, Text, TreeFault, Visitor};
 use std::alloc::Global;
 use std::test::Fail;

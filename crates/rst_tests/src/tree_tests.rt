@@ -1,11 +1,11 @@
 //! Trees built by hand and printed, as other programs print them, and each call once.
 ghost use Rattle.std.specs.Prelude.{Some};
 
-use super::{
+use rst_text::Counted;
+use rst_tree::{
     Attrs, Children, Key, Level, Node, Note, PrintFault, Tag, Text, Texts, Tree, TreeFault, Value,
     message_line, print,
 };
-use rst_text::Counted;
 use std::alloc::Global;
 use std::io::{Error, ErrorKind, Write};
 use std::test::Fail;

@@ -1,5 +1,5 @@
 //! What targets, values and messages say.
-use super::{Detail, DirectiveFault, Name, OptionName, Target, message, target_value};
+use rst_directives::{Detail, DirectiveFault, Name, OptionName, Target, message, target_value};
 use rst_text::characters_of;
 use std::alloc::Global;
 use std::test::Fail;

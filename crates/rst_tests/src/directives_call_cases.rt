@@ -1,5 +1,5 @@
 //! Directives as they are called, and what is told of them by an independent program.
-use super::Place;
+use rst_directives::Place;
 
 /// A text, where the directive stands, whether its content is a single paragraph, and what is told of it.
 pub(crate) type Case = (&'static str, Place, bool, &'static str);
