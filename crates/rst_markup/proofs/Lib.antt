@@ -4,3 +4,4 @@ pub mod PartLemmas
 pub mod ExplicitLemmas
 pub mod AttributionLemmas
 pub mod RowLemmas
+pub mod TableLemmas

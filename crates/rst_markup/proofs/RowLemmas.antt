@@ -1,5 +1,5 @@
 -- A line of a kind fulfils the condition of that kind's row.
-use Rattle.std.proofs.Common.{◌≡◌, Bool, true, false, cond, refl, List, ℕ}
+use Rattle.std.proofs.Common.{◌≡◌, Bool, true, false, cond, refl}
 use Rattle.std.specs.Prelude.{is_some}
 use Rattle.rst_text.specs.Block.{Block, front_text, is_blank}
 use Rattle.rst_marks.specs.Front.{begins_with}
@@ -30,8 +30,8 @@ row_of_kind X =
     by false false false false false true g h i j k l m e0 e1 e2 e3 e4 e5 e6 e7 e8 e9 e10 e11 e12 = e5
     by false false false false false false true h i j k l m e0 e1 e2 e3 e4 e5 e6 e7 e8 e9 e10 e11 e12 = e6
     by false false false false false false false true i j k l m e0 e1 e2 e3 e4 e5 e6 e7 e8 e9 e10 e11 e12 = e7
-    by false false false false false false false false true j k l m e0 e1 e2 e3 e4 e5 e6 e7 e8 e9 e10 e11 e12 = refl
-    by false false false false false false false false false true k l m e0 e1 e2 e3 e4 e5 e6 e7 e8 e9 e10 e11 e12 = refl
+    by false false false false false false false false true j k l m e0 e1 e2 e3 e4 e5 e6 e7 e8 e9 e10 e11 e12 = e8
+    by false false false false false false false false false true k l m e0 e1 e2 e3 e4 e5 e6 e7 e8 e9 e10 e11 e12 = e9
     by false false false false false false false false false false true l m e0 e1 e2 e3 e4 e5 e6 e7 e8 e9 e10 e11 e12 = e10
     by false false false false false false false false false false false true m e0 e1 e2 e3 e4 e5 e6 e7 e8 e9 e10 e11 e12 = e11
     by false false false false false false false false false false false false true e0 e1 e2 e3 e4 e5 e6 e7 e8 e9 e10 e11 e12 = e12

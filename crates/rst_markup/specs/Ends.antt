@@ -1,9 +1,9 @@
--- Where what begins at a line of a kind ends, by the row of that kind. Tables have no row here: their lines have to be
--- read for that.
-use Rattle.std.specs.Prelude.{ℕ, ◌+◌, Bool, true, Option, None, Some, unwrap_or}
+-- Where what begins at a line of a kind ends, by the row of that kind.
+use Rattle.std.specs.Prelude.{ℕ, Bool}
 use Rattle.rst_text.specs.Block.{Block}
 use Rattle.rst_markup.specs.ExplicitRow.{is_explicit_row, explicit_row_size}
-use Rattle.rst_markup.specs.Rows.{adornment_row_size, blank_size, bullet_row_size, doctest_row_size, enumerator_row_size, hanging_row_size, indented_row_size, is_adornment_row, is_anonymous_row, is_bar_row, is_blank_row, is_bullet_row, is_doctest_row, is_enumerator_row, is_field_row, is_option_row, is_quote_row, is_text_row, quote_size, text_row_size}
+use Rattle.rst_markup.specs.Rows.{adornment_row_size, blank_size, bullet_row_size, doctest_row_size, enumerator_row_size, hanging_row_size, indented_row_size, is_adornment_row, is_anonymous_row, is_bar_row, is_blank_row, is_bullet_row, is_doctest_row, is_enumerator_row, is_field_row, is_option_row, is_quote_row, is_text_row, own_reach, quote_size, text_row_size}
+use Rattle.rst_markup.specs.TableRows.{grid_reach, grid_row_size, is_grid_row, is_simple_row, simple_reach, simple_row_size}
 use Rattle.rst_markup.specs.declared.kind.Kind.{Kind}
 use Rattle.rst_markup.specs.declared.kind.Kind.TheVariants.{Blank, Quote, Bullet, Enumerator, Field, OptionItem, Doctest, Line, Grid, Simple, Explicit, Anonymous, Adornment, Text}
 
@@ -17,34 +17,43 @@ row_holds Field X = is_field_row X
 row_holds OptionItem X = is_option_row X
 row_holds Doctest X = is_doctest_row X
 row_holds Line X = is_bar_row X
-row_holds Grid X = true
-row_holds Simple X = true
+row_holds Grid X = is_grid_row X
+row_holds Simple X = is_simple_row X
 row_holds Explicit X = is_explicit_row X
 row_holds Anonymous X = is_anonymous_row X
 row_holds Adornment X = is_adornment_row X
 row_holds Text X = is_text_row X
 
 -- the size of what a kind's row begins
-abbrev pub row_size : Kind → Bool → Block → Option ℕ
-row_size Blank titles X = Some (blank_size titles X)
-row_size Quote titles X = Some (quote_size titles X)
-row_size Bullet titles X = Some (bullet_row_size titles X)
-row_size Enumerator titles X = Some (enumerator_row_size titles X)
-row_size Field titles X = Some (hanging_row_size titles X)
-row_size OptionItem titles X = Some (hanging_row_size titles X)
-row_size Doctest titles X = Some (doctest_row_size titles X)
-row_size Line titles X = Some (indented_row_size titles X)
-row_size Grid titles X = None
-row_size Simple titles X = None
-row_size Explicit titles X = Some (explicit_row_size titles X)
-row_size Anonymous titles X = Some (indented_row_size titles X)
-row_size Adornment titles X = Some (adornment_row_size titles X)
-row_size Text titles X = Some (text_row_size titles X)
+abbrev pub row_size : Kind → Bool → Block → ℕ
+row_size Blank titles X = blank_size titles X
+row_size Quote titles X = quote_size titles X
+row_size Bullet titles X = bullet_row_size titles X
+row_size Enumerator titles X = enumerator_row_size titles X
+row_size Field titles X = hanging_row_size titles X
+row_size OptionItem titles X = hanging_row_size titles X
+row_size Doctest titles X = doctest_row_size titles X
+row_size Line titles X = indented_row_size titles X
+row_size Grid titles X = grid_row_size titles X
+row_size Simple titles X = simple_row_size titles X
+row_size Explicit titles X = explicit_row_size titles X
+row_size Anonymous titles X = indented_row_size titles X
+row_size Adornment titles X = adornment_row_size titles X
+row_size Text titles X = text_row_size titles X
 
--- the place after it, where it begins at place i
-abbrev pub row_end : ℕ → Option ℕ → Option ℕ
-row_end i None = None
-row_end i (Some n) = Some (i + n)
-
-abbrev pub known_size : Option ℕ → ℕ
-known_size n = unwrap_or n 0
+-- its reach
+abbrev pub row_reach : Kind → Bool → Block → ℕ
+row_reach Grid titles X = grid_reach titles X
+row_reach Simple titles X = simple_reach titles X
+row_reach Blank titles X = own_reach (row_size Blank) titles X
+row_reach Quote titles X = own_reach (row_size Quote) titles X
+row_reach Bullet titles X = own_reach (row_size Bullet) titles X
+row_reach Enumerator titles X = own_reach (row_size Enumerator) titles X
+row_reach Field titles X = own_reach (row_size Field) titles X
+row_reach OptionItem titles X = own_reach (row_size OptionItem) titles X
+row_reach Doctest titles X = own_reach (row_size Doctest) titles X
+row_reach Line titles X = own_reach (row_size Line) titles X
+row_reach Explicit titles X = own_reach (row_size Explicit) titles X
+row_reach Anonymous titles X = own_reach (row_size Anonymous) titles X
+row_reach Adornment titles X = own_reach (row_size Adornment) titles X
+row_reach Text titles X = own_reach (row_size Text) titles X

@@ -1,3 +1,4 @@
+pub mod TableLines
 pub mod Lines
 pub mod Kinds
 pub mod Forms
@@ -5,6 +6,8 @@ pub mod Sizes
 pub mod Rows
 pub mod RowLaws
 pub mod AdornmentLaws
+pub mod TableRows
+pub mod TableLaws
 pub mod ExplicitMarkup
 pub mod Parts
 pub mod Explicit

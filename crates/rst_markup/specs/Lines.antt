@@ -3,7 +3,8 @@ use Rattle.std.specs.Prelude.{ℕ, suc, Bool, not, List, [], ◌∷◌, if◌the
 use Rattle.rst_text.specs.Block.{Block, is_blank}
 use Rattle.rst_marks.specs.Front.{begins_with, is_loose}
 use Rattle.rst_markup.specs.declared.lines.LineTest.{LineTest}
-use Rattle.rst_markup.specs.declared.lines.LineTest.TheVariants.{Blank, Filled, Indented, Plain, Begins}
+use Rattle.rst_markup.specs.declared.lines.LineTest.TheVariants.{Blank, Filled, Indented, Plain, Begins, Drawn, NoBorder}
+use Rattle.rst_markup.specs.TableLines.{is_drawn, is_border}
 
 abbrev pub passes : LineTest → List ℕ → Bool
 passes Blank t = is_blank t
@@ -11,6 +12,8 @@ passes Filled t = not (is_blank t)
 passes Indented t = begins_with 32 t
 passes Plain t = not (is_loose t)
 passes (Begins c) t = begins_with c t
+passes Drawn t = is_drawn t
+passes NoBorder t = not (is_border t)
 
 -- how many lines at the front pass
 unfoldable pub lines_while : LineTest → Block → ℕ

@@ -3,6 +3,7 @@
 use Rattle.std.specs.Prelude.{ℕ, Bool, true, is_some}
 use Rattle.rst_text.specs.Block.{Block, front_text, is_blank}
 use Rattle.rst_text.specs.Extent.{extent}
+use Rattle.rst_text.specs.Reach.{reach}
 use Rattle.rst_marks.specs.Front.{begins_with}
 use Rattle.rst_marks.specs.Marker.{bullet, doctest, line_bar}
 use Rattle.rst_marks.specs.Field.{field_of}
@@ -37,6 +38,10 @@ is_bar_row X = is_some (line_bar (front_text X))
 
 abbrev pub is_anonymous_row : Block → Bool
 is_anonymous_row X = is_some (underscores (front_text X))
+
+-- the reach of a construct that is looked at no further than through the first line after it that isn't blank
+abbrev pub own_reach : (Bool → Block → ℕ) → Bool → Block → ℕ
+own_reach size titles X = reach (size titles X) X
 
 -- the sizes, by whether titles may stand in the block
 abbrev pub blank_size : Bool → Block → ℕ

@@ -62,12 +62,14 @@ fn fixed_size(form: Adorned) -> Option<usize>
 pub struct AdornmentLine;
 
 impl Construct for AdornmentLine {
-    ghost use Rattle.rst_markup.specs.Rows.{is_adornment_row, adornment_row_size};
+    ghost use Rattle.rst_markup.specs.Rows.{is_adornment_row, adornment_row_size, own_reach};
     ghost use Rattle.rst_markup.specs.AdornmentLaws.{adornment_within, adornment_on_three};
 
     ghost holds = { is_adornment_row };
 
     ghost size = { adornment_row_size };
+
+    ghost reached = { own_reach adornment_row_size };
 
     ghost within = { adornment_within };
 

@@ -1,7 +1,6 @@
 //! A construct: where it begins, and where it ends.
 ghost use Rattle.std.specs.Prelude.{◌≡◌, ◌+◌, ◌*◌, ◌^◌, ◌<◌, ◌≤◌, ℕ, Bool, take, drop, length, IsTrue};
 ghost use Rattle.rst_text.specs.Block.{Block};
-ghost use Rattle.rst_text.specs.Reach.{reach};
 ghost use Rattle.rst_text.specs.Shown.{block_of};
 
 use rst_text::{Looks, View};
@@ -13,6 +12,9 @@ pub trait Construct {
 
     /// How many lines the construct at the front of a block has.
     ghost size: { Bool → Block → ℕ };
+
+    /// How many lines its reach has: at least those that have to be looked at to find where it ends.
+    ghost reached: { Bool → Block → ℕ };
 
     /// Whether the row's condition holds at place `i`. It makes at most three looks.
     fn starts(&self, view: &View<'_>, i: usize, titles: bool, looks: &mut Looks) -> bool
@@ -28,7 +30,7 @@ pub trait Construct {
         requires begins { IsTrue (holds (drop i (block_of view.now))) }
         requires few { looks.old < 2 ^ 120 }
         ensures end { result ≡ i + size titles (drop i (block_of view.now)) }
-        ensures looks { looks.new ≤ looks.old + 4 * reach (size titles (drop i (block_of view.now))) (drop i (block_of view.now)) };
+        ensures looks { looks.new ≤ looks.old + 4 * reached titles (drop i (block_of view.now)) };
 
     /// A construct that begins has a line, and ends within the block.
     ghost within: { (titles : Bool) (X : Block) → 1 ≤ length X → IsTrue (holds X) → (1 ≤ size titles X) × (size titles X ≤ length X) };
@@ -50,7 +52,7 @@ pub fn end_after<C: Construct>(
     requires few { looks.old < 2 ^ 120 }
     ensures after { i < result }
     ensures within { result ≤ length (block_of view.now) }
-    ensures looks { looks.new ≤ looks.old + 4 * reach (C.size titles (drop i (block_of view.now))) (drop i (block_of view.now)) }
+    ensures looks { looks.new ≤ looks.old + 4 * C.reached titles (drop i (block_of view.now)) }
 {
     row.end(view, i, titles, looks)
 }

@@ -14,12 +14,14 @@ use rst_text::{Looks, View};
 pub struct BlankLine;
 
 impl Construct for BlankLine {
-    ghost use Rattle.rst_markup.specs.Rows.{is_blank_row, blank_size};
+    ghost use Rattle.rst_markup.specs.Rows.{is_blank_row, blank_size, own_reach};
     ghost use Rattle.rst_markup.specs.RowLaws.{blank_within, blank_on_three};
 
     ghost holds = { is_blank_row };
 
     ghost size = { blank_size };
+
+    ghost reached = { own_reach blank_size };
 
     ghost within = { blank_within };
 
@@ -39,12 +41,14 @@ impl Construct for BlankLine {
 pub struct BlockQuote;
 
 impl Construct for BlockQuote {
-    ghost use Rattle.rst_markup.specs.Rows.{is_quote_row, quote_size};
+    ghost use Rattle.rst_markup.specs.Rows.{is_quote_row, quote_size, own_reach};
     ghost use Rattle.rst_markup.specs.RowLaws.{quote_within, quote_on_three};
 
     ghost holds = { is_quote_row };
 
     ghost size = { quote_size };
+
+    ghost reached = { own_reach quote_size };
 
     ghost within = { quote_within };
 
@@ -63,12 +67,14 @@ impl Construct for BlockQuote {
 pub struct BulletItem;
 
 impl Construct for BulletItem {
-    ghost use Rattle.rst_markup.specs.Rows.{is_bullet_row, bullet_row_size};
+    ghost use Rattle.rst_markup.specs.Rows.{is_bullet_row, bullet_row_size, own_reach};
     ghost use Rattle.rst_markup.specs.RowLaws.{bullet_within, bullet_on_three};
 
     ghost holds = { is_bullet_row };
 
     ghost size = { bullet_row_size };
+
+    ghost reached = { own_reach bullet_row_size };
 
     ghost within = { bullet_within };
 
@@ -91,12 +97,14 @@ impl Construct for BulletItem {
 pub struct EnumeratedItem;
 
 impl Construct for EnumeratedItem {
-    ghost use Rattle.rst_markup.specs.Rows.{is_enumerator_row, enumerator_row_size};
+    ghost use Rattle.rst_markup.specs.Rows.{is_enumerator_row, enumerator_row_size, own_reach};
     ghost use Rattle.rst_markup.specs.RowLaws.{enumerator_within, enumerator_on_three};
 
     ghost holds = { is_enumerator_row };
 
     ghost size = { enumerator_row_size };
+
+    ghost reached = { own_reach enumerator_row_size };
 
     ghost within = { enumerator_within };
 
@@ -121,12 +129,14 @@ impl Construct for EnumeratedItem {
 pub struct FieldItem;
 
 impl Construct for FieldItem {
-    ghost use Rattle.rst_markup.specs.Rows.{is_field_row, hanging_row_size};
+    ghost use Rattle.rst_markup.specs.Rows.{is_field_row, hanging_row_size, own_reach};
     ghost use Rattle.rst_markup.specs.RowLaws.{hanging_within, field_on_three};
 
     ghost holds = { is_field_row };
 
     ghost size = { hanging_row_size };
+
+    ghost reached = { own_reach hanging_row_size };
 
     ghost within = { hanging_within is_field_row };
 
@@ -145,12 +155,14 @@ impl Construct for FieldItem {
 pub struct OptionListItem;
 
 impl Construct for OptionListItem {
-    ghost use Rattle.rst_markup.specs.Rows.{is_option_row, hanging_row_size};
+    ghost use Rattle.rst_markup.specs.Rows.{is_option_row, hanging_row_size, own_reach};
     ghost use Rattle.rst_markup.specs.RowLaws.{hanging_within, option_on_three};
 
     ghost holds = { is_option_row };
 
     ghost size = { hanging_row_size };
+
+    ghost reached = { own_reach hanging_row_size };
 
     ghost within = { hanging_within is_option_row };
 
@@ -172,12 +184,14 @@ impl Construct for OptionListItem {
 pub struct DoctestBlock;
 
 impl Construct for DoctestBlock {
-    ghost use Rattle.rst_markup.specs.Rows.{is_doctest_row, doctest_row_size};
+    ghost use Rattle.rst_markup.specs.Rows.{is_doctest_row, doctest_row_size, own_reach};
     ghost use Rattle.rst_markup.specs.RowLaws.{doctest_within, doctest_on_three};
 
     ghost holds = { is_doctest_row };
 
     ghost size = { doctest_row_size };
+
+    ghost reached = { own_reach doctest_row_size };
 
     ghost within = { doctest_within };
 
@@ -197,12 +211,14 @@ impl Construct for DoctestBlock {
 pub struct BarLine;
 
 impl Construct for BarLine {
-    ghost use Rattle.rst_markup.specs.Rows.{is_bar_row, indented_row_size};
+    ghost use Rattle.rst_markup.specs.Rows.{is_bar_row, indented_row_size, own_reach};
     ghost use Rattle.rst_markup.specs.RowLaws.{indented_within, bar_on_three};
 
     ghost holds = { is_bar_row };
 
     ghost size = { indented_row_size };
+
+    ghost reached = { own_reach indented_row_size };
 
     ghost within = { indented_within is_bar_row };
 
@@ -221,12 +237,14 @@ impl Construct for BarLine {
 pub struct AnonymousTarget;
 
 impl Construct for AnonymousTarget {
-    ghost use Rattle.rst_markup.specs.Rows.{is_anonymous_row, indented_row_size};
+    ghost use Rattle.rst_markup.specs.Rows.{is_anonymous_row, indented_row_size, own_reach};
     ghost use Rattle.rst_markup.specs.RowLaws.{indented_within, anonymous_on_three};
 
     ghost holds = { is_anonymous_row };
 
     ghost size = { indented_row_size };
+
+    ghost reached = { own_reach indented_row_size };
 
     ghost within = { indented_within is_anonymous_row };
 
@@ -245,12 +263,14 @@ impl Construct for AnonymousTarget {
 pub struct TextLine;
 
 impl Construct for TextLine {
-    ghost use Rattle.rst_markup.specs.Rows.{is_text_row, text_row_size};
+    ghost use Rattle.rst_markup.specs.Rows.{is_text_row, text_row_size, own_reach};
     ghost use Rattle.rst_markup.specs.RowLaws.{text_within, text_on_three};
 
     ghost holds = { is_text_row };
 
     ghost size = { text_row_size };
+
+    ghost reached = { own_reach text_row_size };
 
     ghost within = { text_within };
 

@@ -37,7 +37,7 @@ pub fn item_end(view: &View<'_>, i: usize, marker: Marker, looks: &mut Looks) ->
 
 /// The place after the line at place `i` and the lines below it that pass a test.
 #[tactic(auto, unfolding(crate::specs::Sizes::run_size))]
-fn run_below_end(view: &View<'_>, i: usize, test: LineTest, looks: &mut Looks) -> usize
+pub(crate) fn run_below_end(view: &View<'_>, i: usize, test: LineTest, looks: &mut Looks) -> usize
     requires inside { i < length (block_of view.now) }
     requires few { looks.old < 2 ^ 120 + 2 ^ 70 }
     ensures end { result ≡ i + spec.run_size test (drop i (block_of view.now)) }

@@ -11,10 +11,13 @@ pub struct ExplicitMarkup;
 
 impl Construct for ExplicitMarkup {
     ghost use Rattle.rst_markup.specs.ExplicitRow.{is_explicit_row, explicit_row_size, explicit_within, explicit_on_three};
+    ghost use Rattle.rst_markup.specs.Rows.{own_reach};
 
     ghost holds = { is_explicit_row };
 
     ghost size = { explicit_row_size };
+
+    ghost reached = { own_reach explicit_row_size };
 
     ghost within = { explicit_within };
 

@@ -16,6 +16,8 @@ mod kind_end;
 mod lines;
 mod part;
 mod row;
+mod table_line;
+mod table_rows;
 
 pub use adornment_line::{AdornmentLine, adorned_at};
 pub use attribution::{Attribution, attribution_at};
@@ -36,3 +38,4 @@ pub use lines::{LineTest, below_end, below_text, lines_end, text_at};
 pub use part::Part;
 pub use row::{item_enumerator, item_option, kind_by, kind_of};
 pub use rst_marks::Characters;
+pub use table_rows::{GridTable, SimpleTable};

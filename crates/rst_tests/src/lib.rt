@@ -24,6 +24,8 @@ mod markup_explicit_tests;
 #[cfg(test)]
 mod markup_mark_tests;
 #[cfg(test)]
+mod markup_table_tests;
+#[cfg(test)]
 mod markup_tests;
 #[cfg(test)]
 mod names_place_tests;

@@ -9,8 +9,7 @@ use rst_text::{Lines, Looks, TextFault, View};
 use std::alloc::Global;
 use std::test::Fail;
 
-/// A text, the kind of its first line, whether titles may stand there, and how many lines belong to what it begins; of
-/// tables the kind alone.
+/// A text, the kind of its first line, whether titles may stand there, and how many lines belong to what it begins.
 type Case = (&'static str, Kind, bool, Option<usize>);
 
 /// Items of lists.
@@ -49,9 +48,9 @@ const BLOCKS: [Case; 40] = [
     (">>> a\nb\n\nc", Kind::Doctest, true, Some(2)),
     ("| a\n  b\nc", Kind::Line, true, Some(2)),
     ("|", Kind::Line, true, Some(1)),
-    ("+---+---+", Kind::Grid, true, None),
-    ("== ==", Kind::Simple, true, None),
-    ("=  =", Kind::Simple, true, None),
+    ("+---+---+", Kind::Grid, true, Some(1)),
+    ("== ==", Kind::Simple, true, Some(1)),
+    ("=  =", Kind::Simple, true, Some(1)),
     (".. a", Kind::Explicit, true, Some(1)),
     (".. a\n   b\n\n  c\nd", Kind::Explicit, true, Some(4)),
     ("..\n\n  a", Kind::Explicit, true, Some(1)),
@@ -168,7 +167,8 @@ fn end_at(kind: Kind, view: &View<'_>, titles: bool) -> Option<usize> {
         Kind::Adornment => end_by(&AdornmentLine, view, titles),
         Kind::Text => end_by(&TextLine, view, titles),
         Kind::Explicit => end_by(&ExplicitMarkup, view, titles),
-        Kind::Grid | Kind::Simple => None,
+        Kind::Grid => end_by(&GridTable, view, titles),
+        Kind::Simple => end_by(&SimpleTable, view, titles),
     }
 }
 
@@ -194,7 +194,7 @@ fn end_by_kind(alloc: Global, text: &str, titles: bool) -> Result<Option<usize>,
     let mut looks = Looks::none();
     let kind = kind_of(&view, 0, &mut looks);
     let mut looks = Looks::none();
-    Ok(end_of(&view, 0, kind, titles, &mut looks))
+    Ok(Some(end_of(&view, 0, kind, titles, &mut looks)))
 }
 
 #[test]

@@ -1,6 +1,6 @@
 use Rattle.std.proofs.Common.{◌∙◌, sym, drop}
 use Rattle.rst_text.specs.Shown.{block_of}
-use Rattle.rst_markup.specs.declared.kind.Kind.TheVariants.{Blank, Quote, Bullet, Enumerator, Field, OptionItem, Doctest, Line, Explicit, Anonymous, Adornment}
+use Rattle.rst_markup.specs.declared.kind.Kind.TheVariants.{Blank, Quote, Bullet, Enumerator, Field, OptionItem, Doctest, Line, Grid, Simple, Explicit, Anonymous, Adornment}
 use Rattle.rst_markup.proofs.RowLemmas.{row_at}
 use Rattle.rst_markup.proofs.kind_end.end_of.Goals as goal
 
@@ -36,3 +36,9 @@ end-requires-in-Anonymous-clause-begins c = row_at Anonymous (drop c.args.i (blo
 
 pub end-requires-in-Adornment-clause-begins : goal.end-requires-in-Adornment-clause-begins
 end-requires-in-Adornment-clause-begins c = row_at Adornment (drop c.args.i (block_of c.args.view.now)) (sym c.in-Adornment.is ∙ c.requires.kind)
+
+pub end-requires-in-Grid-clause-begins : goal.end-requires-in-Grid-clause-begins
+end-requires-in-Grid-clause-begins c = row_at Grid (drop c.args.i (block_of c.args.view.now)) (sym c.in-Grid.is ∙ c.requires.kind)
+
+pub end-requires-in-Simple-clause-begins : goal.end-requires-in-Simple-clause-begins
+end-requires-in-Simple-clause-begins c = row_at Simple (drop c.args.i (block_of c.args.view.now)) (sym c.in-Simple.is ∙ c.requires.kind)

@@ -1,0 +1,19 @@
+-- The lines that tables are told by (Markup Specification, 'Grid Tables', 'Simple Tables').
+use Rattle.std.specs.Prelude.{ℕ, Bool, ◌&&◌, ◌||◌, List, drop}
+use Rattle.rst_text.specs.Block.{is_blank}
+use Rattle.rst_marks.specs.Front.{begins_with}
+use Rattle.rst_marks.specs.Class.{run}
+use Rattle.rst_marks.specs.declared.class.Class.TheVariants.{Either}
+
+-- it begins with `+` or `|`, as each line of a grid table does
+unfoldable pub is_drawn : List ℕ → Bool
+is_drawn t = begins_with 43 t || begins_with 124 t
+
+-- how many `=` and spaces stand at the front; for a border of a simple table these are all its characters
+unfoldable pub border_len : List ℕ → ℕ
+border_len t = run (Either 61 32) t
+
+-- A border of a simple table: `=` and spaces, `=` first. The top one has two runs of `=` or more, the others may have
+-- one.
+unfoldable pub is_border : List ℕ → Bool
+is_border t = begins_with 61 t && is_blank (drop (border_len t) t)

@@ -1,0 +1,88 @@
+-- The rows of tables, of which the characters of their lines alone tell the end (Markup Specification, 'Grid Tables',
+-- 'Simple Tables').
+use Rattle.std.specs.Prelude.{ℕ, zero, suc, ◌+◌, min, max, Bool, not, ◌&&◌, ◌==◌, nat_lt, List, [], ◌∷◌, take, drop, length, if◌then◌else◌}
+use Rattle.rst_text.specs.Block.{Block, front_text, is_blank}
+use Rattle.rst_text.specs.Reach.{reach}
+use Rattle.rst_marks.specs.Border.{is_grid_border, is_simple_border}
+use Rattle.rst_markup.specs.declared.lines.LineTest.TheVariants.{Drawn, NoBorder}
+use Rattle.rst_markup.specs.TableLines.{border_len}
+use Rattle.rst_markup.specs.Lines.{lines_while}
+use Rattle.rst_markup.specs.Kinds.{next_text}
+use Rattle.rst_markup.specs.Sizes.{run_size}
+
+-- ---- grid tables
+
+abbrev pub one_more : Bool → ℕ → ℕ
+one_more border zero = if border then 1 else 0
+one_more border (suc n) = suc (suc n)
+
+-- how many lines there are through the last that is a grid border, none without one
+unfoldable pub through_border : Block → ℕ
+through_border [] = 0
+through_border (l ∷ ls) = one_more (is_grid_border l.text) (through_border ls)
+
+-- the lines above and those through the last border; all of them where there is no border
+abbrev pub closed_by : ℕ → ℕ → ℕ
+closed_by all zero = all
+closed_by all (suc n) = 2 + suc n
+
+-- Of the lines up to the first that begins with neither `+` nor `|` those that are the table: through the last border
+-- from the third line on, or all of them.
+unfoldable pub grid_size : Block → ℕ
+grid_size X = closed_by (lines_while Drawn X) (through_border (drop 2 (take (lines_while Drawn X) X)))
+
+-- how many lines a scan for a grid table goes over: those, and the one that stops it
+unfoldable pub grid_scan : Block → ℕ
+grid_scan X = min (suc (lines_while Drawn X)) (length X)
+
+-- ---- simple tables
+
+-- where the first line of Y is a border below one like `top`: the table goes on if this one is as long and a line that
+-- isn't blank follows it
+abbrev pub goes_on : List ℕ → Block → Bool
+goes_on top Y = border_len (front_text Y) == border_len top && not (is_blank (next_text Y))
+
+-- how many lines there are through the border that ends the table: the first of Y or, if the table goes on, the next
+-- one, if there is one
+abbrev pub through_end : List ℕ → Block → ℕ
+through_end top Y = if goes_on top Y && nat_lt (run_size NoBorder Y) (length Y) then suc (run_size NoBorder Y) else 1
+
+abbrev pub simple_size_to : ℕ → Block → ℕ
+simple_size_to n X = if nat_lt n (length X) then n + through_end (front_text X) (drop n X) else length X
+
+-- A table whose top border is the first line. Without a border below it, it has all lines of the block.
+unfoldable pub simple_size : Block → ℕ
+simple_size X = simple_size_to (run_size NoBorder X) X
+
+-- how many lines a scan for the borders from the first of Y on goes over
+abbrev pub scan_on : List ℕ → Block → ℕ
+scan_on top Y = if goes_on top Y then min (suc (run_size NoBorder Y)) (length Y) else 1
+
+abbrev pub simple_scan_to : ℕ → Block → ℕ
+simple_scan_to n X = if nat_lt n (length X) then n + scan_on (front_text X) (drop n X) else length X
+
+-- how many lines a scan for the borders of a table goes over: through the one that ends the scan
+unfoldable pub simple_scan : Block → ℕ
+simple_scan X = simple_scan_to (run_size NoBorder X) X
+
+-- ---- the rows
+
+abbrev pub is_grid_row : Block → Bool
+is_grid_row X = is_grid_border (front_text X)
+
+abbrev pub is_simple_row : Block → Bool
+is_simple_row X = is_simple_border (front_text X)
+
+abbrev pub grid_row_size : Bool → Block → ℕ
+grid_row_size titles X = grid_size X
+
+abbrev pub simple_row_size : Bool → Block → ℕ
+simple_row_size titles X = simple_size X
+
+-- A table's reach: the lines through the first one after it that isn't blank, or the lines of the scan, if they are
+-- more.
+abbrev pub grid_reach : Bool → Block → ℕ
+grid_reach titles X = max (reach (grid_size X) X) (grid_scan X)
+
+abbrev pub simple_reach : Bool → Block → ℕ
+simple_reach titles X = max (reach (simple_size X) X) (simple_scan X)
