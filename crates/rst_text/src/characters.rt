@@ -28,6 +28,9 @@ pub fn is_letter(c: char) -> bool
 pub fn is_alphanumeric(c: char) -> bool
     ensures { result ≡ spec.is_alphanumeric c }
 {
+    if c.is_ascii() {
+        return c.is_ascii_alphanumeric();
+    }
     let category = GeneralCategory::for_char(c);
     GeneralCategoryGroup::Letter.contains(category)
         | GeneralCategoryGroup::Number.contains(category)
