@@ -28,6 +28,10 @@ pub has-bare : (t : Text) (i c : ℕ) → (c == 92) ≡ false → has t i c ≡ 
 unfolding IsBare
 has-bare t i c e h = bare_at (get_or t i 0) c (eqb-true _ _ (and_parts _ _ h).1) e
 
+pub other-bare : (t : Text) (i : ℕ) → (get_or t i 0 == 92) ≡ false → IsBare t i
+unfolding IsBare
+other-bare t i h = bare_at (get_or t i 0) (get_or t i 0) refl h
+
 pub is_escaped-bare : (t : Text) (from i : ℕ) → from ≤ i → IsBare t i → is_escaped t from (i + 1) ≡ false
 unfolding IsBare
 is_escaped-bare t from i h bare = is_escaped-more t from i h ∙ bare (is_escaped t from i)

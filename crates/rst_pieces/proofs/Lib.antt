@@ -5,3 +5,4 @@ pub mod MarkedLemmas
 pub mod MissingLemmas
 pub mod UriLemmas
 pub mod PieceLemmas
+pub mod WordLemmas

@@ -76,7 +76,7 @@ ends_name-below t j h = some-below t j (name_tail t j) refl (and_parts (is_alnum
 pub is_reference-below : (t : Text) (i j : ℕ) → is_reference t i j ≡ true → j < length t
 is_reference-below t i j h = ends_name-below t j (is_reference-ends t i j h)
 
-not_reference : (t : Text) (i j : ℕ) → ends_name t j ≡ false → is_reference t i j ≡ false
+pub not_reference : (t : Text) (i j : ℕ) → ends_name t j ≡ false → is_reference t i j ≡ false
 unfolding is_reference
 not_reference t i j e = rw e (grind (arith, nat_tests))
 

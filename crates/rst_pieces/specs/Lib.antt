@@ -2,6 +2,7 @@ pub mod Characters
 pub mod Escapes
 pub mod Tails
 pub mod Names
+pub mod Words
 pub mod Marked
 pub mod Footnotes
 pub mod Uri

@@ -12,6 +12,7 @@ mod piece;
 mod scanner;
 mod tails;
 mod uri;
+mod words;
 
 pub use characters::{has, is_dark};
 pub use escaping::{escapes, unescaped};

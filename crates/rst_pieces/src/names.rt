@@ -17,7 +17,7 @@ fn is_joint(c: char) -> bool
 
 /// Whether the place may be one of a simple name.
 #[tactic(auto, unfolding(crate::specs::Names::is_name_at))]
-fn is_name_at(text: &[char], place: usize) -> bool
+pub(crate) fn is_name_at(text: &[char], place: usize) -> bool
     requires { place < length text.now }
     ensures { result ≡ is_name_at text.now place }
 {

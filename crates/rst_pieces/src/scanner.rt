@@ -2,6 +2,7 @@
 ghost use Rattle.std.specs.Prelude.{◌≡◌, ◌<◌, length, IfOk};
 ghost use Rattle.rst_pieces.specs.Pieces.{markup_at, is_free_if, piece_if, plain_from, IsPieces};
 ghost use Rattle.rst_pieces.specs.Missing.{IsMissing};
+ghost use Rattle.rst_pieces.specs.Words.{IsWord};
 
 use super::characters::may_precede;
 use super::escaping::escapes;
@@ -10,6 +11,7 @@ use super::missing::Missing;
 use super::names::reference;
 use super::piece::{Kind, Markup, Piece};
 use super::uri::uri;
+use super::words::{goes_on, word_end};
 use std::alloc::{AllocError, Global};
 
 /// The piece that the first kind of markup gives that holds at the place.
@@ -56,14 +58,24 @@ fn is_free(text: &[char], place: usize, escaped: bool) -> bool
     !escaped && (place == 0 || may_precede(text[place - 1]))
 }
 
-/// The piece that begins at the place, if a start stands there.
+/// The piece that begins at the place, if a start stands there. The word that begins there ends at `end`.
 #[tactic(auto, unfolding(crate::specs::Pieces::piece_if))]
-fn piece_at(text: &[char], place: usize, escaped: bool, missing: &mut Missing) -> Option<Piece>
+fn piece_at(
+    text: &[char],
+    place: usize,
+    end: usize,
+    escaped: bool,
+    missing: &mut Missing,
+) -> Option<Piece>
     requires place { place < length text.now }
+    requires word { IsWord text.now place end }
     requires known { IsMissing text.now missing.old place }
     ensures exact { result ≡ piece_if text.now place escaped }
     ensures known { IsMissing text.now missing.new place }
 {
+    if place < end && !goes_on(text, end) {
+        return None;
+    }
     if is_free(text, place, escaped) {
         markup_at(text, place, missing)
     } else {
@@ -83,7 +95,8 @@ pub fn pieces_of(alloc: Global, text: &[char]) -> Result<Vec<Piece>, AllocError>
     let mut escaped = false;
     let mut missing = Missing::of(text);
     while place < text.len() {
-        match piece_at(text, place, escaped, &mut missing) {
+        let end = word_end(text, place);
+        match piece_at(text, place, end, escaped, &mut missing) {
             Some(piece) => {
                 if from < place {
                     pieces.push(plain_piece(from, place))?;
@@ -94,6 +107,11 @@ pub fn pieces_of(alloc: Global, text: &[char]) -> Result<Vec<Piece>, AllocError>
                 escaped = false;
             }
             None => {
+                if place < end {
+                    place = end;
+                    escaped = false;
+                    continue;
+                }
                 escaped = escapes(text[place], escaped);
                 place += 1;
             }

@@ -5,6 +5,7 @@ use Rattle.rst_pieces.specs.Pieces.{piece_at, piece_if, IsPieces}
 use Rattle.rst_pieces.proofs.EscapeLemmas.{is_escaped-start, is_escaped-more}
 use Rattle.rst_pieces.proofs.PieceLemmas.{Told, piece_if-fits, told-start, told-other, told-plain, told-last, told-end}
 use Rattle.rst_pieces.proofs.MissingLemmas.{IsMissing-later}
+use Rattle.rst_pieces.proofs.WordLemmas.{HasNoStart-word, unescaped-word}
 use Rattle.rst_pieces.proofs.scanner.pieces_of.Goals as goal
 use Rattle.rst_pieces.proofs.scanner.pieces_of.Goals.{then-from-place+in_ok-push-in-Some, else-from-place, then-from-place-2+in_ok-push, else-from-place-2}
 
@@ -42,6 +43,19 @@ loop-place-preserved-in-Some c =
                 (told-other c.args.text.now c.loop-place.from c.loop-place.pieces.items c.in-Some.piece c.loop-place.invariant.told
                 (subst (λ i. piece_at c.args.text.now c.loop-place.from i ≡ Some c.in-Some.piece) same begins))
           ]);
+    }
+
+pub loop-place-preserved-then-place-end : goal.loop-place-preserved-then-place-end
+loop-place-preserved-then-place-end c =
+    let here : piece_at c.args.text.now c.loop-place.from c.loop-place.place ≡ None = ap (piece_if c.args.text.now c.loop-place.place) (sym c.loop-place.invariant.escaped) ∙ sym c.piece_at.ensures.exact ∙ c.in-None.is in
+    let within = c.word_end-end.ensures.within in
+    record {
+      above = omega arith;
+      below = within;
+      escaped = unescaped-word c.args.text.now c.loop-place.from c.loop-place.place c.word_end-end.result (omega arith) (omega arith) c.word_end-end.ensures;
+      none = HasNoStart-word c.args.text.now c.loop-place.from c.loop-place.place c.word_end-end.result c.word_end-end.ensures c.loop-place.invariant.none here;
+      known = IsMissing-later c.args.text.now c.piece_at.new.missing c.loop-place.place c.word_end-end.result (omega arith) c.piece_at.ensures.known;
+      told = c.loop-place.invariant.told;
     }
 
 pub loop-place-preserved : goal.loop-place-preserved

@@ -1,0 +1,238 @@
+-- Inside words nothing begins.
+use Rattle.std.proofs.Common.{◌≡◌, ⊎_elim, ℕ, ◌+◌, ◌-◌, ◌<◌, ◌≤◌, Bool, true, false, not, ◌&&◌, ◌||◌, ◌==◌, cond, List, [], ◌∷◌, Some, None, length, get_or, true≢false, refl, sym, ap, ◌∙◌, subst, arith}
+use Rattle.std.specs.Prelude.{nat_lt}
+use Rattle.std.specs.List.{list_all}
+use Rattle.std.specs.Char.{is_ascii_alphanumeric}
+use Rattle.std.proofs.lemmas.Bool.{ltb-true, lt-ltb, eqb-true, and_parts, cases_lt}
+use Rattle.std.proofs.lemmas.Bool.Decides.{nat_tests}
+use Rattle.rst_text.specs.Characters.{is_white}
+use Rattle.rst_text.specs.Places.{all_from}
+use Rattle.rst_text.proofs.PlacesLemmas.{cases_bool, lt_eq_gt, all_from-at, all_from-stop, last_from-is}
+use Rattle.rst_pieces.specs.Characters.{Text, has, may_precede}
+use Rattle.rst_pieces.specs.Escapes.{is_escaped}
+use Rattle.rst_pieces.specs.Tails.{name_tail}
+use Rattle.rst_pieces.specs.Names.{is_name_at, role_end, ends_name, is_reference, name_end, reference_at, reference}
+use Rattle.rst_pieces.specs.Marked.{has_start, start_of, starts, marked_from, marked}
+use Rattle.rst_pieces.specs.Footnotes.{label}
+use Rattle.rst_pieces.specs.Uri.{in_lower_case, has_letter, begins_at, schemes, behind_first, scheme_end, uri_piece, uri}
+use Rattle.rst_pieces.specs.Words.{IsWord, goes_on}
+use Rattle.rst_pieces.specs.Pieces.{markup_at, is_free_if, piece_if, piece_at, HasNoStart}
+use Rattle.rst_pieces.specs.declared.piece.Markup.{Markup}
+use Rattle.rst_pieces.specs.declared.piece.Markup.TheVariants.{Strong, Emphasis, Literal, Target, Substitution, Interpreted}
+use Rattle.rst_pieces.proofs.EscapeLemmas.{IsBare, other-bare, is_escaped-bare}
+use Rattle.rst_pieces.proofs.NameLemmas.{not_reference, is_reference-past}
+use Rattle.rst_pieces.proofs.UriLemmas.{uri_end-none}
+
+-- ---- letters and digits
+
+abbrev IsLetter : ℕ → Type 0
+IsLetter c = is_ascii_alphanumeric c ≡ true
+
+letter-low : (c : ℕ) → IsLetter c → c < 128
+letter-low c h = grind (arith, nat_tests)
+
+-- what holds of each character of ASCII
+below : (p : ℕ → Bool) → all_from p 0 128 ≡ true → (c : ℕ) → c < 128 → p c ≡ true
+below p all c low = all_from-at p 0 128 all c (omega arith) (omega arith)
+
+abbrev unless : Bool → Bool → Bool
+unless a b = not a || b
+
+unless-so : (a b : Bool) → unless a b ≡ true → a ≡ true → b ≡ true
+unless-so true b h k = h
+unless-so false b h k = absurd (cc)
+
+not-so : (b : Bool) → not b ≡ true → b ≡ false
+not-so true h = absurd (cc)
+not-so false h = refl
+
+-- none stands before a start
+pub letter-before : (c : ℕ) → IsLetter c → may_precede c ≡ false
+unfolding may_precede is_white
+letter-before c h = not-so _ (unless-so _ _ (below (λ c. unless (is_ascii_alphanumeric c) (not (may_precede c))) refl c (letter-low c h)) h)
+
+letter-is : (c d : ℕ) (b : Bool) → is_ascii_alphanumeric d ≡ b → IsLetter c → b ≡ false → (c == d) ≡ false
+letter-is c d b h k e = not-so _ (by_case (c == d) refl)
+  where
+    by_case : (same : Bool) → (c == d) ≡ same → not same ≡ true
+    by_case true s = absurd (true≢false (sym k ∙ ap is_ascii_alphanumeric (eqb-true c d s) ∙ h ∙ e))
+    by_case false s = refl
+
+-- ---- the run
+
+letter-at : (t : Text) (i to k : ℕ) → IsWord t i to → i ≤ k → k < to → IsLetter (get_or t k 0)
+letter-at t i to k word above less = word.letters k above less
+
+other-at : (t : Text) (i to k c : ℕ) → IsWord t i to → i ≤ k → k < to → is_ascii_alphanumeric c ≡ false → has t k c ≡ false
+other-at t i to k c word above less e =
+    rw (letter-is (get_or t k 0) c false e (letter-at t i to k word above less) refl) (grind (arith, nat_tests))
+
+-- ---- references
+
+no-underscore : (t : Text) (j : ℕ) → has t j 95 ≡ false → ends_name t j ≡ false
+unfolding ends_name name_tail
+no-underscore t j h = rw h (grind (arith, nat_tests))
+
+-- what stands behind a word that nothing goes on with
+record Ends (t : Text) (i : ℕ) : Type 0 where
+  pub underscore : has t i 95 ≡ false
+  pub colon : has t i 58 ≡ false
+  pub name : i < length t → is_name_at t i ≡ false
+
+or_false : (a b : Bool) → (a || b) ≡ false → (a ≡ false) × (b ≡ false)
+or_false true b h = absurd (true≢false h)
+or_false false b h = (refl, h)
+
+within-false : (i n : ℕ) (b : Bool) → (nat_lt i n && b) ≡ false → i < n → b ≡ false
+within-false i n b h less = sym (ap (λ a. a && b) (lt-ltb i n less)) ∙ h
+
+ends-by : (t : Text) (i : ℕ) → goes_on t i ≡ false → Ends t i
+unfolding goes_on
+ends-by t i h =
+    let first = or_false (has t i 95) (has t i 58 || (nat_lt i (length t) && is_name_at t i)) h in
+    let second = or_false (has t i 58) (nat_lt i (length t) && is_name_at t i) first.1 in
+    record { underscore = first.0; colon = second.0; name = within-false i (length t) (is_name_at t i) second.1 }
+
+no-name : (t : Text) (i to : ℕ) → IsWord t i to → Ends t to → name_end t i ≡ None
+unfolding name_end
+no-name t i to word ends = sym (last_from-is (is_reference t i) (i + 1) (length t) None (λ k more less.
+    ⊎_elim
+    (λ inside. not_reference t i k (no-underscore t k (other-at t i to k 95 word (omega arith) inside refl)))
+    (λ rest. ⊎_elim
+    (λ same. not_reference t i k (no-underscore t k (subst (λ n. has t n 95 ≡ false) (sym same) ends.underscore)))
+    (λ past. is_reference-past t i k (all_from-stop (is_name_at t) i to k word.above past (ends.name (omega arith))))
+    rest)
+    (lt_eq_gt k to)))
+
+no-reference : (t : Text) (i to : ℕ) → IsWord t i to → Ends t to → reference t i ≡ None
+unfolding reference
+no-reference t i to word ends = ap (reference_at t i) (no-name t i to word ends)
+
+-- ---- URIs
+
+-- letters and digits, and a colon behind them
+abbrev named : List ℕ → Bool
+named [] = false
+named (c ∷ cs) = c == 58 || (is_ascii_alphanumeric c && named cs)
+
+lower-colon : (c : ℕ) → in_lower_case c ≡ 58 → c ≡ 58
+unfolding in_lower_case
+lower-colon c h = grind (arith, nat_tests)
+
+lower-letter : (c : ℕ) → IsLetter (in_lower_case c) → IsLetter c
+unfolding in_lower_case
+lower-letter c h = grind (arith, nat_tests)
+
+no-scheme : (t : Text) (i to : ℕ) (word : List ℕ) → IsWord t i to → has t to 58 ≡ false → named word ≡ true → begins_at t i word ≡ true → ⊥
+no-scheme t i to [] run colon n h = true≢false (sym n)
+no-scheme t i to (c ∷ cs) run colon n h =
+    let here = and_parts (has_letter t i c) (begins_at t (i + 1) cs) h in
+    let parts = and_parts (nat_lt i (length t)) (in_lower_case (get_or t i 0) == c) here.0 in
+    let within : i < length t = ltb-true i (length t) parts.0 in
+    let same : in_lower_case (get_or t i 0) ≡ c = eqb-true _ _ parts.1 in
+    let order : i ≤ to = run.above in
+    ⊎_elim
+    (λ inside. ⊎_elim
+    (λ is_colon. true≢false (sym (run.letters i (omega arith) inside) ∙ ap is_ascii_alphanumeric (lower-colon _ (same ∙ eqb-true c 58 is_colon))))
+    (λ other. no-scheme t (i + 1) to cs
+    (record { above = omega arith; within = run.within; letters = λ k above less. run.letters k (omega arith) less; stops = run.stops })
+    colon (and_parts (is_ascii_alphanumeric c) (named cs) (subst (λ b. (b || (is_ascii_alphanumeric c && named cs)) ≡ true) other n)).1 here.1)
+    (cases_bool (c == 58)))
+    (λ past. let last : i ≡ to = omega arith in ⊎_elim
+    (λ is_colon.
+    let stands : get_or t i 0 ≡ 58 = lower-colon _ (same ∙ eqb-true c 58 is_colon) in
+    let shown : has t i 58 ≡ true = rw (stands, parts.0) refl in
+    true≢false (sym shown ∙ ap (λ n. has t n 58) last ∙ colon))
+    (λ other.
+    let letter : is_ascii_alphanumeric c ≡ true = (and_parts (is_ascii_alphanumeric c) (named cs) (subst (λ b. (b || (is_ascii_alphanumeric c && named cs)) ≡ true) other n)).0 in
+    let mine : IsLetter (get_or t i 0) = lower-letter _ (ap is_ascii_alphanumeric same ∙ letter) in
+    true≢false (sym mine ∙ ap (λ n. is_ascii_alphanumeric (get_or t n 0)) last ∙ run.stops (omega arith)))
+    (cases_bool (c == 58)))
+    (cases_lt i to)
+
+no-first : (t : Text) (i to : ℕ) (words : List (List ℕ)) → IsWord t i to → has t to 58 ≡ false → list_all named words ≡ true → behind_first t i words ≡ None
+no-first t i to [] run colon all = refl
+no-first t i to (word ∷ words) run colon all =
+    let parts = and_parts (named word) (list_all named words) all in
+    ⊎_elim
+    (λ yes. absurd (no-scheme t i to word run colon parts.0 yes))
+    (λ no. ap (λ b. cond b (Some (i + length word)) (behind_first t i words)) no ∙ no-first t i to words run colon parts.1)
+    (cases_bool (begins_at t i word))
+
+no-uri : (t : Text) (i to : ℕ) → IsWord t i to → has t to 58 ≡ false → uri t i ≡ None
+unfolding uri scheme_end
+no-uri t i to run colon = ap (uri_piece i) (uri_end-none t i (no-first t i to schemes run colon refl))
+
+-- ---- other markup
+
+no-mark : (markup : Markup) (t : Text) (i q : ℕ) → has_start markup t q ≡ false → marked_from markup t i q ≡ None
+unfolding starts
+no-mark markup t i q h = rw h refl
+
+no-role : (t : Text) (i : ℕ) → has t i 58 ≡ false → role_end t i ≡ None
+unfolding role_end
+no-role t i h = rw h refl
+
+no-marked : (t : Text) (i to : ℕ) → IsWord t i to → i < to → (markup : Markup) → marked markup t i ≡ None
+unfolding marked start_of
+no-marked t i to run some Strong = no-mark Strong t i i (rw (other-at t i to i 42 run (omega arith) some refl) refl)
+no-marked t i to run some Emphasis = no-mark Emphasis t i i (rw (other-at t i to i 42 run (omega arith) some refl) refl)
+no-marked t i to run some Literal = no-mark Literal t i i (rw (other-at t i to i 96 run (omega arith) some refl) refl)
+no-marked t i to run some Target = no-mark Target t i i (rw (other-at t i to i 95 run (omega arith) some refl) refl)
+no-marked t i to run some Substitution = no-mark Substitution t i i (rw (other-at t i to i 124 run (omega arith) some refl) refl)
+no-marked t i to run some Interpreted =
+    rw (no-role t i (other-at t i to i 58 run (omega arith) some refl)) (no-mark Interpreted t i i (rw (other-at t i to i 96 run (omega arith) some refl) refl))
+
+no-label : (t : Text) (i to : ℕ) → IsWord t i to → i < to → label t i ≡ None
+unfolding label
+no-label t i to run some = rw (other-at t i to i 91 run (omega arith) some refl) refl
+
+no-markup : (t : Text) (i to : ℕ) → IsWord t i to → i < to → Ends t to → markup_at t i ≡ None
+unfolding markup_at
+no-markup t i to run some ends =
+    rw (
+      no-marked t i to run some Strong,
+      no-marked t i to run some Emphasis,
+      no-marked t i to run some Literal,
+      no-marked t i to run some Target,
+      no-marked t i to run some Substitution,
+      no-marked t i to run some Interpreted,
+      no-label t i to run some,
+      no-reference t i to run ends,
+      no-uri t i to run ends.colon,
+    ) refl
+
+-- nothing begins where a word does, if nothing goes on with it,
+pub no-piece : (t : Text) (i to : ℕ) (escaped : Bool) → IsWord t i to → i < to → goes_on t to ≡ false → piece_if t i escaped ≡ None
+unfolding piece_if
+no-piece t i to escaped run some h = by_case (is_free_if t i escaped)
+  where
+    by_case : (free : Bool) → cond free (markup_at t i) None ≡ None
+    by_case true = no-markup t i to run some (ends-by t to h)
+    by_case false = refl
+
+-- and further on in it nothing does.
+inside-word : (t : Text) (i to k : ℕ) (escaped : Bool) → IsWord t i to → i < k → k ≤ to → piece_if t k escaped ≡ None
+unfolding piece_if is_free_if
+inside-word t i to k escaped run above upto =
+    let before : may_precede (get_or t (k - 1) 0) ≡ false = letter-before _ (run.letters (k - 1) (omega arith) (omega arith)) in
+    rw before (grind (arith, nat_tests))
+
+pub HasNoStart-word : (t : Text) (from i to : ℕ) → IsWord t i to → HasNoStart t from from i → piece_at t from i ≡ None → HasNoStart t from from to
+HasNoStart-word t from i to run none here k low high =
+    ⊎_elim
+    (λ before. none k low before)
+    (λ rest. ⊎_elim
+    (λ same. subst (λ n. piece_at t from n ≡ None) (sym same) here)
+    (λ past. inside-word t i to k _ run past (omega arith))
+    rest)
+    (lt_eq_gt k i)
+
+letter-bare : (t : Text) (k : ℕ) → IsLetter (get_or t k 0) → IsBare t k
+letter-bare t k h = other-bare t k (letter-is (get_or t k 0) 92 false refl h refl)
+
+-- a word escapes nothing
+pub unescaped-word : (t : Text) (from i to : ℕ) → from ≤ i → i < to → IsWord t i to → false ≡ is_escaped t from to
+unescaped-word t from i to order some run =
+    let e : to - 1 + 1 ≡ to = omega arith in
+    sym (ap (is_escaped t from) (sym e) ∙ is_escaped-bare t from (to - 1) (omega arith) (letter-bare t (to - 1) (run.letters (to - 1) (omega arith) (omega arith))))
