@@ -49,5 +49,19 @@ pub fn columns(text: &str) -> usize
 pub fn characters_of(alloc: Global, text: &str) -> Result<Vec<char>, AllocError>
     ensures { IfOk result (λ characters. characters.items ≡ chars text.now) }
 {
+    if text.is_ascii() {
+        return ascii_characters(alloc, text.as_bytes());
+    }
     text.chars().collect(alloc)
+}
+
+/// ASCII as characters, each of which is a byte.
+fn ascii_characters(alloc: Global, bytes: &[u8]) -> Result<Vec<char>, AllocError>
+    ensures { IfOk result (λ characters. characters.items ≡ bytes.now) }
+{
+    let mut characters = Vec::with_capacity(alloc, bytes.len())?;
+    for byte in bytes {
+        characters.push_reserved(char::from(*byte));
+    }
+    Ok(characters)
 }
