@@ -1,9 +1,9 @@
 -- How far escapes reach.
-use Rattle.std.proofs.Common.{◌≡◌, ℕ, zero, suc, ◌+◌, ◌-◌, ◌<◌, ◌≤◌, Bool, true, false, ◌&&◌, ◌==◌, leb, get_or, refl, sym, ap, ◌∙◌, subst, arith, add-one}
+use Rattle.std.proofs.Common.{◌≡◌, ℕ, zero, suc, ◌+◌, ◌-◌, ◌<◌, ◌≤◌, Bool, true, false, ◌&&◌, ◌||◌, ◌==◌, cond, [], ◌∷◌, leb, get_or, refl, sym, ap, ◌∙◌, subst, arith, add-one}
 use Rattle.std.proofs.lemmas.Bool.{le-leb, eqb-true, and_parts}
 use Rattle.std.proofs.lemmas.Bool.Decides.{nat_tests}
 use Rattle.rst_pieces.specs.Characters.{Text, has}
-use Rattle.rst_pieces.specs.Escapes.{escapes, is_escaped}
+use Rattle.rst_pieces.specs.Escapes.{escapes, is_escaped, has_backslash, unescaped_from, unescaped}
 
 pub is_escaped-start : (t : Text) (from : ℕ) → is_escaped t from from ≡ false
 unfolding is_escaped
@@ -48,3 +48,13 @@ agree t s i (suc n) h bare =
 pub is_escaped-agree : (t : Text) (s i k : ℕ) → s ≤ i → i < k → IsBare t i → is_escaped t s k ≡ is_escaped t i k
 is_escaped-agree t s i k h less bare =
     let e : i + 1 + (k - (i + 1)) ≡ k = omega arith in subst (λ k. is_escaped t s k ≡ is_escaped t i k) e (agree t s i (k - (i + 1)) h bare)
+
+either-false : (a b : Bool) → (a || b) ≡ false → (a ≡ false) × (b ≡ false)
+either-false true b h = absurd (cc)
+either-false false b h = (refl, h)
+
+-- without a backslash a text has no escapes
+pub unescaped-plain : (t : Text) → has_backslash t ≡ false → unescaped t ≡ t
+unescaped-plain [] h = refl
+unescaped-plain (c ∷ cs) h =
+    let parts = either-false (c == 92) (has_backslash cs) h in ap (λ b. cond b (unescaped_from true cs) (c ∷ unescaped_from false cs)) parts.0 ∙ ap (λ rest. c ∷ rest) (unescaped-plain cs parts.1)

@@ -1,5 +1,6 @@
 -- Escapes by backslashes (Markup Specification, 'Escaping Mechanism').
 use Rattle.std.specs.Prelude.{ℕ, zero, suc, Bool, true, false, not, ◌&&◌, ◌==◌, nat_le, [], ◌∷◌, slice_index, if◌then◌else◌}
+use Rattle.std.specs.List.{list_any}
 use Rattle.rst_text.specs.Characters.{is_white}
 use Rattle.rst_pieces.specs.Characters.{Text}
 
@@ -22,3 +23,7 @@ unescaped_from false (c ∷ cs) = if c == 92 then unescaped_from true cs else c 
 -- backslash vanishes.
 abbrev pub unescaped : Text → Text
 unescaped t = unescaped_from false t
+
+-- there is a backslash in the text
+abbrev pub has_backslash : Text → Bool
+has_backslash t = list_any (λ c. c == 92) t

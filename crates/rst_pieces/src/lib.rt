@@ -15,7 +15,7 @@ mod uri;
 mod words;
 
 pub use characters::{has, is_dark};
-pub use escaping::{escapes, unescaped};
+pub use escaping::{escapes, has_backslash, unescaped};
 pub use laws::one_list_of_pieces;
 pub use piece::{Kind, Markup, Piece, Suffix};
 pub use scanner::pieces_of;
