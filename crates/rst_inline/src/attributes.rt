@@ -16,7 +16,7 @@ pub(crate) fn attr(key: Key, value: Value) -> Attr
 pub(crate) fn one(alloc: Global, first: Attr) -> Result<Vec<Attr>, InlineFault>
     ensures { Gives (λ list. list.items ≡ first ∷ []) result }
 {
-    let mut list = Vec::new(alloc);
+    let mut list = Vec::with_capacity(alloc, 1)?;
     list.push(first)?;
     Ok(list)
 }
@@ -24,7 +24,7 @@ pub(crate) fn one(alloc: Global, first: Attr) -> Result<Vec<Attr>, InlineFault>
 pub(crate) fn two(alloc: Global, first: Attr, second: Attr) -> Result<Vec<Attr>, InlineFault>
     ensures { Gives (λ list. list.items ≡ first ∷ second ∷ []) result }
 {
-    let mut list = Vec::new(alloc);
+    let mut list = Vec::with_capacity(alloc, 2)?;
     list.push(first)?;
     list.push(second)?;
     Ok(list)
@@ -38,7 +38,7 @@ pub(crate) fn three(
 ) -> Result<Vec<Attr>, InlineFault>
     ensures { Gives (λ list. list.items ≡ first ∷ second ∷ third ∷ []) result }
 {
-    let mut list = Vec::new(alloc);
+    let mut list = Vec::with_capacity(alloc, 3)?;
     list.push(first)?;
     list.push(second)?;
     list.push(third)?;

@@ -15,11 +15,12 @@ use std::alloc::Global;
 pub(crate) fn text_nodes(alloc: Global, shown: &[char]) -> Result<Children, InlineFault>
     ensures { Gives (λ nodes. nodes ≡ text_nodes shown.now) result }
 {
-    let mut list = Vec::new(alloc);
-    if !shown.is_empty() {
-        let text = spelled(alloc, shown)?;
-        list.push(Node::Text(text))?;
+    if shown.is_empty() {
+        return Ok(Children::new(alloc));
     }
+    let mut list = Vec::with_capacity(alloc, 1)?;
+    let text = spelled(alloc, shown)?;
+    list.push(Node::Text(text))?;
     Ok(Children::of(list))
 }
 

@@ -39,7 +39,7 @@ fn read(alloc: Global, text: &[char], pieces: &[Piece], line: usize) -> Result<P
     requires { All (IsWithin text.now) pieces.now }
     ensures { Gives (Reads text.now line pieces.now) result }
 {
-    let mut nodes = Vec::new(alloc);
+    let mut nodes = Vec::with_capacity(alloc, pieces.len())?;
     let mut notes = Vec::new(alloc);
     for piece in pieces {
         match reading(alloc, text, line, *piece)? {

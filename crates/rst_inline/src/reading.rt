@@ -1,5 +1,6 @@
 //! What pieces mean.
 ghost use Rattle.std.specs.Prelude.{◌<◌, ◌+◌, true, ◌≡◌};
+ghost use Rattle.rst_pieces.specs.Escapes.{unescaped};
 ghost use Rattle.rst_pieces.specs.Pieces.{IsWithin};
 ghost use Rattle.rst_inline.specs.Parts.{source, content};
 ghost use Rattle.rst_inline.specs.Readings.{markup_name, unended, unknown_role, two_roles, mismatch, plain_reading, substitution_reading, embedded_reading, phrase_reading, role_reading, has_prefix, interpreted_reading, marked_reading, reading};
@@ -14,7 +15,7 @@ use super::references::{
 };
 use super::roles::role_tag;
 use super::texts::{part, spelled};
-use rst_pieces::{Kind, Markup, Piece, Suffix, unescaped};
+use rst_pieces::{Kind, Markup, Piece, Suffix, has_backslash, unescaped};
 use rst_tree::{Level, Node, Tag, Text};
 use std::alloc::Global;
 
@@ -74,8 +75,18 @@ fn mismatch(alloc: Global) -> Result<Meaning, InlineFault>
     Ok(Meaning::Wrong(Level::Warning, Text::from_str(alloc, text)?))
 }
 
-/// Plain text without its escapes.
-fn plain(alloc: Global, shown: &[char]) -> Result<Meaning, InlineFault>
+/// Plain text without its escapes. Most has none, and is not copied for them.
+fn plain(alloc: Global, source: &[char]) -> Result<Meaning, InlineFault>
+    ensures { Gives (λ reading. reading ≡ plain_reading (unescaped source.now)) result }
+{
+    if !has_backslash(source) {
+        return shown_plainly(alloc, source);
+    }
+    let shown = unescaped(alloc, source)?;
+    shown_plainly(alloc, &shown)
+}
+
+fn shown_plainly(alloc: Global, shown: &[char]) -> Result<Meaning, InlineFault>
     ensures { Gives (λ reading. reading ≡ plain_reading shown.now) result }
 {
     match shown {
@@ -294,10 +305,7 @@ pub(crate) fn reading(
 {
     let source = part(text, piece.from, piece.to);
     match piece.kind {
-        Kind::Plain => {
-            let shown = unescaped(alloc, source)?;
-            plain(alloc, &shown)
-        }
+        Kind::Plain => plain(alloc, source),
         Kind::Marked(markup, suffix) => marked(alloc, markup, suffix, text, piece, line),
         Kind::Unended(markup) => unended(alloc, markup),
         Kind::Label => {

@@ -169,7 +169,7 @@ pub(crate) fn outer_reference(
     ensures { Gives (λ node. node ≡ outer_node suffix source.now shown.now inner line) result }
 {
     let attrs = outer_attrs(alloc, suffix, source, shown)?;
-    let mut list = Vec::new(alloc);
+    let mut list = Vec::with_capacity(alloc, 1)?;
     list.push(inner)?;
     Ok(Node::Element {
         tag: Tag::Reference,

@@ -31,7 +31,7 @@ pub fn unescape(alloc: Global, text: &str) -> Result<String, InlineFault>
 fn spell(alloc: Global, characters: &[char]) -> Result<String, AllocError>
     ensures { IfOk result (λ out. string_bytes out ≡ spelled characters.now) }
 {
-    let mut out = String::new(alloc);
+    let mut out = String::with_capacity(alloc, characters.len())?;
     for c in characters {
         out.push(*c)?;
     }
