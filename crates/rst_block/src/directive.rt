@@ -208,11 +208,12 @@ fn figure_block(
     ensures looks { IfOk result (λ _. pass.new.looks ≤ pass.old.looks + 2 ^ 75) }
 {
     let at = level.at;
-    let waits = Waits::Figure(OpenFigure {
+    let figure = OpenFigure {
         figure: node,
         line: number_at(view, at),
         source: source(alloc, view, at, found.end, pass)?,
-    });
+    };
+    let waits = Waits::Figure(Box::new(alloc, figure)?);
     Ok(Step::Open {
         level: level.past(found.end),
         waits,

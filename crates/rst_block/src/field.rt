@@ -87,5 +87,5 @@ pub(crate) fn joined_list(
     }
     let line = number_at(view, level.at);
     let level = level.closed(alloc, view, pass)?;
-    Ok(level.begun(alloc, kind, Node::element(alloc, tag, line), end))
+    level.begun(alloc, kind, Node::element(alloc, tag, line), end)
 }

@@ -60,6 +60,10 @@ impl Level {
     pub fn with(mut self, node: Node) -> Result<Level, BlockFault>
         ensures { IfOk result (λ l. l.at ≡ self.at) }
     {
+        if self.nodes.is_empty() {
+            // Most blocks inside others have one node.
+            self.nodes.reserve_exact(1)?;
+        }
         self.nodes.push(node)?;
         Ok(self)
     }
@@ -82,6 +86,9 @@ impl Level {
         ensures at { IfOk result (λ l. l.at ≡ self.at) }
         ensures looks { pass.new.looks ≡ pass.old.looks }
     {
+        if matches!(self.run, Run::None) {
+            return Ok(self);
+        }
         let Level {
             depth,
             at,
@@ -118,18 +125,25 @@ impl Level {
     }
 
     /// The level with a list begun.
-    pub fn begun(mut self, alloc: Global, kind: ListKind, list: Node, end: usize) -> Level
-        ensures { result.at ≡ self.at }
+    pub fn begun(
+        mut self,
+        alloc: Global,
+        kind: ListKind,
+        list: Node,
+        end: usize,
+    ) -> Result<Level, BlockFault>
+        ensures { IfOk result (λ l. l.at ≡ self.at) }
     {
-        self.run = Run::List(OpenList {
+        let open = OpenList {
             kind,
             end,
             before: Vec::new(alloc),
             list,
             items: Vec::new(alloc),
             behind: Vec::new(alloc),
-        });
-        self
+        };
+        self.run = Run::List(Box::new(alloc, open)?);
+        Ok(self)
     }
 
     /// The level with an item of the open list; without one it is a node of its own.

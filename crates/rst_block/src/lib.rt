@@ -31,6 +31,3 @@ mod texts;
 
 pub use fault::BlockFault;
 pub use parsing::{Parsed, parse};
-
-#[cfg(test)]
-mod tests;

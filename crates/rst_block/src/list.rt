@@ -55,7 +55,7 @@ pub(crate) fn bullet_item(
     }
     let level = level.closed(alloc, view, pass)?;
     let list = bullet_list(alloc, mark, line)?;
-    Ok(opened(level.begun(alloc, kind, list, body.to), line, body))
+    Ok(opened(level.begun(alloc, kind, list, body.to)?, line, body))
 }
 
 /// An item of an enumerated list.
@@ -112,7 +112,7 @@ fn with_enumerated_list(
         auto: matches!(ordinals, Ordinals::Auto),
     });
     let list = enumerated_list(alloc, enumerator, line)?;
-    let mut level = level.begun(alloc, kind, list, end);
+    let mut level = level.begun(alloc, kind, list, end)?;
     if reading.ordinal != 1 {
         let written = written_place(enumerator);
         let written = excerpt(alloc, view.line(at, &mut pass.looks), written)?;

@@ -69,12 +69,35 @@ pub(crate) fn paragraph(
 {
     let at = level.at;
     let end = lines_end(view, at, LineTest::Plain, &mut pass.looks);
+    if end == at + 1 {
+        let text = view.line(at, &mut pass.looks);
+        return paragraph_of(alloc, view, level, text, end, pass);
+    }
     let text = source(alloc, view, at, end, pass)?;
-    if !ends_in_colons(text.as_str()) {
-        let level = with_paragraph(alloc, view, level, text.as_str(), end, pass)?;
+    paragraph_of(alloc, view, level, text.as_str(), end, pass)
+}
+
+/// A paragraph of a text that ends at `end`, with the literal block that it announces.
+fn paragraph_of(
+    alloc: Global,
+    view: &View<'_>,
+    level: Level,
+    text: &str,
+    end: usize,
+    pass: &mut Pass,
+) -> Result<Step, BlockFault>
+    requires end { end ≤ length (block_of view.now) }
+    requires inside { level.at < length (block_of view.now) }
+    requires short { length (block_of view.now) < 2 ^ 64 }
+    requires few { pass.old.looks < 2 ^ 119 + 2 ^ 114 + 2 ^ 70 }
+    ensures step { IfOk result (λ s. spec.IsStep (block_of view.now) level.at s) }
+    ensures looks { IfOk result (λ _. pass.new.looks ≤ pass.old.looks + 2 ^ 75 + 2 ^ 70) }
+{
+    if !ends_in_colons(text) {
+        let level = with_paragraph(alloc, view, level, text, end, pass)?;
         return Ok(Step::Next(level.past(end)));
     }
-    let shown = announcing(alloc, text.as_str())?;
+    let shown = announcing(alloc, text)?;
     let level = with_paragraph(alloc, view, level, shown.as_str(), end, pass)?;
     literal(alloc, view, level, end, pass)
 }

@@ -132,7 +132,7 @@ fn attribution_text(
     place: usize,
     found: Attribution,
     pass: &mut Pass,
-) -> Result<Texted, BlockFault>
+) -> Result<Box<Texted>, BlockFault>
     requires inside { IsBlock (block_of lines.now) (attribution_part place found) }
     requires short { length (block_of lines.now) < 2 ^ 64 }
     requires few { pass.old.looks < 2 ^ 120 }
@@ -149,12 +149,13 @@ fn attribution_text(
         },
     );
     let text = joined(alloc, &text, pass)?;
-    Ok(with_text(
+    let attribution = with_text(
         alloc,
         Tag::Attribution,
         line,
         text.as_str(),
         line,
         &mut pass.numbers,
-    )?)
+    )?;
+    Ok(Box::new(alloc, attribution)?)
 }

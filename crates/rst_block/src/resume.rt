@@ -35,16 +35,16 @@ pub(crate) enum Waits {
     /// They are a block quote, of which the rest comes next; it ends at `end`.
     Quote {
         line: usize,
-        attribution: Option<Texted>,
+        attribution: Option<Box<Texted>>,
         rest: Option<Part>,
         end: usize,
     },
     /// They stand in an element, behind what stands there already.
     Element(Node),
     /// They are the caption and the legend of a figure.
-    Figure(OpenFigure),
+    Figure(Box<OpenFigure>),
     /// They are the content of a substitution definition.
-    Replacement(OpenReplacement),
+    Replacement(Box<OpenReplacement>),
 }
 
 /// Goes on with a block, the block inside having these nodes.
@@ -91,10 +91,14 @@ pub(crate) fn resume(
         }
         Waits::Element(element) => Ok(Step::Next(level.with(filled(element, nodes)?)?)),
         Waits::Figure(figure) => Ok(Step::Next(level.with_all(finished_figure(
-            alloc, figure, nodes,
+            alloc,
+            Box::into_inner(figure),
+            nodes,
         )?)?)),
         Waits::Replacement(definition) => Ok(Step::Next(level.with(finished_replacement(
-            alloc, definition, nodes,
+            alloc,
+            Box::into_inner(definition),
+            nodes,
         )?)?)),
     }
 }
@@ -104,13 +108,14 @@ fn attributed(
     alloc: Global,
     level: Level,
     quote: Node,
-    attribution: Option<Texted>,
+    attribution: Option<Box<Texted>>,
 ) -> Result<Level, BlockFault>
     ensures { IfOk result (λ l. l.at ≡ level.at) }
 {
     match attribution {
         None => level.with(quote),
-        Some(Texted { element, notes }) => {
+        Some(attribution) => {
+            let Texted { element, notes } = Box::into_inner(attribution);
             let quote = filled(quote, alone(alloc, element)?)?;
             level.with(quote)?.with_all(notes)
         }

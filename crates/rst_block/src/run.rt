@@ -54,7 +54,8 @@ pub(crate) struct OpenList {
 #[derive(Debug, Drop)]
 pub(crate) enum Run {
     None,
-    List(OpenList),
+    /// Behind a pointer, since a block that has one moves often.
+    List(Box<OpenList>),
     Lines { lines: Vec<BarText>, end: usize },
     Explicit { end: usize },
 }
@@ -126,7 +127,7 @@ impl Run {
     {
         match self {
             Run::None | Run::Explicit { .. } => Ok(Vec::new(alloc)),
-            Run::List(open) => list_nodes(open),
+            Run::List(open) => list_nodes(Box::into_inner(open)),
             Run::Lines { lines, .. } => lines_nodes(alloc, lines, depth, pass),
         }
     }

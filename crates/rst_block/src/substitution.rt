@@ -153,11 +153,12 @@ fn replacement(
     ensures looks { IfOk result (λ _. pass.new.looks ≤ pass.old.looks + 2 ^ 75) }
 {
     let at = level.at;
-    let waits = Waits::Replacement(OpenReplacement {
+    let replacement = OpenReplacement {
         name,
         line: number_at(view, at),
         source: source(alloc, view, at, end, pass)?,
-    });
+    };
+    let waits = Waits::Replacement(Box::new(alloc, replacement)?);
     Ok(Step::Open {
         level: level.past(end),
         waits,

@@ -9,7 +9,7 @@ use super::fault::BlockFault;
 use rst_elements::{Numbers, message};
 use rst_marks::Characters;
 use rst_text::{Looks, View, skip};
-use rst_tree::{Level, Node};
+use rst_tree::{Children, Level, Node};
 use std::alloc::{AllocError, Global};
 
 /// What is counted while a document is read: looks at lines, and messages that have problematics.
@@ -90,13 +90,16 @@ pub(crate) fn unindent(alloc: Global, line: usize, text: &str) -> Result<Node, B
 
 /// One node in a list of its own.
 pub(crate) fn alone(alloc: Global, node: Node) -> Result<Vec<Node>, BlockFault> {
-    let mut nodes = Vec::new(alloc);
+    let mut nodes = Vec::with_capacity(alloc, 1)?;
     nodes.push(node)?;
     Ok(nodes)
 }
 
 /// Nodes, and then more.
 pub(crate) fn appended(mut nodes: Vec<Node>, more: Vec<Node>) -> Result<Vec<Node>, BlockFault> {
+    if nodes.is_empty() {
+        return Ok(more);
+    }
     for node in more {
         nodes.push(node)?;
     }
@@ -109,16 +112,14 @@ pub(crate) fn filled(element: Node, more: Vec<Node>) -> Result<Node, BlockFault>
         Node::Element {
             tag,
             attrs,
-            mut children,
+            children,
             line,
         } => {
-            for node in more {
-                children.push(node)?;
-            }
+            let nodes = appended(children.into_list(), more)?;
             Ok(Node::Element {
                 tag,
                 attrs,
-                children,
+                children: Children::of(nodes),
                 line,
             })
         }
