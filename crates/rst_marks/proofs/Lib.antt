@@ -4,3 +4,4 @@ pub mod Steps
 pub mod OptionLemmas
 pub mod ListedLemmas
 pub mod MarkBounds
+pub mod ColonLemmas

@@ -1,5 +1,5 @@
 //! Where what an opening mark began is closed.
-ghost use Rattle.std.specs.Prelude.{◌≡◌, ◌≤◌, ◌<◌, length, IfSome};
+ghost use Rattle.std.specs.Prelude.{◌≡◌, ◌≤◌, ◌<◌, ◌-◌, length, slice_get, IfSome};
 ghost use Rattle.std.specs.Str.{chars};
 ghost use Rattle.rst_marks.specs.Closing as spec;
 
@@ -85,10 +85,21 @@ pub fn closed(closing: Closing, text: &str) -> Option<usize>
     None
 }
 
+/// The last byte of a text.
+fn last_byte(text: &str) -> Option<u8>
+    ensures { result ≡ slice_get text.now (length text.now - 1) }
+{
+    text.as_bytes().last().copied()
+}
+
 /// Whether a text ends in two colons that aren't escaped.
 pub fn ends_in_colons(text: &str) -> bool
     ensures { result ≡ spec.ends_in_colons (chars text.now) }
 {
+    // A walk from the front finds what is escaped. Few texts need it.
+    if last_byte(text) != Some(b':') {
+        return false;
+    }
     let mut rest = text;
     let mut escaped = false;
     while let Some(c) = front(rest) {
