@@ -2,7 +2,7 @@
 ghost use Rattle.std.specs.Prelude.{◌≡◌, map, length};
 ghost use Rattle.std.specs.Str.{chars};
 ghost use Rattle.rst_tree.specs.Faults.{Gives};
-ghost use Rattle.rst_elements.specs.Texts.{counted_on, counting, message_of, with_message, numbered_on, messages_from};
+ghost use Rattle.rst_elements.specs.Texts.{counted_on, counting, message_of, are_numbered, with_message, numbered_on, messages_from};
 ghost use Rattle.rst_elements.specs.Results.{HoldsText, IsHolding, ReadsText, IsNumbered};
 
 use super::nodes::element_of;
@@ -99,9 +99,14 @@ fn numbered(alloc: Global, pieces: Pieces, numbers: &mut Numbers) -> Result<Read
 }
 
 /// The nodes with the numbers of their messages counted on from the first.
+#[tactic(auto, using(crate::proofs::MessageLemmas::numbered_on_none))]
 fn numbered_on(alloc: Global, nodes: Vec<Node>, first: u64) -> Result<Vec<Node>, TreeFault>
     ensures { Gives (λ numbered. numbered.items ≡ map (numbered_on first) nodes.items) result }
 {
+    // Most texts have no message, and then no node moves.
+    if !are_numbered(nodes.as_slice()) {
+        return Ok(nodes);
+    }
     let mut numbered = Vec::new(alloc);
     for node in nodes {
         match message_of(&node) {
@@ -110,6 +115,13 @@ fn numbered_on(alloc: Global, nodes: Vec<Node>, first: u64) -> Result<Vec<Node>,
         }
     }
     Ok(numbered)
+}
+
+/// Whether one of some nodes is a problematic of a message.
+fn are_numbered(nodes: &[Node]) -> bool
+    ensures { result ≡ are_numbered nodes.now }
+{
+    nodes.iter().any(|node| message_of(node).is_some())
 }
 
 /// The number of the message that a node is a problematic of.
