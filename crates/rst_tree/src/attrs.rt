@@ -1,7 +1,7 @@
 //! The attributes of elements.
-ghost use Rattle.std.specs.Prelude.{◌≡◌, drop, [], MatchOption, None, Some};
+ghost use Rattle.std.specs.Prelude.{◌≡◌, ◌∷◌, drop, [], MatchOption, None, Some};
 ghost use Rattle.rst_tree.specs.Faults.{Gives, Becomes};
-ghost use Rattle.rst_tree.specs.Attributes.{value_of, with_attr, without_key, without_hidden, place_named, places_below, is_at};
+ghost use Rattle.rst_tree.specs.Attributes.{attr, value_of, with_attr, without_key, without_hidden, place_named, places_below, is_at};
 
 use crate::fault::TreeFault;
 use crate::key::Key;
@@ -83,6 +83,23 @@ impl Attrs {
         Attrs {
             list: Vec::new(alloc),
         }
+    }
+
+    /// No attribute, in a list with room for so many.
+    pub fn with_room(alloc: Global, room: usize) -> Result<Attrs, TreeFault>
+        ensures { Gives (λ attrs. attrs ≡ []) result }
+    {
+        let list = Vec::with_capacity(alloc, room)?;
+        Ok(Attrs { list })
+    }
+
+    /// One attribute, in a list with room for it alone.
+    pub fn lone(alloc: Global, key: Key, value: Value) -> Result<Attrs, TreeFault>
+        ensures { Gives (λ attrs. attrs ≡ attr key value ∷ []) result }
+    {
+        let mut list = Vec::with_capacity(alloc, 1)?;
+        list.push_reserved(Attr { key, value });
+        Ok(Attrs { list })
     }
 
     /// The attributes of a `Vec`.

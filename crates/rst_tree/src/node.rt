@@ -68,6 +68,23 @@ impl Children {
         }
     }
 
+    /// No node, in a list with room for so many.
+    pub fn with_room(alloc: Global, room: usize) -> Result<Children, TreeFault>
+        ensures { Gives (λ nodes. nodes ≡ bare) result }
+    {
+        let list = Vec::with_capacity(alloc, room)?;
+        Ok(Children { list })
+    }
+
+    /// One node, in a list with room for it alone.
+    pub fn lone(alloc: Global, node: Node) -> Result<Children, TreeFault>
+        ensures { Gives (λ nodes. nodes ≡ forest_of (node ∷ [])) result }
+    {
+        let mut list = Vec::with_capacity(alloc, 1)?;
+        list.push_reserved(node);
+        Ok(Children { list })
+    }
+
     /// The nodes of a `Vec`.
     pub fn of(list: Vec<Node>) -> Children
         ensures { result ≡ forest_of list.items }

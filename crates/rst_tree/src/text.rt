@@ -99,6 +99,15 @@ impl Texts {
         }
     }
 
+    /// One text, in a list with room for it alone.
+    pub fn lone(alloc: Global, text: Text) -> Result<Texts, TreeFault>
+        ensures { Gives (λ texts. texts ≡ text ∷ []) result }
+    {
+        let mut list = Vec::with_capacity(alloc, 1)?;
+        list.push_reserved(text);
+        Ok(Texts { list })
+    }
+
     /// The texts of a `Vec`.
     pub fn of(list: Vec<Text>) -> Texts
         ensures { result ≡ list.items }
