@@ -10,6 +10,7 @@ use crate::fault::TransformFault;
 use crate::filter::filter;
 use crate::footnotes::footnotes;
 use crate::indirect::indirect;
+use crate::kinds::Kinds;
 use crate::last_section::last_section;
 use crate::messages::Messages;
 use crate::resolve::resolve;
@@ -51,8 +52,11 @@ pub fn finish(
 {
     let work = registered(alloc, document, messages)?;
     let mut list = Messages::new(alloc, settings.halt);
-    list.read(alloc, &work.root)?;
-    let work = transformed(alloc, work, settings)?;
+    let kinds = Kinds::of(&work.root);
+    if kinds.messages {
+        list.read(alloc, &work.root)?;
+    }
+    let work = transformed(alloc, work, kinds, settings)?;
     let Work { root, reports, .. } = last_section(alloc, work, settings.report)?;
     list.add_reports(reports)?;
     let (notes, highest) = list.end();
@@ -84,19 +88,39 @@ fn registered(alloc: Global, document: Marked, messages: u64) -> Result<Work, Tr
     })
 }
 
-/// A document after all transforms.
-fn transformed(alloc: Global, work: Work, settings: &Settings) -> Result<Work, TreeFault> {
-    let work = expand(alloc, work)?;
-    let mut work = targets(alloc, work)?;
+/// A document with elements of some kinds after all transforms.
+fn transformed(
+    alloc: Global,
+    work: Work,
+    kinds: Kinds,
+    settings: &Settings,
+) -> Result<Work, TreeFault> {
+    let mut work = work;
+    if kinds.substitutions {
+        work = expand(alloc, work)?;
+    }
+    if kinds.targets {
+        work = targets(alloc, work)?;
+    }
     if settings.title {
         work = title(alloc, work)?;
     }
     if settings.info {
         work = docinfo(alloc, work)?;
     }
+    if kinds.links {
+        work = linked(alloc, work)?;
+    }
+    if kinds.transitions {
+        work = transitions(alloc, work)?;
+    }
+    Ok(work)
+}
+
+/// A document after the transforms of links.
+fn linked(alloc: Global, work: Work) -> Result<Work, TreeFault> {
     let work = anonymous(alloc, work)?;
     let work = indirect(alloc, work)?;
     let work = footnotes(alloc, work)?;
-    let work = resolve(alloc, work)?;
-    transitions(alloc, work)
+    resolve(alloc, work)
 }

@@ -14,6 +14,7 @@ mod finishing;
 mod footnotes;
 mod holders;
 mod indirect;
+mod kinds;
 mod last_section;
 mod links;
 mod lists;

@@ -79,7 +79,7 @@ pub(crate) enum Change {
 }
 
 /// Whether elements of this kind refer to others, or are what others refer to; a label stands for its footnote.
-fn is_linked(tag: Tag) -> bool
+pub(crate) fn is_linked(tag: Tag) -> bool
     ensures { result ≡ is_linked tag }
 {
     matches!(
