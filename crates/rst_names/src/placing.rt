@@ -27,6 +27,11 @@ impl Notices {
         Ok(())
     }
 
+    /// Whether no message is left.
+    fn is_empty(&self) -> bool {
+        self.queue.is_empty()
+    }
+
     /// Takes out the message on the name of an element with these attributes.
     fn take(&mut self, attrs: &Attrs) -> Option<Node> {
         let serial = number_at(attrs, Key::Serial)?;
@@ -296,6 +301,9 @@ pub fn place_notices(
     document: Node,
     mut notices: Notices,
 ) -> Result<Node, TreeFault> {
+    if notices.is_empty() {
+        return Ok(document);
+    }
     match document {
         Node::Text(text) => Ok(Node::Text(text)),
         Node::Element {

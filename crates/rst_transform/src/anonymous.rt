@@ -1,7 +1,7 @@
 //! Anonymous references.
 
 use crate::holders::{lead_of, text_attr};
-use crate::links::{Changes, Linked, Outcome, linked_in, settled, take_root, with_changes};
+use crate::links::{Changes, Linked, Outcome, linked_in, put_back, settled, take_root};
 use crate::reading::{first_said, has, is_a, line_of};
 use crate::work::Work;
 use rst_tree::{Key, Level, Node, Tag, TreeFault};
@@ -32,7 +32,7 @@ use std::alloc::Global;
 pub(crate) fn anonymous(alloc: Global, mut work: Work) -> Result<Work, TreeFault> {
     let root = take_root(alloc, &mut work);
     let changes = changes_of(alloc, &mut work, &root)?;
-    work.root = with_changes(alloc, root, changes)?;
+    put_back(alloc, &mut work, root, changes)?;
     Ok(work)
 }
 

@@ -109,7 +109,7 @@ fn transformed(
         work = docinfo(alloc, work)?;
     }
     if kinds.links {
-        work = linked(alloc, work)?;
+        work = linked(alloc, work, kinds)?;
     }
     if kinds.transitions {
         work = transitions(alloc, work)?;
@@ -117,10 +117,17 @@ fn transformed(
     Ok(work)
 }
 
-/// A document after the transforms of links.
-fn linked(alloc: Global, work: Work) -> Result<Work, TreeFault> {
-    let work = anonymous(alloc, work)?;
-    let work = indirect(alloc, work)?;
-    let work = footnotes(alloc, work)?;
+/// A document with elements of some kinds after the transforms of links.
+fn linked(alloc: Global, work: Work, kinds: Kinds) -> Result<Work, TreeFault> {
+    let mut work = work;
+    if kinds.anonymous {
+        work = anonymous(alloc, work)?;
+    }
+    if kinds.indirect {
+        work = indirect(alloc, work)?;
+    }
+    if kinds.footnotes {
+        work = footnotes(alloc, work)?;
+    }
     resolve(alloc, work)
 }

@@ -1,9 +1,7 @@
 //! Footnotes.
 
 use crate::holders::text_attr;
-use crate::links::{
-    Addition, Changes, Linked, Outcome, linked_in, settled, take_root, with_changes,
-};
+use crate::links::{Addition, Changes, Linked, Outcome, linked_in, put_back, settled, take_root};
 use crate::reading::{first_said, has, is_a, line_of, list_said, text_said};
 use crate::work::Work;
 use rst_tree::{Attr, Key, Level, Node, Tag, Text, TreeFault, Value};
@@ -73,7 +71,7 @@ impl Order {
 pub(crate) fn footnotes(alloc: Global, mut work: Work) -> Result<Work, TreeFault> {
     let root = take_root(alloc, &mut work);
     let changes = changes_of(alloc, &mut work, &root)?;
-    work.root = with_changes(alloc, root, changes)?;
+    put_back(alloc, &mut work, root, changes)?;
     Ok(work)
 }
 

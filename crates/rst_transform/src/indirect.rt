@@ -2,7 +2,7 @@
 
 use crate::anonymous::{anonymous_places, is_anonymous};
 use crate::holders::{Holders, lead_by_name};
-use crate::links::{Changes, Linked, Outcome, linked_in, settled, take_root, with_changes};
+use crate::links::{Changes, Linked, Outcome, linked_in, put_back, settled, take_root};
 use crate::reading::{has, is_a, line_of, text_said};
 use crate::work::Work;
 use rst_names::{Holder, Names};
@@ -77,7 +77,7 @@ fn copy_attr(alloc: Global, attr: &Attr) -> Result<Attr, TreeFault> {
 pub(crate) fn indirect(alloc: Global, mut work: Work) -> Result<Work, TreeFault> {
     let root = take_root(alloc, &mut work);
     let changes = changes_of(alloc, &mut work, &root)?;
-    work.root = with_changes(alloc, root, changes)?;
+    put_back(alloc, &mut work, root, changes)?;
     Ok(work)
 }
 

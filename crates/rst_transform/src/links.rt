@@ -268,6 +268,26 @@ impl Model for Changes {
     ghost view = { λ s. s.left.items };
 }
 
+impl Changes {
+    /// Whether every element stays as it is.
+    fn are_idle(&self) -> bool {
+        for change in &self.left {
+            if !is_idle(change) {
+                return false;
+            }
+        }
+        true
+    }
+}
+
+/// Whether an element with this change stays as it is.
+fn is_idle(change: &Change) -> bool {
+    match change {
+        Change::Stays(addition) => addition.attr.is_none() && addition.shown.is_none(),
+        Change::Becomes(_) => false,
+    }
+}
+
 /// Attributes, and one more if there is one.
 fn with_attr(mut attrs: Attrs, more: Option<Attr>) -> Result<Attrs, TreeFault>
     ensures { Gives (λ all. all ≡ with_more more attrs) result }
@@ -349,12 +369,23 @@ impl Rewriter for Changes {
     }
 }
 
-/// A tree in which its linked elements changed.
-pub(crate) fn with_changes(
+/// Puts the root of a document back, in which its linked elements changed.
+pub(crate) fn put_back(
     alloc: Global,
+    work: &mut Work,
     root: Node,
-    mut changes: Changes,
-) -> Result<Node, TreeFault>
+    changes: Changes,
+) -> Result<(), TreeFault> {
+    work.root = if changes.are_idle() {
+        root
+    } else {
+        with_changes(alloc, root, changes)?
+    };
+    Ok(())
+}
+
+/// A tree in which its linked elements changed.
+fn with_changes(alloc: Global, root: Node, mut changes: Changes) -> Result<Node, TreeFault>
     ensures { Gives (λ node. node ≡ changed_root changes root) result }
 {
     match root {

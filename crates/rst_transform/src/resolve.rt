@@ -2,9 +2,7 @@
 
 use crate::footnotes::{found_by_order, mark_of, spelled_number};
 use crate::holders::{Holders, lead_by_name, text_attr};
-use crate::links::{
-    Addition, Changes, Linked, Outcome, linked_in, settled, take_root, with_changes,
-};
+use crate::links::{Addition, Changes, Linked, Outcome, linked_in, put_back, settled, take_root};
 use crate::reading::{first_said, has, is_a, line_of, text_said};
 use crate::work::Work;
 use rst_names::{Holder, Names};
@@ -68,7 +66,7 @@ struct Lookup<'a> {
 pub(crate) fn resolve(alloc: Global, mut work: Work) -> Result<Work, TreeFault> {
     let root = take_root(alloc, &mut work);
     let changes = changes_of(alloc, &mut work, &root)?;
-    work.root = with_changes(alloc, root, changes)?;
+    put_back(alloc, &mut work, root, changes)?;
     Ok(work)
 }
 

@@ -23,6 +23,10 @@ use std::alloc::Global;
 ///
 /// A target that no element follows, or one that takes no ids, stays as it is.
 pub(crate) fn targets(alloc: Global, work: Work) -> Result<Work, TreeFault> {
+    let moves = moves_in(alloc, &work.root)?;
+    if moves.is_empty() {
+        return Ok(work);
+    }
     let Work {
         root,
         ids,
@@ -32,7 +36,7 @@ pub(crate) fn targets(alloc: Global, work: Work) -> Result<Work, TreeFault> {
         serials,
     } = work;
     let mut moving = Moving {
-        moves: moves_in(alloc, &root)?,
+        moves,
         at: 0,
         ids: Vec::new(alloc),
         names: Vec::new(alloc),
