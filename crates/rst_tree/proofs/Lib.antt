@@ -1,4 +1,5 @@
 pub mod Changes
+mod Plain
 pub mod PrintedParts
 pub mod Attributes
 pub mod EachNode

@@ -21,6 +21,10 @@ in_order (a ∷ b ∷ more) = nat_lt (key_code a.key) (key_code b.key) && in_ord
 abbrev pub is_lines : List ℕ → Bool
 is_lines t = list_all (λ c. (c == 10) || not (is_line_end c)) (chars t)
 
+-- a byte that is an ASCII character and ends no line, but for LF
+abbrev pub is_plain_byte : ℕ → Bool
+is_plain_byte b = (b == 10) || (nat_lt 31 b && nat_lt b 128)
+
 -- each list of attributes is in order, and each text has no line end but LF
 abbrev pub is_sound : Forest → Bool
 is_sound bare = true

@@ -1,5 +1,5 @@
 //! The attributes of elements.
-ghost use Rattle.std.specs.Prelude.{◌≡◌, ◌∷◌, drop, [], MatchOption, None, Some};
+ghost use Rattle.std.specs.Prelude.{◌≡◌, ◌∷◌, drop, vec_len, [], MatchOption, None, Some};
 ghost use Rattle.rst_tree.specs.Faults.{Gives, Becomes};
 ghost use Rattle.rst_tree.specs.Attributes.{attr, value_of, with_attr, without_key, without_hidden, place_named, places_below, is_at};
 
@@ -139,6 +139,7 @@ impl Attrs {
             self.list[place] = attr;
             return Ok(());
         }
+        make_room(&mut self.list)?;
         self.list.insert(place, attr)?;
         Ok(())
     }
@@ -167,7 +168,7 @@ impl Attrs {
     pub fn copy(&self, alloc: Global) -> Result<Attrs, TreeFault>
         ensures { Gives (λ a. a ≡ self.now) result }
     {
-        let mut list = Vec::new(alloc);
+        let mut list = Vec::with_capacity(alloc, self.list.len())?;
         for attr in &self.list {
             let value = attr.value.copy(alloc)?;
             list.push(Attr {
@@ -177,6 +178,17 @@ impl Attrs {
         }
         Ok(Attrs { list })
     }
+}
+
+/// Makes room for two attributes where there is none: most elements that have some have no more.
+fn make_room(list: &mut Vec<Attr>) -> Result<(), TreeFault>
+    ensures items { list.new.items ≡ list.old.items }
+    ensures len { vec_len list.new ≡ vec_len list.old }
+{
+    if list.is_empty() {
+        list.reserve_exact(2)?;
+    }
+    Ok(())
 }
 
 /// How many attributes stand before the first whose name isn't before `key`.

@@ -138,6 +138,7 @@ impl Children {
     pub fn push(&mut self, node: Node) -> Result<(), TreeFault>
         ensures { Becomes self.old self.new (forest_of (nodes_of self.old ++ node ∷ [])) result }
     {
+        make_room(&mut self.list)?;
         self.list.push(node)?;
         Ok(())
     }
@@ -151,6 +152,16 @@ impl Children {
         }
         Ok(())
     }
+}
+
+/// Makes room for one node where there is none: most elements hold a single one.
+fn make_room(list: &mut Vec<Node>) -> Result<(), TreeFault>
+    ensures { list.new.items ≡ list.old.items }
+{
+    if list.is_empty() {
+        list.reserve_exact(1)?;
+    }
+    Ok(())
 }
 
 impl Node {
@@ -257,7 +268,7 @@ impl Node {
                 line,
             } => {
                 let attrs = attrs.copy(alloc)?;
-                let mut list = Vec::new(alloc);
+                let mut list = Vec::with_capacity(alloc, children.len())?;
                 for child in children.as_slice() {
                     list.push(child.copy(alloc)?)?;
                 }

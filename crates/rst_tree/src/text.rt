@@ -126,6 +126,7 @@ impl Texts {
     pub fn push(&mut self, text: Text) -> Result<(), TreeFault>
         ensures { Becomes self.old self.new (self.old ++ text ∷ []) result }
     {
+        make_room(&mut self.list)?;
         self.list.push(text)?;
         Ok(())
     }
@@ -134,10 +135,20 @@ impl Texts {
     pub fn copy(&self, alloc: Global) -> Result<Texts, TreeFault>
         ensures { Gives (λ t. t ≡ self.now) result }
     {
-        let mut list = Vec::new(alloc);
+        let mut list = Vec::with_capacity(alloc, self.list.len())?;
         for text in &self.list {
             list.push(text.copy()?)?;
         }
         Ok(Texts { list })
     }
+}
+
+/// Makes room for one text where there is none: most lists have a single one.
+fn make_room(list: &mut Vec<Text>) -> Result<(), TreeFault>
+    ensures { list.new.items ≡ list.old.items }
+{
+    if list.is_empty() {
+        list.reserve_exact(1)?;
+    }
+    Ok(())
 }

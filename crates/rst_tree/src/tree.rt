@@ -1,11 +1,12 @@
 //! Documents as trees, and changes of them.
 ghost use Rattle.std.specs.Prelude.{◌≡◌, ◌<◌, nat_le, IsTrue, MatchOption, Some, None, is_some, ◌++◌, string_bytes};
+ghost use Rattle.std.specs.List.{list_all};
 ghost use Rattle.rst_text.specs.Lines.{is_line_end};
 ghost use Rattle.rst_tree.specs.Attributes.{with_attr};
 ghost use Rattle.rst_tree.specs.Faults.{Gives, Becomes, GivesBack};
 ghost use Rattle.rst_tree.specs.Nodes.{node_height};
 ghost use Rattle.rst_tree.specs.Paths.{node_at, changed_at, with_child, with_value, value_at};
-ghost use Rattle.rst_tree.specs.Tree.{IsTreeOf, is_tree, is_sound_node, is_lines, in_order, fits, is_element, text_in, text_at};
+ghost use Rattle.rst_tree.specs.Tree.{IsTreeOf, is_tree, is_sound_node, is_lines, is_plain_byte, in_order, fits, is_element, text_in, text_at};
 
 use crate::attrs::{Attr, Value};
 use crate::fault::TreeFault;
@@ -52,6 +53,14 @@ impl Tree {
         } else {
             Err(root)
         }
+    }
+
+    /// A node that is known to be a tree, as a tree.
+    pub fn sound(root: Node) -> Tree
+        requires { IsTrue (is_tree root) }
+        ensures { result ≡ root }
+    {
+        Tree { root }
     }
 
     /// The whole node.
@@ -237,9 +246,27 @@ fn is_line_end(c: char) -> bool
     )
 }
 
+/// Whether a byte is an ASCII character that isn't a control character, or LF.
+fn is_plain_byte(byte: u8) -> bool
+    ensures { result ≡ is_plain_byte byte }
+{
+    byte == b'\n' || (byte >= b' ' && byte < 128)
+}
+
+/// Whether all bytes are such. None is looked at by itself, so that many are at once.
+fn is_plain(bytes: &[u8]) -> bool
+    ensures { result ≡ list_all is_plain_byte bytes.now }
+{
+    let mut plain = true;
+    for byte in bytes {
+        plain &= is_plain_byte(*byte);
+    }
+    plain
+}
+
 /// Whether a text has no line end but LF.
 fn is_lines(text: &Text) -> bool
     ensures { result ≡ is_lines text.now }
 {
-    text.as_str().chars().all(|c| c == '\n' || !is_line_end(c))
+    is_plain(text.as_bytes()) || text.as_str().chars().all(|c| c == '\n' || !is_line_end(c))
 }

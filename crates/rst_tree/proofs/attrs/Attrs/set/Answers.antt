@@ -9,10 +9,10 @@ returns-then-is_at c =
 
 pub insert-requires : goal.insert-requires
 insert-requires c =
-    omega (arith, c.place_of-place.ensures, places_below-le c.args.key c.as_slice-attrs.result.now, c.as_slice-attrs.ensures.len)
+    omega (arith, c.place_of-place.ensures, places_below-le c.args.key c.as_slice-attrs.result.now, c.as_slice-attrs.ensures.len, c.make_room.ensures.len)
 
 pub returns : goal.returns
 returns c =
     let e = c.as_slice-attrs.ensures.value ∙ c.self.view_is in
     c.in_ok-insert.ensures.items ∙
-    rw (c.place_of-place.ensures, e, c.self.view_is) (put_there c.args.key c.args.value c.args.self.now (rw (c.place_of-place.ensures, e) at (sym c.is_at.ensures ∙ c.if-is_at.false)))
+    rw (c.make_room.ensures.items, c.place_of-place.ensures, e, c.self.view_is) (put_there c.args.key c.args.value c.args.self.now (rw (c.place_of-place.ensures, e) at (sym c.is_at.ensures ∙ c.if-is_at.false)))

@@ -1,0 +1,26 @@
+-- A text of plain bytes has no line end but LF.
+use Rattle.std.proofs.Common.{◌≡◌, ℕ, List, [], ◌∷◌, Bool, true, false, nat_lt, refl, sym, ◌∙◌, ap, arith}
+use Rattle.std.specs.Prelude.{◌&&◌, ◌||◌, ◌==◌, not}
+use Rattle.std.specs.List.{list_all}
+use Rattle.std.specs.Str.{chars}
+use Rattle.rst_text.specs.Lines.{is_line_end}
+use Rattle.rst_tree.proofs.Fitting.{both}
+use Rattle.rst_tree.specs.Tree.{is_plain_byte, is_lines}
+
+ascii : (b : ℕ) → is_plain_byte b ≡ true → nat_lt b 128 ≡ true
+ascii b h = grind (arith, h)
+
+ends_none : (b : ℕ) → is_plain_byte b ≡ true → ((b == 10) || not (is_line_end b)) ≡ true
+ends_none b h = grind (arith, h)
+
+chars-ascii : (b : ℕ) (bs : List ℕ) → nat_lt b 128 ≡ true → chars (b ∷ bs) ≡ b ∷ chars bs
+unfolding chars
+chars-ascii b [] h = rw h refl
+chars-ascii b (d ∷ bs) h = rw h refl
+
+pub plain_lines : (bs : List ℕ) → list_all is_plain_byte bs ≡ true → is_lines bs ≡ true
+unfolding chars
+plain_lines [] h = refl
+plain_lines (b ∷ bs) h =
+    let k = both (is_plain_byte b) (list_all is_plain_byte bs) h in
+    rw (chars-ascii b bs (ascii b k.0), ends_none b k.0) (plain_lines bs k.1)
