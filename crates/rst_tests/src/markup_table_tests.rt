@@ -1,5 +1,5 @@
 //! Where tables end, on examples from outside.
-use rst_markup::*;
+use rst_markup::{Construct, GridTable, Kind, SimpleTable, end_after, end_of, kind_of};
 use rst_text::{Lines, Looks, TextFault, View};
 use std::alloc::Global;
 use std::test::Fail;

@@ -2,8 +2,8 @@
 use rst_marks::{LabelKind, TargetMark};
 use rst_markup::{
     AdornmentLine, AnonymousTarget, BarLine, BlankLine, BlockQuote, BulletItem, CommentCause,
-    Construct, DoctestBlock, EnumeratedItem, ExplicitForm, ExplicitMarkup, FieldItem, Kind,
-    OptionListItem, TextLine, end_of, explicit_form, kind_of,
+    Construct, DoctestBlock, EnumeratedItem, ExplicitForm, ExplicitMarkup, FieldItem, GridTable,
+    Kind, OptionListItem, SimpleTable, TextLine, end_of, explicit_form, kind_of,
 };
 use rst_text::{Lines, Looks, TextFault, View};
 use std::alloc::Global;
