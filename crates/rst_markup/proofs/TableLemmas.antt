@@ -1,6 +1,6 @@
 -- Where tables end, and what is looked at for that.
 use Rattle.std.proofs.Common.{◌≡◌, ℕ, zero, suc, ◌+◌, ◌-◌, ◌<◌, ◌≤◌, min, Bool, true, false, cond, ◌&&◌, List, [], ◌∷◌, length, take, drop, length-drop, length-take, refl, sym, ap, ap₂, ◌∙◌, arith, ltb}
-use Rattle.std.proofs.Math.Nat.{le-max_right, le-min}
+use Rattle.std.proofs.Math.Nat.{le-max_right, le-min, min-eq_left, min-eq_right}
 use Rattle.std.proofs.lemmas.Bool.{lt-ltb, ltb-true}
 use Rattle.std.proofs.lemmas.List.{drop_all, drop-drop}
 use Rattle.rst_text.specs.Block.{Block, front_text}
@@ -114,16 +114,16 @@ simple_there X there = let e = lt-ltb (run_size NoBorder X) (length X) there in 
 pub end_first : (top : List ℕ) (Y : Block) → goes_on top Y ≡ false → (through_end top Y ≡ 1) × (scan_on top Y ≡ 1)
 end_first top Y e = (rw e refl, rw e refl)
 
-pub end_second : (top : List ℕ) (Y : Block) → goes_on top Y ≡ true → run_size NoBorder Y < length Y → (through_end top Y ≡ suc (run_size NoBorder Y)) × (run_size NoBorder Y ≤ scan_on top Y)
+pub end_second : (top : List ℕ) (Y : Block) → goes_on top Y ≡ true → run_size NoBorder Y < length Y → (through_end top Y ≡ suc (run_size NoBorder Y)) × (scan_on top Y ≡ suc (run_size NoBorder Y))
 end_second top Y e there =
     let l = lt-ltb (run_size NoBorder Y) (length Y) there in
-    let most : run_size NoBorder Y ≤ min (suc (run_size NoBorder Y)) (length Y) = le-min (omega arith) (omega arith) in
-    (rw (e, l) refl, rw e most)
+    let all : min (suc (run_size NoBorder Y)) (length Y) ≡ suc (run_size NoBorder Y) = min-eq_left (omega arith) in
+    (rw (e, l) refl, rw e all)
 
-pub end_open : (top : List ℕ) (Y : Block) → goes_on top Y ≡ true → run_size NoBorder Y ≡ length Y → (through_end top Y ≡ 1) × (run_size NoBorder Y ≤ scan_on top Y)
+pub end_open : (top : List ℕ) (Y : Block) → goes_on top Y ≡ true → run_size NoBorder Y ≡ length Y → (through_end top Y ≡ 1) × (scan_on top Y ≡ length Y)
 end_open top Y e none =
-    let most : run_size NoBorder Y ≤ min (suc (run_size NoBorder Y)) (length Y) = le-min (omega arith) (omega arith) in
-    (by (ltb (run_size NoBorder Y) (length Y)) refl, rw e most)
+    let all : min (suc (run_size NoBorder Y)) (length Y) ≡ length Y = min-eq_right (omega arith) in
+    (by (ltb (run_size NoBorder Y) (length Y)) refl, rw e all)
   where
     by : (b : Bool) → ltb (run_size NoBorder Y) (length Y) ≡ b → cond (goes_on top Y && b) (suc (run_size NoBorder Y)) 1 ≡ 1
     by true l = absurd (omega (arith, ltb-true (run_size NoBorder Y) (length Y) l))
@@ -152,15 +152,15 @@ ends_first i first B e there g =
 
 -- the next border, if there is one, stands at place `second`
 pub ends_second : (i first second : ℕ) (B : Block) → first ≡ i + run_size NoBorder (drop i B) → first < length B → goes_on (front_text (drop i B)) (drop first B) ≡ true
-    → second ≡ first + run_size NoBorder (drop first B) → second < length B → (second + 1 ≡ i + simple_size (drop i B)) × (second ≤ i + simple_scan (drop i B))
+    → second ≡ first + run_size NoBorder (drop first B) → second < length B → (second + 1 ≡ i + simple_size (drop i B)) × (second + 1 ≡ i + simple_scan (drop i B))
 ends_second i first second B e there g f below =
     let a = at_first i first B e there in
     let s = end_second (front_text (drop i B)) (drop first B) g (omega (arith, length-drop first B, f)) in
     (omega (arith, a.0, s.0, f), omega (arith, a.1, s.1, f))
 
 pub ends_open : (i first second : ℕ) (B : Block) → first ≡ i + run_size NoBorder (drop i B) → first < length B → goes_on (front_text (drop i B)) (drop first B) ≡ true
-    → second ≡ first + run_size NoBorder (drop first B) → second ≡ length B → (first + 1 ≡ i + simple_size (drop i B)) × (second ≤ i + simple_scan (drop i B))
+    → second ≡ first + run_size NoBorder (drop first B) → second ≡ length B → (first + 1 ≡ i + simple_size (drop i B)) × (second ≡ i + simple_scan (drop i B))
 ends_open i first second B e there g f end =
     let a = at_first i first B e there in
     let s = end_open (front_text (drop i B)) (drop first B) g (omega (arith, length-drop first B, f, end)) in
-    (omega (arith, a.0, s.0), omega (arith, a.1, s.1, f))
+    (omega (arith, a.0, s.0), omega (arith, a.1, s.1, end, length-drop first B))

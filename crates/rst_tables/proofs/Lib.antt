@@ -10,3 +10,5 @@ pub mod RowLemmas
 pub mod TableLemmas
 pub mod SimpleLemmas
 pub mod ScanLemmas
+pub mod CharacterLemmas
+pub mod EndLemmas

@@ -3,6 +3,7 @@ pub mod Counts
 pub mod Results
 pub mod Messages
 pub mod Laws
+pub mod Ends
 pub mod Cells
 pub mod Drawn
 pub mod Marks
