@@ -17,8 +17,13 @@ use Rattle.rst_markup.proofs.EndLemmas.{run_size_some}
 use Rattle.rst_markup.proofs.TableLemmas.{simple_open, ends_first, ends_second, ends_open}
 use Rattle.rst_tables.specs.Places.{Row, Grid, no_row, places_of, row_of, rows_of, row_at}
 use Rattle.rst_tables.specs.Counts.{first_from}
-use Rattle.rst_tables.specs.GridTable.{is_border, is_grid_row, scanned, through_last, one_more as more_rows, two_more, height, grid_looked}
-use Rattle.rst_tables.specs.SimpleTable.{is_simple_border, is_empty, next_border, scan_end, looked_to, simple_looked, end_at_first, end_at_second, simple_end}
+use Rattle.rst_tables.specs.GridTable.{is_border, is_grid_row, scanned, through_last, one_more as more_rows, two_more, height, grid_looked, head_of, with_dashes, row_fault, tiled, IsOfRows, IsOfHeight}
+use Rattle.rst_tables.specs.Ends.{end_of}
+use Rattle.rst_tables.specs.declared.drawn.Rectangle.{Rectangle}
+use Rattle.rst_tables.specs.declared.results.TableDetail.{TableDetail}
+use Rattle.rst_tables.specs.declared.results.TableResult.{TableResult}
+use Rattle.rst_tables.proofs.RowLemmas.{dashes-length}
+use Rattle.rst_tables.specs.SimpleTable.{is_simple_border, is_empty, next_border, scan_end, looked_to, simple_looked, end_at_first, end_at_second, simple_end, rules_of, first_unaligned, simple_rows, first_in_margin, or_table, or_rows, simple_of}
 use Rattle.rst_tables.specs.Laws.{end_with, grid_end, place_behind}
 use Rattle.rst_tables.proofs.GridLemmas.{drop_rows}
 use Rattle.rst_tables.proofs.SimpleLemmas.{end-mismatch, end-first, end-second, second-mismatch, second-ends, looked-scan}
@@ -230,3 +235,47 @@ simple_ends B i inside top =
     let ends = simple_open (drop i B) (omega (arith, length-drop i B)) in
     (ap (λ o. place_behind (end_at_first (rows_of B) (length (row_at (rows_of B) i)) o)) found ∙ omega (arith, size, ends.0, length-drop i B), ap (λ o. looked_to (rows_of B) (length (row_at (rows_of B) i)) o - i) found ∙ omega (arith, size, ends.1, length-drop i B)))
     (cases_lt first (length B))
+
+-- ---- where results end
+
+rows_end : (line i : ℕ) (T : Grid) (fault : Option TableDetail) (r : TableResult) → IsOfRows line i T fault r → end_of r ≡ i + length T
+rows_end line i T (Some detail) r h = ap end_of h
+rows_end line i T None r h = ap end_of h.2 ∙ by h.0 ∙ ap (λ n. i + n) (dashes-length T (head_of T))
+  where
+    by : (found : Option (List Rectangle)) → end_of (tiled line i (head_of T) (with_dashes T (head_of T)) found) ≡ i + length (with_dashes T (head_of T))
+    by None = refl
+    by (Some rs) = refl
+
+through_within : (S : Grid) → through_last S ≤ length S
+through_within [] = omega arith
+through_within (r ∷ rs) = by (is_border r.places) (through_last rs) (through_within rs)
+  where
+    by : (b : Bool) (n : ℕ) → n ≤ length rs → more_rows b n ≤ suc (length rs)
+    by true zero h = omega arith
+    by false zero h = omega arith
+    by b (suc n) h = omega arith
+
+two_within : (n all : ℕ) → n ≤ all - 2 → two_more n ≤ all
+two_within zero all h = omega arith
+two_within (suc n) all h = omega arith
+
+height_within : (S : Grid) → height S ≤ length S
+height_within S = two_within (through_last (drop 2 S)) (length S) (omega (arith, through_within (drop 2 S), length-drop 2 S))
+
+pub height_end : (line i : ℕ) (S : Grid) (r : TableResult) → IsOfHeight line i S (height S) r → end_of r ≡ i + end_with (length S) (height S)
+height_end line i S r h = by (height S) (height_within S) h
+  where
+    by : (n : ℕ) → n ≤ length S → IsOfHeight line i S n r → end_of r ≡ i + end_with (length S) n
+    by zero le h = ap end_of h
+    by (suc n) le h = rows_end line i (take (suc n) S) (row_fault (take (suc n) S)) r h ∙ ap (λ k. i + k) (omega (arith, length-take (suc n) S))
+
+pub simple_of_end : (line i : ℕ) (head : Option ℕ) (T : Grid) → end_of (simple_of line i head T) ≡ i + length T
+simple_of_end line i head T = by (first_unaligned T (rules_of T))
+  where
+    margin : (b : Option ℕ) → end_of (or_table line i head T b) ≡ i + length T
+    margin None = refl
+    margin (Some k) = refl
+
+    by : (a : Option ℕ) → end_of (or_rows line i head T a) ≡ i + length T
+    by (Some k) = refl
+    by None = margin (first_in_margin T (simple_rows T))

@@ -1,8 +1,10 @@
 //! Simple tables.
-ghost use Rattle.std.specs.Prelude.{◌≡◌, ◌+◌, ◌*◌, ◌^◌, ◌<◌, ◌≤◌, get_or, length, IfOk};
+ghost use Rattle.std.specs.Prelude.{◌≡◌, ◌+◌, ◌*◌, ◌^◌, ◌<◌, ◌≤◌, drop, get_or, length, IfOk, IsTrue};
 ghost use Rattle.rst_text.specs.Shown.{block_of};
 ghost use Rattle.rst_tables.specs.Places.{rows_of};
+ghost use Rattle.rst_tables.specs.Ends.{end_of};
 ghost use Rattle.rst_tables.specs.SimpleTable as spec;
+ghost use Rattle.rst_markup.specs.TableRows.{is_simple_row, simple_size};
 
 use super::places::TableLine;
 use super::results::{TableDetail, TableResult};
@@ -71,8 +73,9 @@ fn simple_of(
 }
 
 /// The simple table whose top border is the line at place `i` of a view: a table with its rows, or malformed with its
-/// first fault (Markup Specification, 'Simple Tables'). It looks at most four times at each line of the table, and of
-/// those after it through the one that stops the scan for a border.
+/// first fault (Markup Specification, 'Simple Tables'). It ends where the characters of its lines say, if that line is a top
+/// border. It looks at most four times at each line of the table, and of those after it through the one that stops the
+/// scan for a border.
 ///
 /// The only error is want of memory, which leaves all but `looks` as it was.
 pub fn simple(
@@ -84,6 +87,7 @@ pub fn simple(
     requires there { i < length (block_of view.now) }
     requires few { looks.old < 2 ^ 120 }
     ensures table { IfOk result (λ table. table ≡ spec.simple_table (block_of view.now) i) }
+    ensures end { IsTrue (is_simple_row (drop i (block_of view.now))) → IfOk result (λ table. end_of table ≡ i + simple_size (drop i (block_of view.now))) }
     ensures looks { looks.new ≤ looks.old + 4 * spec.simple_looked (rows_of (block_of view.now)) i }
 {
     let line = view.number(i);

@@ -2,7 +2,9 @@
 ghost use Rattle.std.specs.Prelude.{◌≡◌, ◌+◌, ◌^◌, ◌<◌, ◌≤◌, length, drop, IfOk};
 ghost use Rattle.rst_text.specs.Shown.{block_of};
 ghost use Rattle.rst_tables.specs.Places.{rows_of};
+ghost use Rattle.rst_tables.specs.Ends.{end_of};
 ghost use Rattle.rst_tables.specs.GridTable as spec;
+ghost use Rattle.rst_markup.specs.TableRows.{grid_size};
 
 use super::drawn::tiling;
 use super::grid_cells::tiled;
@@ -75,8 +77,8 @@ fn grid_of(
 }
 
 /// The grid table whose top border is the line at place `i` of a view: a table with the cells of the tiling by its
-/// drawn rectangles, or malformed with its first fault (Markup Specification, 'Grid Tables'). It looks once at each
-/// line of the table, and at those after it through the one that stops the scan.
+/// drawn rectangles, or malformed with its first fault (Markup Specification, 'Grid Tables'). It ends where the characters
+/// of its lines say. It looks once at each line of the table, and at those after it through the one that stops the scan.
 ///
 /// The only error is want of memory, which leaves all but `looks` as it was.
 pub fn grid(
@@ -88,6 +90,7 @@ pub fn grid(
     requires there { i < length (block_of view.now) }
     requires few { looks.old < 2 ^ 120 }
     ensures table { IfOk result (spec.IsGridTable (block_of view.now) i) }
+    ensures end { IfOk result (λ table. end_of table ≡ i + grid_size (drop i (block_of view.now))) }
     ensures looks { looks.new ≤ looks.old + spec.grid_looked (rows_of (drop i (block_of view.now))) }
 {
     let lines = scanned(alloc, view, i, looks)?;
