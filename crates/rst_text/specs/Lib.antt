@@ -12,3 +12,4 @@ pub mod Characters
 pub mod Names
 pub mod Faults
 pub mod Counted
+pub mod Printable

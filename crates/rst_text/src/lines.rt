@@ -4,6 +4,7 @@ ghost use Rattle.std.specs.Str.{chars, IsUtf8};
 ghost use Rattle.rst_text.specs.Block.{front_text};
 ghost use Rattle.rst_text.specs.Faults.{Gives};
 ghost use Rattle.rst_text.specs.Lines.{is_line_end, pieces, shown, expanded_from, tidied, lines_of, are_lines, first_longer};
+ghost use Rattle.rst_text.specs.Printable.{is_printable, IsPrintableTo};
 ghost use Rattle.rst_text.specs.Source.{block_with};
 ghost use Rattle.rst_text.specs.Text.{chars_of};
 
@@ -126,8 +127,42 @@ fn is_line_end(c: char) -> bool
     )
 }
 
+/// Whether a byte is printable ASCII.
+fn is_printable(byte: u8) -> bool
+    ensures { result ≡ is_printable byte }
+{
+    31 < byte && byte < 127
+}
+
+/// How many bytes at the front of a text are printable ASCII.
+fn printable_len(text: &str) -> usize
+    ensures { IsPrintableTo text.now result }
+{
+    let bytes = text.as_bytes();
+    for at in 0..bytes.len() {
+        if !is_printable(bytes[at]) {
+            return at;
+        }
+    }
+    bytes.len()
+}
+
 /// The first piece of a text that isn't empty, and what follows the end of that line.
 fn first_piece(text: &str) -> (&str, &str)
+    requires { 0 < length text.now }
+    ensures pieces { pieces (chars text.now) ≡ chars result.0.now ∷ pieces (chars result.1.now) }
+    ensures shorter { length result.1.now < length text.now }
+    ensures text { IsUtf8 result.1.now }
+{
+    let (piece, rest) = text.split_at(printable_len(text));
+    match rest.strip_prefix('\n') {
+        Some(after) => (piece, after),
+        None => first_of_any(text),
+    }
+}
+
+/// The same, character by character.
+fn first_of_any(text: &str) -> (&str, &str)
     requires { 0 < length text.now }
     ensures pieces { pieces (chars text.now) ≡ chars result.0.now ∷ pieces (chars result.1.now) }
     ensures shorter { length result.1.now < length text.now }
@@ -162,7 +197,20 @@ fn expand(alloc: Global, piece: &str, tab: usize) -> Result<String, AllocError>
     requires to { tab ≤ 99 }
     ensures { IfOk result (λ line. chars_of line ≡ expanded_from tab 0 (chars piece.now)) }
 {
-    let mut line = String::new(alloc);
+    if printable_len(piece) == piece.len() {
+        String::from_str(alloc, piece)
+    } else {
+        expand_any(alloc, piece, tab)
+    }
+}
+
+/// The same, character by character.
+fn expand_any(alloc: Global, piece: &str, tab: usize) -> Result<String, AllocError>
+    requires from { 1 ≤ tab }
+    requires to { tab ≤ 99 }
+    ensures { IfOk result (λ line. chars_of line ≡ expanded_from tab 0 (chars piece.now)) }
+{
+    let mut line = String::with_capacity(alloc, piece.len())?;
     let mut column = 0usize;
     for c in piece.chars() {
         if c == '\t' {

@@ -1,7 +1,7 @@
 use Rattle.std.proofs.Common.{◌≡◌, ◌≤◌, ◌+◌, ◌++◌, replicate, string_bytes, string_len}
 use Rattle.std.specs.Str.{chars}
 use Rattle.rst_text.proofs.Expanding.{Expands}
-use Rattle.rst_text.proofs.lines.expand.Given as goal
+use Rattle.rst_text.proofs.lines.expand_any.Given as goal
 
 abbrev pub invariant-loop : goal.invariant-loop
 invariant-loop l = (string_bytes l.line ≡ string_bytes l.initial.line ++ replicate l.counter 32) × (string_len l.line ≡ string_len l.initial.line + l.counter)
