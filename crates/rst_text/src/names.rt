@@ -54,7 +54,7 @@ pub fn id_of(alloc: Global, text: &str) -> Result<String, TextFault>
 fn without_white_runs(alloc: Global, text: &[char]) -> Result<Vec<char>, AllocError>
     ensures { IfOk result (λ normalized. normalized.items ≡ spec.normalized_white text.now) }
 {
-    let mut normalized = Vec::new(alloc);
+    let mut normalized = Vec::with_capacity(alloc, text.len())?;
     let mut begun = false;
     let mut due = false;
     for c in text {
@@ -76,7 +76,7 @@ fn without_white_runs(alloc: Global, text: &[char]) -> Result<Vec<char>, AllocEr
 fn text_from(alloc: Global, characters: &[char]) -> Result<String, AllocError>
     ensures { IfOk result (λ text. string_bytes text ≡ encode_utf8_all characters.now) }
 {
-    let mut text = String::new(alloc);
+    let mut text = String::with_capacity(alloc, characters.len())?;
     for c in characters {
         text.push(*c)?;
     }
@@ -87,7 +87,7 @@ fn text_from(alloc: Global, characters: &[char]) -> Result<String, AllocError>
 fn folded(alloc: Global, characters: &[char]) -> Result<String, AllocError>
     ensures { IfOk result (λ text. string_bytes text ≡ encode_utf8_all (map folding.simple_fold characters.now)) }
 {
-    let mut text = String::new(alloc);
+    let mut text = String::with_capacity(alloc, characters.len())?;
     for c in characters {
         text.push(simple_fold(*c))?;
     }
@@ -120,7 +120,7 @@ fn is_id_char(c: char) -> bool
 fn identifier_of(alloc: Global, decomposed: &[char]) -> Result<String, AllocError>
     ensures { IfOk result (λ id. string_bytes id ≡ encode_utf8_all (spec.identifier_of decomposed.now)) }
 {
-    let mut id = String::new(alloc);
+    let mut id = String::with_capacity(alloc, decomposed.len())?;
     let mut begun = false;
     let mut due = false;
     for c in decomposed {

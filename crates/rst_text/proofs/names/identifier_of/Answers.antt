@@ -3,4 +3,4 @@ use Rattle.rst_text.proofs.Ids.{id_from-start}
 use Rattle.rst_text.proofs.names.identifier_of.Goals as goal
 
 pub loop-c-init : goal.loop-c-init
-loop-c-init c = rw c.new-id.ensures.bytes (ap encode_utf8_all (id_from-start c.args.decomposed.now))
+loop-c-init c = rw c.in_ok-id.ensures.bytes (ap encode_utf8_all (id_from-start c.args.decomposed.now))
