@@ -62,7 +62,7 @@ impl CutLine {
 fn characters(alloc: Global, places: &[Place]) -> Result<Vec<char>, AllocError>
     ensures { IfOk result (λ text. text.items ≡ characters places.now) }
 {
-    let mut text = Vec::new(alloc);
+    let mut text = Vec::with_capacity(alloc, places.len())?;
     for place in places {
         if let Place::Character(c) = place {
             text.push(*c)?;
@@ -140,7 +140,7 @@ fn text_of(alloc: Global, characters: &[char]) -> Result<String, AllocError>
     requires { all_scalars characters.now ≡ true }
     ensures { IfOk result (λ text. chars_of text ≡ characters.now) }
 {
-    let mut text = String::new(alloc);
+    let mut text = String::with_capacity(alloc, characters.len())?;
     for c in characters {
         text.push(*c)?;
     }
@@ -177,7 +177,7 @@ fn cut_lines(
 ) -> Result<Vec<CutLine>, AllocError>
     ensures { IfOk result (λ cut. cut.items ≡ map (cell_line left right) lines.now) }
 {
-    let mut cut = Vec::new(alloc);
+    let mut cut = Vec::with_capacity(alloc, lines.len())?;
     for line in lines {
         cut.push(cut_line(alloc, line, left, right)?)?;
     }
@@ -188,7 +188,7 @@ fn cut_lines(
 fn shortened(alloc: Global, lines: &[CutLine], n: usize) -> Result<CellLines, AllocError>
     ensures { IfOk result (λ cell. cell ≡ map (spec.shorten n) lines.now) }
 {
-    let mut short = Vec::new(alloc);
+    let mut short = Vec::with_capacity(alloc, lines.len())?;
     for line in lines {
         let text = text_of(alloc, behind(line.text(), n))?;
         short.push((line.number(), text))?;

@@ -115,7 +115,7 @@ fn places_of(alloc: Global, text: &str) -> Result<Vec<Place>, AllocError>
 fn places_from(alloc: Global, characters: &[char]) -> Result<Vec<Place>, AllocError>
     ensures { IfOk result (λ places. places.items ≡ places_of characters.now) }
 {
-    let mut places = Vec::new(alloc);
+    let mut places = Vec::with_capacity(alloc, characters.len())?;
     for c in characters {
         places.push(Place::Character(*c))?;
         if is_double(*c) {

@@ -119,7 +119,7 @@ fn entry(alloc: Global, lines: &[TableLine], spans: &[Span], k: usize) -> Result
 fn entries(alloc: Global, lines: &[TableLine], spans: &[Span]) -> Result<Vec<Cell>, AllocError>
     ensures { IfOk result (λ cells. cells.items ≡ spec.entries lines.now spans.now) }
 {
-    let mut cells = Vec::new(alloc);
+    let mut cells = Vec::with_capacity(alloc, spans.len())?;
     for k in 0..spans.len() {
         cells.push(entry(alloc, lines, spans, k)?)?;
     }
