@@ -52,7 +52,7 @@ pub(crate) fn field(
         body.to,
         pass,
     )?;
-    let mut heads = Vec::new(alloc);
+    let mut heads = Vec::with_capacity(alloc, 2)?;
     heads.push(name.element)?;
     Ok(Step::Open {
         level: level.past(body.to),

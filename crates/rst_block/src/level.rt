@@ -7,7 +7,7 @@ ghost use Rattle.rst_block.specs.Steps as spec;
 use super::fault::BlockFault;
 use super::heading::Heading;
 use super::run::{ListKind, OpenList, Run};
-use super::texts::{Pass, appended, unindent};
+use super::texts::{Pass, appended, pushed, unindent};
 use rst_text::View;
 use rst_tree::Node;
 use std::alloc::Global;
@@ -60,11 +60,7 @@ impl Level {
     pub fn with(mut self, node: Node) -> Result<Level, BlockFault>
         ensures { IfOk result (λ l. l.at ≡ self.at) }
     {
-        if self.nodes.is_empty() {
-            // Most blocks inside others have one node.
-            self.nodes.reserve_exact(1)?;
-        }
-        self.nodes.push(node)?;
+        self.nodes = pushed(self.nodes, node)?;
         Ok(self)
     }
 
@@ -97,8 +93,7 @@ impl Level {
             headings,
         } = self;
         let ending = run.ending();
-        let made = run.nodes(alloc, depth, pass)?;
-        let mut nodes = appended(nodes, made)?;
+        let mut nodes = run.onto(alloc, nodes, depth, pass)?;
         if let Some((end, text)) = ending {
             if end == at && at < view.len() {
                 nodes.push(unindent(alloc, view.number(at), text)?)?;
@@ -152,6 +147,9 @@ impl Level {
     {
         match &mut self.run {
             Run::List(open) => {
+                if open.items.is_empty() {
+                    open.items.reserve_exact(1)?;
+                }
                 open.items.push(item)?;
                 Ok(self)
             }

@@ -45,7 +45,7 @@ pub(crate) fn option_item(
         body.to,
         pass,
     )?;
-    let mut heads = Vec::new(alloc);
+    let mut heads = Vec::with_capacity(alloc, 2)?;
     heads.push(group)?;
     Ok(Step::Open {
         level: level.past(body.to),

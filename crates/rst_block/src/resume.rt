@@ -10,7 +10,7 @@ use super::level::Level;
 use super::quote::quote_part;
 use super::step::Step;
 use super::substitution::{OpenReplacement, finished_replacement};
-use super::texts::{Pass, alone, appended, filled};
+use super::texts::{Pass, alone, appended, filled, pushed};
 use rst_elements::Texted;
 use rst_markup::Part;
 use rst_text::View;
@@ -75,8 +75,7 @@ pub(crate) fn resume(
             notes,
         } => {
             let body = filled(Node::element(alloc, body, line), appended(notes, nodes)?)?;
-            let children = appended(heads, alone(alloc, body)?)?;
-            let item = filled(Node::element(alloc, item, line), children)?;
+            let item = filled(Node::element(alloc, item, line), pushed(heads, body)?)?;
             Ok(Step::Next(level.with_item(item)?))
         }
         Waits::Quote {

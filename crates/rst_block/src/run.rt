@@ -5,7 +5,7 @@ ghost use Rattle.rst_markup.specs.Parts.{IsBlock, IsCall};
 ghost use Rattle.rst_block.specs.Steps as spec;
 
 use super::fault::BlockFault;
-use super::texts::{Pass, alone, appended, filled};
+use super::texts::{Pass, appended, filled, pushed};
 use rst_elements::{BarText, LineBlockFault, line_block};
 use rst_marks::{Enumerator, Format, Ordinals, Sequence, is_same_format, ordinal_in};
 use rst_tree::Node;
@@ -116,25 +116,26 @@ impl Run {
         }
     }
 
-    /// The nodes of the run, in a block of this depth.
-    pub fn nodes(
+    /// Nodes, and then those of the run, in a block of this depth.
+    pub fn onto(
         self,
         alloc: Global,
+        nodes: Vec<Node>,
         depth: usize,
         pass: &mut Pass,
     ) -> Result<Vec<Node>, BlockFault>
         ensures { pass.new.looks ≡ pass.old.looks }
     {
         match self {
-            Run::None | Run::Explicit { .. } => Ok(Vec::new(alloc)),
-            Run::List(open) => list_nodes(Box::into_inner(open)),
-            Run::Lines { lines, .. } => lines_nodes(alloc, lines, depth, pass),
+            Run::None | Run::Explicit { .. } => Ok(nodes),
+            Run::List(open) => with_list(nodes, Box::into_inner(open)),
+            Run::Lines { lines, .. } => with_lines(alloc, nodes, lines, depth, pass),
         }
     }
 }
 
-/// A list between its messages.
-fn list_nodes(open: OpenList) -> Result<Vec<Node>, BlockFault> {
+/// Nodes, and then a list between its messages.
+fn with_list(nodes: Vec<Node>, open: OpenList) -> Result<Vec<Node>, BlockFault> {
     let OpenList {
         before,
         list,
@@ -142,14 +143,15 @@ fn list_nodes(open: OpenList) -> Result<Vec<Node>, BlockFault> {
         behind,
         ..
     } = open;
-    let mut nodes = before;
-    nodes.push(filled(list, items)?)?;
+    let nodes = appended(nodes, before)?;
+    let nodes = pushed(nodes, filled(list, items)?)?;
     appended(nodes, behind)
 }
 
-/// A line block and the messages of its texts.
-fn lines_nodes(
+/// Nodes, and then a line block and the messages of its texts.
+fn with_lines(
     alloc: Global,
+    nodes: Vec<Node>,
     lines: Vec<BarText>,
     depth: usize,
     pass: &mut Pass,
@@ -157,7 +159,7 @@ fn lines_nodes(
     ensures { pass.new.looks ≡ pass.old.looks }
 {
     match line_block(alloc, lines, depth, DEEPEST, &mut pass.numbers) {
-        Ok(block) => appended(alone(alloc, block.element)?, block.notes),
+        Ok(block) => appended(pushed(nodes, block.element)?, block.notes),
         Err(LineBlockFault::TooDeep { line }) => Err(BlockFault::TooDeep { line }),
         Err(LineBlockFault::NoMemory) => Err(BlockFault::NoMemory),
     }

@@ -20,6 +20,9 @@ pub(crate) fn document(
     nodes: Vec<Node>,
     headings: Vec<Heading>,
 ) -> Result<Node, BlockFault> {
+    if headings.is_empty() {
+        return filled(Node::element(alloc, Tag::Document, 0), nodes);
+    }
     let mut sections = Sections {
         outer: Vec::new(alloc),
         current: OpenSection {

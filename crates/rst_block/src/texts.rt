@@ -21,7 +21,7 @@ pub(crate) struct Pass {
 
 /// Some characters of a text.
 pub(crate) fn excerpt(alloc: Global, text: &str, place: Characters) -> Result<String, AllocError> {
-    let mut part = String::new(alloc);
+    let mut part = String::with_capacity(alloc, 16)?;
     for c in skip(text, place.from)
         .chars()
         .take(place.to.saturating_sub(place.from))
@@ -31,13 +31,18 @@ pub(crate) fn excerpt(alloc: Global, text: &str, place: Characters) -> Result<St
     Ok(part)
 }
 
+/// How many bytes a text of some lines has that isn't long.
+fn usual_size(lines: usize) -> usize {
+    lines.min(12) * 80
+}
+
 /// The lines of a view, joined by line feeds.
 pub(crate) fn joined(alloc: Global, view: &View<'_>, pass: &mut Pass) -> Result<String, BlockFault>
     requires short { length (block_of view.now) < 2 ^ 64 }
     requires few { pass.old.looks < 2 ^ 120 }
     ensures { pass.new.looks ≤ pass.old.looks + 2 ^ 64 }
 {
-    let mut text = String::new(alloc);
+    let mut text = String::with_capacity(alloc, usual_size(view.len()))?;
     for i in 0..view.len() {
         if 0 < i {
             text.push('\n')?;
@@ -91,6 +96,15 @@ pub(crate) fn unindent(alloc: Global, line: usize, text: &str) -> Result<Node, B
 /// One node in a list of its own.
 pub(crate) fn alone(alloc: Global, node: Node) -> Result<Vec<Node>, BlockFault> {
     let mut nodes = Vec::with_capacity(alloc, 1)?;
+    nodes.push(node)?;
+    Ok(nodes)
+}
+
+/// Nodes, and then one more. A first one gets room for itself alone: most blocks inside others have one node.
+pub(crate) fn pushed(mut nodes: Vec<Node>, node: Node) -> Result<Vec<Node>, BlockFault> {
+    if nodes.is_empty() {
+        nodes.reserve_exact(1)?;
+    }
     nodes.push(node)?;
     Ok(nodes)
 }
