@@ -143,7 +143,7 @@ impl Reader for Counting {
     }
 }
 
-/// Takes out each second element that is met, and puts a transition behind each that stays.
+/// Puts a transition in the place of each second element that is met.
 #[derive(Drop)]
 struct Thinning {
     takes: bool,
@@ -152,32 +152,16 @@ struct Thinning {
 impl Rewriter for Thinning {
     ghost entered = { λ s n. record { takes = not s.takes } };
 
-    ghost becomes = { λ s n. if s.takes then Replace bare else kept n };
+    ghost becomes = { λ s n. if s.takes then Replace (forest_of (Element Transition [] bare 1 ∷ [])) else kept n };
 
-    ghost left = { λ s n. s };
-
-    ghost stands = { λ s n. forest_of (n ∷ Element Transition [] bare 1 ∷ []) };
-
-    fn enter(
-        &mut self,
-        alloc: Global,
-        tag: Tag,
-        attrs: Attrs,
-        _children: &Children,
-        line: usize,
-    ) -> Result<Rewrite, TreeFault> {
+    fn turn(&mut self, alloc: Global, element: &mut Node) -> Result<bool, TreeFault> {
         let takes = self.takes;
         self.takes = !takes;
         if takes {
-            Ok(Rewrite::Replace(Children::new(alloc)))
-        } else {
-            Ok(Rewrite::Keep { tag, attrs, line })
+            *element = Node::element(alloc, Tag::Transition, 1);
+            return Ok(false);
         }
-    }
-
-    fn leave(&mut self, alloc: Global, element: Node) -> Result<Children, TreeFault> {
-        let transition = Node::element(alloc, Tag::Transition, 1);
-        Ok(Children::of(vec![in alloc; element, transition]?))
+        Ok(matches!(element, Node::Element { .. }))
     }
 }
 
@@ -216,8 +200,8 @@ fn rewrites(rt: HostRuntime) -> Result<(), Fail> {
             holding(alloc, Tag::Note, "c")?,
         ],
     )?;
-    let nodes = Children::of(vec![in alloc; quote]?);
-    let children = rewrite_in(alloc, nodes, &mut Thinning { takes: false })?;
+    let mut children = Children::of(vec![in alloc; quote]?);
+    rewrite_in(alloc, &mut children, &mut Thinning { takes: false })?;
     let mut document = Node::element(alloc, Tag::Document, 1);
     if let Node::Element {
         children: place,
@@ -232,10 +216,10 @@ fn rewrites(rt: HostRuntime) -> Result<(), Fail> {
         "<document>
     <block_quote line=\"2\">
         x
+        <transition>
         <tip>
             b
         <transition>
-    <transition>
 "
     );
     Ok(())

@@ -1,16 +1,19 @@
 -- A rewriting, node by node.
-use Rattle.std.proofs.Common.{◌≡◌, ℕ, List, [], ◌∷◌, ◌++◌, append_assoc, refl, sym, ◌∙◌, ap}
-use Rattle.std.proofs.lemmas.List.{append-nil}
+use Rattle.std.proofs.Common.{◌≡◌, ℕ, ◌+◌, ◌<◌, ◌≤◌, List, [], ◌∷◌, ◌++◌, Bool, true, false, length, take, drop, get_or, set, length-set, append_assoc, append-nil, arith, refl, sym, ◌∙◌, ap}
+use Rattle.std.proofs.lemmas.List.{take_more_set, drop-set-lt, drop_all, take_all}
 use Rattle.rst_tree.specs.declared.attrs.Attr.{Attr}
 use Rattle.rst_tree.specs.declared.tag.Tag.{Tag}
 use Rattle.rst_tree.specs.declared.node.Node.{Node}
 use Rattle.rst_tree.specs.declared.node.Node.TheVariants.{Element, Text}
 use Rattle.rst_tree.specs.declared.rewriting.Rewrite.{Rewrite}
 use Rattle.rst_tree.specs.declared.rewriting.Rewrite.TheVariants.{Keep, Replace}
-use Rattle.rst_tree.specs.Forest.{Forest, bare, element, words}
-use Rattle.rst_tree.specs.Nodes.{forest_of, nodes_of}
-use Rattle.rst_tree.specs.Rewritten.{join, go_on, rewritten}
-use Rattle.rst_tree.proofs.Changes.{forest_of-nodes_of}
+use Rattle.rst_tree.specs.Forest.{Forest, bare, element, words, height}
+use Rattle.rst_tree.specs.Nodes.{forest_of, nodes_of, node_height}
+use Rattle.rst_tree.specs.Rewritten.{join, go_on, rewritten, Turned}
+use Rattle.rst_tree.proofs.Changes.{forest_of-nodes_of, nodes_of-forest_of}
+use Rattle.rst_tree.proofs.EachNode.{drop_item}
+use Rattle.rst_tree.proofs.Walks.{drop_next, same_item}
+use Rattle.rst_tree.proofs.PrintedParts.{node_height-le}
 
 nodes_of-join : (f g : Forest) → nodes_of (join f g) ≡ nodes_of f ++ nodes_of g
 nodes_of-join bare g = refl
@@ -36,37 +39,6 @@ module _ {S : Type 0} (entered : S → Node → S) (becomes : S → Node → Rew
   abbrev pub steps : S → List Node → List Node × S
   steps s [] = ([], s)
   steps s (n ∷ ns) = ((step s n).0 ++ (steps (step s n).1 ns).0, (steps (step s n).1 ns).1)
-
-  steps-more-nodes : (s : S) (ns : List Node) (n : Node) → (steps s (ns ++ n ∷ [])).0 ≡ (steps s ns).0 ++ (step (steps s ns).1 n).0
-  steps-more-nodes s [] n = append-nil (step s n).0
-  steps-more-nodes s (m ∷ ns) n =
-      ap (λ z. (step s m).0 ++ z) (steps-more-nodes (step s m).1 ns n) ∙ sym (append_assoc (step s m).0 (steps (step s m).1 ns).0 (step (steps (step s m).1 ns).1 n).0)
-
-  steps-more-state : (s : S) (ns : List Node) (n : Node) → (steps s (ns ++ n ∷ [])).1 ≡ (step (steps s ns).1 n).1
-  steps-more-state s [] n = refl
-  steps-more-state s (m ∷ ns) n = steps-more-state (step s m).1 ns n
-
-  -- one node more
-  pub more_nodes : (s u : S) (ns : List Node) (n : Node) (held more now : List Node) → held ≡ (steps s ns).0 → u ≡ (steps s ns).1 → more ≡ (step u n).0 → now ≡ held ++ more → now ≡ (steps s (ns ++ n ∷ [])).0
-  more_nodes s u ns n held more now old state is all = all ∙ (rw (old, is, state) refl) ∙ sym (steps-more-nodes s ns n)
-
-  pub more_state : (s u u' : S) (ns : List Node) (n : Node) → u ≡ (steps s ns).1 → u' ≡ (step u n).1 → u' ≡ (steps s (ns ++ n ∷ [])).1
-  more_state s u u' ns n state is = is ∙ ap (λ z. (step z n).1) state ∙ sym (steps-more-state s ns n)
-
-  -- what becomes of a text
-  pub step-text : (u : S) (n : Node) (t : List ℕ) → n ≡ Text t → step u n ≡ (Text t ∷ [], u)
-  step-text u n t is = ap (step u) is
-
-  -- what becomes of an element that is replaced
-  pub step-replace : (u u' : S) (n : Node) (t : Tag) (a : List Attr) (c : Forest) (l : ℕ) (r : Rewrite) (f : Forest) (more : List Node) → n ≡ Element t a c l → r ≡ becomes u (Element t a c l) → r ≡ Replace f → u' ≡ entered u (Element t a c l)
-      → more ≡ nodes_of f → step u n ≡ (more, u')
-  step-replace u u' n t a c l r f more is outcome kind state nodes = ap (step u) is ∙ (rw (← outcome, kind, nodes, state) refl)
-
-  -- what becomes of an element that stays
-  pub step-keep : (u u' v w : S) (n : Node) (t t' : Tag) (a a' : List Attr) (c c' : Forest) (l l' : ℕ) (r : Rewrite) (f : Forest) (more : List Node) → n ≡ Element t a c l → r ≡ becomes u (Element t a c l) → r ≡ Keep t' a' l'
-      → u' ≡ entered u (Element t a c l) → c' ≡ (redone u' c).0 → v ≡ (redone u' c).1 → w ≡ left v (Element t' a' c' l') → f ≡ stands v (Element t' a' c' l') → more ≡ nodes_of f → step u n ≡ (more, w)
-  step-keep u u' v w n t t' a a' c c' l l' r f more is outcome kind state inside then after stand nodes =
-      ap (step u) is ∙ (rw (← outcome, kind, nodes, stand, after, then, inside, state) refl)
 
   rewritten-nodes : (s : S) (ns : List Node) → nodes_of (redone s (forest_of ns)).0 ≡ (steps s ns).0
   rewritten-nodes s [] = refl
@@ -97,3 +69,111 @@ module _ {S : Type 0} (entered : S → Node → S) (becomes : S → Node → Rew
 
   pub all_state : (s u : S) (f : Forest) (ns : List Node) → f ≡ forest_of ns → u ≡ (steps s ns).1 → u ≡ (redone s f).1
   all_state s u f ns is all = rw is (all ∙ sym (rewritten-state s ns))
+
+-- nodes that are changed one after the other: those from a place on are as they were
+pub record Same (old now : Forest) (i : ℕ) : Type 0 where
+  pub same_len : length (nodes_of now) ≡ length (nodes_of old)
+  pub rest : drop i (nodes_of now) ≡ drop i (nodes_of old)
+
+pub Same-init : (f : Forest) → Same f f 0
+Same-init f = record { same_len = refl; rest = refl }
+
+pub Same-more : (old now : Forest) (i : ℕ) (new : Node) → Same old now i → i < length (nodes_of now) → Same old (forest_of (set (nodes_of now) i new)) (i + 1)
+Same-more old now i new same fits =
+    let ns = nodes_of now in
+    let set_is : nodes_of (forest_of (set ns i new)) ≡ set ns i new = nodes_of-forest_of (set ns i new) in
+    let kept : drop (i + 1) (set ns i new) ≡ drop (i + 1) ns = drop-set-lt (i + 1) ns i new (omega arith) in
+    let others : drop (i + 1) ns ≡ drop (i + 1) (nodes_of old) = drop_next i ns ∙ ap (drop 1) same.rest ∙ sym (drop_next i (nodes_of old)) in
+    record { same_len = rw (set_is, length-set ns i new) same.same_len; rest = rw (set_is, kept) others }
+
+-- the node that is met next is one of the old ones
+pub Same-child : (old now : Forest) (i : ℕ) (child : Node) → Same old now i → i < length (nodes_of now) → child ≡ get_or (nodes_of now) i child → node_height child ≤ height old
+Same-child old now i child same fits is =
+    let k : i < length (nodes_of old) = let e = same.same_len in omega arith in
+    let at : child ≡ get_or (nodes_of old) i child = is ∙ same_item i (nodes_of now) (nodes_of old) child same.rest in
+    let e : node_height child ≡ node_height (get_or (nodes_of old) i child) = ap node_height at in
+    let f : height (forest_of (nodes_of old)) ≡ height old = ap height (forest_of-nodes_of old) in
+    omega (arith, e, f, node_height-le (nodes_of old) i child k)
+
+module _ {S : Type 0} (entered : S → Node → S) (becomes : S → Node → Rewrite) where
+  -- what becomes of nodes, each of which stays or gives way to one
+  abbrev pub turns : S → List Node → List Node × S
+  turns = steps entered becomes (λ s n. s) (λ s n. forest_of (n ∷ []))
+
+  abbrev pub turned : S → Forest → Forest × S
+  turned = rewritten entered becomes (λ s n. s) (λ s n. forest_of (n ∷ []))
+
+  abbrev pub turn_of : S → Node → List Node × S
+  turn_of = step entered becomes (λ s n. s) (λ s n. forest_of (n ∷ []))
+
+  -- nodes rewritten before place i
+  pub record Turning (children : Forest) (start : S) (now : Forest) (state : S) (i : ℕ) : Type 0 where
+    pub same : Same children now i
+    pub nodes : take i (nodes_of now) ++ (turns state (drop i (nodes_of now))).0 ≡ (turns start (nodes_of children)).0
+    pub done : (turns state (drop i (nodes_of now))).1 ≡ (turns start (nodes_of children)).1
+
+  pub Turning-init : (c : Forest) (s : S) → Turning c s c s 0
+  Turning-init c s = record { same = Same-init c; nodes = refl; done = refl }
+
+  pub Turning-more : (children : Forest) (start : S) (now : Forest) (state : S) (i : ℕ) (child new : Node) (state' : S) → Turning children start now state i → i < length (nodes_of now)
+      → child ≡ get_or (nodes_of now) i child → turn_of state child ≡ (new ∷ [], state') → Turning children start (forest_of (set (nodes_of now) i new)) state' (i + 1)
+  Turning-more children start now state i child new state' left fits is turned_to =
+      let ns = nodes_of now in
+      let set_is : nodes_of (forest_of (set ns i new)) ≡ set ns i new = nodes_of-forest_of (set ns i new) in
+      let parts : drop i ns ≡ child ∷ drop (i + 1) ns = drop_item ns i child fits is in
+      let kept : drop (i + 1) (set ns i new) ≡ drop (i + 1) ns = drop-set-lt (i + 1) ns i new (omega arith) in
+      let nodes_then : take i ns ++ (new ∷ (turns state' (drop (i + 1) ns)).0) ≡ (turns start (nodes_of children)).0 = rw (parts, turned_to) at left.nodes in
+      let done_then : (turns state' (drop (i + 1) ns)).1 ≡ (turns start (nodes_of children)).1 =
+      ap (λ (p : List Node × S). (turns p.1 (drop (i + 1) ns)).1) (sym turned_to) ∙ ap (λ xs. (turns state xs).1) (sym parts) ∙ left.done in
+      record {
+        same = Same-more children now i new left.same fits;
+        nodes = rw (set_is, take_more_set ns i new fits, kept, append_assoc (take i ns) (new ∷ [])) nodes_then;
+        done = rw (set_is, kept) done_then;
+      }
+
+  pub Turning-nodes : (children : Forest) (start : S) (now : Forest) (state : S) (i : ℕ) → Turning children start now state i → length (nodes_of now) ≤ i → now ≡ (turned start children).0
+  Turning-nodes children start now state i left all =
+      let held : nodes_of now ≡ (turns start (nodes_of children)).0 = sym (append-nil (nodes_of now)) ∙ (rw (take_all i (nodes_of now) all, drop_all i (nodes_of now) all) at left.nodes) in
+      sym (forest_of-nodes_of now) ∙ all_nodes entered becomes (λ s n. s) (λ s n. forest_of (n ∷ [])) start children (nodes_of children) (nodes_of now) (sym (forest_of-nodes_of children)) held
+
+  pub Turning-state : (children : Forest) (start : S) (now : Forest) (state : S) (i : ℕ) → Turning children start now state i → length (nodes_of now) ≤ i → state ≡ (turned start children).1
+  Turning-state children start now state i left all =
+      all_state entered becomes (λ s n. s) (λ s n. forest_of (n ∷ [])) start state children (nodes_of children) (sym (forest_of-nodes_of children)) (rw (drop_all i (nodes_of now) all) at left.done)
+
+  -- a text
+  pub turn-text : (u : S) (n : Node) (t : List ℕ) → n ≡ Text t → turn_of u n ≡ (n ∷ [], u)
+  turn-text u n t is = rw is refl
+
+  -- an element that gave way
+  pub turn-away : (u u' : S) (n m : Node) (t : Tag) (a : List Attr) (c : Forest) (l : ℕ) (stays : Bool) → n ≡ Element t a c l → u' ≡ entered u n → Turned (becomes u n) n m stays → stays ≡ false → turn_of u n ≡ (m ∷ [], u')
+  turn-away u u' n m t a c l stays is state did gone =
+      rw (state, is) (away (becomes u (Element t a c l)) (rw is at did))
+    where
+      away : (r : Rewrite) → Turned r (Element t a c l) m stays → decided entered becomes (λ s n. s) (λ s n. forest_of (n ∷ [])) r (entered u (Element t a c l)) c ≡ (m ∷ [], entered u (Element t a c l))
+      away (Replace f) did = rw did.0 (rw (nodes_of-forest_of (m ∷ [])) refl)
+      away (Keep t' a' l') did = let z : true ≡ false = rw did.1 at gone in cc
+
+  -- an element with what stands in it rewritten
+  abbrev pub remade : S → Node → Node × S
+  remade u (Element t a c l) = (Element t a (turned u c).0 l, (turned u c).1)
+  remade u (Text x) = (Text x, u)
+
+  -- an element that stayed
+  pub turn-stay : (u u' v : S) (n m : Node) (t t' : Tag) (a a' : List Attr) (c c' d : Forest) (l l' : ℕ) (stays : Bool) → n ≡ Element t a c l → u' ≡ entered u n → Turned (becomes u n) n m stays → stays ≡ true → m ≡ Element t' a' c' l'
+      → d ≡ (turned u' c').0 → v ≡ (turned u' c').1 → turn_of u n ≡ (Element t' a' d l' ∷ [], v)
+  turn-stay u u' v n m t t' a a' c c' d l l' stays is state did there made inside after =
+      rw (inside, after, state, is) (stay (becomes u (Element t a c l)) (rw is at did) ∙ ap (λ x. ((remade (entered u (Element t a c l)) x).0 ∷ [], (remade (entered u (Element t a c l)) x).1)) made)
+    where
+      stay : (r : Rewrite) → Turned r (Element t a c l) m stays
+          → decided entered becomes (λ s n. s) (λ s n. forest_of (n ∷ [])) r (entered u (Element t a c l)) c ≡ ((remade (entered u (Element t a c l)) m).0 ∷ [], (remade (entered u (Element t a c l)) m).1)
+      stay (Replace f) did = let z : false ≡ true = rw did.1 at there in cc
+      stay (Keep t2 a2 l2) did = rw did.0 refl
+
+  -- it is as high as it was
+  pub turn-height : (u : S) (n m : Node) (t : Tag) (a : List Attr) (c : Forest) (l : ℕ) (stays : Bool) → n ≡ Element t a c l → Turned (becomes u n) n m stays → stays ≡ true → node_height m ≡ node_height n
+  turn-height u n m t a c l stays is did there =
+      rw is (high (becomes u (Element t a c l)) (rw is at did))
+    where
+      high : (r : Rewrite) → Turned r (Element t a c l) m stays → node_height m ≡ height c + 1
+      high (Replace f) did = let z : false ≡ true = rw did.1 at there in cc
+      high (Keep t2 a2 l2) did = ap node_height did.0

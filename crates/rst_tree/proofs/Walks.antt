@@ -13,13 +13,13 @@ use Rattle.rst_tree.proofs.PrintedParts.{node_height-le}
 use Rattle.rst_tree.specs.Walk.{Item, item, items, node_items, after, scanned, walked, walked_node, shape, node_shape, no_shape, branch, leaf}
 
 -- one item less
-drop_next : {X : Type 0} (i : ℕ) (xs : List X) → drop (i + 1) xs ≡ drop 1 (drop i xs)
+pub drop_next : {X : Type 0} (i : ℕ) (xs : List X) → drop (i + 1) xs ≡ drop 1 (drop i xs)
 drop_next zero [] = refl
 drop_next zero (x ∷ xs) = refl
 drop_next (suc i) [] = rw add-one refl
 drop_next (suc i) (x ∷ xs) = rw add-one (rw add-one at (drop_next i xs))
 
-same_item : {X : Type 0} (i : ℕ) (xs ys : List X) (d : X) → drop i xs ≡ drop i ys → get_or xs i d ≡ get_or ys i d
+pub same_item : {X : Type 0} (i : ℕ) (xs ys : List X) (d : X) → drop i xs ≡ drop i ys → get_or xs i d ≡ get_or ys i d
 same_item i xs ys d same =
     let e : get_or (drop i xs) 0 d ≡ get_or xs i d = rw add-zero at (get_or-drop i xs 0 d) in
     let f : get_or (drop i ys) 0 d ≡ get_or ys i d = rw add-zero at (get_or-drop i ys 0 d) in

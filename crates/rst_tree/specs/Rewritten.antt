@@ -1,4 +1,6 @@
 -- Elements replaced by nodes, or changed, in preorder, with a state.
+use Rattle.std.specs.Prelude.{◌≡◌, Bool, true, false, [], ◌∷◌}
+use Rattle.rst_tree.specs.Nodes.{forest_of}
 use Rattle.rst_tree.specs.declared.node.Node.{Node}
 use Rattle.rst_tree.specs.declared.node.Node.TheVariants.{Element, Text}
 use Rattle.rst_tree.specs.declared.rewriting.Rewrite.{Rewrite}
@@ -15,6 +17,13 @@ join (words t f) r = words t (join f r)
 abbrev pub kept : Node → Rewrite
 kept (Element t a c l) = Keep t a l
 kept (Text t) = Replace (words t bare)
+
+-- What becomes of an element was done to it: one node stands in its place; or it stays with other things of its own, and what
+-- stands in it is as it was.
+abbrev pub Turned : Rewrite → Node → Node → Bool → Type 0
+Turned (Replace f) old new stays = (f ≡ forest_of (new ∷ [])) × (stays ≡ false)
+Turned (Keep t a l) (Element t' a' c l') new stays = (new ≡ Element t a c l) × (stays ≡ true)
+Turned (Keep t a l) (Text x) new stays = ⊥
 
 module _ {S : Type 0} (entered : S → Node → S) (becomes : S → Node → Rewrite) (left : S → Node → S) (stands : S → Node → Forest) where
   -- What becomes of an element and of the nodes behind it, and the state then. Other nodes stand in its place; or it stays,

@@ -1,53 +1,48 @@
-use Rattle.std.proofs.Common.{◌+◌, ◌≤◌, rules, ◌∙◌, sym, ap, map-id}
-use Rattle.std.proofs.lemmas.Iterator.Consumers.{YieldsList-turn, YieldsList-end}
-use Rattle.std.proofs.lemmas.Iterator.Adapters.{YieldsList-from_vec}
+use Rattle.std.proofs.Common.{rules, arith, ◌≡◌, ◌+◌, ◌<◌, ◌≤◌, length, ap}
 use Rattle.rst_tree.specs.Forest.{height}
-use Rattle.rst_tree.specs.Nodes.{forest_of}
-use Rattle.rst_tree.proofs.PrintedParts.{inside_lower}
-use Rattle.rst_tree.proofs.Rewrites.{more_nodes, more_state, step-text, step-replace, step-keep, all_nodes, all_state}
+use Rattle.rst_tree.specs.Nodes.{nodes_of, node_height}
+use Rattle.rst_tree.proofs.Rewrites.{Same-child, Turning-init, Turning-more, Turning-nodes, Turning-state, turn-text, turn-away, turn-stay, turn-height}
 use Rattle.rst_tree.proofs.rewriting.+rewrite_in.Goals as goal
+
+pub loop-i-init : goal.loop-i-init
+loop-i-init g t c = Turning-init g.R.Rewriter.entered g.R.Rewriter.becomes _ _
+
+pub loop-i-preserved-in-Text : goal.loop-i-preserved-in-Text
+loop-i-preserved-in-Text g t c =
+    Turning-more g.R.Rewriter.entered g.R.Rewriter.becomes _ _ c.loop-i.nodes c.loop-i.rewriter c.loop-i.i c.get_mut-node.result.now c.get_mut-node.result.now c.loop-i.rewriter c.loop-i.invariant
+    (omega (arith, c.loop-i.invariant.same.same_len, c.len-i-end.ensures)) c.get_mut-node.ensures.value (turn-text g.R.Rewriter.entered g.R.Rewriter.becomes c.loop-i.rewriter c.get_mut-node.result.now c.in-Text.field-0 c.in-Text.is)
+
+pub loop-i-preserved-then-not-branch : goal.loop-i-preserved-then-not-branch
+loop-i-preserved-then-not-branch g t c =
+    Turning-more g.R.Rewriter.entered g.R.Rewriter.becomes _ _ c.loop-i.nodes c.loop-i.rewriter c.loop-i.i c.get_mut-node.result.now c.turn.new.element c.turn.new.self c.loop-i.invariant
+    (omega (arith, c.loop-i.invariant.same.same_len, c.len-i-end.ensures)) c.get_mut-node.ensures.value
+    (turn-away g.R.Rewriter.entered g.R.Rewriter.becomes c.loop-i.rewriter c.turn.new.self c.get_mut-node.result.now c.turn.new.element c.in-Element.tag c.in-Element.attrs c.in-Element.children c.in-Element.line c.in_ok-turn.field-0
+    c.in-Element.is c.in_ok-turn.ensures.state c.in_ok-turn.ensures.outcome c.if-not-branch.true)
 
 pub rewrite_in-requires : goal.rewrite_in-requires
 rewrite_in-requires g t c κs within =
-    let turn = YieldsList-turn (YieldsList-from_vec {s = c.into_iter-node-iterator.result} c.into_list-node-items.result.items (search rules) (search rules))
-    c.loop-node.yielded c.loop-node.node-iterator c.loop-node.yielded_by c.next.result c.next.new.self c.in-Some.node c.in-Some.is c.next.ensures.steps in
-    let h : height c.in-Element.children + 1 ≤ height c.args.nodes =
-    inside_lower c.in-Some.node c.in-Element.tag c.in-Element.attrs c.in-Element.children c.args.nodes c.in-Element.line c.into_list-node-items.result.items _
-    c.in-Element.is c.into_list-node-items.ensures.forest turn.1 turn.0 in
+    let e : node_height c.turn.new.element ≡ node_height c.get_mut-node.result.now =
+    turn-height g.R.Rewriter.entered g.R.Rewriter.becomes c.loop-i.rewriter c.get_mut-node.result.now c.turn.new.element c.in-Element.tag c.in-Element.attrs c.in-Element.children c.in-Element.line c.in_ok-turn.field-0
+    c.in-Element.is c.in_ok-turn.ensures.outcome c.if-not-branch.false in
+    let m : node_height c.turn.new.element ≡ height c.in-Element-node.children + 1 = ap node_height c.in-Element-node.is in
+    let k : node_height c.get_mut-node.result.now ≤ height c.args.nodes.now =
+    Same-child _ c.loop-i.nodes c.loop-i.i c.get_mut-node.result.now c.loop-i.invariant.same (omega (arith, c.loop-i.invariant.same.same_len, c.len-i-end.ensures)) c.get_mut-node.ensures.value in
+    let h : height c.in-Element-node.children + 1 ≤ height c.args.nodes.now = omega (arith, e, m, k) in
     search (rules, h)
 
-pub loop-node-preserved-in-Text : goal.loop-node-preserved-in-Text
-loop-node-preserved-in-Text g t c =
-    let s = step-text g.R.Rewriter.entered g.R.Rewriter.becomes g.R.Rewriter.left g.R.Rewriter.stands c.loop-node.rewriter c.in-Some.node c.in-Text.text c.in-Text.is in record {
-      nodes = more_nodes g.R.Rewriter.entered g.R.Rewriter.becomes g.R.Rewriter.left g.R.Rewriter.stands c.args.rewriter.now c.loop-node.rewriter c.loop-node.yielded c.in-Some.node _ _ _ c.loop-node.invariant.nodes c.loop-node.invariant.state (sym (ap (λ z. z.0) s)) c.in_ok-push-in-Text.ensures.items;
-      state = more_state g.R.Rewriter.entered g.R.Rewriter.becomes g.R.Rewriter.left g.R.Rewriter.stands c.args.rewriter.now c.loop-node.rewriter _ c.loop-node.yielded c.in-Some.node c.loop-node.invariant.state (sym (ap (λ z. z.1) s));
-    }
-
-pub loop-node-preserved-in-Replace : goal.loop-node-preserved-in-Replace
-loop-node-preserved-in-Replace g t c =
-    let s = step-replace g.R.Rewriter.entered g.R.Rewriter.becomes g.R.Rewriter.left g.R.Rewriter.stands c.loop-node.rewriter c.enter.new.self c.in-Some.node c.in-Element.tag c.in-Element.attrs c.in-Element.children c.in-Element.line c.in_ok-more-in-Element.field-0 c.in-Replace.more c.into_list.result.items
-    c.in-Element.is c.in_ok-more-in-Element.ensures.outcome c.in-Replace.is c.in_ok-more-in-Element.ensures.state c.into_list.ensures.nodes in record {
-      nodes = more_nodes g.R.Rewriter.entered g.R.Rewriter.becomes g.R.Rewriter.left g.R.Rewriter.stands c.args.rewriter.now c.loop-node.rewriter c.loop-node.yielded c.in-Some.node _ _ _ c.loop-node.invariant.nodes c.loop-node.invariant.state (sym (ap (λ z. z.0) s)) c.in_ok-done-in-Replace.ensures;
-      state = more_state g.R.Rewriter.entered g.R.Rewriter.becomes g.R.Rewriter.left g.R.Rewriter.stands c.args.rewriter.now c.loop-node.rewriter _ c.loop-node.yielded c.in-Some.node c.loop-node.invariant.state (sym (ap (λ z. z.1) s));
-    }
-
-pub loop-node-preserved : goal.loop-node-preserved
-loop-node-preserved g t c =
-    let s = step-keep g.R.Rewriter.entered g.R.Rewriter.becomes g.R.Rewriter.left g.R.Rewriter.stands c.loop-node.rewriter c.enter.new.self c.rewrite_in.new.rewriter c.leave.new.self c.in-Some.node c.in-Element.tag c.in-Keep.tag c.in-Element.attrs c.in-Keep.attrs c.in-Element.children c.in_ok-children-in-Keep.children c.in-Element.line c.in-Keep.line c.in_ok-more-in-Element.field-0 c.in_ok-more-in-Keep.more c.into_list-in-Keep.result.items
-    c.in-Element.is c.in_ok-more-in-Element.ensures.outcome c.in-Keep.is c.in_ok-more-in-Element.ensures.state c.in_ok-children-in-Keep.ensures.nodes c.in_ok-children-in-Keep.ensures.state c.in_ok-more-in-Keep.ensures.state c.in_ok-more-in-Keep.ensures.nodes c.into_list-in-Keep.ensures.nodes in record {
-      nodes = more_nodes g.R.Rewriter.entered g.R.Rewriter.becomes g.R.Rewriter.left g.R.Rewriter.stands c.args.rewriter.now c.loop-node.rewriter c.loop-node.yielded c.in-Some.node _ _ _ c.loop-node.invariant.nodes c.loop-node.invariant.state (sym (ap (λ z. z.0) s)) c.in_ok-done-in-Keep.ensures;
-      state = more_state g.R.Rewriter.entered g.R.Rewriter.becomes g.R.Rewriter.left g.R.Rewriter.stands c.args.rewriter.now c.loop-node.rewriter _ c.loop-node.yielded c.in-Some.node c.loop-node.invariant.state (sym (ap (λ z. z.1) s));
-    }
+pub loop-i-preserved : goal.loop-i-preserved
+loop-i-preserved g t c =
+    Turning-more g.R.Rewriter.entered g.R.Rewriter.becomes _ _ c.loop-i.nodes c.loop-i.rewriter c.loop-i.i c.get_mut-node.result.now _ c.rewrite_in.new.rewriter c.loop-i.invariant
+    (omega (arith, c.loop-i.invariant.same.same_len, c.len-i-end.ensures)) c.get_mut-node.ensures.value
+    (turn-stay g.R.Rewriter.entered g.R.Rewriter.becomes c.loop-i.rewriter c.turn.new.self c.rewrite_in.new.rewriter c.get_mut-node.result.now c.turn.new.element c.in-Element.tag c.in-Element-node.tag c.in-Element.attrs c.in-Element-node.attrs
+    c.in-Element.children c.in-Element-node.children c.rewrite_in.new.nodes c.in-Element.line c.in-Element-node.line c.in_ok-turn.field-0
+    c.in-Element.is c.in_ok-turn.ensures.state c.in_ok-turn.ensures.outcome c.if-not-branch.false c.in-Element-node.is
+    c.in_ok-rewrite_in-in-Element-node.ensures.nodes c.in_ok-rewrite_in-in-Element-node.ensures.state)
 
 pub returns-clause-nodes : goal.returns-clause-nodes
 returns-clause-nodes g t c =
-    let end = YieldsList-end (YieldsList-from_vec {s = c.into_iter-node-iterator.result} c.into_list-node-items.result.items (search rules) (search rules))
-    c.loop-node.yielded c.loop-node.node-iterator c.loop-node.yielded_by c.next.result c.next.new.self c.in-None.is c.next.ensures.steps in
-    c.of.ensures
-    ∙ all_nodes g.R.Rewriter.entered g.R.Rewriter.becomes g.R.Rewriter.left g.R.Rewriter.stands c.args.rewriter.now c.args.nodes c.loop-node.yielded _ (c.into_list-node-items.ensures.forest ∙ ap forest_of (sym end.0 ∙ map-id c.loop-node.yielded)) c.loop-node.invariant.nodes
+    Turning-nodes g.R.Rewriter.entered g.R.Rewriter.becomes _ _ _ _ _ c.loop-i.invariant (omega (arith, c.loop-i.invariant.same.same_len, c.len-i-end.ensures))
 
 pub returns-clause-state : goal.returns-clause-state
 returns-clause-state g t c =
-    let end = YieldsList-end (YieldsList-from_vec {s = c.into_iter-node-iterator.result} c.into_list-node-items.result.items (search rules) (search rules))
-    c.loop-node.yielded c.loop-node.node-iterator c.loop-node.yielded_by c.next.result c.next.new.self c.in-None.is c.next.ensures.steps in
-    all_state g.R.Rewriter.entered g.R.Rewriter.becomes g.R.Rewriter.left g.R.Rewriter.stands c.args.rewriter.now _ c.args.nodes c.loop-node.yielded (c.into_list-node-items.ensures.forest ∙ ap forest_of (sym end.0 ∙ map-id c.loop-node.yielded)) c.loop-node.invariant.state
+    Turning-state g.R.Rewriter.entered g.R.Rewriter.becomes _ _ _ _ _ c.loop-i.invariant (omega (arith, c.loop-i.invariant.same.same_len, c.len-i-end.ensures))
