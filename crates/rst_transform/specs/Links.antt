@@ -1,12 +1,12 @@
 -- What the changes of linked elements, taken in turn, make of the elements of a tree.
-use Rattle.std.specs.Prelude.{ℕ, List, [], ◌∷◌, drop, if◌then◌else◌, Option, Some, None}
+use Rattle.std.specs.Prelude.{◌≡◌, Bool, true, false, ℕ, List, [], ◌∷◌, drop, if◌then◌else◌, Option, Some, None}
 use Rattle.rst_tree.specs.declared.attrs.Attr.{Attr}
 use Rattle.rst_tree.specs.declared.node.Node.{Node}
 use Rattle.rst_tree.specs.declared.node.Node.TheVariants.{Element, Text}
 use Rattle.rst_tree.specs.declared.rewriting.Rewrite.{Rewrite}
 use Rattle.rst_tree.specs.declared.rewriting.Rewrite.TheVariants.{Keep, Replace}
 use Rattle.rst_tree.specs.declared.tag.Tag.{Tag}
-use Rattle.rst_tree.specs.Forest.{bare, words}
+use Rattle.rst_tree.specs.Forest.{Forest, bare, words}
 use Rattle.rst_tree.specs.Nodes.{forest_of}
 use Rattle.rst_tree.specs.Rewritten.{kept, rewritten}
 use Rattle.rst_transform.specs.declared.links.Change.{Change}
@@ -17,6 +17,11 @@ use Rattle.rst_transform.specs.LinkKinds.{is_linked, with_more}
 abbrev pub shown_as : Option (List ℕ) → Tag → List Attr → ℕ → Rewrite
 shown_as None t a l = Keep t a l
 shown_as (Some text) t a l = Replace (forest_of (Element t a (words text bare) l ∷ []))
+
+-- what stands in an element that may show a text in its place, and whether that stays
+abbrev pub Shows : Option (List ℕ) → Forest → Forest → Bool → Type 0
+Shows None old new stays = (new ≡ old) × (stays ≡ true)
+Shows (Some text) old new stays = (new ≡ words text bare) × (stays ≡ false)
 
 -- what the first change makes of an element
 abbrev pub changed_by : List Change → Tag → List Attr → ℕ → Rewrite

@@ -261,7 +261,7 @@ fn expanded_in(
     within: Option<usize>,
     work: &mut Work,
 ) -> Result<Children, TreeFault> {
-    let mut done = Vec::new(alloc);
+    let mut done = Vec::with_capacity(alloc, nodes.len())?;
     for node in nodes.into_list() {
         match node {
             Node::Text(text) => done.push(Node::Text(text))?,

@@ -102,7 +102,7 @@ fn filtered(
 ) -> Result<Children, TreeFault>
     ensures { Gives (λ nodes. are_shown report nodes ≡ true) result }
 {
-    let mut done = Vec::new(alloc);
+    let mut done = Vec::with_capacity(alloc, nodes.len())?;
     for node in nodes.into_list() {
         match node {
             Node::Text(text) => done.push(Node::Text(text))?,

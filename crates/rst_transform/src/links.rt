@@ -1,17 +1,12 @@
 //! The elements that references join, and what the transforms of references make of them.
-ghost use Rattle.std.specs.Prelude.{◌≡◌, ◌∷◌, []};
-ghost use Rattle.rst_tree.specs.declared.node.Node.TheVariants.{Element};
+ghost use Rattle.std.specs.Prelude.{◌≡◌};
 ghost use Rattle.rst_tree.specs.Faults.{Gives};
-ghost use Rattle.rst_tree.specs.Forest.{bare, words};
-ghost use Rattle.rst_tree.specs.Nodes.{forest_of};
 ghost use Rattle.rst_transform.specs.LinkKinds.{is_linked, with_more};
-ghost use Rattle.rst_transform.specs.Links.{changed_root};
+ghost use Rattle.rst_transform.specs.Links.{Shows, changed_root};
 
 use crate::reading::{line_of, text_said};
 use crate::work::Work;
-use rst_tree::{
-    Attr, Attrs, Children, Key, Node, Rewrite, Rewriter, Tag, Text, TreeFault, rewrite_in,
-};
+use rst_tree::{Attr, Attrs, Children, Key, Node, Rewriter, Tag, Text, TreeFault, rewrite_in};
 use std::alloc::Global;
 use std::collections::VecDeque;
 use std::marker::Model;
@@ -288,45 +283,27 @@ fn is_idle(change: &Change) -> bool {
     }
 }
 
-/// Attributes, and one more if there is one.
-fn with_attr(mut attrs: Attrs, more: Option<Attr>) -> Result<Attrs, TreeFault>
-    ensures { Gives (λ all. all ≡ with_more more attrs) result }
+/// Adds an attribute, if there is one.
+fn add(attrs: &mut Attrs, more: Option<Attr>) -> Result<(), TreeFault>
+    ensures { Gives (λ _. attrs.new ≡ with_more more attrs.old) result }
 {
     if let Some(attr) = more {
         attrs.set(attr.key, attr.value)?;
     }
-    Ok(attrs)
+    Ok(())
 }
 
-/// One node.
-fn lone(alloc: Global, node: Node) -> Result<Children, TreeFault>
-    ensures { Gives (λ nodes. nodes ≡ forest_of (node ∷ [])) result }
+/// Puts a text in the place of some nodes, if there is one, and tells whether the nodes stay.
+fn show(alloc: Global, nodes: &mut Children, text: Option<Text>) -> Result<bool, TreeFault>
+    ensures { Gives (λ stays. Shows text nodes.old nodes.new stays) result }
 {
-    let mut nodes = Children::new(alloc);
-    nodes.push(node)?;
-    Ok(nodes)
-}
-
-/// An element that shows a text.
-fn showing(
-    alloc: Global,
-    tag: Tag,
-    attrs: Attrs,
-    text: Text,
-    line: usize,
-) -> Result<Children, TreeFault>
-    ensures { Gives (λ nodes. nodes ≡ forest_of (Element tag attrs (words text bare) line ∷ [])) result }
-{
-    let children = lone(alloc, Node::Text(text))?;
-    lone(
-        alloc,
-        Node::Element {
-            tag,
-            attrs,
-            children,
-            line,
-        },
-    )
+    match text {
+        Some(text) => {
+            *nodes = Children::lone(alloc, Node::Text(text))?;
+            Ok(false)
+        }
+        None => Ok(true),
+    }
 }
 
 impl Rewriter for Changes {
@@ -336,36 +313,27 @@ impl Rewriter for Changes {
 
     ghost becomes = { change_of };
 
-    ghost left = { λ s n. s };
-
-    ghost stands = { λ s n. forest_of (n ∷ []) };
-
-    fn enter(
-        &mut self,
-        alloc: Global,
-        tag: Tag,
-        attrs: Attrs,
-        _children: &Children,
-        line: usize,
-    ) -> Result<Rewrite, TreeFault> {
-        if !is_linked(tag) {
-            return Ok(Rewrite::Keep { tag, attrs, line });
-        }
-        match self.left.pop_front() {
-            Some(Change::Becomes(node)) => Ok(Rewrite::Replace(lone(alloc, node)?)),
-            Some(Change::Stays(addition)) => {
-                let attrs = with_attr(attrs, addition.attr)?;
-                match addition.shown {
-                    Some(text) => Ok(Rewrite::Replace(showing(alloc, tag, attrs, text, line)?)),
-                    None => Ok(Rewrite::Keep { tag, attrs, line }),
-                }
+    fn turn(&mut self, alloc: Global, element: &mut Node) -> Result<bool, TreeFault> {
+        if let Node::Element {
+            tag,
+            attrs,
+            children,
+            ..
+        } = element
+        {
+            if !is_linked(*tag) {
+                return Ok(true);
             }
-            None => Ok(Rewrite::Keep { tag, attrs, line }),
+            match self.left.pop_front() {
+                None => return Ok(true),
+                Some(Change::Stays(addition)) => {
+                    add(attrs, addition.attr)?;
+                    return show(alloc, children, addition.shown);
+                }
+                Some(Change::Becomes(node)) => *element = node,
+            }
         }
-    }
-
-    fn leave(&mut self, alloc: Global, element: Node) -> Result<Children, TreeFault> {
-        lone(alloc, element)
+        Ok(false)
     }
 }
 
@@ -385,24 +353,11 @@ pub(crate) fn put_back(
 }
 
 /// A tree in which its linked elements changed.
-fn with_changes(alloc: Global, root: Node, mut changes: Changes) -> Result<Node, TreeFault>
+fn with_changes(alloc: Global, mut root: Node, mut changes: Changes) -> Result<Node, TreeFault>
     ensures { Gives (λ node. node ≡ changed_root changes root) result }
 {
-    match root {
-        Node::Element {
-            tag,
-            attrs,
-            children,
-            line,
-        } => {
-            let children = rewrite_in(alloc, children, &mut changes)?;
-            Ok(Node::Element {
-                tag,
-                attrs,
-                children,
-                line,
-            })
-        }
-        text => Ok(text),
+    if let Node::Element { children, .. } = &mut root {
+        rewrite_in(alloc, children, &mut changes)?;
     }
+    Ok(root)
 }

@@ -216,7 +216,7 @@ fn moved(
     moving: &mut Moving,
     names: &mut Names,
 ) -> Result<Children, TreeFault> {
-    let mut done = Vec::new(alloc);
+    let mut done = Vec::with_capacity(alloc, nodes.len())?;
     for node in nodes.into_list() {
         match node {
             Node::Text(text) => {

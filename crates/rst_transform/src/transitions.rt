@@ -65,7 +65,7 @@ fn place_in(
     escape: bool,
     work: &mut Work,
 ) -> Result<Placed, TreeFault> {
-    let mut place = Place::first(alloc, nodes.len(), escape);
+    let mut place = Place::first(alloc, nodes.len(), escape)?;
     for node in nodes.into_list() {
         place.left = place.left.saturating_sub(1);
         match node {
@@ -111,15 +111,15 @@ struct Place {
 
 impl Place {
     /// The place before the first of so many nodes.
-    fn first(alloc: Global, left: usize, escape: bool) -> Place {
-        Place {
+    fn first(alloc: Global, left: usize, escape: bool) -> Result<Place, TreeFault> {
+        Ok(Place {
             left,
             escape,
             placed: Placed {
-                nodes: Vec::new(alloc),
+                nodes: Vec::with_capacity(alloc, left)?,
                 moving: Vec::new(alloc),
             },
-        }
+        })
     }
 
     /// Whether transitions that move out of an element of a kind at this place stand behind it: out of a section that isn't the
