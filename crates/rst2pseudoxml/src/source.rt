@@ -51,8 +51,5 @@ pub fn with_source(alloc: Global, tree: Tree, source: &str) -> Result<Tree, Tree
         source: Text::from_str(alloc, source)?,
     };
     let root = walk(tree.into_root(), &mut sourcing)?;
-    match Tree::of(root) {
-        Ok(tree) => Ok(tree),
-        Err(_) => unreachable!(),
-    }
+    Ok(Tree::sound(root))
 }

@@ -34,10 +34,11 @@ impl Ids {
             let base = tag_id(alloc, tag)?;
             return self.give_numbered(alloc, base);
         }
-        if self.taken.contains(wanted.as_str()) {
-            return self.give_numbered(alloc, wanted);
+        let id = Text::from_str(alloc, wanted.as_str())?;
+        if self.taken.insert(wanted)? {
+            return Ok(id);
         }
-        self.take(alloc, wanted)
+        self.give_numbered(alloc, id.into_string())
     }
 
     /// Takes the first free id of a text, a hyphen and a number.
@@ -46,38 +47,34 @@ impl Ids {
             Some(next) => *next,
             None => 1,
         };
-        let (number, id) = self.least_free(alloc, base.as_str(), first)?;
+        let (number, id) = self.take_free(alloc, base.as_str(), first)?;
         self.next.insert(base, number.saturating_add(1))?;
-        self.take(alloc, id)
+        Ok(id)
     }
 
-    /// The least number from `first` on that makes an id free behind a text and a hyphen, and that id.
+    /// Takes the least number from `first` on that makes an id free behind a text and a hyphen, and that id.
     ///
-    /// Each taken id hinders one number at most, so as many steps as there are taken ids are enough. Ids stay taken, so a
-    /// number that was passed over need never be looked at again.
-    fn least_free(
-        &self,
+    /// Each taken id hinders one number at most, so no more steps than there are taken ids come before the last. Ids stay
+    /// taken, so a number that was passed over need never be looked at again.
+    fn take_free(
+        &mut self,
         alloc: Global,
         base: &str,
         first: u64,
-    ) -> Result<(u64, String), TreeFault> {
+    ) -> Result<(u64, Text), TreeFault> {
         let mut number = first;
-        let mut id = numbered(alloc, base, number)?;
         for _ in 0..self.taken.len() {
-            if !self.taken.contains(id.as_str()) {
-                break;
+            let id = numbered(alloc, base, number)?;
+            let text = Text::from_str(alloc, id.as_str())?;
+            if self.taken.insert(id)? {
+                return Ok((number, text));
             }
             number = number.saturating_add(1);
-            id = numbered(alloc, base, number)?;
         }
-        Ok((number, id))
-    }
-
-    /// Takes an id.
-    fn take(&mut self, alloc: Global, id: String) -> Result<Text, TreeFault> {
+        let id = numbered(alloc, base, number)?;
         let text = Text::from_str(alloc, id.as_str())?;
         self.taken.insert(id)?;
-        Ok(text)
+        Ok((number, text))
     }
 }
 
@@ -92,7 +89,7 @@ fn id_text(alloc: Global, name: &str) -> Result<String, TreeFault> {
 
 /// The name of a kind of elements, with hyphens.
 fn tag_id(alloc: Global, tag: Tag) -> Result<String, TreeFault> {
-    let mut id = String::new(alloc);
+    let mut id = String::with_capacity(alloc, tag.name().len())?;
     for c in tag.name().chars() {
         id.push(if c == '_' { '-' } else { c })?;
     }
@@ -102,8 +99,13 @@ fn tag_id(alloc: Global, tag: Tag) -> Result<String, TreeFault> {
 /// A text, a hyphen and a number.
 fn numbered(alloc: Global, base: &str, number: u64) -> Result<String, TreeFault> {
     let mut buffer = itoa::Buffer::new();
-    let mut id = String::from_str(alloc, base)?;
+    let digits = buffer.format(number);
+    let mut id = String::with_capacity(
+        alloc,
+        base.len().saturating_add(digits.len()).saturating_add(1),
+    )?;
+    id.push_str(base)?;
     id.push('-')?;
-    id.push_str(buffer.format(number))?;
+    id.push_str(digits)?;
     Ok(id)
 }

@@ -104,19 +104,19 @@ struct Placing {
 }
 
 impl Placing {
-    /// Before the first node in an element.
-    fn new(alloc: Global, parent: Tag, due: Dues) -> Placing {
-        Placing {
+    /// Before the first node in an element, with room for so many.
+    fn new(alloc: Global, parent: Tag, room: usize, due: Dues) -> Result<Placing, TreeFault> {
+        Ok(Placing {
             parent,
             placed: Placed {
-                nodes: Vec::new(alloc),
+                nodes: Vec::with_capacity(alloc, room)?,
                 before: Vec::new(alloc),
                 of_text: Vec::new(alloc),
                 outward: Dues::new(alloc),
             },
             due,
             inward: Dues::new(alloc),
-        }
+        })
     }
 
     /// Puts a text.
@@ -266,7 +266,7 @@ fn place_in(
     due: Dues,
     notices: &mut Notices,
 ) -> Result<Placed, TreeFault> {
-    let mut placing = Placing::new(alloc, parent, due);
+    let mut placing = Placing::new(alloc, parent, nodes.len(), due)?;
     for node in nodes.into_list() {
         match node {
             Node::Text(text) => {

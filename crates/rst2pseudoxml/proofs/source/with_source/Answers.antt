@@ -4,14 +4,12 @@ use Rattle.rst2pseudoxml.specs.Source.{with_source}
 use Rattle.rst2pseudoxml.proofs.SourceLemmas.{root_with_source, root_is_tree}
 use Rattle.rst2pseudoxml.proofs.source.with_source.Goals as goal
 
-pub unreachable-requires : goal.unreachable-requires
-unreachable-requires c =
+pub sound-requires : goal.sound-requires
+sound-requires c =
     let root : c.in_ok-root.root ≡ with_source c.args.source.now c.args.tree =
     root_with_source (λ (s : Sourcing). s.source) _ _ _ _ _ c.in_ok-root.ensures.node c.in_ok-from_str.ensures c.into_root.ensures.root in
-    let tree = root_is_tree _ _ _ _ root c.into_root.ensures.root c.into_root.ensures.tree in
-    let none = c.in-Err.ensures.0 in
-    cc
+    root_is_tree _ _ _ _ root c.into_root.ensures.root c.into_root.ensures.tree
 
 pub returns : goal.returns
 returns c =
-    c.in-Ok.ensures.1 ∙ root_with_source (λ (s : Sourcing). s.source) _ _ _ _ _ c.in_ok-root.ensures.node c.in_ok-from_str.ensures c.into_root.ensures.root
+    c.sound.ensures ∙ root_with_source (λ (s : Sourcing). s.source) _ _ _ _ _ c.in_ok-root.ensures.node c.in_ok-from_str.ensures c.into_root.ensures.root
