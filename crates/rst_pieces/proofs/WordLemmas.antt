@@ -7,11 +7,12 @@ use Rattle.std.proofs.lemmas.Bool.{ltb-true, lt-ltb, eqb-true, and_parts, cases_
 use Rattle.std.proofs.lemmas.Bool.Decides.{nat_tests}
 use Rattle.rst_text.specs.Characters.{is_white}
 use Rattle.rst_text.specs.Places.{all_from}
+use Rattle.rst_text.proofs.CharacterLemmas.{is_alphanumeric-ascii}
 use Rattle.rst_text.proofs.PlacesLemmas.{cases_bool, lt_eq_gt, all_from-at, all_from-stop, last_from-is}
-use Rattle.rst_pieces.specs.Characters.{Text, has, may_precede}
+use Rattle.rst_pieces.specs.Characters.{Text, has, may_precede, is_alnum_at}
 use Rattle.rst_pieces.specs.Escapes.{is_escaped}
 use Rattle.rst_pieces.specs.Tails.{name_tail}
-use Rattle.rst_pieces.specs.Names.{is_name_at, role_end, ends_name, is_reference, name_end, reference_at, reference}
+use Rattle.rst_pieces.specs.Names.{is_joint, is_name_at, role_end, ends_name, is_reference, name_end, reference_at, reference}
 use Rattle.rst_pieces.specs.Marked.{has_start, start_of, starts, marked_from, marked}
 use Rattle.rst_pieces.specs.Footnotes.{label}
 use Rattle.rst_pieces.specs.Uri.{in_lower_case, has_letter, begins_at, schemes, behind_first, scheme_end, uri_piece, uri}
@@ -218,7 +219,7 @@ inside-word t i to k escaped run above upto =
     let before : may_precede (get_or t (k - 1) 0) ≡ false = letter-before _ (run.letters (k - 1) (omega arith) (omega arith)) in
     rw before (grind (arith, nat_tests))
 
-pub HasNoStart-word : (t : Text) (from i to : ℕ) → IsWord t i to → HasNoStart t from from i → piece_at t from i ≡ None → HasNoStart t from from to
+pub HasNoStart-word : (t : Text) (from i to : ℕ) → IsWord t i to → HasNoStart t from from i → piece_at t from i ≡ None → HasNoStart t from from (to + 1)
 HasNoStart-word t from i to run none here k low high =
     ⊎_elim
     (λ before. none k low before)
@@ -236,3 +237,44 @@ pub unescaped-word : (t : Text) (from i to : ℕ) → from ≤ i → i < to → 
 unescaped-word t from i to order some run =
     let e : to - 1 + 1 ≡ to = omega arith in
     sym (ap (is_escaped t from) (sym e) ∙ is_escaped-bare t from (to - 1) (omega arith) (letter-bare t (to - 1) (run.letters (to - 1) (omega arith) (omega arith))))
+
+-- whether what stands behind a word is escaped
+pub unescaped-behind : (t : Text) (from i to : ℕ) (escaped : Bool) → from ≤ i → IsWord t i to → escaped ≡ is_escaped t from i → (escaped && i == to) ≡ is_escaped t from to
+unescaped-behind t from i to escaped order run known = ⊎_elim
+    (λ same. let e : i ≡ to = eqb-true i to same in rw same (and-true escaped ∙ known ∙ ap (is_escaped t from) e))
+    (λ other. rw other (and-false escaped ∙ unescaped-word t from i to order (some_of (run.above) other) run))
+    (cases_bool (i == to))
+  where
+    and-true : (b : Bool) → (b && true) ≡ b
+    and-true true = refl
+    and-true false = refl
+
+    and-false : (b : Bool) → (b && false) ≡ false
+    and-false true = refl
+    and-false false = refl
+
+    some_of : i ≤ to → (i == to) ≡ false → i < to
+    some_of above differ = grind (arith, nat_tests)
+
+-- ---- what goes on with no word
+
+space-joint : (c : ℕ) → c ≡ 32 → is_joint c ≡ false
+unfolding is_joint
+space-joint c h = rw h refl
+
+feed-joint : (c : ℕ) → c ≡ 10 → is_joint c ≡ false
+unfolding is_joint
+feed-joint c h = rw h refl
+
+no-letter-at : (t : Text) (i c : ℕ) → get_or t i 0 ≡ c → c < 128 → is_ascii_alphanumeric c ≡ false → is_alnum_at t i ≡ false
+no-letter-at t i c h low e = rw (h, sym (is_alphanumeric-ascii c low) ∙ e) (grind (arith, nat_tests))
+
+quiet : (t : Text) (i : ℕ) → (get_or t i 0 == 95) ≡ false → (get_or t i 0 == 58) ≡ false → is_joint (get_or t i 0) ≡ false → is_alnum_at t i ≡ false → false ≡ goes_on t i
+unfolding goes_on is_name_at
+quiet t i a b joint letter = rw (a, b, letter, joint) (grind (arith, nat_tests))
+
+pub goes_on-space : (t : Text) (i : ℕ) → get_or t i 0 ≡ 32 → false ≡ goes_on t i
+goes_on-space t i h = quiet t i (ap (λ c. c == 95) h) (ap (λ c. c == 58) h) (space-joint _ h) (no-letter-at t i 32 h (omega arith) refl)
+
+pub goes_on-feed : (t : Text) (i : ℕ) → get_or t i 0 ≡ 10 → false ≡ goes_on t i
+goes_on-feed t i h = quiet t i (ap (λ c. c == 95) h) (ap (λ c. c == 58) h) (feed-joint _ h) (no-letter-at t i 10 h (omega arith) refl)

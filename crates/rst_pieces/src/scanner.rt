@@ -107,13 +107,14 @@ pub fn pieces_of(alloc: Global, text: &[char]) -> Result<Vec<Piece>, AllocError>
                 escaped = false;
             }
             None => {
-                if place < end {
+                // Nothing begins within a word or directly behind it.
+                if end == text.len() {
                     place = end;
                     escaped = false;
                     continue;
                 }
-                escaped = escapes(text[place], escaped);
-                place += 1;
+                escaped = escapes(text[end], escaped && place == end);
+                place = end + 1;
             }
         }
     }

@@ -1,4 +1,4 @@
-use Rattle.std.proofs.Common.{◌≡◌, ◌∙◌, sym, false, IfOk, subst}
+use Rattle.std.proofs.Common.{◌≡◌, sym, false, IfOk, subst}
 use Rattle.rst_pieces.specs.Escapes.{has_backslash}
 use Rattle.rst_pieces.proofs.EscapeLemmas.{unescaped-plain}
 use Rattle.rst_pieces.proofs.escaping.unescaped.Goals as goal

@@ -1,13 +1,13 @@
-use Rattle.std.proofs.Common.{◌≡◌, ◌<◌, ◌+◌, ◌≤◌, Some, None, sym, ap, ◌∙◌, arith, below_more, length, subst, vec_items, [], ◌∷◌, ◌++◌}
+use Rattle.std.proofs.Common.{◌≡◌, ◌<◌, ◌+◌, ◌≤◌, Some, None, sym, ap, ◌∙◌, arith, length, subst, vec_items, [], ◌∷◌, ◌++◌, ◌&&◌, ◌==◌}
 use Rattle.std.proofs.lemmas.List.{get_or_read}
 use Rattle.rst_pieces.specs.Escapes.{escapes}
 use Rattle.rst_pieces.specs.Pieces.{piece_at, piece_if, IsPieces}
 use Rattle.rst_pieces.proofs.EscapeLemmas.{is_escaped-start, is_escaped-more}
 use Rattle.rst_pieces.proofs.PieceLemmas.{Told, piece_if-fits, told-start, told-other, told-plain, told-last, told-end}
 use Rattle.rst_pieces.proofs.MissingLemmas.{IsMissing-later}
-use Rattle.rst_pieces.proofs.WordLemmas.{HasNoStart-word, unescaped-word}
+use Rattle.rst_pieces.proofs.WordLemmas.{HasNoStart-word, unescaped-word, unescaped-behind}
 use Rattle.rst_pieces.proofs.scanner.pieces_of.Goals as goal
-use Rattle.rst_pieces.proofs.scanner.pieces_of.Goals.{then-from-place+in_ok-push-in-Some, else-from-place, then-from-place-2+in_ok-push, else-from-place-2}
+use Rattle.rst_pieces.proofs.scanner.pieces_of.Goals.{then-escaped, else-escaped, then-from-place+in_ok-push-in-Some, else-from-place, then-from-place-2+in_ok-push, else-from-place-2}
 
 pub loop-place-init : goal.loop-place-init
 loop-place-init c = record {
@@ -45,29 +45,36 @@ loop-place-preserved-in-Some c =
           ]);
     }
 
-pub loop-place-preserved-then-place-end : goal.loop-place-preserved-then-place-end
-loop-place-preserved-then-place-end c =
+pub loop-place-preserved-then-end-text : goal.loop-place-preserved-then-end-text
+loop-place-preserved-then-end-text c =
     let here : piece_at c.args.text.now c.loop-place.from c.loop-place.place ≡ None = ap (piece_if c.args.text.now c.loop-place.place) (sym c.loop-place.invariant.escaped) ∙ sym c.piece_at.ensures.exact ∙ c.in-None.is in
-    let within = c.word_end-end.ensures.within in
+    let none = HasNoStart-word c.args.text.now c.loop-place.from c.loop-place.place c.word_end-end.result c.word_end-end.ensures c.loop-place.invariant.none here in
     record {
       above = omega arith;
-      below = within;
+      below = omega arith;
       escaped = unescaped-word c.args.text.now c.loop-place.from c.loop-place.place c.word_end-end.result (omega arith) (omega arith) c.word_end-end.ensures;
-      none = HasNoStart-word c.args.text.now c.loop-place.from c.loop-place.place c.word_end-end.result c.word_end-end.ensures c.loop-place.invariant.none here;
+      none = λ i low high. none i low (omega arith);
       known = IsMissing-later c.args.text.now c.piece_at.new.missing c.loop-place.place c.word_end-end.result (omega arith) c.piece_at.ensures.known;
       told = c.loop-place.invariant.told;
     }
 
 pub loop-place-preserved : goal.loop-place-preserved
 loop-place-preserved c =
-    let next = is_escaped-more c.args.text.now c.loop-place.from c.loop-place.place (omega arith) in
+    let above = c.word_end-end.ensures.above in
+    let within = c.word_end-end.ensures.within in
+    let next = is_escaped-more c.args.text.now c.loop-place.from c.word_end-end.result (omega arith) in
     let here : piece_at c.args.text.now c.loop-place.from c.loop-place.place ≡ None = ap (piece_if c.args.text.now c.loop-place.place) (sym c.loop-place.invariant.escaped) ∙ sym c.piece_at.ensures.exact ∙ c.in-None.is in
+    let shown : c.if-escaped.escapes ≡ (c.loop-place.escaped && c.loop-place.place == c.word_end-end.result) = elim c.if-escaped.branch [
+      | then-escaped w ↦ cc
+      | else-escaped w ↦ cc
+    ] in
+    let behind = unescaped-behind c.args.text.now c.loop-place.from c.loop-place.place c.word_end-end.result c.loop-place.escaped (omega arith) c.word_end-end.ensures c.loop-place.invariant.escaped in
     record {
       above = omega arith;
       below = omega arith;
-      escaped = c.escapes-escaped.ensures ∙ ap (λ x. escapes x c.loop-place.escaped) (get_or_read c.args.text.now _ _ (omega arith) c.index-text-place.is 0) ∙ ap (escapes _) c.loop-place.invariant.escaped ∙ sym next;
-      none = λ i low high. below_more (λ i. c.loop-place.from ≤ i → piece_at c.args.text.now c.loop-place.from i ≡ None) c.loop-place.place (λ i high low. c.loop-place.invariant.none i low high) (λ low. here) i high low;
-      known = IsMissing-later c.args.text.now c.piece_at.new.missing c.loop-place.place (c.loop-place.place + 1) (omega arith) c.piece_at.ensures.known;
+      escaped = c.escapes-escaped.ensures ∙ ap (λ x. escapes x c.if-escaped.escapes) (get_or_read c.args.text.now _ _ (omega arith) c.index-text-end.is 0) ∙ ap (escapes _) (shown ∙ behind) ∙ sym next;
+      none = HasNoStart-word c.args.text.now c.loop-place.from c.loop-place.place c.word_end-end.result c.word_end-end.ensures c.loop-place.invariant.none here;
+      known = IsMissing-later c.args.text.now c.piece_at.new.missing c.loop-place.place (c.word_end-end.result + 1) (omega arith) c.piece_at.ensures.known;
       told = c.loop-place.invariant.told;
     }
 
