@@ -1,3 +1,4 @@
 pub mod TextLemmas
 pub mod EmbeddedLemmas
 pub mod ReadLemmas
+pub mod WrittenLemmas

@@ -1,6 +1,9 @@
 -- The characters of pieces of inline markup (Markup Specification, 'Inline Markup').
-use Rattle.std.specs.Prelude.{ℕ, List, take, drop, encode_utf8_all}
+use Rattle.std.specs.Prelude.{ℕ, Bool, false, not, List, take, drop, encode_utf8_all}
 use Rattle.rst_pieces.specs.Characters.{Text}
+use Rattle.rst_pieces.specs.Escapes.{has_backslash}
+use Rattle.rst_pieces.specs.declared.piece.Kind.{Kind}
+use Rattle.rst_pieces.specs.declared.piece.Kind.TheVariants.{Plain}
 use Rattle.rst_pieces.specs.declared.piece.Piece.{Piece}
 
 -- the characters from a place on, up to another place
@@ -18,3 +21,11 @@ content t p = part t p.content_from p.content_to
 -- the bytes of a text
 abbrev pub spelled : Text → List ℕ
 spelled cs = encode_utf8_all cs
+
+-- a piece is plain text without escapes
+abbrev pub is_bare_by : Kind → Text → Piece → Bool
+is_bare_by Plain t p = not (has_backslash (source t p))
+is_bare_by _ t p = false
+
+abbrev pub is_bare : Text → Piece → Bool
+is_bare t p = is_bare_by p.kind t p

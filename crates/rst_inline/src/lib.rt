@@ -11,6 +11,7 @@ mod reading;
 mod references;
 mod roles;
 mod texts;
+mod written;
 
 pub use fault::InlineFault;
 pub use nodes::{Pieces, inline};

@@ -1,14 +1,15 @@
 //! The nodes and the messages of a text.
-ghost use Rattle.std.specs.Prelude.{All};
-ghost use Rattle.std.specs.Str.{chars};
+ghost use Rattle.std.specs.Prelude.{◌≡◌, All, IfSome};
+ghost use Rattle.std.specs.Str.{chars, IsAscii};
 ghost use Rattle.rst_pieces.specs.Pieces.{IsWithin};
 ghost use Rattle.rst_inline.specs.Faults.{Gives};
 ghost use Rattle.rst_inline.specs.Results.{Reads, IsRead};
 
 use super::elements::problematic;
 use super::fault::InlineFault;
-use super::reading::{Meaning, reading};
+use super::reading::Meaning;
 use super::texts::part;
+use super::written::{if_ascii, meaning};
 use rst_pieces::{Piece, pieces_of};
 use rst_text::characters_of;
 use rst_tree::{Node, Note};
@@ -31,18 +32,26 @@ pub fn inline(alloc: Global, text: &str, line: usize) -> Result<Pieces, InlineFa
 {
     let characters = characters_of(alloc, text)?;
     let pieces = pieces_of(alloc, &characters)?;
-    read(alloc, &characters, &pieces, line)
+    read(alloc, if_ascii(text), &characters, &pieces, line)
 }
 
-/// The nodes and the messages of the pieces of a text.
-fn read(alloc: Global, text: &[char], pieces: &[Piece], line: usize) -> Result<Pieces, InlineFault>
-    requires { All (IsWithin text.now) pieces.now }
+/// The nodes and the messages of the pieces of a text; `written` is the text, too, if that is ASCII.
+fn read(
+    alloc: Global,
+    written: Option<&str>,
+    text: &[char],
+    pieces: &[Piece],
+    line: usize,
+) -> Result<Pieces, InlineFault>
+    requires ascii { IfSome written (λ written. IsAscii written.now) }
+    requires same { IfSome written (λ written. written.now ≡ text.now) }
+    requires within { All (IsWithin text.now) pieces.now }
     ensures { Gives (Reads text.now line pieces.now) result }
 {
     let mut nodes = Vec::with_capacity(alloc, pieces.len())?;
     let mut notes = Vec::new(alloc);
     for piece in pieces {
-        match reading(alloc, text, line, *piece)? {
+        match meaning(alloc, written, text, line, *piece)? {
             Meaning::Nothing => continue,
             Meaning::One(node) => {
                 nodes.push(node)?;

@@ -1,12 +1,16 @@
-use Rattle.std.proofs.Common.{◌∙◌, refl, sym, subst, arith}
+use Rattle.std.proofs.Common.{◌≡◌, ◌∙◌, IfSome, refl, sym, subst, arith}
 use Rattle.std.specs.Str.{chars}
 use Rattle.rst_pieces.specs.Pieces.{IsPieces}
 use Rattle.rst_pieces.proofs.PieceLemmas.{IsPieces-within}
 use Rattle.rst_inline.proofs.ReadLemmas.{read-pieces}
 use Rattle.rst_inline.proofs.nodes.inline.Goals as goal
 
-pub read-requires : goal.read-requires
-read-requires c =
+pub read-requires-clause-same : goal.read-requires-clause-same
+read-requires-clause-same c =
+    subst (λ t. IfSome c.if_ascii.result (λ written. written.now ≡ t)) (sym (c.deref-2.ensures.value ∙ c.in_ok-characters.ensures)) c.if_ascii.ensures.same
+
+pub read-requires-clause-within : goal.read-requires-clause-within
+read-requires-clause-within c =
     let here = subst (λ ps. IsPieces c.deref.result.now 0 ps) (sym c.deref-3.ensures.value) c.in_ok-pieces.ensures in
     let cut = subst (λ t. IsPieces t 0 c.deref-3.result.now) (c.deref.ensures.value ∙ sym c.deref-2.ensures.value) here in
     IsPieces-within c.deref-2.result.now 0 c.deref-3.result.now (omega arith) cut

@@ -1,0 +1,19 @@
+use Rattle.std.proofs.Common.{◌≡◌, ◌∙◌, ap, subst, true, IfSome}
+use Rattle.std.specs.Str.{IsAscii}
+use Rattle.rst_tree.specs.declared.node.Node.TheVariants.{Text as Words}
+use Rattle.rst_pieces.specs.Characters.{Text}
+use Rattle.rst_inline.specs.declared.reading.Meaning.TheVariants.{One}
+use Rattle.rst_inline.specs.Faults.{Gives}
+use Rattle.rst_inline.specs.Parts.{source, is_bare}
+use Rattle.rst_inline.proofs.WrittenLemmas.{reading-bare}
+use Rattle.rst_inline.proofs.written.meaning.Goals as goal
+
+pub returns-then-is_bare : goal.returns-then-is_bare
+returns-then-is_bare c =
+    let t = c.args.text.now in
+    let same : c.in-Some.written.now ≡ t = subst (λ w. IfSome w (λ written. written.now ≡ t)) c.in-Some.is c.requires.same in
+    let given : IsAscii c.in-Some.written.now = subst (λ w. IfSome w (λ written. IsAscii written.now)) c.in-Some.is c.requires.ascii in
+    let ascii : IsAscii t = subst IsAscii same given in
+    let bare : is_bare t c.args.piece ≡ true = cc in
+    let is = ap (λ (w : Text). One (Words (source w c.args.piece))) same ∙ reading-bare t c.args.line c.args.piece ascii c.requires.within bare in
+    subst (λ m. Gives (λ read. read ≡ m) c.copied.result) is c.copied.ensures
