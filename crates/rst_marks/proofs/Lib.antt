@@ -5,3 +5,4 @@ pub mod OptionLemmas
 pub mod ListedLemmas
 pub mod MarkBounds
 pub mod ColonLemmas
+pub mod EnumeratorLemmas

@@ -60,6 +60,10 @@ abbrev pub with_marker : Format → Written → Option Marker → Option Enumera
 with_marker format w None = None
 with_marker format w (Some m) = Some (record { format = format; written = w; marker = m })
 
+-- neither `#` nor digits are at the front, and what ends an enumerator isn't behind the letters there
+unfoldable pub begins_word : List ℕ → Bool
+begins_word t = not (begins_with 35 t) && (run Digit t == 0 && (not (begins_with 41 (drop (run Letter t) t)) && not (begins_with 46 (drop (run Letter t) t))))
+
 -- the ordinal behind `from` characters, and a marker that ends a character after it
 unfoldable pub framed : Format → ℕ → List ℕ → Option Enumerator
 framed format from t = if_some (written_at (drop from t)) (λ w. with_marker format w (marker_of (from + w.len + 1) t))

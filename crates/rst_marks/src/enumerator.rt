@@ -163,8 +163,20 @@ fn framed(format: Format, from: usize, text: &str) -> Option<Enumerator>
     })
 }
 
+/// Whether neither `#` nor digits are at the front of a text, and what ends an enumerator isn't behind the letters there.
+#[tactic(auto, unfolding(crate::specs::Enumerator::begins_word))]
+fn begins_word(text: &str) -> bool
+    ensures { result ≡ spec.begins_word (chars text.now) }
+{
+    if begins_with('#', text) || run(Class::Digit, text) != 0 {
+        return false;
+    }
+    let behind = skip(text, run(Class::Letter, text));
+    !begins_with(')', behind) && !begins_with('.', behind)
+}
+
 /// The enumerator at the front of a line: `(x)`, `x)` or `x.`, and its marker.
-#[tactic(auto, unfolding(crate::specs::Enumerator::enumerator_of))]
+#[tactic(auto, unfolding(crate::specs::Enumerator::enumerator_of), using(crate::proofs::EnumeratorLemmas::word_none))]
 pub fn enumerator_of(text: &str) -> Option<Enumerator>
     ensures { result ≡ spec.enumerator_of (chars text.now) }
 {
@@ -174,6 +186,10 @@ pub fn enumerator_of(text: &str) -> Option<Enumerator>
             return None;
         }
         return framed(Format::Parentheses, 1, text);
+    }
+    // Most lines begin with a word, which isn't read as a numeral first.
+    if begins_word(text) {
+        return None;
     }
     let written = written_at(text)?;
     let behind = skip(text, written.len);

@@ -1,0 +1,64 @@
+-- A line that begins with a word has no enumerator.
+use Rattle.std.proofs.Common.{◌≡◌, ℕ, ◌+◌, ◌==◌, ◌&&◌, Bool, true, false, List, [], ◌∷◌, drop, Option, None, Some, refl, sym, ap, ◌∙◌}
+use Rattle.std.specs.Prelude.{not, if◌then◌else◌, nat_lt, ◌||◌}
+use Rattle.std.proofs.lemmas.Bool.{eqb-true}
+use Rattle.rst_marks.specs.Front.{first, begins_with}
+use Rattle.rst_marks.specs.Class.{run}
+use Rattle.rst_marks.specs.Roman.{roman, if_some}
+use Rattle.rst_marks.specs.Enumerator.{case_of, digits, letters, letters_by, as_numeral, written_at, framed, enumerator_of, begins_word}
+use Rattle.rst_marks.specs.declared.class.Class.TheVariants.{Digit, Letter}
+use Rattle.rst_marks.specs.declared.enumerator.Format.TheVariants.{Parentheses, Parenthesis, Period}
+use Rattle.rst_marks.specs.declared.enumerator.Written.{Written}
+use Rattle.rst_marks.specs.declared.enumerator.Enumerator.{Enumerator}
+
+and_true : (a b : Bool) → (a && b) ≡ true → (a ≡ true) × (b ≡ true)
+and_true true b h = (refl, h)
+and_true false b h = cc
+
+not_true : (a : Bool) → not a ≡ true → a ≡ false
+not_true true h = cc
+not_true false h = refl
+
+-- an ordinal, if there is one, has so many characters
+abbrev has_len : ℕ → Option Written → Type 0
+has_len n None = Unit {0}
+has_len n (Some w) = w.len ≡ n
+
+numeral_len : (c n : ℕ) (o : Option ℕ) → has_len n (if_some o (as_numeral (case_of c) n))
+numeral_len c n None = tt
+numeral_len c n (Some v) = refl
+
+letters_by_len : (c n : ℕ) (t : List ℕ) → has_len n (letters_by c n t)
+letters_by_len c n t = by (n == 0) (n == 1) refl refl
+  where
+    by : (a b : Bool) → (n == 0) ≡ a → (n == 1) ≡ b → has_len n (letters_by c n t)
+    by true b e f = rw e tt
+    by false true e f = rw (e, f) refl
+    by false false e f = rw (e, f) (numeral_len c n (roman (case_of c) n t))
+
+letters_len : (t : List ℕ) → has_len (run Letter t) (letters t)
+unfolding letters
+letters_len [] = tt
+letters_len (c ∷ cs) = letters_by_len c (run Letter (c ∷ cs)) (c ∷ cs)
+
+unclosed : (t : List ℕ) (n : ℕ) (o : Option Written) → has_len n o → begins_with 41 (drop n t) ≡ false → begins_with 46 (drop n t) ≡ false
+    → if_some o (λ w. if begins_with 41 (drop w.len t) then framed Parenthesis 0 t else if begins_with 46 (drop w.len t) then framed Period 0 t else None) ≡ None
+unclosed t n None h p q = refl
+unclosed t n (Some w) h p q = rw (h, p, q) refl
+
+written_letters : (t : List ℕ) → begins_with 35 t ≡ false → run Digit t ≡ 0 → written_at t ≡ letters t
+unfolding written_at digits
+written_letters t h d = rw (h, d) refl
+
+zero_of : (n : ℕ) → (n == 0) ≡ true → n ≡ 0
+zero_of n h = eqb-true n 0 h
+
+pub word_none : (t : List ℕ) → begins_with 40 t ≡ false → begins_word t ≡ true → None ≡ enumerator_of t
+unfolding enumerator_of begins_word
+word_none t p h =
+    let a = and_true (not (begins_with 35 t)) (run Digit t == 0 && (not (begins_with 41 (drop (run Letter t) t)) && not (begins_with 46 (drop (run Letter t) t)))) h in
+    let b = and_true (run Digit t == 0) (not (begins_with 41 (drop (run Letter t) t)) && not (begins_with 46 (drop (run Letter t) t))) a.1 in
+    let c = and_true (not (begins_with 41 (drop (run Letter t) t))) (not (begins_with 46 (drop (run Letter t) t))) b.1 in
+    let w : written_at t ≡ letters t = written_letters t (not_true (begins_with 35 t) a.0) (zero_of (run Digit t) b.0) in
+    let u = unclosed t (run Letter t) (letters t) (letters_len t) (not_true (begins_with 41 (drop (run Letter t) t)) c.0) (not_true (begins_with 46 (drop (run Letter t) t)) c.1) in
+    rw (p, w) (sym u)
