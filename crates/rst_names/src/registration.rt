@@ -53,9 +53,13 @@ pub fn register(alloc: Global, document: Marked) -> Result<Registered, TreeFault
         standings,
         ..
     } = registry_of(alloc, &elements)?;
-    let mut writing = Writing::of(alloc, given_to(alloc, &elements, &standings)?);
-    let root = walk(root, &mut writing)?;
-    let root = place_notices(alloc, root, notices_of(alloc, standings)?)?;
+    let root = if elements.is_empty() {
+        root
+    } else {
+        let mut writing = Writing::of(alloc, given_to(alloc, &elements, &standings)?);
+        let root = walk(root, &mut writing)?;
+        place_notices(alloc, root, notices_of(alloc, standings)?)?
+    };
     Ok(Registered {
         root,
         ids,

@@ -1,6 +1,6 @@
 -- What is printed of a tree (Document Tree, the pseudo-XML form): its lines in preorder, each behind its indentation and
 -- with its end.
-use Rattle.std.specs.Prelude.{ℕ, ◌+◌, ◌*◌, ◌==◌, ◌&&◌, if◌then◌else◌, Bool, true, false, List, [], ◌∷◌, ◌++◌, map, codes, replicate}
+use Rattle.std.specs.Prelude.{ℕ, ◌+◌, ◌*◌, ◌==◌, ◌&&◌, ◌||◌, if◌then◌else◌, Bool, true, false, List, [], ◌∷◌, ◌++◌, map, codes, replicate}
 use Rattle.std.specs.List.{flat_map}
 use Rattle.std.specs.Fmt.{decimal}
 use Rattle.rst_text.specs.Lines.{onto_first}
@@ -17,6 +17,9 @@ use Rattle.rst_tree.specs.TagNames.{tag_name}
 use Rattle.rst_tree.specs.Forest.{Forest, bare, element, words}
 
 -- a byte of a list's member: a backslash stands before a space and before a backslash
+abbrev pub is_escaped : ℕ → Bool
+is_escaped b = b == 92 || b == 32
+
 abbrev pub escaped_byte : ℕ → List ℕ
 escaped_byte b = if b == 92 then 92 ∷ 92 ∷ [] else (if b == 32 then 92 ∷ 32 ∷ [] else b ∷ [])
 

@@ -1,10 +1,10 @@
 //! What is written piece by piece to a writer that may fail: after a failure nothing more is written.
 ghost use Rattle.std.specs.Prelude.{◌≡◌, ◌≢◌, ◌+◌, ◌*◌, ◌-◌, ◌^◌, ◌<◌, ◌∷◌, [], length, take, drop, map, replicate};
 ghost use Rattle.rst_tree.specs.Sends.{Sends};
-ghost use Rattle.rst_tree.specs.Print.{escaped_byte, escaped, spaced, value_text, shown_attr, start_tag, line_len, printed_line, printed, text_lines, printed_node};
+ghost use Rattle.rst_tree.specs.Print.{is_escaped, escaped_byte, escaped, spaced, value_text, shown_attr, start_tag, line_len, printed_line, printed, text_lines, printed_node};
 ghost use Rattle.rst_tree.specs.Nodes.{node_height};
 ghost use Rattle.rst_tree.specs.Message.{message_head, block_text, message_of};
-ghost use Rattle.std.specs.List.{flat_map};
+ghost use Rattle.std.specs.List.{flat_map, list_any};
 ghost use Rattle.std.specs.Fmt.{decimal};
 
 use crate::attrs::{Attr, Value};
@@ -55,10 +55,28 @@ fn put_escaped_byte<W: Write>(out: &mut Counted<W>, done: &mut usize, byte: u8)
     }
 }
 
-/// Writes a member of a list, with its spaces and backslashes escaped.
+/// Whether a byte of a list's member is escaped.
+fn is_escaped(byte: u8) -> bool
+    ensures { result ≡ is_escaped byte }
+{
+    byte == b'\\' || byte == b' '
+}
+
+/// Whether a member of a list has such a byte.
+fn has_escaped(text: &[u8]) -> bool
+    ensures { result ≡ list_any is_escaped text.now }
+{
+    text.iter().any(|byte| is_escaped(*byte))
+}
+
+/// Writes a member of a list, with its spaces and backslashes escaped. Mostly it has none, and is written at once.
 fn put_escaped<W: Write>(out: &mut Counted<W>, done: &mut usize, text: &[u8])
     ensures { Sends W.contents (escaped text.now) out.old done.old out.new done.new }
 {
+    if !has_escaped(text) {
+        put(out, done, text);
+        return;
+    }
     for byte in text {
         put_escaped_byte(out, done, *byte);
     }
@@ -128,10 +146,17 @@ fn put_attrs<W: Write>(out: &mut Counted<W>, done: &mut usize, attrs: &[Attr])
     }
 }
 
+/// The indentation of the deepest level that is written at once.
+const SPACES: [u8; 64] = [b' '; 64];
+
 /// Writes the indentation of a level.
 fn put_indent<W: Write>(out: &mut Counted<W>, done: &mut usize, level: usize)
     ensures { Sends W.contents (replicate (4 * level) 32) out.old done.old out.new done.new }
 {
+    if level <= 16 {
+        put(out, done, &SPACES[..4 * level]);
+        return;
+    }
     for _step in 0..level {
         put(out, done, b"    ");
     }

@@ -1,6 +1,6 @@
-use Rattle.std.proofs.Common.{rules, arith, ◌≡◌, ◌+◌, ◌<◌, ◌≤◌, length, ap}
+use Rattle.std.proofs.Common.{rules, arith, ◌≡◌, ◌+◌, ◌≤◌, ap}
 use Rattle.rst_tree.specs.Forest.{height}
-use Rattle.rst_tree.specs.Nodes.{nodes_of, node_height}
+use Rattle.rst_tree.specs.Nodes.{node_height}
 use Rattle.rst_tree.proofs.Rewrites.{Same-child, Turning-init, Turning-more, Turning-nodes, Turning-state, turn-text, turn-away, turn-stay, turn-height}
 use Rattle.rst_tree.proofs.rewriting.+rewrite_in.Goals as goal
 
