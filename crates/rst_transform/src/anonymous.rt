@@ -29,7 +29,7 @@ use std::alloc::Global;
 ///
 /// One through an indirect target is left to the next transform. If there are more of the ones than of the others, there is
 /// one ERROR, and each reference becomes a problematic.
-pub(crate) fn anonymous(alloc: Global, mut work: Work) -> Result<Work, TreeFault> {
+pub fn anonymous(alloc: Global, mut work: Work) -> Result<Work, TreeFault> {
     let root = take_root(alloc, &mut work);
     let changes = changes_of(alloc, &mut work, &root)?;
     put_back(alloc, &mut work, root, changes)?;

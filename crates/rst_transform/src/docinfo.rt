@@ -208,7 +208,7 @@ fn with_bibliography(
 /// ```
 ///
 /// The only refusal is [`TreeFault::NoMemory`].
-pub(crate) fn docinfo(alloc: Global, mut work: Work) -> Result<Work, TreeFault> {
+pub fn docinfo(alloc: Global, mut work: Work) -> Result<Work, TreeFault> {
     let empty = Node::element(alloc, Tag::Document, 0);
     match mem::replace(&mut work.root, empty) {
         Node::Text(text) => {

@@ -312,7 +312,7 @@ fn expanded_in(
 /// ```
 ///
 /// The only refusal is [`TreeFault::NoMemory`].
-pub(crate) fn expand(alloc: Global, mut work: Work) -> Result<Work, TreeFault> {
+pub fn expand(alloc: Global, mut work: Work) -> Result<Work, TreeFault> {
     let definitions = Definitions::of(alloc, &work.root)?;
     let empty = Node::element(alloc, Tag::Document, 0);
     match mem::replace(&mut work.root, empty) {

@@ -68,7 +68,7 @@ impl Order {
 /// ```
 ///
 /// References left over become problematics of one ERROR for each of the two numberings.
-pub(crate) fn footnotes(alloc: Global, mut work: Work) -> Result<Work, TreeFault> {
+pub fn footnotes(alloc: Global, mut work: Work) -> Result<Work, TreeFault> {
     let root = take_root(alloc, &mut work);
     let changes = changes_of(alloc, &mut work, &root)?;
     put_back(alloc, &mut work, root, changes)?;

@@ -74,7 +74,7 @@ fn copy_attr(alloc: Global, attr: &Attr) -> Result<Attr, TreeFault> {
 /// References by name are left to the last of these transforms. A target whose way is a circle, or ends at a name that no
 /// element holds, gives an ERROR, and the references through it become problematics of that message: message by message,
 /// under each in the order of the document.
-pub(crate) fn indirect(alloc: Global, mut work: Work) -> Result<Work, TreeFault> {
+pub fn indirect(alloc: Global, mut work: Work) -> Result<Work, TreeFault> {
     let root = take_root(alloc, &mut work);
     let changes = changes_of(alloc, &mut work, &root)?;
     put_back(alloc, &mut work, root, changes)?;

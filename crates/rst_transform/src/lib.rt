@@ -27,23 +27,15 @@ mod title;
 mod transitions;
 mod work;
 
+pub use anonymous::anonymous;
+pub use docinfo::docinfo;
+pub use expand::expand;
 pub use fault::TransformFault;
 pub use finishing::{Finished, finish};
+pub use footnotes::footnotes;
+pub use indirect::indirect;
+pub use resolve::resolve;
+pub use targets::targets;
+pub use title::title;
+pub use transitions::transitions;
 pub use work::{Report, Work};
-
-#[cfg(test)]
-mod docinfo_tests;
-#[cfg(test)]
-mod expand_tests;
-#[cfg(test)]
-mod finishing_tests;
-#[cfg(test)]
-mod footnote_tests;
-#[cfg(test)]
-mod outline;
-#[cfg(test)]
-mod places_tests;
-#[cfg(test)]
-mod reference_tests;
-#[cfg(test)]
-mod transition_tests;

@@ -63,7 +63,7 @@ struct Lookup<'a> {
 ///
 /// A name that means nothing gives an ERROR, and the reference becomes a problematic; the references inside it are gone, and
 /// give no message.
-pub(crate) fn resolve(alloc: Global, mut work: Work) -> Result<Work, TreeFault> {
+pub fn resolve(alloc: Global, mut work: Work) -> Result<Work, TreeFault> {
     let root = take_root(alloc, &mut work);
     let changes = changes_of(alloc, &mut work, &root)?;
     put_back(alloc, &mut work, root, changes)?;

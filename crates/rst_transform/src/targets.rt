@@ -22,7 +22,7 @@ use std::alloc::Global;
 ///     <paragraph ids="b a" names="b a">
 ///
 /// A target that no element follows, or one that takes no ids, stays as it is.
-pub(crate) fn targets(alloc: Global, work: Work) -> Result<Work, TreeFault> {
+pub fn targets(alloc: Global, work: Work) -> Result<Work, TreeFault> {
     let moves = moves_in(alloc, &work.root)?;
     if moves.is_empty() {
         return Ok(work);

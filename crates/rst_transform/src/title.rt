@@ -24,7 +24,7 @@ use std::alloc::Global;
 ///         <paragraph>
 ///
 /// Comments, targets, substitution definitions and messages may stand before the section.
-pub(crate) fn title(alloc: Global, work: Work) -> Result<Work, TreeFault> {
+pub fn title(alloc: Global, work: Work) -> Result<Work, TreeFault> {
     let Work {
         root,
         ids,

@@ -24,7 +24,7 @@ use std::mem;
 ///     <section>
 ///
 /// One that would move behind the end of the document stays, and a message follows it.
-pub(crate) fn transitions(alloc: Global, mut work: Work) -> Result<Work, TreeFault> {
+pub fn transitions(alloc: Global, mut work: Work) -> Result<Work, TreeFault> {
     let root = mem::replace(&mut work.root, Node::element(alloc, Tag::Document, 0));
     match root {
         Node::Element {

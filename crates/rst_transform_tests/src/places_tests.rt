@@ -1,8 +1,7 @@
 //! Documents before and after the transforms that move what stands in them, as lines of their trees.
 
 use crate::outline::{shown, work};
-use crate::targets::targets;
-use crate::title::title;
+use rst_transform::{targets, title};
 use std::test::Fail;
 
 const TARGETS: [(&str, &str); 6] = [

@@ -1,7 +1,7 @@
 use Rattle.std.proofs.Common.{rules, arith, ◌+◌, ◌≤◌}
 use Rattle.rst_tree.specs.Nodes.{node_height}
 use Rattle.rst_tree.proofs.PrintedParts.{child_height}
-use Rattle.rst_transform.proofs.outline.+hold_names.Goals as goal
+use Rattle.rst_transform_tests.proofs.outline.+hold_names.Goals as goal
 
 pub hold_names-requires : goal.hold_names-requires
 hold_names-requires t c =

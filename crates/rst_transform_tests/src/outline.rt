@@ -1,9 +1,9 @@
 //! Trees for tests, written as they are printed: each node behind four spaces a level, an element as
 //! `<tag key="value" ..>`, and any other line as a text.
 
-use crate::work::Work;
 use rst_names::{Held, Holder, Ids, Names, Strength};
 use rst_text::Counted;
+use rst_transform::Work;
 use rst_tree::{Attrs, Key, Node, Tag, Text, Texts, Tree, TreeFault, Value, print};
 use std::alloc::Global;
 use std::test::Fail;

@@ -1,8 +1,7 @@
 //! Documents before and after footnotes are numbered and names resolved.
 
-use crate::footnotes::footnotes;
 use crate::outline::{named, shown};
-use crate::resolve::resolve;
+use rst_transform::{footnotes, resolve};
 use std::test::Fail;
 
 const FOOTNOTES: [(&str, &str); 3] = [

@@ -1,8 +1,7 @@
 //! Documents before and after anonymous references and indirect targets are joined.
 
-use crate::anonymous::anonymous;
-use crate::indirect::indirect;
 use crate::outline::{named, shown};
+use rst_transform::{anonymous, indirect};
 use std::test::Fail;
 
 const ANONYMOUS: [(&str, &str); 4] = [

@@ -1,9 +1,9 @@
 //! Parsed documents and what they are when all is done, as lines of their trees.
 
-use crate::finishing::finish;
 use crate::outline::{printed, tree};
 use rst_marked::Marked;
 use rst_settings::{Settings, Threshold};
+use rst_transform::finish;
 use std::test::Fail;
 
 const DOCUMENTS: [(Threshold, Threshold, &str, &str); 6] = [
