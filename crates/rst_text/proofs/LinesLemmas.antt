@@ -1,12 +1,12 @@
 -- Lemmas on lines.
-use Rattle.std.proofs.Common.{◌≡◌, ℕ, zero, suc, ◌+◌, ◌-◌, ◌%◌, ◌<◌, ◌≤◌, ◌==◌, nat_eq, nat_lt, Bool, true, false, cond, ◌&&◌, ◌||◌, List, [], ◌∷◌, ◌++◌, length, take, drop, map, replicate, refl, sym, ap, ◌∙◌, arith, append_assoc, append-nil, mod-lt, Option, None, Some, MatchOption, Bor, unwrap_or, Result, Ok, Err, IfOk, String, get_or}
+use Rattle.std.proofs.Common.{◌≡◌, ℕ, zero, suc, ◌+◌, ◌-◌, ◌%◌, ◌<◌, ◌≤◌, ◌==◌, nat_eq, nat_lt, Bool, true, false, cond, ◌&&◌, ◌||◌, List, [], ◌∷◌, ◌++◌, length, take, drop, map, replicate, refl, sym, ap, ◌∙◌, subst, arith, append_assoc, append-nil, mod-lt, Option, None, Some, MatchOption, Bor, unwrap_or, Result, Ok, Err, IfOk, String, get_or}
 use Rattle.std.specs.Char.{is_whitespace}
 use Rattle.std.specs.Str.{IsUtf8, chars, NonePass, trim_end, drop_trailing_whitespace}
 use Rattle.std.specs.Str.Pattern.{FindsCharPrefix, StripsPrefix}
 use Rattle.std.proofs.Math.Utf8.{scalar, scalars, encode, encodes}
 use Rattle.std.proofs.lemmas.Bool.{eqb-true, lt-ltb, le-ltb}
 use Rattle.std.proofs.lemmas.List.{map-append}
-use Rattle.std.proofs.lemmas.Str.{chars_past_char, encodes-chars, chars-encodes, scalars-chars}
+use Rattle.std.proofs.lemmas.Str.{chars_past_char, encodes-chars, chars-encodes, scalars-chars, length-le-encodes}
 use Rattle.rst_text.specs.declared.lines.SourceLine.{SourceLine}
 use Rattle.rst_text.specs.Block.{Line, Block, front_text}
 use Rattle.rst_text.specs.Text.{chars_of}
@@ -253,3 +253,7 @@ first_longer-next limit zero n (l ∷ lines) line within at is under =
     let short : nat_lt limit (length (chars_of l.text)) ≡ false = le-ltb limit (length (chars_of l.text)) (omega (arith, is, ap (λ (x : SourceLine). length (chars_of x.text)) at)) in
     ap (λ b. cond b (Some l.number) (first_longer limit (block_from lines))) short
 first_longer-next limit (suc i) n (l ∷ lines) line within at is under = first_longer-next limit i n lines line (omega arith) at is under
+
+-- a character is a byte at least
+pub length-chars : (text : List ℕ) → IsUtf8 text → length (chars text) ≤ length text
+length-chars text good = subst (λ n. length (chars text) ≤ n) (ap length (encodes-chars text good)) (length-le-encodes (chars text))

@@ -87,7 +87,12 @@ impl Lines {
         ensures { result ≡ first_longer limit self.now }
     {
         for line in &self.lines {
-            if length_of(line.text.as_str()) > limit {
+            let text = line.text.as_str();
+            // A character is a byte at least, so most lines need no count.
+            if text.len() <= limit {
+                continue;
+            }
+            if length_of(text) > limit {
                 return Some(line.number);
             }
         }
