@@ -1,5 +1,11 @@
 -- Nodes that are shown.
-use Rattle.std.proofs.Common.{◌≡◌, ℕ, unwrap_or, List, [], ◌∷◌, ◌++◌, Bool, true, false, not, ◌&&◌, refl, ap, sym, ◌∙◌, arith}
+use Rattle.std.proofs.Common.{◌≡◌, ℕ, ◌+◌, ◌<◌, ◌≤◌, zero, suc, unwrap_or, List, [], ◌∷◌, ◌++◌, length, take, get_or, set, Bool, true, false, not, ◌&&◌, refl, ap, sym, ◌∙◌, arith}
+use Rattle.std.proofs.lemmas.List.{take_more_set, take_all}
+use Rattle.std.specs.List.{list_all}
+use Rattle.rst_tree.proofs.Changes.{nodes_of-forest_of, forest_of-nodes_of}
+use Rattle.rst_tree.proofs.Fitting.{both}
+use Rattle.rst_tree.proofs.Rewrites.{Same, Same-init, Same-more}
+use Rattle.rst_tree.proofs.Walks.{same_item}
 use Rattle.rst_settings.specs.declared.Threshold.{Threshold}
 use Rattle.rst_tree.specs.declared.attrs.Attr.{Attr}
 use Rattle.rst_tree.specs.declared.key.Key.{Key}
@@ -9,10 +15,10 @@ use Rattle.rst_tree.specs.declared.node.Node.TheVariants.{Element, Text}
 use Rattle.rst_tree.specs.declared.tag.Tag.{Tag}
 use Rattle.rst_tree.specs.Attributes.{value_of, without_hidden}
 use Rattle.rst_tree.specs.KeyNames.{is_hidden, is_same}
-use Rattle.rst_tree.specs.Nodes.{forest_of}
+use Rattle.rst_tree.specs.Nodes.{forest_of, nodes_of}
 use Rattle.rst_tree.specs.Forest.{Forest}
 use Rattle.rst_transform.specs.Reading.{number_in}
-use Rattle.rst_transform.specs.Shown.{is_low, is_below, has_hidden, are_shown}
+use Rattle.rst_transform.specs.Shown.{is_low, is_below, may_stay, has_hidden, are_shown}
 
 and_more : (p q c x y : Bool) → (x ≡ true → y ≡ true) → (p && (q && (c && x))) ≡ true → (p && (q && (c && y))) ≡ true
 and_more true true true x y f h = f h
@@ -93,3 +99,44 @@ element_shown report tag attrs shown inside line reached same nodes =
     let low : is_below report tag shown ≡ false = ap (is_below report tag) same ∙ below_left report tag attrs ∙ sym reached in
     let clean : has_hidden shown ≡ false = ap has_hidden same ∙ none_hidden attrs in
     rw low (rw clean (rw nodes refl))
+
+-- an item of a list whose items all pass
+all_at : {X : Type 0} (f : X → Bool) (xs : List X) (i : ℕ) (x : X) → list_all f xs ≡ true → i < length xs → x ≡ get_or xs i x → f x ≡ true
+all_at f [] i x h fits is = absurd (omega arith)
+all_at f (y ∷ xs) zero x h fits is = ap f is ∙ (both (f y) (list_all f xs) h).0
+all_at f (y ∷ xs) (suc i) x h fits is = all_at f xs i x (both (f y) (list_all f xs) h).1 (omega arith) is
+
+reached_of : (b : Bool) → not b ≡ true → false ≡ b
+reached_of true h = cc
+reached_of false h = refl
+
+-- nodes filtered in place, before place i
+pub record Sifting (report : Threshold) (old now : Forest) (i : ℕ) : Type 0 where
+  pub same : Same old now i
+  pub front : are_shown report (forest_of (take i (nodes_of now))) ≡ true
+
+pub Sifting-init : (report : Threshold) (f : Forest) → Sifting report f f 0
+Sifting-init report f = record { same = Same-init f; front = refl }
+
+pub Sifting-more : (report : Threshold) (old now : Forest) (i : ℕ) (new : Node) → Sifting report old now i → i < length (nodes_of now) → are_shown report (forest_of (new ∷ [])) ≡ true
+    → Sifting report old (forest_of (set (nodes_of now) i new)) (i + 1)
+Sifting-more report old now i new s fits last =
+    let ns = nodes_of now in
+    let set_is : nodes_of (forest_of (set ns i new)) ≡ set ns i new = nodes_of-forest_of (set ns i new) in
+    record { same = Same-more old now i new s.same fits; front = rw (set_is, take_more_set ns i new fits) (shown_more report (take i ns) new s.front last) }
+
+pub Sifting-text : (report : Threshold) (old now : Forest) (i : ℕ) (child : Node) (t : List ℕ) → Sifting report old now i → i < length (nodes_of now) → child ≡ Text t → Sifting report old (forest_of (set (nodes_of now) i child)) (i + 1)
+Sifting-text report old now i child t s fits is = Sifting-more report old now i child s fits (rw is refl)
+
+pub Sifting-end : (report : Threshold) (old now : Forest) (i : ℕ) → Sifting report old now i → length (nodes_of now) ≤ i → are_shown report now ≡ true
+Sifting-end report old now i s all = ap (are_shown report) (sym (forest_of-nodes_of now)) ∙ (rw (take_all i (nodes_of now) all) at s.front)
+
+-- an element that is met isn't a message below the report level
+pub Sifting-stays : (report : Threshold) (old now : Forest) (i : ℕ) (child : Node) (t : Tag) (a : List Attr) (c : Forest) (l : ℕ) (ns : List Node) → Sifting report old now i → i < length (nodes_of now)
+    → child ≡ get_or (nodes_of now) i child → child ≡ Element t a c l → old ≡ forest_of ns → list_all (may_stay report) ns ≡ true → false ≡ is_below report t a
+Sifting-stays report old now i child t a c l ns s fits is made nodes all =
+    let e : nodes_of old ≡ ns = ap nodes_of nodes ∙ nodes_of-forest_of ns in
+    let n : length (nodes_of now) ≡ length ns = s.same.same_len ∙ ap length e in
+    let at : child ≡ get_or ns i child = is ∙ same_item i (nodes_of now) (nodes_of old) child s.same.rest ∙ ap (λ xs. get_or xs i child) e in
+    let k : may_stay report child ≡ true = all_at (may_stay report) ns i child all (omega (arith, n, fits)) at in
+    reached_of (is_below report t a) (rw made at k)

@@ -27,6 +27,11 @@ is_gone Stays = false
 is_gone BecomesText = false
 is_gone Vanishes = true
 
+-- whether a node isn't such a message
+abbrev pub may_stay : Threshold → Node → Bool
+may_stay report (Element t a c l) = not (is_below report t a)
+may_stay report (Text t) = true
+
 -- whether one of the attributes serves the transforms alone
 abbrev pub has_hidden : List Attr → Bool
 has_hidden [] = false

@@ -1,7 +1,8 @@
 //! What of a document is shown.
-ghost use Rattle.std.specs.Prelude.{◌≡◌, true};
+ghost use Rattle.std.specs.Prelude.{◌≡◌, true, IsTrue};
+ghost use Rattle.std.specs.List.{list_all};
 ghost use Rattle.rst_tree.specs.Faults.{Gives};
-ghost use Rattle.rst_transform.specs.Shown.{is_below, is_gone, are_shown, is_shown_in};
+ghost use Rattle.rst_transform.specs.Shown.{is_below, is_gone, may_stay, are_shown, is_shown_in};
 
 use crate::messages::{level_number, reaches};
 use crate::reading::number;
@@ -9,6 +10,7 @@ use rst_settings::Threshold;
 use rst_tree::{Attrs, Children, Key, Node, Tag, Text, TreeFault};
 use std::alloc::Global;
 use std::collections::BTreeSet;
+use std::mem;
 
 /// Takes the messages below the report level out of a document, lets each problematic whose message is gone become its text, and
 /// takes off the attributes that serve the transforms alone (Configuration, `report_level`).
@@ -35,14 +37,15 @@ pub(crate) fn filter(alloc: Global, root: Node, report: Threshold) -> Result<Nod
         Node::Element {
             tag,
             mut attrs,
-            children,
+            mut children,
             line,
         } => {
             attrs.remove_hidden();
+            filter_in(alloc, &mut children, report, &shown)?;
             Ok(Node::Element {
                 tag,
                 attrs,
-                children: filtered(alloc, children, report, &shown)?,
+                children,
                 line,
             })
         }
@@ -91,6 +94,61 @@ fn fate_of(tag: Tag, attrs: &Attrs, report: Threshold, shown: &BTreeSet<u64>) ->
         },
         _ => Fate::Stays,
     }
+}
+
+/// Whether a node stays.
+fn stays(node: &Node, report: Threshold, shown: &BTreeSet<u64>) -> bool
+    ensures { IsTrue result → may_stay report node.now ≡ true }
+{
+    match node {
+        Node::Element { tag, attrs, .. } => !matches!(
+            fate_of(*tag, attrs, report, shown),
+            Fate::BecomesText | Fate::Vanishes
+        ),
+        Node::Text(_) => true,
+    }
+}
+
+/// Whether all nodes stay.
+fn all_stay(nodes: &[Node], report: Threshold, shown: &BTreeSet<u64>) -> bool
+    ensures { IsTrue result → list_all (may_stay report) nodes.now ≡ true }
+{
+    for node in nodes {
+        if !stays(node, report, shown) {
+            return false;
+        }
+    }
+    true
+}
+
+/// Takes what isn't shown out of nodes: in place where all of them stay.
+fn filter_in(
+    alloc: Global,
+    nodes: &mut Children,
+    report: Threshold,
+    shown: &BTreeSet<u64>,
+) -> Result<(), TreeFault>
+    ensures { Gives (λ _. are_shown report nodes.new ≡ true) result }
+{
+    if !all_stay(nodes.as_slice(), report, shown) {
+        let all = mem::replace(nodes, Children::new(alloc));
+        *nodes = filtered(alloc, all, report, shown)?;
+        return Ok(());
+    }
+    for i in 0..nodes.len() {
+        match nodes.get_mut(i) {
+            Node::Text(_) => continue,
+            Node::Element {
+                attrs,
+                children,
+                ..
+            } => {
+                attrs.remove_hidden();
+                filter_in(alloc, children, report, shown)?;
+            }
+        }
+    }
+    Ok(())
 }
 
 /// Nodes without what isn't shown.

@@ -6,4 +6,4 @@ use Rattle.rst_transform.proofs.filter.filter.Goals as goal
 pub returns-in-Element : goal.returns-in-Element
 returns-in-Element c =
     let clean : has_hidden c.remove_hidden.new.self ≡ false = ap has_hidden c.remove_hidden.ensures ∙ none_hidden c.in-Element.attrs in
-    rw clean c.in_ok-filtered-in-Element.ensures
+    rw clean c.in_ok-filter_in-in-Element.ensures
