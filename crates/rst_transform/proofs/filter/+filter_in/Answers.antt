@@ -1,10 +1,8 @@
-use Rattle.std.proofs.Common.{rules, arith, ◌≡◌, ◌+◌, ◌<◌, ◌≤◌, length, ap, false, true, refl}
-use Rattle.std.specs.List.{list_all}
-use Rattle.rst_tree.specs.declared.node.Node.TheVariants.{Element}
+use Rattle.std.proofs.Common.{rules, arith, ◌≡◌, ◌+◌, ◌<◌, ◌≤◌, length, ap, false}
 use Rattle.rst_tree.specs.Forest.{height}
 use Rattle.rst_tree.specs.Nodes.{nodes_of, node_height}
 use Rattle.rst_tree.proofs.Rewrites.{Same-child}
-use Rattle.rst_transform.specs.Shown.{is_below, are_shown}
+use Rattle.rst_transform.specs.Shown.{is_below}
 use Rattle.rst_transform.proofs.Showing.{element_shown, Sifting-init, Sifting-more, Sifting-stays, Sifting-text, Sifting-end}
 use Rattle.rst_transform.proofs.filter.+filter_in.Goals as goal
 
