@@ -1,23 +1,22 @@
 -- Where tables end, by the characters of their lines.
-use Rattle.std.proofs.Common.{⊎_elim, ◌≡◌, ℕ, zero, suc, ◌+◌, ◌-◌, ◌<◌, ◌≤◌, min, Bool, true, false, cond, not, ◌&&◌, ◌==◌, eqb, ltb, List, [], ◌∷◌, length, drop, take, length-drop, length-take, refl, sym, ap, ap₂, ◌∙◌, arith, Option, Some, None, subst}
+use Rattle.std.proofs.Common.{⊎_elim, ◌≡◌, ℕ, zero, suc, ◌+◌, ◌-◌, ◌<◌, ◌≤◌, min, Bool, true, false, cond, not, ◌&&◌, eqb, ltb, List, [], ◌∷◌, length, drop, take, length-drop, length-take, refl, sym, ap, ap₂, ◌∙◌, arith, Option, Some, None}
 use Rattle.std.proofs.Math.Nat.{min-eq_left, min-eq_right}
-use Rattle.std.proofs.lemmas.Bool.{cases_Bool, cases_lt, lt-ltb, ltb-true, eq-eqb, eqb-true, eqb-false, ne_eqb}
+use Rattle.std.proofs.lemmas.Bool.{cases_Bool, cases_lt, lt-ltb, ltb-true, eqb-true, eqb-false}
 use Rattle.std.proofs.lemmas.List.{length-map, drop-drop}
-use Rattle.rst_text.specs.Block.{Line, Block, front_text, is_blank}
+use Rattle.rst_text.specs.Block.{Block, front_text, is_blank}
 use Rattle.rst_marks.specs.Border.{is_grid_border}
 use Rattle.rst_markup.specs.declared.lines.LineTest.TheVariants.{Drawn, NoBorder}
 use Rattle.rst_markup.specs.TableLines.{is_drawn, border_len, is_border as is_border_text}
-use Rattle.rst_markup.specs.Lines.{passes, lines_while}
+use Rattle.rst_markup.specs.Lines.{lines_while}
 use Rattle.rst_markup.specs.Kinds.{next_text}
 use Rattle.rst_markup.specs.Sizes.{run_size}
 use Rattle.rst_markup.specs.RowLaws.{while_le}
 use Rattle.rst_markup.specs.TableRows.{one_more, through_border, closed_by, grid_size, grid_scan, goes_on, simple_size, simple_scan}
-use Rattle.rst_markup.proofs.LineLemmas.{drop_one, while_more, while_stop, while_end}
-use Rattle.rst_markup.proofs.EndLemmas.{run_size_some}
+use Rattle.rst_markup.proofs.LineLemmas.{drop_one, while_more, while_stop}
 use Rattle.rst_markup.proofs.TableLemmas.{simple_open, ends_first, ends_second, ends_open}
-use Rattle.rst_tables.specs.Places.{Row, Grid, no_row, places_of, row_of, rows_of, row_at}
+use Rattle.rst_tables.specs.Places.{Grid, row_of, rows_of, row_at}
 use Rattle.rst_tables.specs.Counts.{first_from}
-use Rattle.rst_tables.specs.GridTable.{is_border, is_grid_row, scanned, through_last, one_more as more_rows, two_more, height, grid_looked, head_of, with_dashes, row_fault, tiled, IsOfRows, IsOfHeight}
+use Rattle.rst_tables.specs.GridTable.{is_border, scanned, through_last, one_more as more_rows, two_more, height, grid_looked, head_of, with_dashes, row_fault, tiled, IsOfRows, IsOfHeight}
 use Rattle.rst_tables.specs.Ends.{end_of}
 use Rattle.rst_tables.specs.declared.drawn.Rectangle.{Rectangle}
 use Rattle.rst_tables.specs.declared.results.TableDetail.{TableDetail}

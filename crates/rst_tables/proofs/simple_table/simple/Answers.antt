@@ -1,4 +1,4 @@
-use Rattle.std.proofs.Common.{◌≡◌, ◌∙◌, ◌+◌, ◌-◌, ◌≤◌, ℕ, List, ap, drop, take, length, length-drop, length-take, sym, arith}
+use Rattle.std.proofs.Common.{◌≡◌, ◌∙◌, ◌+◌, ◌-◌, ap, drop, take, length, length-drop, length-take, sym, arith}
 use Rattle.rst_text.specs.Shown.{block_of}
 use Rattle.rst_text.specs.Block.{Block, front_text}
 use Rattle.rst_markup.specs.TableRows.{simple_size}
