@@ -33,7 +33,10 @@ pub fn document_of(
         Ok(lines) => lines,
         Err(_) => return Err(End::NoMemory),
     };
+    // Each form of the input is given up before the next is made, so that memory holds few at once.
+    drop(text);
     let parsed = parsed_of(alloc, settings, &lines)?;
+    drop(lines);
     let finished = match finish(alloc, parsed.document, parsed.messages, settings) {
         Ok(finished) => finished,
         // `NoTree` is not expected of a document that was parsed, but that is not proved.

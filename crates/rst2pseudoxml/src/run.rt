@@ -41,7 +41,9 @@ pub fn run<R: Read, O: Write, E: Write>(
         Ok(bytes) => bytes,
         Err(end) => return end,
     };
-    match document_of(alloc, settings, source, bytes.as_slice()) {
+    let document = document_of(alloc, settings, source, bytes.as_slice());
+    drop(bytes);
+    match document {
         Ok(finished) => {
             let end = show(alloc, settings, source, &finished, out, err);
             // A run is the last that a process does: its memory goes back as a whole, not node by node.

@@ -1,41 +1,32 @@
 //! The transforms: from the registered document to the finished tree, and the list of messages.
 #![tactic(auto)]
 
-mod anonymous;
+pub mod anonymous;
 mod authors;
 mod bibliography;
 mod definitions;
-mod docinfo;
-mod expand;
+pub mod docinfo;
+pub mod expand;
 mod fault;
 mod field;
 mod filter;
 mod finishing;
-mod footnotes;
+pub mod footnotes;
 mod holders;
-mod indirect;
+pub mod indirect;
 mod kinds;
 mod last_section;
 mod links;
 mod lists;
 mod messages;
 mod reading;
-mod resolve;
-mod targets;
+pub mod resolve;
+pub mod targets;
 mod texts;
-mod title;
-mod transitions;
+pub mod title;
+pub mod transitions;
 mod work;
 
-pub use anonymous::anonymous;
-pub use docinfo::docinfo;
-pub use expand::expand;
 pub use fault::TransformFault;
 pub use finishing::{Finished, finish};
-pub use footnotes::footnotes;
-pub use indirect::indirect;
-pub use resolve::resolve;
-pub use targets::targets;
-pub use title::title;
-pub use transitions::transitions;
 pub use work::{Report, Work};
