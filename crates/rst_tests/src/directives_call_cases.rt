@@ -5,7 +5,7 @@ use rst_directives::Place;
 pub(crate) type Case = (&'static str, Place, bool, &'static str);
 
 /// Directives, and substitution definitions that hold one.
-pub(crate) const DIRECTIVES: [Case; 32] = [
+pub(crate) const DIRECTIVES: &[Case] = &[
     (".. note:: a", Place::Top, false, "note|||a|"),
     (
         ".. note::\n\n   a\n\n    b",
@@ -186,7 +186,7 @@ pub(crate) const DIRECTIVES: [Case; 32] = [
 ];
 
 /// Directives, and substitution definitions that hold one.
-pub(crate) const MORE_DIRECTIVES: [Case; 32] = [
+pub(crate) const MORE_DIRECTIVES: &[Case] = &[
     (
         ".. image:: a\n   :target: \\",
         Place::Top,

@@ -1,9 +1,10 @@
 //! Directives as they are called, on examples from outside.
 use super::directives_call_cases::{DIRECTIVES, MORE_DIRECTIVES};
-use super::markup_explicit_tests::{push_part, text_of};
+use super::directives_tests::push_target;
+use super::parts::{line, push_characters, push_part};
 use rst_directives::{
     Alignment, Argument, Directive, DirectiveFault, Name, OptionName, OptionValue, Place, Setting,
-    Target, directive, message,
+    directive, message,
 };
 use rst_markup::{Characters, Explicit, Invocation, explicit, kind_of};
 use rst_text::{Lines, Looks, View};
@@ -68,20 +69,6 @@ fn push_words(out: &mut String, words: &[String]) -> Result<(), Fail> {
     Ok(())
 }
 
-fn push_target(out: &mut String, target: &Target) -> Result<(), Fail> {
-    match target {
-        Target::Name(name) => {
-            out.push('<')?;
-            out.push_str(name.as_str())?;
-        }
-        Target::Uri(uri) => {
-            out.push('>')?;
-            out.push_str(uri.as_str())?;
-        }
-    }
-    Ok(())
-}
-
 fn push_value(alloc: Global, out: &mut String, value: &OptionValue) -> Result<(), Fail> {
     match value {
         OptionValue::Text(text) | OptionValue::Measure(text) | OptionValue::Name(text) => {
@@ -141,7 +128,8 @@ fn directive_told(
 ) -> Result<String, Fail> {
     match found {
         Directive::Wrong { fault, .. } => {
-            let name = text_of(alloc, view, spoken_of(fault, call, definition))?;
+            let mut name = String::new(alloc);
+            push_characters(&mut name, line(view, 0), spoken_of(fault, call, definition))?;
             let text = message(alloc, fault, name.as_str())?;
             Ok(text)
         }
@@ -195,7 +183,7 @@ fn told(alloc: Global, text: &str, place: Place, paragraph: bool) -> Result<Stri
 
 #[test]
 fn directives(rt: HostRuntime) -> Result<(), Fail> {
-    for (text, place, paragraph, want) in DIRECTIVES {
+    for &(text, place, paragraph, want) in DIRECTIVES {
         let got = told(rt.alloc(), text, place, paragraph)?;
         assert!(rt; got.as_str() == want, "{text}: {got}");
     }
@@ -204,7 +192,7 @@ fn directives(rt: HostRuntime) -> Result<(), Fail> {
 
 #[test]
 fn more_directives(rt: HostRuntime) -> Result<(), Fail> {
-    for (text, place, paragraph, want) in MORE_DIRECTIVES {
+    for &(text, place, paragraph, want) in MORE_DIRECTIVES {
         let got = told(rt.alloc(), text, place, paragraph)?;
         assert!(rt; got.as_str() == want, "{text}: {got}");
     }

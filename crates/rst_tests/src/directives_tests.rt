@@ -4,26 +4,33 @@ use rst_text::characters_of;
 use std::alloc::Global;
 use std::test::Fail;
 
-/// What a target's text means: `<` and a name, `>` and a URI, or nothing.
-fn shown(alloc: Global, text: &str) -> Result<String, Fail> {
-    let mut out = String::new(alloc);
-    match target_value(alloc, text)? {
-        Some(Target::Name(name)) => {
+/// Puts a target behind a text: `<` and a name, or `>` and a URI.
+pub fn push_target(out: &mut String, target: &Target) -> Result<(), Fail> {
+    match target {
+        Target::Name(name) => {
             out.push('<')?;
             out.push_str(name.as_str())?;
         }
-        Some(Target::Uri(uri)) => {
+        Target::Uri(uri) => {
             out.push('>')?;
             out.push_str(uri.as_str())?;
         }
-        None => {}
+    }
+    Ok(())
+}
+
+/// What a target's text means, which may be nothing.
+fn shown(alloc: Global, text: &str) -> Result<String, Fail> {
+    let mut out = String::new(alloc);
+    if let Some(target) = target_value(alloc, text)? {
+        push_target(&mut out, &target)?;
     }
     Ok(out)
 }
 
 #[test]
 fn targets(rt: HostRuntime) -> Result<(), Fail> {
-    for (text, want) in [
+    for &(text, want) in &[
         ("x_", "<x"),
         ("a-b.c:d+e_", "<a-b.c:d+e"),
         ("a--b_", ">a--b_"),

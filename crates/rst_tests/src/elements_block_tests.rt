@@ -8,7 +8,7 @@ use std::test::Fail;
 type Bar = (Option<usize>, usize, usize, &'static str);
 
 /// Lines, the level of the line block, the deepest level, and the line block with its messages. A line end is shown as an arrow.
-const LINE_BLOCKS: [(&[Bar], usize, usize, &str); 14] = [
+const LINE_BLOCKS: &[(&[Bar], usize, usize, &str)] = &[
     (
         &[(Some(0), 1, 1, "a")],
         0,
@@ -122,7 +122,7 @@ const LINE_BLOCKS: [(&[Bar], usize, usize, &str); 14] = [
 ];
 
 /// Lines, the level of the line block, the deepest level, and the line at which nesting is too deep. A line end is shown as an arrow.
-const TOO_DEEP: [(&[Bar], usize, usize, usize); 6] = [
+const TOO_DEEP: &[(&[Bar], usize, usize, usize)] = &[
     (
         &[
             (Some(0), 1, 1, "a"),
@@ -178,7 +178,7 @@ fn bars(alloc: Global, rows: &[Bar]) -> Result<Vec<BarText>, Fail> {
 #[test]
 fn nests_line_blocks(rt: HostRuntime) -> Result<(), Fail> {
     let alloc = rt.alloc();
-    for (rows, level, deepest, want) in LINE_BLOCKS {
+    for &(rows, level, deepest, want) in LINE_BLOCKS {
         let lines = bars(alloc, rows)?;
         let made = line_block(alloc, lines, level, deepest, &mut Numbers::none())?;
         assert_eq!(rt; shown_with(alloc, made.element, made.notes)?.as_str(), want);
@@ -189,7 +189,7 @@ fn nests_line_blocks(rt: HostRuntime) -> Result<(), Fail> {
 #[test]
 fn refuses_deep_line_blocks(rt: HostRuntime) -> Result<(), Fail> {
     let alloc = rt.alloc();
-    for (rows, level, deepest, want) in TOO_DEEP {
+    for &(rows, level, deepest, want) in TOO_DEEP {
         let lines = bars(alloc, rows)?;
         match line_block(alloc, lines, level, deepest, &mut Numbers::none()) {
             Err(LineBlockFault::TooDeep { line }) => assert_eq!(rt; line, want),
@@ -200,7 +200,7 @@ fn refuses_deep_line_blocks(rt: HostRuntime) -> Result<(), Fail> {
 }
 
 /// Widths of columns. A line end is shown as an arrow.
-const WIDTHS: [(&[usize], &str); 4] = [
+const WIDTHS: &[(&[usize], &str)] = &[
     (
         &[3],
         "    <tgroup cols=\"1\">⏎        <colspec colwidth=\"3\">⏎",
@@ -220,7 +220,7 @@ const WIDTHS: [(&[usize], &str); 4] = [
 ];
 
 /// Rows and columns that entries take beside their first. A line end is shown as an arrow.
-const ENTRIES: [(usize, usize, &str); 4] = [
+const ENTRIES: &[(usize, usize, &str)] = &[
     (0, 0, "    <entry>⏎"),
     (1, 0, "    <entry morerows=\"1\">⏎"),
     (0, 2, "    <entry morecols=\"2\">⏎"),
@@ -230,11 +230,11 @@ const ENTRIES: [(usize, usize, &str); 4] = [
 #[test]
 fn makes_parts_of_tables(rt: HostRuntime) -> Result<(), Fail> {
     let alloc = rt.alloc();
-    for (widths, want) in WIDTHS {
+    for &(widths, want) in WIDTHS {
         let node = tgroup(alloc, widths, 1)?;
         assert_eq!(rt; shown_node(alloc, node)?.as_str(), want);
     }
-    for (morerows, morecols, want) in ENTRIES {
+    for &(morerows, morecols, want) in ENTRIES {
         let node = entry(alloc, morerows, morecols, 1)?;
         assert_eq!(rt; shown_node(alloc, node)?.as_str(), want);
     }

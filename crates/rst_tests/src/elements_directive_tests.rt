@@ -9,7 +9,7 @@ use std::alloc::Global;
 use std::test::Fail;
 
 /// Images by their URI, their options and the text that stands for them. A line end is shown as an arrow.
-const IMAGES: [(&str, &[(&str, &str)], Option<&str>, &str); 9] = [
+const IMAGES: &[(&str, &[(&str, &str)], Option<&str>, &str)] = &[
     ("a.png", &[], None, "    <image uri=\"a.png\">⏎"),
     (
         "ab",
@@ -65,7 +65,7 @@ const IMAGES: [(&str, &[(&str, &str)], Option<&str>, &str); 9] = [
 ];
 
 /// Figures by the URI of their image and their options. A line end is shown as an arrow.
-const FIGURES: [(&str, &[(&str, &str)], &str); 3] = [
+const FIGURES: &[(&str, &[(&str, &str)], &str)] = &[
     ("f", &[], "    <figure>⏎        <image uri=\"f\">⏎"),
     (
         "f",
@@ -87,7 +87,7 @@ const FIGURES: [(&str, &[(&str, &str)], &str); 3] = [
 ];
 
 /// Admonitions and topics by their options. A line end is shown as an arrow.
-const ELEMENTS: [(Name, &[(&str, &str)], &str); 11] = [
+const ELEMENTS: &[(Name, &[(&str, &str)], &str)] = &[
     (
         Name::Attention,
         &[("class", "b a"), ("name", "x y")],
@@ -146,7 +146,7 @@ const ELEMENTS: [(Name, &[(&str, &str)], &str); 11] = [
 ];
 
 /// Titles, and the admonitions that have their class. A line end is shown as an arrow.
-const TITLES: [(&str, &str); 7] = [
+const TITLES: &[(&str, &str)] = &[
     ("T", "    <admonition classes=\"admonition-t\">⏎"),
     ("A  b", "    <admonition classes=\"admonition-a-b\">⏎"),
     (":sub:`2`", "    <admonition classes=\"admonition-\">⏎"),
@@ -157,7 +157,7 @@ const TITLES: [(&str, &str); 7] = [
 ];
 
 /// Program code by its language, its options and its text. A line end is shown as an arrow.
-const CODE: [(Option<&str>, &[(&str, &str)], &str, &str); 3] = [
+const CODE: &[(Option<&str>, &[(&str, &str)], &str, &str)] = &[
     (
         None,
         &[],
@@ -240,7 +240,7 @@ fn settings(alloc: Global, rows: &[(&str, &str)]) -> Result<Vec<Setting>, Fail> 
 #[test]
 fn makes_images(rt: HostRuntime) -> Result<(), Fail> {
     let alloc = rt.alloc();
-    for (uri, rows, alt, want) in IMAGES {
+    for &(uri, rows, alt, want) in IMAGES {
         let options = settings(alloc, rows)?;
         let node = image(alloc, uri, &options, 5, false, alt)?;
         assert_eq!(rt; shown_node(alloc, node)?.as_str(), want, "{uri}");
@@ -261,7 +261,7 @@ fn figure_of(alloc: Global, uri: &str, options: &[Setting]) -> Result<Node, Tree
 #[test]
 fn makes_figures(rt: HostRuntime) -> Result<(), Fail> {
     let alloc = rt.alloc();
-    for (uri, rows, want) in FIGURES {
+    for &(uri, rows, want) in FIGURES {
         let options = settings(alloc, rows)?;
         let node = figure_of(alloc, uri, &options)?;
         assert_eq!(rt; shown_node(alloc, node)?.as_str(), want, "{uri}");
@@ -272,12 +272,12 @@ fn makes_figures(rt: HostRuntime) -> Result<(), Fail> {
 #[test]
 fn makes_elements_of_directives(rt: HostRuntime) -> Result<(), Fail> {
     let alloc = rt.alloc();
-    for (name, rows, want) in ELEMENTS {
+    for &(name, rows, want) in ELEMENTS {
         let options = settings(alloc, rows)?;
         let node = directive_element(alloc, name, &options, 5)?;
         assert_eq!(rt; shown_node(alloc, node)?.as_str(), want);
     }
-    for (language, rows, text, want) in CODE {
+    for &(language, rows, text, want) in CODE {
         let options = settings(alloc, rows)?;
         let node = code_block(alloc, language, &options, text, 5)?;
         assert_eq!(rt; shown_node(alloc, node)?.as_str(), want, "{text}");
@@ -288,7 +288,7 @@ fn makes_elements_of_directives(rt: HostRuntime) -> Result<(), Fail> {
 #[test]
 fn classes_admonitions_by_their_titles(rt: HostRuntime) -> Result<(), Fail> {
     let alloc = rt.alloc();
-    for (title, want) in TITLES {
+    for &(title, want) in TITLES {
         let read = with_text(alloc, Tag::Title, 1, title, 1, &mut Numbers::none())?;
         let node = directive_element(alloc, Name::Admonition, &[], 1)?;
         let node = with_title_class(alloc, node, &read.element)?;

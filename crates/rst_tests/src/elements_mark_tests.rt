@@ -9,7 +9,7 @@ use rst_marks::{Delimiter, enumerator_of, first_reading};
 use std::test::Fail;
 
 /// Bullet lists by their marks. A line end is shown as an arrow.
-const BULLETS: [(char, &str); 6] = [
+const BULLETS: &[(char, &str)] = &[
     ('*', "    <bullet_list bullet=\"*\">⏎"),
     ('+', "    <bullet_list bullet=\"+\">⏎"),
     ('-', "    <bullet_list bullet=\"-\">⏎"),
@@ -19,7 +19,7 @@ const BULLETS: [(char, &str); 6] = [
 ];
 
 /// Enumerated lists by their first enumerator, and the messages on their first ordinal. A line end is shown as an arrow.
-const ENUMERATORS: [(&str, &str); 20] = [
+const ENUMERATORS: &[(&str, &str)] = &[
     (
         "1.",
         "    <enumerated_list enumtype=\"arabic\" prefix=\"\" suffix=\".\">⏎",
@@ -103,7 +103,7 @@ const ENUMERATORS: [(&str, &str); 20] = [
 ];
 
 /// Options; an empty argument is none. A line end is shown as an arrow.
-const OPTIONS: [(&str, Delimiter, &str, &str); 9] = [
+const OPTIONS: &[(&str, Delimiter, &str, &str)] = &[
     (
         "-a",
         Delimiter::Nothing,
@@ -163,11 +163,11 @@ const OPTIONS: [(&str, Delimiter, &str, &str); 9] = [
 #[test]
 fn makes_lists(rt: HostRuntime) -> Result<(), Fail> {
     let alloc = rt.alloc();
-    for (mark, want) in BULLETS {
+    for &(mark, want) in BULLETS {
         let list = bullet_list(alloc, mark, 1)?;
         assert_eq!(rt; shown_node(alloc, list)?.as_str(), want, "{mark}");
     }
-    for (written, want) in ENUMERATORS {
+    for &(written, want) in ENUMERATORS {
         let Some(enumerator) = enumerator_of(written) else {
             assert!(rt; false, "{written}");
             continue;
@@ -187,7 +187,7 @@ fn makes_lists(rt: HostRuntime) -> Result<(), Fail> {
 #[test]
 fn makes_options(rt: HostRuntime) -> Result<(), Fail> {
     let alloc = rt.alloc();
-    for (string, delimiter, text, want) in OPTIONS {
+    for &(string, delimiter, text, want) in OPTIONS {
         let argument = if text.is_empty() {
             None
         } else {
@@ -200,7 +200,7 @@ fn makes_options(rt: HostRuntime) -> Result<(), Fail> {
 }
 
 /// Footnotes by their labels. A line end is shown as an arrow.
-const FOOTNOTES: [(&str, &str); 8] = [
+const FOOTNOTES: &[(&str, &str)] = &[
     (
         "1",
         "    <footnote mark=\"1\" own_name=\"1\">⏎        <label>⏎            1⏎",
@@ -230,7 +230,7 @@ const FOOTNOTES: [(&str, &str); 8] = [
 ];
 
 /// Citations by their labels. A line end is shown as an arrow.
-const CITATIONS: [(&str, &str); 5] = [
+const CITATIONS: &[(&str, &str)] = &[
     (
         "A",
         "    <citation own_name=\"a\">⏎        <label>⏎            A⏎",
@@ -256,11 +256,11 @@ const CITATIONS: [(&str, &str); 5] = [
 #[test]
 fn labels_footnotes_and_citations(rt: HostRuntime) -> Result<(), Fail> {
     let alloc = rt.alloc();
-    for (label, want) in FOOTNOTES {
+    for &(label, want) in FOOTNOTES {
         let node = footnote(alloc, label, 1)?;
         assert_eq!(rt; shown_node(alloc, node)?.as_str(), want, "{label}");
     }
-    for (label, want) in CITATIONS {
+    for &(label, want) in CITATIONS {
         let node = citation(alloc, label, 1)?;
         assert_eq!(rt; shown_node(alloc, node)?.as_str(), want, "{label}");
     }
@@ -268,7 +268,7 @@ fn labels_footnotes_and_citations(rt: HostRuntime) -> Result<(), Fail> {
 }
 
 /// Targets by their names and their texts. A line end is shown as an arrow.
-const TARGETS: [(Option<&str>, &str, &str); 22] = [
+const TARGETS: &[(Option<&str>, &str, &str)] = &[
     (Some("a"), "u", "    <target own_name=\"a\" refuri=\"u\">⏎"),
     (
         Some("A  B"),
@@ -346,7 +346,7 @@ const TARGETS: [(Option<&str>, &str, &str); 22] = [
 ];
 
 /// Substitution definitions by their names as they are written. A line end is shown as an arrow.
-const DEFINITIONS: [(&str, &str); 6] = [
+const DEFINITIONS: &[(&str, &str)] = &[
     ("a", "    <substitution_definition own_name=\"a\">⏎"),
     ("A  b", "    <substitution_definition own_name=\"A b\">⏎"),
     ("a\\ b", "    <substitution_definition own_name=\"ab\">⏎"),
@@ -356,7 +356,7 @@ const DEFINITIONS: [(&str, &str); 6] = [
 ];
 
 /// Texts, and whether their nodes may replace a substitution reference. A line end is shown as an arrow.
-const REPLACEMENTS: [(&str, bool); 20] = [
+const REPLACEMENTS: &[(&str, bool)] = &[
     ("", true),
     ("a", true),
     ("*a* **b** ``c`` :sub:`d` :sup:`e` `f`", true),
@@ -382,7 +382,7 @@ const REPLACEMENTS: [(&str, bool); 20] = [
 #[test]
 fn makes_targets(rt: HostRuntime) -> Result<(), Fail> {
     let alloc = rt.alloc();
-    for (name, text, want) in TARGETS {
+    for &(name, text, want) in TARGETS {
         let node = target(alloc, name, text, 1)?;
         assert_eq!(rt; shown_node(alloc, node)?.as_str(), want, "{text}");
     }
@@ -392,12 +392,12 @@ fn makes_targets(rt: HostRuntime) -> Result<(), Fail> {
 #[test]
 fn defines_substitutions(rt: HostRuntime) -> Result<(), Fail> {
     let alloc = rt.alloc();
-    for (written, want) in DEFINITIONS {
+    for &(written, want) in DEFINITIONS {
         let name = substitution_name(alloc, written)?;
         let node = substitution_definition(alloc, name.as_str(), 1)?;
         assert_eq!(rt; shown_node(alloc, node)?.as_str(), want, "{written}");
     }
-    for (text, want) in REPLACEMENTS {
+    for &(text, want) in REPLACEMENTS {
         let read = inline(alloc, text, 1)?;
         assert_eq!(rt; may_replace(&read.nodes), want, "{text}");
     }

@@ -5,7 +5,7 @@ use rst_tree::{Level, Tag};
 use std::test::Fail;
 
 /// Texts and the paragraphs that they are, on line 3 with their text on line 4. A line end is shown as an arrow.
-const TEXTS: [(&str, &str); 10] = [
+const TEXTS: &[(&str, &str)] = &[
     ("", "    <paragraph text_messages=\"0\">⏎"),
     ("a", "    <paragraph text_messages=\"0\">⏎        a⏎"),
     (
@@ -42,7 +42,7 @@ const TEXTS: [(&str, &str); 10] = [
 #[test]
 fn reads_texts(rt: HostRuntime) -> Result<(), Fail> {
     let alloc = rt.alloc();
-    for (text, want) in TEXTS {
+    for &(text, want) in TEXTS {
         let read = with_text(alloc, Tag::Paragraph, 3, text, 4, &mut Numbers::none())?;
         let found = shown_with(alloc, read.element, read.notes)?;
         assert_eq!(rt; found.as_str(), want, "{text}");
@@ -103,7 +103,7 @@ fn says_plain_texts_and_messages(rt: HostRuntime) -> Result<(), Fail> {
 }
 
 /// Terms with their classifiers, and the messages of their text. A line end is shown as an arrow.
-const TERMS: [(&str, &str); 33] = [
+const TERMS: &[(&str, &str)] = &[
     ("term", "    <term text_messages=\"0\">⏎        term⏎"),
     (
         "term : c",
@@ -217,7 +217,7 @@ const TERMS: [(&str, &str); 33] = [
 #[test]
 fn splits_terms(rt: HostRuntime) -> Result<(), Fail> {
     let alloc = rt.alloc();
-    for (text, want) in TERMS {
+    for &(text, want) in TERMS {
         let read = term_and_classifiers(alloc, text, 2, &mut Numbers::none())?;
         let mut nodes = read.heads;
         for note in read.notes {
@@ -229,7 +229,7 @@ fn splits_terms(rt: HostRuntime) -> Result<(), Fail> {
 }
 
 /// Titles, their sections, and the messages of the titles. A line end is shown as an arrow.
-const SECTIONS: [(&str, &str); 6] = [
+const SECTIONS: &[(&str, &str)] = &[
     (
         "T",
         "    <section own_name=\"t\" text_messages=\"0\">⏎        <title text_messages=\"0\">⏎            T⏎",
@@ -259,7 +259,7 @@ const SECTIONS: [(&str, &str); 6] = [
 #[test]
 fn begins_sections(rt: HostRuntime) -> Result<(), Fail> {
     let alloc = rt.alloc();
-    for (text, want) in SECTIONS {
+    for &(text, want) in SECTIONS {
         let read = with_text(alloc, Tag::Title, 1, text, 1, &mut Numbers::none())?;
         let node = section(alloc, read.element, read.notes.len(), 1)?;
         assert_eq!(rt;

@@ -1,13 +1,12 @@
 //! Nodes and messages of texts. The answers were worked out from the public Markup Specification, not by this crate.
+use super::printed::{self, push_shown};
 use rst_inline::{inline, plain_uri, unescape};
-use rst_text::Counted;
-use rst_tree::{Attrs, Children, Node, Tag, Tree, print};
 use std::alloc::Global;
 use std::test::Fail;
 
 /// Texts with their nodes as printed, those attributes included that serve the transforms alone, and their messages. A line
 /// end is shown as an arrow.
-const ROWS: [(&str, &str); 50] = [
+const ROWS: &[(&str, &str)] = &[
     ("*a*", "    <emphasis>⏎        a⏎"),
     (
         "**a** ``b\\c`` *d*",
@@ -177,29 +176,9 @@ const ROWS: [(&str, &str); 50] = [
     ("*\\ * ** b**", "    <emphasis>⏎        * *⏎     b**⏎"),
 ];
 
-/// Puts a text with its line ends as arrows behind another.
-fn push_shown(out: &mut String, text: &str) -> Result<(), Fail> {
-    for c in text.chars() {
-        out.push(if c == '\n' { '⏎' } else { c })?;
-    }
-    Ok(())
-}
-
 fn shown(alloc: Global, text: &str) -> Result<String, Fail> {
     let read = inline(alloc, text, 7)?;
-    let root = Node::Element {
-        tag: Tag::Document,
-        attrs: Attrs::new(alloc),
-        children: Children::of(read.nodes),
-        line: 1,
-    };
-    let mut out = String::new(alloc);
-    if let Ok(tree) = Tree::of(root) {
-        let mut printed = Counted::of(Vec::new(alloc));
-        print(&tree, &mut printed)?;
-        let text = str::from_utf8(printed.inner().as_slice())?;
-        push_shown(&mut out, text.strip_prefix("<document>\n").unwrap_or(text))?;
-    }
+    let mut out = printed::shown(alloc, read.nodes)?;
     for note in &read.notes {
         let message = format!(in alloc;
             "@{} {} {}\n",
@@ -214,7 +193,7 @@ fn shown(alloc: Global, text: &str) -> Result<String, Fail> {
 
 #[test]
 fn reads_inline_markup(rt: HostRuntime) -> Result<(), Fail> {
-    for (text, want) in ROWS {
+    for &(text, want) in ROWS {
         assert_eq!(rt; shown(rt.alloc(), text)?.as_str(), want, "{text}");
     }
     assert_eq!(rt; shown(rt.alloc(), "")?.as_str(), "");
@@ -223,7 +202,7 @@ fn reads_inline_markup(rt: HostRuntime) -> Result<(), Fail> {
 
 #[test]
 fn unescapes(rt: HostRuntime) -> Result<(), Fail> {
-    for (text, want) in [("a\\ b\\\\c\\", "ab\\c"), ("\\*a\\\u{A0}b", "*ab")] {
+    for &(text, want) in &[("a\\ b\\\\c\\", "ab\\c"), ("\\*a\\\u{A0}b", "*ab")] {
         assert_eq!(rt; unescape(rt.alloc(), text)?.as_str(), want);
     }
     Ok(())
@@ -231,10 +210,10 @@ fn unescapes(rt: HostRuntime) -> Result<(), Fail> {
 
 #[test]
 fn knows_uris(rt: HostRuntime) -> Result<(), Fail> {
-    for text in ["HTTP://a/", "mailto:a@b", "news:x"] {
+    for &text in &["HTTP://a/", "mailto:a@b", "news:x"] {
         assert!(rt; plain_uri(text), "{text}");
     }
-    for text in [
+    for &text in &[
         "http://a.",
         "http://",
         "http://é",

@@ -34,6 +34,8 @@ mod names_tests;
 #[cfg(test)]
 mod options_tests;
 #[cfg(test)]
+mod parts;
+#[cfg(test)]
 mod printed;
 #[cfg(test)]
 mod tables_tests;

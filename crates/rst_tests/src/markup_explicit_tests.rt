@@ -1,11 +1,12 @@
 //! Explicit markup, on examples from outside.
+use super::parts::{line, push_characters, push_part};
 use rst_markup::{Characters, CommentCause, Explicit, Invocation, Part, explicit, kind_of};
-use rst_text::{Lines, Looks, View, skip};
+use rst_text::{Lines, Looks, View};
 use std::alloc::Global;
 use std::test::Fail;
 
 /// Texts that begin with explicit markup, and what is told of that.
-const EXPLICIT: [(&'static str, &'static str); 32] = [
+const EXPLICIT: &[(&'static str, &'static str)] = &[
     ("..", "empty|||1"),
     ("..\n\nx", "empty|||1"),
     ("..\nx", "comment|||1"),
@@ -41,7 +42,7 @@ const EXPLICIT: [(&'static str, &'static str); 32] = [
 ];
 
 /// Texts that begin with explicit markup, and what is told of that.
-const MORE_EXPLICIT: [(&'static str, &'static str); 32] = [
+const MORE_EXPLICIT: &[(&'static str, &'static str)] = &[
     ("__\n  x", "anonymous||\n  x|2"),
     ("__   x\nz", "anonymous||x|1"),
     (".. _a", "malformed target||_a|1"),
@@ -85,49 +86,8 @@ const MORE_EXPLICIT: [(&'static str, &'static str); 32] = [
     ),
 ];
 
-/// The text of the line at place `i`.
-fn line<'a>(view: &View<'a>, i: usize) -> &'a str {
-    let mut looks = Looks::none();
-    if i < view.len() {
-        view.line(i, &mut looks)
-    } else {
-        ""
-    }
-}
-
-/// The characters of the first line at these places.
-pub(crate) fn text_of(alloc: Global, view: &View<'_>, place: Characters) -> Result<String, Fail> {
-    let mut out = String::new(alloc);
-    push_characters(&mut out, view, place)?;
-    Ok(out)
-}
-
-fn push_characters(out: &mut String, view: &View<'_>, place: Characters) -> Result<(), Fail> {
-    for (i, c) in line(view, 0).chars().enumerate() {
-        if place.from <= i && i < place.to {
-            out.push(c)?;
-        }
-    }
-    Ok(())
-}
-
-pub(crate) fn push_part(out: &mut String, view: &View<'_>, part: Part) -> Result<(), Fail> {
-    for i in part.from..part.to {
-        if part.from < i {
-            out.push('\n')?;
-        }
-        let cut = if i == part.from {
-            part.first_cut
-        } else {
-            part.rest_cut
-        };
-        out.push_str(skip(line(view, i), cut))?;
-    }
-    Ok(())
-}
-
 fn push_invocation(out: &mut String, view: &View<'_>, call: &Invocation) -> Result<(), Fail> {
-    push_characters(out, view, call.name)?;
+    push_characters(out, line(view, 0), call.name)?;
     out.push('|')?;
     push_part(out, view, call.block)
 }
@@ -140,7 +100,7 @@ fn push_labelled(
     part: Part,
 ) -> Result<(), Fail> {
     out.push_str(form)?;
-    push_characters(out, view, label)?;
+    push_characters(out, line(view, 0), label)?;
     out.push('|')?;
     push_part(out, view, part)
 }
@@ -176,7 +136,7 @@ fn push_explicit(out: &mut String, view: &View<'_>, markup: &Explicit) -> Result
         Explicit::Anonymous { text } => push_plain(out, view, "anonymous||", *text),
         Explicit::Substitution { name, held, .. } => {
             out.push_str("substitution|")?;
-            push_characters(out, view, *name)?;
+            push_characters(out, line(view, 0), *name)?;
             out.push('|')?;
             push_held(out, view, held)
         }
@@ -213,7 +173,7 @@ fn told(alloc: Global, text: &str) -> Result<String, Fail> {
 
 #[test]
 fn markup(rt: HostRuntime) -> Result<(), Fail> {
-    for (text, want) in EXPLICIT {
+    for &(text, want) in EXPLICIT {
         let got = told(rt.alloc(), text)?;
         assert!(rt; got.as_str() == want, "{text}: {got}");
     }
@@ -222,7 +182,7 @@ fn markup(rt: HostRuntime) -> Result<(), Fail> {
 
 #[test]
 fn more_markup(rt: HostRuntime) -> Result<(), Fail> {
-    for (text, want) in MORE_EXPLICIT {
+    for &(text, want) in MORE_EXPLICIT {
         let got = told(rt.alloc(), text)?;
         assert!(rt; got.as_str() == want, "{text}: {got}");
     }

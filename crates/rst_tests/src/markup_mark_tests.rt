@@ -1,14 +1,15 @@
 //! Attributions and the options of option lists, on examples from outside.
+use super::parts::{push_characters, push_part};
 use rst_marks::{Delimiter, ListedOption, listed_options};
-use rst_markup::{Attribution, attribution_at};
-use rst_text::{Lines, Looks, View, skip};
+use rst_markup::{Attribution, Part, attribution_at};
+use rst_text::{Lines, Looks, View};
 use std::alloc::Global;
 use std::test::Fail;
 
 /// A quote's text, a place in it, and the place after the attribution there and that one's text, if one is there.
 type Quote = (&'static str, usize, Option<(usize, &'static str)>);
 
-const ATTRIBUTIONS: [Quote; 17] = [
+const ATTRIBUTIONS: &[Quote] = &[
     ("a\n\n-- b", 2, Some((3, "b"))),
     ("a\n\n--b\n  c\n  d\n\ne", 2, Some((5, "b\nc\nd"))),
     ("a\n\n-- b\n  c\n   d", 2, None),
@@ -29,7 +30,7 @@ const ATTRIBUTIONS: [Quote; 17] = [
 ];
 
 /// Lines, and their options: each with its delimiter and its argument, a point for both where there is none.
-const OPTIONS: [(&'static str, &'static str); 18] = [
+const OPTIONS: &[(&'static str, &'static str)] = &[
     ("-a", "-a|.|"),
     ("-a  x", "-a|.|"),
     ("-aX  x", "-a||X"),
@@ -58,24 +59,19 @@ fn attributed(
     attribution: &Attribution,
 ) -> Result<String, Fail> {
     let mut out = String::new(alloc);
-    for i in k..attribution.end.min(view.len()) {
-        let mut looks = Looks::none();
-        if k < i {
-            out.push('\n')?;
-        }
-        let cut = if i == k {
-            attribution.marker
-        } else {
-            attribution.indent
-        };
-        out.push_str(skip(view.line(i, &mut looks), cut))?;
-    }
+    let part = Part {
+        from: k,
+        to: attribution.end,
+        first_cut: attribution.marker,
+        rest_cut: attribution.indent,
+    };
+    push_part(&mut out, view, part)?;
     Ok(out)
 }
 
 #[test]
 fn attributions(rt: HostRuntime) -> Result<(), Fail> {
-    for (text, k, want) in ATTRIBUTIONS {
+    for &(text, k, want) in ATTRIBUTIONS {
         let lines = Lines::of(rt.alloc(), text, 8)?;
         let view = View::whole(&lines);
         let mut looks = Looks::none();
@@ -94,17 +90,8 @@ fn attributions(rt: HostRuntime) -> Result<(), Fail> {
     Ok(())
 }
 
-fn push_between(out: &mut String, text: &str, from: usize, to: usize) -> Result<(), Fail> {
-    for (i, c) in text.chars().enumerate() {
-        if from <= i && i < to {
-            out.push(c)?;
-        }
-    }
-    Ok(())
-}
-
 fn push_option(out: &mut String, text: &str, option: &ListedOption) -> Result<(), Fail> {
-    push_between(out, text, option.string.from, option.string.to)?;
+    push_characters(out, text, option.string)?;
     match option.argument {
         None => out.push_str("|.|")?,
         Some(argument) => {
@@ -113,7 +100,7 @@ fn push_option(out: &mut String, text: &str, option: &ListedOption) -> Result<()
                 Delimiter::Space => "| |",
                 Delimiter::Equals => "|=|",
             })?;
-            push_between(out, text, argument.text.from, argument.text.to)?;
+            push_characters(out, text, argument.text)?;
         }
     }
     Ok(())
@@ -133,7 +120,7 @@ fn options_told(alloc: Global, text: &str) -> Result<String, Fail> {
 
 #[test]
 fn options(rt: HostRuntime) -> Result<(), Fail> {
-    for (text, want) in OPTIONS {
+    for &(text, want) in OPTIONS {
         let got = options_told(rt.alloc(), text)?;
         assert!(rt; got.as_str() == want, "{text}: {got}");
     }

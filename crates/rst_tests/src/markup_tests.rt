@@ -13,7 +13,7 @@ use std::test::Fail;
 type Case = (&'static str, Kind, bool, Option<usize>);
 
 /// Items of lists.
-const ITEMS: [Case; 25] = [
+const ITEMS: &[Case] = &[
     ("- a", Kind::Bullet, true, Some(1)),
     ("- a\n  b\n\n  c\nd", Kind::Bullet, true, Some(4)),
     ("-\n  a\n b", Kind::Bullet, true, Some(3)),
@@ -42,7 +42,7 @@ const ITEMS: [Case; 25] = [
 ];
 
 /// Other blocks than items and texts.
-const BLOCKS: [Case; 40] = [
+const BLOCKS: &[Case] = &[
     ("::\nx", Kind::Adornment, true, Some(2)),
     ("::\nx", Kind::Adornment, false, Some(2)),
     (">>> a\nb\n\nc", Kind::Doctest, true, Some(2)),
@@ -86,7 +86,7 @@ const BLOCKS: [Case; 40] = [
 ];
 
 /// Texts: paragraphs, titles with an underline, definition list items.
-const TEXTS: [Case; 25] = [
+const TEXTS: &[Case] = &[
     ("-a", Kind::Text, true, Some(1)),
     ("•x", Kind::Text, true, Some(1)),
     ("1. a\nb", Kind::Text, true, Some(2)),
@@ -115,7 +115,7 @@ const TEXTS: [Case; 25] = [
 ];
 
 /// Texts: paragraphs, titles with an underline, definition list items.
-const MORE_TEXTS: [Case; 25] = [
+const MORE_TEXTS: &[Case] = &[
     ("__x", Kind::Text, true, Some(1)),
     ("a\nb\n c", Kind::Text, true, Some(2)),
     ("a\n b\n\n c\nd", Kind::Text, true, Some(4)),
@@ -199,10 +199,10 @@ fn end_by_kind(alloc: Global, text: &str, titles: bool) -> Result<Option<usize>,
 
 #[test]
 fn ends_by_kind(rt: HostRuntime) -> Result<(), Fail> {
-    for (text, _, titles, end) in BLOCKS {
+    for &(text, _, titles, end) in BLOCKS {
         assert_eq!(rt; end_by_kind(rt.alloc(), text, titles)?, end, "{text}");
     }
-    for (text, _, titles, end) in ITEMS {
+    for &(text, _, titles, end) in ITEMS {
         assert_eq!(rt; end_by_kind(rt.alloc(), text, titles)?, end, "{text}");
     }
     Ok(())
@@ -210,7 +210,7 @@ fn ends_by_kind(rt: HostRuntime) -> Result<(), Fail> {
 
 #[test]
 fn items(rt: HostRuntime) -> Result<(), Fail> {
-    for (text, kind, titles, end) in ITEMS {
+    for &(text, kind, titles, end) in ITEMS {
         assert_eq!(rt; found(rt.alloc(), text, titles)?, (kind, end), "{text}");
     }
     Ok(())
@@ -218,7 +218,7 @@ fn items(rt: HostRuntime) -> Result<(), Fail> {
 
 #[test]
 fn blocks(rt: HostRuntime) -> Result<(), Fail> {
-    for (text, kind, titles, end) in BLOCKS {
+    for &(text, kind, titles, end) in BLOCKS {
         assert_eq!(rt; found(rt.alloc(), text, titles)?, (kind, end), "{text}");
     }
     Ok(())
@@ -226,7 +226,7 @@ fn blocks(rt: HostRuntime) -> Result<(), Fail> {
 
 #[test]
 fn texts(rt: HostRuntime) -> Result<(), Fail> {
-    for (text, kind, titles, end) in TEXTS {
+    for &(text, kind, titles, end) in TEXTS {
         assert_eq!(rt; found(rt.alloc(), text, titles)?, (kind, end), "{text}");
     }
     Ok(())
@@ -234,7 +234,7 @@ fn texts(rt: HostRuntime) -> Result<(), Fail> {
 
 #[test]
 fn more_texts(rt: HostRuntime) -> Result<(), Fail> {
-    for (text, kind, titles, end) in MORE_TEXTS {
+    for &(text, kind, titles, end) in MORE_TEXTS {
         assert_eq!(rt; found(rt.alloc(), text, titles)?, (kind, end), "{text}");
     }
     Ok(())
@@ -242,7 +242,7 @@ fn more_texts(rt: HostRuntime) -> Result<(), Fail> {
 
 /// A text behind the marker of explicit markup, its form, how many characters its label or name has, and how many the
 /// whole mark has with the spaces behind it.
-const FORMS: [(&str, &str, usize, usize); 61] = [
+const FORMS: &[(&str, &str, usize, usize)] = &[
     ("[1] a", "footnote", 1, 4),
     ("[12]", "footnote", 2, 4),
     ("[#] a", "footnote", 1, 4),
@@ -331,7 +331,7 @@ fn told(form: ExplicitForm) -> (&'static str, usize, usize) {
 
 #[test]
 fn forms_of_explicit_markup(rt: HostRuntime) -> Result<(), Fail> {
-    for (text, kind, len, cut) in FORMS {
+    for &(text, kind, len, cut) in FORMS {
         assert_eq!(rt; told(explicit_form(text)), (kind, len, cut), "{text}");
     }
     Ok(())

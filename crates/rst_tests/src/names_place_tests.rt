@@ -6,7 +6,7 @@ use std::test::Fail;
 #[test]
 fn places_messages(rt: HostRuntime) -> Result<(), Fail> {
     let alloc = rt.alloc();
-    for (document, want) in [
+    for &(document, want) in &[
         TARGETS_IN_TITLE,
         TARGETS_IN_LINES,
         TARGETS_IN_TERMS,

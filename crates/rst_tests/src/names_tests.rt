@@ -1,36 +1,15 @@
 //! Documents before and after registration, with the attributes that the transforms alone need; what is wanted is what
 //! the profile of the reference implementation gives.
-ghost use Rattle.std.specs.Prelude.{Some};
 
+use super::printed::printed;
 use rst_marked::Marked;
 use rst_names::register;
-use rst_text::Counted;
-use rst_tree::{Attrs, Children, Key, Node, Tag, Text, Texts, Tree, TreeFault, Value, print};
+use rst_tree::{Attrs, Children, Key, Node, Tag, Text, TreeFault, Value};
 use std::alloc::Global;
-use std::io::Write;
 use std::test::Fail;
 
-/// A writer that holds what was written.
-#[derive(Drop)]
-struct Page {
-    bytes: Vec<u8>,
-}
-
-impl Write for Page {
-    ghost contents = { λ p. Some p.bytes.items };
-
-    fn write(&mut self, buf: &[u8]) -> std::io::Result<usize> {
-        self.bytes.extend_from_slice(buf)?;
-        Ok(buf.len())
-    }
-
-    fn flush(&mut self) -> std::io::Result<()> {
-        Ok(())
-    }
-}
-
 /// The kinds of the elements in the examples.
-const TAGS: [Tag; 25] = [
+const TAGS: &[Tag] = &[
     Tag::Attribution,
     Tag::BlockQuote,
     Tag::Caption,
@@ -60,7 +39,7 @@ const TAGS: [Tag; 25] = [
 
 /// The kind of a name.
 fn tag_of(name: &str) -> Tag {
-    for tag in &TAGS {
+    for tag in TAGS {
         if tag.name() == name {
             return *tag;
         }
@@ -192,25 +171,16 @@ fn document_of(alloc: Global, example: &str) -> Result<Node, TreeFault> {
 }
 
 /// Whether a document is printed as wanted once it is registered.
-pub fn is_registered_as(alloc: Global, document: &str, want: &str) -> Result<bool, TreeFault> {
+pub fn is_registered_as(alloc: Global, document: &str, want: &str) -> Result<bool, Fail> {
     let document = document_of(alloc, document)?;
     let registered = register(alloc, Marked::of(alloc, document)?)?;
-    let mut page = Page {
-        bytes: Vec::new(alloc),
-    };
-    match Tree::of(registered.root) {
-        Ok(tree) => {
-            let printed = print(&tree, &mut Counted::of(&mut page)).is_ok();
-            Ok(printed && page.bytes.as_slice() == want.as_bytes())
-        }
-        Err(_) => Ok(false),
-    }
+    Ok(printed(alloc, registered.root)?.as_str() == want)
 }
 
 #[test]
 fn registers_names(rt: HostRuntime) -> Result<(), Fail> {
     let alloc = rt.alloc();
-    for (document, want) in [
+    for &(document, want) in &[
         EQUAL_SECTIONS,
         SECTION_AND_TARGET,
         EQUAL_TARGETS,

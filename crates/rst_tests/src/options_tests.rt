@@ -17,7 +17,7 @@ fn no_words(rt: HostRuntime) -> Result<(), Fail> {
 /// Short and long options, with their values joined, behind a sign or in the next word.
 #[test]
 fn forms(rt: HostRuntime) -> Result<(), Fail> {
-    for (line, want) in [
+    for &(line, want) in &[
         ("", "Warning Severe Never true true 8 10000 "),
         ("-r3", "Error Severe Never true true 8 10000 <stdin>"),
         ("-r 3", "Error Severe Never true true 8 10000 <stdin>"),
@@ -69,7 +69,7 @@ fn forms(rt: HostRuntime) -> Result<(), Fail> {
 /// Levels by number and by name; numbers in decimal; an empty value is a wrong one.
 #[test]
 fn values_of_options(rt: HostRuntime) -> Result<(), Fail> {
-    for (line, want) in [
+    for &(line, want) in &[
         ("-r1", "Info Severe Never true true 8 10000 <stdin>"),
         ("-r2", "Warning Severe Never true true 8 10000 <stdin>"),
         (
@@ -129,7 +129,7 @@ fn values_of_options(rt: HostRuntime) -> Result<(), Fail> {
 /// Unknown options, options given twice, values left out or given to a flag; no name is shortened.
 #[test]
 fn misused(rt: HostRuntime) -> Result<(), Fail> {
-    for (line, want) in [
+    for &(line, want) in &[
         ("--nope", "bad arguments"),
         ("--help", "bad arguments"),
         ("--version", "bad arguments"),
@@ -164,7 +164,7 @@ fn misused(rt: HostRuntime) -> Result<(), Fail> {
 /// SOURCE before, behind and between options.
 #[test]
 fn sources(rt: HostRuntime) -> Result<(), Fail> {
-    for (line, want) in [
+    for &(line, want) in &[
         ("a.rst", "Warning Severe Never true true 8 10000 a.rst"),
         (
             "--no-doc-title ä.rst",
@@ -191,7 +191,7 @@ fn sources(rt: HostRuntime) -> Result<(), Fail> {
 /// Two options for one level, and which of several faults is told.
 #[test]
 fn order_of_faults(rt: HostRuntime) -> Result<(), Fail> {
-    for (line, want) in [
+    for &(line, want) in &[
         ("-v -q", "two levels"),
         ("-vq", "two levels"),
         ("-v -r 3", "two levels"),

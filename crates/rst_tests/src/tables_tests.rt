@@ -4,7 +4,7 @@ use rst_text::{Lines, Looks, View};
 use std::alloc::{AllocError, Global};
 use std::test::Fail;
 
-const GRIDS: [(&str, &str); 40] = [
+const GRIDS: &[(&str, &str)] = &[
     (
         "+---+---+\n| a | b |\n|   +---+\n|   | c |\n+---+---+",
         "T5 w3,3 h0 / [1 0 2:a; 3:; 4:;] [0 0 2:b;] / [0 0 4:c;]",
@@ -113,7 +113,7 @@ const GRIDS: [(&str, &str); 40] = [
     ),
 ];
 
-const SIMPLES: [(&str, &str); 44] = [
+const SIMPLES: &[(&str, &str)] = &[
     (
         "== ==\na  b c\n   d\n== ==",
         "T4 w2,3 h0 / [0 0 2:a; 3:;] [0 0 2:b_c; 3:d;]",
@@ -339,7 +339,7 @@ fn show(alloc: Global, table: &TableResult) -> Result<String, AllocError> {
 
 #[test]
 fn grids(rt: HostRuntime) -> Result<(), Fail> {
-    for (text, want) in GRIDS {
+    for &(text, want) in GRIDS {
         let lines = Lines::of(rt.alloc(), text, 8)?;
         let view = View::whole(&lines);
         assert!(rt; view.len() > 0);
@@ -353,7 +353,7 @@ fn grids(rt: HostRuntime) -> Result<(), Fail> {
 
 #[test]
 fn simples(rt: HostRuntime) -> Result<(), Fail> {
-    for (text, want) in SIMPLES {
+    for &(text, want) in SIMPLES {
         let lines = Lines::of(rt.alloc(), text, 8)?;
         let view = View::whole(&lines);
         assert!(rt; view.len() > 0);

@@ -8,7 +8,8 @@ ghost use Rattle.rst_tree.specs.declared.node.Node.TheVariants.{Element};
 ghost use Rattle.rst_tree.specs.declared.rewriting.Rewrite.TheVariants.{Replace};
 ghost use Rattle.rst_tree.specs.declared.tag.Tag.TheVariants.{Transition};
 
-use super::tree_tests::{Said, element, holding, printed, text, titled};
+use super::printed::printed;
+use super::tree_tests::{Said, element, holding, text, titled};
 use rst_tree::{
     Attr, Attrs, Children, Key, Node, Reader, Rewrite, Rewriter, Tag, Text, Tree, TreeFault, Value,
     Visitor, read_elements, rewrite_in, walk,
@@ -87,9 +88,8 @@ fn changes_trees(rt: HostRuntime) -> Result<(), Fail> {
             tree.set(alloc, &[1], Key::Ids, Value::Number(9))?;
             assert_eq!(rt; tree.text_of(alloc, &[])?.as_str(), "TitleText.b\n");
             let root = tree.root().copy(alloc)?;
-            let (_, out) = printed(alloc, tree.into_root(), 1000, 1000)?;
             assert_eq!(rt;
-                std::str::from_utf8(&out.held)?,
+                printed(alloc, tree.into_root())?.as_str(),
                 "<document ids=\"title\" names=\"title\" source=\"<stdin>\" title=\"Title\">
     <title>
         Title
@@ -173,9 +173,8 @@ fn reads_and_walks(rt: HostRuntime) -> Result<(), Fail> {
     assert_eq!(rt; counting.seen, 3);
 
     let walked = walk(titled(alloc)?, &mut Retagging { to: Tag::Tip })?;
-    let (_, out) = printed(alloc, walked, 1000, 1000)?;
     assert_eq!(rt;
-        std::str::from_utf8(&out.held)?,
+        printed(alloc, walked)?.as_str(),
         "<tip ids=\"title\" names=\"title\" source=\"<stdin>\" title=\"Title\">
     <tip>
         Title
@@ -210,9 +209,8 @@ fn rewrites(rt: HostRuntime) -> Result<(), Fail> {
     {
         *place = children;
     }
-    let (_, out) = printed(alloc, document, 1000, 1000)?;
     assert_eq!(rt;
-        std::str::from_utf8(&out.held)?,
+        printed(alloc, document)?.as_str(),
         "<document>
     <block_quote line=\"2\">
         x

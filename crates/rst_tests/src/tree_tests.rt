@@ -12,14 +12,14 @@ use std::test::Fail;
 
 /// A writer that takes `step` bytes a call, and fails once it has no room.
 #[derive(Drop)]
-pub struct Narrow {
-    pub held: Vec<u8>,
+struct Narrow {
+    held: Vec<u8>,
     room: usize,
     step: usize,
 }
 
 impl Narrow {
-    pub fn new(alloc: Global, room: usize, step: usize) -> Narrow {
+    fn new(alloc: Global, room: usize, step: usize) -> Narrow {
         Narrow {
             held: Vec::new(alloc),
             room,
@@ -277,7 +277,7 @@ fn message(alloc: Global) -> Result<Node, TreeFault> {
 }
 
 /// Prints a tree to a writer of that room and step.
-pub fn printed(
+fn printed_to(
     alloc: Global,
     root: Node,
     room: usize,
@@ -308,7 +308,7 @@ fn prints_trees(rt: HostRuntime) -> Result<(), Fail> {
         (message(alloc)?, MESSAGE),
     ];
     for (root, want) in rows {
-        let (answer, out) = printed(alloc, root, 10_000, 7)?;
+        let (answer, out) = printed_to(alloc, root, 10_000, 7)?;
         assert_eq!(rt; answer, Ok(()));
         assert_eq!(rt; std::str::from_utf8(&out.held)?, want);
     }
@@ -382,14 +382,14 @@ const MESSAGE: &str = "<document source=\"<stdin>\">
 #[test]
 fn stops_at_a_failed_write(rt: HostRuntime) -> Result<(), Fail> {
     let alloc = rt.alloc();
-    for (room, want) in [(0, ""), (10, "<document "), (64, &HELLO[..64])] {
-        for step in [1, 3, 100] {
-            let (answer, out) = printed(alloc, hello(alloc)?, room, step)?;
+    for &(room, want) in &[(0, ""), (10, "<document "), (64, &HELLO[..64])] {
+        for &step in &[1, 3, 100] {
+            let (answer, out) = printed_to(alloc, hello(alloc)?, room, step)?;
             assert_eq!(rt; answer, Err(PrintFault::Write { done: room }));
             assert_eq!(rt; std::str::from_utf8(&out.held)?, want);
         }
     }
-    let (answer, _out) = printed(alloc, hello(alloc)?, 65, 1)?;
+    let (answer, _out) = printed_to(alloc, hello(alloc)?, 65, 1)?;
     assert_eq!(rt; answer, Ok(()));
     Ok(())
 }
