@@ -2,7 +2,7 @@
 use super::rows::Row;
 
 /// What is read and what is shown.
-pub(super) const ROWS: [Row; 18] = [
+pub(super) const ROWS: &[Row] = &[
     Row {
         name: "a note and an image",
         words: "",

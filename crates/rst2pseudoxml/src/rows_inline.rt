@@ -2,7 +2,7 @@
 use super::rows::Row;
 
 /// What is read and what is shown.
-pub(super) const ROWS: [Row; 10] = [
+pub(super) const ROWS: &[Row] = &[
     Row {
         name: "emphasis without an end",
         words: "",

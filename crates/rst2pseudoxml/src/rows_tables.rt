@@ -2,7 +2,7 @@
 use super::rows::Row;
 
 /// What is read and what is shown.
-pub(super) const ROWS: [Row; 8] = [
+pub(super) const ROWS: &[Row] = &[
     Row {
         name: "a grid table with a row span",
         words: "",

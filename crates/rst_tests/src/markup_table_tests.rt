@@ -5,7 +5,7 @@ use std::alloc::Global;
 use std::test::Fail;
 
 /// A text whose first line begins a grid table, and how many lines the table has.
-const GRIDS: [(&str, usize); 15] = [
+const GRIDS: &[(&str, usize)] = &[
     ("+---+\n| a |\n+---+", 3),
     ("+---+\n| a |\n+---+\n\nb", 3),
     ("+---+\n| a |\n+---+\nb", 3),
@@ -24,7 +24,7 @@ const GRIDS: [(&str, usize); 15] = [
 ];
 
 /// A text whose first line begins a simple table, and how many lines the table has.
-const SIMPLES: [(&str, usize); 19] = [
+const SIMPLES: &[(&str, usize)] = &[
     ("== ==\na  b\n== ==", 3),
     ("== ==\na  b\n== ==\n\nc", 3),
     ("== ==\na  b\n== ==\n\nc\n== ==", 3),
@@ -74,7 +74,7 @@ fn end_by<C: Construct>(alloc: Global, row: &C, text: &str) -> Result<Option<usi
 
 #[test]
 fn grids(rt: HostRuntime) -> Result<(), Fail> {
-    for (text, end) in GRIDS {
+    for &(text, end) in GRIDS {
         assert_eq!(rt; found(rt.alloc(), text)?, (Kind::Grid, end), "{text}");
         assert_eq!(rt; end_by(rt.alloc(), &GridTable, text)?, Some(end), "{text}");
         assert_eq!(rt; end_by(rt.alloc(), &SimpleTable, text)?, None, "{text}");
@@ -84,7 +84,7 @@ fn grids(rt: HostRuntime) -> Result<(), Fail> {
 
 #[test]
 fn simples(rt: HostRuntime) -> Result<(), Fail> {
-    for (text, end) in SIMPLES {
+    for &(text, end) in SIMPLES {
         assert_eq!(rt; found(rt.alloc(), text)?, (Kind::Simple, end), "{text}");
         assert_eq!(rt;
             end_by(rt.alloc(), &SimpleTable, text)?,

@@ -4,7 +4,7 @@ use crate::outline::{shown, work};
 use rst_transform::docinfo::docinfo;
 use std::test::Fail;
 
-const ROWS: [(&str, &str); 5] = [
+const ROWS: &[(&str, &str)] = &[
     // Simple fields, an address and a generic field; they keep their ids, and the list's go to the first.
     (
         "<document>
@@ -238,7 +238,7 @@ const ROWS: [(&str, &str); 5] = [
 #[test]
 fn field_lists_become_bibliographies(rt: HostRuntime) -> Result<(), Fail> {
     let alloc = rt.alloc();
-    for (before, after) in ROWS {
+    for &(before, after) in ROWS {
         let changed = docinfo(alloc, work(alloc, before)?)?;
         assert_eq!(rt; shown(alloc, changed)?.as_str(), after);
     }

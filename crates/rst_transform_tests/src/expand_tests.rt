@@ -6,7 +6,7 @@ use rst_tree::TreeFault;
 use std::alloc::Global;
 use std::test::Fail;
 
-const ROWS: [(&str, &str); 5] = [
+const ROWS: &[(&str, &str)] = &[
     // A name is looked up without regard to case, and a definition in a definition is expanded, too.
     (
         "<document>
@@ -142,7 +142,7 @@ const ROWS: [(&str, &str); 5] = [
 #[test]
 fn references_are_replaced(rt: HostRuntime) -> Result<(), Fail> {
     let alloc = rt.alloc();
-    for (before, after) in ROWS {
+    for &(before, after) in ROWS {
         let expanded = expand(alloc, work(alloc, before)?)?;
         assert_eq!(rt; shown(alloc, expanded)?.as_str(), after);
     }

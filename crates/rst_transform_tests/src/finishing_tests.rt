@@ -6,7 +6,7 @@ use rst_settings::{Settings, Threshold};
 use rst_transform::finish;
 use std::test::Fail;
 
-const DOCUMENTS: [(Threshold, Threshold, &str, &str); 6] = [
+const DOCUMENTS: &[(Threshold, Threshold, &str, &str)] = &[
     // A problematic and its message; one below the report level becomes text.
     (
         Threshold::Warning,
@@ -229,7 +229,7 @@ const DOCUMENTS: [(Threshold, Threshold, &str, &str); 6] = [
 #[test]
 fn finishes_documents(rt: HostRuntime) -> Result<(), Fail> {
     let alloc = rt.alloc();
-    for (report, halt, before, after) in DOCUMENTS {
+    for &(report, halt, before, after) in DOCUMENTS {
         let mut settings = Settings::usual();
         settings.report = report;
         settings.halt = halt;

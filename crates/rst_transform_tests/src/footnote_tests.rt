@@ -4,7 +4,7 @@ use crate::outline::{named, shown};
 use rst_transform::{footnotes, resolve};
 use std::test::Fail;
 
-const FOOTNOTES: [(&str, &str); 3] = [
+const FOOTNOTES: &[(&str, &str)] = &[
     // Numbers that were written are skipped; 01 is none.
     (
         "<document>
@@ -154,7 +154,7 @@ const FOOTNOTES: [(&str, &str); 3] = [
     ),
 ];
 
-const RESOLVE: [(&str, &str); 3] = [
+const RESOLVE: &[(&str, &str)] = &[
     // A target's place, an id, and a name that no element has.
     (
         "<document>
@@ -267,7 +267,7 @@ const RESOLVE: [(&str, &str); 3] = [
 #[test]
 fn numbers_footnotes(rt: HostRuntime) -> Result<(), Fail> {
     let alloc = rt.alloc();
-    for (before, after) in FOOTNOTES {
+    for &(before, after) in FOOTNOTES {
         let work = footnotes(alloc, named(alloc, before)?)?;
         assert_eq!(rt; shown(alloc, work)?.as_str(), after);
     }
@@ -277,7 +277,7 @@ fn numbers_footnotes(rt: HostRuntime) -> Result<(), Fail> {
 #[test]
 fn resolves_names(rt: HostRuntime) -> Result<(), Fail> {
     let alloc = rt.alloc();
-    for (before, after) in RESOLVE {
+    for &(before, after) in RESOLVE {
         let work = resolve(alloc, named(alloc, before)?)?;
         assert_eq!(rt; shown(alloc, work)?.as_str(), after);
     }

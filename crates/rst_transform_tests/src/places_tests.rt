@@ -4,7 +4,7 @@ use crate::outline::{shown, work};
 use rst_transform::{targets, title};
 use std::test::Fail;
 
-const TARGETS: [(&str, &str); 6] = [
+const TARGETS: &[(&str, &str)] = &[
     // Two targets and the paragraph behind them.
     (
         "<document>
@@ -142,14 +142,14 @@ const TARGETS: [(&str, &str); 6] = [
 #[test]
 fn places_targets(rt: HostRuntime) -> Result<(), Fail> {
     let alloc = rt.alloc();
-    for (before, after) in TARGETS {
+    for &(before, after) in TARGETS {
         let work = targets(alloc, work(alloc, before)?)?;
         assert_eq!(rt; shown(alloc, work)?.as_str(), after);
     }
     Ok(())
 }
 
-const TITLES: [(&str, &str); 6] = [
+const TITLES: &[(&str, &str)] = &[
     // A lone section, behind a comment.
     (
         "<document>
@@ -292,7 +292,7 @@ const TITLES: [(&str, &str); 6] = [
 #[test]
 fn places_titles(rt: HostRuntime) -> Result<(), Fail> {
     let alloc = rt.alloc();
-    for (before, after) in TITLES {
+    for &(before, after) in TITLES {
         let work = title(alloc, work(alloc, before)?)?;
         assert_eq!(rt; shown(alloc, work)?.as_str(), after);
     }

@@ -4,7 +4,7 @@ use crate::outline::{named, shown};
 use rst_transform::{anonymous, indirect};
 use std::test::Fail;
 
-const ANONYMOUS: [(&str, &str); 4] = [
+const ANONYMOUS: &[(&str, &str)] = &[
     // The n-th takes the n-th; one through an indirect target waits.
     (
         "<document>
@@ -79,7 +79,7 @@ const ANONYMOUS: [(&str, &str); 4] = [
     ),
 ];
 
-const INDIRECT: [(&str, &str); 4] = [
+const INDIRECT: &[(&str, &str)] = &[
     // A way through three targets; a reference by name is left for later.
     (
         "<document>
@@ -175,7 +175,7 @@ const INDIRECT: [(&str, &str); 4] = [
 #[test]
 fn joins_anonymous_references(rt: HostRuntime) -> Result<(), Fail> {
     let alloc = rt.alloc();
-    for (before, after) in ANONYMOUS {
+    for &(before, after) in ANONYMOUS {
         let work = anonymous(alloc, named(alloc, before)?)?;
         assert_eq!(rt; shown(alloc, work)?.as_str(), after);
     }
@@ -185,7 +185,7 @@ fn joins_anonymous_references(rt: HostRuntime) -> Result<(), Fail> {
 #[test]
 fn follows_indirect_targets(rt: HostRuntime) -> Result<(), Fail> {
     let alloc = rt.alloc();
-    for (before, after) in INDIRECT {
+    for &(before, after) in INDIRECT {
         let work = indirect(alloc, named(alloc, before)?)?;
         assert_eq!(rt; shown(alloc, work)?.as_str(), after);
     }

@@ -4,7 +4,7 @@ use crate::outline::{shown, work};
 use rst_transform::transitions::transitions;
 use std::test::Fail;
 
-const TRANSITIONS: [(&str, &str); 6] = [
+const TRANSITIONS: &[(&str, &str)] = &[
     // Behind a section that another one follows.
     (
         "<document>
@@ -210,7 +210,7 @@ const TRANSITIONS: [(&str, &str); 6] = [
 #[test]
 fn places_transitions(rt: HostRuntime) -> Result<(), Fail> {
     let alloc = rt.alloc();
-    for (before, after) in TRANSITIONS {
+    for &(before, after) in TRANSITIONS {
         let work = transitions(alloc, work(alloc, before)?)?;
         assert_eq!(rt; shown(alloc, work)?.as_str(), after);
     }
