@@ -1,7 +1,8 @@
 //! Documents before and after anonymous references and indirect targets are joined.
 
 use crate::outline::{named, shown};
-use rst_transform::{anonymous, indirect};
+use rst_transform::anonymous::anonymous;
+use rst_transform::indirect::indirect;
 use std::test::Fail;
 
 const ANONYMOUS: &[(&str, &str)] = &[
