@@ -1,4 +1,5 @@
 //! What targets, values and messages say.
+use super::comparing::compare;
 use rst_directives::{Detail, DirectiveFault, Name, OptionName, Target, message, target_value};
 use rst_text::characters_of;
 use std::alloc::Global;
@@ -52,7 +53,7 @@ fn targets(rt: HostRuntime) -> Result<(), Fail> {
         ("", ""),
     ] {
         let got = shown(rt.alloc(), text)?;
-        assert!(rt; got.as_str() == want, "{text}: {got}");
+        compare(&rt, got.as_str(), want, text);
     }
     Ok(())
 }
@@ -75,14 +76,10 @@ fn messages(rt: HostRuntime) -> Result<(), Fail> {
     let option = String::from_str(alloc, "foo")?;
     let fault = DirectiveFault::Inside(Detail::UnknownOption(option));
     let text = message(alloc, &fault, "Image")?;
-    assert_eq!(rt;
-        text.as_str(),
-        "Error in \"Image\" directive:\nunknown option: \"foo\"."
-    );
+    let want = "Error in \"Image\" directive:\nunknown option: \"foo\".";
+    compare(&rt, text.as_str(), want, "Image");
     let text = message(alloc, &DirectiveFault::NoContent, "tip")?;
-    assert_eq!(rt;
-        text.as_str(),
-        "Content block expected for the \"tip\" directive; none found."
-    );
+    let want = "Content block expected for the \"tip\" directive; none found.";
+    compare(&rt, text.as_str(), want, "tip");
     Ok(())
 }

@@ -1,5 +1,5 @@
 //! Line blocks and tables. The expected nodes were worked out from the public Markup Specification, not by this crate.
-use super::printed::{shown_node, shown_with};
+use super::printed::{compare_node, compare_nodes};
 use rst_elements::{BarText, LineBlockFault, Numbers, entry, line_block, tgroup};
 use std::alloc::Global;
 use std::test::Fail;
@@ -181,7 +181,7 @@ fn nests_line_blocks(rt: HostRuntime) -> Result<(), Fail> {
     for &(rows, level, deepest, want) in LINE_BLOCKS {
         let lines = bars(alloc, rows)?;
         let made = line_block(alloc, lines, level, deepest, &mut Numbers::none())?;
-        assert_eq!(rt; shown_with(alloc, made.element, made.notes)?.as_str(), want);
+        compare_nodes(&rt, alloc, made.element, made.notes, want, "line block")?;
     }
     Ok(())
 }
@@ -232,11 +232,11 @@ fn makes_parts_of_tables(rt: HostRuntime) -> Result<(), Fail> {
     let alloc = rt.alloc();
     for &(widths, want) in WIDTHS {
         let node = tgroup(alloc, widths, 1)?;
-        assert_eq!(rt; shown_node(alloc, node)?.as_str(), want);
+        compare_node(&rt, alloc, node, want, "columns")?;
     }
     for &(morerows, morecols, want) in ENTRIES {
         let node = entry(alloc, morerows, morecols, 1)?;
-        assert_eq!(rt; shown_node(alloc, node)?.as_str(), want);
+        compare_node(&rt, alloc, node, want, "entry")?;
     }
     Ok(())
 }

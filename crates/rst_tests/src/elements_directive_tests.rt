@@ -1,5 +1,5 @@
 //! The elements of directives. The expected nodes were worked out from the public Directives reference, not by this crate.
-use super::printed::shown_node;
+use super::printed::compare_node;
 use rst_directives::{Alignment, Name, OptionName, OptionValue, Setting, target_value};
 use rst_elements::{
     Numbers, code_block, directive_element, figure, image, with_text, with_title_class,
@@ -243,7 +243,7 @@ fn makes_images(rt: HostRuntime) -> Result<(), Fail> {
     for &(uri, rows, alt, want) in IMAGES {
         let options = settings(alloc, rows)?;
         let node = image(alloc, uri, &options, 5, false, alt)?;
-        assert_eq!(rt; shown_node(alloc, node)?.as_str(), want, "{uri}");
+        compare_node(&rt, alloc, node, want, uri)?;
     }
     Ok(())
 }
@@ -264,7 +264,7 @@ fn makes_figures(rt: HostRuntime) -> Result<(), Fail> {
     for &(uri, rows, want) in FIGURES {
         let options = settings(alloc, rows)?;
         let node = figure_of(alloc, uri, &options)?;
-        assert_eq!(rt; shown_node(alloc, node)?.as_str(), want, "{uri}");
+        compare_node(&rt, alloc, node, want, uri)?;
     }
     Ok(())
 }
@@ -275,12 +275,12 @@ fn makes_elements_of_directives(rt: HostRuntime) -> Result<(), Fail> {
     for &(name, rows, want) in ELEMENTS {
         let options = settings(alloc, rows)?;
         let node = directive_element(alloc, name, &options, 5)?;
-        assert_eq!(rt; shown_node(alloc, node)?.as_str(), want);
+        compare_node(&rt, alloc, node, want, "element")?;
     }
     for &(language, rows, text, want) in CODE {
         let options = settings(alloc, rows)?;
         let node = code_block(alloc, language, &options, text, 5)?;
-        assert_eq!(rt; shown_node(alloc, node)?.as_str(), want, "{text}");
+        compare_node(&rt, alloc, node, want, text)?;
     }
     Ok(())
 }
@@ -292,15 +292,24 @@ fn classes_admonitions_by_their_titles(rt: HostRuntime) -> Result<(), Fail> {
         let read = with_text(alloc, Tag::Title, 1, title, 1, &mut Numbers::none())?;
         let node = directive_element(alloc, Name::Admonition, &[], 1)?;
         let node = with_title_class(alloc, node, &read.element)?;
-        assert_eq!(rt; shown_node(alloc, node)?.as_str(), want, "{title}");
+        compare_node(&rt, alloc, node, want, title)?;
     }
+    Ok(())
+}
+
+#[test]
+fn keeps_classes_of_admonitions(rt: HostRuntime) -> Result<(), Fail> {
+    let alloc = rt.alloc();
     let options = settings(alloc, &[("class", "own")])?;
     let node = directive_element(alloc, Name::Admonition, &options, 1)?;
     let title = Node::element(alloc, Tag::Title, 1);
     let node = with_title_class(alloc, node, &title)?;
-    assert_eq!(rt;
-        shown_node(alloc, node)?.as_str(),
-        "    <admonition classes=\"own\">⏎"
-    );
+    compare_node(
+        &rt,
+        alloc,
+        node,
+        "    <admonition classes=\"own\">⏎",
+        "node",
+    )?;
     Ok(())
 }

@@ -1,5 +1,5 @@
 //! Lists, labels and targets. The expected nodes were worked out from the public Markup Specification, not by this crate.
-use super::printed::{shown_node, shown_with};
+use super::printed::{compare_node, compare_nodes};
 use rst_elements::{
     bullet_list, citation, enumerated_list, footnote, may_replace, option, start_message,
     substitution_definition, substitution_name, target,
@@ -165,7 +165,7 @@ fn makes_lists(rt: HostRuntime) -> Result<(), Fail> {
     let alloc = rt.alloc();
     for &(mark, want) in BULLETS {
         let list = bullet_list(alloc, mark, 1)?;
-        assert_eq!(rt; shown_node(alloc, list)?.as_str(), want, "{mark}");
+        compare_node(&rt, alloc, list, want, "bullet")?;
     }
     for &(written, want) in ENUMERATORS {
         let Some(enumerator) = enumerator_of(written) else {
@@ -179,7 +179,7 @@ fn makes_lists(rt: HostRuntime) -> Result<(), Fail> {
             let bare = written.trim_matches(&['(', ')', '.'][..]);
             notes.push(start_message(alloc, bare, ordinal, 1)?)?;
         }
-        assert_eq!(rt; shown_with(alloc, list, notes)?.as_str(), want, "{written}");
+        compare_nodes(&rt, alloc, list, notes, want, written)?;
     }
     Ok(())
 }
@@ -194,7 +194,7 @@ fn makes_options(rt: HostRuntime) -> Result<(), Fail> {
             Some((delimiter, text))
         };
         let node = option(alloc, string, argument, 1)?;
-        assert_eq!(rt; shown_node(alloc, node)?.as_str(), want, "{string}");
+        compare_node(&rt, alloc, node, want, string)?;
     }
     Ok(())
 }
@@ -258,11 +258,11 @@ fn labels_footnotes_and_citations(rt: HostRuntime) -> Result<(), Fail> {
     let alloc = rt.alloc();
     for &(label, want) in FOOTNOTES {
         let node = footnote(alloc, label, 1)?;
-        assert_eq!(rt; shown_node(alloc, node)?.as_str(), want, "{label}");
+        compare_node(&rt, alloc, node, want, label)?;
     }
     for &(label, want) in CITATIONS {
         let node = citation(alloc, label, 1)?;
-        assert_eq!(rt; shown_node(alloc, node)?.as_str(), want, "{label}");
+        compare_node(&rt, alloc, node, want, label)?;
     }
     Ok(())
 }
@@ -384,7 +384,7 @@ fn makes_targets(rt: HostRuntime) -> Result<(), Fail> {
     let alloc = rt.alloc();
     for &(name, text, want) in TARGETS {
         let node = target(alloc, name, text, 1)?;
-        assert_eq!(rt; shown_node(alloc, node)?.as_str(), want, "{text}");
+        compare_node(&rt, alloc, node, want, text)?;
     }
     Ok(())
 }
@@ -395,7 +395,7 @@ fn defines_substitutions(rt: HostRuntime) -> Result<(), Fail> {
     for &(written, want) in DEFINITIONS {
         let name = substitution_name(alloc, written)?;
         let node = substitution_definition(alloc, name.as_str(), 1)?;
-        assert_eq!(rt; shown_node(alloc, node)?.as_str(), want, "{written}");
+        compare_node(&rt, alloc, node, want, written)?;
     }
     for &(text, want) in REPLACEMENTS {
         let read = inline(alloc, text, 1)?;

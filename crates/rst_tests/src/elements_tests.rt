@@ -1,5 +1,6 @@
 //! Texts, terms and messages. The expected nodes were worked out from the public Markup Specification, not by this crate.
-use super::printed::{shown, shown_node, shown_with};
+use super::comparing::compare;
+use super::printed::{compare_node, compare_nodes, shown};
 use rst_elements::{Numbers, message, plain, preserved, section, term_and_classifiers, with_text};
 use rst_tree::{Level, Tag};
 use std::test::Fail;
@@ -44,8 +45,7 @@ fn reads_texts(rt: HostRuntime) -> Result<(), Fail> {
     let alloc = rt.alloc();
     for &(text, want) in TEXTS {
         let read = with_text(alloc, Tag::Paragraph, 3, text, 4, &mut Numbers::none())?;
-        let found = shown_with(alloc, read.element, read.notes)?;
-        assert_eq!(rt; found.as_str(), want, "{text}");
+        compare_nodes(&rt, alloc, read.element, read.notes, want, text)?;
     }
     Ok(())
 }
@@ -57,15 +57,23 @@ fn numbers_messages_on(rt: HostRuntime) -> Result<(), Fail> {
     with_text(alloc, Tag::Paragraph, 1, "*a **b", 1, &mut numbers)?;
     assert_eq!(rt; numbers.given(), 2);
     let read = with_text(alloc, Tag::Title, 2, "*", 2, &mut numbers)?;
-    assert_eq!(rt;
-        shown_with(alloc, read.element, read.notes)?.as_str(),
-        "    <title text_messages=\"0\">⏎        *⏎"
-    );
+    compare_nodes(
+        &rt,
+        alloc,
+        read.element,
+        read.notes,
+        "    <title text_messages=\"0\">⏎        *⏎",
+        "title",
+    )?;
     let read = with_text(alloc, Tag::Title, 2, "|x", 2, &mut numbers)?;
-    assert_eq!(rt;
-        shown_with(alloc, read.element, read.notes)?.as_str(),
-        "    <title text_messages=\"1\">⏎        <problematic message=\"2\">⏎            |⏎        x⏎    <system_message level=\"2\" line=\"2\" message=\"2\" type=\"WARNING\">⏎        <paragraph>⏎            Inline substitution_reference start-string without end-string.⏎"
-    );
+    compare_nodes(
+        &rt,
+        alloc,
+        read.element,
+        read.notes,
+        "    <title text_messages=\"1\">⏎        <problematic message=\"2\">⏎            |⏎        x⏎    <system_message level=\"2\" line=\"2\" message=\"2\" type=\"WARNING\">⏎        <paragraph>⏎            Inline substitution_reference start-string without end-string.⏎",
+        "title",
+    )?;
     assert_eq!(rt; numbers.given(), 3);
     Ok(())
 }
@@ -74,20 +82,23 @@ fn numbers_messages_on(rt: HostRuntime) -> Result<(), Fail> {
 fn says_plain_texts_and_messages(rt: HostRuntime) -> Result<(), Fail> {
     let alloc = rt.alloc();
     let node = plain(alloc, Tag::Attribution, 1, "*a*")?;
-    assert_eq!(rt;
-        shown_node(alloc, node)?.as_str(),
-        "    <attribution>⏎        *a*⏎"
-    );
+    compare_node(&rt, alloc, node, "    <attribution>⏎        *a*⏎", "node")?;
     let node = preserved(alloc, Tag::Comment, 1, "")?;
-    assert_eq!(rt;
-        shown_node(alloc, node)?.as_str(),
-        "    <comment xml:space=\"preserve\">⏎"
-    );
+    compare_node(
+        &rt,
+        alloc,
+        node,
+        "    <comment xml:space=\"preserve\">⏎",
+        "node",
+    )?;
     let node = preserved(alloc, Tag::LiteralBlock, 1, "a\n  b")?;
-    assert_eq!(rt;
-        shown_node(alloc, node)?.as_str(),
-        "    <literal_block xml:space=\"preserve\">⏎        a⏎          b⏎"
-    );
+    compare_node(
+        &rt,
+        alloc,
+        node,
+        "    <literal_block xml:space=\"preserve\">⏎        a⏎          b⏎",
+        "node",
+    )?;
     let node = message(
         alloc,
         Level::Severe,
@@ -95,10 +106,13 @@ fn says_plain_texts_and_messages(rt: HostRuntime) -> Result<(), Fail> {
         "Title level inconsistent:",
         Some("E\n~"),
     )?;
-    assert_eq!(rt;
-        shown_node(alloc, node)?.as_str(),
-        "    <system_message level=\"4\" line=\"7\" type=\"SEVERE\">⏎        <paragraph>⏎            Title level inconsistent:⏎        <literal_block xml:space=\"preserve\">⏎            E⏎            ~⏎"
-    );
+    compare_node(
+        &rt,
+        alloc,
+        node,
+        "    <system_message level=\"4\" line=\"7\" type=\"SEVERE\">⏎        <paragraph>⏎            Title level inconsistent:⏎        <literal_block xml:space=\"preserve\">⏎            E⏎            ~⏎",
+        "node",
+    )?;
     Ok(())
 }
 
@@ -223,7 +237,7 @@ fn splits_terms(rt: HostRuntime) -> Result<(), Fail> {
         for note in read.notes {
             nodes.push(note)?;
         }
-        assert_eq!(rt; shown(alloc, nodes)?.as_str(), want, "{text}");
+        compare(&rt, shown(alloc, nodes)?.as_str(), want, text);
     }
     Ok(())
 }
@@ -262,11 +276,7 @@ fn begins_sections(rt: HostRuntime) -> Result<(), Fail> {
     for &(text, want) in SECTIONS {
         let read = with_text(alloc, Tag::Title, 1, text, 1, &mut Numbers::none())?;
         let node = section(alloc, read.element, read.notes.len(), 1)?;
-        assert_eq!(rt;
-            shown_with(alloc, node, read.notes)?.as_str(),
-            want,
-            "{text}"
-        );
+        compare_nodes(&rt, alloc, node, read.notes, want, text)?;
     }
     Ok(())
 }

@@ -2,6 +2,8 @@
 #![tactic(auto)]
 
 #[cfg(test)]
+mod comparing;
+#[cfg(test)]
 mod directives_call_cases;
 #[cfg(test)]
 mod directives_call_tests;

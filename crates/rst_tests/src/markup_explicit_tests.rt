@@ -1,4 +1,5 @@
 //! Explicit markup, on examples from outside.
+use super::comparing::compare;
 use super::parts::{line, push_characters, push_part};
 use rst_markup::{Characters, CommentCause, Explicit, Invocation, Part, explicit, kind_of};
 use rst_text::{Lines, Looks, View};
@@ -175,7 +176,7 @@ fn told(alloc: Global, text: &str) -> Result<String, Fail> {
 fn markup(rt: HostRuntime) -> Result<(), Fail> {
     for &(text, want) in EXPLICIT {
         let got = told(rt.alloc(), text)?;
-        assert!(rt; got.as_str() == want, "{text}: {got}");
+        compare(&rt, got.as_str(), want, text);
     }
     Ok(())
 }
@@ -184,7 +185,7 @@ fn markup(rt: HostRuntime) -> Result<(), Fail> {
 fn more_markup(rt: HostRuntime) -> Result<(), Fail> {
     for &(text, want) in MORE_EXPLICIT {
         let got = told(rt.alloc(), text)?;
-        assert!(rt; got.as_str() == want, "{text}: {got}");
+        compare(&rt, got.as_str(), want, text);
     }
     Ok(())
 }

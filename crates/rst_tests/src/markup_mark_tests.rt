@@ -1,4 +1,5 @@
 //! Attributions and the options of option lists, on examples from outside.
+use super::comparing::compare;
 use super::parts::{push_characters, push_part};
 use rst_marks::{Delimiter, ListedOption, listed_options};
 use rst_markup::{Attribution, Part, attribution_at};
@@ -81,7 +82,7 @@ fn attributions(rt: HostRuntime) -> Result<(), Fail> {
                 (Some(found), Some((end, want))) => {
                     let got = attributed(rt.alloc(), &view, k, &found)?;
                     assert_eq!(rt; found.end, end, "{text}");
-                    assert!(rt; got.as_str() == want, "{text}: {got}");
+                    compare(&rt, got.as_str(), want, text);
                 }
                 (found, want) => assert!(rt; found.is_none() && want.is_none(), "{text}"),
             }
@@ -122,7 +123,7 @@ fn options_told(alloc: Global, text: &str) -> Result<String, Fail> {
 fn options(rt: HostRuntime) -> Result<(), Fail> {
     for &(text, want) in OPTIONS {
         let got = options_told(rt.alloc(), text)?;
-        assert!(rt; got.as_str() == want, "{text}: {got}");
+        compare(&rt, got.as_str(), want, text);
     }
     Ok(())
 }

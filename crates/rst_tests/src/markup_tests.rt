@@ -7,6 +7,7 @@ use rst_markup::{
 };
 use rst_text::{Lines, Looks, TextFault, View};
 use std::alloc::Global;
+use std::process::Abort;
 use std::test::Fail;
 
 /// A text, the kind of its first line, whether titles may stand there, and how many lines belong to what it begins.
@@ -199,45 +200,40 @@ fn end_by_kind(alloc: Global, text: &str, titles: bool) -> Result<Option<usize>,
 
 #[test]
 fn ends_by_kind(rt: HostRuntime) -> Result<(), Fail> {
-    for &(text, _, titles, end) in BLOCKS {
-        assert_eq!(rt; end_by_kind(rt.alloc(), text, titles)?, end, "{text}");
+    for &cases in &[BLOCKS, ITEMS] {
+        for &(text, _, titles, end) in cases {
+            assert_eq!(rt; end_by_kind(rt.alloc(), text, titles)?, end, "{text}");
+        }
     }
-    for &(text, _, titles, end) in ITEMS {
-        assert_eq!(rt; end_by_kind(rt.alloc(), text, titles)?, end, "{text}");
+    Ok(())
+}
+
+/// Ends the test where a case isn't found.
+fn find(rt: &impl Abort, alloc: Global, cases: &[Case]) -> Result<(), Fail> {
+    for &(text, kind, titles, end) in cases {
+        assert_eq!(rt; found(alloc, text, titles)?, (kind, end), "{text}");
     }
     Ok(())
 }
 
 #[test]
 fn items(rt: HostRuntime) -> Result<(), Fail> {
-    for &(text, kind, titles, end) in ITEMS {
-        assert_eq!(rt; found(rt.alloc(), text, titles)?, (kind, end), "{text}");
-    }
-    Ok(())
+    find(&rt, rt.alloc(), ITEMS)
 }
 
 #[test]
 fn blocks(rt: HostRuntime) -> Result<(), Fail> {
-    for &(text, kind, titles, end) in BLOCKS {
-        assert_eq!(rt; found(rt.alloc(), text, titles)?, (kind, end), "{text}");
-    }
-    Ok(())
+    find(&rt, rt.alloc(), BLOCKS)
 }
 
 #[test]
 fn texts(rt: HostRuntime) -> Result<(), Fail> {
-    for &(text, kind, titles, end) in TEXTS {
-        assert_eq!(rt; found(rt.alloc(), text, titles)?, (kind, end), "{text}");
-    }
-    Ok(())
+    find(&rt, rt.alloc(), TEXTS)
 }
 
 #[test]
 fn more_texts(rt: HostRuntime) -> Result<(), Fail> {
-    for &(text, kind, titles, end) in MORE_TEXTS {
-        assert_eq!(rt; found(rt.alloc(), text, titles)?, (kind, end), "{text}");
-    }
-    Ok(())
+    find(&rt, rt.alloc(), MORE_TEXTS)
 }
 
 /// A text behind the marker of explicit markup, its form, how many characters its label or name has, and how many the

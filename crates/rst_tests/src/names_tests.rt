@@ -1,11 +1,13 @@
 //! Documents before and after registration, with the attributes that the transforms alone need; what is wanted is what
 //! the profile of the reference implementation gives.
 
+use super::comparing::compare;
 use super::printed::printed;
 use rst_marked::Marked;
 use rst_names::register;
 use rst_tree::{Attrs, Children, Key, Node, Tag, Text, TreeFault, Value};
 use std::alloc::Global;
+use std::process::Abort;
 use std::test::Fail;
 
 /// The kinds of the elements in the examples.
@@ -170,11 +172,12 @@ fn document_of(alloc: Global, example: &str) -> Result<Node, TreeFault> {
     }
 }
 
-/// Whether a document is printed as wanted once it is registered.
-pub fn is_registered_as(alloc: Global, document: &str, want: &str) -> Result<bool, Fail> {
-    let document = document_of(alloc, document)?;
+/// Ends the test where a document isn't printed as wanted once it is registered.
+pub fn register_as(rt: &impl Abort, alloc: Global, example: &str, want: &str) -> Result<(), Fail> {
+    let document = document_of(alloc, example)?;
     let registered = register(alloc, Marked::of(alloc, document)?)?;
-    Ok(printed(alloc, registered.root)?.as_str() == want)
+    compare(rt, printed(alloc, registered.root)?.as_str(), want, example);
+    Ok(())
 }
 
 #[test]
@@ -187,7 +190,7 @@ fn registers_names(rt: HostRuntime) -> Result<(), Fail> {
         FREE_IDS,
         MESSAGE_OF_A_PROBLEMATIC,
     ] {
-        assert!(rt; is_registered_as(alloc, document, want)?, "{document}");
+        register_as(&rt, alloc, document, want)?;
     }
     Ok(())
 }

@@ -1,23 +1,23 @@
 //! What no clause says: that the calls succeed, and that the definitions are those of the program that is meant, on
 //! answers from outside.
+use super::comparing::compare;
 use rst_options::options;
 use std::alloc::{AllocError, Global};
+use std::process::Abort;
 use std::test::Fail;
 
 #[test]
 fn no_words(rt: HostRuntime) -> Result<(), Fail> {
     let answer = answer_to(rt.alloc(), &[])?;
-    assert_eq!(rt;
-        answer.as_str(),
-        "Warning Severe Never true true 8 10000 <stdin>"
-    );
+    let want = "Warning Severe Never true true 8 10000 <stdin>";
+    compare(&rt, answer.as_str(), want, "no words");
     Ok(())
 }
 
 /// Short and long options, with their values joined, behind a sign or in the next word.
 #[test]
 fn forms(rt: HostRuntime) -> Result<(), Fail> {
-    for &(line, want) in &[
+    let rows = &[
         ("", "Warning Severe Never true true 8 10000 "),
         ("-r3", "Error Severe Never true true 8 10000 <stdin>"),
         ("-r 3", "Error Severe Never true true 8 10000 <stdin>"),
@@ -59,17 +59,14 @@ fn forms(rt: HostRuntime) -> Result<(), Fail> {
             "--no-doc-title -v a.rst --tab-width 1",
             "Info Severe Never false true 1 10000 a.rst",
         ),
-    ] {
-        let answer = answer_to_line(rt.alloc(), line)?;
-        assert_eq!(rt; answer.as_str(), want, "{line}");
-    }
-    Ok(())
+    ];
+    answer_each(&rt, rt.alloc(), rows)
 }
 
 /// Levels by number and by name; numbers in decimal; an empty value is a wrong one.
 #[test]
 fn values_of_options(rt: HostRuntime) -> Result<(), Fail> {
-    for &(line, want) in &[
+    let rows = &[
         ("-r1", "Info Severe Never true true 8 10000 <stdin>"),
         ("-r2", "Warning Severe Never true true 8 10000 <stdin>"),
         (
@@ -119,17 +116,14 @@ fn values_of_options(rt: HostRuntime) -> Result<(), Fail> {
         ("--line-length-limit=010", "bad line limit"),
         ("--line-length-limit=4294967297", "bad line limit"),
         ("--line-length-limit=-1", "bad line limit"),
-    ] {
-        let answer = answer_to_line(rt.alloc(), line)?;
-        assert_eq!(rt; answer.as_str(), want, "{line}");
-    }
-    Ok(())
+    ];
+    answer_each(&rt, rt.alloc(), rows)
 }
 
 /// Unknown options, options given twice, values left out or given to a flag; no name is shortened.
 #[test]
 fn misused(rt: HostRuntime) -> Result<(), Fail> {
-    for &(line, want) in &[
+    let rows = &[
         ("--nope", "bad arguments"),
         ("--help", "bad arguments"),
         ("--version", "bad arguments"),
@@ -154,17 +148,14 @@ fn misused(rt: HostRuntime) -> Result<(), Fail> {
         ("--strict --strict", "bad arguments"),
         ("--halt=1 --halt=2", "bad arguments"),
         ("--tab-width=4 --tab-width=4", "bad arguments"),
-    ] {
-        let answer = answer_to_line(rt.alloc(), line)?;
-        assert_eq!(rt; answer.as_str(), want, "{line}");
-    }
-    Ok(())
+    ];
+    answer_each(&rt, rt.alloc(), rows)
 }
 
 /// SOURCE before, behind and between options.
 #[test]
 fn sources(rt: HostRuntime) -> Result<(), Fail> {
-    for &(line, want) in &[
+    let rows = &[
         ("a.rst", "Warning Severe Never true true 8 10000 a.rst"),
         (
             "--no-doc-title ä.rst",
@@ -181,17 +172,14 @@ fn sources(rt: HostRuntime) -> Result<(), Fail> {
         ("a b", "bad arguments"),
         ("a -- b", "bad arguments"),
         ("-- -v a", "bad arguments"),
-    ] {
-        let answer = answer_to_line(rt.alloc(), line)?;
-        assert_eq!(rt; answer.as_str(), want, "{line}");
-    }
-    Ok(())
+    ];
+    answer_each(&rt, rt.alloc(), rows)
 }
 
 /// Two options for one level, and which of several faults is told.
 #[test]
 fn order_of_faults(rt: HostRuntime) -> Result<(), Fail> {
-    for &(line, want) in &[
+    let rows = &[
         ("-v -q", "two levels"),
         ("-vq", "two levels"),
         ("-v -r 3", "two levels"),
@@ -213,9 +201,15 @@ fn order_of_faults(rt: HostRuntime) -> Result<(), Fail> {
             "--halt=2 --exit-status=2 -q",
             "Never Warning Warning true true 8 10000 <stdin>",
         ),
-    ] {
-        let answer = answer_to_line(rt.alloc(), line)?;
-        assert_eq!(rt; answer.as_str(), want, "{line}");
+    ];
+    answer_each(&rt, rt.alloc(), rows)
+}
+
+/// Ends the test where a line doesn't choose what is wanted.
+fn answer_each(rt: &impl Abort, alloc: Global, rows: &[(&str, &str)]) -> Result<(), Fail> {
+    for &(line, want) in rows {
+        let answer = answer_to_line(alloc, line)?;
+        compare(rt, answer.as_str(), want, line);
     }
     Ok(())
 }

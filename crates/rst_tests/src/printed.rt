@@ -1,7 +1,9 @@
 //! Trees and nodes as the tests show them.
+use super::comparing::compare;
 use rst_text::Counted;
 use rst_tree::{Attrs, Children, Node, Tag, Tree, print};
 use std::alloc::Global;
+use std::process::Abort;
 use std::test::Fail;
 
 /// A root as it is printed, if it is a tree.
@@ -41,17 +43,31 @@ pub fn shown(alloc: Global, nodes: Vec<Node>) -> Result<String, Fail> {
     Ok(out)
 }
 
-/// The same of one node.
-pub fn shown_node(alloc: Global, node: Node) -> Result<String, Fail> {
-    shown_with(alloc, node, Vec::new(alloc))
+/// Ends a test whose node isn't shown as wanted, and names what that is of.
+pub fn compare_node(
+    rt: &impl Abort,
+    alloc: Global,
+    node: Node,
+    want: &str,
+    of: &str,
+) -> Result<(), Fail> {
+    compare_nodes(rt, alloc, node, Vec::new(alloc), want, of)
 }
 
 /// The same of a node with others behind it.
-pub fn shown_with(alloc: Global, node: Node, more: Vec<Node>) -> Result<String, Fail> {
+pub fn compare_nodes(
+    rt: &impl Abort,
+    alloc: Global,
+    node: Node,
+    more: Vec<Node>,
+    want: &str,
+    of: &str,
+) -> Result<(), Fail> {
     let mut nodes = Vec::new(alloc);
     nodes.push(node)?;
     for next in more {
         nodes.push(next)?;
     }
-    shown(alloc, nodes)
+    compare(rt, shown(alloc, nodes)?.as_str(), want, of);
+    Ok(())
 }

@@ -8,6 +8,7 @@ ghost use Rattle.rst_tree.specs.declared.node.Node.TheVariants.{Element};
 ghost use Rattle.rst_tree.specs.declared.rewriting.Rewrite.TheVariants.{Replace};
 ghost use Rattle.rst_tree.specs.declared.tag.Tag.TheVariants.{Transition};
 
+use super::comparing::compare;
 use super::printed::printed;
 use super::tree_tests::{Said, element, holding, text, titled};
 use rst_tree::{
@@ -15,6 +16,7 @@ use rst_tree::{
     Visitor, read_elements, rewrite_in, walk,
 };
 use std::alloc::Global;
+use std::process::Abort;
 use std::test::Fail;
 
 /// Elements nested so deep, the innermost without nodes.
@@ -43,67 +45,93 @@ fn named(alloc: Global, keys: &[Key]) -> Result<Node, TreeFault> {
     })
 }
 
+/// Ends the test where a node is no tree but should be one, or the other way round.
+fn judge(rt: &impl Abort, root: Node, want: bool) {
+    assert_eq!(rt; Tree::of(root).is_ok(), want);
+}
+
 #[test]
 fn knows_trees(rt: HostRuntime) -> Result<(), Fail> {
     let alloc = rt.alloc();
-    let rows = [
-        (named(alloc, &[])?, true),
-        (named(alloc, &[Key::Ids, Key::Names, Key::XmlSpace])?, true),
-        (named(alloc, &[Key::Names, Key::Ids])?, false),
-        (named(alloc, &[Key::Ids, Key::Ids])?, false),
-        (text(alloc, "a\nb\u{1F}")?, true),
-        (text(alloc, "a\rb")?, false),
-        (holding(alloc, Tag::Paragraph, "a\u{2028}")?, false),
-        (nested(alloc, 1350)?, true),
-        (nested(alloc, 1351)?, false),
-    ];
-    for (root, want) in rows {
-        assert_eq!(rt; Tree::of(root).is_ok(), want);
+    for &(keys, want) in &[
+        (&[][..], true),
+        (&[Key::Ids, Key::Names, Key::XmlSpace], true),
+        (&[Key::Names, Key::Ids], false),
+        (&[Key::Ids, Key::Ids], false),
+    ] {
+        judge(&rt, named(alloc, keys)?, want);
     }
+    for &(said, want) in &[("a\nb\u{1F}", true), ("a\rb", false)] {
+        judge(&rt, text(alloc, said)?, want);
+    }
+    judge(&rt, holding(alloc, Tag::Paragraph, "a\u{2028}")?, false);
+    for &(levels, want) in &[(1350, true), (1351, false)] {
+        judge(&rt, nested(alloc, levels)?, want);
+    }
+    Ok(())
+}
+
+/// The tree of a title and a paragraph.
+fn titled_tree(alloc: Global) -> Result<Tree, Fail> {
+    match Tree::of(titled(alloc)?) {
+        Ok(tree) => Ok(tree),
+        Err(_) => Err(Fail::new("no tree")),
+    }
+}
+
+#[test]
+fn reads_trees(rt: HostRuntime) -> Result<(), Fail> {
+    let alloc = rt.alloc();
+    let tree = titled_tree(alloc)?;
+    assert!(rt; tree.has(&[1, 0]));
+    assert!(rt; !tree.has(&[1, 1]));
+    match tree.attr(&[], Key::Title) {
+        Some(Value::Text(said)) => compare(&rt, said.as_str(), "Title", "attribute"),
+        _ => assert!(rt; false),
+    }
+    assert!(rt; tree.attr(&[0], Key::Ids).is_none());
+    let more = text(alloc, "b\n")?;
+    assert!(rt; tree.fits(&[1], &more));
+    assert!(rt; !tree.fits(&[1, 0], &more));
+    assert!(rt; !tree.fits(&[1], &nested(alloc, 1349)?));
     Ok(())
 }
 
 #[test]
 fn changes_trees(rt: HostRuntime) -> Result<(), Fail> {
     let alloc = rt.alloc();
-    match Tree::of(titled(alloc)?) {
-        Ok(mut tree) => {
-            assert!(rt; tree.has(&[1, 0]));
-            assert!(rt; !tree.has(&[1, 1]));
-            match tree.attr(&[], Key::Title) {
-                Some(Value::Text(said)) => assert_eq!(rt; said.as_str(), "Title"),
-                _ => assert!(rt; false),
-            }
-            assert!(rt; tree.attr(&[0], Key::Ids).is_none());
-            let more = text(alloc, "b\n")?;
-            assert!(rt; tree.fits(&[1], &more));
-            assert!(rt; !tree.fits(&[1, 0], &more));
-            assert!(rt; !tree.fits(&[1], &nested(alloc, 1349)?));
-            assert!(rt; tree.push(alloc, &[1], more).is_ok());
-            assert!(rt; tree.has_element(&[1]));
-            tree.set(alloc, &[1], Key::Ids, Value::Number(7))?;
-            assert!(rt; tree.has_element(&[1]));
-            tree.set(alloc, &[1], Key::Alt, Value::Number(8))?;
-            assert!(rt; tree.has_element(&[1]));
-            tree.set(alloc, &[1], Key::Ids, Value::Number(9))?;
-            assert_eq!(rt; tree.text_of(alloc, &[])?.as_str(), "TitleText.b\n");
-            let root = tree.root().copy(alloc)?;
-            assert_eq!(rt;
-                printed(alloc, tree.into_root())?.as_str(),
-                "<document ids=\"title\" names=\"title\" source=\"<stdin>\" title=\"Title\">
+    let mut tree = titled_tree(alloc)?;
+    let more = text(alloc, "b\n")?;
+    assert!(rt; tree.has_element(&[1]));
+    assert!(rt; tree.fits(&[1], &more));
+    assert!(rt; tree.push(alloc, &[1], more).is_ok());
+    for &(key, number) in &[(Key::Ids, 7), (Key::Alt, 8), (Key::Ids, 9)] {
+        assert!(rt; tree.has_element(&[1]));
+        tree.set(alloc, &[1], key, Value::Number(number))?;
+    }
+    compare(
+        &rt,
+        tree.text_of(alloc, &[])?.as_str(),
+        "TitleText.b\n",
+        "text",
+    );
+    judge(&rt, tree.root().copy(alloc)?, true);
+    compare(
+        &rt,
+        printed(alloc, tree.into_root())?.as_str(),
+        CHANGED,
+        "tree",
+    );
+    Ok(())
+}
+
+const CHANGED: &str = "<document ids=\"title\" names=\"title\" source=\"<stdin>\" title=\"Title\">
     <title>
         Title
     <paragraph alt=\"8\" ids=\"9\">
         Text.
         b
-"
-            );
-            assert!(rt; Tree::of(root).is_ok());
-        }
-        Err(_) => assert!(rt; false),
-    }
-    Ok(())
-}
+";
 
 /// Gives each element a tag and a line.
 #[derive(Drop)]
@@ -173,17 +201,16 @@ fn reads_and_walks(rt: HostRuntime) -> Result<(), Fail> {
     assert_eq!(rt; counting.seen, 3);
 
     let walked = walk(titled(alloc)?, &mut Retagging { to: Tag::Tip })?;
-    assert_eq!(rt;
-        printed(alloc, walked)?.as_str(),
-        "<tip ids=\"title\" names=\"title\" source=\"<stdin>\" title=\"Title\">
+    compare(&rt, printed(alloc, walked)?.as_str(), WALKED, "tree");
+    Ok(())
+}
+
+const WALKED: &str = "<tip ids=\"title\" names=\"title\" source=\"<stdin>\" title=\"Title\">
     <tip>
         Title
     <tip>
         Text.
-"
-    );
-    Ok(())
-}
+";
 
 #[test]
 fn rewrites(rt: HostRuntime) -> Result<(), Fail> {
@@ -209,16 +236,15 @@ fn rewrites(rt: HostRuntime) -> Result<(), Fail> {
     {
         *place = children;
     }
-    assert_eq!(rt;
-        printed(alloc, document)?.as_str(),
-        "<document>
+    compare(&rt, printed(alloc, document)?.as_str(), REWRITTEN, "tree");
+    Ok(())
+}
+
+const REWRITTEN: &str = "<document>
     <block_quote line=\"2\">
         x
         <transition>
         <tip>
             b
         <transition>
-"
-    );
-    Ok(())
-}
+";

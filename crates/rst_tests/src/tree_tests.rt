@@ -1,6 +1,7 @@
 //! Trees built by hand and printed, as other programs print them, and each call once.
 ghost use Rattle.std.specs.Prelude.{Some};
 
+use super::comparing::compare;
 use rst_text::Counted;
 use rst_tree::{
     Attrs, Children, Key, Level, Node, Note, PrintFault, Tag, Text, Texts, Tree, TreeFault, Value,
@@ -8,6 +9,7 @@ use rst_tree::{
 };
 use std::alloc::Global;
 use std::io::{Error, ErrorKind, Write};
+use std::process::Abort;
 use std::test::Fail;
 
 /// A writer that takes `step` bytes a call, and fails once it has no room.
@@ -295,24 +297,24 @@ fn printed_to(
 
 const HELLO: &str = "<document source=\"<stdin>\">\n    <paragraph>\n        Hello, world\n";
 
+/// Ends the test where a root isn't printed as wanted, few bytes a call.
+fn print_as(rt: &impl Abort, alloc: Global, root: Node, want: &str) -> Result<(), Fail> {
+    let (answer, out) = printed_to(alloc, root, 10_000, 7)?;
+    assert_eq!(rt; answer, Ok(()));
+    compare(rt, std::str::from_utf8(&out.held)?, want, "tree");
+    Ok(())
+}
+
 #[test]
 fn prints_trees(rt: HostRuntime) -> Result<(), Fail> {
     let alloc = rt.alloc();
-    let rows = [
-        (empty(alloc)?, "<document source=\"<stdin>\">\n"),
-        (hello(alloc)?, HELLO),
-        (titled(alloc)?, TITLED),
-        (footnotes(alloc)?, FOOTNOTES),
-        (table(alloc)?, TABLE),
-        (targets(alloc)?, TARGETS),
-        (message(alloc)?, MESSAGE),
-    ];
-    for (root, want) in rows {
-        let (answer, out) = printed_to(alloc, root, 10_000, 7)?;
-        assert_eq!(rt; answer, Ok(()));
-        assert_eq!(rt; std::str::from_utf8(&out.held)?, want);
-    }
-    Ok(())
+    print_as(&rt, alloc, empty(alloc)?, "<document source=\"<stdin>\">\n")?;
+    print_as(&rt, alloc, hello(alloc)?, HELLO)?;
+    print_as(&rt, alloc, titled(alloc)?, TITLED)?;
+    print_as(&rt, alloc, footnotes(alloc)?, FOOTNOTES)?;
+    print_as(&rt, alloc, table(alloc)?, TABLE)?;
+    print_as(&rt, alloc, targets(alloc)?, TARGETS)?;
+    print_as(&rt, alloc, message(alloc)?, MESSAGE)
 }
 
 const TITLED: &str = "<document ids=\"title\" names=\"title\" source=\"<stdin>\" title=\"Title\">
@@ -386,7 +388,7 @@ fn stops_at_a_failed_write(rt: HostRuntime) -> Result<(), Fail> {
         for &step in &[1, 3, 100] {
             let (answer, out) = printed_to(alloc, hello(alloc)?, room, step)?;
             assert_eq!(rt; answer, Err(PrintFault::Write { done: room }));
-            assert_eq!(rt; std::str::from_utf8(&out.held)?, want);
+            compare(&rt, std::str::from_utf8(&out.held)?, want, "tree");
         }
     }
     let (answer, _out) = printed_to(alloc, hello(alloc)?, 65, 1)?;
@@ -417,7 +419,7 @@ fn note(
 #[test]
 fn prints_messages(rt: HostRuntime) -> Result<(), Fail> {
     let alloc = rt.alloc();
-    let rows = [
+    let rows = &[
         (
             Level::Warning,
             3,
@@ -441,12 +443,12 @@ fn prints_messages(rt: HostRuntime) -> Result<(), Fail> {
             "<stdin>:1: (ERROR/3) c\n\n\n",
         ),
     ];
-    for (level, line, said, shown, want) in rows {
+    for &(level, line, said, shown, want) in rows {
         let note = note(alloc, level, line, said, shown)?;
         let mut out = Narrow::new(alloc, 1000, 5);
         let answer = message_line(&note, "<stdin>", &mut Counted::of(&mut out));
         assert_eq!(rt; answer, Ok(()));
-        assert_eq!(rt; std::str::from_utf8(&out.held)?, want);
+        compare(&rt, std::str::from_utf8(&out.held)?, want, said);
     }
     Ok(())
 }
