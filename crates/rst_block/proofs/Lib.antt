@@ -1,4 +1,5 @@
 pub mod Blocks
+pub mod KindRows
 pub mod Looked
 pub mod Quotes
 pub mod Reached

@@ -1,3 +1,4 @@
 pub mod Begun
 pub mod Frames
+pub mod Paragraphs
 pub mod Steps

@@ -1,14 +1,16 @@
 //! What begins at a line, with what its mark says.
-ghost use Rattle.std.specs.Prelude.{◌≡◌, ◌+◌, ◌-◌, ◌*◌, ◌^◌, ◌<◌, ◌≤◌, length, drop, IfOk, IfSome};
+ghost use Rattle.std.specs.Prelude.{◌≡◌, ℕ, List, ◌+◌, ◌-◌, ◌*◌, ◌^◌, ◌<◌, ◌≤◌, length, drop, IfOk, IfSome};
+ghost use Rattle.std.specs.Str.{chars};
 ghost use Rattle.rst_text.specs.Shown.{block_of};
 ghost use Rattle.rst_markup.specs.Parts.{IsBlock, IsCall};
-ghost use Rattle.rst_markup.specs.Kinds.{kind_of};
+ghost use Rattle.rst_markup.specs.Kinds.{kind_by, later_kind};
 ghost use Rattle.rst_block.specs.Begun as spec;
 
 use rst_marks::{
-    Adornment, Enumerator, FieldMark, Marker, adornment_of, bullet, field_of, front, line_bar,
+    Adornment, Enumerator, FieldMark, Marker, adornment_of, begins_with, bullet, doctest, dots,
+    field_of, front, is_blank, is_grid_border, is_simple_border, line_bar, underscores,
 };
-use rst_markup::{Kind, below_text, item_enumerator, item_option, kind_by};
+use rst_markup::{below_text, item_enumerator, item_option};
 use rst_text::{Looks, View};
 
 /// What begins at a line: its kind, with the mark by which it is of that kind.
@@ -25,6 +27,7 @@ pub(crate) enum Begun {
     Grid,
     Simple,
     Explicit,
+    Anonymous,
     Adornment(Adornment),
     Text,
 }
@@ -34,35 +37,68 @@ pub(crate) fn begun_at(view: &View<'_>, at: usize, looks: &mut Looks) -> Begun
     requires inside { at < length (block_of view.now) }
     requires short { length (block_of view.now) < 2 ^ 64 }
     requires few { looks.old < 2 ^ 120 }
-    ensures begun { spec.IsBegun (kind_of (block_of view.now) at) result }
+    ensures begun { spec.IsBegun (drop at (block_of view.now)) result }
     ensures looks { looks.new ≤ looks.old + 3 }
 {
     let text = view.line(at, looks);
     let next = below_text(view, at, 1, looks);
     let after = below_text(view, at, 2, looks);
-    with_mark(kind_by(text, next, after), text, next, after).unwrap_or(Begun::Text)
+    begun_by(text, next, after)
 }
 
-/// A kind with the mark in its line; each kind's line has its mark.
-fn with_mark(kind: Kind, text: &str, next: &str, after: &str) -> Option<Begun>
-    ensures { IfSome result (spec.IsBegun kind) }
+/// What begins at a line before the next two: the first row of the table of constructs whose condition holds.
+#[tactic(auto, using(crate::proofs::KindRows::kind_by_is, crate::proofs::KindRows::bullet_is))]
+fn begun_by(text: &str, next: &str, after: &str) -> Begun
+    ensures kind { spec.kind_in result ≡ kind_by (chars text.now) (chars next.now) (chars after.now) }
+    ensures mark { spec.IsMarked (chars text.now) (chars next.now) (chars after.now) result }
 {
-    match kind {
-        Kind::Blank => Some(Begun::Blank),
-        Kind::Quote => Some(Begun::Quote),
-        Kind::Bullet => Some(Begun::Bullet {
-            mark: front(text)?,
-            marker: bullet(text)?,
-        }),
-        Kind::Enumerator => Some(Begun::Enumerator(item_enumerator(text, next)?)),
-        Kind::Field => Some(Begun::Field(field_of(text)?)),
-        Kind::OptionItem => Some(Begun::OptionItem(item_option(text, next, after)?)),
-        Kind::Doctest => Some(Begun::Doctest),
-        Kind::Line => Some(Begun::Line(line_bar(text)?)),
-        Kind::Grid => Some(Begun::Grid),
-        Kind::Simple => Some(Begun::Simple),
-        Kind::Explicit | Kind::Anonymous => Some(Begun::Explicit),
-        Kind::Adornment => Some(Begun::Adornment(adornment_of(text)?)),
-        Kind::Text => Some(Begun::Text),
+    if is_blank(text) {
+        return Begun::Blank;
+    }
+    if begins_with(' ', text) {
+        return Begun::Quote;
+    }
+    if let (Some(mark), Some(marker)) = (front(text), bullet(text)) {
+        return Begun::Bullet { mark, marker };
+    }
+    if let Some(enumerator) = item_enumerator(text, next) {
+        return Begun::Enumerator(enumerator);
+    }
+    if let Some(mark) = field_of(text) {
+        return Begun::Field(mark);
+    }
+    if let Some(marker) = item_option(text, next, after) {
+        return Begun::OptionItem(marker);
+    }
+    later_begun(text)
+}
+
+/// The same by those rows whose conditions look at the line alone, from the doctest block on.
+#[tactic(auto, using(crate::proofs::KindRows::later_kind_is))]
+fn later_begun(text: &str) -> Begun
+    ensures kind { spec.kind_in result ≡ later_kind (chars text.now) }
+    ensures mark { (next after : List ℕ) → spec.IsMarked (chars text.now) next after result }
+{
+    if doctest(text).is_some() {
+        return Begun::Doctest;
+    }
+    if let Some(marker) = line_bar(text) {
+        return Begun::Line(marker);
+    }
+    if is_grid_border(text) {
+        return Begun::Grid;
+    }
+    if is_simple_border(text) {
+        return Begun::Simple;
+    }
+    if dots(text).is_some() {
+        return Begun::Explicit;
+    }
+    if underscores(text).is_some() {
+        return Begun::Anonymous;
+    }
+    match adornment_of(text) {
+        Some(mark) => Begun::Adornment(mark),
+        None => Begun::Text,
     }
 }

@@ -1,8 +1,11 @@
 //! Paragraphs, literal blocks and doctest blocks (Markup Specification, 'Paragraphs', 'Literal Blocks', 'Doctest
 //! Blocks').
 ghost use Rattle.std.specs.Prelude.{◌≡◌, ◌+◌, ◌-◌, ◌*◌, ◌^◌, ◌<◌, ◌≤◌, length, drop, IfOk, IfSome};
+ghost use Rattle.std.specs.Str.{chars};
 ghost use Rattle.rst_text.specs.Shown.{block_of};
 ghost use Rattle.rst_markup.specs.Parts.{IsBlock, IsCall};
+ghost use Rattle.rst_markup.specs.Kinds.{next_text};
+ghost use Rattle.rst_block.specs.Paragraphs as paragraphs;
 ghost use Rattle.rst_block.specs.Steps as spec;
 
 use super::begun::{Begun, begun_at};
@@ -12,11 +15,11 @@ use super::part::{indented, inside};
 use super::step::Step;
 use super::texts::{Pass, joined, number_at, source};
 use rst_elements::{message, preserved, with_text};
-use rst_marks::{begins_with, ends_in_colons, front, is_punctuation};
+use rst_marks::{begins_with, ends_in_colons, front, is_blank, is_punctuation};
 use rst_markup::{
     Adorned, LineTest, TextForm, adorned_at, below_text, lines_end, text_at, text_form,
 };
-use rst_text::{View, is_white};
+use rst_text::{View, skip};
 use rst_tree::{Level as Gravity, Tag};
 use std::alloc::{AllocError, Global};
 
@@ -241,7 +244,8 @@ fn quoted_literal(
 pub(crate) fn is_single_paragraph(view: &View<'_>, pass: &mut Pass) -> bool
     requires short { length (block_of view.now) < 2 ^ 64 }
     requires few { pass.old.looks < 2 ^ 119 + 2 ^ 116 }
-    ensures { pass.new.looks ≤ pass.old.looks + 2 ^ 66 }
+    ensures paragraph { result ≡ paragraphs.is_single_paragraph (block_of view.now) }
+    ensures looks { pass.new.looks ≤ pass.old.looks + 2 ^ 66 }
 {
     if view.len() == 0 || !begins_paragraph(view, pass) {
         return false;
@@ -250,8 +254,14 @@ pub(crate) fn is_single_paragraph(view: &View<'_>, pass: &mut Pass) -> bool
     if end < view.len() {
         return false;
     }
-    // A paragraph vanishes where it is nothing but the two colons that announce a literal block.
-    1 < end || view.line(0, &mut pass.looks) != "::"
+    1 < end || !is_colons(view.line(0, &mut pass.looks))
+}
+
+/// Whether a text is nothing but the two colons that announce a literal block.
+fn is_colons(text: &str) -> bool
+    ensures { result ≡ paragraphs.is_colons (chars text.now) }
+{
+    ends_in_colons(text) && is_blank(skip(text, 2))
 }
 
 /// Whether the first line of a block in a block begins a paragraph.
@@ -259,21 +269,33 @@ fn begins_paragraph(view: &View<'_>, pass: &mut Pass) -> bool
     requires inside { 0 < length (block_of view.now) }
     requires short { length (block_of view.now) < 2 ^ 64 }
     requires few { pass.old.looks < 2 ^ 119 + 2 ^ 117 }
-    ensures { pass.new.looks ≤ pass.old.looks + 2 ^ 64 }
+    ensures paragraph { result ≡ paragraphs.begins_paragraph (block_of view.now) }
+    ensures looks { pass.new.looks ≤ pass.old.looks + 2 ^ 64 }
 {
     let text = view.line(0, &mut pass.looks);
     let next = below_text(view, 0, 1, &mut pass.looks);
-    let is_text = match begun_at(view, 0, &mut pass.looks) {
+    begins_text(view, next, pass)
+        && matches!(
+            text_form(text, next),
+            TextForm::Paragraph | TextForm::ShortUnderline
+        )
+}
+
+/// Whether the first line of a block in a block, before the next, begins text.
+fn begins_text(view: &View<'_>, next: &str, pass: &mut Pass) -> bool
+    requires inside { 0 < length (block_of view.now) }
+    requires short { length (block_of view.now) < 2 ^ 64 }
+    requires next { chars next.now ≡ next_text (block_of view.now) }
+    requires few { pass.old.looks < 2 ^ 119 + 2 ^ 118 }
+    ensures text { result ≡ paragraphs.begins_text (block_of view.now) }
+    ensures looks { pass.new.looks ≤ pass.old.looks + 2 ^ 63 }
+{
+    match begun_at(view, 0, &mut pass.looks) {
         Begun::Text => true,
         Begun::Adornment(mark) => matches!(
             adorned_at(view, 0, false, mark, next, &mut pass.looks),
             Adorned::Text | Adorned::ShortAdornment
         ),
         _ => false,
-    };
-    is_text
-        && matches!(
-            text_form(text, next),
-            TextForm::Paragraph | TextForm::ShortUnderline
-        )
+    }
 }

@@ -77,7 +77,7 @@ pub(crate) fn step_at(
             let found = simple(alloc, view, at, &mut pass.looks)?;
             table(alloc, view, level, found, pass)
         }
-        Begun::Explicit => explicit_markup(alloc, view, level, pass),
+        Begun::Explicit | Begun::Anonymous => explicit_markup(alloc, view, level, pass),
         Begun::Adornment(mark) => adornment(alloc, view, level, mark, pass),
         Begun::Text => text_line(alloc, view, level, Vec::new(alloc), pass),
     }

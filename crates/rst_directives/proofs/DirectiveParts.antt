@@ -8,6 +8,8 @@ use Rattle.rst_text.proofs.CutLaws.{take_of}
 use Rattle.rst_text.proofs.Indented.{is_indented-drop, is_indented-take}
 use Rattle.rst_markup.specs.Parts.{IsBlock}
 use Rattle.rst_markup.specs.declared.part.Part.{Part}
+use Rattle.rst_markup.specs.RowLaws.{while_le}
+use Rattle.rst_markup.specs.declared.lines.LineTest.TheVariants.{Blank}
 use Rattle.rst_directives.specs.Argument.{Given, title, language, text_in, word_of, argument_by, argument_of}
 use Rattle.rst_directives.specs.Call.{part_of, content_of, is_empty, IsContentIn, IsDirectiveIn}
 use Rattle.rst_directives.specs.Characters.{Text, has_character}
@@ -88,12 +90,7 @@ first_run-le (l ∷ ls) = by (is_blank l.text) (first_run-le ls)
     by false h = omega arith
 
 blank_len-le : (B : Block) → blank_len B ≤ length B
-blank_len-le [] = omega arith
-blank_len-le (l ∷ ls) = by (is_blank l.text) (blank_len-le ls)
-  where
-    by : (b : Bool) → blank_len ls ≤ length ls → cond b (suc (blank_len ls)) 0 ≤ suc (length ls)
-    by true h = omega arith
-    by false h = omega arith
+blank_len-le B = while_le Blank B
 
 run_in-le : (name : Name) (late : Bool) (H : Block) → length (run_in name late H) ≤ length H
 unfolding run_in

@@ -1,4 +1,5 @@
 pub mod Powers
+pub mod Numbers
 pub mod Words
 pub mod Colons
 pub mod TargetTexts

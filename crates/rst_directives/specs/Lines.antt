@@ -1,7 +1,9 @@
 -- The lines of a directive's block (Markup Specification, 'Directives').
-use Rattle.std.specs.Prelude.{ℕ, suc, List, [], ◌∷◌, map, if◌then◌else◌}
+use Rattle.std.specs.Prelude.{ℕ, List, [], ◌∷◌, map, if◌then◌else◌}
 use Rattle.std.specs.declared.vec.Vec.{Vec}
 use Rattle.rst_text.specs.Block.{Block, is_blank}
+use Rattle.rst_markup.specs.Lines.{lines_while}
+use Rattle.rst_markup.specs.declared.lines.LineTest.TheVariants.{Blank}
 use Rattle.rst_directives.specs.Characters.{Text}
 
 -- the texts that vectors of characters hold
@@ -15,5 +17,4 @@ first_run (l ∷ ls) = if is_blank l.text then [] else l.text ∷ first_run ls
 
 -- how many blank lines a block begins with
 abbrev pub blank_len : Block → ℕ
-blank_len [] = 0
-blank_len (l ∷ ls) = if is_blank l.text then suc (blank_len ls) else 0
+blank_len X = lines_while Blank X

@@ -1,5 +1,5 @@
 -- Measures, scales and alignments (Directives, 'Image', 'Figure').
-use Rattle.std.specs.Prelude.{ℕ, ◌+◌, ◌-◌, ◌*◌, Bool, not, ◌&&◌, ◌||◌, ◌==◌, nat_lt, [], ◌∷◌, ◌++◌, take, drop, length, codes, Option, Some, None, if◌then◌else◌}
+use Rattle.std.specs.Prelude.{ℕ, ◌+◌, ◌-◌, ◌*◌, ◌^◌, Bool, not, ◌&&◌, ◌||◌, ◌==◌, nat_lt, [], ◌∷◌, ◌++◌, take, drop, length, codes, Option, Some, None, if◌then◌else◌}
 use Rattle.std.specs.Char.{is_ascii_digit}
 use Rattle.rst_text.specs.Block.{indentation, is_blank}
 use Rattle.rst_directives.specs.Characters.{Text, has, digits, is_exactly}
@@ -47,14 +47,10 @@ measure_of t percent wanted = measure_by t wanted (measure_parts t percent)
 abbrev pub digit : ℕ → ℕ
 digit c = if is_ascii_digit c then c - 48 else 0
 
--- the number that digits write behind another number
-abbrev pub number_from : ℕ → Text → ℕ
-number_from n [] = n
-number_from n (c ∷ cs) = number_from (n * 10 + digit c) cs
-
--- the number that digits write
-abbrev pub number_of : Text → ℕ
-number_of t = number_from 0 t
+-- the number that digits write: each counts ten times as much as it would one place further on
+unfoldable pub number_of : Text → ℕ
+number_of [] = 0
+number_of (c ∷ cs) = digit c * 10 ^ length cs + number_of cs
 
 -- a scale: one to nine digits, maybe a percent sign with or without spaces before it
 unfoldable pub scale_of : Text → Option ℕ

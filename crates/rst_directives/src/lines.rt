@@ -56,6 +56,7 @@ pub(crate) fn run_of(
 }
 
 /// The first place from `from` on of a line that isn't blank, or the end.
+#[tactic(auto, using(crate::proofs::Runs::blank_len_stop, crate::proofs::Runs::blank_len_end))]
 pub(crate) fn past_blank(lines: &View<'_>, from: usize, looks: &mut Looks) -> usize
     requires inside { from ≤ length (block_of lines.now) }
     requires few { looks.old + length (block_of lines.now) < 2 ^ 121 }

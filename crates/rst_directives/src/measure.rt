@@ -99,6 +99,7 @@ pub(crate) fn measure_of(
 }
 
 /// The number that digits write; at most nine of them fit.
+#[tactic(auto, using(crate::proofs::Numbers::number_is))]
 fn number_of(text: &[char]) -> u32
     requires { length text.now ≤ 9 }
     ensures { result ≡ spec.number_of text.now }

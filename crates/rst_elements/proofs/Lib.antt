@@ -1,4 +1,5 @@
 pub mod TextLemmas
+pub mod HeadLemmas
 pub mod MessageLemmas
 pub mod ReadLemmas
 pub mod TermLemmas

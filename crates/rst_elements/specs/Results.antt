@@ -3,9 +3,11 @@ use Rattle.std.specs.Prelude.{◌≡◌, ℕ, List, map, length}
 use Rattle.rst_tree.specs.declared.tag.Tag.{Tag}
 use Rattle.rst_inline.specs.Results.{IsRead}
 use Rattle.rst_inline.specs.declared.nodes.Pieces.{Pieces}
+use Rattle.rst_elements.specs.declared.terms.Heads.{Heads}
 use Rattle.rst_elements.specs.declared.texted.Reading.{Reading}
 use Rattle.rst_elements.specs.declared.texted.Texted.{Texted}
 use Rattle.rst_elements.specs.Elements.{element_of}
+use Rattle.rst_elements.specs.Terms.{AreHeads}
 use Rattle.rst_elements.specs.Texts.{counting, numbered_on, messages_from}
 
 -- the nodes and the messages of what was read, whose numbers go on from `first`
@@ -25,3 +27,12 @@ pub record IsHolding (tag : Tag) (line : ℕ) (reading : Reading) (texted : Text
 -- those of a text
 abbrev pub HoldsText : Tag → ℕ → List ℕ → ℕ → ℕ → Texted → Type 0
 HoldsText tag line text text_line first texted = (reading : Reading) × ReadsText text text_line first reading × IsHolding tag line reading texted
+
+-- a term, which says how many messages there are, and its classifiers, and the messages that were read
+pub record AreHeadsOf (line : ℕ) (reading : Reading) (made : Heads) : Type 0 where
+  pub heads : AreHeads (length reading.notes.items) line made.heads.items
+  pub notes : made.notes.items ≡ reading.notes.items
+
+-- those of a text
+abbrev pub HeadsText : List ℕ → ℕ → ℕ → Heads → Type 0
+HeadsText text line first made = (reading : Reading) × ReadsText text line first reading × AreHeadsOf line reading made

@@ -1,8 +1,12 @@
--- Parts of terms (Markup Specification, 'Definition Lists').
-use Rattle.std.specs.Prelude.{ℕ, zero, suc, Bool, true, false, ◌&&◌, ◌==◌, not, List, [], ◌∷◌, ◌++◌, take, map, if◌then◌else◌, encode_utf8_all}
+-- Terms and classifiers, and their parts (Markup Specification, 'Definition Lists').
+use Rattle.std.specs.Prelude.{◌≡◌, ℕ, zero, suc, Bool, true, false, ◌&&◌, ◌==◌, not, List, [], ◌∷◌, ◌++◌, take, map, if◌then◌else◌, encode_utf8_all}
 use Rattle.rst_text.specs.Characters.{is_white}
 use Rattle.rst_pieces.specs.Escapes.{escapes}
+use Rattle.rst_tree.specs.declared.node.Node.{Node}
+use Rattle.rst_tree.specs.declared.node.Node.TheVariants.{Element, Text as Words}
+use Rattle.rst_tree.specs.declared.tag.Tag.TheVariants.{Term, Classifier}
 use Rattle.rst_elements.specs.declared.terms.Letter.{Letter}
+use Rattle.rst_elements.specs.Texts.{counting}
 
 -- a character, and whether it was escaped
 abbrev pub letter_of : ℕ → Bool → Letter
@@ -58,3 +62,29 @@ spelled ls = encode_utf8_all (map (λ l. l.character) ls)
 -- the texts of the parts
 abbrev pub parts_of : List Letter → List (List ℕ)
 parts_of ls = map spelled (cut false [] ls)
+
+-- ---- their elements
+
+-- a term of a line, which says how many messages there are
+abbrev pub IsTerm : ℕ → ℕ → Node → Type 0
+IsTerm notes line (Element t a c l) = (t ≡ Term) × (a ≡ counting notes) × (l ≡ line)
+IsTerm notes line (Words t) = ⊥
+
+-- a classifier of a line
+abbrev pub IsClassifier : ℕ → Node → Type 0
+IsClassifier line (Element t a c l) = (t ≡ Classifier) × (a ≡ []) × (l ≡ line)
+IsClassifier line (Words t) = ⊥
+
+abbrev pub AreClassifiers : ℕ → List Node → Type 0
+AreClassifiers line [] = Unit {0}
+AreClassifiers line (node ∷ nodes) = IsClassifier line node × AreClassifiers line nodes
+
+-- a term and then its classifiers
+abbrev pub AreHeads : ℕ → ℕ → List Node → Type 0
+AreHeads notes line [] = ⊥
+AreHeads notes line (term ∷ classifiers) = IsTerm notes line term × AreClassifiers line classifiers
+
+-- those, or none yet
+abbrev pub AreBegun : ℕ → ℕ → List Node → Type 0
+AreBegun notes line [] = Unit {0}
+AreBegun notes line (head ∷ heads) = AreHeads notes line (head ∷ heads)

@@ -1,5 +1,5 @@
 -- Elements that hold a text with inline markup, and messages.
-use Rattle.std.specs.Prelude.{ℕ, ◌+◌, ◌-◌, ◌^◌, min, Bool, List, [], ◌∷◌, Option, Some, None, is_some}
+use Rattle.std.specs.Prelude.{ℕ, ◌+◌, ◌-◌, ◌^◌, ◌==◌, if◌then◌else◌, min, Bool, List, [], ◌∷◌, Option, Some, None, is_some}
 use Rattle.std.specs.List.{list_any}
 use Rattle.rst_tree.specs.Attributes.{attr, with_attr, value_of}
 use Rattle.rst_tree.specs.Messages.{note_node}
@@ -24,9 +24,9 @@ message_node level line text block = note_node (record { level = level; line = l
 abbrev pub counted_on : ℕ → ℕ → ℕ
 counted_on first n = min (first + n) (2 ^ 64 - 1)
 
--- the attribute that says how many messages of its text an element has
+-- the attribute that says how many messages of its text an element has, if it has some
 abbrev pub counting : ℕ → List Attr
-counting notes = attr TextMessages (Number notes) ∷ []
+counting notes = if notes == 0 then [] else attr TextMessages (Number notes) ∷ []
 
 -- the element with the number of a message; a text stays as it is
 abbrev pub with_message : ℕ → Node → Node
@@ -63,4 +63,4 @@ messages_from first (note ∷ notes) = with_message first (note_node note) ∷ m
 
 abbrev pub section_node : Node → ℕ → ℕ → Node
 section_node title notes line =
-    element_of Section (attr OwnName (Said (name_in (text_in title))) ∷ attr TextMessages (Number notes) ∷ []) (title ∷ []) line
+    element_of Section (attr OwnName (Said (name_in (text_in title))) ∷ counting notes) (title ∷ []) line

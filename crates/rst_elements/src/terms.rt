@@ -1,7 +1,10 @@
 //! Terms of definition lists, with their classifiers.
 ghost use Rattle.std.specs.Prelude.{◌≡◌, ◌≤◌, false, length, IfOk};
+ghost use Rattle.std.specs.Str.{chars};
 ghost use Rattle.rst_tree.specs.Faults.{Gives};
-ghost use Rattle.rst_elements.specs.Terms.{letters_from, parts_of, is_bare, is_delimiter, begins_with_space, ends_in_space, dark_len, spelled};
+ghost use Rattle.rst_elements.specs.Results.{HeadsText};
+ghost use Rattle.rst_elements.specs.Texts.{counted_on};
+ghost use Rattle.rst_elements.specs.Terms.{AreBegun, AreHeads, letters_from, parts_of, is_bare, is_delimiter, begins_with_space, ends_in_space, dark_len, spelled};
 
 use super::nodes::element_of;
 use super::numbers::Numbers;
@@ -28,7 +31,10 @@ pub fn term_and_classifiers(
     text: &str,
     line: usize,
     numbers: &mut Numbers,
-) -> Result<Heads, TreeFault> {
+) -> Result<Heads, TreeFault>
+    ensures text { Gives (HeadsText (chars text.now) line numbers.old) result }
+    ensures numbers { Gives (λ made. numbers.new ≡ counted_on numbers.old (length made.notes.items)) result }
+{
     let characters = characters_of(alloc, text)?;
     let pieces = pieces_of(alloc, &characters)?;
     let parts = plain_parts(alloc, &characters, &pieces)?;
@@ -183,13 +189,16 @@ struct Unfinished {
 }
 
 /// The term and the classifiers of nodes, whose texts consist of these parts, text after text.
+#[tactic(auto, using(crate::proofs::HeadLemmas::begun))]
 fn heads_of(
     alloc: Global,
     nodes: Vec<Node>,
     parts: Vec<Vec<Text>>,
     notes: usize,
     line: usize,
-) -> Result<Vec<Node>, TreeFault> {
+) -> Result<Vec<Node>, TreeFault>
+    ensures { Gives (λ heads. AreHeads notes line heads.items) result }
+{
     let mut heads = Unfinished {
         done: Vec::new(alloc),
         nodes: Vec::new(alloc),
@@ -209,13 +218,17 @@ fn heads_of(
 }
 
 /// The parts of a text put behind the nodes: each but the first begins a classifier.
+#[tactic(auto, using(crate::proofs::HeadLemmas::begun))]
 fn with_parts(
     alloc: Global,
     heads: Unfinished,
     parts: Vec<Text>,
     notes: usize,
     line: usize,
-) -> Result<Unfinished, TreeFault> {
+) -> Result<Unfinished, TreeFault>
+    requires { AreBegun notes line heads.done.items }
+    ensures { Gives (λ unfinished. AreBegun notes line unfinished.done.items) result }
+{
     let mut heads = heads;
     let mut is_first = true;
     for part in parts {
@@ -231,19 +244,27 @@ fn with_parts(
 }
 
 /// The nodes made an element: the first is the term, the others are classifiers.
+#[tactic(auto, using(crate::proofs::HeadLemmas::first_head, crate::proofs::HeadLemmas::further_head))]
 fn closed(
     alloc: Global,
     heads: Unfinished,
     notes: usize,
     line: usize,
-) -> Result<Unfinished, TreeFault> {
+) -> Result<Unfinished, TreeFault>
+    requires { AreBegun notes line heads.done.items }
+    ensures { Gives (λ unfinished. AreHeads notes line unfinished.done.items) result }
+{
     let Unfinished { mut done, nodes } = heads;
-    let head = if done.is_empty() {
-        element_of(Tag::Term, counting(alloc, notes)?, nodes, line)
-    } else {
-        element_of(Tag::Classifier, Attrs::new(alloc), nodes, line)
-    };
-    done.push(head)?;
+    if done.is_empty() {
+        let term = element_of(Tag::Term, counting(alloc, notes)?, nodes, line);
+        done.push(term)?;
+        return Ok(Unfinished {
+            done,
+            nodes: Vec::new(alloc),
+        });
+    }
+    let classifier = element_of(Tag::Classifier, Attrs::new(alloc), nodes, line);
+    done.push(classifier)?;
     Ok(Unfinished {
         done,
         nodes: Vec::new(alloc),

@@ -26,7 +26,7 @@ pub(crate) struct Reading {
 }
 
 /// An element of line `line` with the nodes of a text whose first line is `text_line`, and the text's messages (Markup
-/// Specification, 'Inline Markup'). The element says how many messages there are. A message and its problematic have one
+/// Specification, 'Inline Markup'). The element says how many messages there are, if there are some. A message and its problematic have one
 /// number, by which the document's messages are counted.
 ///
 /// The only refusal is [`TreeFault::NoMemory`].
@@ -59,13 +59,14 @@ fn holding(alloc: Global, tag: Tag, reading: Reading, line: usize) -> Result<Tex
     })
 }
 
-/// The attribute that says how many messages of its text an element has.
+/// The attribute that says how many messages of its text an element has, if it has some.
 pub(crate) fn counting(alloc: Global, notes: usize) -> Result<Attrs, TreeFault>
     ensures { Gives (λ attrs. attrs ≡ counting notes) result }
 {
-    let mut attrs = Attrs::new(alloc);
-    attrs.set(Key::TextMessages, Value::Number(notes as u64))?;
-    Ok(attrs)
+    if notes == 0 {
+        return Ok(Attrs::new(alloc));
+    }
+    Attrs::lone(alloc, Key::TextMessages, Value::Number(notes as u64))
 }
 
 /// The nodes of a text whose first line has a number, and its messages.

@@ -9,8 +9,8 @@ use super::elements::problematic;
 use super::fault::InlineFault;
 use super::reading::Meaning;
 use super::texts::part;
-use super::written::{if_ascii, meaning};
-use rst_pieces::{Piece, pieces_of};
+use super::written::{if_ascii, meaning, pieces};
+use rst_pieces::Piece;
 use rst_text::characters_of;
 use rst_tree::{Node, Note};
 use std::alloc::Global;
@@ -31,8 +31,9 @@ pub fn inline(alloc: Global, text: &str, line: usize) -> Result<Pieces, InlineFa
     ensures { Gives (IsRead (chars text.now) line) result }
 {
     let characters = characters_of(alloc, text)?;
-    let pieces = pieces_of(alloc, &characters)?;
-    read(alloc, if_ascii(text), &characters, &pieces, line)
+    let written = if_ascii(text);
+    let pieces = pieces(alloc, written, &characters)?;
+    read(alloc, written, &characters, &pieces, line)
 }
 
 /// The nodes and the messages of the pieces of a text; `written` is the text, too, if that is ASCII.

@@ -1,5 +1,5 @@
 -- Changes at each mark, one after another, are a walk.
-use Rattle.std.proofs.Common.{◌≡◌, ℕ, ◌+◌, ◌<◌, ◌≤◌, List, [], ◌∷◌, ◌++◌, length, get_or, set, drop, take, arith, append_assoc, zero, suc, refl, sym, ◌∙◌, ap, Bool, true, false}
+use Rattle.std.proofs.Common.{◌≡◌, ℕ, ◌+◌, ◌<◌, ◌≤◌, List, [], ◌∷◌, ◌++◌, length, get_or, set, drop, take, arith, add-one, append_assoc, zero, suc, refl, sym, ◌∙◌, ap, Bool, true, false}
 use Rattle.std.specs.Prelude.{if◌then◌else◌, map, reverse}
 use Rattle.std.proofs.lemmas.List.{append-nil, map-append, reverse-append, drop_all, take_all, take_more, length-take-le}
 use Rattle.rst_tree.specs.Paths.{with_child}
@@ -12,7 +12,7 @@ use Rattle.rst_tree.specs.Nodes.{forest_of, nodes_of}
 use Rattle.rst_tree.specs.Walk.{Item, item, items, node_items, after, walked, walked_node}
 use Rattle.rst_tree.proofs.Walks.{after-append}
 use Rattle.rst_tree.proofs.Changes.{forest_of-nodes_of}
-use Rattle.rst_marked.specs.Marks.{Place, path_of, deeper, later, own_place, places, own_mark, marks_of, heeded_out, heeded_next, touched, touched_node, stepped, stepped_node}
+use Rattle.rst_marked.specs.Marks.{Place, path_of, deeper, later, own_place, places, own_mark, marks_of, from_on, heeded_out, heeded_next, KeepsMarks, touched, touched_node, stepped, stepped_node}
 
 module _ {S : Type 0} (next : S → Item → S) (out : S → Item → Item) where
   -- a state and the nodes, after the element at a place
@@ -177,6 +177,25 @@ map-two : {A B C : Type 0} (g : B → C) (f : A → B) (xs : List A) → map g (
 map-two g f [] = refl
 map-two g f (x ∷ xs) = ap (λ ys. g (f x) ∷ ys) (map-two g f xs)
 
+-- members changed from one on: those behind some others, and one by one
+pub from_on-append : {A : Type 0} (f : A → A) (xs ys : List A) → from_on (length xs) f (xs ++ ys) ≡ xs ++ map f ys
+from_on-append f [] [] = refl
+from_on-append f [] (y ∷ ys) = ap (λ zs. f y ∷ zs) (from_on-append f [] ys)
+from_on-append f (x ∷ xs) ys = ap (λ zs. x ∷ zs) (from_on-append f xs ys)
+
+from_on-suc : {A : Type 0} (f : A → A) (i : ℕ) (xs : List A) (d new : A) → i < length xs → d ≡ get_or xs i d → new ≡ f d → from_on (suc i) f (set xs i new) ≡ from_on i f xs
+from_on-suc f i [] d new h at is = absurd (omega arith)
+from_on-suc f zero (x ∷ xs) d new h at is = ap (λ z. z ∷ from_on zero f xs) (is ∙ ap f at)
+from_on-suc f (suc i) (x ∷ xs) d new h at is = ap (λ zs. x ∷ zs) (from_on-suc f i xs d new (omega arith) at is)
+
+pub from_on-set : {A : Type 0} (f : A → A) (i : ℕ) (xs : List A) (d new : A) → i < length xs → d ≡ get_or xs i d → new ≡ f d → from_on (i + 1) f (set xs i new) ≡ from_on i f xs
+from_on-set f i xs d new h at is = rw add-one (from_on-suc f i xs d new h at is)
+
+pub from_on-past : {A : Type 0} (f : A → A) (i : ℕ) (xs : List A) → length xs ≤ i → from_on i f xs ≡ xs
+from_on-past f i [] h = refl
+from_on-past f zero (x ∷ xs) h = absurd (omega arith)
+from_on-past f (suc i) (x ∷ xs) h = ap (λ zs. x ∷ zs) (from_on-past f i xs (omega arith))
+
 abbrev in_node : ℕ → List ℕ → Place
 in_node i p = (i, p)
 
@@ -236,9 +255,18 @@ module _ (needs : Item → Bool) where
       ∙ ap (λ z. own ++ z) (sym (map-append path_of (places needs (forest_of (take i ns))) (map (in_node i) (marks_of needs child))))
       ∙ ap (λ z. own ++ map path_of z) (sym e)
 
-  pub paths_all : (node : Node) (t : Tag) (a : List Attr) (c : Forest) (l : ℕ) (ns : List Node) (i : ℕ) (own now : List (List ℕ)) → node ≡ Element t a c l → c ≡ forest_of ns → length ns ≤ i → own ≡ own_mark needs (item t a l)
-      → now ≡ own ++ map path_of (places needs (forest_of (take i ns))) → now ≡ marks_of needs node
-  paths_all node t a c l ns i own now is nodes all mine held = held ∙ (rw (is, nodes, mine, take_all i ns all) refl)
+  -- the same, with the marks of the last child begun above it
+  pub paths_below : (ns : List Node) (i : ℕ) (child : Node) (own held inner now : List (List ℕ)) (from : ℕ) → i < length ns → child ≡ get_or ns i child
+      → held ≡ own ++ map path_of (places needs (forest_of (take i ns))) → from ≡ length held → inner ≡ held ++ marks_of needs child → now ≡ from_on from (λ p. i ∷ p) inner
+      → now ≡ own ++ map path_of (places needs (forest_of (take (i + 1) ns)))
+  paths_below ns i child own held inner now from fits at before start all begun =
+      paths_more ns i child own held now fits at before
+      (begun ∙ ap (λ (z : ℕ). from_on z (λ p. i ∷ p) inner) start ∙ ap (from_on (length held) (λ p. i ∷ p)) all ∙ from_on-append (λ p. i ∷ p) held (marks_of needs child))
+
+  pub paths_end : (node : Node) (t : Tag) (a : List Attr) (c : Forest) (l : ℕ) (ns : List Node) (i : ℕ) (old own now : List (List ℕ)) → node ≡ Element t a c l → c ≡ forest_of ns → length ns ≤ i
+      → own ≡ old ++ own_mark needs (item t a l) → now ≡ own ++ map path_of (places needs (forest_of (take i ns))) → now ≡ old ++ marks_of needs node
+  paths_end node t a c l ns i old own now is nodes all mine held =
+      held ∙ (rw (is, nodes, mine, take_all i ns all) (append_assoc old (own_mark needs (item t a l)) (map path_of (places needs (forest_of ns)))))
 
 pub node_pushed : (self child : Node) (t : Tag) (a : List Attr) (c c' : Forest) (l : ℕ) → self ≡ Element t a c l → c' ≡ forest_of (nodes_of c ++ child ∷ []) → Element t a c' l ≡ with_child child self
 node_pushed self child t a c c' l is pushed = rw (is, pushed) refl
@@ -253,3 +281,33 @@ module _ {S : Type 0} (next : S → Item → S) (out : S → Item → Item) (nee
       let e : to ≡ many_node next out (marks_of needs old) from = sym (ap (λ z. many_node next out z to) (drop_all i marks all)) ∙ left ∙ ap (λ z. many_node next out z from) are in
       let w = e ∙ many_node-marks next out needs s old in
       (ap (λ z. z.0) w, ap (λ z. z.1) w)
+
+-- a change after which the same elements are wanted leaves the marks as they were
+module _ {S : Type 0} (next : S → Item → S) (out : S → Item → Item) (needs : Item → Bool) where
+  own_place-kept : (x y : Item) → needs x ≡ needs y → own_place needs x ≡ own_place needs y
+  own_place-kept x y h = ap (λ v. if v then (0, []) ∷ [] else []) h
+
+  own_mark-kept : (x y : Item) → needs x ≡ needs y → own_mark needs x ≡ own_mark needs y
+  own_mark-kept x y h = ap (λ v. if v then [] ∷ [] else []) h
+
+  heeded-kept : KeepsMarks needs out → (s : S) (x : Item) → needs (heeded_out needs out s x) ≡ needs x
+  heeded-kept keeps s x = elim (needs x) as (λ v. needs (if v then out s x else x) ≡ needs x) [ true ↦ keeps s x | false ↦ refl ]
+
+  places-kept : KeepsMarks needs out → (s : S) (f : Forest) → places needs (walked (heeded_next needs next) (heeded_out needs out) s f) ≡ places needs f
+  places-kept keeps s bare = refl
+  places-kept keeps s (words t r) = ap (map later) (places-kept keeps s r)
+  places-kept keeps s (element t a c l r) =
+      let x : Item = item t a l in
+      let s1 : S = heeded_next needs next s x in
+      let s2 : S = after (heeded_next needs next) (heeded_out needs out) s1 (items c) in
+      ap (λ z. z ++ (map deeper (places needs (walked (heeded_next needs next) (heeded_out needs out) s1 c)) ++ map later (places needs (walked (heeded_next needs next) (heeded_out needs out) s2 r)))) (own_place-kept (heeded_out needs out s x) x (heeded-kept keeps s x))
+      ∙ ap (λ z. own_place needs x ++ (map deeper z ++ map later (places needs (walked (heeded_next needs next) (heeded_out needs out) s2 r)))) (places-kept keeps s1 c)
+      ∙ ap (λ z. own_place needs x ++ (map deeper (places needs c) ++ map later z)) (places-kept keeps s2 r)
+
+  pub marks-kept : KeepsMarks needs out → (s : S) (n : Node) → marks_of needs (walked_node (heeded_next needs next) (heeded_out needs out) s n) ≡ marks_of needs n
+  marks-kept keeps s (Text t) = refl
+  marks-kept keeps s (Element t a c l) =
+      let x : Item = item t a l in
+      let s1 : S = heeded_next needs next s x in
+      ap (λ z. z ++ map path_of (places needs (walked (heeded_next needs next) (heeded_out needs out) s1 c))) (own_mark-kept (heeded_out needs out s x) x (heeded-kept keeps s x))
+      ∙ ap (λ z. own_mark needs x ++ map path_of z) (places-kept keeps s1 c)

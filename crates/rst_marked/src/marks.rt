@@ -1,8 +1,8 @@
 //! A node with the paths of the elements that registration needs, and changes at these.
 ghost use Rattle.std.specs.Prelude.{◌≡◌, ◌∷◌, ◌++◌, [], map, reverse};
-ghost use Rattle.rst_tree.specs.Faults.{Gives};
+ghost use Rattle.rst_tree.specs.Faults.{Gives, Becomes};
 ghost use Rattle.rst_tree.specs.Walk.{item, node_items, after, scanned, walked_node, node_shape};
-ghost use Rattle.rst_marked.specs.Marks.{marks_of, own_mark, heeded_next, heeded_out, touched_node, stepped_node};
+ghost use Rattle.rst_marked.specs.Marks.{marks_of, own_mark, from_on, heeded_next, heeded_out, touched_node, stepped_node, KeepsMarks};
 ghost use Rattle.rst_marked.specs.Registered.{is_registered_kind, has_key, is_registered};
 
 use rst_tree::{Attr, Attrs, Children, Key, Node, Tag, Text, TreeFault, Visitor};
@@ -34,13 +34,12 @@ impl Path {
         }
     }
 
-    /// The same path, seen from the parent of the node.
-    pub fn below(self, place: usize) -> Result<Path, TreeFault>
-        ensures { Gives (λ p. p ≡ place ∷ self) result }
+    /// Lets the path begin at the parent of the node, in which that is at a place.
+    pub fn begin_above(&mut self, place: usize) -> Result<(), TreeFault>
+        ensures { Becomes self.old self.new (place ∷ self.old) result }
     {
-        let Path { mut steps } = self;
-        steps.push(place)?;
-        Ok(Path { steps })
+        self.steps.push(place)?;
+        Ok(())
     }
 
     /// The places, the innermost first.
@@ -110,6 +109,21 @@ fn visit_at<V: Visitor>(node: &mut Node, steps: &[usize], visitor: &mut V) -> Re
     Ok(())
 }
 
+/// Visits the elements of a node at all its marks, one after the other.
+fn visit_all<V: Visitor>(node: Node, marks: &[Path], visitor: &mut V) -> Result<Node, TreeFault>
+    requires { marks.now ≡ marks_of is_registered node }
+    ensures node { Gives (λ n. n ≡ walked_node (heeded_next is_registered V.next) (heeded_out is_registered V.out) visitor.old node) result }
+    ensures state { Gives (λ _. visitor.new ≡ after (heeded_next is_registered V.next) (heeded_out is_registered V.out) visitor.old (node_items node)) result }
+    ensures elements { Gives (λ n. node_items n ≡ scanned (heeded_next is_registered V.next) (heeded_out is_registered V.out) visitor.old (node_items node)) result }
+    ensures shape { Gives (λ n. node_shape n ≡ node_shape node) result }
+{
+    let mut root = node;
+    for mark in marks {
+        visit_at(&mut root, mark.steps(), visitor)?;
+    }
+    Ok(root)
+}
+
 /// The marks, and then those of a node at a place, seen from its parent.
 fn with_marks_below(
     mut marks: Vec<Path>,
@@ -119,43 +133,59 @@ fn with_marks_below(
     ensures { Gives (λ all. all.items ≡ marks.items ++ map (λ p. place ∷ p) inner.items) result }
 {
     for mark in inner {
-        marks.push(mark.below(place)?)?;
+        let mut mark = mark;
+        mark.begin_above(place)?;
+        marks.push(mark)?;
     }
     Ok(marks)
 }
 
-/// The mark of an element itself, if it has one.
-fn own_marks(alloc: Global, tag: Tag, attrs: &Attrs, line: usize) -> Result<Vec<Path>, TreeFault>
-    ensures { Gives (λ own. own.items ≡ own_mark is_registered (item tag attrs.now line)) result }
+/// Lets the marks from one on begin at the parent of the node from which they were seen, in which that is at a place.
+fn begin_above(marks: &mut Vec<Path>, from: usize, place: usize) -> Result<(), TreeFault>
+    ensures { Gives (λ _. marks.new.items ≡ from_on from (λ p. place ∷ p) marks.old.items) result }
 {
-    let mut marks = Vec::new(alloc);
+    for i in from..marks.len() {
+        marks[i].begin_above(place)?;
+    }
+    Ok(())
+}
+
+/// Adds the mark of an element itself, if it has one.
+fn add_own(
+    alloc: Global,
+    tag: Tag,
+    attrs: &Attrs,
+    line: usize,
+    marks: &mut Vec<Path>,
+) -> Result<(), TreeFault>
+    ensures { Gives (λ _. marks.new.items ≡ marks.old.items ++ own_mark is_registered (item tag attrs.now line)) result }
+{
     if is_registered(tag, attrs, line) {
         marks.push(Path::here(alloc))?;
     }
-    Ok(marks)
+    Ok(())
 }
 
-/// The marks of a node, by a pass over it.
-fn marks_in(alloc: Global, node: &Node) -> Result<Vec<Path>, TreeFault>
-    ensures { Gives (λ all. all.items ≡ marks_of is_registered node.now) result }
+/// Adds the marks of a node, by a pass over it.
+fn add_marks(alloc: Global, node: &Node, marks: &mut Vec<Path>) -> Result<(), TreeFault>
+    ensures { Gives (λ _. marks.new.items ≡ marks.old.items ++ marks_of is_registered node.now) result }
 {
-    match node {
-        Node::Element {
-            tag,
-            attrs,
-            children,
-            line,
-        } => {
-            let mut marks = own_marks(alloc, *tag, attrs, *line)?;
-            let nodes = children.as_slice();
-            for place in 0..nodes.len() {
-                let inner = marks_in(alloc, &nodes[place])?;
-                marks = with_marks_below(marks, inner, place)?;
-            }
-            Ok(marks)
+    if let Node::Element {
+        tag,
+        attrs,
+        children,
+        line,
+    } = node
+    {
+        add_own(alloc, *tag, attrs, *line, marks)?;
+        let nodes = children.as_slice();
+        for place in 0..nodes.len() {
+            let from = marks.len();
+            add_marks(alloc, &nodes[place], marks)?;
+            begin_above(marks, from, place)?;
         }
-        Node::Text(_) => Ok(Vec::new(alloc)),
     }
+    Ok(())
 }
 
 /// A node, and the paths of those of its elements that registration needs, in preorder.
@@ -203,7 +233,8 @@ impl Marked {
     pub fn of(alloc: Global, root: Node) -> Result<Marked, TreeFault>
         ensures { Gives (λ m. m ≡ root) result }
     {
-        let marks = marks_in(alloc, &root)?;
+        let mut marks = Vec::new(alloc);
+        add_marks(alloc, &root, &mut marks)?;
         Ok(Marked { root, marks })
     }
 
@@ -211,7 +242,8 @@ impl Marked {
     pub fn element(alloc: Global, tag: Tag, attrs: Attrs, line: usize) -> Result<Marked, TreeFault>
         ensures { Gives (λ m. m ≡ Element tag attrs bare line) result }
     {
-        let marks = own_marks(alloc, tag, &attrs, line)?;
+        let mut marks = Vec::new(alloc);
+        add_own(alloc, tag, &attrs, line, &mut marks)?;
         let root = Node::Element {
             tag,
             attrs,
@@ -266,10 +298,18 @@ impl Marked {
         ensures elements { Gives (λ n. node_items n ≡ scanned (heeded_next is_registered V.next) (heeded_out is_registered V.out) visitor.old (node_items self)) result }
         ensures shape { Gives (λ n. node_shape n ≡ node_shape self) result }
     {
-        let Marked { mut root, marks } = self;
-        for mark in &marks {
-            visit_at(&mut root, mark.steps(), visitor)?;
-        }
-        Ok(root)
+        let Marked { root, marks } = self;
+        visit_all(root, &marks, visitor)
+    }
+
+    /// Visits the marked elements in the same way, by a visitor after which registration needs the same elements.
+    pub fn visit_first<V: Visitor>(self, visitor: &mut V) -> Result<Marked, TreeFault>
+        requires { KeepsMarks is_registered V.out }
+        ensures node { Gives (λ m. m ≡ walked_node (heeded_next is_registered V.next) (heeded_out is_registered V.out) visitor.old self) result }
+        ensures state { Gives (λ _. visitor.new ≡ after (heeded_next is_registered V.next) (heeded_out is_registered V.out) visitor.old (node_items self)) result }
+    {
+        let Marked { root, marks } = self;
+        let root = visit_all(root, &marks, visitor)?;
+        Ok(Marked { root, marks })
     }
 }

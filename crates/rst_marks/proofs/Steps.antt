@@ -1,12 +1,33 @@
 -- Numbers and marks that are read a character at a time.
-use Rattle.std.proofs.Common.{◌≡◌, ℕ, zero, suc, ◌+◌, ◌-◌, ◌*◌, ◌^◌, ◌<◌, ◌≤◌, Bool, true, false, List, [], ◌∷◌, drop, Option, None, Some, arith, refl, sym, ap, ◌∙◌}
+use Rattle.std.proofs.Common.{◌≡◌, ℕ, zero, suc, ◌+◌, ◌-◌, ◌*◌, ◌^◌, ◌<◌, ◌≤◌, Bool, true, false, List, [], ◌∷◌, drop, take, length, Option, None, Some, arith, refl, sym, ap, ◌∙◌}
 use Rattle.std.specs.Prelude.{option_map}
 use Rattle.std.proofs.Math.Nat.{pow-suc}
 use Rattle.rst_marks.specs.Front.{first}
-use Rattle.rst_marks.specs.Decimal.{decimal_from, digit}
+use Rattle.rst_marks.specs.Decimal.{digit, spelled}
 use Rattle.rst_marks.specs.declared.closing.Closing.{Closing}
 use Rattle.rst_marks.specs.declared.closing.Before.{Before}
 use Rattle.rst_marks.specs.Closing.{closes, closed_from, before_next, escapes, is_colon_pair, ends_in_colons_from}
+
+-- digits read behind a value
+unfoldable pub decimal_from : ℕ → ℕ → List ℕ → ℕ
+decimal_from value zero t = value
+decimal_from value (suc n) [] = value
+decimal_from value (suc n) (c ∷ cs) = decimal_from (value * 10 + digit c) n cs
+
+one_on : (v d p q s : ℕ) → q ≡ p * 10 → (v * 10 + d) * p + s ≡ v * q + (d * p + s)
+one_on v d p q s e = rw e (omega arith)
+
+-- they spell what they do by themselves, and the value stands before them
+behind_value : (v n : ℕ) (t : List ℕ) → decimal_from v n t ≡ v * 10 ^ length (take n t) + spelled (take n t)
+unfolding decimal_from spelled
+behind_value v zero t = omega arith
+behind_value v (suc n) [] = omega arith
+behind_value v (suc n) (c ∷ cs) =
+    behind_value (v * 10 + digit c) n cs
+    ∙ one_on v (digit c) (10 ^ length (take n cs)) (10 ^ suc (length (take n cs))) (spelled (take n cs)) (pow-suc 10 (length (take n cs)))
+
+pub decimal_is : (n : ℕ) (t : List ℕ) → decimal_from 0 n t ≡ spelled (take n t)
+decimal_is n t = omega (arith, behind_value 0 n t)
 
 step : (v m k : ℕ) (cs : List ℕ) (c total : ℕ) → first cs ≡ Some c → m ≡ suc k → decimal_from v m cs ≡ total → decimal_from (v * 10 + digit c) k (drop 1 cs) ≡ total
 unfolding decimal_from

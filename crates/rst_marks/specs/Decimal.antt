@@ -1,16 +1,15 @@
 -- Decimal numbers (Markup Specification, 'Enumerated Lists').
-use Rattle.std.specs.Prelude.{ℕ, zero, suc, ◌+◌, ◌-◌, ◌*◌, ◌&&◌, nat_le, List, [], ◌∷◌, if◌then◌else◌}
+use Rattle.std.specs.Prelude.{ℕ, ◌+◌, ◌-◌, ◌*◌, ◌^◌, ◌&&◌, nat_le, List, [], ◌∷◌, length, take, if◌then◌else◌}
 
 -- the value of an ASCII digit; of another character it is 0
 abbrev pub digit : ℕ → ℕ
 digit c = if nat_le 48 c && nat_le c 57 then c - 48 else 0
 
--- digits read behind a value
-unfoldable pub decimal_from : ℕ → ℕ → List ℕ → ℕ
-decimal_from value zero t = value
-decimal_from value (suc n) [] = value
-decimal_from value (suc n) (c ∷ cs) = decimal_from (value * 10 + digit c) n cs
+-- the number that digits spell: each counts ten times as much as it would one place further on
+unfoldable pub spelled : List ℕ → ℕ
+spelled [] = 0
+spelled (c ∷ cs) = digit c * 10 ^ length cs + spelled cs
 
 -- the number that the first n characters of a text spell
 abbrev pub decimal : ℕ → List ℕ → ℕ
-decimal n t = decimal_from 0 n t
+decimal n t = spelled (take n t)

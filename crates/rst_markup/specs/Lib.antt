@@ -8,6 +8,7 @@ pub mod RowLaws
 pub mod AdornmentLaws
 pub mod TableRows
 pub mod TableLaws
+pub mod ReachLaws
 pub mod ExplicitMarkup
 pub mod Parts
 pub mod Explicit

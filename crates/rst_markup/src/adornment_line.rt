@@ -64,6 +64,7 @@ pub struct AdornmentLine;
 impl Construct for AdornmentLine {
     ghost use Rattle.rst_markup.specs.Rows.{is_adornment_row, adornment_row_size, own_reach};
     ghost use Rattle.rst_markup.specs.AdornmentLaws.{adornment_within, adornment_on_three};
+    ghost use Rattle.rst_markup.specs.ReachLaws.{own_reaches};
 
     ghost holds = { is_adornment_row };
 
@@ -72,6 +73,8 @@ impl Construct for AdornmentLine {
     ghost reached = { own_reach adornment_row_size };
 
     ghost within = { adornment_within };
+
+    ghost reaches = { own_reaches is_adornment_row adornment_row_size adornment_within };
 
     ghost on_three = { adornment_on_three };
 

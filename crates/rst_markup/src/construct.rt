@@ -1,5 +1,5 @@
 //! A construct: where it begins, and where it ends.
-ghost use Rattle.std.specs.Prelude.{◌≡◌, ◌+◌, ◌*◌, ◌^◌, ◌<◌, ◌≤◌, ℕ, Bool, take, drop, length, IsTrue};
+ghost use Rattle.std.specs.Prelude.{◌≡◌, ◌+◌, ◌-◌, ◌*◌, ◌^◌, ◌<◌, ◌≤◌, ℕ, Bool, take, drop, length, IsTrue};
 ghost use Rattle.rst_text.specs.Block.{Block};
 ghost use Rattle.rst_text.specs.Shown.{block_of};
 
@@ -13,7 +13,8 @@ pub trait Construct {
     /// How many lines the construct at the front of a block has.
     ghost size: { Bool → Block → ℕ };
 
-    /// How many lines its reach has: at least those that have to be looked at to find where it ends.
+    /// How many lines its reach has: at least those of the construct, and those that have to be looked at to find where
+    /// it ends.
     ghost reached: { Bool → Block → ℕ };
 
     /// Whether the row's condition holds at place `i`. It makes at most three looks.
@@ -35,11 +36,15 @@ pub trait Construct {
     /// A construct that begins has a line, and ends within the block.
     ghost within: { (titles : Bool) (X : Block) → 1 ≤ length X → IsTrue (holds X) → (1 ≤ size titles X) × (size titles X ≤ length X) };
 
+    /// Its reach has the construct's lines, and ends within the block.
+    ghost reaches: { (titles : Bool) (X : Block) → 1 ≤ length X → IsTrue (holds X) → (size titles X ≤ reached titles X) × (reached titles X ≤ length X) };
+
     /// The condition is on three lines alone.
     ghost on_three: { (X Y : Block) → take 3 X ≡ take 3 Y → holds X ≡ holds Y };
 }
 
-/// The place after a construct, by its row alone: after its first line, and within the block.
+/// The place after a construct, by its row alone: after its first line, and within the block. It makes at most four looks
+/// for each line of the block from the first of the construct on.
 pub fn end_after<C: Construct>(
     row: &C,
     view: &View<'_>,
@@ -53,6 +58,7 @@ pub fn end_after<C: Construct>(
     ensures after { i < result }
     ensures within { result ≤ length (block_of view.now) }
     ensures looks { looks.new ≤ looks.old + 4 * C.reached titles (drop i (block_of view.now)) }
+    ensures few { looks.new ≤ looks.old + 4 * (length (block_of view.now) - i) }
 {
     row.end(view, i, titles, looks)
 }

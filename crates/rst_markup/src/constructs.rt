@@ -16,6 +16,7 @@ pub struct BlankLine;
 impl Construct for BlankLine {
     ghost use Rattle.rst_markup.specs.Rows.{is_blank_row, blank_size, own_reach};
     ghost use Rattle.rst_markup.specs.RowLaws.{blank_within, blank_on_three};
+    ghost use Rattle.rst_markup.specs.ReachLaws.{own_reaches};
 
     ghost holds = { is_blank_row };
 
@@ -24,6 +25,8 @@ impl Construct for BlankLine {
     ghost reached = { own_reach blank_size };
 
     ghost within = { blank_within };
+
+    ghost reaches = { own_reaches is_blank_row blank_size blank_within };
 
     ghost on_three = { blank_on_three };
 
@@ -43,6 +46,7 @@ pub struct BlockQuote;
 impl Construct for BlockQuote {
     ghost use Rattle.rst_markup.specs.Rows.{is_quote_row, quote_size, own_reach};
     ghost use Rattle.rst_markup.specs.RowLaws.{quote_within, quote_on_three};
+    ghost use Rattle.rst_markup.specs.ReachLaws.{own_reaches};
 
     ghost holds = { is_quote_row };
 
@@ -51,6 +55,8 @@ impl Construct for BlockQuote {
     ghost reached = { own_reach quote_size };
 
     ghost within = { quote_within };
+
+    ghost reaches = { own_reaches is_quote_row quote_size quote_within };
 
     ghost on_three = { quote_on_three };
 
@@ -69,6 +75,7 @@ pub struct BulletItem;
 impl Construct for BulletItem {
     ghost use Rattle.rst_markup.specs.Rows.{is_bullet_row, bullet_row_size, own_reach};
     ghost use Rattle.rst_markup.specs.RowLaws.{bullet_within, bullet_on_three};
+    ghost use Rattle.rst_markup.specs.ReachLaws.{own_reaches};
 
     ghost holds = { is_bullet_row };
 
@@ -77,6 +84,8 @@ impl Construct for BulletItem {
     ghost reached = { own_reach bullet_row_size };
 
     ghost within = { bullet_within };
+
+    ghost reaches = { own_reaches is_bullet_row bullet_row_size bullet_within };
 
     ghost on_three = { bullet_on_three };
 
@@ -99,6 +108,7 @@ pub struct EnumeratedItem;
 impl Construct for EnumeratedItem {
     ghost use Rattle.rst_markup.specs.Rows.{is_enumerator_row, enumerator_row_size, own_reach};
     ghost use Rattle.rst_markup.specs.RowLaws.{enumerator_within, enumerator_on_three};
+    ghost use Rattle.rst_markup.specs.ReachLaws.{own_reaches};
 
     ghost holds = { is_enumerator_row };
 
@@ -107,6 +117,8 @@ impl Construct for EnumeratedItem {
     ghost reached = { own_reach enumerator_row_size };
 
     ghost within = { enumerator_within };
+
+    ghost reaches = { own_reaches is_enumerator_row enumerator_row_size enumerator_within };
 
     ghost on_three = { enumerator_on_three };
 
@@ -131,6 +143,7 @@ pub struct FieldItem;
 impl Construct for FieldItem {
     ghost use Rattle.rst_markup.specs.Rows.{is_field_row, hanging_row_size, own_reach};
     ghost use Rattle.rst_markup.specs.RowLaws.{hanging_within, field_on_three};
+    ghost use Rattle.rst_markup.specs.ReachLaws.{own_reaches};
 
     ghost holds = { is_field_row };
 
@@ -139,6 +152,8 @@ impl Construct for FieldItem {
     ghost reached = { own_reach hanging_row_size };
 
     ghost within = { hanging_within is_field_row };
+
+    ghost reaches = { own_reaches is_field_row hanging_row_size (hanging_within is_field_row) };
 
     ghost on_three = { field_on_three };
 
@@ -157,6 +172,7 @@ pub struct OptionListItem;
 impl Construct for OptionListItem {
     ghost use Rattle.rst_markup.specs.Rows.{is_option_row, hanging_row_size, own_reach};
     ghost use Rattle.rst_markup.specs.RowLaws.{hanging_within, option_on_three};
+    ghost use Rattle.rst_markup.specs.ReachLaws.{own_reaches};
 
     ghost holds = { is_option_row };
 
@@ -165,6 +181,8 @@ impl Construct for OptionListItem {
     ghost reached = { own_reach hanging_row_size };
 
     ghost within = { hanging_within is_option_row };
+
+    ghost reaches = { own_reaches is_option_row hanging_row_size (hanging_within is_option_row) };
 
     ghost on_three = { option_on_three };
 
@@ -186,6 +204,7 @@ pub struct DoctestBlock;
 impl Construct for DoctestBlock {
     ghost use Rattle.rst_markup.specs.Rows.{is_doctest_row, doctest_row_size, own_reach};
     ghost use Rattle.rst_markup.specs.RowLaws.{doctest_within, doctest_on_three};
+    ghost use Rattle.rst_markup.specs.ReachLaws.{own_reaches};
 
     ghost holds = { is_doctest_row };
 
@@ -194,6 +213,8 @@ impl Construct for DoctestBlock {
     ghost reached = { own_reach doctest_row_size };
 
     ghost within = { doctest_within };
+
+    ghost reaches = { own_reaches is_doctest_row doctest_row_size doctest_within };
 
     ghost on_three = { doctest_on_three };
 
@@ -213,6 +234,7 @@ pub struct BarLine;
 impl Construct for BarLine {
     ghost use Rattle.rst_markup.specs.Rows.{is_bar_row, indented_row_size, own_reach};
     ghost use Rattle.rst_markup.specs.RowLaws.{indented_within, bar_on_three};
+    ghost use Rattle.rst_markup.specs.ReachLaws.{own_reaches};
 
     ghost holds = { is_bar_row };
 
@@ -221,6 +243,8 @@ impl Construct for BarLine {
     ghost reached = { own_reach indented_row_size };
 
     ghost within = { indented_within is_bar_row };
+
+    ghost reaches = { own_reaches is_bar_row indented_row_size (indented_within is_bar_row) };
 
     ghost on_three = { bar_on_three };
 
@@ -239,6 +263,7 @@ pub struct AnonymousTarget;
 impl Construct for AnonymousTarget {
     ghost use Rattle.rst_markup.specs.Rows.{is_anonymous_row, indented_row_size, own_reach};
     ghost use Rattle.rst_markup.specs.RowLaws.{indented_within, anonymous_on_three};
+    ghost use Rattle.rst_markup.specs.ReachLaws.{own_reaches};
 
     ghost holds = { is_anonymous_row };
 
@@ -247,6 +272,8 @@ impl Construct for AnonymousTarget {
     ghost reached = { own_reach indented_row_size };
 
     ghost within = { indented_within is_anonymous_row };
+
+    ghost reaches = { own_reaches is_anonymous_row indented_row_size (indented_within is_anonymous_row) };
 
     ghost on_three = { anonymous_on_three };
 
@@ -265,6 +292,7 @@ pub struct TextLine;
 impl Construct for TextLine {
     ghost use Rattle.rst_markup.specs.Rows.{is_text_row, text_row_size, own_reach};
     ghost use Rattle.rst_markup.specs.RowLaws.{text_within, text_on_three};
+    ghost use Rattle.rst_markup.specs.ReachLaws.{own_reaches};
 
     ghost holds = { is_text_row };
 
@@ -273,6 +301,8 @@ impl Construct for TextLine {
     ghost reached = { own_reach text_row_size };
 
     ghost within = { text_within };
+
+    ghost reaches = { own_reaches is_text_row text_row_size text_within };
 
     ghost on_three = { text_on_three };
 

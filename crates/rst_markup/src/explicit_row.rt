@@ -12,6 +12,7 @@ pub struct ExplicitMarkup;
 impl Construct for ExplicitMarkup {
     ghost use Rattle.rst_markup.specs.ExplicitRow.{is_explicit_row, explicit_row_size, explicit_within, explicit_on_three};
     ghost use Rattle.rst_markup.specs.Rows.{own_reach};
+    ghost use Rattle.rst_markup.specs.ReachLaws.{own_reaches};
 
     ghost holds = { is_explicit_row };
 
@@ -20,6 +21,8 @@ impl Construct for ExplicitMarkup {
     ghost reached = { own_reach explicit_row_size };
 
     ghost within = { explicit_within };
+
+    ghost reaches = { own_reaches is_explicit_row explicit_row_size explicit_within };
 
     ghost on_three = { explicit_on_three };
 

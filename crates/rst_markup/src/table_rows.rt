@@ -37,6 +37,7 @@ pub struct GridTable;
 impl Construct for GridTable {
     ghost use Rattle.rst_markup.specs.TableRows.{is_grid_row, grid_row_size, grid_reach};
     ghost use Rattle.rst_markup.specs.TableLaws.{grid_within, grid_on_three};
+    ghost use Rattle.rst_markup.specs.ReachLaws.{grid_reaches};
 
     ghost holds = { is_grid_row };
 
@@ -45,6 +46,8 @@ impl Construct for GridTable {
     ghost reached = { grid_reach };
 
     ghost within = { grid_within };
+
+    ghost reaches = { grid_reaches };
 
     ghost on_three = { grid_on_three };
 
@@ -87,6 +90,7 @@ pub struct SimpleTable;
 impl Construct for SimpleTable {
     ghost use Rattle.rst_markup.specs.TableRows.{is_simple_row, simple_row_size, simple_reach};
     ghost use Rattle.rst_markup.specs.TableLaws.{simple_within, simple_on_three};
+    ghost use Rattle.rst_markup.specs.ReachLaws.{simple_reaches};
 
     ghost holds = { is_simple_row };
 
@@ -95,6 +99,8 @@ impl Construct for SimpleTable {
     ghost reached = { simple_reach };
 
     ghost within = { simple_within };
+
+    ghost reaches = { simple_reaches };
 
     ghost on_three = { simple_on_three };
 

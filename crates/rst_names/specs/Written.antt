@@ -1,25 +1,38 @@
 -- What registration writes at each element.
-use Rattle.std.specs.Prelude.{List, [], ◌∷◌, if◌then◌else◌, drop}
-use Rattle.std.specs.Option.{is_some}
+use Rattle.std.specs.Prelude.{ℕ, Bool, List, [], ◌∷◌, if◌then◌else◌, Option, Some, None, drop}
 use Rattle.rst_tree.specs.declared.attrs.Attr.{Attr}
-use Rattle.rst_tree.specs.declared.key.Key.TheVariants.{Serial}
-use Rattle.rst_tree.specs.Attributes.{value_of, with_attr}
+use Rattle.rst_tree.specs.declared.attrs.Value.TheVariants.{List as Listed}
+use Rattle.rst_tree.specs.declared.key.Key.TheVariants.{Ids, Names, Dupnames, OwnName}
+use Rattle.rst_tree.specs.Attributes.{with_attr}
 use Rattle.rst_tree.specs.Walk.{Item, item}
+use Rattle.rst_names.specs.declared.registry.Standing.{Standing}
+use Rattle.rst_names.specs.Gathered.{text_at}
 
--- the attributes with others, one after the other, in place of those of the same names
-abbrev pub with_attrs : List Attr → List Attr → List Attr
-with_attrs [] attrs = attrs
-with_attrs (a ∷ more) attrs = with_attrs more (with_attr a.key a.value attrs)
+-- the attributes with an element's id, if it has one
+abbrev pub with_id : Option (List ℕ) → List Attr → List Attr
+with_id None attrs = attrs
+with_id (Some id) attrs = with_attr Ids (Listed (id ∷ [])) attrs
 
--- what the next element gets
-abbrev pub first_given : List (List Attr) → List Attr
-first_given [] = []
-first_given (given ∷ more) = given
+-- with its name, as a duplicate one where it lost it; the empty name is none
+abbrev pub with_name : Bool → Option (List ℕ) → List Attr → List Attr
+with_name lost None attrs = attrs
+with_name lost (Some []) attrs = attrs
+with_name lost (Some (c ∷ cs)) attrs = with_attr (if lost then Dupnames else Names) (Listed ((c ∷ cs) ∷ [])) attrs
 
--- what is left for the elements behind one
-abbrev pub left_given : List (List Attr) → Item → List (List Attr)
-left_given given x = if is_some (value_of Serial x.attrs) then drop 1 given else given
+-- with the link of a message to its problematics, or of a problematic to its message
+abbrev pub with_link : Option Attr → List Attr → List Attr
+with_link None attrs = attrs
+with_link (Some link) attrs = with_attr link.key link.value attrs
 
--- the element with what it gets
-abbrev pub with_given : List (List Attr) → Item → Item
-with_given given x = if is_some (value_of Serial x.attrs) then item x.tag (with_attrs (first_given given) x.attrs) x.line else x
+-- with all that registration gave the element
+abbrev pub with_standing : Standing → List Attr → List Attr
+with_standing standing attrs = with_link standing.link (with_name standing.lost (text_at OwnName attrs) (with_id standing.id attrs))
+
+-- what the elements behind one got
+abbrev pub left_standings : List Standing → Item → List Standing
+left_standings standings x = drop 1 standings
+
+-- the element with what the first of the elements got
+abbrev pub with_first : List Standing → Item → Item
+with_first [] x = x
+with_first (standing ∷ more) x = item x.tag (with_standing standing x.attrs) x.line

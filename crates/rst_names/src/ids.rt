@@ -8,8 +8,11 @@ use std::collections::{BTreeMap, BTreeSet};
 /// The ids that are taken (Document Tree, 'ids').
 #[derive(Drop)]
 pub struct Ids {
-    taken: BTreeSet<String>,
-    /// The number to begin with, for each text that ids with a number were made of.
+    /// Those that names gave.
+    named: BTreeSet<String>,
+    /// Those of them that are like ids with a number, which alone can hinder such.
+    hindering: BTreeSet<String>,
+    /// For each text that ids with a number were made of the next number. With each lower one the id is taken.
     next: BTreeMap<String, u64>,
 }
 
@@ -17,7 +20,8 @@ impl Ids {
     /// No id is taken.
     pub fn new(alloc: Global) -> Ids {
         Ids {
-            taken: BTreeSet::new(alloc),
+            named: BTreeSet::new(alloc),
+            hindering: BTreeSet::new(alloc),
             next: BTreeMap::new(alloc),
         }
     }
@@ -29,52 +33,105 @@ impl Ids {
     ///
     /// The only refusal is want of memory.
     pub fn give(&mut self, alloc: Global, tag: Tag, name: &str) -> Result<Text, TreeFault> {
+        if name.is_empty() {
+            return self.give_kind(alloc, tag);
+        }
         let wanted = id_text(alloc, name)?;
         if wanted.is_empty() {
-            let base = tag_id(alloc, tag)?;
-            return self.give_numbered(alloc, base);
+            return self.give_kind(alloc, tag);
         }
         let id = Text::from_str(alloc, wanted.as_str())?;
-        if self.taken.insert(wanted)? {
+        if self.take(wanted)? {
             return Ok(id);
         }
-        self.give_numbered(alloc, id.into_string())
+        self.give_numbered(alloc, id.as_str())
+    }
+
+    /// Takes an id that a name gave, and tells whether it was free.
+    fn take(&mut self, id: String) -> Result<bool, TreeFault> {
+        match number_of(id.as_str()) {
+            None => Ok(self.named.insert(id)?),
+            Some((base, number)) => {
+                if number < self.next_of(base) {
+                    return Ok(false);
+                }
+                Ok(self.hindering.insert(id)?)
+            }
+        }
+    }
+
+    /// The next number of ids of a text.
+    fn next_of(&self, base: &str) -> u64 {
+        match self.next.get(base) {
+            Some(next) => *next,
+            None => 1,
+        }
+    }
+
+    /// Takes the first free id of a kind's name, a hyphen and a number.
+    fn give_kind(&mut self, alloc: Global, tag: Tag) -> Result<Text, TreeFault> {
+        // A document can hold very many of these.
+        match tag {
+            Tag::CitationReference => self.give_numbered(alloc, "citation-reference"),
+            Tag::FootnoteReference => self.give_numbered(alloc, "footnote-reference"),
+            Tag::Problematic => self.give_numbered(alloc, "problematic"),
+            Tag::SystemMessage => self.give_numbered(alloc, "system-message"),
+            _ => {
+                let base = tag_id(alloc, tag)?;
+                self.give_numbered(alloc, base.as_str())
+            }
+        }
     }
 
     /// Takes the first free id of a text, a hyphen and a number.
-    fn give_numbered(&mut self, alloc: Global, base: String) -> Result<Text, TreeFault> {
-        let first = match self.next.get(base.as_str()) {
-            Some(next) => *next,
-            None => 1,
-        };
-        let (number, id) = self.take_free(alloc, base.as_str(), first)?;
-        self.next.insert(base, number.saturating_add(1))?;
+    fn give_numbered(&mut self, alloc: Global, base: &str) -> Result<Text, TreeFault> {
+        if let Some(next) = self.next.get_mut(base) {
+            let (number, id) = free(alloc, &self.hindering, base, *next)?;
+            *next = number.saturating_add(1);
+            return Ok(id);
+        }
+        let (number, id) = free(alloc, &self.hindering, base, 1)?;
+        self.next
+            .insert(String::from_str(alloc, base)?, number.saturating_add(1))?;
         Ok(id)
     }
+}
 
-    /// Takes the least number from `first` on that makes an id free behind a text and a hyphen, and that id.
-    ///
-    /// Each taken id hinders one number at most, so no more steps than there are taken ids come before the last. Ids stay
-    /// taken, so a number that was passed over need never be looked at again.
-    fn take_free(
-        &mut self,
-        alloc: Global,
-        base: &str,
-        first: u64,
-    ) -> Result<(u64, Text), TreeFault> {
-        let mut number = first;
-        for _ in 0..self.taken.len() {
-            let id = numbered(alloc, base, number)?;
-            let text = Text::from_str(alloc, id.as_str())?;
-            if self.taken.insert(id)? {
-                return Ok((number, text));
-            }
-            number = number.saturating_add(1);
-        }
+/// The least number from `first` on, with each below which the id is taken, that makes an id free behind a text and a hyphen,
+/// and that id.
+///
+/// Each hindering id hinders one number at most, so no more steps than there are of these come before the last. Ids stay
+/// taken, so a number that was passed over need never be looked at again.
+fn free(
+    alloc: Global,
+    hindering: &BTreeSet<String>,
+    base: &str,
+    first: u64,
+) -> Result<(u64, Text), TreeFault> {
+    let mut number = first;
+    for _ in 0..hindering.len() {
         let id = numbered(alloc, base, number)?;
-        let text = Text::from_str(alloc, id.as_str())?;
-        self.taken.insert(id)?;
-        Ok((number, text))
+        if !hindering.contains(id.as_str()) {
+            return Ok((number, Text::new(id)));
+        }
+        number = number.saturating_add(1);
+    }
+    Ok((number, Text::new(numbered(alloc, base, number)?)))
+}
+
+/// The text and the number of an id that is like those that are made of a text, a hyphen and a number: without a 0 in front.
+fn number_of(id: &str) -> Option<(&str, u64)> {
+    match id.as_bytes().last() {
+        Some(byte) if byte.is_ascii_digit() => {}
+        _ => return None,
+    }
+    let (base, digits) = id.rsplit_once('-')?;
+    if digits.starts_with('0') {
+        return None;
+    }
+    match digits.parse::<u64>() {
+        Ok(number) => Some((base, number)),
+        Err(_) => None,
     }
 }
 

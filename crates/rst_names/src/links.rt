@@ -2,60 +2,106 @@
 
 use super::registrants::Registrant;
 use super::registry::Standing;
-use rst_tree::{Tag, Text, Texts, TreeFault};
+use rst_tree::{Attr, Key, Tag, Text, Texts, TreeFault, Value};
 use std::alloc::Global;
 use std::collections::BTreeMap;
 
-/// The ids of messages and of their problematics, by the messages' numbers.
-#[derive(Drop)]
-pub struct Links {
-    /// The id of each message.
-    messages: BTreeMap<u64, Text>,
-    /// The ids of each message's problematics, in document order.
-    problematics: BTreeMap<u64, Texts>,
-}
-
-impl Links {
-    /// The links between registered elements.
-    pub fn between(
-        alloc: Global,
-        elements: &[Registrant],
-        standings: &[Standing],
-    ) -> Result<Links, TreeFault> {
-        let mut links = Links {
-            messages: BTreeMap::new(alloc),
-            problematics: BTreeMap::new(alloc),
-        };
-        for (element, standing) in elements.iter().zip(standings) {
-            if let (Some(number), Some(id)) = (element.message, &standing.id) {
-                links.add(alloc, element.tag, number, id)?;
+/// Links the messages among registered elements to their problematics, and these to them, by the messages' numbers. A message
+/// has the ids of its problematics in document order.
+pub fn link(
+    alloc: Global,
+    elements: &[Registrant],
+    standings: &mut Vec<Standing>,
+) -> Result<(), TreeFault> {
+    let messages = messages_among(alloc, elements)?;
+    if messages.is_empty() {
+        return Ok(());
+    }
+    for (serial, element) in elements.iter().enumerate() {
+        if let Some(number) = problematic_of(element) {
+            if let Some(message) = messages.get(&number) {
+                join(alloc, standings, *message, serial)?;
             }
         }
-        Ok(links)
     }
+    Ok(())
+}
 
-    /// Adds the id of a message or of one of its problematics.
-    fn add(&mut self, alloc: Global, tag: Tag, number: u64, id: &Text) -> Result<(), TreeFault> {
-        if !matches!(tag, Tag::Problematic) {
-            self.messages.insert(number, id.copy()?)?;
-            return Ok(());
+/// The places of the messages, by their numbers.
+fn messages_among(
+    alloc: Global,
+    elements: &[Registrant],
+) -> Result<BTreeMap<u64, usize>, TreeFault> {
+    let mut messages = BTreeMap::new(alloc);
+    for (serial, element) in elements.iter().enumerate() {
+        if matches!(element.tag, Tag::Problematic) {
+            continue;
         }
-        let mut ids = match self.problematics.remove(&number) {
-            Some(ids) => ids,
-            None => Texts::new(alloc),
-        };
-        ids.push(id.copy()?)?;
-        self.problematics.insert(number, ids)?;
-        Ok(())
+        if let Some(number) = element.message {
+            messages.insert(number, serial)?;
+        }
     }
+    Ok(messages)
+}
 
-    /// The id of a message, if it is in the document.
-    pub fn message(&self, number: u64) -> Option<&Text> {
-        self.messages.get(&number)
+/// The number of the message that an element is a problematic of.
+fn problematic_of(element: &Registrant) -> Option<u64> {
+    match element.tag {
+        Tag::Problematic => element.message,
+        _ => None,
     }
+}
 
-    /// The ids of a message's problematics.
-    pub fn take_problematics(&mut self, number: u64) -> Option<Texts> {
-        self.problematics.remove(&number)
+/// Links a message and one more of its problematics, if both have ids.
+fn join(
+    alloc: Global,
+    standings: &mut Vec<Standing>,
+    message: usize,
+    problematic: usize,
+) -> Result<(), TreeFault> {
+    let (Some(refid), Some(backref)) = (
+        id_at(standings.as_slice(), message)?,
+        id_at(standings.as_slice(), problematic)?,
+    ) else {
+        return Ok(());
+    };
+    if problematic < standings.len() {
+        standings[problematic].link = Some(Attr {
+            key: Key::Refid,
+            value: Value::Text(refid),
+        });
     }
+    if message < standings.len() {
+        return add_backref(alloc, &mut standings[message], backref);
+    }
+    Ok(())
+}
+
+/// A copy of the id of the element at a place.
+fn id_at(standings: &[Standing], serial: usize) -> Result<Option<Text>, TreeFault> {
+    match standings.get(serial) {
+        Some(standing) => match &standing.id {
+            Some(id) => Ok(Some(id.copy()?)),
+            None => Ok(None),
+        },
+        None => Ok(None),
+    }
+}
+
+/// Adds the id of a problematic to those that a message has.
+fn add_backref(alloc: Global, message: &mut Standing, id: Text) -> Result<(), TreeFault> {
+    if let Some(
+        Attr {
+            value: Value::List(ids),
+            ..
+        },
+    ) = &mut message.link
+    {
+        return ids.push(id);
+    }
+    message.link = Some(Attr {
+        key: Key::Backrefs,
+        value: Value::List(Texts::lone(alloc, id)?),
+    });
+    Ok(())
 }

@@ -86,14 +86,27 @@ impl Visitor for Gathering {
             line: *line,
             message: number_at(attrs, Key::Message),
         };
+        attrs.reserve(most_more(&registrant))?;
         attrs.set(Key::Serial, Value::Number(self.list.len() as u64))?;
         self.list.push(registrant)?;
         Ok(())
     }
 }
 
+/// How many attributes an element gets at most: its number, its id, its name, and its link to a message or to problematics.
+fn most_more(element: &Registrant) -> usize {
+    let mut more = 2;
+    if element.name.is_some() {
+        more += 1;
+    }
+    if element.message.is_some() {
+        more += 1;
+    }
+    more
+}
+
 /// A copy of the text that the attribute of a name says, if it says one.
-fn text_at(attrs: &Attrs, key: Key) -> Result<Option<Text>, TreeFault>
+pub fn text_at(attrs: &Attrs, key: Key) -> Result<Option<Text>, TreeFault>
     ensures { Gives (λ t. t ≡ text_at key attrs.now) result }
 {
     match attrs.get(key) {

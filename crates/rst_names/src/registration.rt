@@ -1,16 +1,15 @@
 //! The registration of a document's elements.
 
 use super::ids::Ids;
-use super::links::Links;
+use super::links::link;
 use super::names::Names;
-use super::placing::{Notices, place_notices};
-use super::registrants::{Gathering, Registrant};
-use super::registry::{Registry, Standing, registry_of};
-use super::writing::{Writing, given};
+use super::placing::place_notices;
+use super::registrants::Gathering;
+use super::registry::{Registry, registry_of};
+use super::writing::Writing;
 use rst_marked::Marked;
-use rst_tree::{Attrs, Node, TreeFault, walk};
+use rst_tree::{Node, TreeFault};
 use std::alloc::Global;
-use std::collections::VecDeque;
 
 /// A document whose elements have their ids and names.
 #[derive(Drop)]
@@ -45,51 +44,24 @@ pub struct Registered {
 /// The only refusal is want of memory.
 pub fn register(alloc: Global, document: Marked) -> Result<Registered, TreeFault> {
     let mut gathering = Gathering::new(alloc);
-    let root = document.visit(&mut gathering)?;
+    let numbered = document.visit_first(&mut gathering)?;
     let elements = gathering.into_list();
+    let serials = elements.len() as u64;
     let Registry {
         ids,
         names,
-        standings,
+        mut standings,
+        notices,
         ..
     } = registry_of(alloc, &elements)?;
-    let root = if elements.is_empty() {
-        root
-    } else {
-        let mut writing = Writing::of(alloc, given_to(alloc, &elements, &standings)?);
-        let root = walk(root, &mut writing)?;
-        place_notices(alloc, root, notices_of(alloc, standings)?)?
-    };
+    link(alloc, &elements, &mut standings)?;
+    drop(elements);
+    let mut writing = Writing::of(alloc, standings);
+    let written = numbered.visit(&mut writing)?;
     Ok(Registered {
-        root,
+        root: place_notices(alloc, written, notices)?,
         ids,
         names,
-        serials: elements.len() as u64,
+        serials,
     })
-}
-
-/// The attributes that the elements get.
-fn given_to(
-    alloc: Global,
-    elements: &[Registrant],
-    standings: &[Standing],
-) -> Result<VecDeque<Attrs>, TreeFault> {
-    let mut links = Links::between(alloc, elements, standings)?;
-    let mut all = VecDeque::new(alloc);
-    for (element, standing) in elements.iter().zip(standings) {
-        all.push_back(given(alloc, element, standing, &mut links)?)?;
-    }
-    Ok(all)
-}
-
-/// The messages on the elements' names.
-fn notices_of(alloc: Global, standings: Vec<Standing>) -> Result<Notices, TreeFault> {
-    let mut notices = Notices::new(alloc);
-    for (serial, standing) in standings.into_iter().enumerate() {
-        let Standing { notice, .. } = standing;
-        if let Some(message) = notice {
-            notices.push(serial as u64, message)?;
-        }
-    }
-    Ok(notices)
 }

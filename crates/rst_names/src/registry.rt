@@ -3,9 +3,10 @@
 use super::ids::Ids;
 use super::names::{Held, Holder, Names, Strength};
 use super::notices::{duplicate_definition, duplicate_name};
+use super::placing::Notices;
 use super::registrants::Registrant;
 use super::rulings::{Now, Ruling, ruling_for};
-use rst_tree::{Node, Tag, Text, TreeFault};
+use rst_tree::{Attr, Node, Tag, Text, TreeFault};
 use std::alloc::Global;
 use std::collections::BTreeMap;
 
@@ -16,8 +17,19 @@ pub struct Standing {
     pub id: Option<Text>,
     /// Whether its name is a duplicate one.
     pub lost: bool,
-    /// The message on its name.
-    pub notice: Option<Node>,
+    /// At a message the ids of its problematics, at a problematic the id of its message.
+    pub link: Option<Attr>,
+}
+
+impl Standing {
+    /// What an element gets with its id, if it has one.
+    fn new(id: Option<Text>, lost: bool) -> Standing {
+        Standing {
+            id,
+            lost,
+            link: None,
+        }
+    }
 }
 
 /// What is known after some elements.
@@ -29,17 +41,20 @@ pub struct Registry {
     definitions: BTreeMap<String, usize>,
     /// What each element got, by its number.
     pub standings: Vec<Standing>,
+    /// The messages on the elements' names.
+    pub notices: Notices,
 }
 
 impl Registry {
-    /// What is known before the first element.
-    fn new(alloc: Global) -> Registry {
-        Registry {
+    /// What is known before the first of so many elements.
+    fn new(alloc: Global, elements: usize) -> Result<Registry, TreeFault> {
+        Ok(Registry {
             ids: Ids::new(alloc),
             names: Names::new(alloc),
             definitions: BTreeMap::new(alloc),
-            standings: Vec::new(alloc),
-        }
+            standings: Vec::with_capacity(alloc, elements)?,
+            notices: Notices::new(alloc),
+        })
     }
 
     /// Registers one more element, which follows those that have a standing.
@@ -67,23 +82,19 @@ impl Registry {
     ) -> Result<Standing, TreeFault> {
         let id = self.ids.give(alloc, new.tag, new.name())?;
         if new.name().is_empty() {
-            return Ok(Standing {
-                id: Some(id),
-                lost: false,
-                notice: None,
-            });
+            return Ok(Standing::new(Some(id), false));
         }
         let ruling = self.ruling_on(earlier, new);
-        let notice = match ruling.complaint {
-            Some(complaint) => Some(duplicate_name(alloc, complaint, new, &id)?),
-            None => None,
-        };
+        if let Some(complaint) = ruling.complaint {
+            self.notice(duplicate_name(alloc, complaint, new, &id)?)?;
+        }
         self.follow(alloc, ruling, new, &id)?;
-        Ok(Standing {
-            id: Some(id),
-            lost: ruling.new_loses,
-            notice,
-        })
+        Ok(Standing::new(Some(id), ruling.new_loses))
+    }
+
+    /// Keeps the message on the name of the element that is registered.
+    fn notice(&mut self, message: Node) -> Result<(), TreeFault> {
+        self.notices.push(self.standings.len() as u64, message)
     }
 
     /// The rule for the name of a new element.
@@ -149,18 +160,11 @@ impl Registry {
     fn define(&mut self, alloc: Global, new: &Registrant) -> Result<Standing, TreeFault> {
         let name = String::from_str(alloc, new.name())?;
         let before = self.definitions.insert(name, self.standings.len())?;
-        let notice = match before {
-            None => None,
-            Some(old) => {
-                self.lose(Holder::Element(old as u64));
-                Some(duplicate_definition(alloc, new)?)
-            }
-        };
-        Ok(Standing {
-            id: None,
-            lost: false,
-            notice,
-        })
+        if let Some(old) = before {
+            self.lose(Holder::Element(old as u64));
+            self.notice(duplicate_definition(alloc, new)?)?;
+        }
+        Ok(Standing::new(None, false))
     }
 }
 
@@ -196,7 +200,7 @@ fn is_equal_refuri(old: &Registrant, new: &Registrant) -> bool {
 
 /// Registers elements, in preorder.
 pub fn registry_of(alloc: Global, elements: &[Registrant]) -> Result<Registry, TreeFault> {
-    let mut registry = Registry::new(alloc);
+    let mut registry = Registry::new(alloc, elements.len())?;
     for (serial, new) in elements.iter().enumerate() {
         registry.add(alloc, &elements[..serial], new)?;
     }

@@ -1,102 +1,98 @@
 //! The attributes that registration gives, written at the elements.
 ghost use Rattle.std.specs.Prelude.{◌≡◌};
 ghost use Rattle.rst_tree.specs.Faults.{Gives};
-ghost use Rattle.rst_names.specs.Written.{with_attrs, left_given, with_given};
+ghost use Rattle.rst_names.specs.Gathered.{text_at};
+ghost use Rattle.rst_names.specs.Written.{with_id, with_name, with_link, with_standing, left_standings, with_first};
 
-use super::links::Links;
-use super::registrants::Registrant;
+use super::registrants::text_at;
 use super::registry::Standing;
-use rst_tree::{Attrs, Key, Tag, Text, Texts, TreeFault, Value, Visitor};
+use rst_tree::{Attr, Attrs, Key, Tag, Text, Texts, TreeFault, Value, Visitor};
 use std::alloc::Global;
 use std::collections::VecDeque;
 use std::marker::Model;
 
-/// The attributes that an element gets: its id, its name and, between messages and problematics, the ids of the others.
-pub fn given(
-    alloc: Global,
-    element: &Registrant,
-    standing: &Standing,
-    links: &mut Links,
-) -> Result<Attrs, TreeFault> {
-    let mut given = Attrs::new(alloc);
-    if let Some(id) = &standing.id {
-        given.set(Key::Ids, list_of(alloc, id.as_str())?)?;
-    }
-    if !element.name().is_empty() {
-        let key = if standing.lost {
-            Key::Dupnames
-        } else {
-            Key::Names
-        };
-        given.set(key, list_of(alloc, element.name())?)?;
-    }
-    if let Some(number) = element.message {
-        link(element.tag, number, links, &mut given)?;
-    }
-    Ok(given)
-}
-
-/// Links a message to its problematics, or a problematic to its message.
-fn link(tag: Tag, number: u64, links: &mut Links, given: &mut Attrs) -> Result<(), TreeFault> {
-    if matches!(tag, Tag::Problematic) {
-        return match links.message(number) {
-            Some(id) => given.set(Key::Refid, Value::Text(id.copy()?)),
-            None => Ok(()),
-        };
-    }
-    match links.take_problematics(number) {
-        Some(ids) => given.set(Key::Backrefs, Value::List(ids)),
+/// Lets attributes tell an element's id, if it has one.
+fn write_id(alloc: Global, attrs: &mut Attrs, id: Option<Text>) -> Result<(), TreeFault>
+    ensures { Gives (λ _. attrs.new ≡ with_id id attrs.old) result }
+{
+    match id {
+        Some(id) => attrs.set(Key::Ids, Value::List(Texts::lone(alloc, id)?)),
         None => Ok(()),
     }
 }
 
-/// A list of one text.
-fn list_of(alloc: Global, text: &str) -> Result<Value, TreeFault> {
-    let mut list = Texts::new(alloc);
-    list.push(Text::from_str(alloc, text)?)?;
-    Ok(Value::List(list))
-}
-
-/// Lets attributes say what others say, one after the other.
-fn set_all(alloc: Global, attrs: &mut Attrs, given: &Attrs) -> Result<(), TreeFault>
-    ensures { Gives (λ _. attrs.new ≡ with_attrs given.now attrs.old) result }
+/// Lets attributes tell an element's name, if it has one, as a duplicate one where it lost it.
+fn write_name(
+    alloc: Global,
+    attrs: &mut Attrs,
+    lost: bool,
+    name: Option<Text>,
+) -> Result<(), TreeFault>
+    ensures { Gives (λ _. attrs.new ≡ with_name lost name attrs.old) result }
 {
-    for attr in given.as_slice() {
-        attrs.set(attr.key, attr.value.copy(alloc)?)?;
+    match name {
+        Some(name) if !name.as_bytes().is_empty() => {
+            let key = if lost { Key::Dupnames } else { Key::Names };
+            attrs.set(key, Value::List(Texts::lone(alloc, name)?))
+        }
+        _ => Ok(()),
     }
-    Ok(())
 }
 
-/// Writes at each element with a number what it gets.
+/// Lets attributes tell the link of a message or a problematic.
+fn write_link(attrs: &mut Attrs, link: Option<Attr>) -> Result<(), TreeFault>
+    ensures { Gives (λ _. attrs.new ≡ with_link link attrs.old) result }
+{
+    match link {
+        Some(link) => attrs.set(link.key, link.value),
+        None => Ok(()),
+    }
+}
+
+/// Lets the attributes of an element tell what registration gave it.
+fn write(alloc: Global, attrs: &mut Attrs, standing: Standing) -> Result<(), TreeFault>
+    ensures { Gives (λ _. attrs.new ≡ with_standing standing attrs.old) result }
+{
+    let Standing { id, lost, link } = standing;
+    let name = text_at(attrs, Key::OwnName)?;
+    write_id(alloc, attrs, id)?;
+    write_name(alloc, attrs, lost, name)?;
+    write_link(attrs, link)
+}
+
+/// Writes at each element what it got.
 #[derive(Drop)]
 pub struct Writing {
     alloc: Global,
-    /// What the elements get that are still to come, in preorder.
-    given: VecDeque<Attrs>,
+    /// What the elements got that are still to come, in preorder.
+    standings: VecDeque<Standing>,
 }
 
 impl Model for Writing {
     ghost use Rattle.std.specs.Prelude.{List};
-    ghost use Rattle.rst_tree.specs.declared.attrs.Attr.{Attr};
+    ghost use Rattle.rst_names.specs.declared.registry.Standing.{Standing};
 
-    ghost Value = { List (List Attr) };
+    ghost Value = { List Standing };
 
-    ghost view = { λ w. w.given.items };
+    ghost view = { λ w. w.standings.items };
 }
 
 impl Writing {
     /// Before the first element.
-    pub fn of(alloc: Global, given: VecDeque<Attrs>) -> Writing
-        ensures { result ≡ given.items }
+    pub fn of(alloc: Global, standings: Vec<Standing>) -> Writing
+        ensures { result ≡ standings.items }
     {
-        Writing { alloc, given }
+        Writing {
+            alloc,
+            standings: VecDeque::from_vec(standings),
+        }
     }
 }
 
 impl Visitor for Writing {
-    ghost next = { left_given };
+    ghost next = { left_standings };
 
-    ghost out = { with_given };
+    ghost out = { with_first };
 
     fn visit(
         &mut self,
@@ -104,11 +100,8 @@ impl Visitor for Writing {
         attrs: &mut Attrs,
         _line: &mut usize,
     ) -> Result<(), TreeFault> {
-        if attrs.get(Key::Serial).is_none() {
-            return Ok(());
-        }
-        match self.given.pop_front() {
-            Some(given) => set_all(self.alloc, attrs, &given),
+        match self.standings.pop_front() {
+            Some(standing) => write(self.alloc, attrs, standing),
             None => Ok(()),
         }
     }

@@ -1,12 +1,11 @@
 -- The command is one of which `clap` states all.
-use Rattle.std.proofs.Common.{◌≡◌, ◌≢◌, ◌∙◌, true, List, [], Result, Err, refl, ap, subst, sym, inl, inr}
-use Rattle.clap.specs.Words.{App, Text, FailsBy, HasKind, HasMatchesOf, IsAmong, Kinds, fault_of as faults_of, found_of, is_simple, is_simple_and_free, kind_of, matches_of, rows_of}
+use Rattle.std.proofs.Common.{◌≡◌, ◌≢◌, ◌∙◌, true, List, [], Result, Ok, Err, IfOk, refl, ap, subst}
+use Rattle.clap.specs.Words.{App, Text, FailsBy, HasMatchesOf, IsAmong, Kinds, fault_of as faults_of, found_of, is_simple, is_simple_and_free, matches_of, rows_of}
 use Rattle.clap.specs.declared.error.Error.{Error}
 use Rattle.clap.specs.declared.error.kind.ErrorKind.{ErrorKind}
-use Rattle.clap.specs.declared.error.kind.ErrorKind.TheVariants.{OutOfMemory}
 use Rattle.clap.specs.declared.parser.matches.ArgMatches.{ArgMatches}
 use Rattle.clap.proofs.OnLiterals.{clap_on_literals}
-use Rattle.rst_options.specs.Command.{program, faults_at, rows_at, fault_of, Finds}
+use Rattle.rst_options.specs.Command.{program, faults_at, rows_at, Finds}
 
 program-simple_and_free : is_simple_and_free program ≡ true
 unfolding clap_on_literals program
@@ -27,17 +26,10 @@ unfolding rows_at
 rows_are a words m e h = (h (ap is_simple e ∙ program-simple)).0 ∙ ap (λ (b : App). matches_of b words) e
 
 -- a kind among these kinds: there are some
-some_kind : (k : ErrorKind) (kinds : Kinds) → IsAmong k kinds → kinds ≢ []
+pub some_kind : (k : ErrorKind) (kinds : Kinds) → IsAmong k kinds → kinds ≢ []
 some_kind k kinds h e = subst (IsAmong k) e h
 
-finds-memory : (words : List Text) (k : ErrorKind) → k ≡ OutOfMemory → Finds words (Err (fault_of k))
-finds-memory words k e = subst (λ (j : ErrorKind). Finds words (Err (fault_of j))) (sym e) tt
-
-finds-refused : (words : List Text) (k : ErrorKind) → faults_at words ≢ [] → Finds words (Err (fault_of k))
-finds-refused words OutOfMemory h = tt
-finds-refused words _ h = h
-
--- an error of `clap` is memory's, or refuses the words
-pub finds-err : (words : List Text) (e : Error) → HasKind (faults_at words) e → Finds words (Err (fault_of (kind_of e)))
-finds-err words e (inl memory) = finds-memory words (kind_of e) memory
-finds-err words e (inr h) = finds-refused words (kind_of e) (some_kind (kind_of e) (faults_at words) h)
+-- what it answers for the words is what `Finds` says
+pub finds : (a : App) (words : List Text) (r : Result ArgMatches Error) → a ≡ program → (is_simple_and_free a ≡ true → FailsBy (faults_of a words) r) → IfOk r (HasMatchesOf a words) → Finds words r
+finds a words (Ok matches) e kinds found = (fails_by a words (Ok matches) e kinds, rows_are a words matches e found)
+finds a words (Err error) e kinds found = fails_by a words (Err error) e kinds

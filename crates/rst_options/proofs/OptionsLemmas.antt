@@ -1,12 +1,15 @@
 -- What each way out of `options` says of the words.
-use Rattle.std.proofs.Common.{◌≡◌, ◌≢◌, Bool, true, false, List, [], ◌∷◌, Option, Result, Ok, Err, IsErrAnd, refl, ap, ◌∙◌, subst, sym, ◌||◌, codes}
+use Rattle.std.proofs.Common.{◌≡◌, ◌≢◌, ◌⊎◌, inl, inr, Bool, true, false, List, [], ◌∷◌, Option, Result, Ok, Err, IsErrAnd, refl, ap, ◌∙◌, subst, sym, ◌||◌, codes}
 use Rattle.std.specs.declared.string.String.{String}
-use Rattle.clap.specs.Words.{Kinds, Text, first_of}
+use Rattle.clap.specs.Words.{IsAmong, Kinds, Text, first_of}
+use Rattle.clap.specs.declared.error.kind.ErrorKind.{ErrorKind}
+use Rattle.clap.specs.declared.error.kind.ErrorKind.TheVariants.{OutOfMemory}
 use Rattle.rst_settings.specs.declared.Settings.{Settings}
 use Rattle.rst_options.specs.declared.fault.OptionFault.{OptionFault}
-use Rattle.rst_options.specs.declared.fault.OptionFault.TheVariants.{Usage, BadLevel, BadTab, BadLimit, TwoLevels, NoMemory}
-use Rattle.rst_options.specs.Command.{faults_at, rows_at, Finds}
+use Rattle.rst_options.specs.declared.fault.OptionFault.TheVariants.{Usage, NoMemory}
+use Rattle.rst_options.specs.Command.{fault_of, faults_at, rows_at}
 use Rattle.rst_options.specs.Options.{Chooses, choice_of, is_dashed, options_of, refuses, with_source}
+use Rattle.rst_options.proofs.CommandLemmas.{some_kind}
 
 refused-by : (kinds : Kinds) (words : List Text) → kinds ≢ [] → faults_at words ≡ kinds → options_of words ≡ Err Usage
 unfolding options_of
@@ -32,14 +35,11 @@ unfolding options_of
 taken words none plain = rw (none, plain)
 
 -- an error that `?` passes on, of `clap`
-pub chooses-misused : {A : Type 0} (words : List Text) (fault : OptionFault) (r : Result (Settings × Option (String A)) OptionFault) → IsErrAnd r (λ e. e ≡ fault) → Finds words (Err fault) → Chooses words r
-chooses-misused words fault (Ok answer) same h = absurd same
-chooses-misused words fault (Err NoMemory) same h = tt
-chooses-misused words fault (Err Usage) same h = refused words (subst (λ (f : OptionFault). Finds words (Err f)) (sym same) h)
-chooses-misused words fault (Err BadLevel) same h = absurd (subst (λ (f : OptionFault). Finds words (Err f)) (sym same) h)
-chooses-misused words fault (Err BadTab) same h = absurd (subst (λ (f : OptionFault). Finds words (Err f)) (sym same) h)
-chooses-misused words fault (Err BadLimit) same h = absurd (subst (λ (f : OptionFault). Finds words (Err f)) (sym same) h)
-chooses-misused words fault (Err TwoLevels) same h = absurd (subst (λ (f : OptionFault). Finds words (Err f)) (sym same) h)
+pub chooses-misused : {A : Type 0} (words : List Text) (k : ErrorKind) (r : Result (Settings × Option (String A)) OptionFault) → IsErrAnd r (λ fault. fault ≡ fault_of k) → (k ≡ OutOfMemory) ⊎ IsAmong k (faults_at words) → Chooses words r
+chooses-misused words k (Ok answer) same h = absurd same
+chooses-misused {A} words k (Err fault) same (inl memory) = subst (λ (f : OptionFault). Chooses {A = A} words (Err f)) (sym (same ∙ ap fault_of memory)) tt
+chooses-misused {A} words OutOfMemory (Err fault) same (inr h) = subst (λ (f : OptionFault). Chooses {A = A} words (Err f)) (sym same) tt
+chooses-misused {A} words _ (Err fault) same (inr h) = subst (λ (f : OptionFault). Chooses {A = A} words (Err f)) (sym same) (refused words (some_kind _ (faults_at words) h))
 
 -- and of the values
 pub chooses-fault : {A : Type 0} (words : List Text) (fault : OptionFault) (r : Result (Settings × Option (String A)) OptionFault) → IsErrAnd r (λ e. e ≡ fault) → options_of words ≡ Err fault → Chooses words r

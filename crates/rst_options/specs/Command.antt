@@ -1,11 +1,12 @@
 -- The command line: its options, and what `clap` states of argument words for them (Docutils Front-End Tools,
 -- 'rst2pseudoxml'). Words, names and values are the bytes of their UTF-8.
-use Rattle.std.specs.Prelude.{◌≡◌, ◌≢◌, ℕ, Bool, true, false, is_some, List, [], ◌∷◌, Some, Result, Ok, Err, codes}
+use Rattle.std.specs.Prelude.{◌≡◌, ℕ, Bool, true, false, is_some, List, [], ◌∷◌, Some, Result, Ok, Err, codes}
 use Rattle.std.specs.Str.{bytes_eq}
 use Rattle.std.specs.Option.{option_map_or}
-use Rattle.clap.specs.Words.{App, Kinds, Row, Rule, Text, fault_of as faults_of, first_of, found_of, matches_of, new_app, new_rule, rows_of, with_rule}
+use Rattle.clap.specs.Words.{App, HasKind, Kinds, Row, Rule, Text, fault_of as faults_of, first_of, found_of, matches_of, new_app, new_rule, rows_of, with_rule}
 use Rattle.clap.specs.Simple.{on_top}
 use Rattle.clap.specs.declared.builder.action.ArgAction.TheVariants.{SetTrue}
+use Rattle.clap.specs.declared.error.Error.{Error}
 use Rattle.clap.specs.declared.error.kind.ErrorKind.{ErrorKind}
 use Rattle.clap.specs.declared.error.kind.ErrorKind.TheVariants.{OutOfMemory}
 use Rattle.clap.specs.declared.parser.matches.ArgMatches.{ArgMatches}
@@ -62,9 +63,7 @@ abbrev pub fault_of : ErrorKind → OptionFault
 fault_of OutOfMemory = NoMemory
 fault_of _ = Usage
 
--- What `clap` finds is found, or it refuses the words, or memory ran out.
-abbrev pub Finds : List Text → Result ArgMatches OptionFault → Type 0
+-- What `clap` answers: what it finds in words that it takes, or one of the kinds by which it refuses them, or that memory ran out.
+abbrev pub Finds : List Text → Result ArgMatches Error → Type 0
 Finds words (Ok matches) = (faults_at words ≡ []) × (rows_of (found_of matches) ≡ rows_at words)
-Finds words (Err Usage) = faults_at words ≢ []
-Finds words (Err NoMemory) = Unit {0}
-Finds words (Err _) = ⊥
+Finds words (Err error) = HasKind (faults_at words) error

@@ -1,7 +1,10 @@
 //! What can be wrong with argument words.
 ghost use Rattle.std.specs.Prelude.{◌≡◌};
+ghost use Rattle.clap.specs.Words.{kind_of};
+ghost use Rattle.rst_options.specs.Command.{fault_of};
 ghost use Rattle.rst_options.specs.declared.fault.OptionFault.TheVariants.{NoMemory};
 
+use clap::error::ErrorKind;
 use std::alloc::AllocError;
 use thiserror::Error;
 
@@ -34,5 +37,16 @@ impl From<AllocError> for OptionFault {
 
     fn from(_error: AllocError) -> OptionFault {
         OptionFault::NoMemory
+    }
+}
+
+impl From<clap::Error> for OptionFault {
+    ghost from_gives = { λ error fault. fault ≡ fault_of (kind_of error) };
+
+    fn from(error: clap::Error) -> OptionFault {
+        match error.kind() {
+            ErrorKind::OutOfMemory => OptionFault::NoMemory,
+            _ => OptionFault::Usage,
+        }
     }
 }

@@ -1,32 +1,17 @@
 //! What `clap` finds in the words.
 ghost use Rattle.std.specs.Prelude.{◌≡◌, map, option_map, string_bytes};
 ghost use Rattle.clap.specs.Words.{first_of, found_of, rows_of};
-ghost use Rattle.rst_options.specs.Command.{is_on, fault_of, Finds};
+ghost use Rattle.rst_options.specs.Command.{is_on, Finds};
 
 use super::command::program;
-use super::fault::OptionFault;
-use clap::ArgMatches;
-use clap::error::ErrorKind;
+use clap::{ArgMatches, Error};
 use std::alloc::Global;
 
-/// The matches of the words, or [`OptionFault::Usage`] where `clap` refuses them.
-pub fn matches_of(alloc: Global, words: &[String]) -> Result<ArgMatches<'_>, OptionFault>
+/// The matches of the words, or why `clap` refuses them.
+pub fn matches_of(alloc: Global, words: &[String]) -> Result<ArgMatches<'_>, Error>
     ensures { Finds (map string_bytes words.now) result }
 {
-    match program(alloc)?.try_get_matches_from(words) {
-        Ok(matches) => Ok(matches),
-        Err(error) => Err(fault_of(error.kind())),
-    }
-}
-
-/// The fault that an error of `clap` is.
-fn fault_of(kind: ErrorKind) -> OptionFault
-    ensures { result ≡ fault_of kind }
-{
-    match kind {
-        ErrorKind::OutOfMemory => OptionFault::NoMemory,
-        _ => OptionFault::Usage,
-    }
+    program(alloc)?.try_get_matches_from(words)
 }
 
 /// The value of an option, or SOURCE, if it is given.

@@ -6,3 +6,4 @@ pub mod MissingLemmas
 pub mod UriLemmas
 pub mod PieceLemmas
 pub mod WordLemmas
+pub mod CalmLemmas

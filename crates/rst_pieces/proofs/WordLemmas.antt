@@ -52,12 +52,16 @@ pub letter-before : (c : ℕ) → IsLetter c → may_precede c ≡ false
 unfolding may_precede is_white
 letter-before c h = not-so _ (unless-so _ _ (below (λ c. unless (is_ascii_alphanumeric c) (not (may_precede c))) refl c (letter-low c h)) h)
 
-letter-is : (c d : ℕ) (b : Bool) → is_ascii_alphanumeric d ≡ b → IsLetter c → b ≡ false → (c == d) ≡ false
-letter-is c d b h k e = not-so _ (by_case (c == d) refl)
+-- a character that passes a test is none that fails it
+pub differs : (p : ℕ → Bool) (c d : ℕ) → p c ≡ true → p d ≡ false → (c == d) ≡ false
+differs p c d h k = not-so _ (by_case (c == d) refl)
   where
     by_case : (same : Bool) → (c == d) ≡ same → not same ≡ true
-    by_case true s = absurd (true≢false (sym k ∙ ap is_ascii_alphanumeric (eqb-true c d s) ∙ h ∙ e))
+    by_case true s = absurd (true≢false (sym h ∙ ap p (eqb-true c d s) ∙ k))
     by_case false s = refl
+
+letter-is : (c d : ℕ) (b : Bool) → is_ascii_alphanumeric d ≡ b → IsLetter c → b ≡ false → (c == d) ≡ false
+letter-is c d b h k e = differs is_ascii_alphanumeric c d k (h ∙ e)
 
 -- ---- the run
 
@@ -166,6 +170,28 @@ no-uri t i to run colon = ap (uri_piece i) (uri_end-none t i (no-first t i to sc
 
 -- ---- other markup
 
+-- none of the characters stands at the place that markup begins with
+pub record Lacks (t : Text) (i : ℕ) : Type 0 where
+  pub star : has t i 42 ≡ false
+  pub grave : has t i 96 ≡ false
+  pub underscore : has t i 95 ≡ false
+  pub bar : has t i 124 ≡ false
+  pub colon : has t i 58 ≡ false
+  pub bracket : has t i 91 ≡ false
+
+absent : (p : ℕ → Bool) (t : Text) (i c : ℕ) → p (get_or t i 0) ≡ true → p c ≡ false → has t i c ≡ false
+absent p t i c h k = rw (differs p (get_or t i 0) c h k) (grind (arith, nat_tests))
+
+pub lacks-by : (p : ℕ → Bool) (t : Text) (i : ℕ) → p (get_or t i 0) ≡ true → p 42 ≡ false → p 96 ≡ false → p 95 ≡ false → p 124 ≡ false → p 58 ≡ false → p 91 ≡ false → Lacks t i
+lacks-by p t i h star grave underscore bar colon bracket = record {
+  star = absent p t i 42 h star;
+  grave = absent p t i 96 h grave;
+  underscore = absent p t i 95 h underscore;
+  bar = absent p t i 124 h bar;
+  colon = absent p t i 58 h colon;
+  bracket = absent p t i 91 h bracket;
+}
+
 no-mark : (markup : Markup) (t : Text) (i q : ℕ) → has_start markup t q ≡ false → marked_from markup t i q ≡ None
 unfolding starts
 no-mark markup t i q h = rw h refl
@@ -174,43 +200,46 @@ no-role : (t : Text) (i : ℕ) → has t i 58 ≡ false → role_end t i ≡ Non
 unfolding role_end
 no-role t i h = rw h refl
 
-no-marked : (t : Text) (i to : ℕ) → IsWord t i to → i < to → (markup : Markup) → marked markup t i ≡ None
+no-marked : (t : Text) (i : ℕ) → Lacks t i → (markup : Markup) → marked markup t i ≡ None
 unfolding marked start_of
-no-marked t i to run some Strong = no-mark Strong t i i (rw (other-at t i to i 42 run (omega arith) some refl) refl)
-no-marked t i to run some Emphasis = no-mark Emphasis t i i (rw (other-at t i to i 42 run (omega arith) some refl) refl)
-no-marked t i to run some Literal = no-mark Literal t i i (rw (other-at t i to i 96 run (omega arith) some refl) refl)
-no-marked t i to run some Target = no-mark Target t i i (rw (other-at t i to i 95 run (omega arith) some refl) refl)
-no-marked t i to run some Substitution = no-mark Substitution t i i (rw (other-at t i to i 124 run (omega arith) some refl) refl)
-no-marked t i to run some Interpreted =
-    rw (no-role t i (other-at t i to i 58 run (omega arith) some refl)) (no-mark Interpreted t i i (rw (other-at t i to i 96 run (omega arith) some refl) refl))
+no-marked t i lacks Strong = no-mark Strong t i i (rw lacks.star refl)
+no-marked t i lacks Emphasis = no-mark Emphasis t i i (rw lacks.star refl)
+no-marked t i lacks Literal = no-mark Literal t i i (rw lacks.grave refl)
+no-marked t i lacks Target = no-mark Target t i i (rw lacks.underscore refl)
+no-marked t i lacks Substitution = no-mark Substitution t i i (rw lacks.bar refl)
+no-marked t i lacks Interpreted = rw (no-role t i lacks.colon) (no-mark Interpreted t i i (rw lacks.grave refl))
 
-no-label : (t : Text) (i to : ℕ) → IsWord t i to → i < to → label t i ≡ None
+no-label : (t : Text) (i : ℕ) → Lacks t i → label t i ≡ None
 unfolding label
-no-label t i to run some = rw (other-at t i to i 91 run (omega arith) some refl) refl
+no-label t i lacks = rw lacks.bracket refl
 
-no-markup : (t : Text) (i to : ℕ) → IsWord t i to → i < to → Ends t to → markup_at t i ≡ None
+no-markup : (t : Text) (i to : ℕ) → IsWord t i to → Lacks t i → Ends t to → markup_at t i ≡ None
 unfolding markup_at
-no-markup t i to run some ends =
+no-markup t i to run lacks ends =
     rw (
-      no-marked t i to run some Strong,
-      no-marked t i to run some Emphasis,
-      no-marked t i to run some Literal,
-      no-marked t i to run some Target,
-      no-marked t i to run some Substitution,
-      no-marked t i to run some Interpreted,
-      no-label t i to run some,
+      no-marked t i lacks Strong,
+      no-marked t i lacks Emphasis,
+      no-marked t i lacks Literal,
+      no-marked t i lacks Target,
+      no-marked t i lacks Substitution,
+      no-marked t i lacks Interpreted,
+      no-label t i lacks,
       no-reference t i to run ends,
       no-uri t i to run ends.colon,
     ) refl
 
--- nothing begins where a word does, if nothing goes on with it,
-pub no-piece : (t : Text) (i to : ℕ) (escaped : Bool) → IsWord t i to → i < to → goes_on t to ≡ false → piece_if t i escaped ≡ None
+-- no markup begins at a place that lacks its marks and where a word ends, which may be empty, with which nothing goes on
+pub no-piece-lacking : (t : Text) (i to : ℕ) (escaped : Bool) → IsWord t i to → Lacks t i → goes_on t to ≡ false → piece_if t i escaped ≡ None
 unfolding piece_if
-no-piece t i to escaped run some h = by_case (is_free_if t i escaped)
+no-piece-lacking t i to escaped run lacks h = by_case (is_free_if t i escaped)
   where
     by_case : (free : Bool) → cond free (markup_at t i) None ≡ None
-    by_case true = no-markup t i to run some (ends-by t to h)
+    by_case true = no-markup t i to run lacks (ends-by t to h)
     by_case false = refl
+
+-- nothing begins where a word does, if nothing goes on with it,
+pub no-piece : (t : Text) (i to : ℕ) (escaped : Bool) → IsWord t i to → i < to → goes_on t to ≡ false → piece_if t i escaped ≡ None
+no-piece t i to escaped run some h = no-piece-lacking t i to escaped run (lacks-by is_ascii_alphanumeric t i (run.letters i (omega arith) some) refl refl refl refl refl refl) h
 
 -- and further on in it nothing does.
 inside-word : (t : Text) (i to k : ℕ) (escaped : Bool) → IsWord t i to → i < k → k ≤ to → piece_if t k escaped ≡ None
@@ -278,3 +307,10 @@ goes_on-space t i h = quiet t i (ap (λ c. c == 95) h) (ap (λ c. c == 58) h) (s
 
 pub goes_on-feed : (t : Text) (i : ℕ) → get_or t i 0 ≡ 10 → false ≡ goes_on t i
 goes_on-feed t i h = quiet t i (ap (λ c. c == 95) h) (ap (λ c. c == 58) h) (feed-joint _ h) (no-letter-at t i 10 h (omega arith) refl)
+
+comma-joint : (c : ℕ) → c ≡ 44 → is_joint c ≡ false
+unfolding is_joint
+comma-joint c h = rw h refl
+
+pub goes_on-comma : (t : Text) (i : ℕ) → get_or t i 0 ≡ 44 → false ≡ goes_on t i
+goes_on-comma t i h = quiet t i (ap (λ c. c == 95) h) (ap (λ c. c == 58) h) (comma-joint _ h) (no-letter-at t i 44 h (omega arith) refl)

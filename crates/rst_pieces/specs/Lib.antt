@@ -8,3 +8,4 @@ pub mod Footnotes
 pub mod Uri
 pub mod Pieces
 pub mod Missing
+pub mod Calm

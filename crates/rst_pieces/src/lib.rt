@@ -1,6 +1,7 @@
 //! The pieces of an inline text: where its markup begins and ends.
 #![tactic(auto)]
 
+mod calm;
 mod characters;
 mod escaping;
 mod footnotes;
@@ -18,5 +19,5 @@ pub use characters::{has, is_dark};
 pub use escaping::{escapes, has_backslash, unescaped};
 pub use laws::one_list_of_pieces;
 pub use piece::{Kind, Markup, Piece, Suffix};
-pub use scanner::pieces_of;
+pub use scanner::{pieces_of, pieces_of_ascii};
 pub use uri::plain_uri;

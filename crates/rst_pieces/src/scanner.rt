@@ -4,6 +4,7 @@ ghost use Rattle.rst_pieces.specs.Pieces.{markup_at, is_free_if, piece_if, plain
 ghost use Rattle.rst_pieces.specs.Missing.{IsMissing};
 ghost use Rattle.rst_pieces.specs.Words.{IsWord};
 
+use super::calm::step;
 use super::characters::may_precede;
 use super::escaping::escapes;
 use super::footnotes::label;
@@ -89,17 +90,35 @@ fn piece_at(
 pub fn pieces_of(alloc: Global, text: &[char]) -> Result<Vec<Piece>, AllocError>
     ensures { IfOk result (λ pieces. IsPieces text.now 0 pieces.items) }
 {
-    let mut pieces = Vec::new(alloc);
+    pieces_by(alloc, text, b"")
+}
+
+/// The same of a text that is ASCII, which `bytes` is, too: the steps over what holds no markup are wider in bytes.
+pub fn pieces_of_ascii(alloc: Global, text: &[char], bytes: &[u8]) -> Result<Vec<Piece>, AllocError>
+    requires { bytes.now ≡ text.now }
+    ensures { IfOk result (λ pieces. IsPieces text.now 0 pieces.items) }
+{
+    pieces_by(alloc, text, bytes)
+}
+
+/// The same of any text; `bytes` is the text if that is ASCII, or nothing.
+fn pieces_by(alloc: Global, text: &[char], bytes: &[u8]) -> Result<Vec<Piece>, AllocError>
+    requires { 0 < length bytes.now → bytes.now ≡ text.now }
+    ensures { IfOk result (λ pieces. IsPieces text.now 0 pieces.items) }
+{
+    // Prose has less than a piece for each 32 characters.
+    let mut pieces = Vec::with_capacity(alloc, text.len() / 32 + 2)?;
     let mut from = 0;
     let mut place = 0;
     let mut escaped = false;
     let mut missing = Missing::of(text);
     while place < text.len() {
-        let end = word_end(text, place);
-        match piece_at(text, place, end, escaped, &mut missing) {
+        let (start, start_escaped) = step(bytes, place, escaped);
+        let end = word_end(text, start);
+        match piece_at(text, start, end, start_escaped, &mut missing) {
             Some(piece) => {
-                if from < place {
-                    pieces.push(plain_piece(from, place))?;
+                if from < start {
+                    pieces.push(plain_piece(from, start))?;
                 }
                 pieces.push(piece)?;
                 from = piece.to;
@@ -113,7 +132,7 @@ pub fn pieces_of(alloc: Global, text: &[char]) -> Result<Vec<Piece>, AllocError>
                     escaped = false;
                     continue;
                 }
-                escaped = escapes(text[end], escaped && place == end);
+                escaped = escapes(text[end], start_escaped && start == end);
                 place = end + 1;
             }
         }

@@ -13,19 +13,19 @@ const LINE_BLOCKS: &[(&[Bar], usize, usize, &str)] = &[
         &[(Some(0), 1, 1, "a")],
         0,
         250,
-        "    <line_block>⏎        <line text_messages=\"0\">⏎            a⏎",
+        "    <line_block>⏎        <line>⏎            a⏎",
     ),
     (
         &[(Some(0), 1, 1, "a"), (Some(2), 2, 2, "b")],
         0,
         250,
-        "    <line_block>⏎        <line text_messages=\"0\">⏎            a⏎        <line_block>⏎            <line text_messages=\"0\">⏎                b⏎",
+        "    <line_block>⏎        <line>⏎            a⏎        <line_block>⏎            <line>⏎                b⏎",
     ),
     (
         &[(Some(2), 1, 1, "a"), (Some(0), 2, 2, "b")],
         0,
         250,
-        "    <line_block>⏎        <line_block>⏎            <line text_messages=\"0\">⏎                a⏎        <line text_messages=\"0\">⏎            b⏎",
+        "    <line_block>⏎        <line_block>⏎            <line>⏎                a⏎        <line>⏎            b⏎",
     ),
     (
         &[
@@ -37,25 +37,25 @@ const LINE_BLOCKS: &[(&[Bar], usize, usize, &str)] = &[
         ],
         0,
         250,
-        "    <line_block>⏎        <line text_messages=\"0\">⏎            a⏎        <line_block>⏎            <line text_messages=\"0\">⏎                b⏎            <line_block>⏎                <line text_messages=\"0\">⏎                    c⏎            <line text_messages=\"0\">⏎                d⏎        <line text_messages=\"0\">⏎            e⏎",
+        "    <line_block>⏎        <line>⏎            a⏎        <line_block>⏎            <line>⏎                b⏎            <line_block>⏎                <line>⏎                    c⏎            <line>⏎                d⏎        <line>⏎            e⏎",
     ),
     (
         &[(None, 1, 1, "")],
         0,
         250,
-        "    <line_block>⏎        <line text_messages=\"0\">⏎",
+        "    <line_block>⏎        <line>⏎",
     ),
     (
         &[(Some(0), 1, 1, "a"), (None, 2, 2, "")],
         0,
         250,
-        "    <line_block>⏎        <line text_messages=\"0\">⏎            a⏎        <line text_messages=\"0\">⏎",
+        "    <line_block>⏎        <line>⏎            a⏎        <line>⏎",
     ),
     (
         &[(Some(2), 1, 1, "a"), (None, 2, 2, ""), (Some(1), 3, 3, "b")],
         0,
         250,
-        "    <line_block>⏎        <line_block>⏎            <line text_messages=\"0\">⏎                a⏎            <line text_messages=\"0\">⏎        <line text_messages=\"0\">⏎            b⏎",
+        "    <line_block>⏎        <line_block>⏎            <line>⏎                a⏎            <line>⏎        <line>⏎            b⏎",
     ),
     (
         &[
@@ -66,7 +66,7 @@ const LINE_BLOCKS: &[(&[Bar], usize, usize, &str)] = &[
         ],
         0,
         250,
-        "    <line_block>⏎        <line text_messages=\"0\">⏎        <line_block>⏎            <line text_messages=\"0\">⏎                a⏎            <line text_messages=\"0\">⏎        <line text_messages=\"0\">⏎            b⏎",
+        "    <line_block>⏎        <line>⏎        <line_block>⏎            <line>⏎                a⏎            <line>⏎        <line>⏎            b⏎",
     ),
     (
         &[(Some(0), 1, 1, "*a"), (Some(2), 2, 2, "**b")],
@@ -78,7 +78,7 @@ const LINE_BLOCKS: &[(&[Bar], usize, usize, &str)] = &[
         &[(Some(0), 1, 1, "a"), (None, 2, 3, "*x")],
         0,
         250,
-        "    <line_block>⏎        <line text_messages=\"0\">⏎            a⏎        <line text_messages=\"1\">⏎            <problematic message=\"0\">⏎                *⏎            x⏎    <system_message level=\"2\" line=\"3\" message=\"0\" type=\"WARNING\">⏎        <paragraph>⏎            Inline emphasis start-string without end-string.⏎",
+        "    <line_block>⏎        <line>⏎            a⏎        <line text_messages=\"1\">⏎            <problematic message=\"0\">⏎                *⏎            x⏎    <system_message level=\"2\" line=\"3\" message=\"0\" type=\"WARNING\">⏎        <paragraph>⏎            Inline emphasis start-string without end-string.⏎",
     ),
     (
         &[
@@ -89,13 +89,13 @@ const LINE_BLOCKS: &[(&[Bar], usize, usize, &str)] = &[
         ],
         0,
         250,
-        "    <line_block>⏎        <line_block>⏎            <line_block>⏎                <line_block>⏎                    <line text_messages=\"0\">⏎                        a⏎                <line text_messages=\"0\">⏎                    b⏎            <line text_messages=\"0\">⏎                c⏎        <line text_messages=\"0\">⏎            d⏎",
+        "    <line_block>⏎        <line_block>⏎            <line_block>⏎                <line_block>⏎                    <line>⏎                        a⏎                <line>⏎                    b⏎            <line>⏎                c⏎        <line>⏎            d⏎",
     ),
     (
         &[(Some(0), 1, 1, "a\n  b\nc")],
         0,
         250,
-        "    <line_block>⏎        <line text_messages=\"0\">⏎            a⏎              b⏎            c⏎",
+        "    <line_block>⏎        <line>⏎            a⏎              b⏎            c⏎",
     ),
     (
         &[
@@ -117,7 +117,7 @@ const LINE_BLOCKS: &[(&[Bar], usize, usize, &str)] = &[
         ],
         3,
         5,
-        "    <line_block>⏎        <line text_messages=\"0\">⏎            a⏎        <line_block>⏎            <line text_messages=\"0\">⏎                b⏎            <line_block>⏎                <line text_messages=\"0\">⏎                    c⏎        <line text_messages=\"0\">⏎            d⏎        <line_block>⏎            <line text_messages=\"0\">⏎                e⏎",
+        "    <line_block>⏎        <line>⏎            a⏎        <line_block>⏎            <line>⏎                b⏎            <line_block>⏎                <line>⏎                    c⏎        <line>⏎            d⏎        <line_block>⏎            <line>⏎                e⏎",
     ),
 ];
 

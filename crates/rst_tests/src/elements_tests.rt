@@ -7,12 +7,9 @@ use std::test::Fail;
 
 /// Texts and the paragraphs that they are, on line 3 with their text on line 4. A line end is shown as an arrow.
 const TEXTS: &[(&str, &str)] = &[
-    ("", "    <paragraph text_messages=\"0\">⏎"),
-    ("a", "    <paragraph text_messages=\"0\">⏎        a⏎"),
-    (
-        "*a*",
-        "    <paragraph text_messages=\"0\">⏎        <emphasis>⏎            a⏎",
-    ),
+    ("", "    <paragraph>⏎"),
+    ("a", "    <paragraph>⏎        a⏎"),
+    ("*a*", "    <paragraph>⏎        <emphasis>⏎            a⏎"),
     (
         "*a",
         "    <paragraph text_messages=\"1\">⏎        <problematic message=\"0\">⏎            *⏎        a⏎    <system_message level=\"2\" line=\"4\" message=\"0\" type=\"WARNING\">⏎        <paragraph>⏎            Inline emphasis start-string without end-string.⏎",
@@ -29,10 +26,10 @@ const TEXTS: &[(&str, &str)] = &[
         "x\n*y",
         "    <paragraph text_messages=\"1\">⏎        x⏎        <problematic message=\"0\">⏎            *⏎        y⏎    <system_message level=\"2\" line=\"4\" message=\"0\" type=\"WARNING\">⏎        <paragraph>⏎            Inline emphasis start-string without end-string.⏎",
     ),
-    ("\\", "    <paragraph text_messages=\"0\">⏎"),
+    ("\\", "    <paragraph>⏎"),
     (
         "a_ `b <u>`_ |c| [1]_",
-        "    <paragraph text_messages=\"0\">⏎        <reference name=\"a\" rawsource=\"a_\" refname=\"a\">⏎            a⏎         ⏎        <reference name=\"b\" rawsource=\"`b <u>`_\" refuri=\"u\">⏎            b⏎        <target inline=\"1\" own_name=\"b\" refuri=\"u\">⏎         ⏎        <substitution_reference rawsource=\"|c|\" refname=\"c\">⏎            c⏎         ⏎        <footnote_reference rawsource=\"[1]_\" refname=\"1\">⏎            1⏎",
+        "    <paragraph>⏎        <reference name=\"a\" rawsource=\"a_\" refname=\"a\">⏎            a⏎         ⏎        <reference name=\"b\" rawsource=\"`b <u>`_\" refuri=\"u\">⏎            b⏎        <target inline=\"1\" own_name=\"b\" refuri=\"u\">⏎         ⏎        <substitution_reference rawsource=\"|c|\" refname=\"c\">⏎            c⏎         ⏎        <footnote_reference rawsource=\"[1]_\" refname=\"1\">⏎            1⏎",
     ),
     (
         ":a:`b`_ ``c",
@@ -62,7 +59,7 @@ fn numbers_messages_on(rt: HostRuntime) -> Result<(), Fail> {
         alloc,
         read.element,
         read.notes,
-        "    <title text_messages=\"0\">⏎        *⏎",
+        "    <title>⏎        *⏎",
         "title",
     )?;
     let read = with_text(alloc, Tag::Title, 2, "|x", 2, &mut numbers)?;
@@ -118,55 +115,49 @@ fn says_plain_texts_and_messages(rt: HostRuntime) -> Result<(), Fail> {
 
 /// Terms with their classifiers, and the messages of their text. A line end is shown as an arrow.
 const TERMS: &[(&str, &str)] = &[
-    ("term", "    <term text_messages=\"0\">⏎        term⏎"),
+    ("term", "    <term>⏎        term⏎"),
     (
         "term : c",
-        "    <term text_messages=\"0\">⏎        term⏎    <classifier>⏎        c⏎",
+        "    <term>⏎        term⏎    <classifier>⏎        c⏎",
     ),
     (
         "a : b : c",
-        "    <term text_messages=\"0\">⏎        a⏎    <classifier>⏎        b⏎    <classifier>⏎        c⏎",
+        "    <term>⏎        a⏎    <classifier>⏎        b⏎    <classifier>⏎        c⏎",
     ),
     (
         "a  :   b",
-        "    <term text_messages=\"0\">⏎        a⏎    <classifier>⏎        b⏎",
+        "    <term>⏎        a⏎    <classifier>⏎        b⏎",
     ),
-    ("a :b", "    <term text_messages=\"0\">⏎        a :b⏎"),
-    ("a: b", "    <term text_messages=\"0\">⏎        a: b⏎"),
-    ("a \\: b", "    <term text_messages=\"0\">⏎        a : b⏎"),
-    ("a\\ : b", "    <term text_messages=\"0\">⏎        a: b⏎"),
-    ("a :\\ b", "    <term text_messages=\"0\">⏎        a :b⏎"),
+    ("a :b", "    <term>⏎        a :b⏎"),
+    ("a: b", "    <term>⏎        a: b⏎"),
+    ("a \\: b", "    <term>⏎        a : b⏎"),
+    ("a\\ : b", "    <term>⏎        a: b⏎"),
+    ("a :\\ b", "    <term>⏎        a :b⏎"),
     (
         "a \\ : b",
-        "    <term text_messages=\"0\">⏎        a⏎    <classifier>⏎        b⏎",
+        "    <term>⏎        a⏎    <classifier>⏎        b⏎",
     ),
     (
         "x : *y*",
-        "    <term text_messages=\"0\">⏎        x⏎    <classifier>⏎        <emphasis>⏎            y⏎",
+        "    <term>⏎        x⏎    <classifier>⏎        <emphasis>⏎            y⏎",
     ),
     (
         "*x* : y",
-        "    <term text_messages=\"0\">⏎        <emphasis>⏎            x⏎    <classifier>⏎        y⏎",
+        "    <term>⏎        <emphasis>⏎            x⏎    <classifier>⏎        y⏎",
     ),
     (
         "`a : b` : c",
-        "    <term text_messages=\"0\">⏎        <title_reference>⏎            a : b⏎    <classifier>⏎        c⏎",
+        "    <term>⏎        <title_reference>⏎            a : b⏎    <classifier>⏎        c⏎",
     ),
-    (
-        " : a",
-        "    <term text_messages=\"0\">⏎    <classifier>⏎        a⏎",
-    ),
-    (
-        "a : ",
-        "    <term text_messages=\"0\">⏎        a⏎    <classifier>⏎",
-    ),
+    (" : a", "    <term>⏎    <classifier>⏎        a⏎"),
+    ("a : ", "    <term>⏎        a⏎    <classifier>⏎"),
     (
         "a : : b",
-        "    <term text_messages=\"0\">⏎        a⏎    <classifier>⏎        : b⏎",
+        "    <term>⏎        a⏎    <classifier>⏎        : b⏎",
     ),
     (
         "a :  : b",
-        "    <term text_messages=\"0\">⏎        a⏎    <classifier>⏎        : b⏎",
+        "    <term>⏎        a⏎    <classifier>⏎        : b⏎",
     ),
     (
         "*a : b",
@@ -176,13 +167,10 @@ const TERMS: &[(&str, &str)] = &[
         "a *b : *c",
         "    <term text_messages=\"2\">⏎        a ⏎        <problematic message=\"0\">⏎            *⏎        b⏎    <classifier>⏎        <problematic message=\"1\">⏎            *⏎        c⏎    <system_message level=\"2\" line=\"2\" message=\"0\" type=\"WARNING\">⏎        <paragraph>⏎            Inline emphasis start-string without end-string.⏎    <system_message level=\"2\" line=\"2\" message=\"1\" type=\"WARNING\">⏎        <paragraph>⏎            Inline emphasis start-string without end-string.⏎",
     ),
-    (
-        "\\ *a*",
-        "    <term text_messages=\"0\">⏎        <emphasis>⏎            a⏎",
-    ),
+    ("\\ *a*", "    <term>⏎        <emphasis>⏎            a⏎"),
     (
         "a : b\\",
-        "    <term text_messages=\"0\">⏎        a⏎    <classifier>⏎        b⏎",
+        "    <term>⏎        a⏎    <classifier>⏎        b⏎",
     ),
     (
         "a : |x : y",
@@ -190,42 +178,42 @@ const TERMS: &[(&str, &str)] = &[
     ),
     (
         "größe : maß",
-        "    <term text_messages=\"0\">⏎        größe⏎    <classifier>⏎        maß⏎",
+        "    <term>⏎        größe⏎    <classifier>⏎        maß⏎",
     ),
     (
         "*a* : *b* : *c*",
-        "    <term text_messages=\"0\">⏎        <emphasis>⏎            a⏎    <classifier>⏎        <emphasis>⏎            b⏎    <classifier>⏎        <emphasis>⏎            c⏎",
+        "    <term>⏎        <emphasis>⏎            a⏎    <classifier>⏎        <emphasis>⏎            b⏎    <classifier>⏎        <emphasis>⏎            c⏎",
     ),
     (
         "a : *b* c : d",
-        "    <term text_messages=\"0\">⏎        a⏎    <classifier>⏎        <emphasis>⏎            b⏎         c⏎    <classifier>⏎        d⏎",
+        "    <term>⏎        a⏎    <classifier>⏎        <emphasis>⏎            b⏎         c⏎    <classifier>⏎        d⏎",
     ),
-    ("**", "    <term text_messages=\"0\">⏎        **⏎"),
+    ("**", "    <term>⏎        **⏎"),
     (
         "a \\  : b",
-        "    <term text_messages=\"0\">⏎        a⏎    <classifier>⏎        b⏎",
+        "    <term>⏎        a⏎    <classifier>⏎        b⏎",
     ),
     (
         "a : \\b",
-        "    <term text_messages=\"0\">⏎        a⏎    <classifier>⏎        b⏎",
+        "    <term>⏎        a⏎    <classifier>⏎        b⏎",
     ),
     (
         "a :\\  b",
-        "    <term text_messages=\"0\">⏎        a⏎    <classifier>⏎        b⏎",
+        "    <term>⏎        a⏎    <classifier>⏎        b⏎",
     ),
     (
         "\\\\ : \\\\",
-        "    <term text_messages=\"0\">⏎        \\⏎    <classifier>⏎        \\⏎",
+        "    <term>⏎        \\⏎    <classifier>⏎        \\⏎",
     ),
     (
         "*a*\\ *b*\\  : c",
-        "    <term text_messages=\"0\">⏎        <emphasis>⏎            a⏎        <emphasis>⏎            b⏎    <classifier>⏎        c⏎",
+        "    <term>⏎        <emphasis>⏎            a⏎        <emphasis>⏎            b⏎    <classifier>⏎        c⏎",
     ),
     (
         "a::b : c::d",
-        "    <term text_messages=\"0\">⏎        a::b⏎    <classifier>⏎        c::d⏎",
+        "    <term>⏎        a::b⏎    <classifier>⏎        c::d⏎",
     ),
-    (" : ", "    <term text_messages=\"0\">⏎    <classifier>⏎"),
+    (" : ", "    <term>⏎    <classifier>⏎"),
 ];
 
 #[test]
@@ -246,11 +234,11 @@ fn splits_terms(rt: HostRuntime) -> Result<(), Fail> {
 const SECTIONS: &[(&str, &str)] = &[
     (
         "T",
-        "    <section own_name=\"t\" text_messages=\"0\">⏎        <title text_messages=\"0\">⏎            T⏎",
+        "    <section own_name=\"t\">⏎        <title>⏎            T⏎",
     ),
     (
         "A  *b*",
-        "    <section own_name=\"a b\" text_messages=\"0\">⏎        <title text_messages=\"0\">⏎            A  ⏎            <emphasis>⏎                b⏎",
+        "    <section own_name=\"a b\">⏎        <title>⏎            A  ⏎            <emphasis>⏎                b⏎",
     ),
     (
         "*a",
@@ -258,15 +246,15 @@ const SECTIONS: &[(&str, &str)] = &[
     ),
     (
         "[1]_ [#]_ |x|",
-        "    <section own_name=\"1 x\" text_messages=\"0\">⏎        <title text_messages=\"0\">⏎            <footnote_reference rawsource=\"[1]_\" refname=\"1\">⏎                1⏎             ⏎            <footnote_reference auto=\"1\" rawsource=\"[#]_\">⏎             ⏎            <substitution_reference rawsource=\"|x|\" refname=\"x\">⏎                x⏎",
+        "    <section own_name=\"1 x\">⏎        <title>⏎            <footnote_reference rawsource=\"[1]_\" refname=\"1\">⏎                1⏎             ⏎            <footnote_reference auto=\"1\" rawsource=\"[#]_\">⏎             ⏎            <substitution_reference rawsource=\"|x|\" refname=\"x\">⏎                x⏎",
     ),
     (
         "Größe",
-        "    <section own_name=\"größe\" text_messages=\"0\">⏎        <title text_messages=\"0\">⏎            Größe⏎",
+        "    <section own_name=\"größe\">⏎        <title>⏎            Größe⏎",
     ),
     (
         "`a`_ **",
-        "    <section own_name=\"a **\" text_messages=\"0\">⏎        <title text_messages=\"0\">⏎            <reference name=\"a\" rawsource=\"`a`_\" refname=\"a\">⏎                a⏎             **⏎",
+        "    <section own_name=\"a **\">⏎        <title>⏎            <reference name=\"a\" rawsource=\"`a`_\" refname=\"a\">⏎                a⏎             **⏎",
     ),
 ];
 

@@ -14,7 +14,7 @@ or_false : (a b : Bool) → (a || b) ≡ false → (a ≡ false) × (b ≡ false
 or_false true b h = cc
 or_false false b h = (refl, h)
 
-not_false : (a : Bool) → not a ≡ true → a ≡ false
+pub not_false : (a : Bool) → not a ≡ true → a ≡ false
 not_false true h = cc
 not_false false h = refl
 

@@ -196,10 +196,13 @@ scalars-trimmed (c ∷ cs) s =
     let h = and_true (scalar c) (scalars cs) s in
     scalars_kept (is_whitespace c && length (drop_trailing_whitespace cs) == 0) c (drop_trailing_whitespace cs) h.0 (scalars-trimmed cs h.1)
 
-tidied-trim_end : (tab : ℕ) (piece trimmed : List ℕ) → IsUtf8 piece → trimmed ≡ trim_end piece → 0 < tab → expanded_from tab 0 (chars trimmed) ≡ tidied tab (chars piece)
+pub chars-trim_end : (text trimmed : List ℕ) → IsUtf8 text → trimmed ≡ trim_end text → chars trimmed ≡ drop_trailing_whitespace (chars text)
 unfolding trim_end
+chars-trim_end text trimmed good e = ap chars e ∙ chars-encodes (drop_trailing_whitespace (chars text)) (scalars-trimmed (chars text) (scalars-chars text good))
+
+tidied-trim_end : (tab : ℕ) (piece trimmed : List ℕ) → IsUtf8 piece → trimmed ≡ trim_end piece → 0 < tab → expanded_from tab 0 (chars trimmed) ≡ tidied tab (chars piece)
 tidied-trim_end tab piece trimmed good e wide =
-    ap (λ l. expanded_from tab 0 (chars l)) e ∙ ap (expanded_from tab 0) (chars-encodes (drop_trailing_whitespace (chars piece)) (scalars-trimmed (chars piece) (scalars-chars piece good)))
+    ap (expanded_from tab 0) (chars-trim_end piece trimmed good e)
     ∙ sym (trim-expanded tab 0 (chars piece) wide)
 
 pub tidies : {A E : Type 0} (tab : ℕ) (piece trimmed : List ℕ) (r : Result (String A) E) → IsUtf8 piece → trimmed ≡ trim_end piece → 0 < tab

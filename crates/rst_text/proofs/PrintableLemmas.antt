@@ -1,16 +1,21 @@
 -- Texts of printable ASCII.
-use Rattle.std.proofs.Common.{◌≡◌, ⊎_elim, ℕ, zero, suc, ◌+◌, ◌-◌, ◌<◌, ◌≤◌, ◌==◌, ◌||◌, true, false, List, [], ◌∷◌, ◌++◌, length, take, drop, get_or, length-append, Result, Ok, Err, IfOk, String, string_bytes, refl, sym, ap, ◌∙◌, subst, arith}
-use Rattle.std.specs.Str.{IsUtf8, IsAscii, chars, NonePass, IsCharBoundary}
+use Rattle.std.proofs.Common.{◌≡◌, ⊎_elim, map, not, ℕ, zero, suc, ◌+◌, ◌-◌, ◌<◌, ◌≤◌, ◌==◌, ◌||◌, Bool, true, false, List, [], ◌∷◌, ◌++◌, length, take, drop, get_or, length-append, Result, Ok, Err, IfOk, String, string_bytes, refl, sym, ap, ◌∙◌, subst, arith}
+use Rattle.std.specs.Str.{IsUtf8, IsAscii, chars, NonePass, IsCharBoundary, trim_end, drop_trailing_whitespace}
 use Rattle.std.proofs.Math.Utf8.{encode, encodes}
 use Rattle.std.proofs.lemmas.Bool.{cases_lt}
 use Rattle.std.proofs.lemmas.Bool.Decides.{nat_tests}
-use Rattle.std.proofs.lemmas.List.{take_more, drop_more, length-drop, get_or_past}
+use Rattle.std.proofs.lemmas.List.{take_more, drop_more, length-drop, length-take-le, get_or-take, get_or_past}
+use Rattle.std.proofs.lemmas.Simd.{none_from_empty_mask}
 use Rattle.std.proofs.lemmas.Str.{encode_ascii, chars-IsAscii}
-use Rattle.rst_text.specs.Lines.{is_line_end, pieces, expanded_from}
+use lib.Count.{count_trailing_zeros}
+use lib.Lanes.{mask_l, chunk}
+use Rattle.rst_text.specs.Lines.{is_line_end, pieces, expanded_from, tidied}
 use Rattle.rst_text.specs.Text.{chars_of}
-use Rattle.rst_text.specs.Printable.{is_printable, IsPrintableTo}
+use Rattle.rst_text.specs.Printable.{is_printable, is_other, ArePrintable, IsPrintableTo}
 use Rattle.rst_text.proofs.Scanning.{Scans, Scans-start, Scans-step, NonePass-push, IsCharBoundary-scanned, length-scanned}
-use Rattle.rst_text.proofs.LinesLemmas.{pieces-end, pieces-scanned}
+use Rattle.rst_text.proofs.LaneLemmas.{lowest_passes}
+use Rattle.rst_text.proofs.LinesLemmas.{pieces-end, pieces-scanned, chars-trim_end}
+use Rattle.rst_text.proofs.LineTexts.{not_false}
 
 -- ---- printable characters
 
@@ -29,6 +34,33 @@ shown-of c h = grind (arith, nat_tests)
 -- each of the n bytes at the front
 abbrev Printable : List ℕ → ℕ → Type 0
 Printable text n = (i : ℕ) → i < n → is_printable (get_or text i 0) ≡ true
+
+-- ---- sixteen of them at once
+
+true_of : (a : Bool) → not a ≡ false → a ≡ true
+true_of true h = refl
+true_of false h = cc
+
+printable_of : (c : ℕ) → is_other c ≡ false → is_printable c ≡ true
+printable_of c h = true_of (is_printable c) h
+
+other_of : (c : ℕ) → is_other c ≡ true → is_printable c ≡ false
+other_of c h = not_false (is_printable c) h
+
+more-printable : (text : List ℕ) (at n : ℕ) → Printable text at → ((k : ℕ) → at ≤ k → k < at + n → is_other (get_or text k 0) ≡ false) → Printable text (at + n)
+more-printable text at n before none i less = ⊎_elim (before i) (λ past. printable_of (get_or text i 0) (none i past less)) (cases_lt i at)
+
+pub none-other : (text : List ℕ) (at n mask : ℕ) → at + n ≤ length text → Printable text at → mask ≡ mask_l (map is_other (chunk at n text)) → mask ≡ 0 → Printable text (at + n)
+none-other text at n mask room before is none = more-printable text at n before (none_from_empty_mask is_other text at n 0 room (sym is ∙ none))
+
+pub first-other : (text : List ℕ) (at n mask : ℕ) → at + n ≤ length text → n ≤ 64 → Printable text at → mask ≡ mask_l (map is_other (chunk at n text)) → 0 < mask → IsPrintableTo text (at + count_trailing_zeros 64 mask)
+first-other text at n mask room short before is some =
+    let first = lowest_passes is_other text at n mask room short is some in
+    record {
+      within = omega (arith, first.inside);
+      plain = more-printable text at (count_trailing_zeros 64 mask) before first.before;
+      stops = λ inside. other_of (get_or text (at + count_trailing_zeros 64 mask) 0) first.passes;
+    }
 
 -- ---- their front
 
@@ -83,6 +115,15 @@ ascii-of text plain i = ⊎_elim
     (λ past. let none : get_or text i 0 ≡ 0 = get_or_past text i 0 past in omega arith)
     (cases_lt i (length text))
 
+all-printable : (text : List ℕ) → ArePrintable text → IsPrintableTo text (length text)
+all-printable text plain = record { within = omega arith; plain = plain; stops = λ inside. absurd (omega arith) }
+
+-- the front of a text is printable itself
+pub front-printable : (text : List ℕ) (n : ℕ) → IsPrintableTo text n → ArePrintable (take n text)
+front-printable text n p i inside =
+    let less : i < n = omega (arith, length-take-le n text p.within) in
+    ap is_printable (get_or-take n text i 0 less) ∙ p.plain i less
+
 -- a text of printable ASCII stays as it is
 expanded-line : (tab : ℕ) (text : List ℕ) (n : ℕ) → IsPrintableTo text n → n ≡ length text → expanded_from tab 0 (chars text) ≡ chars text
 expanded-line tab text n p whole =
@@ -94,3 +135,10 @@ expanded-line tab text n p whole =
 pub copied-line : {A E : Type 0} (tab : ℕ) (text : List ℕ) (n : ℕ) (r : Result (String A) E) → IsPrintableTo text n → n ≡ length text → IfOk r (λ line. string_bytes line ≡ text) → IfOk r (λ line. chars_of line ≡ expanded_from tab 0 (chars text))
 copied-line tab text n (Ok line) p whole same = ap chars same ∙ sym (expanded-line tab text n p whole)
 copied-line tab text n (Err e) p whole same = tt
+
+-- A text without white characters at its end is its line, whatever the width of tabs: there is none in it.
+pub trimmed-line : {A E : Type 0} (text trimmed : List ℕ) (r : Result (String A) E) → IsUtf8 text → ArePrintable text → trimmed ≡ trim_end text → IfOk r (λ line. string_bytes line ≡ trimmed)
+    → IfOk r (λ line. (tab : ℕ) → chars_of line ≡ tidied tab (chars text))
+trimmed-line text trimmed (Ok line) good plain e same = λ tab.
+    ap chars same ∙ chars-trim_end text trimmed good e ∙ ap drop_trailing_whitespace (sym (expanded-line tab text (length text) (all-printable text plain) refl))
+trimmed-line text trimmed (Err x) good plain e same = tt

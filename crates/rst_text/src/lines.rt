@@ -1,14 +1,15 @@
 //! The lines of a text.
-ghost use Rattle.std.specs.Prelude.{◌≡◌, ◌≤◌, ◌<◌, ◌∷◌, [], length, drop, IfOk, IsTrue};
+ghost use Rattle.std.specs.Prelude.{◌≡◌, ◌≤◌, ◌<◌, ◌∷◌, ℕ, length, drop, IfOk, IfSome, IsTrue};
 ghost use Rattle.std.specs.Str.{chars, IsUtf8};
 ghost use Rattle.rst_text.specs.Block.{front_text};
 ghost use Rattle.rst_text.specs.Faults.{Gives};
 ghost use Rattle.rst_text.specs.Lines.{is_line_end, pieces, shown, expanded_from, tidied, lines_of, are_lines, first_longer};
-ghost use Rattle.rst_text.specs.Printable.{is_printable, IsPrintableTo};
+ghost use Rattle.rst_text.specs.Printable.{ArePrintable};
 ghost use Rattle.rst_text.specs.Source.{block_with};
 ghost use Rattle.rst_text.specs.Text.{chars_of};
 
 use super::fault::TextFault;
+use super::printable::printable_len;
 use std::alloc::{AllocError, Global};
 use std::marker::Model;
 
@@ -55,9 +56,15 @@ impl Lines {
         let mut lines = Vec::new(alloc);
         let mut rest = text;
         while !rest.is_empty() {
+            let number = lines.len() + 1;
+            if let Some((piece, after)) = printable_piece(rest) {
+                let text = trimmed(alloc, piece)?;
+                lines.push(SourceLine { number, text })?;
+                rest = after;
+                continue;
+            }
             let (piece, after) = first_piece(rest);
             let text = tidy(alloc, piece, usize::from(tab))?;
-            let number = lines.len() + 1;
             lines.push(SourceLine { number, text })?;
             rest = after;
         }
@@ -132,42 +139,20 @@ fn is_line_end(c: char) -> bool
     )
 }
 
-/// Whether a byte is printable ASCII.
-fn is_printable(byte: u8) -> bool
-    ensures { result ≡ is_printable byte }
+/// The first piece of a text, if a line feed ends it and it is printable ASCII, and what follows the line feed.
+fn printable_piece(text: &str) -> Option<(&str, &str)>
+    ensures pieces { IfSome result (λ first. pieces (chars text.now) ≡ chars first.0.now ∷ pieces (chars first.1.now)) }
+    ensures printable { IfSome result (λ first. ArePrintable first.0.now) }
+    ensures shorter { IfSome result (λ first. length first.1.now < length text.now) }
+    ensures text { IfSome result (λ first. IsUtf8 first.1.now) }
 {
-    31 < byte && byte < 127
-}
-
-/// How many bytes at the front of a text are printable ASCII.
-fn printable_len(text: &str) -> usize
-    ensures { IsPrintableTo text.now result }
-{
-    let bytes = text.as_bytes();
-    for at in 0..bytes.len() {
-        if !is_printable(bytes[at]) {
-            return at;
-        }
-    }
-    bytes.len()
+    let (piece, rest) = text.split_at(printable_len(text));
+    let after = rest.strip_prefix('\n')?;
+    Some((piece, after))
 }
 
 /// The first piece of a text that isn't empty, and what follows the end of that line.
 fn first_piece(text: &str) -> (&str, &str)
-    requires { 0 < length text.now }
-    ensures pieces { pieces (chars text.now) ≡ chars result.0.now ∷ pieces (chars result.1.now) }
-    ensures shorter { length result.1.now < length text.now }
-    ensures text { IsUtf8 result.1.now }
-{
-    let (piece, rest) = text.split_at(printable_len(text));
-    match rest.strip_prefix('\n') {
-        Some(after) => (piece, after),
-        None => first_of_any(text),
-    }
-}
-
-/// The same, character by character.
-fn first_of_any(text: &str) -> (&str, &str)
     requires { 0 < length text.now }
     ensures pieces { pieces (chars text.now) ≡ chars result.0.now ∷ pieces (chars result.1.now) }
     ensures shorter { length result.1.now < length text.now }
@@ -185,6 +170,14 @@ fn first_of_any(text: &str) -> (&str, &str)
         }
     }
     (text, "")
+}
+
+/// A piece of printable ASCII, in which no tab stands, without white characters at its end.
+fn trimmed(alloc: Global, text: &str) -> Result<String, AllocError>
+    requires { ArePrintable text.now }
+    ensures { IfOk result (λ line. (tab : ℕ) → chars_of line ≡ tidied tab (chars text.now)) }
+{
+    String::from_str(alloc, text.trim_end())
 }
 
 /// A piece with its tabs expanded, and without white characters at its end.

@@ -9,7 +9,6 @@ use crate::reading::number;
 use rst_settings::Threshold;
 use rst_tree::{Attrs, Children, Key, Node, Tag, Text, TreeFault};
 use std::alloc::Global;
-use std::collections::BTreeSet;
 use std::mem;
 
 /// Takes the messages below the report level out of a document, lets each problematic whose message is gone become its text, and
@@ -31,8 +30,7 @@ use std::mem;
 pub(crate) fn filter(alloc: Global, root: Node, report: Threshold) -> Result<Node, TreeFault>
     ensures { Gives (λ node. is_shown_in report node ≡ true) result }
 {
-    let mut shown = BTreeSet::new(alloc);
-    find_shown(&root, report, &mut shown)?;
+    let shown = shown_messages(alloc, &root, report)?;
     match root {
         Node::Element {
             tag,
@@ -53,8 +51,17 @@ pub(crate) fn filter(alloc: Global, root: Node, report: Threshold) -> Result<Nod
     }
 }
 
+/// The numbers of the messages that are at or above the report level, in rising order.
+fn shown_messages(alloc: Global, root: &Node, report: Threshold) -> Result<Vec<u64>, TreeFault> {
+    let mut shown = Vec::new(alloc);
+    find_shown(root, report, &mut shown)?;
+    // They mostly rise as they are found.
+    shown.sort()?;
+    Ok(shown)
+}
+
 /// Gathers the numbers of the messages that are at or above the report level.
-fn find_shown(node: &Node, report: Threshold, shown: &mut BTreeSet<u64>) -> Result<(), TreeFault> {
+fn find_shown(node: &Node, report: Threshold, shown: &mut Vec<u64>) -> Result<(), TreeFault> {
     if let Node::Element {
         tag,
         attrs,
@@ -64,7 +71,7 @@ fn find_shown(node: &Node, report: Threshold, shown: &mut BTreeSet<u64>) -> Resu
     {
         if matches!(tag, Tag::SystemMessage) && reaches(level_number(attrs), report) {
             if let Some(message) = number(attrs, Key::Message) {
-                shown.insert(message)?;
+                shown.push(message)?;
             }
         }
         for child in children.as_slice() {
@@ -83,13 +90,13 @@ enum Fate {
 }
 
 /// What becomes of an element of a kind with these attributes.
-fn fate_of(tag: Tag, attrs: &Attrs, report: Threshold, shown: &BTreeSet<u64>) -> Fate
+fn fate_of(tag: Tag, attrs: &Attrs, report: Threshold, shown: &[u64]) -> Fate
     ensures { is_gone result ≡ is_below report tag attrs.now }
 {
     match tag {
         Tag::SystemMessage if !reaches(level_number(attrs), report) => Fate::Vanishes,
         Tag::Problematic => match number(attrs, Key::Message) {
-            Some(message) if shown.contains(&message) => Fate::Stays,
+            Some(message) if shown.binary_search(&message).is_ok() => Fate::Stays,
             _ => Fate::BecomesText,
         },
         _ => Fate::Stays,
@@ -97,7 +104,7 @@ fn fate_of(tag: Tag, attrs: &Attrs, report: Threshold, shown: &BTreeSet<u64>) ->
 }
 
 /// Whether a node stays.
-fn stays(node: &Node, report: Threshold, shown: &BTreeSet<u64>) -> bool
+fn stays(node: &Node, report: Threshold, shown: &[u64]) -> bool
     ensures { IsTrue result → may_stay report node.now ≡ true }
 {
     match node {
@@ -110,7 +117,7 @@ fn stays(node: &Node, report: Threshold, shown: &BTreeSet<u64>) -> bool
 }
 
 /// Whether all nodes stay.
-fn all_stay(nodes: &[Node], report: Threshold, shown: &BTreeSet<u64>) -> bool
+fn all_stay(nodes: &[Node], report: Threshold, shown: &[u64]) -> bool
     ensures { IsTrue result → list_all (may_stay report) nodes.now ≡ true }
 {
     for node in nodes {
@@ -126,7 +133,7 @@ fn filter_in(
     alloc: Global,
     nodes: &mut Children,
     report: Threshold,
-    shown: &BTreeSet<u64>,
+    shown: &[u64],
 ) -> Result<(), TreeFault>
     ensures { Gives (λ _. are_shown report nodes.new ≡ true) result }
 {
@@ -156,7 +163,7 @@ fn filtered(
     alloc: Global,
     nodes: Children,
     report: Threshold,
-    shown: &BTreeSet<u64>,
+    shown: &[u64],
 ) -> Result<Children, TreeFault>
     ensures { Gives (λ nodes. are_shown report nodes ≡ true) result }
 {

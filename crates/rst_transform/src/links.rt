@@ -129,7 +129,7 @@ fn first_around(
     linked: &[Linked<'_>],
     outcomes: &[Outcome],
 ) -> Result<Vec<Option<usize>>, TreeFault> {
-    let mut around: Vec<Option<usize>> = Vec::new(alloc);
+    let mut around: Vec<Option<usize>> = Vec::with_capacity(alloc, linked.len())?;
     for element in linked {
         let first = match element.outer {
             Some(outer) => match (around.get(outer), outcomes.get(outer)) {
@@ -161,49 +161,43 @@ fn still_stands(report: usize, around: Option<usize>) -> bool {
     }
 }
 
-/// The places of the elements that become problematics, report by report, under each in preorder.
+/// The elements that become problematics, each by its report and its place: report by report, under each in preorder.
 fn turns(
     alloc: Global,
     reports: usize,
     outcomes: &[Outcome],
     around: &[Option<usize>],
-) -> Result<Vec<Vec<usize>>, TreeFault> {
+) -> Result<Vec<(usize, usize)>, TreeFault> {
     let mut turns = Vec::new(alloc);
-    for _ in 0..reports {
-        turns.push(Vec::new(alloc))?;
-    }
     for (place, (outcome, first)) in outcomes.iter().zip(around).enumerate() {
         if let Outcome::Fails(report) = outcome {
-            if *report < turns.len() && still_stands(*report, *first) {
-                turns[*report].push(place)?;
+            if *report < reports && still_stands(*report, *first) {
+                turns.push((*report, place))?;
             }
         }
     }
+    // Mostly they are found in this order.
+    turns.sort()?;
     Ok(turns)
 }
 
-/// The problematic of each element that becomes one at its turn.
-fn problematics(
+/// Lets each element at its turn become its problematic.
+fn take_turns(
     alloc: Global,
     work: &mut Work,
     linked: &[Linked<'_>],
-    turns: &[Vec<usize>],
-) -> Result<Vec<Option<Node>>, TreeFault> {
-    let mut made: Vec<Option<Node>> = Vec::new(alloc);
-    for _ in linked {
-        made.push(None)?;
-    }
-    for (report, places) in turns.iter().enumerate() {
-        for place in places {
-            if *place < linked.len() && *place < made.len() {
-                let element = linked[*place].element;
-                let source = text_said(element, Key::Rawsource).unwrap_or("");
-                let node = work.problematic(alloc, report, source, line_of(element))?;
-                made[*place] = Some(node);
-            }
+    turns: &[(usize, usize)],
+    changes: &mut Vec<Change>,
+) -> Result<(), TreeFault> {
+    for (report, place) in turns {
+        if *place < linked.len() && *place < changes.len() {
+            let element = linked[*place].element;
+            let source = text_said(element, Key::Rawsource).unwrap_or("");
+            let node = work.problematic(alloc, *report, source, line_of(element))?;
+            changes[*place] = Change::Becomes(node);
         }
     }
-    Ok(made)
+    Ok(())
 }
 
 /// The outcomes of linked elements settled: each that is still met in preorder, with its problematic if it becomes one.
@@ -223,23 +217,41 @@ pub(crate) fn settled(
         outcomes.as_slice(),
         around.as_slice(),
     )?;
-    let made = problematics(alloc, work, linked, turns.as_slice())?;
-    let mut left = VecDeque::new(alloc);
-    for ((outcome, first), problematic) in outcomes.into_iter().zip(around).zip(made) {
-        if first.is_none() {
-            left.push_back(changed(outcome, problematic))?;
-        }
-    }
+    let mut changes = before_turns(alloc, outcomes)?;
+    take_turns(alloc, work, linked, turns.as_slice(), &mut changes)?;
+    let left = met(alloc, changes, around)?;
     Ok(Changes { left })
 }
 
-/// The change of an element with its problematic, if it has become one.
-fn changed(outcome: Outcome, problematic: Option<Node>) -> Change {
-    match (outcome, problematic) {
-        (_, Some(node)) => Change::Becomes(node),
-        (Outcome::Stays(addition), None) => Change::Stays(addition),
-        (Outcome::Fails(_), None) => Change::Stays(Addition::none()),
+/// The changes of elements none of which has become a problematic yet.
+fn before_turns(alloc: Global, outcomes: Vec<Outcome>) -> Result<Vec<Change>, TreeFault> {
+    let mut changes = Vec::with_capacity(alloc, outcomes.len())?;
+    for outcome in outcomes {
+        let addition = match outcome {
+            Outcome::Stays(addition) => addition,
+            Outcome::Fails(_) => Addition::none(),
+        };
+        changes.push(Change::Stays(addition))?;
     }
+    Ok(changes)
+}
+
+/// The changes of the elements that are met in the end.
+fn met(
+    alloc: Global,
+    changes: Vec<Change>,
+    around: Vec<Option<usize>>,
+) -> Result<VecDeque<Change>, TreeFault> {
+    if around.iter().all(|first| first.is_none()) {
+        return Ok(VecDeque::from_vec(changes));
+    }
+    let mut left = VecDeque::new(alloc);
+    for (change, first) in changes.into_iter().zip(around) {
+        if first.is_none() {
+            left.push_back(change)?;
+        }
+    }
+    Ok(left)
 }
 
 /// The changes of the linked elements of a tree, in the order in which they are met, which contracts see as the list of

@@ -125,11 +125,11 @@ fn note_of(
         _ => Level::Severe,
     };
     let text = match children.get(0) {
-        Some(paragraph) => paragraph.text_of(alloc)?,
+        Some(paragraph) => words_of(alloc, paragraph)?,
         None => Text::from_str(alloc, "")?,
     };
     let block = match children.get(1) {
-        Some(block) => Some(block.text_of(alloc)?),
+        Some(block) => Some(words_of(alloc, block)?),
         None => None,
     };
     Ok(Note {
@@ -138,4 +138,16 @@ fn note_of(
         text,
         block,
     })
+}
+
+/// The texts in an element, joined; mostly there is one.
+fn words_of(alloc: Global, element: &Node) -> Result<Text, TreeFault> {
+    if let Node::Element { children, .. } = element {
+        if children.len() == 1 {
+            if let Some(Node::Text(text)) = children.get(0) {
+                return text.copy();
+            }
+        }
+    }
+    element.text_of(alloc)
 }

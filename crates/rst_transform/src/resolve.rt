@@ -193,7 +193,7 @@ fn meanings(
         holders: Holders::of(alloc, linked, work.serials)?,
         numbers: numbers(alloc, linked)?,
     };
-    let mut meanings = Vec::new(alloc);
+    let mut meanings = Vec::with_capacity(alloc, linked.len())?;
     for one in linked {
         match reference_name(one.element) {
             Some(name) => {
@@ -213,7 +213,7 @@ fn notes_meant(
     meanings: &[Option<Meaning>],
     found: &[Option<usize>],
 ) -> Result<Vec<Option<usize>>, TreeFault> {
-    let mut notes = Vec::new(alloc);
+    let mut notes = Vec::with_capacity(alloc, linked.len())?;
     for ((one, meaning), found) in linked.iter().zip(meanings).zip(found) {
         match meaning {
             Some(Meaning::Leads { note, .. }) if is_note_reference(one.element) => {
@@ -232,8 +232,8 @@ fn outcomes(
     linked: &[Linked<'_>],
     meanings: Vec<Option<Meaning>>,
 ) -> Result<Vec<Outcome>, TreeFault> {
-    let mut outcomes = Vec::new(alloc);
-    let mut ended: Vec<bool> = Vec::new(alloc);
+    let mut outcomes = Vec::with_capacity(alloc, linked.len())?;
+    let mut ended: Vec<bool> = Vec::with_capacity(alloc, linked.len())?;
     for (one, meaning) in linked.iter().zip(meanings) {
         let gone = match one.outer {
             Some(outer) => outer < ended.len() && ended[outer],
@@ -290,9 +290,9 @@ fn with_backrefs(
     alloc: Global,
     linked: &[Linked<'_>],
     notes: &[Option<usize>],
-    outcomes: Vec<Outcome>,
+    mut outcomes: Vec<Outcome>,
 ) -> Result<Vec<Outcome>, TreeFault> {
-    let mut backrefs = Vec::new(alloc);
+    let mut backrefs = Vec::with_capacity(alloc, linked.len())?;
     for _ in linked {
         backrefs.push(Texts::new(alloc))?;
     }
@@ -303,16 +303,13 @@ fn with_backrefs(
             }
         }
     }
-    let mut all = Vec::new(alloc);
-    for (outcome, ids) in outcomes.into_iter().zip(backrefs) {
-        if ids.as_slice().is_empty() {
-            all.push(outcome)?;
-        } else {
-            all.push(Outcome::says(Attr {
+    for (place, ids) in backrefs.into_iter().enumerate() {
+        if place < outcomes.len() && !ids.as_slice().is_empty() {
+            outcomes[place] = Outcome::says(Attr {
                 key: Key::Backrefs,
                 value: Value::List(ids),
-            }))?;
+            });
         }
     }
-    Ok(all)
+    Ok(outcomes)
 }

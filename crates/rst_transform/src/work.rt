@@ -60,6 +60,7 @@ impl Report {
     fn add_references(&self, alloc: Global, attrs: &mut Attrs) -> Result<(), TreeFault>
         ensures { Gives (λ _. attrs.new ≡ with_references self.now attrs.old) result }
     {
+        attrs.reserve(3)?;
         attrs.set(Key::Message, Value::Number(self.number))?;
         attrs.set(Key::Backrefs, Value::List(self.backrefs.copy(alloc)?))?;
         if let Some(id) = &self.id {
@@ -71,10 +72,10 @@ impl Report {
     /// Adds a problematic by its id, and gives the message's own, which it gets with the first.
     fn refer_back(&mut self, alloc: Global, ids: &mut Ids, id: &Text) -> Result<Text, TreeFault> {
         self.backrefs.push(id.copy()?)?;
-        let own = match &self.id {
-            Some(own) => own.copy()?,
-            None => ids.give(alloc, Tag::SystemMessage, "")?,
-        };
+        if let Some(own) = &self.id {
+            return own.copy();
+        }
+        let own = ids.give(alloc, Tag::SystemMessage, "")?;
         self.id = Some(own.copy()?);
         Ok(own)
     }
@@ -84,9 +85,7 @@ impl Report {
 fn lone(alloc: Global, text: &Text) -> Result<Texts, TreeFault>
     ensures { Gives (λ texts. texts ≡ text.now ∷ []) result }
 {
-    let mut texts = Texts::new(alloc);
-    texts.push(text.copy()?)?;
-    Ok(texts)
+    Texts::lone(alloc, text.copy()?)
 }
 
 /// The document between two transforms, with what registration left, and the messages of the transforms so far.
@@ -175,7 +174,7 @@ impl Work {
         line: usize,
     ) -> Result<Node, TreeFault> {
         let id = self.ids.give(alloc, Tag::Problematic, "")?;
-        let mut attrs = Attrs::new(alloc);
+        let mut attrs = Attrs::with_room(alloc, 3)?;
         attrs.set(Key::Ids, Value::List(lone(alloc, &id)?))?;
         if report < self.reports.len() {
             let report = &mut self.reports[report];
@@ -183,12 +182,10 @@ impl Work {
             attrs.set(Key::Message, Value::Number(report.number))?;
             attrs.set(Key::Refid, Value::Text(refid))?;
         }
-        let mut children = Children::new(alloc);
-        children.push(Node::text(alloc, source)?)?;
         Ok(Node::Element {
             tag: Tag::Problematic,
             attrs,
-            children,
+            children: Children::lone(alloc, Node::text(alloc, source)?)?,
             line,
         })
     }

@@ -144,6 +144,14 @@ impl Attrs {
         Ok(())
     }
 
+    /// Makes room for so many attributes more, so that setting them doesn't make the list grow.
+    pub fn reserve(&mut self, more: usize) -> Result<(), TreeFault>
+        ensures { self.new ≡ self.old }
+    {
+        self.list.reserve_exact(more)?;
+        Ok(())
+    }
+
     /// Takes out the attribute of a name, if there is one, and gives what it said.
     pub fn remove(&mut self, key: Key) -> Option<Value>
         ensures value { result ≡ value_of key self.old }

@@ -30,12 +30,13 @@ impl Note {
     }
 }
 
-/// The level, the line and the level's name.
+/// The level, the line and the level's name, in a list with room for four more: the number of the message, the number that
+/// registration gives, its id and the ids of its problematics.
 fn note_attrs(alloc: Global, level: Level, line: usize) -> Result<Attrs, TreeFault>
     ensures { Gives (λ attrs. attrs ≡ note_attrs level line) result }
 {
     let name = Text::from_str(alloc, level.name())?;
-    let mut attrs = Vec::new(alloc);
+    let mut attrs = Vec::with_capacity(alloc, 7)?;
     attrs.push(Attr {
         key: Key::Level,
         value: Value::Number(u64::from(level.number())),
@@ -60,11 +61,12 @@ fn note_nodes(
 ) -> Result<Children, TreeFault>
     ensures { Gives (λ nodes. nodes ≡ forest_of (note_nodes text block line)) result }
 {
-    let mut nodes = Vec::new(alloc);
-    nodes.push(holding(alloc, Tag::Paragraph, Attrs::new(alloc), text, line)?)?;
+    let paragraph = holding(alloc, Tag::Paragraph, Attrs::new(alloc), text, line)?;
     match block {
-        None => Ok(Children::of(nodes)),
+        None => Children::lone(alloc, paragraph),
         Some(shown) => {
+            let mut nodes = Vec::with_capacity(alloc, 2)?;
+            nodes.push(paragraph)?;
             nodes.push(literal_of(alloc, shown, line)?)?;
             Ok(Children::of(nodes))
         }
@@ -81,12 +83,10 @@ fn holding(
 ) -> Result<Node, TreeFault>
     ensures { Gives (λ node. node ≡ holding tag attrs text line) result }
 {
-    let mut nodes = Vec::new(alloc);
-    nodes.push(Node::Text(text))?;
     Ok(Node::Element {
         tag,
         attrs,
-        children: Children::of(nodes),
+        children: Children::lone(alloc, Node::Text(text))?,
         line,
     })
 }
@@ -96,10 +96,6 @@ fn literal_of(alloc: Global, text: Text, line: usize) -> Result<Node, TreeFault>
     ensures { Gives (λ node. node ≡ literal_of text line) result }
 {
     let preserve = Text::from_str(alloc, "preserve")?;
-    let mut attrs = Vec::new(alloc);
-    attrs.push(Attr {
-        key: Key::XmlSpace,
-        value: Value::Text(preserve),
-    })?;
-    holding(alloc, Tag::LiteralBlock, Attrs::of(attrs), text, line)
+    let attrs = Attrs::lone(alloc, Key::XmlSpace, Value::Text(preserve))?;
+    holding(alloc, Tag::LiteralBlock, attrs, text, line)
 }

@@ -12,6 +12,7 @@ use crate::node::Node;
 use crate::note::Note;
 use crate::tag::Tag;
 use crate::text::Text;
+use memchr::memchr;
 use rst_text::Counted;
 use std::io::Write;
 
@@ -175,12 +176,7 @@ fn put_line<W: Write>(out: &mut Counted<W>, done: &mut usize, level: usize, line
 fn line_len(text: &[u8]) -> usize
     ensures { result ≡ line_len text.now }
 {
-    for (i, byte) in text.iter().enumerate() {
-        if *byte == b'\n' {
-            return i;
-        }
-    }
-    text.len()
+    memchr(b'\n', text).unwrap_or(text.len())
 }
 
 /// The first line of a text, and what stands behind its end.

@@ -7,7 +7,7 @@ use Rattle.rst_options.proofs.options.Goals as goal
 use Rattle.rst_options.proofs.options.Goals.{in-Some+in_ok-from_str-in-Some, in-None}
 
 pub returns-in_err-matches : goal.returns-in_err-matches
-returns-in_err-matches c = chooses-misused _ c.in_err-matches.field-0.0 c.from_residual.result c.from_residual.ensures.1 c.in_err-matches.ensures
+returns-in_err-matches c = chooses-misused _ _ c.from_residual.result c.from_residual.ensures.1 c.in_err-matches.ensures
 
 pub returns-then-is_dashed : goal.returns-then-is_dashed
 returns-then-is_dashed c =

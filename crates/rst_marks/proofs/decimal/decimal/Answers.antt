@@ -1,5 +1,6 @@
-use Rattle.std.proofs.Common.{arith, rules}
-use Rattle.rst_marks.proofs.Steps.{decimal_more, decimal_none, decimal_over, below_more}
+use Rattle.std.proofs.Common.{◌∙◌, arith, rules}
+use Rattle.std.specs.Str.{chars}
+use Rattle.rst_marks.proofs.Steps.{decimal_is, decimal_more, decimal_none, decimal_over, below_more}
 use Rattle.rst_marks.proofs.decimal.decimal.Goals as goal
 
 pub loop-k-preserved : goal.loop-k-preserved
@@ -12,7 +13,7 @@ loop-k-preserved c =
     }
 
 pub returns-after-loop-k : goal.returns-after-loop-k
-returns-after-loop-k c = decimal_over _ _ _ _ (omega arith) c.loop-k.invariant.value
+returns-after-loop-k c = decimal_over _ _ _ _ (omega arith) c.loop-k.invariant.value ∙ decimal_is c.args.n (chars c.args.text.now)
 
 pub returns-in_default : goal.returns-in_default
-returns-in_default c = decimal_none _ _ _ _ (cc) c.loop-k.invariant.value
+returns-in_default c = decimal_none _ _ _ _ (cc) c.loop-k.invariant.value ∙ decimal_is c.args.n (chars c.args.text.now)

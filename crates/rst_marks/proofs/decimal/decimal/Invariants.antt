@@ -2,7 +2,7 @@ use Rattle.std.proofs.Common.{◌≡◌, ◌-◌, ◌<◌, ◌^◌}
 use denote.Shadow.{shadow}
 use denote.Text.{Utf8}
 use Rattle.std.specs.Str.{chars}
-use Rattle.rst_marks.specs.Decimal.{decimal_from}
+use Rattle.rst_marks.proofs.Steps.{decimal_from}
 use Rattle.rst_marks.proofs.decimal.decimal.Given as goal
 
 abbrev pub invariant-loop-k : goal.invariant-loop-k

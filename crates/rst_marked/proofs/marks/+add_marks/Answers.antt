@@ -1,0 +1,21 @@
+use Rattle.std.proofs.Common.{rules, ◌+◌, ◌≤◌}
+use Rattle.rst_tree.specs.Nodes.{node_height}
+use Rattle.rst_tree.proofs.PrintedParts.{child_height}
+use Rattle.rst_marked.proofs.Marking.{paths_below, paths_end}
+use Rattle.rst_marked.specs.Registered.{is_registered}
+use Rattle.rst_marked.proofs.marks.+add_marks.Goals as goal
+
+pub add_marks-requires : goal.add_marks-requires
+add_marks-requires t c =
+    let h : node_height c.index-nodes-place.result + 1 ≤ node_height c.args.node.now =
+    child_height c.args.node.now c.index-nodes-place.result c.in-Element.tag c.in-Element.attrs c.in-Element.children c.in-Element.line c.as_slice-nodes.result.now c.loop-place.place
+    c.in-Element.is c.as_slice-nodes.ensures c.index-nodes-place.is c.loop-place-test.true in
+    search (rules, h)
+
+pub loop-place-preserved : goal.loop-place-preserved
+loop-place-preserved t c =
+    paths_below is_registered c.as_slice-nodes.result.now c.loop-place.place c.index-nodes-place.result _ c.loop-place.marks.items c.add_marks.new.marks.items _ c.len-from.result
+    c.loop-place-test.true c.index-nodes-place.is c.loop-place.invariant (search rules) c.in_ok-add_marks.ensures c.in_ok-begin_above.ensures
+
+pub returns-after-loop-place : goal.returns-after-loop-place
+returns-after-loop-place t c = paths_end is_registered c.args.node.now _ _ _ _ c.as_slice-nodes.result.now c.loop-place.place c.args.marks.now.items _ _ c.in-Element.is c.as_slice-nodes.ensures c.loop-place-test.false c.in_ok-add_own.ensures c.loop-place.invariant

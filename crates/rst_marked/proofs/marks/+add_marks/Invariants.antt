@@ -1,0 +1,12 @@
+use Rattle.std.proofs.Common.{◌≡◌, ◌++◌, take}
+use Rattle.std.specs.Prelude.{map}
+use Rattle.rst_tree.specs.Nodes.{node_height, forest_of}
+use Rattle.rst_marked.specs.Marks.{path_of, places}
+use Rattle.rst_marked.specs.Registered.{is_registered}
+use Rattle.rst_marked.proofs.marks.+add_marks.Given as goal
+
+abbrev pub decreases-add_marks : goal.decreases-add_marks
+decreases-add_marks l = node_height l.node.now
+
+abbrev pub invariant-loop-place : goal.invariant-loop-place
+invariant-loop-place l = l.marks.items ≡ l.initial.marks.items ++ map path_of (places is_registered (forest_of (take l.place l.nodes)))

@@ -1,0 +1,141 @@
+-- Between calm characters nothing begins.
+use Rattle.std.proofs.Common.{◌≡◌, ⊎_elim, ◌⊎◌, inl, inr, ℕ, zero, suc, ◌+◌, ◌-◌, ◌<◌, ◌≤◌, Bool, true, false, not, ◌&&◌, ◌||◌, ◌==◌, None, length, get_or, true≢false, refl, sym, ap, ◌∙◌, subst, arith, map}
+use Rattle.std.specs.Char.{is_ascii_alphanumeric}
+use Rattle.std.proofs.lemmas.Bool.{eqb-true, cases_lt}
+use Rattle.std.proofs.lemmas.Bool.Decides.{nat_tests}
+use Rattle.std.proofs.lemmas.Simd.{none_from_empty_mask}
+use lib.Count.{count_trailing_zeros}
+use lib.Lanes.{mask_l, chunk}
+use Rattle.rst_text.proofs.LaneLemmas.{lowest_passes}
+use Rattle.rst_text.proofs.PlacesLemmas.{cases_bool}
+use Rattle.rst_pieces.specs.Characters.{Text}
+use Rattle.rst_pieces.specs.Escapes.{is_escaped}
+use Rattle.rst_pieces.specs.Words.{IsWord, goes_on}
+use Rattle.rst_pieces.specs.Calm.{is_calm, is_other, AreCalm, IsCalm}
+use Rattle.rst_pieces.specs.Pieces.{piece_if, HasNoStart}
+use Rattle.rst_pieces.proofs.EscapeLemmas.{other-bare, is_escaped-bare}
+use Rattle.rst_pieces.proofs.WordLemmas.{differs, lacks-by, no-piece-lacking, goes_on-space, goes_on-feed, goes_on-comma}
+
+-- ---- sixteen of them at once
+
+true_of : (a : Bool) → not a ≡ false → a ≡ true
+true_of true h = refl
+true_of false h = absurd (true≢false h)
+
+calm-more : (t : Text) (place at to : ℕ) → AreCalm t place at → ((k : ℕ) → at ≤ k → k < to → is_other (get_or t k 0) ≡ false) → AreCalm t place to
+calm-more t place at to before none k low less = ⊎_elim (before k low) (λ past. true_of (is_calm (get_or t k 0)) (none k past less)) (cases_lt k at)
+
+pub none-other : (t : Text) (place at n mask : ℕ) → at + n ≤ length t → AreCalm t place at → mask ≡ mask_l (map is_other (chunk at n t)) → mask ≡ 0 → AreCalm t place (at + n)
+none-other t place at n mask room before is none = calm-more t place at (at + n) before (none_from_empty_mask is_other t at n 0 room (sym is ∙ none))
+
+pub before-other : (t : Text) (place at n mask : ℕ) → at + n ≤ length t → n ≤ 64 → AreCalm t place at → mask ≡ mask_l (map is_other (chunk at n t)) → 0 < mask
+    → AreCalm t place (at + count_trailing_zeros 64 mask) × (count_trailing_zeros 64 mask < n)
+before-other t place at n mask room short before is some =
+    let first = lowest_passes is_other t at n mask room short is some in
+    (calm-more t place at (at + count_trailing_zeros 64 mask) before first.before, first.inside)
+
+pub calm-next : (t : Text) (place at : ℕ) → AreCalm t place at → is_calm (get_or t at 0) ≡ true → AreCalm t place (at + 1)
+calm-next t place at before here k low less = ⊎_elim (before k low) (λ past. let same : k ≡ at = omega arith in subst (λ n. is_calm (get_or t n 0) ≡ true) (sym same) here) (cases_lt k at)
+
+-- ---- words among them
+
+-- one of the calm characters that aren't in words
+space_of : (c : ℕ) → is_calm c ≡ true → is_ascii_alphanumeric c ≡ false → (c ≡ 32) ⊎ ((c ≡ 10) ⊎ (c ≡ 44))
+space_of c h k = go (c == 32) (c == 10) (c == 44) refl refl refl (rest h)
+  where
+    rest : is_calm c ≡ true → (c == 32 || (c == 10 || c == 44)) ≡ true
+    rest e = sym (ap (λ b. b || (c == 32 || (c == 10 || c == 44))) k) ∙ e
+
+    go : (a b d : Bool) → (c == 32) ≡ a → (c == 10) ≡ b → (c == 44) ≡ d → (a || (b || d)) ≡ true → (c ≡ 32) ⊎ ((c ≡ 10) ⊎ (c ≡ 44))
+    go true b d p q r e = inl (eqb-true c 32 p)
+    go false true d p q r e = inr (inl (eqb-true c 10 q))
+    go false false true p q r e = inr (inr (eqb-true c 44 r))
+    go false false false p q r e = absurd (true≢false (sym e))
+
+-- nothing goes on with a word there
+goes_on-calm : (t : Text) (i : ℕ) → is_calm (get_or t i 0) ≡ true → is_ascii_alphanumeric (get_or t i 0) ≡ false → goes_on t i ≡ false
+goes_on-calm t i h k = ⊎_elim (λ space. sym (goes_on-space t i space)) (λ rest. ⊎_elim (λ feed. sym (goes_on-feed t i feed)) (λ comma. sym (goes_on-comma t i comma)) rest) (space_of (get_or t i 0) h k)
+
+longer : (t : Text) (i e : ℕ) → is_ascii_alphanumeric (get_or t i 0) ≡ true → IsWord t (i + 1) e → IsWord t i e
+longer t i e here run = record {
+  above = let above = run.above in omega arith;
+  within = run.within;
+  letters = λ k low less. ⊎_elim
+      (λ first. let same : k ≡ i = omega arith in subst (λ n. is_ascii_alphanumeric (get_or t n 0) ≡ true) (sym same) here)
+      (λ past. run.letters k past less)
+      (cases_lt k (i + 1));
+  stops = run.stops;
+}
+
+empty : (t : Text) (i : ℕ) → i ≤ length t → is_ascii_alphanumeric (get_or t i 0) ≡ false → IsWord t i i
+empty t i within here = record { above = omega arith; within = within; letters = λ k low less. absurd (omega arith); stops = λ inside. here }
+
+-- the word that begins at a place ends no later than where no letter or digit stands
+word-within : (t : Text) (n i last : ℕ) → i + n ≡ last → last < length t → is_ascii_alphanumeric (get_or t last 0) ≡ false → (e : ℕ) × IsWord t i e × (e ≤ last)
+word-within t zero i last order within stop =
+    let same : i ≡ last = omega arith in
+    (i, empty t i (omega arith) (subst (λ k. is_ascii_alphanumeric (get_or t k 0) ≡ false) (sym same) stop), omega arith)
+word-within t (suc n) i last order within stop = ⊎_elim
+    (λ letter. let rest = word-within t n (i + 1) last (omega arith) within stop in (rest.0, longer t i rest.0 letter rest.1, rest.2))
+    (λ other. (i, empty t i (omega arith) other, omega arith))
+    (cases_bool (is_ascii_alphanumeric (get_or t i 0)))
+
+none-calm : (t : Text) (from to i : ℕ) (escaped : Bool) → IsCalm t from to → from ≤ i → i < to → piece_if t i escaped ≡ None
+none-calm t from to i escaped run low less =
+    let within : to < length t = run.within (omega arith) in
+    let word = word-within t (to - 1 - i) i (to - 1) (omega arith) (omega arith) (run.edge (omega arith)) in
+    let short = word.2 in
+    let above = word.1.above in
+    let calm_end = run.calm word.0 (omega arith) (omega arith) in
+    no-piece-lacking t i word.0 escaped word.1 (lacks-by is_calm t i (run.calm i low less) refl refl refl refl refl refl) (goes_on-calm t word.0 calm_end (word.1.stops (omega arith)))
+
+HasNoStart-calm : (t : Text) (from place start : ℕ) → HasNoStart t from from place → IsCalm t place start → HasNoStart t from from start
+HasNoStart-calm t from place start none run i low less = ⊎_elim (none i low) (λ past. none-calm t place start i _ run past less) (cases_lt i place)
+
+and-true : (b : Bool) → (b && true) ≡ b
+and-true true = refl
+and-true false = refl
+
+and-false : (b : Bool) → (b && false) ≡ false
+and-false true = refl
+and-false false = refl
+
+-- a calm character escapes nothing
+escaped-calm : (t : Text) (from place start : ℕ) (escaped : Bool) → from ≤ place → IsCalm t place start → escaped ≡ is_escaped t from place → (escaped && start == place) ≡ is_escaped t from start
+escaped-calm t from place start escaped order run known = ⊎_elim
+    (λ same. let e : start ≡ place = eqb-true start place same in rw same (and-true escaped ∙ known ∙ ap (is_escaped t from) (sym e)))
+    (λ other.
+    let above = run.above in
+    let less : place < start = behind above other in
+    let back : start - 1 + 1 ≡ start = omega arith in
+    let bare = other-bare t (start - 1) (differs is_calm (get_or t (start - 1) 0) 92 (run.calm (start - 1) (omega arith) (omega arith)) refl) in
+    rw other (and-false escaped ∙ sym (ap (is_escaped t from) (sym back) ∙ is_escaped-bare t from (start - 1) (omega arith) bare)))
+    (cases_bool (start == place))
+  where
+    behind : place ≤ start → (start == place) ≡ false → place < start
+    behind above differ = grind (arith, nat_tests)
+
+-- what is known where the step ends
+pub record Stepped (t : Text) (from place start : ℕ) (after : Bool) : Type 0 where
+  pub above : place ≤ start
+  pub below : start < length t
+  pub none : HasNoStart t from from start
+  pub escaped : after ≡ is_escaped t from start
+
+-- the bytes of ASCII are the text; of another text there are none, and then no step is done
+calm-of : (t bytes : Text) (place start : ℕ) → (0 < length bytes → bytes ≡ t) → IsCalm bytes place start → IsCalm t place start
+calm-of t bytes place start same run = ⊎_elim
+    (λ some. let within = run.within some in subst (λ (x : Text). IsCalm x place start) (same (omega arith)) run)
+    (λ none. record { above = run.above; within = λ some. absurd (omega arith); calm = λ k low less. absurd (omega arith); edge = λ some. absurd (omega arith) })
+    (cases_lt place start)
+
+pub stepped : (t bytes : Text) (from place start : ℕ) (escaped after : Bool) → from ≤ place → place < length t → (0 < length bytes → bytes ≡ t) → HasNoStart t from from place → escaped ≡ is_escaped t from place
+    → IsCalm bytes place start → after ≡ (escaped && start == place) → Stepped t from place start after
+stepped t bytes from place start escaped after order inside same none known run is =
+    let calm = calm-of t bytes place start same run in
+    record {
+      above = calm.above;
+      below = ⊎_elim calm.within (λ none. let above = calm.above in omega arith) (cases_lt place start);
+      none = HasNoStart-calm t from place start none calm;
+      escaped = is ∙ escaped-calm t from place start escaped order calm known;
+    }
