@@ -14,7 +14,7 @@ use rst_markup::{below_text, item_enumerator, item_option};
 use rst_text::{Looks, View};
 
 /// What begins at a line: its kind, with the mark by which it is of that kind.
-#[derive(Clone, Copy, Debug, PartialEq, Eq)]
+#[derive(Clone, Copy)]
 pub(crate) enum Begun {
     Blank,
     Quote,

@@ -104,7 +104,7 @@ pub(crate) fn directive_block(
 }
 
 /// A right directive, which ends at `end`.
-#[derive(Debug, Drop)]
+#[derive(Drop)]
 struct Found {
     name: Name,
     argument: Argument,

@@ -7,7 +7,7 @@ use std::alloc::Global;
 use std::vec::IntoIter;
 
 /// A figure whose content is read.
-#[derive(Debug, Drop)]
+#[derive(Drop)]
 pub(crate) struct OpenFigure {
     /// The figure with its image.
     pub figure: Node,

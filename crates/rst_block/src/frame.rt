@@ -18,7 +18,7 @@ use std::alloc::Global;
 use std::default::MadeWith;
 
 /// A block that waits for one inside it.
-#[derive(Debug, Drop)]
+#[derive(Drop)]
 pub(crate) struct Frame {
     /// Where its lines stand in their text.
     pub portion: Portion,

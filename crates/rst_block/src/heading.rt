@@ -9,14 +9,14 @@ use rst_tree::{Node, Tag};
 use std::alloc::Global;
 
 /// The style of a title: its character, and whether it has an overline.
-#[derive(Clone, Copy, Debug, PartialEq, Eq)]
+#[derive(Clone, Copy, PartialEq, Eq)]
 pub(crate) struct Style {
     pub character: char,
     pub overlined: bool,
 }
 
 /// A title where it stands in the document.
-#[derive(Debug, Drop)]
+#[derive(Drop)]
 pub(crate) struct Heading {
     /// How many nodes of the document stand before it.
     pub before: usize,

@@ -13,7 +13,7 @@ use rst_tree::Node;
 use std::alloc::Global;
 
 /// What was read of a block so far.
-#[derive(Debug, Drop)]
+#[derive(Drop)]
 pub(crate) struct Level {
     /// How many blocks it stands in; 0 for the document.
     pub depth: usize,

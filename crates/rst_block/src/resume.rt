@@ -18,7 +18,7 @@ use rst_tree::{Node, Tag};
 use std::alloc::Global;
 
 /// What a block waits for: the nodes of a block inside, and what becomes of them.
-#[derive(Debug, Drop)]
+#[derive(Drop)]
 pub(crate) enum Waits {
     /// They are an item of the open list.
     ListItem {

@@ -15,7 +15,7 @@ use std::alloc::Global;
 pub(crate) const DEEPEST: usize = 250;
 
 /// What an item must be to join an enumerated list.
-#[derive(Clone, Copy, Debug, PartialEq, Eq)]
+#[derive(Clone, Copy, PartialEq, Eq)]
 pub(crate) struct Sequel {
     pub format: Format,
     pub sequence: Sequence,
@@ -26,7 +26,7 @@ pub(crate) struct Sequel {
 }
 
 /// What makes items those of one list.
-#[derive(Clone, Copy, Debug, PartialEq, Eq)]
+#[derive(Clone, Copy, PartialEq, Eq)]
 pub(crate) enum ListKind {
     Bullet(char),
     Enumerated(Sequel),
@@ -36,7 +36,7 @@ pub(crate) enum ListKind {
 }
 
 /// A list that more items may join.
-#[derive(Debug, Drop)]
+#[derive(Drop)]
 pub(crate) struct OpenList {
     pub kind: ListKind,
     /// The place after the last item.
@@ -51,7 +51,7 @@ pub(crate) struct OpenList {
 }
 
 /// Neighbouring constructs that may go on.
-#[derive(Debug, Drop)]
+#[derive(Drop)]
 pub(crate) enum Run {
     None,
     /// Behind a pointer, since a block that has one moves often.

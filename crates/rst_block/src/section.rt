@@ -7,7 +7,7 @@ use rst_tree::{Level as Gravity, Node, Tag};
 use std::alloc::Global;
 
 /// A section that is open, with what stands in it so far; the outermost is the document.
-#[derive(Debug, Drop)]
+#[derive(Drop)]
 struct OpenSection {
     element: Node,
     nodes: Vec<Node>,
@@ -50,7 +50,7 @@ pub(crate) fn document(
 }
 
 /// The sections that are open, and the styles of titles in the order of their first use.
-#[derive(Debug, Drop)]
+#[derive(Drop)]
 struct Sections {
     /// The sections round the innermost one, the document first.
     outer: Vec<OpenSection>,

@@ -25,7 +25,7 @@ use rst_text::View;
 use std::alloc::Global;
 
 /// What a step leads to.
-#[derive(Debug, Drop)]
+#[derive(Drop)]
 pub(crate) enum Step {
     /// The block goes on.
     Next(Level),

@@ -21,7 +21,7 @@ use rst_tree::{Children, Level as Gravity, Node, Tag};
 use std::alloc::Global;
 
 /// A substitution definition whose replacement text is read.
-#[derive(Debug, Drop)]
+#[derive(Drop)]
 pub(crate) struct OpenReplacement {
     /// The name, white runs being one space.
     pub name: String,

@@ -13,7 +13,7 @@ use rst_tree::{Children, Level, Node};
 use std::alloc::{AllocError, Global};
 
 /// What is counted while a document is read: looks at lines, and messages that have problematics.
-#[derive(Debug, Drop)]
+#[derive(Drop)]
 pub(crate) struct Pass {
     pub looks: Looks,
     pub numbers: Numbers,

@@ -96,7 +96,7 @@ fn is_late(at: usize, block: Part) -> bool
 }
 
 /// A directive whose options and argument are right.
-#[derive(Debug, Drop)]
+#[derive(Drop)]
 struct Reading {
     name: Name,
     argument: Argument,

@@ -6,7 +6,7 @@ use super::characters::{escapes, has, spaces};
 
 /// The mark of a field at the front of a line: the place of the colon that ends the name, which begins at place 1,
 /// and how many characters the mark has with the spaces behind it.
-#[derive(Clone, Copy, Debug, PartialEq, Eq)]
+#[derive(Clone, Copy)]
 pub(crate) struct FieldMark {
     pub colon: usize,
     pub cut: usize,

@@ -9,7 +9,7 @@ use super::name::{Holds, Name, Takes};
 /// The parts of a block, by places of its lines: the argument has those before `argument`; the first part of the
 /// content those before `first`; the options those from `options` up to the first blank line; and the second part of
 /// the content those from `second` on.
-#[derive(Clone, Copy, Debug, PartialEq, Eq)]
+#[derive(Clone, Copy)]
 pub(crate) struct Layout {
     pub argument: usize,
     pub first: usize,

@@ -48,7 +48,7 @@ fn is_unit(text: &[char], percent: bool) -> bool
 }
 
 /// Where a measure is right: how many characters its number has, and the place of its unit.
-#[derive(Clone, Copy, Debug, PartialEq, Eq)]
+#[derive(Clone, Copy)]
 struct Measure {
     number: usize,
     unit: usize,

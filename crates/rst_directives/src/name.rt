@@ -26,7 +26,7 @@ pub enum Name {
 }
 
 /// What a directive takes as its argument.
-#[derive(Clone, Copy, Debug, PartialEq, Eq)]
+#[derive(Clone, Copy)]
 pub(crate) enum Takes {
     Nothing,
     Title,
@@ -35,7 +35,7 @@ pub(crate) enum Takes {
 }
 
 /// What a directive takes as its content.
-#[derive(Clone, Copy, Debug, PartialEq, Eq)]
+#[derive(Clone, Copy)]
 pub(crate) enum Holds {
     /// Some, in any case.
     Required,

@@ -20,7 +20,7 @@ pub struct Setting {
 }
 
 /// A field among the options: its name as it is written, and its lines joined by line feeds.
-#[derive(Debug, Drop)]
+#[derive(Drop)]
 pub(crate) struct Field {
     pub name: Vec<char>,
     pub value: Vec<char>,

@@ -64,7 +64,7 @@ impl From<TreeFault> for LineBlockFault {
 }
 
 /// A line with the indentation that it counts with.
-#[derive(Debug, Drop)]
+#[derive(Drop)]
 struct IndentedText {
     indent: usize,
     line: usize,

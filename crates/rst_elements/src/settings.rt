@@ -9,7 +9,7 @@ use rst_tree::{Attrs, Key, TreeFault, Value};
 use std::alloc::Global;
 
 /// An element that gets attributes from the options of its directive.
-#[derive(Clone, Copy, Debug, PartialEq, Eq)]
+#[derive(Clone, Copy)]
 pub(crate) enum Holder {
     /// An image by itself.
     Image,

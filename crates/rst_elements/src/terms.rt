@@ -182,7 +182,7 @@ fn spelled(alloc: Global, letters: &[Letter]) -> Result<Text, AllocError>
 }
 
 /// The elements that are done, and the nodes of the one that isn't.
-#[derive(Debug, Drop)]
+#[derive(Drop)]
 struct Unfinished {
     done: Vec<Node>,
     nodes: Vec<Node>,

@@ -19,7 +19,7 @@ pub struct Texted {
 }
 
 /// The nodes of a text, and its messages.
-#[derive(Debug, Drop)]
+#[derive(Drop)]
 pub(crate) struct Reading {
     pub(crate) nodes: Vec<Node>,
     pub(crate) notes: Vec<Node>,

@@ -20,7 +20,7 @@ use rst_tree::{Level, Node, Tag, Text};
 use std::alloc::Global;
 
 /// What a piece means: no node, one or two, or that it is wrong, with the message that says so.
-#[derive(Debug, Drop)]
+#[derive(Drop)]
 pub(crate) enum Meaning {
     Nothing,
     One(Node),

@@ -27,7 +27,7 @@ fn escapes(c: char, escaped: bool) -> bool
 }
 
 /// What stands before a character: whether it escapes it, and whether it is there and isn't white.
-#[derive(Clone, Copy, Debug, PartialEq, Eq)]
+#[derive(Clone, Copy)]
 struct Before {
     escaped: bool,
     dark: bool,

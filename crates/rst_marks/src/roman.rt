@@ -9,14 +9,14 @@ use super::text::begins_with;
 use rst_text::skip;
 
 /// A digit of a Roman numeral: its value and how many letters it has.
-#[derive(Clone, Copy, Debug, PartialEq, Eq)]
+#[derive(Clone, Copy)]
 pub struct RomanDigit {
     pub value: u64,
     pub len: usize,
 }
 
 /// The letters for one, five and ten of a place of a Roman numeral.
-#[derive(Clone, Copy, Debug, PartialEq, Eq)]
+#[derive(Clone, Copy)]
 pub struct RomanPlace {
     pub one: char,
     pub five: char,

@@ -5,7 +5,7 @@ use std::alloc::Global;
 use std::collections::VecDeque;
 
 /// Messages that stand behind a number of nodes.
-#[derive(Debug, Drop)]
+#[derive(Drop)]
 pub struct Due {
     /// Behind how many nodes they stand, counted from those before them.
     pub after: u64,
@@ -13,7 +13,7 @@ pub struct Due {
 }
 
 /// Messages that stand behind nodes that are still to come, in order.
-#[derive(Debug, Drop)]
+#[derive(Drop)]
 pub struct Dues {
     queue: VecDeque<Due>,
 }

@@ -47,7 +47,7 @@ impl Notices {
 }
 
 /// Where what is due behind the text of an element stands.
-#[derive(Clone, Copy, Debug, PartialEq, Eq)]
+#[derive(Clone, Copy)]
 enum Route {
     /// Behind the element.
     Behind,

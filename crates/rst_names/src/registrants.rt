@@ -9,7 +9,7 @@ use std::alloc::Global;
 use std::marker::Model;
 
 /// What registration has to know of an element.
-#[derive(Debug, Drop)]
+#[derive(Drop)]
 pub struct Registrant {
     pub tag: Tag,
     /// The name that it was written with.

@@ -11,7 +11,7 @@ use std::alloc::Global;
 use std::collections::BTreeMap;
 
 /// What registration gave an element.
-#[derive(Debug, Drop)]
+#[derive(Drop)]
 pub struct Standing {
     /// Its id; a substitution definition has none.
     pub id: Option<Text>,

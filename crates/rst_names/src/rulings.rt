@@ -9,7 +9,7 @@ use super::names::{Holder, Strength};
 use rst_tree::Level;
 
 /// Who holds the name from now on.
-#[derive(Clone, Copy, Debug, PartialEq, Eq)]
+#[derive(Clone, Copy)]
 pub enum Now {
     Old,
     New,
@@ -17,14 +17,14 @@ pub enum Now {
 }
 
 /// A message on an equal name: how grave it is, and of which strength it speaks.
-#[derive(Clone, Copy, Debug, PartialEq, Eq)]
+#[derive(Clone, Copy)]
 pub struct Complaint {
     pub level: Level,
     pub strength: Strength,
 }
 
 /// What becomes of a name, of the element that held it and of the new one.
-#[derive(Clone, Copy, Debug, PartialEq, Eq)]
+#[derive(Clone, Copy)]
 pub struct Ruling {
     pub now: Now,
     /// Whether the element that held the name keeps it as a duplicate one only.

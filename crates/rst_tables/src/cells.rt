@@ -13,7 +13,7 @@ use std::alloc::{AllocError, Global};
 use std::marker::Model;
 
 /// A line as characters.
-#[derive(Debug, Drop)]
+#[derive(Drop)]
 struct CutLine {
     number: usize,
     text: Vec<char>,

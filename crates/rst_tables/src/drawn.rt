@@ -7,7 +7,7 @@ use super::places::{Place, TableLine, mark, mark_at, width};
 use std::alloc::{AllocError, Global};
 
 /// A rectangle, by the places of its corners.
-#[derive(Clone, Copy, Debug, PartialEq, Eq)]
+#[derive(Clone, Copy)]
 pub(crate) struct Rectangle {
     pub(crate) top: usize,
     pub(crate) left: usize,

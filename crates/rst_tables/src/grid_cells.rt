@@ -16,7 +16,7 @@ use super::results::{Cell, Rows, TableResult, Widths};
 use std::alloc::{AllocError, Global};
 
 /// How many bounds stand before each row and column.
-#[derive(Debug, Drop)]
+#[derive(Drop)]
 struct Ranks {
     rows: Vec<usize>,
     columns: Vec<usize>,

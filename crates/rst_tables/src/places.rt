@@ -10,7 +10,7 @@ use std::marker::Model;
 use unicode_width::UnicodeWidthChar;
 
 /// A place of a line: the character that begins there, or the second place of one that is two columns wide.
-#[derive(Clone, Copy, Debug, PartialEq, Eq)]
+#[derive(Clone, Copy)]
 pub(crate) enum Place {
     Character(char),
     Second,
@@ -29,7 +29,7 @@ impl Place {
 }
 
 /// A line of a table: its number and its places.
-#[derive(Debug, Drop)]
+#[derive(Drop)]
 pub(crate) struct TableLine {
     number: usize,
     places: Vec<Place>,

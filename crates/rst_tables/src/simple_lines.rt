@@ -12,7 +12,7 @@ use std::alloc::{AllocError, Global};
 
 /// Where a simple table ends: before place `end`, and maybe a border at place `head` closes its head; or before place
 /// `end` with a fault.
-#[derive(Clone, Copy, Debug, PartialEq, Eq)]
+#[derive(Clone, Copy)]
 pub(crate) enum SimpleEnd {
     Ends { end: usize, head: Option<usize> },
     Fails { end: usize, detail: TableDetail },

@@ -12,7 +12,7 @@ use std::alloc::{AllocError, Global};
 
 /// The lines of a row: from place `from` of the table on, before place `to`. Its columns are those of the rule at place
 /// `rule`, the top border being at 0.
-#[derive(Clone, Copy, Debug, PartialEq, Eq)]
+#[derive(Clone, Copy)]
 pub(crate) struct RowLines {
     pub(crate) from: usize,
     pub(crate) to: usize,

@@ -6,7 +6,7 @@ use super::places::{Place, mark_at};
 use std::alloc::{AllocError, Global};
 
 /// A run of marks in a rule: its places from `from` on, before `to`, and how many of the table's columns it covers.
-#[derive(Clone, Copy, Debug, PartialEq, Eq)]
+#[derive(Clone, Copy)]
 pub(crate) struct Span {
     pub(crate) from: usize,
     pub(crate) to: usize,

@@ -5,7 +5,7 @@ use rst_tree::{Attrs, Children, Node, Tag, TreeFault};
 use std::alloc::Global;
 
 /// The form of the body of a field for authors.
-#[derive(Debug, Drop)]
+#[derive(Drop)]
 enum Form {
     /// One paragraph of one text: the authors that it names.
     Names(Vec<Node>),

@@ -9,7 +9,7 @@ use std::alloc::Global;
 use std::mem;
 
 /// A row of the table of bibliographic fields (Markup Specification, 'Bibliographic Fields').
-#[derive(Clone, Copy, Debug, PartialEq, Eq)]
+#[derive(Clone, Copy)]
 enum Row {
     /// An element of this kind with the nodes of the one paragraph.
     Simple(Tag),
@@ -24,7 +24,7 @@ enum Row {
 }
 
 /// A topic that a field becomes.
-#[derive(Clone, Copy, Debug, PartialEq, Eq)]
+#[derive(Clone, Copy)]
 enum TopicKind {
     Dedication,
     Abstract,
@@ -164,7 +164,7 @@ fn push_in_last(nodes: &mut Children, node: Node) -> Result<(), TreeFault> {
 }
 
 /// What the fields of a bibliography became so far.
-#[derive(Debug, Drop)]
+#[derive(Drop)]
 pub(crate) struct Bibliography {
     /// The elements of the `docinfo`.
     info: Vec<Node>,

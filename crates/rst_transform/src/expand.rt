@@ -16,7 +16,7 @@ const MOST_NESTED: usize = 100;
 const MOST_MET: usize = 10_000;
 
 /// Why a reference isn't replaced.
-#[derive(Debug, Drop)]
+#[derive(Drop)]
 enum ExpansionFault {
     /// There is no definition of this name.
     Undefined(String),
@@ -47,7 +47,7 @@ impl From<TreeFault> for ExpansionFault {
 }
 
 /// How far the expansion of one reference has come.
-#[derive(Debug, Drop)]
+#[derive(Drop)]
 struct Progress {
     /// The numbers of the definitions that stand one in another here, the outermost first.
     path: Vec<usize>,

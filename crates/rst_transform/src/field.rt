@@ -5,7 +5,7 @@ use rst_tree::{Attrs, Children, Node, Tag, Text, TreeFault};
 use std::alloc::Global;
 
 /// A field of a field list (Document Tree, 'field'): a name, and behind it a body.
-#[derive(Debug, Drop)]
+#[derive(Drop)]
 pub(crate) struct Field {
     pub attrs: Attrs,
     pub children: Children,
@@ -13,7 +13,7 @@ pub(crate) struct Field {
 }
 
 /// What a field becomes.
-#[derive(Debug, Drop)]
+#[derive(Drop)]
 pub(crate) enum Became {
     /// This element.
     Made(Node),

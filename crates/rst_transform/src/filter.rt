@@ -82,7 +82,7 @@ fn find_shown(node: &Node, report: Threshold, shown: &mut Vec<u64>) -> Result<()
 }
 
 /// What becomes of an element.
-#[derive(Clone, Copy, Debug, PartialEq, Eq)]
+#[derive(Clone, Copy)]
 enum Fate {
     Stays,
     BecomesText,

@@ -12,7 +12,7 @@ use std::alloc::Global;
 const SYMBOLS: [char; 10] = ['*', '†', '‡', '§', '¶', '#', '♠', '♥', '♦', '♣'];
 
 /// The two orders by which a reference without a name finds its footnote.
-#[derive(Clone, Copy, Debug, PartialEq, Eq)]
+#[derive(Clone, Copy, PartialEq, Eq)]
 enum Order {
     /// That of the footnotes which are to be numbered.
     Numbers,

@@ -7,7 +7,7 @@ use rst_tree::{Attr, Key, Node, Tag, Text, TreeFault, Value};
 use std::alloc::Global;
 
 /// The places of linked elements in the list of all, by their numbers.
-#[derive(Debug, Drop)]
+#[derive(Drop)]
 pub(crate) struct Holders {
     places: Vec<Option<usize>>,
 }

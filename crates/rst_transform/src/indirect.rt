@@ -10,7 +10,7 @@ use rst_tree::{Attr, Key, Level, Node, Tag, Text, TreeFault};
 use std::alloc::Global;
 
 /// What an indirect target comes to, through further ones.
-#[derive(Debug, Drop)]
+#[derive(Drop)]
 enum Answer {
     /// It leads where this attribute says.
     Leads(Attr),
@@ -21,7 +21,7 @@ enum Answer {
 }
 
 /// The first step from an indirect target.
-#[derive(Debug, Drop)]
+#[derive(Drop)]
 enum Step {
     /// To another indirect target, at this place.
     To(usize),

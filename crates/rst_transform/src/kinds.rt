@@ -5,7 +5,7 @@ use rst_tree::{Attrs, Key, Node, Tag};
 
 /// Which kinds of elements that transforms act on a document has. A transform whose kind is missing would change nothing, and
 /// needn't go through the document.
-#[derive(Clone, Copy, Debug)]
+#[derive(Clone, Copy)]
 pub(crate) struct Kinds {
     /// References to substitution definitions.
     pub substitutions: bool,

@@ -21,7 +21,7 @@ pub(crate) struct Linked<'a> {
 }
 
 /// What an element that stays has more in the end.
-#[derive(Debug, Drop)]
+#[derive(Drop)]
 pub(crate) struct Addition {
     /// This attribute, if there is one.
     pub attr: Option<Attr>,
@@ -41,7 +41,7 @@ impl Addition {
 }
 
 /// What becomes of a linked element.
-#[derive(Debug, Drop)]
+#[derive(Drop)]
 pub(crate) enum Outcome {
     /// It stays.
     Stays(Addition),
@@ -65,7 +65,7 @@ impl Outcome {
 }
 
 /// What becomes of a linked element that is still met in the end.
-#[derive(Debug, Drop)]
+#[derive(Drop)]
 pub(crate) enum Change {
     /// It stays.
     Stays(Addition),
@@ -256,7 +256,7 @@ fn met(
 
 /// The changes of the linked elements of a tree, in the order in which they are met, which contracts see as the list of
 /// them.
-#[derive(Debug, Drop)]
+#[derive(Drop)]
 pub(crate) struct Changes {
     left: VecDeque<Change>,
 }

@@ -10,7 +10,7 @@ use rst_tree::{Attr, Key, Level, Node, Tag, Text, Texts, TreeFault, Value};
 use std::alloc::Global;
 
 /// What a name means to a reference.
-#[derive(Debug, Drop)]
+#[derive(Drop)]
 enum Meaning {
     /// It leads where the attribute says: to the footnote or citation at this place, if it is one.
     Leads { attr: Attr, note: Option<usize> },
