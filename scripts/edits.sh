@@ -6,10 +6,12 @@ top=$(cd -- "$(dirname -- "$0")/.." && pwd)
 copy=$(mktemp -d) && trap 'rm -rf "$copy"' EXIT
 git clone -q "$top" "$copy/repository"
 cd "$copy/repository/crates"
+status=0
 for folder in */more-edits; do
   crate=${folder%/more-edits}
   [ $# = 0 ] || [[ " $* " == *" $crate "* ]] || continue
   rm -rf "$crate/must-fail"
   mv "$folder" "$crate/must-fail"
-  rt must-fail "$crate"
+  rt must-fail "$crate" || status=1
 done
+exit $status
