@@ -1,10 +1,9 @@
 -- Attributes put at their places.
 use Rattle.std.proofs.lemmas.Bool.{eqb-true}
-use Rattle.std.proofs.Common.{nat_eq, ◌∙◌, Bool, ℕ, sym, ◌≡◌, ◌+◌, ◌≤◌, List, [], ◌∷◌, length, drop, set, add-one, refl, ap, arith, true, false, nat_lt}
+use Rattle.std.proofs.Common.{nat_eq, ◌∙◌, Bool, ℕ, sym, ◌≡◌, ◌+◌, ◌≤◌, List, [], ◌∷◌, length, drop, set, filter, not, add-one, refl, ap, arith, true, false, nat_lt}
 use Rattle.std.specs.Prelude.{if◌then◌else◌}
 use Rattle.std.specs.List.{insert, remove}
-use Rattle.std.proofs.lemmas.List.{take_all, drop_all, append-nil}
-use Rattle.std.proofs.Common.{get_or, Some, None, ◌<◌, take, ◌++◌, zero, suc}
+use Rattle.std.proofs.Common.{get_or, Some, None, ◌<◌}
 use Rattle.rst_tree.specs.declared.attrs.Attr.{Attr}
 use Rattle.rst_tree.specs.declared.attrs.Value.{Value}
 use Rattle.rst_tree.specs.declared.key.Key.{Key}
@@ -115,17 +114,9 @@ unnamed_rest k (x ∷ xs) h =
     elim (is_same x.key k) as (λ b. length (x ∷ xs) ≤ (if b then 0 else place_named k xs + 1) → x ∷ xs ≡ (if b then xs else x ∷ without_key k xs))
     [ true ↦ λ h. absurd (omega arith) | false ↦ λ h. ap (λ z. x ∷ z) (unnamed_rest k xs (omega arith)) ] h
 
--- one hidden attribute less
-pub hide : (xs : List Attr) (i : ℕ) (a : Attr) → i < length xs → a ≡ get_or xs i a → is_hidden a.key ≡ true → take i (remove xs i) ++ without_hidden (drop i (remove xs i)) ≡ take i xs ++ without_hidden (drop i xs)
-hide [] i a h is hidden = absurd (omega arith)
-hide (x ∷ xs) zero a h is hidden = let e : is_hidden x.key ≡ true = ap (λ z. is_hidden z.key) (sym is) ∙ hidden in rw e refl
-hide (x ∷ xs) (suc i) a h is hidden = ap (λ z. x ∷ z) (hide xs i a (omega arith) is hidden)
-
--- one more that stays
-pub show : (xs : List Attr) (i : ℕ) (a : Attr) → i < length xs → a ≡ get_or xs i a → is_hidden a.key ≡ false → take (i + 1) xs ++ without_hidden (drop (i + 1) xs) ≡ take i xs ++ without_hidden (drop i xs)
-show [] i a h is shown = absurd (omega arith)
-show (x ∷ xs) zero a h is shown = let e : is_hidden x.key ≡ false = ap (λ z. is_hidden z.key) (sym is) ∙ shown in rw e refl
-show (x ∷ xs) (suc i) a h is shown = rw add-one (ap (λ z. x ∷ z) (rw add-one at (show xs i a (omega arith) is shown)))
-
-pub hidden_end : (xs : List Attr) (i : ℕ) → length xs ≤ i → take i xs ++ without_hidden (drop i xs) ≡ xs
-hidden_end xs i h = rw (take_all i xs h, drop_all i xs h) (append-nil xs)
+-- what a test by the name keeps
+pub without_hidden-filter : (xs : List Attr) → without_hidden xs ≡ filter (λ a. not (is_hidden a.key)) xs
+without_hidden-filter [] = refl
+without_hidden-filter (a ∷ xs) =
+    elim (is_hidden a.key) as (λ v. (if v then without_hidden xs else a ∷ without_hidden xs) ≡ (if not v then a ∷ filter (λ b. not (is_hidden b.key)) xs else filter (λ b. not (is_hidden b.key)) xs))
+    [ true ↦ without_hidden-filter xs | false ↦ ap (λ l. a ∷ l) (without_hidden-filter xs) ]

@@ -169,7 +169,7 @@ impl Attrs {
     pub fn remove_hidden(&mut self)
         ensures { self.new ≡ without_hidden self.old }
     {
-        remove_hidden(&mut self.list);
+        self.list.retain(|attr| !attr.key.is_hidden());
     }
 
     /// An equal list of attributes.
@@ -228,18 +228,4 @@ fn place_named(attrs: &[Attr], key: Key) -> usize
         }
     }
     attrs.len()
-}
-
-/// Takes out the attributes that serve the transforms alone.
-fn remove_hidden(list: &mut Vec<Attr>)
-    ensures { list.new.items ≡ without_hidden list.old.items }
-{
-    let mut i = 0;
-    while i < list.len() {
-        if list[i].key.is_hidden() {
-            list.remove(i);
-            continue;
-        }
-        i += 1;
-    }
 }
