@@ -396,6 +396,35 @@ fn stops_at_a_failed_write(rt: HostRuntime) -> Result<(), Fail> {
     Ok(())
 }
 
+/// A document with a line longer than what is gathered for a write, and lines that fill that several times.
+fn long_document(alloc: Global) -> Result<Node, TreeFault> {
+    let mut words = String::from_str(alloc, "a")?;
+    for _step in 0..12_000 {
+        words.push_str("b")?;
+    }
+    for _line in 0..3_000 {
+        words.push_str("\nline")?;
+    }
+    holding(alloc, Tag::Document, words.as_str())
+}
+
+#[test]
+fn stops_at_a_failed_write_of_a_long_text(rt: HostRuntime) -> Result<(), Fail> {
+    let alloc = rt.alloc();
+    let (answer, whole) = printed_to(alloc, long_document(alloc)?, 100_000, 100_000)?;
+    assert_eq!(rt; answer, Ok(()));
+    assert_eq!(rt; whole.held.len(), 11 + 12_006 + 9 * 3_000);
+    for &room in &[0, 10, 11, 12, 8191, 8192, 8193, 12_017, 20_000, 39_016] {
+        for &step in &[1000, 8192, 100_000] {
+            let (answer, out) = printed_to(alloc, long_document(alloc)?, room, step)?;
+            assert_eq!(rt; answer, Err(PrintFault::Write { done: room }));
+            assert_eq!(rt; out.held.len(), room);
+            assert!(rt; whole.held.as_slice().starts_with(out.held.as_slice()));
+        }
+    }
+    Ok(())
+}
+
 /// A message, and the source text that it shows, if any.
 fn note(
     alloc: Global,

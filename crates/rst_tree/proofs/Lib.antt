@@ -6,6 +6,7 @@ pub mod EachNode
 pub mod FirstLine
 pub mod Fitting
 pub mod Sending
+pub mod Pages
 pub mod EachLine
 pub mod KeyOrder
 pub mod Walks

@@ -1,5 +1,5 @@
 -- What calls do that want of memory or a failed write can hinder.
-use Rattle.std.specs.Prelude.{◌≡◌, ℕ, ◌≤◌, List, length, take, true, false, Result, Ok, Err}
+use Rattle.std.specs.Prelude.{◌≡◌, ℕ, ◌≤◌, List, length, take, Bool, true, false, Result, Ok, Err}
 use Rattle.rst_text.specs.Counted.{Stream, Gains}
 use Rattle.rst_tree.specs.declared.fault.TreeFault.{TreeFault}
 use Rattle.rst_tree.specs.declared.fault.TreeFault.TheVariants.{NoMemory}
@@ -29,6 +29,11 @@ pub record CutShort (writer : Stream) (text : List ℕ) (done : ℕ) : Type 0 wh
   pub counted : done ≡ counted_on 0 came
   pub gained : Gains writer (take came text)
   pub failed : writer.failed ≡ true
+
+-- the end of a print, where a write has failed or not and so many bytes were taken
+abbrev pub IsEnd : {A : Type 0} → ℕ → Bool → Result A PrintFault → Type 0
+IsEnd taken failed (Ok done) = failed ≡ false
+IsEnd taken failed (Err (Write done)) = (failed ≡ true) × (done ≡ taken)
 
 -- the writer gains the whole text and hasn't failed, or its first `done` bytes, and has failed
 abbrev pub Prints : {A : Type 0} → Stream → List ℕ → Result A PrintFault → Type 0

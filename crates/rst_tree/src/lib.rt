@@ -9,6 +9,7 @@ mod messages;
 mod node;
 mod note;
 mod output;
+mod page;
 mod printing;
 mod reading;
 mod rewriting;

@@ -4,14 +4,20 @@ ghost use Rattle.rst_text.specs.Counted.{between, has_failed};
 ghost use Rattle.rst_tree.specs.Print.{print_of};
 ghost use Rattle.rst_tree.specs.Message.{message_of};
 ghost use Rattle.rst_tree.specs.Faults.{Prints};
-ghost use Rattle.rst_tree.specs.Sends.{Sends};
 
 use crate::fault::PrintFault;
 use crate::note::Note;
 use crate::output::{put_message, put_node};
+use crate::page::{Page, turn};
 use crate::tree::Tree;
 use rst_text::Counted;
 use std::io::Write;
+
+/// How many bytes of a tree are gathered for a write: a writer takes them faster than many pieces of a few bytes.
+const TREE_PAGE: usize = 8192;
+
+/// How many bytes of a message are gathered: most have fewer, and a page is blanked for each message anew.
+const MESSAGE_PAGE: usize = 512;
 
 /// Prints a tree to a writer that hasn't failed: each element and each line of a text is a line, behind four spaces for
 /// each level. All attributes are printed but empty lists of ids, classes, names and references back; `xml:space` is one
@@ -20,13 +26,10 @@ pub fn print<W: Write>(tree: &Tree, out: &mut Counted<W>) -> Result<(), PrintFau
     requires { has_failed out.old ≡ false }
     ensures { Prints (between W.contents out.old out.new) (print_of tree.now) result }
 {
-    let mut done = 0;
-    put_node(out, &mut done, 0, tree.root());
-    if out.failed() {
-        Err(PrintFault::Write { done })
-    } else {
-        Ok(())
-    }
+    let mut page: Page<TREE_PAGE> = Page::new();
+    put_node(out, &mut page, 0, tree.root());
+    turn(out, &mut page);
+    page.end(out.failed())
 }
 
 /// Prints a message to a writer that hasn't failed, as `source:line: (TYPE/level) text` and, behind a blank line, the
@@ -39,11 +42,8 @@ pub fn message_line<W: Write>(
     requires { has_failed out.old ≡ false }
     ensures { Prints (between W.contents out.old out.new) (message_of source.now note.now) result }
 {
-    let mut done = 0;
-    put_message(out, &mut done, source, note);
-    if out.failed() {
-        Err(PrintFault::Write { done })
-    } else {
-        Ok(())
-    }
+    let mut page: Page<MESSAGE_PAGE> = Page::new();
+    put_message(out, &mut page, source, note);
+    turn(out, &mut page);
+    page.end(out.failed())
 }

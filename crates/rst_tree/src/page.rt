@@ -1,0 +1,102 @@
+//! What is written piece by piece to a writer that may fail, gathered in a page: after a failure nothing more is written.
+ghost use Rattle.std.specs.Prelude.{◌≡◌, [], false};
+ghost use Rattle.rst_text.specs.Counted.{has_failed, between, Gains};
+ghost use Rattle.rst_tree.specs.Sends.{Sends, Turns, Takes};
+ghost use Rattle.rst_tree.specs.Faults.{IsEnd};
+
+use crate::fault::PrintFault;
+use arrayvec::ArrayVec;
+use rst_text::Counted;
+use std::io::Write;
+
+/// What is gathered on its way to a writer.
+#[derive(Drop)]
+pub struct Page<const N: usize> {
+    held: ArrayVec<u8, N>,
+    /// How many bytes of the text the writer took, or the largest `usize` if they are more.
+    taken: usize,
+}
+
+impl<const N: usize> Page<N> {
+    /// An empty page of a text of which nothing was written.
+    pub fn new() -> Page<N>
+        ensures held { result.held.items ≡ [] }
+        ensures taken { result.taken ≡ 0 }
+    {
+        Page {
+            held: ArrayVec::new(),
+            taken: 0,
+        }
+    }
+
+    /// How the printing of a text ends that has reached the writer, or at which a write has failed.
+    pub fn end(&self, failed: bool) -> Result<(), PrintFault>
+        ensures { IsEnd self.now.taken failed result }
+    {
+        if failed {
+            Err(PrintFault::Write { done: self.taken })
+        } else {
+            Ok(())
+        }
+    }
+}
+
+/// Gathers all of the bytes, unless a write has failed.
+#[inline]
+pub fn put<W: Write, const N: usize>(out: &mut Counted<W>, page: &mut Page<N>, bytes: &[u8])
+    ensures { Sends W.contents bytes.now out.old page.old out.new page.new }
+{
+    if out.failed() {
+        return;
+    }
+    if page.held.try_extend_from_slice(bytes).is_err() {
+        put_over(out, page, bytes);
+    }
+}
+
+/// The same, where the bytes don't fit behind what the page holds: that is written first.
+fn put_over<W: Write, const N: usize>(out: &mut Counted<W>, page: &mut Page<N>, bytes: &[u8])
+    ensures { Sends W.contents bytes.now out.old page.old out.new page.new }
+{
+    turn(out, page);
+    if out.failed() {
+        return;
+    }
+    if page.held.try_extend_from_slice(bytes).is_err() {
+        let count = write(out, bytes);
+        page.taken = page.taken.saturating_add(count);
+    }
+}
+
+/// Writes what the page holds, unless a write has failed. It goes on holding what the writer doesn't take.
+pub fn turn<W: Write, const N: usize>(out: &mut Counted<W>, page: &mut Page<N>)
+    ensures { Turns W.contents out.old page.old out.new page.new }
+{
+    if out.failed() {
+        return;
+    }
+    let count = write(out, page.held.as_slice());
+    page.taken = page.taken.saturating_add(count);
+    if !out.failed() {
+        page.held.clear();
+        return;
+    }
+    let mut rest = ArrayVec::new();
+    let _fits = rest.try_extend_from_slice(&page.held.as_slice()[count..]);
+    page.held = rest;
+}
+
+/// Writes the bytes, and tells how many of them were taken: all of them, unless a write failed.
+fn write<W: Write>(out: &mut Counted<W>, bytes: &[u8]) -> usize
+    requires { has_failed out.old ≡ false }
+    ensures { Takes (between W.contents out.old out.new) bytes.now result }
+{
+    let mut done = 0;
+    while done < bytes.len() {
+        match out.write(&bytes[done..]) {
+            None => return done,
+            Some(count) => done += count,
+        }
+    }
+    done
+}
