@@ -1,41 +1,16 @@
 -- Between calm characters nothing begins.
-use Rattle.std.proofs.Common.{◌≡◌, ⊎_elim, ◌⊎◌, inl, inr, ℕ, zero, suc, ◌+◌, ◌-◌, ◌<◌, ◌≤◌, Bool, true, false, not, ◌&&◌, ◌||◌, ◌==◌, None, length, get_or, true≢false, refl, sym, ap, ◌∙◌, subst, arith, map}
+use Rattle.std.proofs.Common.{◌≡◌, ⊎_elim, ◌⊎◌, inl, inr, ℕ, zero, suc, ◌+◌, ◌-◌, ◌<◌, ◌≤◌, Bool, true, false, ◌&&◌, ◌||◌, ◌==◌, None, length, get_or, true≢false, refl, sym, ap, ◌∙◌, subst, arith}
 use Rattle.std.specs.Char.{is_ascii_alphanumeric}
 use Rattle.std.proofs.lemmas.Bool.{eqb-true, cases_lt}
 use Rattle.std.proofs.lemmas.Bool.Decides.{nat_tests}
-use Rattle.std.proofs.lemmas.Simd.{none_from_empty_mask}
-use lib.Count.{count_trailing_zeros}
-use lib.Lanes.{mask_l, chunk}
-use Rattle.rst_text.proofs.LaneLemmas.{lowest_passes}
 use Rattle.rst_text.proofs.PlacesLemmas.{cases_bool}
 use Rattle.rst_pieces.specs.Characters.{Text}
 use Rattle.rst_pieces.specs.Escapes.{is_escaped}
 use Rattle.rst_pieces.specs.Words.{IsWord, goes_on}
-use Rattle.rst_pieces.specs.Calm.{is_calm, is_other, AreCalm, IsCalm}
+use Rattle.rst_pieces.specs.Calm.{is_calm, IsCalm}
 use Rattle.rst_pieces.specs.Pieces.{piece_if, HasNoStart}
 use Rattle.rst_pieces.proofs.EscapeLemmas.{other-bare, is_escaped-bare}
-use Rattle.rst_pieces.proofs.WordLemmas.{differs, lacks-by, no-piece-lacking, goes_on-space, goes_on-feed, goes_on-comma}
-
--- ---- sixteen of them at once
-
-true_of : (a : Bool) → not a ≡ false → a ≡ true
-true_of true h = refl
-true_of false h = absurd (true≢false h)
-
-calm-more : (t : Text) (place at to : ℕ) → AreCalm t place at → ((k : ℕ) → at ≤ k → k < to → is_other (get_or t k 0) ≡ false) → AreCalm t place to
-calm-more t place at to before none k low less = ⊎_elim (before k low) (λ past. true_of (is_calm (get_or t k 0)) (none k past less)) (cases_lt k at)
-
-pub none-other : (t : Text) (place at n mask : ℕ) → at + n ≤ length t → AreCalm t place at → mask ≡ mask_l (map is_other (chunk at n t)) → mask ≡ 0 → AreCalm t place (at + n)
-none-other t place at n mask room before is none = calm-more t place at (at + n) before (none_from_empty_mask is_other t at n 0 room (sym is ∙ none))
-
-pub before-other : (t : Text) (place at n mask : ℕ) → at + n ≤ length t → n ≤ 64 → AreCalm t place at → mask ≡ mask_l (map is_other (chunk at n t)) → 0 < mask
-    → AreCalm t place (at + count_trailing_zeros 64 mask) × (count_trailing_zeros 64 mask < n)
-before-other t place at n mask room short before is some =
-    let first = lowest_passes is_other t at n mask room short is some in
-    (calm-more t place at (at + count_trailing_zeros 64 mask) before first.before, first.inside)
-
-pub calm-next : (t : Text) (place at : ℕ) → AreCalm t place at → is_calm (get_or t at 0) ≡ true → AreCalm t place (at + 1)
-calm-next t place at before here k low less = ⊎_elim (before k low) (λ past. let same : k ≡ at = omega arith in subst (λ n. is_calm (get_or t n 0) ≡ true) (sym same) here) (cases_lt k at)
+use Rattle.rst_pieces.proofs.WordLemmas.{differs, absent, lacks-by, no-piece-lacking, goes_on-space, goes_on-feed, goes_on-comma}
 
 -- ---- words among them
 
@@ -87,7 +62,7 @@ none-calm t from to i escaped run low less =
     let short = word.2 in
     let above = word.1.above in
     let calm_end = run.calm word.0 (omega arith) (omega arith) in
-    no-piece-lacking t i word.0 escaped word.1 (lacks-by is_calm t i (run.calm i low less) refl refl refl refl refl refl) (goes_on-calm t word.0 calm_end (word.1.stops (omega arith)))
+    no-piece-lacking t i word.0 escaped word.1 (lacks-by is_calm t i (run.calm i low less) refl refl refl refl refl) (absent is_calm t i 91 (run.calm i low less) refl) (goes_on-calm t word.0 calm_end (word.1.stops (omega arith)))
 
 HasNoStart-calm : (t : Text) (from place start : ℕ) → HasNoStart t from from place → IsCalm t place start → HasNoStart t from from start
 HasNoStart-calm t from place start none run i low less = ⊎_elim (none i low) (λ past. none-calm t place start i _ run past less) (cases_lt i place)

@@ -7,3 +7,5 @@ pub mod UriLemmas
 pub mod PieceLemmas
 pub mod WordLemmas
 pub mod CalmLemmas
+pub mod RunLemmas
+pub mod QuietLemmas

@@ -74,7 +74,7 @@ other-at t i to k c word above less e =
 
 -- ---- references
 
-no-underscore : (t : Text) (j : ℕ) → has t j 95 ≡ false → ends_name t j ≡ false
+pub no-underscore : (t : Text) (j : ℕ) → has t j 95 ≡ false → ends_name t j ≡ false
 unfolding ends_name name_tail
 no-underscore t j h = rw h (grind (arith, nat_tests))
 
@@ -120,7 +120,7 @@ abbrev named : List ℕ → Bool
 named [] = false
 named (c ∷ cs) = c == 58 || (is_ascii_alphanumeric c && named cs)
 
-lower-colon : (c : ℕ) → in_lower_case c ≡ 58 → c ≡ 58
+pub lower-colon : (c : ℕ) → in_lower_case c ≡ 58 → c ≡ 58
 unfolding in_lower_case
 lower-colon c h = grind (arith, nat_tests)
 
@@ -170,26 +170,24 @@ no-uri t i to run colon = ap (uri_piece i) (uri_end-none t i (no-first t i to sc
 
 -- ---- other markup
 
--- none of the characters stands at the place that markup begins with
+-- none of the characters stands at the place that start-strings and roles begin with
 pub record Lacks (t : Text) (i : ℕ) : Type 0 where
   pub star : has t i 42 ≡ false
   pub grave : has t i 96 ≡ false
   pub underscore : has t i 95 ≡ false
   pub bar : has t i 124 ≡ false
   pub colon : has t i 58 ≡ false
-  pub bracket : has t i 91 ≡ false
 
-absent : (p : ℕ → Bool) (t : Text) (i c : ℕ) → p (get_or t i 0) ≡ true → p c ≡ false → has t i c ≡ false
+pub absent : (p : ℕ → Bool) (t : Text) (i c : ℕ) → p (get_or t i 0) ≡ true → p c ≡ false → has t i c ≡ false
 absent p t i c h k = rw (differs p (get_or t i 0) c h k) (grind (arith, nat_tests))
 
-pub lacks-by : (p : ℕ → Bool) (t : Text) (i : ℕ) → p (get_or t i 0) ≡ true → p 42 ≡ false → p 96 ≡ false → p 95 ≡ false → p 124 ≡ false → p 58 ≡ false → p 91 ≡ false → Lacks t i
-lacks-by p t i h star grave underscore bar colon bracket = record {
+pub lacks-by : (p : ℕ → Bool) (t : Text) (i : ℕ) → p (get_or t i 0) ≡ true → p 42 ≡ false → p 96 ≡ false → p 95 ≡ false → p 124 ≡ false → p 58 ≡ false → Lacks t i
+lacks-by p t i h star grave underscore bar colon = record {
   star = absent p t i 42 h star;
   grave = absent p t i 96 h grave;
   underscore = absent p t i 95 h underscore;
   bar = absent p t i 124 h bar;
   colon = absent p t i 58 h colon;
-  bracket = absent p t i 91 h bracket;
 }
 
 no-mark : (markup : Markup) (t : Text) (i q : ℕ) → has_start markup t q ≡ false → marked_from markup t i q ≡ None
@@ -200,7 +198,7 @@ no-role : (t : Text) (i : ℕ) → has t i 58 ≡ false → role_end t i ≡ Non
 unfolding role_end
 no-role t i h = rw h refl
 
-no-marked : (t : Text) (i : ℕ) → Lacks t i → (markup : Markup) → marked markup t i ≡ None
+pub no-marked : (t : Text) (i : ℕ) → Lacks t i → (markup : Markup) → marked markup t i ≡ None
 unfolding marked start_of
 no-marked t i lacks Strong = no-mark Strong t i i (rw lacks.star refl)
 no-marked t i lacks Emphasis = no-mark Emphasis t i i (rw lacks.star refl)
@@ -209,13 +207,13 @@ no-marked t i lacks Target = no-mark Target t i i (rw lacks.underscore refl)
 no-marked t i lacks Substitution = no-mark Substitution t i i (rw lacks.bar refl)
 no-marked t i lacks Interpreted = rw (no-role t i lacks.colon) (no-mark Interpreted t i i (rw lacks.grave refl))
 
-no-label : (t : Text) (i : ℕ) → Lacks t i → label t i ≡ None
+no-label : (t : Text) (i : ℕ) → has t i 91 ≡ false → label t i ≡ None
 unfolding label
-no-label t i lacks = rw lacks.bracket refl
+no-label t i h = rw h refl
 
-no-markup : (t : Text) (i to : ℕ) → IsWord t i to → Lacks t i → Ends t to → markup_at t i ≡ None
+no-markup : (t : Text) (i to : ℕ) → IsWord t i to → Lacks t i → has t i 91 ≡ false → Ends t to → markup_at t i ≡ None
 unfolding markup_at
-no-markup t i to run lacks ends =
+no-markup t i to run lacks bracket ends =
     rw (
       no-marked t i lacks Strong,
       no-marked t i lacks Emphasis,
@@ -223,23 +221,25 @@ no-markup t i to run lacks ends =
       no-marked t i lacks Target,
       no-marked t i lacks Substitution,
       no-marked t i lacks Interpreted,
-      no-label t i lacks,
+      no-label t i bracket,
       no-reference t i to run ends,
       no-uri t i to run ends.colon,
     ) refl
 
 -- no markup begins at a place that lacks its marks and where a word ends, which may be empty, with which nothing goes on
-pub no-piece-lacking : (t : Text) (i to : ℕ) (escaped : Bool) → IsWord t i to → Lacks t i → goes_on t to ≡ false → piece_if t i escaped ≡ None
+pub no-piece-lacking : (t : Text) (i to : ℕ) (escaped : Bool) → IsWord t i to → Lacks t i → has t i 91 ≡ false → goes_on t to ≡ false → piece_if t i escaped ≡ None
 unfolding piece_if
-no-piece-lacking t i to escaped run lacks h = by_case (is_free_if t i escaped)
+no-piece-lacking t i to escaped run lacks bracket h = by_case (is_free_if t i escaped)
   where
     by_case : (free : Bool) → cond free (markup_at t i) None ≡ None
-    by_case true = no-markup t i to run lacks (ends-by t to h)
+    by_case true = no-markup t i to run lacks bracket (ends-by t to h)
     by_case false = refl
 
 -- nothing begins where a word does, if nothing goes on with it,
 pub no-piece : (t : Text) (i to : ℕ) (escaped : Bool) → IsWord t i to → i < to → goes_on t to ≡ false → piece_if t i escaped ≡ None
-no-piece t i to escaped run some h = no-piece-lacking t i to escaped run (lacks-by is_ascii_alphanumeric t i (run.letters i (omega arith) some) refl refl refl refl refl refl) h
+no-piece t i to escaped run some h =
+    let letter = run.letters i (omega arith) some in
+    no-piece-lacking t i to escaped run (lacks-by is_ascii_alphanumeric t i letter refl refl refl refl refl) (absent is_ascii_alphanumeric t i 91 letter refl) h
 
 -- and further on in it nothing does.
 inside-word : (t : Text) (i to k : ℕ) (escaped : Bool) → IsWord t i to → i < k → k ≤ to → piece_if t k escaped ≡ None

@@ -1,18 +1,16 @@
 -- Calm characters. No rule of markup: between them nothing begins, so the scanner steps over them.
-use Rattle.std.specs.Prelude.{◌≡◌, ℕ, ◌-◌, ◌<◌, ◌≤◌, Bool, true, false, not, ◌||◌, ◌==◌, slice_index, length}
+use Rattle.std.specs.Prelude.{◌≡◌, ℕ, ◌-◌, ◌<◌, ◌≤◌, Bool, false, ◌||◌, ◌==◌, slice_index, length}
 use Rattle.std.specs.Char.{is_ascii_alphanumeric}
 use Rattle.rst_pieces.specs.Characters.{Text}
+use Rattle.rst_pieces.specs.Runs.{PassBetween}
 
 -- an ASCII letter or digit, a space, a line feed or a comma
 abbrev pub is_calm : ℕ → Bool
 is_calm c = is_ascii_alphanumeric c || (c == 32 || (c == 10 || c == 44))
 
-abbrev pub is_other : ℕ → Bool
-is_other c = not (is_calm c)
-
 -- from one place up to another each is calm
 abbrev pub AreCalm : Text → ℕ → ℕ → Type 0
-AreCalm t from to = (k : ℕ) → from ≤ k → k < to → is_calm (slice_index t k) ≡ true
+AreCalm t from to = PassBetween is_calm t from to
 
 -- no letter or digit stands before a place behind `from`
 abbrev pub IsEdge : Text → ℕ → ℕ → Type 0

@@ -1,54 +1,43 @@
 //! Calm characters: between them nothing begins.
-ghost use Rattle.std.specs.Prelude.{◌≡◌, ◌<◌, ◌≤◌, ◌&&◌, ◌==◌, length, map};
-ghost use Rattle.std.specs.Simd.Lanes.{mask_l};
-ghost use Rattle.rst_pieces.specs.Calm.{is_calm, is_other, AreCalm, IsEdge, IsCalm};
+ghost use Rattle.std.specs.Prelude.{◌≡◌, ◌<◌, ◌≤◌, ◌&&◌, ◌==◌, length};
+ghost use Rattle.rst_pieces.specs.Calm.{AreCalm, IsEdge, IsCalm};
 
+use super::runs::{ByteTest, run_end};
 use std::simd::prelude::*;
 
-/// How many bytes are tested at once.
-const LANES: usize = 16;
-
 /// Whether a byte is calm: a letter or a digit, a space, a line feed or a comma.
-fn is_calm(byte: u8) -> bool
-    ensures { result ≡ is_calm byte }
-{
-    byte.is_ascii_alphanumeric() || matches!(byte, b' ' | b'\n' | b',')
+struct Calm;
+
+impl ByteTest for Calm {
+    ghost use Rattle.rst_pieces.specs.Calm.{is_calm};
+
+    ghost passes = { is_calm };
+
+    fn passes(byte: u8) -> bool {
+        byte.is_ascii_alphanumeric() || matches!(byte, b' ' | b'\n' | b',')
+    }
+
+    #[inline(always)]
+    fn failing(bytes: u8x16) -> u64 {
+        let from_a = (bytes | u8x16::splat(0x20)) - u8x16::splat(b'a');
+        let from_0 = bytes - u8x16::splat(b'0');
+        let fails = from_a.simd_ge(u8x16::splat(26))
+            & from_0.simd_ge(u8x16::splat(10))
+            & bytes.simd_ne(u8x16::splat(b' '))
+            & bytes.simd_ne(u8x16::splat(b'\n'))
+            & bytes.simd_ne(u8x16::splat(b','));
+        fails.to_bitmask()
+    }
 }
 
-/// A bit for each byte, the lowest for the first, that is set where the byte isn't calm.
-#[inline(always)]
-fn others(bytes: u8x16) -> u64
-    ensures { result ≡ mask_l (map is_other bytes) }
-{
-    let from_a = (bytes | u8x16::splat(0x20)) - u8x16::splat(b'a');
-    let from_0 = bytes - u8x16::splat(b'0');
-    let is_other = from_a.simd_ge(u8x16::splat(26))
-        & from_0.simd_ge(u8x16::splat(10))
-        & bytes.simd_ne(u8x16::splat(b' '))
-        & bytes.simd_ne(u8x16::splat(b'\n'))
-        & bytes.simd_ne(u8x16::splat(b','));
-    is_other.to_bitmask()
-}
-
-/// A place up to which the bytes are calm, and which isn't behind the last of them.
+/// The place behind the calm bytes from a place on, but not behind the last byte.
 fn calm_end(bytes: &[u8], place: usize) -> usize
     requires { place < length bytes.now }
     ensures above { place ≤ result }
     ensures within { result < length bytes.now }
     ensures calm { AreCalm bytes.now place result }
 {
-    let mut at = place;
-    while LANES < bytes.len() - at {
-        let found = others(u8x16::from_slice(&bytes[at..]));
-        if found != 0 {
-            return at + found.trailing_zeros() as usize;
-        }
-        at += LANES;
-    }
-    while 1 < bytes.len() - at && is_calm(bytes[at]) {
-        at += 1;
-    }
-    at
+    run_end::<Calm>(bytes, place).min(bytes.len() - 1)
 }
 
 /// Where the word begins that ends at `to`, but no place before `from`.

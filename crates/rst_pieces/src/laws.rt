@@ -1,9 +1,15 @@
 //! Laws of the definitions.
-ghost use Rattle.std.specs.Prelude.{◌≡◌, ℕ, List};
+ghost use Rattle.std.specs.Prelude.{◌≡◌, ℕ, true, List};
 ghost use Rattle.rst_pieces.specs.declared.piece.Piece.{Piece};
 ghost use Rattle.rst_pieces.specs.Pieces.{IsPieces};
+ghost use Rattle.rst_pieces.specs.Quiet.{quiet, whole};
 
 /// Exactly one list is that of the pieces of a text.
 pub fn one_list_of_pieces()
     ensures { (t : List ℕ) (ps qs : List Piece) → IsPieces t 0 ps → IsPieces t 0 qs → ps ≡ qs }
+{}
+
+/// The pieces of a quiet text are the one plain piece of all of it, or none where it is empty.
+pub fn quiet_is_one_piece()
+    ensures { (t : List ℕ) → quiet t ≡ true → IsPieces t 0 (whole t) }
 {}

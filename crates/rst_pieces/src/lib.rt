@@ -10,6 +10,8 @@ mod marked;
 mod missing;
 mod names;
 mod piece;
+mod quiet;
+mod runs;
 mod scanner;
 mod tails;
 mod uri;
@@ -17,7 +19,8 @@ mod words;
 
 pub use characters::{has, is_dark};
 pub use escaping::{escapes, has_backslash, unescaped};
-pub use laws::one_list_of_pieces;
+pub use laws::{one_list_of_pieces, quiet_is_one_piece};
 pub use piece::{Kind, Markup, Piece, Suffix};
+pub use quiet::is_quiet;
 pub use scanner::{pieces_of, pieces_of_ascii};
 pub use uri::plain_uri;

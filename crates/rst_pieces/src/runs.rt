@@ -1,0 +1,42 @@
+//! Runs of bytes that pass a test, stepped over sixteen at a time.
+ghost use Rattle.std.specs.Prelude.{◌≡◌, ℕ, Bool, ◌≤◌, length, map};
+ghost use Rattle.std.specs.Simd.Lanes.{mask_l};
+ghost use Rattle.rst_pieces.specs.Runs.{fails, IsRun};
+
+use std::simd::prelude::*;
+
+/// How many bytes are tested at once.
+const LANES: usize = 16;
+
+/// A test of bytes.
+pub(crate) trait ByteTest {
+    /// Whether a byte passes.
+    ghost passes: { ℕ → Bool };
+
+    /// Whether a byte passes.
+    fn passes(byte: u8) -> bool
+        ensures { result ≡ passes byte };
+
+    /// A bit for each byte, the lowest for the first, that is set where the byte fails.
+    fn failing(bytes: u8x16) -> u64
+        ensures { result ≡ mask_l (map (fails passes) bytes) };
+}
+
+/// The place behind the bytes from a place on that pass a test.
+pub(crate) fn run_end<T: ByteTest>(bytes: &[u8], place: usize) -> usize
+    requires { place ≤ length bytes.now }
+    ensures { IsRun T.passes bytes.now place result }
+{
+    let mut at = place;
+    while LANES <= bytes.len() - at {
+        let failing = T::failing(u8x16::from_slice(&bytes[at..]));
+        if failing != 0 {
+            return at + failing.trailing_zeros() as usize;
+        }
+        at += LANES;
+    }
+    while at < bytes.len() && T::passes(bytes[at]) {
+        at += 1;
+    }
+    at
+}
