@@ -2,3 +2,4 @@ pub mod TextLemmas
 pub mod EmbeddedLemmas
 pub mod ReadLemmas
 pub mod WrittenLemmas
+pub mod QuietLemmas

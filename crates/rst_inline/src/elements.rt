@@ -18,10 +18,9 @@ pub(crate) fn text_nodes(alloc: Global, shown: &[char]) -> Result<Children, Inli
     if shown.is_empty() {
         return Ok(Children::new(alloc));
     }
-    let mut list = Vec::with_capacity(alloc, 1)?;
     let text = spelled(alloc, shown)?;
-    list.push(Node::Text(text))?;
-    Ok(Children::of(list))
+    let nodes = Children::lone(alloc, Node::Text(text))?;
+    Ok(nodes)
 }
 
 /// An element with attributes that holds a text.

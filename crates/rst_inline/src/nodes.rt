@@ -1,7 +1,8 @@
 //! The nodes and the messages of a text.
-ghost use Rattle.std.specs.Prelude.{◌≡◌, All, IfSome};
+ghost use Rattle.std.specs.Prelude.{◌≡◌, ℕ, true, All, IfSome};
 ghost use Rattle.std.specs.Str.{chars, IsAscii};
 ghost use Rattle.rst_pieces.specs.Pieces.{IsWithin};
+ghost use Rattle.rst_pieces.specs.Quiet.{quiet};
 ghost use Rattle.rst_inline.specs.Faults.{Gives};
 ghost use Rattle.rst_inline.specs.Results.{Reads, IsRead};
 
@@ -9,8 +10,8 @@ use super::elements::problematic;
 use super::fault::InlineFault;
 use super::reading::Meaning;
 use super::texts::part;
-use super::written::{if_ascii, meaning, pieces};
-use rst_pieces::Piece;
+use super::written::{if_ascii, meaning, pieces, words};
+use rst_pieces::{Piece, is_quiet};
 use rst_text::characters_of;
 use rst_tree::{Node, Note};
 use std::alloc::Global;
@@ -30,10 +31,25 @@ pub struct Pieces {
 pub fn inline(alloc: Global, text: &str, line: usize) -> Result<Pieces, InlineFault>
     ensures { Gives (IsRead (chars text.now) line) result }
 {
+    if is_quiet(text.as_bytes()) {
+        return quiet(alloc, text);
+    }
     let characters = characters_of(alloc, text)?;
     let written = if_ascii(text);
     let pieces = pieces(alloc, written, &characters)?;
     read(alloc, written, &characters, &pieces, line)
+}
+
+/// The same of a quiet text, whatever its line: it is one plain piece, so it is neither made characters nor scanned.
+fn quiet(alloc: Global, text: &str) -> Result<Pieces, InlineFault>
+    requires { quiet text.now ≡ true }
+    ensures { (line : ℕ) → Gives (IsRead (chars text.now) line) result }
+{
+    let children = words(alloc, text)?;
+    Ok(Pieces {
+        nodes: children.into_list(),
+        notes: Vec::new(alloc),
+    })
 }
 
 /// The nodes and the messages of the pieces of a text; `written` is the text, too, if that is ASCII.

@@ -83,17 +83,16 @@ fn bare_tag(text: &[char], piece: Piece) -> Option<Tag>
 }
 
 /// The nodes of a text that is ASCII: none where it is empty.
-fn words(alloc: Global, text: &str) -> Result<Children, InlineFault>
+pub(crate) fn words(alloc: Global, text: &str) -> Result<Children, InlineFault>
     requires { IsAscii text.now }
     ensures { Gives (λ nodes. nodes ≡ text_nodes text.now) result }
 {
     if text.is_empty() {
         return Ok(Children::new(alloc));
     }
-    let mut list = Vec::with_capacity(alloc, 1)?;
     let text = Text::from_str(alloc, text)?;
-    list.push(Node::Text(text))?;
-    Ok(Children::of(list))
+    let nodes = Children::lone(alloc, Node::Text(text))?;
+    Ok(nodes)
 }
 
 /// The element of what the markup of a piece encloses, as it is written.

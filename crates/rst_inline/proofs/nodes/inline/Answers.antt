@@ -24,3 +24,6 @@ returns c =
     let here = subst (λ ps. IsPieces c.deref.result.now 0 ps) (sym c.deref-3.ensures.value) c.in_ok-pieces.ensures in
     let cut = subst (λ t. IsPieces t 0 c.deref-3.result.now) (c.deref.ensures.value ∙ c.in_ok-characters.ensures) here in
     read-pieces c.deref-2.result.now (chars c.args.text.now) c.args.line c.deref-3.result.now c.deref-3.result.now (c.deref-2.ensures.value ∙ c.in_ok-characters.ensures) refl cut c.read.result c.read.ensures
+
+pub returns-then-is_quiet : goal.returns-then-is_quiet
+returns-then-is_quiet c = c.quiet.ensures c.args.line

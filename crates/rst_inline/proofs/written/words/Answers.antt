@@ -1,4 +1,4 @@
-use Rattle.std.proofs.Common.{◌∙◌, ◌++◌, ◌∷◌, [], ◌<◌, length, sym, ap}
+use Rattle.std.proofs.Common.{◌∙◌, ◌∷◌, [], ◌<◌, length, sym, ap}
 use Rattle.rst_tree.specs.Nodes.{forest_of}
 use Rattle.rst_tree.specs.declared.node.Node.TheVariants.{Text as Words}
 use Rattle.rst_inline.proofs.WrittenLemmas.{some-of, text_nodes-ascii}
@@ -7,5 +7,4 @@ use Rattle.rst_inline.proofs.written.words.Goals as goal
 pub returns : goal.returns
 returns c =
     let some : 0 < length c.args.text.now = some-of c.args.text.now (sym c.is_empty.ensures ∙ c.if-is_empty.false) in
-    c.of.ensures ∙ ap forest_of c.in_ok-push.ensures.items ∙ ap (λ items. forest_of (items ++ Words c.in_ok-text.text ∷ [])) c.in_ok-list.ensures.items
-    ∙ ap (λ t. forest_of (Words t ∷ [])) c.in_ok-text.ensures ∙ text_nodes-ascii c.args.text.now c.requires some
+    c.in_ok-nodes.ensures ∙ ap (λ t. forest_of (Words t ∷ [])) c.in_ok-text.ensures ∙ text_nodes-ascii c.args.text.now c.requires some
