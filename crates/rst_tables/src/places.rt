@@ -4,7 +4,7 @@ ghost use Rattle.std.specs.Str.{chars};
 ghost use Rattle.rst_tables.specs.Places.{mark_of, is_double, places_of, mark_at, place, width, rows_of};
 ghost use Rattle.rst_text.specs.Shown.{block_of};
 
-use rst_text::{Looks, View};
+use rst_text::{Looks, View, characters_of};
 use std::alloc::{AllocError, Global};
 use std::marker::Model;
 use unicode_width::UnicodeWidthChar;
@@ -107,7 +107,7 @@ fn is_double(c: char) -> bool
 fn places_of(alloc: Global, text: &str) -> Result<Vec<Place>, AllocError>
     ensures { IfOk result (λ places. places.items ≡ places_of (chars text.now)) }
 {
-    let characters: Vec<char> = text.chars().collect(alloc)?;
+    let characters = characters_of(alloc, text)?;
     places_from(alloc, &characters)
 }
 
