@@ -1,16 +1,17 @@
 //! The nodes and the messages of a text.
 ghost use Rattle.std.specs.Prelude.{◌≡◌, ℕ, true, All, IfSome};
-ghost use Rattle.std.specs.Str.{chars, IsAscii};
+ghost use Rattle.std.specs.Str.{chars};
 ghost use Rattle.rst_pieces.specs.Pieces.{IsWithin};
 ghost use Rattle.rst_pieces.specs.Quiet.{quiet};
 ghost use Rattle.rst_inline.specs.Faults.{Gives};
+ghost use Rattle.rst_inline.specs.Parts.{IsBare};
 ghost use Rattle.rst_inline.specs.Results.{Reads, IsRead};
 
 use super::elements::problematic;
 use super::fault::InlineFault;
 use super::reading::Meaning;
 use super::texts::part;
-use super::written::{if_ascii, meaning, pieces, words};
+use super::written::{if_ascii, if_bare, meaning, pieces, words};
 use rst_pieces::{Piece, is_quiet};
 use rst_text::characters_of;
 use rst_tree::{Node, Note};
@@ -35,9 +36,8 @@ pub fn inline(alloc: Global, text: &str, line: usize) -> Result<Pieces, InlineFa
         return quiet(alloc, text);
     }
     let characters = characters_of(alloc, text)?;
-    let written = if_ascii(text);
-    let pieces = pieces(alloc, written, &characters)?;
-    read(alloc, written, &characters, &pieces, line)
+    let pieces = pieces(alloc, if_ascii(text), &characters)?;
+    read(alloc, if_bare(text), &characters, &pieces, line)
 }
 
 /// The same of a quiet text, whatever its line: it is one plain piece, so it is neither made characters nor scanned.
@@ -52,7 +52,7 @@ fn quiet(alloc: Global, text: &str) -> Result<Pieces, InlineFault>
     })
 }
 
-/// The nodes and the messages of the pieces of a text; `written` is the text, too, if that is ASCII.
+/// The nodes and the messages of the pieces of a text; `written` is the text, too, if that is ASCII without a backslash.
 fn read(
     alloc: Global,
     written: Option<&str>,
@@ -60,7 +60,7 @@ fn read(
     pieces: &[Piece],
     line: usize,
 ) -> Result<Pieces, InlineFault>
-    requires ascii { IfSome written (λ written. IsAscii written.now) }
+    requires bare { IfSome written (λ written. IsBare written.now) }
     requires same { IfSome written (λ written. written.now ≡ text.now) }
     requires within { All (IsWithin text.now) pieces.now }
     ensures { Gives (Reads text.now line pieces.now) result }

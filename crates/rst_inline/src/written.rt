@@ -1,4 +1,4 @@
-//! Pieces of a text that is ASCII: what holds no escapes is cut out of it as it was written, for there each character is a byte.
+//! Pieces of a text that is ASCII: without a backslash in it most are cut out of it as it was written, for there each character is a byte.
 ghost use Rattle.std.specs.Prelude.{◌≡◌, [], IfOk, IfSome};
 ghost use Rattle.std.specs.Str.{chars, IsAscii};
 ghost use Rattle.rst_tree.specs.declared.node.Node.TheVariants.{Text as Words};
@@ -6,13 +6,12 @@ ghost use Rattle.rst_pieces.specs.Pieces.{IsPieces, IsWithin};
 ghost use Rattle.rst_inline.specs.declared.reading.Meaning.TheVariants.{One};
 ghost use Rattle.rst_inline.specs.Faults.{Gives};
 ghost use Rattle.rst_inline.specs.Elements.{text_nodes, element_of};
-ghost use Rattle.rst_inline.specs.Parts.{source, content, is_bare, unless_escaped, bare_tag};
+ghost use Rattle.rst_inline.specs.Parts.{source, content, IsBare};
 ghost use Rattle.rst_inline.specs.Readings as spec;
 
 use super::fault::InlineFault;
 use super::reading::{Meaning, reading};
-use super::texts::part;
-use rst_pieces::{Kind, Markup, Piece, has_backslash, pieces_of, pieces_of_ascii};
+use rst_pieces::{Kind, Markup, Piece, pieces_of, pieces_of_ascii};
 use rst_tree::{Attrs, Children, Node, Tag, Text};
 use std::alloc::{AllocError, Global};
 
@@ -39,13 +38,15 @@ pub(crate) fn pieces(
     }
 }
 
-/// Whether a piece is plain text without escapes.
-fn is_bare(text: &[char], piece: Piece) -> bool
-    ensures { result ≡ is_bare text.now piece }
+/// The text, if it is ASCII without a backslash.
+pub(crate) fn if_bare(text: &str) -> Option<&str>
+    ensures bare { IfSome result (λ written. IsBare written.now) }
+    ensures same { IfSome result (λ written. written.now ≡ chars text.now) }
 {
-    match piece.kind {
-        Kind::Plain => !has_backslash(part(text, piece.from, piece.to)),
-        _ => false,
+    if text.is_ascii() && !text.as_bytes().contains(&b'\\') {
+        Some(text)
+    } else {
+        None
     }
 }
 
@@ -57,29 +58,6 @@ fn copied(alloc: Global, written: &str, piece: Piece) -> Result<Meaning, InlineF
 {
     let text = Text::from_str(alloc, &written[piece.from..piece.to])?;
     Ok(Meaning::One(Node::Text(text)))
-}
-
-fn unless_escaped(tag: Tag, content: &[char]) -> Option<Tag>
-    ensures { result ≡ unless_escaped tag content.now }
-{
-    if has_backslash(content) {
-        None
-    } else {
-        Some(tag)
-    }
-}
-
-/// The element that a piece is, if it holds nothing but text without escapes.
-fn bare_tag(text: &[char], piece: Piece) -> Option<Tag>
-    ensures { result ≡ bare_tag text.now piece }
-{
-    let content = part(text, piece.content_from, piece.content_to);
-    match piece.kind {
-        Kind::Marked(Markup::Strong, _) => unless_escaped(Tag::Strong, content),
-        Kind::Marked(Markup::Emphasis, _) => unless_escaped(Tag::Emphasis, content),
-        Kind::Marked(Markup::Literal, _) => Some(Tag::Literal),
-        _ => None,
-    }
 }
 
 /// The nodes of a text that is ASCII: none where it is empty.
@@ -116,7 +94,7 @@ fn enclosed(
     }))
 }
 
-/// What a piece of a text means; `written` is the text, too, if that is ASCII.
+/// What a piece of a text means; `written` is the text, too, if that is ASCII without a backslash.
 pub(crate) fn meaning(
     alloc: Global,
     written: Option<&str>,
@@ -124,18 +102,35 @@ pub(crate) fn meaning(
     line: usize,
     piece: Piece,
 ) -> Result<Meaning, InlineFault>
-    requires ascii { IfSome written (λ written. IsAscii written.now) }
+    requires bare { IfSome written (λ written. IsBare written.now) }
     requires same { IfSome written (λ written. written.now ≡ text.now) }
     requires within { IsWithin text.now piece }
     ensures { Gives (λ read. read ≡ spec.reading text.now line piece) result }
 {
-    if let Some(written) = written {
-        if is_bare(text, piece) {
-            return copied(alloc, written, piece);
-        }
-        if let Some(tag) = bare_tag(text, piece) {
-            return enclosed(alloc, tag, written, piece, line);
-        }
+    match written {
+        Some(written) => bare_meaning(alloc, written, text, line, piece),
+        None => reading(alloc, text, line, piece),
     }
-    reading(alloc, text, line, piece)
+}
+
+/// The same of a text that is ASCII without a backslash: most kinds of pieces are cut out of it.
+fn bare_meaning(
+    alloc: Global,
+    written: &str,
+    text: &[char],
+    line: usize,
+    piece: Piece,
+) -> Result<Meaning, InlineFault>
+    requires bare { IsBare written.now }
+    requires same { written.now ≡ text.now }
+    requires within { IsWithin text.now piece }
+    ensures { Gives (λ read. read ≡ spec.reading text.now line piece) result }
+{
+    match piece.kind {
+        Kind::Plain => copied(alloc, written, piece),
+        Kind::Marked(Markup::Strong, _) => enclosed(alloc, Tag::Strong, written, piece, line),
+        Kind::Marked(Markup::Emphasis, _) => enclosed(alloc, Tag::Emphasis, written, piece, line),
+        Kind::Marked(Markup::Literal, _) => enclosed(alloc, Tag::Literal, written, piece, line),
+        _ => reading(alloc, text, line, piece),
+    }
 }

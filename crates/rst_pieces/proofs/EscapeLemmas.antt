@@ -49,7 +49,7 @@ pub is_escaped-agree : (t : Text) (s i k : ℕ) → s ≤ i → i < k → IsBare
 is_escaped-agree t s i k h less bare =
     let e : i + 1 + (k - (i + 1)) ≡ k = omega arith in subst (λ k. is_escaped t s k ≡ is_escaped t i k) e (agree t s i (k - (i + 1)) h bare)
 
-either-false : (a b : Bool) → (a || b) ≡ false → (a ≡ false) × (b ≡ false)
+pub either-false : (a b : Bool) → (a || b) ≡ false → (a ≡ false) × (b ≡ false)
 either-false true b h = absurd (cc)
 either-false false b h = (refl, h)
 
