@@ -1,36 +1,11 @@
--- Escapes by backslashes (Markup Specification, 'Escaping Mechanism').
-use Rattle.std.specs.Prelude.{ℕ, zero, suc, Bool, true, false, not, ◌&&◌, ◌==◌, nat_le, [], ◌∷◌, slice_index, if◌then◌else◌}
-use Rattle.rst_text.specs.Characters.{is_white}
+-- What escapes leave of the marks of targets (Markup Specification, 'Escaping Mechanism').
+use Rattle.std.specs.Prelude.{Bool, true, false, not, ◌&&◌, ◌==◌, [], ◌∷◌, length, if◌then◌else◌}
+use Rattle.rst_pieces.specs.Escapes.{escapes, is_escaped}
 use Rattle.rst_directives.specs.Characters.{Text}
-
--- the character behind c is escaped, where c is itself escaped or not
-abbrev pub escapes : ℕ → Bool → Bool
-escapes c escaped = c == 92 && not escaped
-
--- an odd number of backslashes stands directly before the place, counted back no further than to `from`
-unfoldable pub is_escaped : Text → ℕ → ℕ → Bool
-is_escaped t from zero = false
-is_escaped t from (suc i) = nat_le from i && escapes (slice_index t i) (is_escaped t from i)
-
--- a character behind the text is escaped, where its first character is escaped or not
-abbrev pub escapes_behind : Bool → Text → Bool
-escapes_behind escaped [] = escaped
-escapes_behind escaped (c ∷ cs) = escapes_behind (escapes c escaped) cs
 
 -- a character behind the text is escaped: an odd number of backslashes ends it
 abbrev pub ends_escaping : Text → Bool
-ends_escaping t = escapes_behind false t
-
--- the characters without the escapes; `escaped` says that a backslash stands before them
-abbrev pub unescaped_from : Bool → Text → Text
-unescaped_from escaped [] = []
-unescaped_from true (c ∷ cs) = if is_white c then unescaped_from false cs else c ∷ unescaped_from false cs
-unescaped_from false (c ∷ cs) = if c == 92 then unescaped_from true cs else c ∷ unescaped_from false cs
-
--- The text without its escapes: a backslash and white behind it vanish, another character behind one stays, and a last
--- backslash vanishes.
-abbrev pub unescaped : Text → Text
-unescaped t = unescaped_from false t
+ends_escaping t = is_escaped t 0 (length t)
 
 -- a backquote of the text isn't escaped, where its first character is escaped or not
 abbrev pub has_bare_from : Bool → Text → Bool

@@ -3,8 +3,8 @@ use Rattle.std.specs.Prelude.{ℕ, ◌+◌, ◌-◌, Bool, not, ◌&&◌, ◌||�
 use Rattle.std.specs.Option.{is_some}
 use Rattle.rst_text.specs.Block.{indentation}
 use Rattle.rst_text.specs.Places.{first_from}
+use Rattle.rst_pieces.specs.Escapes.{is_escaped}
 use Rattle.rst_directives.specs.Characters.{Text, has}
-use Rattle.rst_directives.specs.Escapes.{is_escaped}
 use Rattle.rst_directives.specs.declared.field.FieldMark.{FieldMark}
 
 -- a mark may end before the place: a space stands there, or nothing

@@ -5,8 +5,9 @@ use Rattle.rst_text.specs.Block.{indentation, is_blank}
 use Rattle.rst_text.specs.Lines.{onto_first}
 use Rattle.rst_text.specs.Characters.{is_white, is_alphanumeric}
 use Rattle.rst_text.specs.Text.{chars_of}
+use Rattle.rst_pieces.specs.Escapes.{unescaped}
 use Rattle.rst_directives.specs.Characters.{Text, has}
-use Rattle.rst_directives.specs.Escapes.{ends_escaping, unescaped, has_bare_backquote}
+use Rattle.rst_directives.specs.Escapes.{ends_escaping, has_bare_backquote}
 use Rattle.rst_directives.specs.declared.target.Target.{Target}
 use Rattle.rst_directives.specs.declared.target.Target.TheVariants.{Name, Uri}
 

@@ -3,7 +3,6 @@ ghost use Rattle.std.specs.Prelude.{◌≡◌, ◌≤◌, IfOk, drop, length};
 ghost use Rattle.std.specs.Str.{chars};
 ghost use Rattle.rst_text.specs.Block.{indentation, is_blank};
 ghost use Rattle.rst_text.specs.Text.{chars_of};
-ghost use Rattle.rst_directives.specs.Escapes.{escapes};
 ghost use Rattle.rst_directives.specs.Characters as spec;
 
 use std::alloc::{AllocError, Global};
@@ -14,13 +13,6 @@ pub(crate) fn is_digit(c: char) -> bool
     ensures { result ≡ spec.is_digit c }
 {
     c.is_ascii_digit()
-}
-
-/// Whether the character behind `c` is escaped, where `c` is itself escaped or not.
-pub(crate) fn escapes(c: char, escaped: bool) -> bool
-    ensures { result ≡ escapes c escaped }
-{
-    c == '\\' && !escaped
 }
 
 /// Whether a character stands at a place.

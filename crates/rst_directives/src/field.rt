@@ -2,7 +2,8 @@
 ghost use Rattle.std.specs.Prelude.{◌≡◌, ◌+◌, ◌<◌, ◌≤◌, length, IfSome};
 ghost use Rattle.rst_directives.specs.Field as spec;
 
-use super::characters::{escapes, has, spaces};
+use super::characters::{has, spaces};
+use rst_pieces::escapes;
 
 /// The mark of a field at the front of a line: the place of the colon that ends the name, which begins at place 1,
 /// and how many characters the mark has with the spaces behind it.

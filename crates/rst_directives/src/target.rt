@@ -2,11 +2,13 @@
 ghost use Rattle.std.specs.Prelude.{◌≡◌, ◌+◌, ◌<◌, ◌≤◌, IfOk, IsTrue, Some, option_map, length};
 ghost use Rattle.std.specs.Str.{chars};
 ghost use Rattle.rst_directives.specs.Faults.{Gives};
+ghost use Rattle.rst_pieces.specs.Escapes.{unescaped};
 ghost use Rattle.rst_directives.specs.Escapes as escapes;
 ghost use Rattle.rst_directives.specs.Target as spec;
 
-use super::characters::{escapes, has, text_from};
+use super::characters::{has, text_from};
 use super::fault::MarkupFault;
+use rst_pieces::{escapes, unescaped};
 use rst_text::{characters_of, is_alphanumeric, is_white};
 use std::alloc::{AllocError, Global};
 
@@ -54,14 +56,14 @@ fn named(alloc: Global, name: &[char]) -> Result<Option<Target>, MarkupFault>
 }
 
 fn named_by_phrase(alloc: Global, phrase: &[char]) -> Result<Option<Target>, MarkupFault>
-    ensures { Gives (λ target. option_map spec.destination_of target ≡ Some (spec.named (escapes.unescaped phrase.now))) result }
+    ensures { Gives (λ target. option_map spec.destination_of target ≡ Some (spec.named (unescaped phrase.now))) result }
 {
     let bare = unescaped(alloc, phrase)?;
     named(alloc, &bare)
 }
 
 fn located(alloc: Global, text: &[char]) -> Result<Option<Target>, MarkupFault>
-    ensures { Gives (λ target. option_map spec.destination_of target ≡ spec.located_if (spec.without_white (escapes.unescaped text.now))) result }
+    ensures { Gives (λ target. option_map spec.destination_of target ≡ spec.located_if (spec.without_white (unescaped text.now))) result }
 {
     let bare = unescaped(alloc, text)?;
     let uri = without_white(alloc, &bare)?;
@@ -198,29 +200,6 @@ fn is_simple_name(text: &[char]) -> bool
         wanted = true;
     }
     !wanted
-}
-
-/// A text without its escapes: a backslash vanishes, and white behind one; another character behind one stays.
-fn unescaped(alloc: Global, text: &[char]) -> Result<Vec<char>, AllocError>
-    ensures { IfOk result (λ bare. bare.items ≡ escapes.unescaped text.now) }
-{
-    let mut bare = Vec::new(alloc);
-    let mut escaped = false;
-    for c in text {
-        if escaped {
-            if !is_white(*c) {
-                bare.push(*c)?;
-            }
-            escaped = false;
-            continue;
-        }
-        if *c == '\\' {
-            escaped = true;
-            continue;
-        }
-        bare.push(*c)?;
-    }
-    Ok(bare)
 }
 
 /// A text without its white characters.

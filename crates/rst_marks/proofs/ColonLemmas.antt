@@ -7,7 +7,8 @@ use Rattle.std.proofs.lemmas.Bool.{eqb-true}
 use Rattle.std.proofs.lemmas.Str.{encodes-chars, encodes-append}
 use Rattle.rst_text.specs.Block.{is_blank}
 use Rattle.rst_marks.specs.Front.{begins_with}
-use Rattle.rst_marks.specs.Closing.{escapes, is_colon_pair, ends_in_colons, ends_in_colons_from}
+use Rattle.rst_pieces.specs.Escapes.{escapes}
+use Rattle.rst_marks.specs.Closing.{is_colon_pair, ends_in_colons, ends_in_colons_from}
 
 and_true : (a b : Bool) → (a && b) ≡ true → (a ≡ true) × (b ≡ true)
 and_true true b h = (refl, h)

@@ -6,7 +6,8 @@ use Rattle.rst_marks.specs.Front.{first}
 use Rattle.rst_marks.specs.Decimal.{digit, spelled}
 use Rattle.rst_marks.specs.declared.closing.Closing.{Closing}
 use Rattle.rst_marks.specs.declared.closing.Before.{Before}
-use Rattle.rst_marks.specs.Closing.{closes, closed_from, before_next, escapes, is_colon_pair, ends_in_colons_from}
+use Rattle.rst_pieces.specs.Escapes.{escapes}
+use Rattle.rst_marks.specs.Closing.{closes, closed_from, before_next, is_colon_pair, ends_in_colons_from}
 
 -- digits read behind a value
 unfoldable pub decimal_from : ℕ → ℕ → List ℕ → ℕ

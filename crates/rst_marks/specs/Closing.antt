@@ -3,14 +3,11 @@
 use Rattle.std.specs.Prelude.{ℕ, suc, Bool, true, false, not, ◌&&◌, ◌==◌, List, [], ◌∷◌, drop, if◌then◌else◌, Option, None, Some, option_map}
 use Rattle.rst_text.specs.Characters.{is_white}
 use Rattle.rst_text.specs.Block.{is_blank}
+use Rattle.rst_pieces.specs.Escapes.{escapes}
 use Rattle.rst_marks.specs.Front.{begins_with, is_loose}
 use Rattle.rst_marks.specs.declared.closing.Closing.{Closing}
 use Rattle.rst_marks.specs.declared.closing.Before.{Before}
 use Rattle.rst_marks.specs.declared.closing.Closing.TheVariants.{Colon, QuotedColon, Bar, SpacedBar}
-
--- the character behind c is escaped
-abbrev pub escapes : ℕ → Bool → Bool
-escapes c escaped = c == 92 && not escaped
 
 -- what stands before the character behind c
 unfoldable pub before_next : Before → ℕ → Before

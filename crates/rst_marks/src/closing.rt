@@ -4,6 +4,7 @@ ghost use Rattle.std.specs.Str.{chars};
 ghost use Rattle.rst_marks.specs.Closing as spec;
 
 use super::text::{after_first, begins_with, front, is_blank, is_loose};
+use rst_pieces::escapes;
 use rst_text::{is_white, skip};
 
 /// What closes.
@@ -17,13 +18,6 @@ pub enum Closing {
     Bar,
     /// Such a bar with a space behind it.
     SpacedBar,
-}
-
-/// Whether the character behind this one is escaped.
-fn escapes(c: char, escaped: bool) -> bool
-    ensures { result ≡ spec.escapes c escaped }
-{
-    c == '\\' && !escaped
 }
 
 /// What stands before a character: whether it escapes it, and whether it is there and isn't white.

@@ -1,5 +1,5 @@
 use Rattle.std.proofs.Common.{◌≡◌, ℕ, ◌<◌, ◌≤◌, false}
-use Rattle.rst_directives.specs.Escapes.{is_escaped}
+use Rattle.rst_pieces.specs.Escapes.{is_escaped}
 use Rattle.rst_directives.specs.Field.{closes}
 use Rattle.rst_directives.proofs.field.colon_of.Given as goal
 
