@@ -1,9 +1,10 @@
 -- How far escapes reach.
-use Rattle.std.proofs.Common.{◌≡◌, ℕ, zero, suc, ◌+◌, ◌-◌, ◌<◌, ◌≤◌, Bool, true, false, ◌&&◌, ◌||◌, ◌==◌, cond, [], ◌∷◌, leb, get_or, refl, sym, ap, ◌∙◌, subst, arith, add-one}
+use Rattle.std.proofs.Common.{◌≡◌, ℕ, zero, suc, ◌+◌, ◌-◌, ◌<◌, ◌≤◌, Bool, true, false, ◌&&◌, ◌||◌, ◌==◌, cond, if◌then◌else◌, [], ◌∷◌, leb, get_or, refl, sym, ap, ap₂, ◌∙◌, subst, arith, add-one}
 use Rattle.std.proofs.lemmas.Bool.{le-leb, eqb-true, and_parts}
 use Rattle.std.proofs.lemmas.Bool.Decides.{nat_tests}
+use Rattle.rst_text.specs.Characters.{is_white}
 use Rattle.rst_pieces.specs.Characters.{Text, has}
-use Rattle.rst_pieces.specs.Escapes.{escapes, is_escaped, has_backslash, unescaped_from, unescaped}
+use Rattle.rst_pieces.specs.Escapes.{escapes, is_escaped, has_backslash, unescaped}
 
 pub is_escaped-start : (t : Text) (from : ℕ) → is_escaped t from from ≡ false
 unfolding is_escaped
@@ -56,5 +57,20 @@ either-false false b h = (refl, h)
 -- without a backslash a text has no escapes
 pub unescaped-plain : (t : Text) → has_backslash t ≡ false → unescaped t ≡ t
 unescaped-plain [] h = refl
-unescaped-plain (c ∷ cs) h =
-    let parts = either-false (c == 92) (has_backslash cs) h in ap (λ b. cond b (unescaped_from true cs) (c ∷ unescaped_from false cs)) parts.0 ∙ ap (λ rest. c ∷ rest) (unescaped-plain cs parts.1)
+unescaped-plain (c ∷ []) h = ap (λ b. cond b [] (c ∷ [])) (either-false (c == 92) false h).0
+unescaped-plain (c ∷ d ∷ cs) h =
+    let parts = either-false (c == 92) (has_backslash (d ∷ cs)) h in
+    ap (λ b. cond b (cond (is_white d) (unescaped cs) (d ∷ unescaped cs)) (c ∷ unescaped (d ∷ cs))) parts.0 ∙ ap (λ rest. c ∷ rest) (unescaped-plain (d ∷ cs) parts.1)
+
+-- what is left of characters behind a backslash that isn't itself escaped, or behind none
+abbrev pub unescaped_from : Bool → Text → Text
+unescaped_from escaped [] = []
+unescaped_from true (c ∷ cs) = if is_white c then unescaped_from false cs else c ∷ unescaped_from false cs
+unescaped_from false (c ∷ cs) = if c == 92 then unescaped_from true cs else c ∷ unescaped_from false cs
+
+-- so a text without its escapes can be read a character at a time
+pub unescaped-read : (t : Text) → unescaped_from false t ≡ unescaped t
+unescaped-read [] = refl
+unescaped-read (c ∷ []) = refl
+unescaped-read (c ∷ d ∷ cs) =
+    ap₂ (λ rest all. cond (c == 92) (cond (is_white d) rest (d ∷ rest)) (c ∷ all)) (unescaped-read cs) (unescaped-read (d ∷ cs))

@@ -1,5 +1,5 @@
 -- Escapes by backslashes (Markup Specification, 'Escaping Mechanism').
-use Rattle.std.specs.Prelude.{ℕ, zero, suc, Bool, true, false, not, ◌&&◌, ◌==◌, nat_le, [], ◌∷◌, slice_index, if◌then◌else◌}
+use Rattle.std.specs.Prelude.{ℕ, zero, suc, Bool, false, not, ◌&&◌, ◌==◌, nat_le, [], ◌∷◌, slice_index, if◌then◌else◌}
 use Rattle.std.specs.List.{list_any}
 use Rattle.rst_text.specs.Characters.{is_white}
 use Rattle.rst_pieces.specs.Characters.{Text}
@@ -13,16 +13,12 @@ unfoldable pub is_escaped : Text → ℕ → ℕ → Bool
 is_escaped t from zero = false
 is_escaped t from (suc i) = nat_le from i && escapes (slice_index t i) (is_escaped t from i)
 
--- the characters without the escapes; `escaped` says that a backslash stands before them
-abbrev pub unescaped_from : Bool → Text → Text
-unescaped_from escaped [] = []
-unescaped_from true (c ∷ cs) = if is_white c then unescaped_from false cs else c ∷ unescaped_from false cs
-unescaped_from false (c ∷ cs) = if c == 92 then unescaped_from true cs else c ∷ unescaped_from false cs
-
 -- The text without its escapes: a backslash and white behind it vanish, another character behind one stays, and a last
 -- backslash vanishes.
 abbrev pub unescaped : Text → Text
-unescaped t = unescaped_from false t
+unescaped [] = []
+unescaped (c ∷ []) = if c == 92 then [] else c ∷ []
+unescaped (c ∷ d ∷ cs) = if c == 92 then (if is_white d then unescaped cs else d ∷ unescaped cs) else c ∷ unescaped (d ∷ cs)
 
 -- there is a backslash in the text
 abbrev pub has_backslash : Text → Bool

@@ -1,5 +1,6 @@
 use Rattle.std.proofs.Common.{◌≡◌, ◌++◌, drop}
-use Rattle.rst_pieces.specs.Escapes.{unescaped_from, unescaped}
+use Rattle.rst_pieces.specs.Escapes.{unescaped}
+use Rattle.rst_pieces.proofs.EscapeLemmas.{unescaped_from}
 use Rattle.rst_pieces.proofs.escaping.without_escapes.Given as goal
 
 abbrev pub invariant-loop-letter : goal.invariant-loop-letter
