@@ -1,7 +1,6 @@
 //! Names and ids of texts.
 ghost use Rattle.std.specs.Prelude.{◌≡◌, string_bytes, encode_utf8_all, IfOk, map};
 ghost use Rattle.std.specs.Str.{chars};
-ghost use Rattle.unicode.specs.CaseFolding as folding;
 ghost use Rattle.rst_text.specs.Faults.{Gives};
 ghost use Rattle.rst_text.specs.Names as spec;
 ghost use Rattle.rst_text.specs.Text.{chars_of};
@@ -20,8 +19,7 @@ pub fn normalized_white(alloc: Global, text: &str) -> Result<String, TextFault>
     ensures { Gives (λ normalized. chars_of normalized ≡ spec.normalized_white (chars text.now)) result }
 {
     let characters = characters_of(alloc, text)?;
-    let normalized = without_white_runs(alloc, &characters)?;
-    Ok(text_from(alloc, &normalized)?)
+    Ok(spaced(alloc, &characters, false)?)
 }
 
 /// The name that a text gives: each run of white characters is one space, none is at its ends, and case is folded, by
@@ -32,8 +30,7 @@ pub fn name_of(alloc: Global, text: &str) -> Result<String, TextFault>
     ensures { Gives (λ name. chars_of name ≡ spec.name_of (chars text.now)) result }
 {
     let characters = characters_of(alloc, text)?;
-    let normalized = without_white_runs(alloc, &characters)?;
-    Ok(folded(alloc, &normalized)?)
+    Ok(spaced(alloc, &characters, true)?)
 }
 
 /// The id that a text gives: its name in NFKD without the characters that aren't ASCII, each run of characters other
@@ -50,46 +47,31 @@ pub fn id_of(alloc: Global, text: &str) -> Result<String, TextFault>
     Ok(identifier_of(alloc, &characters)?)
 }
 
-/// The characters with each run of white ones as one space, and none at the ends.
-fn without_white_runs(alloc: Global, text: &[char]) -> Result<Vec<char>, AllocError>
-    ensures { IfOk result (λ normalized. normalized.items ≡ spec.normalized_white text.now) }
+/// The character, folded or as it is.
+fn cased(folds: bool, c: char) -> char
+    ensures { result ≡ spec.cased folds c }
 {
-    let mut normalized = Vec::with_capacity(alloc, text.len())?;
+    if folds { simple_fold(c) } else { c }
+}
+
+/// The characters with each run of white ones as one space, and none at the ends, as a text. Each is folded by itself, or kept.
+fn spaced(alloc: Global, characters: &[char], folds: bool) -> Result<String, AllocError>
+    ensures { IfOk result (λ text. string_bytes text ≡ encode_utf8_all (map (spec.cased folds) (spec.normalized_white characters.now))) }
+{
+    let mut text = String::with_capacity(alloc, characters.len())?;
     let mut begun = false;
     let mut due = false;
-    for c in text {
+    for c in characters {
         if is_white(*c) {
             due = begun;
             continue;
         }
         if due {
-            normalized.push(' ')?;
+            text.push(cased(folds, ' '))?;
             due = false;
         }
-        normalized.push(*c)?;
+        text.push(cased(folds, *c))?;
         begun = true;
-    }
-    Ok(normalized)
-}
-
-/// The characters as a text.
-fn text_from(alloc: Global, characters: &[char]) -> Result<String, AllocError>
-    ensures { IfOk result (λ text. string_bytes text ≡ encode_utf8_all characters.now) }
-{
-    let mut text = String::with_capacity(alloc, characters.len())?;
-    for c in characters {
-        text.push(*c)?;
-    }
-    Ok(text)
-}
-
-/// The characters, each folded by itself, as a text.
-fn folded(alloc: Global, characters: &[char]) -> Result<String, AllocError>
-    ensures { IfOk result (λ text. string_bytes text ≡ encode_utf8_all (map folding.simple_fold characters.now)) }
-{
-    let mut text = String::with_capacity(alloc, characters.len())?;
-    for c in characters {
-        text.push(simple_fold(*c))?;
     }
     Ok(text)
 }
