@@ -1,23 +1,12 @@
 -- Lemmas on what readers hand out and writers gain.
-use Rattle.std.proofs.Common.{◌≡◌, ℕ, ◌+◌, List, ◌++◌, ◌∷◌, [], length, take, drop, None, Some, Option, sym, ap, ◌∙◌, Bool, false, subst, append_assoc, arith, ◌-◌, ◌<◌, ◌≤◌, suc, length-drop, length-append, get_or, Bor, take-append-drop, true≢false}
+use Rattle.std.proofs.Common.{◌≡◌, ℕ, ◌+◌, List, ◌++◌, ◌∷◌, [], length, take, drop, None, Some, Option, sym, ap, ◌∙◌, Bool, false, subst, append_assoc, arith, ◌<◌, ◌≤◌, suc, length-append, get_or, Bor, take-append-drop, true≢false}
 use Rattle.rst_text.specs.Counted.{Stream}
 use Rattle.rst2pseudoxml.specs.Headline.{IsCutShort}
 use Rattle.std.specs.List.{flat_map}
 use Rattle.std.proofs.lemmas.Grind.{flat_map-append}
 use Rattle.std.proofs.lemmas.List.{take_all, take-append-le}
 use Rattle.std.specs.Io.KnownBytes.{Appends, Consumes}
-use Rattle.std.proofs.Math.Seq.{take-add, take-append-add, drop-cons}
-
--- the slice from a place on
-pub slice_from : (done : ℕ) (text : List ℕ) → take (length text - done) (drop done text) ≡ drop done text
-slice_from done text = take_all (length text - done) (drop done text) (omega (arith, length-drop done text))
-
-pub Appends-more : (a b c : Option (List ℕ)) (done n : ℕ) (text : List ℕ) → Appends a b (take done text) → Appends b c (take n (drop done text)) → Appends a c (take (done + n) text)
-Appends-more None b c done n text p q = tt
-Appends-more (Some x) None c done n text p q = absurd p
-Appends-more (Some x) (Some y) None done n text p q = absurd q
-Appends-more (Some x) (Some y) (Some z) done n text p q =
-    q ∙ ap (λ l. l ++ take n (drop done text)) p ∙ append_assoc x (take done text) (take n (drop done text)) ∙ ap (λ l. x ++ l) (sym (take-add done n text))
+use Rattle.std.proofs.Math.Seq.{take-append-add, drop-cons}
 
 pub Consumes-more : (a b c : Option (List ℕ)) (bs cs : List ℕ) → Consumes a b bs → Consumes b c cs → Consumes a c (bs ++ cs)
 Consumes-more None b c bs cs p q = tt

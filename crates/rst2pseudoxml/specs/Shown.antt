@@ -99,9 +99,3 @@ abbrev pub Tells : {A : Type 0} → Settings → List ℕ → List Note → Resu
 Tells settings source notes (Ok text) = (inner_of text).items ≡ told settings source notes
 Tells settings source notes (Err NoMemory) = Unit {0}
 Tells settings source notes (Err _) = ⊥
-
--- the text of the document was made, or memory ran out
-abbrev pub Draws : {A : Type 0} → Node → Option Level → Result (Counted (Vec ℕ A)) End → Type 0
-Draws document halting (Ok text) = (inner_of text).items ≡ shown_by document halting
-Draws document halting (Err NoMemory) = Unit {0}
-Draws document halting (Err _) = ⊥

@@ -8,10 +8,11 @@ ghost use Rattle.rst2pseudoxml.specs.Shown.{Answers, parts_of};
 use super::document::document_of;
 use super::end::End;
 use super::input::read_input;
-use super::telling::{halting, shown, status_of, told};
+use super::telling::{halting, status_of, told};
 use rst_settings::Settings;
 use rst_text::Counted;
 use rst_transform::Finished;
+use rst_tree::{PrintFault, print};
 use std::alloc::Global;
 use std::io::{Read, Write};
 use std::mem;
@@ -56,8 +57,8 @@ pub fn run<R: Read, O: Write, E: Write>(
 
 /// Writes what the program shows of a finished document: all of standard error, then standard output.
 ///
-/// Both texts are made before the first write: where memory runs out nothing was written, and a stream takes its text in few
-/// writes.
+/// The messages are gathered before the first write, so where memory runs out nothing was written. The document needs no
+/// memory: it is printed as it is written.
 fn show<O: Write, E: Write>(
     alloc: Global,
     settings: &Settings,
@@ -79,20 +80,15 @@ fn show<O: Write, E: Write>(
         Ok(messages) => messages,
         Err(_) => return End::NoMemory,
     };
-    let halts = halting(notes, settings);
-    let document = match shown(alloc, &finished.tree, halts) {
-        Ok(document) => document,
-        Err(_) => return End::NoMemory,
-    };
     if let Err(done) = write_text(messages.inner().as_slice(), err) {
         return End::WriteErr { done };
     }
-    if let Err(done) = write_text(document.inner().as_slice(), out) {
-        return End::WriteOut { done };
+    if halting(notes, settings).is_some() {
+        return End::Done(1);
     }
-    match halts {
-        Some(_) => End::Done(1),
-        None => End::Done(status_of(finished.highest, settings)),
+    match print(&finished.tree, out) {
+        Ok(()) => End::Done(status_of(finished.highest, settings)),
+        Err(PrintFault::Write { done }) => End::WriteOut { done },
     }
 }
 

@@ -8,7 +8,7 @@ use super::run::write_text;
 use itoa::Buffer;
 use rst_settings::Settings;
 use rst_text::Counted;
-use rst_tree::{Level, Note, Tree, message_line, print};
+use rst_tree::{Level, Note, message_line};
 use std::alloc::{AllocError, Global};
 
 /// The level of the message that halts a run, if one does: the last.
@@ -74,19 +74,6 @@ pub fn told(
         Ok(()) => Ok(text),
         Err(_) => Err(End::NoMemory),
     }
-}
-
-/// What is shown on standard output: the document, or nothing where a message halts the run.
-///
-/// The only refusal is [`End::NoMemory`].
-pub fn shown(alloc: Global, tree: &Tree, halts: Option<Level>) -> Result<Counted<Vec<u8>>, End>
-    ensures { spec.Draws tree.now halts result }
-{
-    let mut text = Counted::of(Vec::new(alloc));
-    if halts.is_none() && print(tree, &mut text).is_err() {
-        return Err(End::NoMemory);
-    }
-    Ok(text)
 }
 
 /// The exit status of a run that isn't halted, where its gravest message has this level, by its number; 0 for none.

@@ -1,5 +1,5 @@
 use Rattle.std.proofs.Common.{◌∙◌, arith}
-use Rattle.rst2pseudoxml.proofs.StreamLemmas.{Appends-more, slice_from}
+use Rattle.rst_tree.proofs.Pages.{Appends-more, slice_from}
 use Rattle.rst2pseudoxml.proofs.run.write_text.Goals as goal
 
 pub loop-done-preserved : goal.loop-done-preserved
