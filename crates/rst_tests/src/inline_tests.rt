@@ -23,6 +23,9 @@ const ROWS: &[(&str, &str)] = &[
         "    <emphasis>⏎        a⏎    <emphasis>⏎        b⏎",
     ),
     ("\\", ""),
+    ("two lines,\nno markup.", "    two lines,⏎    no markup.⏎"),
+    ("fifteen letters\\", "    fifteen letters⏎"),
+    ("sixteen letters.\\", "    sixteen letters.⏎"),
     ("2 * 3 * 4", "    2 * 3 * 4⏎"),
     ("\"*\" (*) '*'", "    \"*\" (*) '*'⏎"),
     (
