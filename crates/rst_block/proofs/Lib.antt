@@ -1,5 +1,4 @@
 pub mod Blocks
-pub mod KindRows
 pub mod Looked
 pub mod Quotes
 pub mod Reached

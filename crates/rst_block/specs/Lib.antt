@@ -1,4 +1,3 @@
-pub mod Begun
 pub mod Frames
 pub mod Paragraphs
 pub mod Steps

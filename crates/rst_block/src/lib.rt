@@ -2,7 +2,6 @@
 #![tactic(auto)]
 
 mod adornment;
-mod begun;
 mod definition;
 mod directive;
 mod explicit;

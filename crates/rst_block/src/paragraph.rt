@@ -8,7 +8,6 @@ ghost use Rattle.rst_markup.specs.Kinds.{next_text};
 ghost use Rattle.rst_block.specs.Paragraphs as paragraphs;
 ghost use Rattle.rst_block.specs.Steps as spec;
 
-use super::begun::{Begun, begun_at};
 use super::fault::BlockFault;
 use super::level::Level;
 use super::part::{indented, inside};
@@ -17,7 +16,8 @@ use super::texts::{Pass, joined, number_at, source};
 use rst_elements::{message, preserved, with_text};
 use rst_marks::{begins_with, ends_in_colons, front, is_blank, is_punctuation};
 use rst_markup::{
-    Adorned, LineTest, TextForm, adorned_at, below_text, lines_end, text_at, text_form,
+    Adorned, Begun, LineTest, TextForm, adorned_at, begun_at, below_text, lines_end, text_at,
+    text_form,
 };
 use rst_text::{View, skip};
 use rst_tree::{Level as Gravity, Tag};

@@ -5,7 +5,6 @@ ghost use Rattle.rst_markup.specs.Parts.{IsBlock, IsCall};
 ghost use Rattle.rst_block.specs.Steps as spec;
 
 use super::adornment::adornment;
-use super::begun::{Begun, begun_at};
 use super::explicit::explicit_markup;
 use super::fault::BlockFault;
 use super::field::field;
@@ -19,7 +18,7 @@ use super::resume::Waits;
 use super::table::table;
 use super::text::text_line;
 use super::texts::Pass;
-use rst_markup::Part;
+use rst_markup::{Begun, Part, begun_at};
 use rst_tables::{TableResult, grid, simple};
 use rst_text::View;
 use std::alloc::Global;

@@ -4,4 +4,5 @@ pub mod PartLemmas
 pub mod ExplicitLemmas
 pub mod AttributionLemmas
 pub mod RowLemmas
+pub mod KindRows
 pub mod TableLemmas

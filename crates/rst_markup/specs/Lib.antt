@@ -1,6 +1,7 @@
 pub mod TableLines
 pub mod Lines
 pub mod Kinds
+pub mod Begun
 pub mod Forms
 pub mod Sizes
 pub mod Rows

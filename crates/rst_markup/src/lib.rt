@@ -3,6 +3,7 @@
 
 mod adornment_line;
 mod attribution;
+mod begun;
 mod construct;
 mod constructs;
 mod ends;
@@ -21,6 +22,7 @@ mod table_rows;
 
 pub use adornment_line::{AdornmentLine, adorned_at};
 pub use attribution::{Attribution, attribution_at};
+pub use begun::{Begun, begun_at, kind_of};
 pub use construct::{Construct, end_after};
 pub use constructs::{
     AnonymousTarget, BarLine, BlankLine, BlockQuote, BulletItem, DoctestBlock, EnumeratedItem,
@@ -36,6 +38,5 @@ pub use kind::Kind;
 pub use kind_end::end_of;
 pub use lines::{LineTest, below_end, below_text, lines_end, text_at};
 pub use part::Part;
-pub use row::{item_enumerator, item_option, kind_by, kind_of};
 pub use rst_marks::Characters;
 pub use table_rows::{GridTable, SimpleTable};

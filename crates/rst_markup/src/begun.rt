@@ -1,21 +1,22 @@
 //! What begins at a line, with what its mark says.
-ghost use Rattle.std.specs.Prelude.{◌≡◌, ℕ, List, ◌+◌, ◌-◌, ◌*◌, ◌^◌, ◌<◌, ◌≤◌, length, drop, IfOk, IfSome};
+ghost use Rattle.std.specs.Prelude.{◌≡◌, ℕ, List, ◌+◌, ◌^◌, ◌<◌, ◌≤◌, length, drop};
 ghost use Rattle.std.specs.Str.{chars};
 ghost use Rattle.rst_text.specs.Shown.{block_of};
-ghost use Rattle.rst_markup.specs.Parts.{IsBlock, IsCall};
-ghost use Rattle.rst_markup.specs.Kinds.{kind_by, later_kind};
-ghost use Rattle.rst_block.specs.Begun as spec;
+ghost use Rattle.rst_markup.specs.Kinds.{kind_by, kind_of, later_kind};
+ghost use Rattle.rst_markup.specs.Begun as spec;
 
+use super::kind::Kind;
+use super::lines::below_text;
+use super::row::{item_enumerator, item_option};
 use rst_marks::{
     Adornment, Enumerator, FieldMark, Marker, adornment_of, begins_with, bullet, doctest, dots,
     field_of, front, is_blank, is_grid_border, is_simple_border, line_bar, underscores,
 };
-use rst_markup::{below_text, item_enumerator, item_option};
 use rst_text::{Looks, View};
 
-/// What begins at a line: its kind, with the mark by which it is of that kind.
+/// What begins at a line: its [`Kind`], with the mark by which it is of that kind.
 #[derive(Clone, Copy)]
-pub(crate) enum Begun {
+pub enum Begun {
     Blank,
     Quote,
     Bullet { mark: char, marker: Marker },
@@ -32,10 +33,43 @@ pub(crate) enum Begun {
     Text,
 }
 
+impl Begun {
+    /// The kind of a line at which this begins.
+    pub fn kind(self) -> Kind
+        ensures { result ≡ spec.kind_in self }
+    {
+        match self {
+            Begun::Blank => Kind::Blank,
+            Begun::Quote => Kind::Quote,
+            Begun::Bullet { .. } => Kind::Bullet,
+            Begun::Enumerator(_) => Kind::Enumerator,
+            Begun::Field(_) => Kind::Field,
+            Begun::OptionItem(_) => Kind::OptionItem,
+            Begun::Doctest => Kind::Doctest,
+            Begun::Line(_) => Kind::Line,
+            Begun::Grid => Kind::Grid,
+            Begun::Simple => Kind::Simple,
+            Begun::Explicit => Kind::Explicit,
+            Begun::Anonymous => Kind::Anonymous,
+            Begun::Adornment(_) => Kind::Adornment,
+            Begun::Text => Kind::Text,
+        }
+    }
+}
+
+/// The kind of the line at place `i`. It makes at most three looks.
+pub fn kind_of(view: &View<'_>, i: usize, looks: &mut Looks) -> Kind
+    requires inside { i < length (block_of view.now) }
+    requires few { looks.old < 2 ^ 120 }
+    ensures kind { result ≡ kind_of (block_of view.now) i }
+    ensures looks { looks.new ≤ looks.old + 3 }
+{
+    begun_at(view, i, looks).kind()
+}
+
 /// What begins at the line at place `at`, in three looks.
-pub(crate) fn begun_at(view: &View<'_>, at: usize, looks: &mut Looks) -> Begun
+pub fn begun_at(view: &View<'_>, at: usize, looks: &mut Looks) -> Begun
     requires inside { at < length (block_of view.now) }
-    requires short { length (block_of view.now) < 2 ^ 64 }
     requires few { looks.old < 2 ^ 120 }
     ensures begun { spec.IsBegun (drop at (block_of view.now)) result }
     ensures looks { looks.new ≤ looks.old + 3 }

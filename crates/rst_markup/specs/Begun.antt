@@ -8,8 +8,8 @@ use Rattle.rst_marks.specs.Marker.{bullet, line_bar}
 use Rattle.rst_markup.specs.Kinds.{kind_at, next_text, after_text, item_enumerator, item_option}
 use Rattle.rst_markup.specs.declared.kind.Kind.{Kind}
 use Rattle.rst_markup.specs.declared.kind.Kind.TheVariants as kinds
-use Rattle.rst_block.specs.declared.begun.Begun.{Begun}
-use Rattle.rst_block.specs.declared.begun.Begun.TheVariants.{Blank, Quote, Bullet, Enumerator, Field, OptionItem, Doctest, Line, Grid, Simple, Explicit, Anonymous, Adornment, Text}
+use Rattle.rst_markup.specs.declared.begun.Begun.{Begun}
+use Rattle.rst_markup.specs.declared.begun.Begun.TheVariants.{Blank, Quote, Bullet, Enumerator, Field, OptionItem, Doctest, Line, Grid, Simple, Explicit, Anonymous, Adornment, Text}
 
 -- the kind of a line at which something begins
 abbrev pub kind_in : Begun → Kind
