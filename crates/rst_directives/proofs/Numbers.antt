@@ -1,10 +1,10 @@
 -- Numbers that are read a digit at a time.
 use Rattle.std.proofs.Common.{◌≡◌, ℕ, suc, ◌+◌, ◌*◌, ◌^◌, [], ◌∷◌, length, ◌∙◌, arith}
 use Rattle.std.proofs.Math.Nat.{pow-suc}
+use Rattle.rst_marks.specs.Decimal.{digit, spelled}
 use Rattle.rst_directives.specs.Characters.{Text}
-use Rattle.rst_directives.specs.Measure.{digit, number_of}
 
--- the number that digits write behind another number
+-- the number that digits spell behind another number
 abbrev pub number_from : ℕ → Text → ℕ
 number_from n [] = n
 number_from n (c ∷ cs) = number_from (n * 10 + digit c) cs
@@ -13,12 +13,12 @@ one_on : (v d p q s : ℕ) → q ≡ p * 10 → (v * 10 + d) * p + s ≡ v * q +
 one_on v d p q s e = rw e (omega arith)
 
 -- they write what they do by themselves, and the number stands before them
-behind_number : (v : ℕ) (t : Text) → number_from v t ≡ v * 10 ^ length t + number_of t
-unfolding number_of
+behind_number : (v : ℕ) (t : Text) → number_from v t ≡ v * 10 ^ length t + spelled t
+unfolding spelled
 behind_number v [] = omega arith
 behind_number v (c ∷ cs) =
     behind_number (v * 10 + digit c) cs
-    ∙ one_on v (digit c) (10 ^ length cs) (10 ^ suc (length cs)) (number_of cs) (pow-suc 10 (length cs))
+    ∙ one_on v (digit c) (10 ^ length cs) (10 ^ suc (length cs)) (spelled cs) (pow-suc 10 (length cs))
 
-pub number_is : (t : Text) → number_from 0 t ≡ number_of t
+pub number_is : (t : Text) → number_from 0 t ≡ spelled t
 number_is t = omega (arith, behind_number 0 t)

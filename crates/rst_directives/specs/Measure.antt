@@ -1,7 +1,7 @@
 -- Measures, scales and alignments (Directives, 'Image', 'Figure').
-use Rattle.std.specs.Prelude.{ℕ, ◌+◌, ◌-◌, ◌*◌, ◌^◌, Bool, not, ◌&&◌, ◌||◌, ◌==◌, nat_lt, [], ◌∷◌, ◌++◌, take, drop, length, codes, Option, Some, None, if◌then◌else◌}
-use Rattle.std.specs.Char.{is_ascii_digit}
+use Rattle.std.specs.Prelude.{ℕ, ◌+◌, Bool, not, ◌&&◌, ◌||◌, ◌==◌, nat_lt, [], ◌∷◌, ◌++◌, take, drop, length, codes, Option, Some, None, if◌then◌else◌}
 use Rattle.rst_text.specs.Block.{indentation, is_blank}
+use Rattle.rst_marks.specs.Decimal.{decimal}
 use Rattle.rst_directives.specs.Characters.{Text, has, digits, is_exactly}
 use Rattle.rst_directives.specs.declared.measure.Measure.{Measure}
 use Rattle.rst_directives.specs.declared.measure.Alignment.{Alignment}
@@ -43,21 +43,12 @@ measure_by t wanted None = None
 unfoldable pub measure_of : Text → Bool → Bool → Option Text
 measure_of t percent wanted = measure_by t wanted (measure_parts t percent)
 
--- the value of a digit
-abbrev pub digit : ℕ → ℕ
-digit c = if is_ascii_digit c then c - 48 else 0
-
--- the number that digits write: each counts ten times as much as it would one place further on
-unfoldable pub number_of : Text → ℕ
-number_of [] = 0
-number_of (c ∷ cs) = digit c * 10 ^ length cs + number_of cs
-
 -- a scale: one to nine digits, maybe a percent sign with or without spaces before it
 unfoldable pub scale_of : Text → Option ℕ
 scale_of t =
     if digits t == 0 || nat_lt 9 (digits t) then None
     else if is_blank (drop (digits t) t) || is_exactly (drop (indentation (drop (digits t) t)) (drop (digits t) t)) (codes "%")
-    then Some (number_of (take (digits t) t))
+    then Some (decimal (digits t) t)
     else None
 
 unfoldable pub vertical_alignment : Text → Option Alignment

@@ -1,8 +1,10 @@
 //! Measures, scales and alignments.
 ghost use Rattle.std.specs.Prelude.{◌≡◌, ◌+◌, ◌*◌, ◌<◌, ◌≤◌, ◌^◌, length, IfSome, IfOk, option_map};
+ghost use Rattle.rst_marks.specs.Decimal.{spelled};
 ghost use Rattle.rst_directives.specs.Measure as spec;
 
 use super::characters::{digits, has, is_exactly, spaces};
+use rst_marks::digit;
 use std::alloc::{AllocError, Global};
 
 /// Where an image or a figure stands.
@@ -98,29 +100,22 @@ pub(crate) fn measure_of(
     Ok(Some(measure))
 }
 
-/// The number that digits write; at most nine of them fit.
+/// The number that digits spell, of which there are at most nine.
 #[tactic(auto, using(crate::proofs::Numbers::number_is))]
-fn number_of(text: &[char]) -> u32
+fn number_of(text: &[char]) -> u64
     requires { length text.now ≤ 9 }
-    ensures { result ≡ spec.number_of text.now }
+    ensures { result ≡ spelled text.now }
 {
-    let mut number = 0u32;
+    let mut number = 0;
     for c in text {
         number = number * 10 + digit(*c);
     }
     number
 }
 
-fn digit(c: char) -> u32
-    ensures value { result ≡ spec.digit c }
-    ensures small { result < 10 }
-{
-    if c.is_ascii_digit() { c as u32 - 48 } else { 0 }
-}
-
 /// The number of a scale: one to nine digits, maybe a percent sign with or without spaces before it.
 #[tactic(auto, unfolding(crate::specs::Measure::scale_of))]
-pub(crate) fn scale_of(text: &[char]) -> Option<u32>
+pub(crate) fn scale_of(text: &[char]) -> Option<u64>
     ensures { result ≡ spec.scale_of text.now }
 {
     let n = digits(text);

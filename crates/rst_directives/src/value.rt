@@ -25,7 +25,7 @@ pub enum OptionValue {
     /// The measure of `height`, `width` and `figwidth`.
     Measure(String),
     /// The number of `scale`.
-    Number(u32),
+    Number(u64),
     /// The word of `align`.
     Place(Alignment),
     /// The ids of the words of `class` and `figclass`.

@@ -70,7 +70,7 @@ fn value_of(alloc: Global, value: &OptionValue) -> Result<Value, TreeFault>
     match value {
         OptionValue::Text(text) => said(alloc, text.as_str()),
         OptionValue::Measure(measure) => said(alloc, measure.as_str()),
-        OptionValue::Number(number) => Ok(Value::Number(u64::from(*number))),
+        OptionValue::Number(number) => Ok(Value::Number(*number)),
         OptionValue::Place(alignment) => said(alloc, alignment_name(*alignment)),
         OptionValue::Classes(classes) => listed(alloc, classes),
         OptionValue::Link { source, .. } => said(alloc, source.as_str()),
