@@ -49,7 +49,7 @@ pub(crate) enum Ended<'a> {
 impl MadeWith<Global> for Frame {
     fn made_with(alloc: Global) -> Frame {
         Frame {
-            portion: Portion::default(),
+            portion: Portion::none(),
             level: Level::new(alloc, 0),
             waits: Waits::ListItem { line: 0 },
             second: None,

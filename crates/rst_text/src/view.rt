@@ -27,12 +27,31 @@ pub struct View<'a> {
 }
 
 /// Where a view stands in its text, without the text: the lines at which it begins and ends, and its cuts.
-#[derive(Clone, Copy, Debug, Default, PartialEq, Eq)]
+#[derive(Clone, Copy, Debug, PartialEq, Eq)]
 pub struct Portion {
     from: usize,
     to: usize,
     first: usize,
     rest: usize,
+}
+
+impl Portion {
+    ghost use Rattle.std.specs.Prelude.{List, []};
+    ghost use Rattle.rst_text.specs.Shown.{portion_block};
+    ghost use Rattle.rst_text.specs.declared.lines.SourceLine.{SourceLine};
+
+    /// The portion of any text that has no line.
+    #[tactic(auto, unfolding(crate::specs::Shown::portion_block))]
+    pub fn none() -> Portion
+        ensures { (lines : List SourceLine) → portion_block lines result ≡ [] }
+    {
+        Portion {
+            from: 0,
+            to: 0,
+            first: 0,
+            rest: 0,
+        }
+    }
 }
 
 /// Lines that are blank or indented: the place after the last of them that isn't blank, the least indentation of
