@@ -70,17 +70,7 @@ impl Ids {
 
     /// Takes the first free id of a kind's name, a hyphen and a number.
     fn give_kind(&mut self, alloc: Global, tag: Tag) -> Result<Text, TreeFault> {
-        // A document can hold very many of these.
-        match tag {
-            Tag::CitationReference => self.give_numbered(alloc, "citation-reference"),
-            Tag::FootnoteReference => self.give_numbered(alloc, "footnote-reference"),
-            Tag::Problematic => self.give_numbered(alloc, "problematic"),
-            Tag::SystemMessage => self.give_numbered(alloc, "system-message"),
-            _ => {
-                let base = tag_id(alloc, tag)?;
-                self.give_numbered(alloc, base.as_str())
-            }
-        }
+        self.give_numbered(alloc, tag.hyphenated())
     }
 
     /// Takes the first free id of a text, a hyphen and a number.
@@ -142,15 +132,6 @@ fn id_text(alloc: Global, name: &str) -> Result<String, TreeFault> {
         // The call has no other refusal than want of memory.
         Err(_) => Err(TreeFault::NoMemory),
     }
-}
-
-/// The name of a kind of elements, with hyphens.
-fn tag_id(alloc: Global, tag: Tag) -> Result<String, TreeFault> {
-    let mut id = String::with_capacity(alloc, tag.name().len())?;
-    for c in tag.name().chars() {
-        id.push(if c == '_' { '-' } else { c })?;
-    }
-    Ok(id)
 }
 
 /// A text, a hyphen and a number.

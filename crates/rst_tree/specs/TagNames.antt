@@ -1,5 +1,5 @@
 -- The names of elements (Document Tree, 'Element Reference').
-use Rattle.std.specs.Prelude.{ℕ, List, codes}
+use Rattle.std.specs.Prelude.{ℕ, ◌==◌, List, map, codes, if◌then◌else◌}
 use Rattle.rst_tree.specs.declared.tag.Tag.{Tag}
 use Rattle.rst_tree.specs.declared.tag.Tag.TheVariants.{Address, Admonition, Attention, Attribution, Author, Authors, BlockQuote, BulletList, Caption, Caution, Citation, CitationReference, Classifier, Colspec, Comment, Contact, Copyright, Danger, Date, Definition, DefinitionList, DefinitionListItem, Description, Docinfo, DoctestBlock, Document, Emphasis, Entry, EnumeratedList, Error, Field, FieldBody, FieldList, FieldName, Figure, Footnote, FootnoteReference, Hint, Image, Important, Label, Legend, Line, LineBlock, ListItem, Literal, LiteralBlock, Note, Option, OptionArgument, OptionGroup, OptionList, OptionListItem, OptionString, Organization, Paragraph, Problematic, Reference, Revision, Row, Section, Status, Strong, Subscript, SubstitutionDefinition, SubstitutionReference, Subtitle, Superscript, SystemMessage, Table, Target, Tbody, Term, Tgroup, Thead, Tip, Title, TitleReference, Topic, Transition, Version, Warning}
 
@@ -87,3 +87,7 @@ tag_name Topic = codes "topic"
 tag_name Transition = codes "transition"
 tag_name Version = codes "version"
 tag_name Warning = codes "warning"
+
+-- a name with hyphens for underscores
+abbrev pub hyphenated : List ℕ → List ℕ
+hyphenated name = map (λ c. if c == 95 then 45 else c) name

@@ -89,7 +89,7 @@ pub enum Tag {
 }
 
 impl Tag {
-    ghost use Rattle.rst_tree.specs.TagNames.{tag_name};
+    ghost use Rattle.rst_tree.specs.TagNames.{hyphenated, tag_name};
 
     /// The name that is printed.
     #[tactic(auto, unfolding(crate::specs::TagNames::tag_name))]
@@ -179,6 +179,39 @@ impl Tag {
             Tag::Transition => "transition",
             Tag::Version => "version",
             Tag::Warning => "warning",
+        }
+    }
+
+    /// The name with hyphens for underscores, of which ids are made.
+    #[tactic(auto, unfolding(crate::specs::TagNames::tag_name))]
+    pub fn hyphenated(self) -> &'static str
+        ensures { result.now ≡ hyphenated (tag_name self) }
+    {
+        match self {
+            Tag::BlockQuote => "block-quote",
+            Tag::BulletList => "bullet-list",
+            Tag::CitationReference => "citation-reference",
+            Tag::DefinitionList => "definition-list",
+            Tag::DefinitionListItem => "definition-list-item",
+            Tag::DoctestBlock => "doctest-block",
+            Tag::EnumeratedList => "enumerated-list",
+            Tag::FieldBody => "field-body",
+            Tag::FieldList => "field-list",
+            Tag::FieldName => "field-name",
+            Tag::FootnoteReference => "footnote-reference",
+            Tag::LineBlock => "line-block",
+            Tag::ListItem => "list-item",
+            Tag::LiteralBlock => "literal-block",
+            Tag::OptionArgument => "option-argument",
+            Tag::OptionGroup => "option-group",
+            Tag::OptionList => "option-list",
+            Tag::OptionListItem => "option-list-item",
+            Tag::OptionString => "option-string",
+            Tag::SubstitutionDefinition => "substitution-definition",
+            Tag::SubstitutionReference => "substitution-reference",
+            Tag::SystemMessage => "system-message",
+            Tag::TitleReference => "title-reference",
+            _ => self.name(),
         }
     }
 }
