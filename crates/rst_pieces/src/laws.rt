@@ -6,7 +6,8 @@ ghost use Rattle.rst_pieces.specs.Quiet.{quiet, whole};
 
 /// Exactly one list is that of the pieces of a text.
 pub fn one_list_of_pieces()
-    ensures { (t : List ℕ) (ps qs : List Piece) → IsPieces t 0 ps → IsPieces t 0 qs → ps ≡ qs }
+    ensures some { (t : List ℕ) → (ps : List Piece) × IsPieces t 0 ps }
+    ensures one { (t : List ℕ) (ps qs : List Piece) → IsPieces t 0 ps → IsPieces t 0 qs → ps ≡ qs }
 {}
 
 /// The pieces of a quiet text are the one plain piece of all of it, or none where it is empty.
