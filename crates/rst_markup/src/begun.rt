@@ -15,7 +15,7 @@ use rst_marks::{
 use rst_text::{Looks, View};
 
 /// What begins at a line: its [`Kind`], with the mark by which it is of that kind.
-#[derive(Clone, Copy)]
+#[derive(Clone, Copy, Debug, PartialEq, Eq)]
 pub enum Begun {
     Blank,
     Quote,
