@@ -72,6 +72,8 @@ impl Construct for AdornmentLine {
 
     ghost reached = { own_reach adornment_row_size };
 
+    ghost first_looks = { 1 };
+
     ghost within = { adornment_within };
 
     ghost reaches = { own_reaches is_adornment_row adornment_row_size adornment_within };

@@ -17,12 +17,16 @@ pub trait Construct {
     /// it ends.
     ghost reached: { Bool → Block → ℕ };
 
-    /// Whether the row's condition holds at place `i`. It makes at most three looks.
+    /// How many looks show whether the row's condition holds: one, or those at the lines below as well that it is on.
+    ghost first_looks: { ℕ };
+
+    /// Whether the row's condition holds at place `i`.
     fn starts(&self, view: &View<'_>, i: usize, titles: bool, looks: &mut Looks) -> bool
         requires inside { i < length (block_of view.now) }
         requires few { looks.old < 2 ^ 120 }
         ensures holds { result ≡ holds (drop i (block_of view.now)) }
-        ensures looks { looks.new ≤ looks.old + 3 };
+        ensures looks { looks.new ≤ looks.old + first_looks }
+        ensures at_most_three { looks.new ≤ looks.old + 3 };
 
     /// The place after the construct that begins at place `i`. It makes at most four looks for each line of the
     /// construct's reach.

@@ -24,6 +24,8 @@ impl Construct for BlankLine {
 
     ghost reached = { own_reach blank_size };
 
+    ghost first_looks = { 1 };
+
     ghost within = { blank_within };
 
     ghost reaches = { own_reaches is_blank_row blank_size blank_within };
@@ -54,6 +56,8 @@ impl Construct for BlockQuote {
 
     ghost reached = { own_reach quote_size };
 
+    ghost first_looks = { 1 };
+
     ghost within = { quote_within };
 
     ghost reaches = { own_reaches is_quote_row quote_size quote_within };
@@ -82,6 +86,8 @@ impl Construct for BulletItem {
     ghost size = { bullet_row_size };
 
     ghost reached = { own_reach bullet_row_size };
+
+    ghost first_looks = { 1 };
 
     ghost within = { bullet_within };
 
@@ -115,6 +121,8 @@ impl Construct for EnumeratedItem {
     ghost size = { enumerator_row_size };
 
     ghost reached = { own_reach enumerator_row_size };
+
+    ghost first_looks = { 2 };
 
     ghost within = { enumerator_within };
 
@@ -151,6 +159,8 @@ impl Construct for FieldItem {
 
     ghost reached = { own_reach hanging_row_size };
 
+    ghost first_looks = { 1 };
+
     ghost within = { hanging_within is_field_row };
 
     ghost reaches = { own_reaches is_field_row hanging_row_size (hanging_within is_field_row) };
@@ -179,6 +189,8 @@ impl Construct for OptionListItem {
     ghost size = { hanging_row_size };
 
     ghost reached = { own_reach hanging_row_size };
+
+    ghost first_looks = { 3 };
 
     ghost within = { hanging_within is_option_row };
 
@@ -212,6 +224,8 @@ impl Construct for DoctestBlock {
 
     ghost reached = { own_reach doctest_row_size };
 
+    ghost first_looks = { 1 };
+
     ghost within = { doctest_within };
 
     ghost reaches = { own_reaches is_doctest_row doctest_row_size doctest_within };
@@ -242,6 +256,8 @@ impl Construct for BarLine {
 
     ghost reached = { own_reach indented_row_size };
 
+    ghost first_looks = { 1 };
+
     ghost within = { indented_within is_bar_row };
 
     ghost reaches = { own_reaches is_bar_row indented_row_size (indented_within is_bar_row) };
@@ -271,6 +287,8 @@ impl Construct for AnonymousTarget {
 
     ghost reached = { own_reach indented_row_size };
 
+    ghost first_looks = { 1 };
+
     ghost within = { indented_within is_anonymous_row };
 
     ghost reaches = { own_reaches is_anonymous_row indented_row_size (indented_within is_anonymous_row) };
@@ -299,6 +317,8 @@ impl Construct for TextLine {
     ghost size = { text_row_size };
 
     ghost reached = { own_reach text_row_size };
+
+    ghost first_looks = { 1 };
 
     ghost within = { text_within };
 

@@ -20,6 +20,8 @@ impl Construct for ExplicitMarkup {
 
     ghost reached = { own_reach explicit_row_size };
 
+    ghost first_looks = { 1 };
+
     ghost within = { explicit_within };
 
     ghost reaches = { own_reaches is_explicit_row explicit_row_size explicit_within };

@@ -45,6 +45,8 @@ impl Construct for GridTable {
 
     ghost reached = { grid_reach };
 
+    ghost first_looks = { 1 };
+
     ghost within = { grid_within };
 
     ghost reaches = { grid_reaches };
@@ -97,6 +99,8 @@ impl Construct for SimpleTable {
     ghost size = { simple_row_size };
 
     ghost reached = { simple_reach };
+
+    ghost first_looks = { 1 };
 
     ghost within = { simple_within };
 
