@@ -59,6 +59,7 @@ pub fn end_after<C: Construct>(
     requires inside { i < length (block_of view.now) }
     requires begins { IsTrue (C.holds (drop i (block_of view.now))) }
     requires few { looks.old < 2 ^ 120 }
+    ensures end { result ≡ i + C.size titles (drop i (block_of view.now)) }
     ensures after { i < result }
     ensures within { result ≤ length (block_of view.now) }
     ensures looks { looks.new ≤ looks.old + 4 * C.reached titles (drop i (block_of view.now)) }
