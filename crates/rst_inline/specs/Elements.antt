@@ -39,6 +39,7 @@ abbrev pub reference_attrs : Suffix → Text → Text → List Attr
 reference_attrs Nameless source shown = attr Anonymous (Number 1) ∷ attr Name (said (normalized_white shown)) ∷ attr Rawsource (said source) ∷ []
 reference_attrs _ source shown = attr Name (said (normalized_white shown)) ∷ attr Rawsource (said source) ∷ attr Refname (said (name_of shown)) ∷ []
 
+-- a reference by a simple name, or by a phrase in which nothing is embedded
 abbrev pub reference_node : Suffix → Text → Text → ℕ → Node
 reference_node suffix source shown line = element_of Reference (reference_attrs suffix source shown) shown line
 
@@ -68,10 +69,13 @@ uri_target_node shown uri line = Element Target (attr Inline (Number 1) ∷ attr
 
 -- ---- substitutions
 
+-- a substitution reference, which refers to a definition by the name that is shown
 abbrev pub substitution_node : Text → Text → ℕ → Node
 substitution_node source shown line =
     element_of SubstitutionReference (attr Rawsource (said source) ∷ attr Refname (said (normalized_white shown)) ∷ []) shown line
 
+-- The reference round a substitution reference has its source and the name that it refers to, unless it is anonymous, but no
+-- name of its own.
 abbrev pub outer_attrs : Suffix → Text → Text → List Attr
 outer_attrs Nameless source shown = attr Anonymous (Number 1) ∷ attr Rawsource (said source) ∷ []
 outer_attrs _ source shown = attr Rawsource (said source) ∷ attr Refname (said (name_of shown)) ∷ []
@@ -90,18 +94,20 @@ is_digit c = nat_le 48 c && nat_le c 57
 abbrev pub label_tag : Text → Tag
 label_tag label = if list_all is_digit label then FootnoteReference else CitationReference
 
+-- a reference to a footnote by its number, or to a citation by its name
 abbrev pub labelled_node : Text → Text → ℕ → Node
 labelled_node source label line = element_of (label_tag label) (attr Rawsource (said source) ∷ attr Refname (said (name_of label)) ∷ []) label line
 
--- `#` alone, or with a name
+-- a reference to a footnote that gets its number: `#` alone, or with a name
 abbrev pub numbered_node : Text → Text → ℕ → Node
 numbered_node source [] line = Element FootnoteReference (attr Auto (Number 1) ∷ attr Rawsource (said source) ∷ []) bare line
 numbered_node source (c ∷ cs) line = Element FootnoteReference (attr Auto (Number 1) ∷ attr Rawsource (said source) ∷ attr Refname (said (name_of (c ∷ cs))) ∷ []) bare line
 
--- `*`
+-- a reference to a footnote that gets a symbol: `*`
 abbrev pub symbol_node : Text → ℕ → Node
 symbol_node source line = Element FootnoteReference (attr Auto (said (42 ∷ [])) ∷ attr Rawsource (said source) ∷ []) bare line
 
+-- a reference to a footnote or a citation by its label, which `#` or `*` may begin
 abbrev pub label_node : Text → Text → ℕ → Node
 label_node source [] line = labelled_node source [] line
 label_node source (c ∷ cs) line =

@@ -23,6 +23,7 @@ last_angle t = last_from (opens_angle t) 0 (length t)
 unfoldable pub fits_angle : Text → ℕ → Bool
 fits_angle t k = nat_lt (k + 2) (length t) && (is_dark t (k + 1) && (is_dark t (length t - 2) && (k == 0 || is_white (slice_index t (k - 1)))))
 
+-- the place of the `<`, if what stands before and behind it fits
 abbrev pub angle_if : Text → Option ℕ → Option ℕ
 angle_if t (Some k) = if fits_angle t k then Some k else None
 angle_if t None = None
@@ -45,6 +46,7 @@ enclosed t k = part t (k + 1) (length t - 1)
 unfoldable pub is_alias : Text → Bool
 is_alias u = nat_lt 1 (length u) && ends_with u 95
 
+-- a character that is not white
 abbrev pub is_black : ℕ → Bool
 is_black c = not (is_white c)
 

@@ -31,25 +31,30 @@ markup_name Target = codes "target"
 markup_name Substitution = codes "substitution_reference"
 markup_name Interpreted = codes "interpreted text or phrase reference"
 
+-- a start-string without an end, which gives a warning
 abbrev pub unended : Markup → Meaning
 unended markup = Wrong Warning (codes "Inline " ++ markup_name markup ++ codes " start-string without end-string.")
 
+-- a role that no element belongs to, which gives an error
 abbrev pub unknown_role : List ℕ → Meaning
 unknown_role name = Wrong Error (codes "Unknown interpreted text role \"" ++ name ++ codes "\".")
 
+-- roles in front and behind, which give a warning
 abbrev pub two_roles : Meaning
 two_roles = Wrong Warning (codes "Multiple roles in interpreted text (both prefix and suffix present; only one allowed).")
 
+-- a role in front and underscores behind, which give a warning
 abbrev pub mismatch : Meaning
 mismatch = Wrong Warning (codes "Mismatch: both interpreted text role and reference suffix.")
 
 -- ---- kinds of pieces
 
--- plain text without its escapes
+-- plain text without its escapes, which gives no node where nothing is left of it
 abbrev pub plain_reading : Text → Meaning
 plain_reading [] = Nothing
 plain_reading (c ∷ cs) = One (Words (spelled (c ∷ cs)))
 
+-- a substitution reference, alone or, where underscores stand behind it, with a reference round it
 abbrev pub substitution_reading : Suffix → Text → Text → Text → ℕ → Meaning
 substitution_reading Bare inner outer shown line = One (substitution_node inner shown line)
 substitution_reading suffix inner outer shown line = One (outer_node suffix outer shown (substitution_node inner shown line) line)
@@ -60,6 +65,7 @@ embedded_reading suffix source shown meaning true line = One (alias_node source 
 embedded_reading Named source shown meaning false line = Two (embedded_node source shown meaning line) (uri_target_node shown meaning line)
 embedded_reading suffix source shown meaning false line = One (embedded_node source shown meaning line)
 
+-- a phrase that is a reference, with the place of what is embedded in it, if there is something
 abbrev pub phrase_reading_at : Suffix → Text → Text → Option ℕ → ℕ → Meaning
 phrase_reading_at suffix source phrase (Some k) line = embedded_reading suffix source (shown_by phrase k) (meant (enclosed phrase k)) (is_alias (enclosed phrase k)) line
 phrase_reading_at suffix source phrase None line = One (reference_node suffix source (unescaped phrase) line)
@@ -68,6 +74,7 @@ phrase_reading_at suffix source phrase None line = One (reference_node suffix so
 abbrev pub phrase_reading : Suffix → Text → Text → ℕ → Meaning
 phrase_reading suffix source phrase line = phrase_reading_at suffix source phrase (embedded_at phrase) line
 
+-- interpreted text, with the element of its role, or with none where the role is unknown
 abbrev pub role_reading_by : Option Tag → List ℕ → Text → ℕ → Meaning
 role_reading_by (Some element) name shown line = One (element_of element [] shown line)
 role_reading_by None name shown line = unknown_role name
@@ -80,10 +87,11 @@ role_reading role shown line = role_reading_by (role_tag (spelled role)) (spelle
 abbrev pub has_prefix : Piece → Bool
 has_prefix p = nat_lt (p.from + 1) p.content_from
 
--- the role in front, and the one behind
+-- the role in front of the backquote
 abbrev pub prefix_role : Text → Piece → Text
 prefix_role t p = part t (p.from + 1) (p.content_from - 2)
 
+-- the role behind the backquote
 abbrev pub suffix_role : Text → Piece → Text
 suffix_role t p = part t (p.content_to + 2) (p.to - 1)
 
@@ -98,6 +106,7 @@ interpreted_reading false Role t p line = role_reading (suffix_role t p) (unesca
 interpreted_reading false Named t p line = phrase_reading Named (source t p) (content t p) line
 interpreted_reading false Anonymous t p line = phrase_reading Anonymous (source t p) (content t p) line
 
+-- what markup with both its strings means: what it encloses, without escapes unless it is a literal, in an element of its kind
 abbrev pub marked_reading : Markup → Suffix → Text → Piece → ℕ → Meaning
 marked_reading Strong suffix t p line = One (element_of tag.Strong [] (unescaped (content t p)) line)
 marked_reading Emphasis suffix t p line = One (element_of tag.Emphasis [] (unescaped (content t p)) line)
@@ -106,6 +115,7 @@ marked_reading Target suffix t p line = One (target_node (unescaped (content t p
 marked_reading Substitution suffix t p line = substitution_reading suffix (part t p.from (p.content_to + 1)) (source t p) (unescaped (content t p)) line
 marked_reading Interpreted suffix t p line = interpreted_reading (has_prefix p) suffix t p line
 
+-- what a piece of a kind means
 abbrev pub reading_by : Kind → Text → Piece → ℕ → Meaning
 reading_by Plain t p line = plain_reading (unescaped (source t p))
 reading_by (Marked markup suffix) t p line = marked_reading markup suffix t p line

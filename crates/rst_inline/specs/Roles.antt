@@ -4,6 +4,7 @@ use Rattle.std.specs.Str.{bytes_eq}
 use Rattle.rst_tree.specs.declared.tag.Tag.{Tag}
 use Rattle.rst_tree.specs.declared.tag.Tag.TheVariants.{Emphasis, Strong, Literal, Subscript, Superscript, TitleReference}
 
+-- the name is one of two
 abbrev pub is_one_of_two : List ℕ → List ℕ → List ℕ → Bool
 is_one_of_two a b name = bytes_eq name a || bytes_eq name b
 

@@ -10,6 +10,7 @@ use Rattle.rst_text.specs.Characters.{is_white, is_alphanumeric}
 abbrev pub Text : Type 0
 Text = List ℕ
 
+-- the character is one of these
 abbrev pub is_among : List ℕ → ℕ → Bool
 is_among cs c = list_any (λ x. c == x) cs
 

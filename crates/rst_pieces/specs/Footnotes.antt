@@ -5,8 +5,8 @@ use Rattle.rst_pieces.specs.Names.{name_stop}
 use Rattle.rst_pieces.specs.declared.piece.Kind.TheVariants.{Label}
 use Rattle.rst_pieces.specs.declared.piece.Piece.{Piece}
 
--- The end of the label that begins at the place, where something stands behind it: `*`, `#` alone, `#` and a simple name,
--- or a simple name, which may be digits.
+-- The end of the label that begins at the place: `*`, `#` alone, `#` and a simple name, or a simple name, which may be digits;
+-- none where nothing stands behind such a name.
 unfoldable pub label_stop : Text → ℕ → Option ℕ
 label_stop t i =
     if has t i 42 then Some (i + 1)
@@ -17,6 +17,7 @@ label_stop t i =
 abbrev pub closes_label : Text → ℕ → Bool
 closes_label t e = has t e 93 && (has t (e + 1) 95 && is_free_behind t (e + 2))
 
+-- the reference whose label has this end, if the label is closed there and what stands behind fits
 abbrev pub label_piece : Text → ℕ → Option ℕ → Option Piece
 label_piece t i (Some e) = if closes_label t e then Some (record { kind = Label; from = i; content_from = i + 1; content_to = e; to = e + 2 }) else None
 label_piece t i None = None

@@ -75,11 +75,13 @@ tail_of Substitution t k = or_else (name_tail t (k + 1)) (bare_tail t (k + 1))
 tail_of Interpreted t k = or_else (name_tail t (k + 1)) (or_else (role_tail t (role_end t (k + 1))) (bare_tail t (k + 1)))
 tail_of markup t k = bare_tail t (k + end_len markup)
 
+-- The end-string at k, which is escaped or not, may end the markup: what stands before it is not white, what stands behind
+-- it fits, and an escaped one ends only a literal.
 unfoldable pub ends_if : Markup → Text → ℕ → Bool → Bool
 ends_if markup t k escaped = has_end markup t k && (is_dark t (k - 1) && (not (has_escapes markup && escaped) && is_some (tail_of markup t k)))
 
--- Markup that begins at i may end at k: its end-string stands there unescaped, what stands before it is not white, and what
--- stands behind it fits.
+-- Markup that begins at i may end at k: its end-string stands there, unescaped unless it is a literal's, what stands before it
+-- is not white, and what stands behind it fits.
 unfoldable pub ends : Markup → Text → ℕ → ℕ → Bool
 ends markup t i k = ends_if markup t k (is_escaped t i k)
 
@@ -93,16 +95,20 @@ end_of markup t i q = first_from (ends markup t i) (q + start_len markup + 1) (l
 abbrev pub unended_piece : Markup → ℕ → ℕ → Piece
 unended_piece markup i q = record { kind = Unended markup; from = i; content_from = q + start_len markup; content_to = q + start_len markup; to = q + start_len markup }
 
+-- markup with its end-string at k and what stands behind that; where nothing fits there, a start without an end
 abbrev pub ended_piece : Markup → ℕ → ℕ → ℕ → Option Tail → Piece
 ended_piece markup i q k (Some tail) = record { kind = Marked markup tail.suffix; from = i; content_from = q + start_len markup; content_to = k; to = tail.to }
 ended_piece markup i q k None = unended_piece markup i q
 
+-- markup up to its end, or, where it has none, a start without an end
 abbrev pub marked_piece : Markup → Text → ℕ → ℕ → Option ℕ → Piece
 marked_piece markup t i q (Some k) = ended_piece markup i q k (tail_of markup t k)
 marked_piece markup t i q None = unended_piece markup i q
 
+-- the piece of markup that begins at i with its start-string at q, if it may begin so
 abbrev pub marked_from : Markup → Text → ℕ → ℕ → Option Piece
 marked_from markup t i q = if starts markup t i q then Some (marked_piece markup t i q (end_of markup t i q)) else None
 
+-- the piece of markup that begins at the place, if such markup does
 unfoldable pub marked : Markup → Text → ℕ → Option Piece
 marked markup t i = marked_from markup t i (start_of markup t i)

@@ -17,6 +17,7 @@ unended_from missing Target = missing.target
 unended_from missing Substitution = missing.substitution
 unended_from missing Interpreted = missing.interpreted
 
+-- what is remembered, with this place for one kind of markup
 abbrev pub with_unended : Missing → Markup → ℕ → Missing
 with_unended missing Strong q = record missing { strong = q }
 with_unended missing Emphasis q = record missing { emphasis = q }

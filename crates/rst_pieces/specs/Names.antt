@@ -23,6 +23,7 @@ name_stop t i = if is_alnum_at t i then first_from (λ k. not (is_name_at t k)) 
 
 -- ---- roles
 
+-- the place behind the colon that closes a role, if one stands at the end of its name
 abbrev pub behind_colon : Text → Option ℕ → Option ℕ
 behind_colon t (Some e) = if has t e 58 then Some (e + 1) else None
 behind_colon t None = None
@@ -37,21 +38,24 @@ role_end t i = if has t i 58 then behind_colon t (name_stop t (i + 1)) else None
 unfoldable pub ends_name : Text → ℕ → Bool
 ends_name t j = is_alnum_at t (j - 1) && is_some (name_tail t j)
 
--- a reference stands at the place, with its name's end at j
+-- a reference begins at the place: its simple name ends at j, and underscores that fit stand behind it
 unfoldable pub is_reference : Text → ℕ → ℕ → Bool
 is_reference t i j = is_alnum_at t i && (all_from (is_name_at t) i (j - i) && ends_name t j)
 
--- the greatest end of a name of a reference that begins at the place
+-- the end of the longest simple name that begins at the place and has underscores behind it that fit
 unfoldable pub name_end : Text → ℕ → Option ℕ
 name_end t i = last_from (is_reference t i) (i + 1) (length t - (i + 1))
 
+-- the reference from i on whose name ends at j, where underscores stand behind it that fit
 abbrev pub reference_piece : ℕ → ℕ → Option Tail → Option Piece
 reference_piece i j (Some tail) = Some (record { kind = Reference tail.suffix; from = i; content_from = i; content_to = j; to = tail.to })
 reference_piece i j None = None
 
+-- the reference that begins at the place, if its name has an end
 abbrev pub reference_at : Text → ℕ → Option ℕ → Option Piece
 reference_at t i (Some j) = reference_piece i j (name_tail t j)
 reference_at t i None = None
 
+-- the reference by a simple name that begins at the place, if one does
 unfoldable pub reference : Text → ℕ → Option Piece
 reference t i = reference_at t i (name_end t i)

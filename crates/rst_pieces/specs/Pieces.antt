@@ -21,6 +21,7 @@ markup_at t i =
 unfoldable pub is_free_if : Text → ℕ → Bool → Bool
 is_free_if t i escaped = not escaped && (i == 0 || may_precede (slice_index t (i - 1)))
 
+-- the piece that begins at the place, which is escaped or not, if a start may stand there and markup begins
 unfoldable pub piece_if : Text → ℕ → Bool → Option Piece
 piece_if t i escaped = if is_free_if t i escaped then markup_at t i else None
 
@@ -32,6 +33,7 @@ piece_at t from i = piece_if t i (is_escaped t from i)
 abbrev pub HasNoStart : Text → ℕ → ℕ → ℕ → Type 0
 HasNoStart t from low high = (i : ℕ) → low ≤ i → i < high → piece_at t from i ≡ None
 
+-- plain text from one place up to another
 abbrev pub plain_from : ℕ → ℕ → Piece
 plain_from from to = record { kind = Plain; from = from; content_from = from; content_to = to; to = to }
 

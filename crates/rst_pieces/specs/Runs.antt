@@ -2,6 +2,7 @@
 use Rattle.std.specs.Prelude.{◌≡◌, ℕ, ◌<◌, ◌≤◌, Bool, true, false, not, slice_index, length}
 use Rattle.rst_pieces.specs.Characters.{Text}
 
+-- the character doesn't pass
 abbrev pub fails : (ℕ → Bool) → ℕ → Bool
 fails p c = not (p c)
 

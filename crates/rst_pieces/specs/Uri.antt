@@ -11,6 +11,7 @@ use Rattle.rst_pieces.specs.declared.piece.Piece.{Piece}
 unfoldable pub in_lower_case : ℕ → ℕ
 in_lower_case c = to_ascii_lowercase c
 
+-- the character stands at the place, a letter in lower case or as a capital
 abbrev pub has_letter : Text → ℕ → ℕ → Bool
 has_letter t i c = nat_lt i (length t) && in_lower_case (slice_index t i) == c
 
@@ -49,10 +50,12 @@ uri_stop t i = unwrap_or (first_from (λ k. not (is_uri_char (slice_index t k)))
 unfoldable pub uri_close : Text → ℕ → ℕ → Option ℕ
 uri_close t i stop = last_from (λ e. not (is_uri_trail (slice_index t (e - 1)))) (i + 1) (stop - i)
 
+-- the end of a URI by the place behind its scheme, if it has one
 abbrev pub uri_behind : Text → Option ℕ → Option ℕ
 uri_behind t (Some i) = uri_close t i (uri_stop t i)
 uri_behind t None = None
 
+-- the end, if what stands behind it fits
 abbrev pub if_free : Text → Option ℕ → Option ℕ
 if_free t (Some e) = if is_free_behind t e then Some e else None
 if_free t None = None
@@ -61,10 +64,12 @@ if_free t None = None
 unfoldable pub uri_end : Text → ℕ → Option ℕ
 uri_end t i = if_free t (uri_behind t (scheme_end t i))
 
+-- the standalone hyperlink from the place on, if it has an end
 abbrev pub uri_piece : ℕ → Option ℕ → Option Piece
 uri_piece i (Some e) = Some (record { kind = Uri; from = i; content_from = i; content_to = e; to = e })
 uri_piece i None = None
 
+-- the standalone hyperlink that begins at the place, if one does
 unfoldable pub uri : Text → ℕ → Option Piece
 uri t i = uri_piece i (uri_end t i)
 
@@ -72,6 +77,8 @@ uri t i = uri_piece i (uri_end t i)
 abbrev pub IsUri : Text → Type 0
 IsUri t = uri_end t 0 ≡ Some (length t)
 
+-- the bytes are a URI with its scheme's end at the place: more stands behind that, each is a character of a URI, and the last
+-- may end one
 abbrev pub is_ascii_uri_from : List ℕ → Option ℕ → Bool
 is_ascii_uri_from bytes (Some i) = nat_lt i (length bytes) && (list_all is_uri_char bytes && not (is_uri_trail (slice_index bytes (length bytes - 1))))
 is_ascii_uri_from bytes None = false

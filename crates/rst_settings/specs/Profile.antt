@@ -1,4 +1,4 @@
--- What the definitions leave to be chosen.
+-- What the definitions leave to be chosen (Configuration, 'line_length_limit', 'docinfo_xform').
 use Rattle.std.specs.Prelude.{ℕ, Bool, true}
 use Rattle.rst_settings.specs.declared.Settings.{Settings}
 

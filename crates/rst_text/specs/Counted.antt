@@ -1,4 +1,4 @@
--- What the calls of a reader or a writer that keeps whether it failed do.
+-- What the calls of a reader or a writer that keeps whether it failed do. No rule of markup: they bring the bytes in and out.
 use Rattle.std.specs.Prelude.{◌≡◌, ℕ, ◌<◌, ◌≤◌, Bool, true, false, List, length, take, Option, None, Some}
 use Rattle.std.specs.Io.KnownBytes.{Keeps, Appends, Consumes, IsAtEnd}
 use Rattle.rst_text.specs.declared.counted.Counted.{Counted}

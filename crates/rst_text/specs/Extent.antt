@@ -16,6 +16,7 @@ extent least (l ∷ ls) =
     else if nat_le least (indentation l.text) then suc (extent least ls)
     else 0
 
+-- the lesser of two indentations, or the second where there is no first
 abbrev pub lower : Option ℕ → ℕ → ℕ
 lower None n = n
 lower (Some m) n = min m n
@@ -25,6 +26,7 @@ unfoldable pub least_indent : Option ℕ → Block → Option ℕ
 least_indent m [] = m
 least_indent m (l ∷ ls) = least_indent (if is_blank l.text then m else Some (lower m (indentation l.text))) ls
 
+-- the indentation, or 0 where there is none
 abbrev pub or_zero : Option ℕ → ℕ
 or_zero m = unwrap_or m 0
 

@@ -1,4 +1,4 @@
--- What a call gives that only want of memory can hinder.
+-- What a call gives that only want of memory can hinder. No rule of markup: the standard doesn't speak of memory.
 use Rattle.std.specs.Prelude.{Result, Ok, Err}
 use Rattle.rst_text.specs.declared.fault.TextFault.{TextFault}
 use Rattle.rst_text.specs.declared.fault.TextFault.TheVariants.{NotUtf8, NoMemory}

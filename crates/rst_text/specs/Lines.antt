@@ -9,6 +9,7 @@ use Rattle.rst_text.specs.Block.{Block, is_blank}
 abbrev pub is_line_end : ℕ → Bool
 is_line_end c = (((c == 10 || c == 13) || (nat_lt 27 c && nat_lt c 31)) || c == 0x85) || (c == 0x2028 || c == 0x2029)
 
+-- the text begins with this character
 abbrev pub begins_with : ℕ → List ℕ → Bool
 begins_with c [] = false
 begins_with c (d ∷ ds) = d == c

@@ -1,4 +1,4 @@
--- Where lines may be cut.
+-- Where lines may be cut. No rule of markup: a cut that is counted in bytes splits no character.
 use Rattle.std.specs.Prelude.{ℕ, List, [], ◌∷◌, drop, string_bytes, Bool, true, ◌||◌, ◌&&◌, nat_le}
 use Rattle.std.specs.Str.{is_utf8}
 use Rattle.rst_text.specs.Block.{Block, indentation, is_blank}

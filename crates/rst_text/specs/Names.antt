@@ -24,15 +24,16 @@ words_of (c ∷ cs) =
 unfoldable pub normalized_white : List ℕ → List ℕ
 normalized_white text = join_with_byte 32 (words_of text)
 
--- the same without regard to case
+-- the same by simple case folding: how reference names are compared
 unfoldable pub name_of : List ℕ → List ℕ
 name_of text = map simple_fold (normalized_white text)
 
--- a character without regard to case, or as it is
+-- a character by simple case folding, or as it is
 abbrev pub cased : Bool → ℕ → ℕ
 cased true c = simple_fold c
 cased false c = c
 
+-- an ASCII character
 unfoldable pub is_ascii : ℕ → Bool
 is_ascii c = nat_lt c 128
 
@@ -44,6 +45,7 @@ is_id_letter c = nat_lt 96 c && nat_lt c 123
 abbrev pub is_id_digit : ℕ → Bool
 is_id_digit c = nat_lt 47 c && nat_lt c 58
 
+-- one of a to z and 0 to 9: what stands between the hyphens of an id
 unfoldable pub is_id_char : ℕ → Bool
 is_id_char c = is_id_letter c || is_id_digit c
 

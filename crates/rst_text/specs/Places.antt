@@ -1,4 +1,5 @@
--- The least and the greatest place that passes a test. A place is a number, counted from 0.
+-- The least and the greatest place that passes a test. No rule of markup: rules speak of places by it. A place is a number,
+-- counted from 0.
 use Rattle.std.specs.Prelude.{◌≡◌, ℕ, zero, suc, ◌+◌, ◌<◌, ◌≤◌, Bool, true, false, ◌&&◌, if◌then◌else◌, Option, Some, None}
 
 -- the least of the n places from `low` on that passes

@@ -1,9 +1,11 @@
 -- Texts of printable ASCII, which are read faster. No rule of markup: each character is a byte, ends no line, and stands in a line as it is.
 use Rattle.std.specs.Prelude.{◌≡◌, ℕ, ◌<◌, ◌≤◌, Bool, true, false, not, ◌&&◌, nat_lt, List, slice_index, length}
 
+-- a printable ASCII character, from the space to the tilde
 abbrev pub is_printable : ℕ → Bool
 is_printable c = nat_lt 31 c && nat_lt c 127
 
+-- any other character
 abbrev pub is_other : ℕ → Bool
 is_other c = not (is_printable c)
 

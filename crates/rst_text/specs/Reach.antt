@@ -1,4 +1,4 @@
--- How many lines have to be looked at to find where a construct ends.
+-- How many lines have to be looked at to find where a construct ends. No rule of markup: it bounds the time.
 use Rattle.std.specs.Prelude.{ℕ, suc, ◌+◌, [], ◌∷◌, drop, nat_le, if◌then◌else◌}
 use Rattle.rst_text.specs.Block.{Block, indentation, is_blank}
 

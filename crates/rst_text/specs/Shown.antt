@@ -1,4 +1,4 @@
--- The part of the lines that a view shows. A view keeps its cuts in bytes.
+-- The part of the lines that a view shows. No rule of markup: a view is a block whose cuts are counted in bytes.
 use Rattle.std.specs.Prelude.{ℕ, ◌-◌, ◌≤◌, IsTrue, List, [], ◌∷◌, take, drop, map, length, string_bytes}
 use Rattle.std.specs.Str.{chars}
 use Rattle.rst_text.specs.Block.{Line, Block}

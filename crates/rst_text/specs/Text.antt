@@ -1,4 +1,4 @@
--- The text that bytes spell.
+-- The text that bytes spell in UTF-8 (Configuration, 'input_encoding').
 use Rattle.std.specs.Prelude.{◌≡◌, ℕ, List, [], ◌∷◌, ◌==◌, if◌then◌else◌, Option, None, Some, IsSome, Result, Ok, Err}
 use Rattle.std.specs.declared.string.String.{String}
 use Rattle.std.specs.Prelude.{string_bytes}

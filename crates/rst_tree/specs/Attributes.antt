@@ -5,6 +5,7 @@ use Rattle.rst_tree.specs.declared.attrs.Value.{Value}
 use Rattle.rst_tree.specs.declared.key.Key.{Key}
 use Rattle.rst_tree.specs.KeyNames.{key_code, is_same, is_hidden}
 
+-- an attribute: its name, and what it says
 abbrev pub attr : Key → Value → Attr
 attr k v = record { key = k; value = v }
 

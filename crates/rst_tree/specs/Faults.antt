@@ -1,4 +1,4 @@
--- What calls do that want of memory or a failed write can hinder.
+-- What calls do that want of memory or a failed write can hinder. No rule of markup: the standard speaks of neither.
 use Rattle.std.specs.Prelude.{◌≡◌, ℕ, ◌≤◌, List, length, take, Bool, true, false, Result, Ok, Err}
 use Rattle.rst_text.specs.Counted.{Stream, Gains}
 use Rattle.rst_tree.specs.declared.fault.TreeFault.{TreeFault}

@@ -16,13 +16,15 @@ use Rattle.rst_tree.specs.KeyNames.{key_name}
 use Rattle.rst_tree.specs.TagNames.{tag_name}
 use Rattle.rst_tree.specs.Forest.{Forest, bare, element, words}
 
--- a byte of a list's member: a backslash stands before a space and before a backslash
+-- a backslash or a space
 abbrev pub is_escaped : ℕ → Bool
 is_escaped b = b == 92 || b == 32
 
+-- a byte of a list's member: a backslash stands before a space and before a backslash
 abbrev pub escaped_byte : ℕ → List ℕ
 escaped_byte b = if b == 92 then 92 ∷ 92 ∷ [] else (if b == 32 then 92 ∷ 32 ∷ [] else b ∷ [])
 
+-- a list's member as it is printed
 abbrev pub escaped : List ℕ → List ℕ
 escaped = flat_map escaped_byte
 
@@ -46,11 +48,12 @@ hides_empty Dupnames = true
 hides_empty Backrefs = true
 hides_empty _ = false
 
+-- a list without members
 abbrev pub is_empty_list : Value → Bool
 is_empty_list (Listed []) = true
 is_empty_list _ = false
 
--- such a list where it is empty
+-- an attribute that isn't shown: one of those lists, where it is empty
 abbrev pub is_left_out : Attr → Bool
 is_left_out a = is_empty_list a.value && hides_empty a.key
 
@@ -88,6 +91,7 @@ lines_at n (words t r) = map (λ l. (n, l)) (text_lines t) ++ lines_at n r
 abbrev pub printed_line : Line → List ℕ
 printed_line l = replicate (4 * l.0) 32 ++ l.1 ++ 10 ∷ []
 
+-- what is printed of lines, one behind another
 abbrev pub printed : List Line → List ℕ
 printed = flat_map printed_line
 
@@ -96,9 +100,10 @@ abbrev pub node_lines : ℕ → Node → List Line
 node_lines n (Element t a c l) = (n, start_tag t a) ∷ lines_at (n + 1) c
 node_lines n (Words t) = map (λ l. (n, l)) (text_lines t)
 
--- what is printed of a node at a level, and of a whole tree
+-- what is printed of a node at a level
 abbrev pub printed_node : ℕ → Node → List ℕ
 printed_node n node = printed (node_lines n node)
 
+-- what is printed of a whole tree
 abbrev pub print_of : Node → List ℕ
 print_of = printed_node 0

@@ -1,4 +1,4 @@
--- Elements replaced by nodes, or changed, in preorder, with a state.
+-- Elements replaced by nodes, or changed, in preorder, with a state (Document Tree, 'Element Hierarchy').
 use Rattle.std.specs.Prelude.{◌≡◌, Bool, true, false, [], ◌∷◌}
 use Rattle.rst_tree.specs.Nodes.{forest_of}
 use Rattle.rst_tree.specs.declared.node.Node.{Node}

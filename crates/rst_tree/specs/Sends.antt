@@ -1,4 +1,4 @@
--- What reaches a writer that may fail through a page, by one call or many.
+-- What reaches a writer that may fail through a page, by one call or many. No rule of markup: it is how bytes go out.
 use Rattle.std.specs.Prelude.{◌≡◌, ℕ, ◌+◌, ◌-◌, ◌^◌, ◌≤◌, min, List, [], ◌++◌, length, take, Bool, true, false, Option, None, Some}
 use Rattle.std.specs.Io.KnownBytes.{Appends}
 use Rattle.rst_text.specs.declared.counted.Counted.{Counted}

@@ -65,6 +65,7 @@ text_all bare = []
 text_all (element t a c l r) = text_all c ++ text_all r
 text_all (words t r) = t ++ text_all r
 
+-- the texts in a node, in order; of a text, the text
 abbrev pub text_in : Node → List ℕ
 text_in (Element t a c l) = text_all c
 text_in (Text t) = t
