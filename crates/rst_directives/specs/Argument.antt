@@ -1,4 +1,4 @@
--- The arguments of directives (Directives).
+-- The arguments of directives (Directives, 'Generic Admonition', 'Topic', 'Image', 'Figure', 'Code').
 use Rattle.std.specs.Prelude.{List, [], ◌∷◌, Result, Ok, Err, if◌then◌else◌}
 use Rattle.std.specs.declared.string.String.{String}
 use Rattle.rst_text.specs.Names.{normalized_white}
@@ -46,6 +46,7 @@ abbrev pub language_of : List Text → Result Given Wrong
 language_of [] = Ok nothing
 language_of (t ∷ ts) = word_of (normalized_white (text_in (t ∷ ts)))
 
+-- the argument of a directive that takes nothing, a title, a URI or a language
 abbrev pub argument_by : Takes → List Text → Part → Result Given Wrong
 argument_by TakesNothing ts part = Ok nothing
 argument_by TakesTitle ts part = title_of ts part
@@ -58,15 +59,18 @@ argument_of name ts part = argument_by (takes name) ts part
 
 -- ---- as it is kept
 
+-- the meaning of an argument
 abbrev pub given_in : Argument → Given
 given_in Absent = nothing
 given_in (Title part) = title part
 given_in (Uri text) = uri (chars_of text)
 given_in (Language text) = language (chars_of text)
 
+-- the meaning of an argument, or what is wrong with it
 abbrev pub argument_in : Result Argument Detail → Result Given Wrong
 argument_in (Ok argument) = Ok (given_in argument)
 argument_in (Err detail) = Err (wrong_in detail)
 
+-- the characters of a text
 abbrev pub chars_in : {A : Type 0} → String A → Text
 chars_in text = chars_of text

@@ -22,6 +22,7 @@ name_text B at call = slice_range (front_text (drop at B)) call.name.from call.n
 abbrev pub called_at : Bool → Block → ℕ → Invocation → Option Name
 called_at code B at call = name_of (name_text B at call) code
 
+-- how many characters the line at this place of a block loses, which may be another number for the first line
 abbrev pub first_cut : Part → ℕ → ℕ
 first_cut block from = if from == 0 then block.first_cut else block.rest_cut
 
@@ -29,9 +30,11 @@ first_cut block from = if from == 0 then block.first_cut else block.rest_cut
 abbrev pub part_of : Part → ℕ → ℕ → Part
 part_of block from to = record { from = block.from + from; to = block.from + to; first_cut = first_cut block from; rest_cut = block.rest_cut }
 
+-- the two parts of a directive's content: before its options, and behind them
 abbrev pub content_of : Part → Layout → ℕ → Content
 content_of block layout all = record { first = part_of block 0 layout.first; second = part_of block layout.second all }
 
+-- no part of the content has a line
 abbrev pub is_empty : Content → Bool
 is_empty content = content.first.from == content.first.to && content.second.from == content.second.to
 

@@ -1,9 +1,11 @@
--- Characters and words.
+-- Characters and words, the words without regard to case where directives and options are named (Markup Specification,
+-- 'Directives').
 use Rattle.std.specs.Prelude.{ℕ, suc, Bool, ◌&&◌, ◌==◌, nat_lt, nat_le, List, [], ◌∷◌, map, slice_index, length, if◌then◌else◌}
 use Rattle.std.specs.Char.{to_ascii_lowercase}
 use Rattle.std.specs.List.{list_any}
 use Rattle.std.specs.Str.{bytes_eq}
 
+-- a text: the list of its characters
 abbrev pub Text : Type 0
 Text = List ℕ
 
@@ -20,7 +22,7 @@ abbrev pub digits : Text → ℕ
 digits [] = 0
 digits (c ∷ cs) = if is_digit c then suc (digits cs) else 0
 
--- a text is the word
+-- A text is the word. What `bytes_eq` of the standard library compares here and below are lists of characters.
 unfoldable pub is_exactly : Text → List ℕ → Bool
 is_exactly t word = bytes_eq t word
 

@@ -25,6 +25,7 @@ use Rattle.rst_markup.specs.declared.part.Part.{Part}
 
 -- ---- the block
 
+-- the directive for program code
 abbrev pub is_code_name : Name → Bool
 is_code_name Code = true
 is_code_name _ = false
@@ -41,18 +42,23 @@ pub record Read : Type 0 where
   pub options : List Choice
   pub content : Content
 
+-- a directive whose options are right, by its argument, or what is wrong with that
 abbrev pub read_argument : Name → List Choice → Content → Result Given Wrong → Result Read Wrong
 read_argument name choices content (Ok given) = Ok (record { name = name; argument = given; options = choices; content = content })
 read_argument name choices content (Err wrong) = Err wrong
 
+-- a directive by its options and its argument, where what is wrong with an option counts first
 abbrev pub read_options : Name → Content → Result Given Wrong → Result (List Choice) Wrong → Result Read Wrong
 read_options name content given (Ok choices) = read_argument name choices content given
 read_options name content given (Err wrong) = Err wrong
 
+-- a directive by the fields that its options are; lines that aren't fields alone are an invalid option block
 abbrev pub read_fields : Name → Content → Result Given Wrong → Option (List FieldText) → Result Read Wrong
 read_fields name content given (Some fs) = read_options name content given (settings_in name fs)
 read_fields name content given None = Err option_block
 
+-- a directive whose block has this layout; its argument and its options stand in the run of lines that the block begins
+-- with
 abbrev pub read_with : Name → Part → ℕ → List Text → Layout → Result Read Wrong
 read_with name block all run layout =
     read_fields name (content_of block layout all) (argument_of name (take layout.argument run) (part_of block 0 layout.argument)) (fields_in (drop layout.options run))
@@ -61,6 +67,7 @@ read_with name block all run layout =
 unfoldable pub read_run : Name → Part → ℕ → List Text → ℕ → ℕ → Result Read Wrong
 read_run name block all run len rest = read_with name block all run (layout_of name run len all rest)
 
+-- what a block with this run of lines at its front holds, or the first that is wrong in it
 abbrev pub read_from : Name → Part → Block → List Text → Result Read Wrong
 read_from name block H run = read_run name block (length H) run (length run) (length run + blank_len (drop (length run) H))
 
@@ -75,10 +82,12 @@ pub data Outcome : Type 0 where
   found : Read → Outcome
   wrong : Fault → Part → Outcome
 
+-- a directive, unless its content has a fault
 abbrev pub judged_by : Read → Part → Option DirectiveFault → Outcome
 judged_by read source (Some fault) = wrong (fault_in fault) source
 judged_by read source None = found read
 
+-- a directive with its content judged, or what is wrong inside it
 abbrev pub judged : Place → Bool → Part → Result Read Wrong → Outcome
 judged place paragraph source (Ok read) = judged_by read source (content_fault read.name (is_empty read.content) place paragraph)
 judged place paragraph source (Err w) = wrong (inside w) source
@@ -91,6 +100,7 @@ source_of at block = record { from = at; to = block.to; first_cut = 0; rest_cut 
 abbrev pub is_late : ℕ → Part → Bool
 is_late at block = nat_lt at block.from && nat_lt 1 (block.from - at)
 
+-- a directive of a name that may stand there, by its block; or the fault of the name
 abbrev pub directive_by : Block → ℕ → Part → Place → Bool → Result Name DirectiveFault → Outcome
 directive_by B at block place paragraph (Ok name) =
     judged place paragraph (source_of at block) (read_block name (is_late at block) block (cut B block.from block.to block.first_cut block.rest_cut))
@@ -104,13 +114,16 @@ directive_at code B at call place paragraph = directive_by B at call.block place
 
 -- ---- as it is kept
 
+-- the meaning of a right directive
 abbrev pub read_in : Reading → Read
 read_in reading = record { name = reading.name; argument = given_in reading.argument; options = choices_in reading.options.items; content = reading.content }
 
+-- the meaning of a right directive, or what is wrong with it
 abbrev pub reading_in : Result Reading Detail → Result Read Wrong
 reading_in (Ok reading) = Ok (read_in reading)
 reading_in (Err detail) = Err (wrong_in detail)
 
+-- the meaning of a directive, right or wrong
 abbrev pub outcome_of : Directive → Outcome
 outcome_of (FoundDirective name argument options content) = found (record { name = name; argument = given_in argument; options = choices_in options.items; content = content })
 outcome_of (WrongDirective fault source) = wrong (fault_in fault) source

@@ -1,4 +1,4 @@
--- What a call gives that only want of memory can hinder.
+-- What a call gives that only want of memory can hinder. No rule of markup: the standard says nothing of memory.
 use Rattle.std.specs.Prelude.{Result, Ok, Err}
 use Rattle.rst_directives.specs.declared.fault.MarkupFault.{MarkupFault}
 use Rattle.rst_directives.specs.declared.fault.MarkupFault.TheVariants.{NoMemory}

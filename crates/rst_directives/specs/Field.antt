@@ -29,6 +29,7 @@ colon_of t = first_from (closes t) 1 (length t - 1)
 unfoldable pub is_name : Text → ℕ → Bool
 is_name t colon = not (has t 1 32) && (not (has t 1 58) && not (has t (colon - 1) 32))
 
+-- the mark of a field whose name ends before this colon, if the name is right and isn't empty
 abbrev pub mark_by : Text → Option ℕ → Option FieldMark
 mark_by t (Some colon) =
     if nat_lt colon 2 then None

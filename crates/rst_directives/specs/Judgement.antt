@@ -1,4 +1,5 @@
--- Where directives may stand, and with which content (Directives).
+-- Where directives may stand, and with which content (Directives, 'Specific Admonitions', 'Generic Admonition',
+-- 'Topic', 'Image', 'Figure', 'Code', 'Replacement Text'; Markup Specification, 'Substitution Definitions').
 use Rattle.std.specs.Prelude.{Bool, true, false, not, ◌&&◌, Option, Some, None, Result, Ok, Err, if◌then◌else◌}
 use Rattle.rst_directives.specs.Name.{holds}
 use Rattle.rst_directives.specs.declared.fault.Detail.TheVariants.{ContentNotPermitted, NotOneParagraph}
@@ -11,14 +12,17 @@ use Rattle.rst_directives.specs.declared.name.Name.TheVariants.{Topic, Image, Re
 use Rattle.rst_directives.specs.declared.name.Holds.{Holds}
 use Rattle.rst_directives.specs.declared.name.Holds.TheVariants.{Required, Nothing, Figure, Paragraph}
 
+-- the place is a substitution definition
 abbrev pub is_substitution : Place → Bool
 is_substitution Substitution = true
 is_substitution _ = false
 
+-- the place is at the level of sections
 abbrev pub is_top : Place → Bool
 is_top Top = true
 is_top _ = false
 
+-- the directive is a topic
 abbrev pub is_topic : Name → Bool
 is_topic Topic = true
 is_topic _ = false
@@ -29,6 +33,7 @@ is_substitutable Image = true
 is_substitutable Replace = true
 is_substitutable _ = false
 
+-- a name has to be that of a directive and, in a substitution definition, of one that this may hold
 abbrev pub permitted_by : Option Name → Bool → Result Name DirectiveFault
 permitted_by (Some name) substitution = if substitution && not (is_substitutable name) then Err NotInSubstitution else Ok name
 permitted_by None substitution = if substitution then Err NotInSubstitution else Err Unknown
@@ -37,6 +42,9 @@ permitted_by None substitution = if substitution then Err NotInSubstitution else
 unfoldable pub permitted : Option Name → Place → Result Name DirectiveFault
 permitted name place = permitted_by name (is_substitution place)
 
+-- The fault of a content by what the directive holds: a figure's has none here; where none is permitted it has to be
+-- empty, else not; a topic stands at the level of sections alone; a replacement text is a single paragraph and stands
+-- in a substitution definition alone.
 abbrev pub judged_by : Holds → Name → Bool → Place → Bool → Option DirectiveFault
 judged_by Figure name empty place paragraph = None
 judged_by Nothing name empty place paragraph = if empty then None else Some (Inside ContentNotPermitted)

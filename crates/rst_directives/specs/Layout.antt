@@ -26,9 +26,11 @@ divided_by Title from len all rest = record { argument = from; first = 0; option
 divided_by Uri from len all rest = record { argument = from; first = 0; options = from; second = rest }
 divided_by Language from len all rest = record { argument = from; first = 0; options = from; second = rest }
 
+-- the parts of a block of which `from` lines stand before the first field
 abbrev pub divided : Name → ℕ → ℕ → ℕ → ℕ → Layout
 divided name from len all rest = divided_by (takes name) from len all rest
 
+-- the parts of a block, which is all content where the directive has no options
 abbrev pub layout_by : Holds → Name → ℕ → ℕ → ℕ → ℕ → Layout
 layout_by Paragraph name from len all rest = undivided len all
 layout_by _ name from len all rest = divided name from len all rest

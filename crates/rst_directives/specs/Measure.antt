@@ -7,6 +7,7 @@ use Rattle.rst_directives.specs.declared.measure.Measure.{Measure}
 use Rattle.rst_directives.specs.declared.measure.Alignment.{Alignment}
 use Rattle.rst_directives.specs.declared.measure.Alignment.TheVariants.{Top, Middle, Bottom, Left, Center, Right}
 
+-- how many characters a number has with a point and digits behind it; a point without digits is no part of it
 abbrev pub with_part : ℕ → ℕ → ℕ
 with_part whole part = if part == 0 then whole else whole + 1 + part
 
@@ -20,6 +21,7 @@ is_unit t percent =
     is_exactly t (codes "em") || (is_exactly t (codes "ex") || (is_exactly t (codes "px") || (is_exactly t (codes "in") || (is_exactly t (codes "cm")
     || (is_exactly t (codes "mm") || (is_exactly t (codes "pt") || (is_exactly t (codes "pc") || (percent && is_exactly t (codes "%")))))))))
 
+-- a measure whose number has this many characters, if a unit or nothing follows behind the spaces
 abbrev pub parts_by : Text → Bool → ℕ → Option Measure
 parts_by t percent number =
     if number == 0 then None
@@ -35,6 +37,7 @@ measure_parts t percent = parts_by t percent (number_len t)
 abbrev pub unit_or : Bool → Text → Text
 unit_or wanted unit = if wanted && is_blank unit then 112 ∷ 120 ∷ [] else unit
 
+-- the number and the unit of a measure, without the spaces between them
 abbrev pub measure_by : Text → Bool → Option Measure → Option Text
 measure_by t wanted (Some parts) = Some (take parts.number t ++ unit_or wanted (drop parts.unit t))
 measure_by t wanted None = None
@@ -51,6 +54,7 @@ scale_of t =
     then Some (decimal (digits t) t)
     else None
 
+-- the vertical alignment that a word names
 unfoldable pub vertical_alignment : Text → Option Alignment
 vertical_alignment t =
     if is_exactly t (codes "top") then Some Top

@@ -5,6 +5,7 @@ use Rattle.rst_directives.specs.declared.fault.Detail.TheVariants.{InvalidOption
 use Rattle.rst_directives.specs.declared.fault.DirectiveFault.{DirectiveFault}
 use Rattle.rst_directives.specs.declared.fault.DirectiveFault.TheVariants.{NotInSubstitution, Unknown, Inside, NoContent, TopicNotHere, ReplaceNotHere}
 
+-- what is wrong inside a directive, in words
 abbrev pub detail_of : Detail → List ℕ
 detail_of InvalidOptionBlock = codes "invalid option block."
 detail_of (UnknownOption option) = (codes "unknown option: \"" ++ string_bytes option) ++ codes "\"."

@@ -1,4 +1,5 @@
--- The directives, and what each of them takes (Directives).
+-- The directives, and what each of them takes (Directives, 'Specific Admonitions', 'Generic Admonition', 'Topic',
+-- 'Image', 'Figure', 'Code', 'Replacement Text', 'Common Options').
 use Rattle.std.specs.Prelude.{Bool, true, false, ◌&&◌, ◌||◌, codes, Option, Some, None, if◌then◌else◌}
 use Rattle.rst_directives.specs.Characters.{Text, is_word}
 use Rattle.rst_directives.specs.declared.name.Name.{Name}
@@ -24,6 +25,7 @@ admonition_of t =
     else if is_word t (codes "warning") then Some Warning
     else None
 
+-- the text is one of the three names of the directive for program code
 unfoldable pub is_code : Text → Bool
 is_code t = is_word t (codes "code") || (is_word t (codes "code-block") || is_word t (codes "sourcecode"))
 
@@ -38,7 +40,7 @@ name_of t code =
     else if code && is_code t then Some Code
     else admonition_of t
 
--- the argument
+-- what a directive takes as its argument
 abbrev pub takes : Name → Takes
 takes Admonition = Title
 takes Topic = Title
@@ -47,7 +49,7 @@ takes Figure = Uri
 takes Code = Language
 takes _ = NoArgument
 
--- the content
+-- what a directive takes as its content
 abbrev pub holds : Name → Holds
 holds Image = NoContent
 holds Figure = CaptionAndLegend

@@ -16,6 +16,7 @@ use Rattle.rst_directives.specs.declared.option.OptionName.{OptionName}
 use Rattle.rst_directives.specs.declared.options.Field.{Field}
 use Rattle.rst_directives.specs.declared.options.Setting.{Setting}
 
+-- a text begins with a space
 abbrev pub begins_space : Text → Bool
 begins_space [] = false
 begins_space (c ∷ cs) = c == 32
@@ -30,15 +31,18 @@ abbrev pub least_with : ℕ → List Text → ℕ
 least_with n [] = n
 least_with n (t ∷ ts) = least_with (min n (indentation t)) ts
 
+-- the least indentation of lines, 0 where there are none
 abbrev pub least_indentation : List Text → ℕ
 least_indentation [] = 0
 least_indentation (t ∷ ts) = least_with (indentation t) (t ∷ ts)
 
+-- a text before lines, unless it is empty
 abbrev pub with_first : Text → List Text → List Text
 with_first [] ts = ts
 with_first (c ∷ cs) ts = (c ∷ cs) ∷ ts
 
--- a text, unless it is empty, and lines without their first characters, as many as `cut`, joined by line feeds
+-- A text, unless it is empty, and lines without their first characters, as many as `cut`, joined by line feeds. What
+-- `join_with_byte` of the standard library joins here are lists of characters.
 unfoldable pub joined : Text → List Text → ℕ → Text
 joined first ts cut = join_with_byte 10 (with_first first (map (drop cut) ts))
 
@@ -48,6 +52,8 @@ joined first ts cut = join_with_byte 10 (with_first first (map (drop cut) ts))
 abbrev pub FieldText : Type 0
 FieldText = Text × Text
 
+-- a field: the name between its colons, and the text behind its mark with the lines below, their least indentation
+-- taken off
 abbrev pub field_by : Option FieldMark → Text → List Text → Option FieldText
 field_by None t below = None
 field_by (Some mark) t below = Some (slice_range t 1 mark.colon, joined (drop mark.cut t) below (least_indentation below))
@@ -56,6 +62,7 @@ field_by (Some mark) t below = Some (slice_range t 1 mark.colon, joined (drop ma
 unfoldable pub field_in : Text → List Text → Option FieldText
 field_in t below = field_by (field_mark t) t below
 
+-- a field before others, if it and they are fields
 abbrev pub onto_fields : Option FieldText → Option (List FieldText) → Option (List FieldText)
 onto_fields (Some f) (Some fs) = Some (f ∷ fs)
 onto_fields (Some f) None = None
@@ -72,6 +79,7 @@ fields_in ts = fields_from false ts
 
 -- ---- what is wrong with them
 
+-- the directive doesn't have the option, or there is no such option
 abbrev pub unknown_by : Name → Option OptionName → Bool
 unknown_by directive (Some option) = not (has_option directive option)
 unknown_by directive None = true
@@ -99,10 +107,12 @@ again_from before (f ∷ fs) = if is_among f.0 before then Some f.0 else again_f
 abbrev pub Choice : Type 0
 Choice = OptionName × Meaning
 
+-- an option with the meaning of its value, if it can have it
 abbrev pub chosen : OptionName → Option Meaning → Option Choice
 chosen option (Some meaning) = Some (option, meaning)
 chosen option None = None
 
+-- what a value chooses for an option, if there is such an option
 abbrev pub choice_by : Name → Option OptionName → Text → Option Choice
 choice_by directive (Some option) value = chosen option (value_of directive option value)
 choice_by directive None value = None
@@ -111,6 +121,7 @@ choice_by directive None value = None
 abbrev pub choice_of : Name → FieldText → Option Choice
 choice_of directive f = choice_by directive (option_of f.0) f.1
 
+-- a choice before others; without one the value of the option of this name is invalid
 abbrev pub onto_choices : Option Choice → Text → Result (List Choice) Wrong → Result (List Choice) Wrong
 onto_choices (Some choice) name (Ok choices) = Ok (choice ∷ choices)
 onto_choices (Some choice) name (Err wrong) = Err wrong
@@ -121,6 +132,7 @@ abbrev pub choices_of : Name → List FieldText → Result (List Choice) Wrong
 choices_of directive [] = Ok []
 choices_of directive (f ∷ fs) = onto_choices (choice_of directive f) f.0 (choices_of directive fs)
 
+-- what fields choose, unless one is unknown or, else, one stands there again
 abbrev pub judged_by : Option Text → Option Text → Result (List Choice) Wrong → Result (List Choice) Wrong
 judged_by (Some name) again choices = Err (unknown name)
 judged_by None (Some name) choices = Err (duplicate name)
@@ -133,18 +145,23 @@ settings_in directive fs = judged_by (first_unknown directive fs) (again_from []
 
 -- ---- as they are kept
 
+-- a field's name and value
 abbrev pub field_text : Field → FieldText
 field_text field = (field.name.items, field.value.items)
 
+-- the names and values of fields
 abbrev pub field_texts : List Field → List FieldText
 field_texts fields = map field_text fields
 
+-- what a setting chooses
 abbrev pub choice_in : Setting → Choice
 choice_in setting = (setting.option, meaning_of setting.value)
 
+-- what settings choose
 abbrev pub choices_in : List Setting → List Choice
 choices_in settings = map choice_in settings
 
+-- what settings choose, or what is wrong with them
 abbrev pub settings_shown : {A : Type 0} → Result (Vec Setting A) Detail → Result (List Choice) Wrong
 settings_shown (Ok settings) = Ok (choices_in settings.items)
 settings_shown (Err detail) = Err (wrong_in detail)

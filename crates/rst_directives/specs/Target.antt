@@ -22,12 +22,13 @@ lines_in (c ∷ cs) = if c == 10 then [] ∷ lines_in cs else onto_first c (line
 abbrev pub unindented : Text → Text
 unindented t = drop (indentation t) t
 
--- those that aren't empty
+-- the lines that aren't empty
 abbrev pub filled : List Text → List Text
 filled [] = []
 filled (t ∷ ts) = if is_blank t then filled ts else t ∷ filled ts
 
--- the lines without their indentation, joined by line feeds, empty ones left out
+-- The lines without their indentation, joined by line feeds, empty ones left out. What `join_with_byte` of the standard
+-- library joins here are lists of characters.
 unfoldable pub target_text : Text → Text
 target_text t = join_with_byte 10 (filled (map unindented (lines_in t)))
 
@@ -79,9 +80,11 @@ pub data Destination : Type 0 where
 abbrev pub without_white : Text → Text
 without_white t = filter (λ c. not (is_white c)) t
 
+-- a URI, unless nothing is left of it
 abbrev pub located_if : Text → Option Destination
 located_if uri = if is_blank uri then None else Some (located uri)
 
+-- the name in a reference by a simple name or by a phrase; any other text is a URI, unless nothing is left of it
 unfoldable pub destination_in : Text → Option Destination
 destination_in t =
     if is_simple_reference t then Some (named (take (length t - 1) t))
@@ -95,6 +98,7 @@ target_value t = destination_in (target_text t)
 
 -- ---- as it is kept
 
+-- the meaning of a target
 abbrev pub destination_of : Target → Destination
 destination_of (Name name) = named (chars_of name)
 destination_of (Uri uri) = located (chars_of uri)

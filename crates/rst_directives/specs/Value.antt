@@ -28,14 +28,16 @@ pub data Meaning : Type 0 where
 
 -- ---- classes
 
--- what stands before the first white character
+-- how many characters stand before the first white one
 abbrev pub word_len : Text → ℕ
 word_len [] = 0
 word_len (c ∷ cs) = if is_white c then 0 else suc (word_len cs)
 
+-- the id that a word gives
 unfoldable pub id_in : Text → Text
 id_in word = id_of word
 
+-- an id before others, if these are right
 abbrev pub onto_ids : Text → Option (List Text) → Option (List Text)
 onto_ids id (Some ids) = Some (id ∷ ids)
 onto_ids id None = None
@@ -56,9 +58,11 @@ ids_of t = some_ids (words_of t)
 
 -- ---- values
 
+-- the name that a text gives: each run of white is one space, and case doesn't count
 abbrev pub called_by : Text → Meaning
 called_by t = called (name_of t)
 
+-- a link to a destination, with the text as it is written, if there is a destination
 abbrev pub linked_if : Option Destination → Text → Option Meaning
 linked_if (Some to) source = Some (linked to source)
 linked_if None source = None
@@ -78,12 +82,15 @@ value_of directive FigureClass t = option_map classed (ids_of t)
 
 -- ---- as they are kept
 
+-- the characters of a text
 abbrev pub chars_in : {A : Type 0} → String A → Text
 chars_in text = chars_of text
 
+-- the characters of texts
 abbrev pub texts_in : {A : Type 0} → List (String A) → List Text
 texts_in texts = map chars_of texts
 
+-- the meaning of an option's value
 abbrev pub meaning_of : OptionValue → Meaning
 meaning_of (TextValue text) = plain (chars_of text)
 meaning_of (Measure text) = measured (chars_of text)

@@ -37,6 +37,7 @@ wrong_in ManyArguments = many_arguments
 wrong_in ContentNotPermitted = content_not_permitted
 wrong_in NotOneParagraph = not_one_paragraph
 
+-- the same of what is wrong with a directive
 abbrev pub fault_in : DirectiveFault → Fault
 fault_in NotInSubstitution = not_in_substitution
 fault_in Unknown = unknown_directive

@@ -10,6 +10,7 @@ use Rattle.rst_marks.specs.declared.adornment.Adornment.{Adornment}
 abbrev pub is_punctuation : ℕ → Bool
 is_punctuation c = ((nat_le 33 c && nat_le c 47) || (nat_le 58 c && nat_le c 64)) || ((nat_le 91 c && nat_le c 96) || (nat_le 123 c && nat_le c 126))
 
+-- a text that is its first character, once or more, and nothing else, if that is punctuation
 abbrev pub adornment_by : Option ℕ → List ℕ → Option Adornment
 adornment_by None t = None
 adornment_by (Some c) t =

@@ -5,6 +5,7 @@ use Rattle.rst_marks.specs.Front.{begins_with}
 use Rattle.rst_marks.specs.Class.{run}
 use Rattle.rst_marks.specs.declared.class.Class.TheVariants.{Only}
 
+-- two or three hyphens are a dash, and no other number of them is
 abbrev pub two_or_three : ℕ → ℕ
 two_or_three n = if n == 2 || n == 3 then n else 0
 
@@ -12,6 +13,7 @@ two_or_three n = if n == 2 || n == 3 then n else 0
 unfoldable pub dash_len : List ℕ → ℕ
 dash_len t = if begins_with 0x2014 t then 1 else two_or_three (run (Only 45) t)
 
+-- how many characters a dash of n characters has with the spaces behind it, if text follows these
 abbrev pub behind_dash : ℕ → List ℕ → Option ℕ
 behind_dash n t =
     if n == 0 then None

@@ -5,6 +5,7 @@ use Rattle.rst_text.specs.Characters.{is_alphanumeric}
 use Rattle.rst_marks.specs.declared.class.Class.{Class}
 use Rattle.rst_marks.specs.declared.class.Class.TheVariants.{Only, Either, Digit, Letter, Option, Bracketed, Unbracketed, Name}
 
+-- a text begins with a letter or a number
 abbrev pub begins_alphanumeric : List ℕ → Bool
 begins_alphanumeric [] = false
 begins_alphanumeric (c ∷ cs) = is_alphanumeric c

@@ -13,6 +13,8 @@ use Rattle.rst_marks.specs.declared.closing.Closing.TheVariants.{Colon, QuotedCo
 unfoldable pub before_next : Before → ℕ → Before
 before_next before c = record { escaped = escapes c before.escaped; dark = not (is_white c) }
 
+-- a character closes that isn't escaped: a colon with a space or the end behind it, a backquote before such a colon, a
+-- bar behind a character that isn't white, or such a bar before a space
 abbrev pub closes_free : Closing → Bool → ℕ → List ℕ → Bool
 closes_free Colon dark c cs = c == 58 && is_loose cs
 closes_free QuotedColon dark c cs = c == 96 && (begins_with 58 cs && is_loose (drop 1 cs))
@@ -32,6 +34,7 @@ closed_from closing before (c ∷ cs) = if closes closing before c cs then Some 
 abbrev pub closed : Closing → List ℕ → Option ℕ
 closed closing t = closed_from closing (record { escaped = false; dark = false }) t
 
+-- this character and the text behind it are two colons and nothing else, the first of which isn't escaped
 abbrev pub is_colon_pair : Bool → ℕ → List ℕ → Bool
 is_colon_pair escaped c cs = not escaped && (c == 58 && (begins_with 58 cs && is_blank (drop 1 cs)))
 
@@ -40,5 +43,6 @@ unfoldable pub ends_in_colons_from : Bool → List ℕ → Bool
 ends_in_colons_from escaped [] = false
 ends_in_colons_from escaped (c ∷ cs) = if is_colon_pair escaped c cs then true else ends_in_colons_from (escapes c escaped) cs
 
+-- a text ends in `::`, by which a paragraph announces a literal block
 abbrev pub ends_in_colons : List ℕ → Bool
 ends_in_colons t = ends_in_colons_from false t

@@ -19,6 +19,7 @@ use Rattle.rst_marks.specs.declared.enumerator.Reading.{Reading}
 use Rattle.rst_marks.specs.declared.marker.Marker.{Marker}
 use Rattle.rst_marks.specs.Marker.{marker_of}
 
+-- the case of a letter
 abbrev pub case_of : ℕ → Case
 case_of c = if nat_le 97 c && nat_le c 122 then Lower else Upper
 
@@ -35,9 +36,12 @@ digits t =
     if run Digit t == 0 || nat_lt 9 (run Digit t) then None
     else Some (record { ordinals = Arabic (decimal (run Digit t) t); len = run Digit t })
 
+-- a Roman numeral of n letters with this value
 abbrev pub as_numeral : Case → ℕ → ℕ → Option Written
 as_numeral case n value = Some (record { ordinals = Letters case None (Some value); len = n })
 
+-- n letters with c at their front: one is a letter of the alphabet, and maybe a Roman numeral as well; more have to be
+-- a Roman numeral in the case of the first
 abbrev pub letters_by : ℕ → ℕ → List ℕ → Option Written
 letters_by c n t =
     if n == 0 then None
@@ -48,6 +52,7 @@ letters_by c n t =
 unfoldable pub letters : List ℕ → Option Written
 letters t = if_some (first t) (λ c. letters_by c (run Letter t) t)
 
+-- the first of two, or the second where the first is missing
 abbrev pub or_else : {A : Type 0} → Option A → Option A → Option A
 or_else None b = b
 or_else (Some a) b = Some a
@@ -56,6 +61,7 @@ or_else (Some a) b = Some a
 unfoldable pub written_at : List ℕ → Option Written
 written_at t = if begins_with 35 t then Some (record { ordinals = Auto; len = 1 }) else or_else (digits t) (letters t)
 
+-- an enumerator of this format and ordinal, if spaces or the end are behind it
 abbrev pub with_marker : Format → Written → Option Marker → Option Enumerator
 with_marker format w None = None
 with_marker format w (Some m) = Some (record { format = format; written = w; marker = m })
@@ -77,15 +83,18 @@ enumerator_of t =
     else if begins_with 46 (drop w.len t) then framed Period 0 t
     else None)
 
+-- the second ordinal follows the first directly, where both are there
 abbrev pub is_one_more : Option ℕ → Option ℕ → Bool
 is_one_more (Some a) (Some b) = nat_lt 0 b && b - 1 == a
 is_one_more _ _ = false
 
+-- both are lower case, or both are upper case
 abbrev pub is_same_case : Case → Case → Bool
 is_same_case Lower Lower = true
 is_same_case Upper Upper = true
 is_same_case _ _ = false
 
+-- both stand between parentheses, or both before one, or both before a period
 abbrev pub is_same_format : Format → Format → Bool
 is_same_format Parentheses Parentheses = true
 is_same_format Parenthesis Parenthesis = true
@@ -99,6 +108,7 @@ is_next (Arabic a) (Arabic b) = is_one_more (Some a) (Some b)
 is_next (Letters c a r) (Letters d b s) = is_same_case c d && (is_one_more a b || is_one_more r s)
 is_next _ _ = false
 
+-- an enumerator with text behind it goes on with the list of another: it has the same format and the next ordinal
 abbrev pub is_next_of : Enumerator → Option Enumerator → Bool
 is_next_of e None = false
 is_next_of e (Some f) = not f.marker.bare && (is_same_format e.format f.format && is_next e.written.ordinals f.written.ordinals)
@@ -107,14 +117,17 @@ is_next_of e (Some f) = not f.marker.bare && (is_same_format e.format f.format &
 unfoldable pub begins_next : Enumerator → List ℕ → Bool
 begins_next e t = is_next_of e (enumerator_of t)
 
+-- the sequence of the letters of a case
 abbrev pub alphabet_of : Case → Sequence
 alphabet_of Lower = LowerAlpha
 alphabet_of Upper = UpperAlpha
 
+-- the sequence of the Roman numerals of a case
 abbrev pub numerals_of : Case → Sequence
 numerals_of Lower = LowerRoman
 numerals_of Upper = UpperRoman
 
+-- a single letter at the beginning of a list: `i` or `I` is the Roman numeral one, any other a letter of the alphabet
 abbrev pub first_letter : Case → ℕ → Option ℕ → Reading
 first_letter c a None = record { sequence = alphabet_of c; ordinal = a }
 first_letter c a (Some r) = if r == 1 then record { sequence = numerals_of c; ordinal = 1 } else record { sequence = alphabet_of c; ordinal = a }

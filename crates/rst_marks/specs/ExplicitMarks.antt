@@ -20,9 +20,11 @@ use Rattle.rst_marks.specs.declared.explicit_marks.SubstitutionMark.{Substitutio
 use Rattle.rst_marks.specs.declared.explicit_marks.SubstitutionMark.TheVariants.{Named as NamedSubstitution, Unclosed, Tight}
 use Rattle.rst_marks.specs.declared.explicit_marks.DirectiveMark.{DirectiveMark}
 
+-- the mark of explicit markup: `..` with spaces or the end behind it
 unfoldable pub dots : List ℕ → Option Marker
 dots t = if begins_with 46 t && begins_with 46 (drop 1 t) then marker_of 2 t else None
 
+-- the mark of an anonymous target: `__` with spaces or the end behind it
 unfoldable pub underscores : List ℕ → Option Marker
 underscores t = if begins_with 95 t && begins_with 95 (drop 1 t) then marker_of 2 t else None
 
@@ -41,6 +43,7 @@ label_kind n t =
     else if simple_name t == n then Some Citation
     else None
 
+-- a label of this kind, of n characters between brackets, if spaces or the end are behind them
 abbrev pub labelled : ℕ → List ℕ → LabelKind → Option LabelMark
 labelled n t k = if_some (marker_of (n + 2) t) (λ m. Some (record { kind = k; len = n; marker = m }))
 
@@ -48,9 +51,11 @@ labelled n t k = if_some (marker_of (n + 2) t) (λ m. Some (record { kind = k; l
 abbrev pub label_by : ℕ → List ℕ → Option LabelMark
 label_by n t = if begins_with 93 (drop n (drop 1 t)) then if_some (label_kind n (drop 1 t)) (labelled n t) else None
 
+-- the label of a footnote or a citation: what stands between `[` and the first `]`
 unfoldable pub label_of : List ℕ → Option LabelMark
 label_of t = if begins_with 91 t then label_by (run Unbracketed (drop 1 t)) t else None
 
+-- a text begins with a white character
 abbrev pub begins_white : List ℕ → Bool
 begins_white [] = false
 begins_white (c ∷ cs) = is_white c
@@ -67,6 +72,7 @@ plain_target t = if_some (closed Colon (drop 1 t)) (λ n.
     if n == 0 || begins_white (drop 1 t) then None
     else if_some (marker_of (n + 2) t) (λ m. Some (Named 1 n m)))
 
+-- an anonymous target: a colon behind its two underscores, and spaces or the end behind that
 unfoldable pub anonymous_target : List ℕ → Option TargetMark
 anonymous_target t = if begins_with 58 (drop 2 t) then if_some (marker_of 3 t) (λ m. Some (Anonymous m)) else None
 
@@ -78,10 +84,13 @@ target_of t =
     else plain_target t)
     else None
 
+-- a substitution definition without a name: its closing bar is missing, or no space is behind it
 abbrev pub closing_bar : Option ℕ → SubstitutionMark
 closing_bar None = Unclosed
 closing_bar (Some n) = Tight
 
+-- a substitution definition with the n characters between its bars as its name, or one without a name where no closing
+-- bar has a space behind it
 abbrev pub spaced_bar : List ℕ → Option ℕ → Option SubstitutionMark
 spaced_bar t None = Some (closing_bar (closed Bar (drop 1 t)))
 spaced_bar t (Some n) = if_some (marker_of (n + 2) t) (λ m. Some (NamedSubstitution n m))
@@ -106,5 +115,6 @@ directive_by spaced n t =
     else if spaced && begins_with 32 (drop n t) then colons n (n + 1) t
     else colons n n t
 
+-- the mark of a directive: a simple name and `::` with spaces or the end behind it, and maybe a space between the two
 unfoldable pub directive_of : Bool → List ℕ → Option DirectiveMark
 directive_of spaced t = directive_by spaced (simple_name t) t

@@ -13,6 +13,7 @@ use Rattle.rst_marks.specs.declared.field.FieldMark.{FieldMark}
 abbrev pub is_no_name : ℕ → List ℕ → Bool
 is_no_name n t = n == 0 || (begins_with 32 t || (begins_with 58 t || begins_with 32 (drop (n - 1) t)))
 
+-- a field whose name has n characters, behind the first colon
 abbrev pub named : ℕ → Marker → Option FieldMark
 named n m = Some (record { name = record { from = 1; to = 1 + n }; marker = m })
 

@@ -15,15 +15,19 @@ marker_of n t =
 abbrev pub is_bullet : ℕ → Bool
 is_bullet c = (c == 42 || (c == 43 || c == 45)) || (c == 0x2022 || (c == 0x2023 || c == 0x2043))
 
+-- the mark that the first character of a text is, if it is a bullet
 abbrev pub bullet_by : Option ℕ → List ℕ → Option Marker
 bullet_by (Some c) t = if is_bullet c then marker_of 1 t else None
 bullet_by None t = None
 
+-- the mark of an item of a bullet list: a bullet with spaces or the end behind it
 unfoldable pub bullet : List ℕ → Option Marker
 bullet t = bullet_by (first t) t
 
+-- the mark of a doctest block: `>>>` with spaces or the end behind it
 unfoldable pub doctest : List ℕ → Option Marker
 doctest t = if begins_with 62 t && (begins_with 62 (drop 1 t) && begins_with 62 (drop 2 t)) then marker_of 3 t else None
 
+-- the mark of a line of a line block: `|` with spaces or the end behind it
 unfoldable pub line_bar : List ℕ → Option Marker
 line_bar t = if begins_with 124 t then marker_of 1 t else None

@@ -13,10 +13,12 @@ use Rattle.rst_marks.specs.declared.option.OptionTail.TheVariants.{Last, Next, W
 use Rattle.rst_marks.specs.declared.marker.Marker.{Marker}
 use Rattle.rst_marks.specs.Marker.{marker_of}
 
+-- a text begins with a digit or a letter of ASCII
 abbrev pub begins_ascii_alphanumeric : List ℕ → Bool
 begins_ascii_alphanumeric [] = false
 begins_ascii_alphanumeric (c ∷ cs) = (nat_le 48 c && nat_le c 57) || ((nat_le 65 c && nat_le c 90) || (nat_le 97 c && nat_le c 122))
 
+-- a text begins with a letter
 abbrev pub begins_letter : List ℕ → Bool
 begins_letter [] = false
 begins_letter (c ∷ cs) = is_letter c
@@ -33,9 +35,11 @@ argument_len t =
     else if begins_with 60 t then bracketed_len (run Bracketed (drop 1 t)) t
     else 0
 
+-- an argument of n characters behind this delimiter, if there are some
 abbrev pub with_delimiter : Delimiter → ℕ → Option Argument
 with_delimiter d n = if n == 0 then None else Some (record { delimiter = d; len = n })
 
+-- the argument at the front of a text that this delimiter stands before
 unfoldable pub argument_behind : Delimiter → List ℕ → Option Argument
 argument_behind d t = with_delimiter d (argument_len t)
 
@@ -50,6 +54,7 @@ long_argument t =
     else if begins_with 61 t then argument_behind Equals (drop 1 t)
     else None
 
+-- an option of n characters with its argument, if it has one
 abbrev pub option_of : ℕ → Option Argument → Option OptionMark
 option_of n a = Some (record { string = n; argument = a })
 
@@ -59,6 +64,7 @@ long_option n t =
     if begins_ascii_alphanumeric (drop n t) then (let m = n + 1 + run OptionClass (drop 1 (drop n t)) in option_of m (long_argument (drop m t)))
     else None
 
+-- behind its first character, which marks it, a digit or a letter of ASCII, and maybe an argument
 unfoldable pub short_option : List ℕ → Option OptionMark
 short_option t = if begins_ascii_alphanumeric (drop 1 t) then option_of 2 (short_argument (drop 2 t)) else None
 
@@ -70,6 +76,7 @@ option_at t =
     else if begins_with 45 t || begins_with 43 t then short_option t
     else None
 
+-- how many characters n characters are with the delimiter before them
 abbrev pub width_with : Delimiter → ℕ → ℕ
 width_with Nothing n = n
 width_with _ n = n + 1
@@ -79,6 +86,7 @@ abbrev pub argument_width : Option Argument → ℕ
 argument_width None = 0
 argument_width (Some a) = width_with a.delimiter a.len
 
+-- an option with spaces or the end behind it is the last, and one with neither is wrong
 abbrev pub last_if : Option Marker → OptionTail
 last_if None = Wrong
 last_if (Some m) = Last m
@@ -90,6 +98,7 @@ tail_at n t =
     else if begins_with 32 (drop n t) && not (begins_with 32 (drop 1 (drop n t))) then Wrong
     else last_if (marker_of n t)
 
+-- what stands behind an option at the front of a text; where there is none, the text is wrong
 abbrev pub tail_of : Option OptionMark → List ℕ → OptionTail
 tail_of None t = Wrong
 tail_of (Some o) t = tail_at (o.string + argument_width o.argument) t
@@ -102,6 +111,8 @@ option_tail t = tail_of (option_at t) t
 abbrev pub shifted : ℕ → Marker → Marker
 shifted before m = record { cut = before + m.cut; bare = m.bare }
 
+-- the marker of options that stand `before` characters further on, by what stands behind the first of them: it ends
+-- with the last, and goes on with the next
 abbrev pub by_tail : OptionTail → ℕ → (ℕ → Option Marker) → Option Marker
 by_tail (Last m) before next = Some (shifted before m)
 by_tail (Next n) before next = next n

@@ -17,6 +17,7 @@ place_of from len = record { from = from; to = from + len }
 abbrev pub argument_behind : ℕ → Argument → ListedArgument
 argument_behind before a = record { delimiter = a.delimiter; text = place_of (width_with a.delimiter before) a.len }
 
+-- the same of an option that may have no argument
 abbrev pub argument_in : ℕ → Option Argument → Option ListedArgument
 argument_in before None = None
 argument_in before (Some a) = Some (argument_behind before a)
@@ -25,6 +26,8 @@ argument_in before (Some a) = Some (argument_behind before a)
 abbrev pub option_in : ℕ → OptionMark → ListedOption
 option_in before o = record { string = place_of before o.string; argument = argument_in (before + o.string) o.argument }
 
+-- the options from one on: it and those after it, where it is followed by another; it alone, where it is the last; and
+-- none, where it is wrong
 abbrev pub listed : OptionTail → Option OptionMark → ℕ → (ℕ → List ListedOption) → List ListedOption
 listed tail None before next = []
 listed Wrong (Some o) before next = []
@@ -44,13 +47,16 @@ options_in t = options_from 0 0 t
 
 -- ---- where they stand
 
+-- a place stands within n characters
 abbrev pub IsIn : ℕ → Characters → Type 0
 IsIn n place = (place.from ≤ place.to) × (place.to ≤ n)
 
+-- an argument stands within n characters, if there is one
 abbrev pub IsArgumentIn : ℕ → Option ListedArgument → Type 0
 IsArgumentIn n None = Unit {0}
 IsArgumentIn n (Some a) = IsIn n a.text
 
+-- an option stands within n characters, with its argument
 abbrev pub IsOptionIn : ℕ → ListedOption → Type 0
 IsOptionIn n o = IsIn n o.string × IsArgumentIn n o.argument
 

@@ -10,23 +10,26 @@ use Rattle.rst_marks.specs.declared.enumerator.Case.TheVariants.{Lower, Upper}
 use Rattle.rst_marks.specs.declared.roman.RomanDigit.{RomanDigit}
 use Rattle.rst_marks.specs.declared.roman.RomanPlace.{RomanPlace}
 
--- c d m, x l c, i v x
+-- the letters for one, five and ten hundreds: c, d, m
 abbrev pub hundreds : Case → RomanPlace
 hundreds Lower = record { one = 99; five = 100; ten = 109 }
 hundreds Upper = record { one = 67; five = 68; ten = 77 }
 
+-- the letters for one, five and ten tens: x, l, c
 abbrev pub tens : Case → RomanPlace
 tens Lower = record { one = 120; five = 108; ten = 99 }
 tens Upper = record { one = 88; five = 76; ten = 67 }
 
+-- the letters for one, five and ten ones: i, v, x
 abbrev pub ones : Case → RomanPlace
 ones Lower = record { one = 105; five = 118; ten = 120 }
 ones Upper = record { one = 73; five = 86; ten = 88 }
 
--- fives are 0 or 1
+-- a digit of a five or none, and 0 to 3 ones behind it
 abbrev pub with_ones : ℕ → ℕ → Option RomanDigit
 with_ones fives count = if nat_lt 3 count then None else Some (record { value = fives * 5 + count; len = fives + count })
 
+-- 1 where the letter for five stands first, else 0
 abbrev pub fives_at : RomanPlace → List ℕ → ℕ
 fives_at place t = if begins_with place.five t then 1 else 0
 
@@ -37,6 +40,7 @@ digit_at place t =
     else if begins_with place.one t && begins_with place.five (drop 1 t) then Some (record { value = 4; len = 2 })
     else with_ones (fives_at place t) (run (Only place.one) (drop (fives_at place t) t))
 
+-- what a function gives for a value, if there is one
 abbrev pub if_some : {A B : Type 0} → Option A → (A → Option B) → Option B
 if_some None f = None
 if_some (Some a) f = f a

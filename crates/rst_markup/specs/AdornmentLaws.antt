@@ -13,6 +13,7 @@ use Rattle.rst_markup.specs.Sizes.{adornment_size, adornment_size_by, fixed_size
 use Rattle.rst_markup.specs.Rows.{is_adornment_row, adornment_row_size}
 use Rattle.rst_markup.specs.RowLaws.{same_front, text_within}
 
+-- Whether a line is of one punctuation character depends on the first three lines alone.
 pub adornment_on_three : (X Y : Block) → take 3 X ≡ take 3 Y → is_adornment_row X ≡ is_adornment_row Y
 adornment_on_three X Y h = ap (λ t. is_some (adornment_of t)) (same_front X Y h)
 
@@ -21,6 +22,7 @@ abbrev pub SizeWithin : ℕ → Option ℕ → Type 0
 SizeWithin k None = Unit {0}
 SizeWithin k (Some n) = (1 ≤ n) × (n ≤ k)
 
+-- below the top level a fixed size is one line
 below_sizes : (mark : Adornment) (k : ℕ) → 1 ≤ k → SizeWithin k (fixed_size (adorned_below mark))
 unfolding adorned_below
 below_sizes mark k h = by (mark.character == 58 && mark.len == 2) (leb 4 mark.len)
@@ -30,6 +32,7 @@ below_sizes mark k h = by (mark.character == 58 && mark.len == 2) (leb 4 mark.le
     by false true = (omega arith, h)
     by false false = tt
 
+-- a transition is one line
 alone_sizes : (mark : Adornment) (k : ℕ) → 1 ≤ k → SizeWithin k (fixed_size (adorned_alone mark))
 unfolding adorned_alone
 alone_sizes mark k h = by (leb 4 mark.len)
@@ -38,6 +41,7 @@ alone_sizes mark k h = by (leb 4 mark.len)
     by true = (omega arith, h)
     by false = tt
 
+-- a title with its overline has at most three lines
 title_sizes : (mark : Adornment) (next after : List ℕ) (under : Option Adornment) (k : ℕ) → 3 ≤ k → SizeWithin k (fixed_size (over_title mark next after under))
 title_sizes mark next after None k h = by (is_blank after)
   where
@@ -50,10 +54,12 @@ title_sizes mark next after (Some under) k h = by (is_same_adornment mark under)
     by true b = (omega arith, h)
     by false b = (omega arith, h)
 
+-- so has an overline over a title, of which the line behind the title may be missing
 by_sizes : (mark : Adornment) (next : List ℕ) (after : Option (List ℕ)) (k : ℕ) → 2 ≤ k → (is_some after ≡ true → 3 ≤ k) → SizeWithin k (fixed_size (overlined_by mark next after))
 by_sizes mark next None k h more = (omega arith, h)
 by_sizes mark next (Some after) k h more = title_sizes mark next after (adornment_of after) k (more refl)
 
+-- so has what an overline begins that is long enough
 overlined_sizes : (mark : Adornment) (next : List ℕ) (after : Option (List ℕ)) (k : ℕ) → 2 ≤ k → (is_some after ≡ true → 3 ≤ k) → SizeWithin k (fixed_size (overlined mark next after))
 unfolding overlined
 overlined_sizes mark next after k h more = by (is_some (adornment_of next)) (by_sizes mark next after k h more)
@@ -62,6 +68,7 @@ overlined_sizes mark next after k h more = by (is_some (adornment_of next)) (by_
     by true s = (omega arith, h)
     by false s = s
 
+-- so has what any overline begins
 over_sizes : (mark : Adornment) (next : List ℕ) (after : Option (List ℕ)) (k : ℕ) → 2 ≤ k → (is_some after ≡ true → 3 ≤ k) → SizeWithin k (fixed_size (adorned_over mark next after))
 unfolding adorned_over
 over_sizes mark next after k h more = by (leb 4 mark.len || is_whole_title (overlined mark next after)) (overlined_sizes mark next after k h more)
@@ -70,6 +77,7 @@ over_sizes mark next after k h more = by (leb 4 mark.len || is_whole_title (over
     by true s = s
     by false s = tt
 
+-- a block with a third line has three lines or more
 third_there : (X : Block) → is_some (third_text X) ≡ true → 3 ≤ length X
 third_there X h = by (ltb 2 (length X)) refl h
   where
@@ -77,11 +85,13 @@ third_there X h = by (ltb 2 (length X)) refl h
     by true e h = omega (arith, ltb-true 2 (length X) e)
     by false e h = cc
 
+-- a block whose second line isn't blank has two lines or more
 next_there : (X : Block) → is_blank (next_text X) ≡ false → 2 ≤ length X
 next_there [] h = cc
 next_there (l ∷ []) h = cc
 next_there (l ∷ m ∷ ms) h = omega arith
 
+-- what a line of one punctuation character begins ends within the block
 pub form_sizes : (titles : Bool) (mark : Adornment) (X : Block) → 1 ≤ length X → SizeWithin (length X) (fixed_size (adorned_form titles mark (next_text X) (third_text X)))
 unfolding adorned_form
 form_sizes false mark X some = below_sizes mark (length X) some
@@ -91,18 +101,22 @@ form_sizes true mark X some = by (is_blank (next_text X)) refl
     by true e = alone_sizes mark (length X) some
     by false e = over_sizes mark (next_text X) (third_text X) (length X) (next_there X e) (third_there X)
 
+-- a line of one punctuation character has the size of its form
 pub adornment_is : (titles : Bool) (X : Block) (mark : Adornment) → adornment_of (front_text X) ≡ Some mark → adornment_size titles X ≡ size_or (fixed_size (adorned_form titles mark (next_text X) (third_text X))) X
 unfolding adornment_size
 adornment_is titles X mark e = rw e refl
 
+-- any other line has the size of a text
 pub adornment_none : (titles : Bool) (X : Block) → adornment_of (front_text X) ≡ None → adornment_size titles X ≡ text_size X
 unfolding adornment_size
 adornment_none titles X e = rw e refl
 
+-- a fixed size, or that of a text, ends within the block
 or_within : (o : Option ℕ) (X : Block) → 1 ≤ length X → SizeWithin (length X) o → (1 ≤ size_or o X) × (size_or o X ≤ length X)
 or_within None X some s = text_within true X some refl
 or_within (Some n) X some s = s
 
+-- The construct that a line of one punctuation character begins has a line or more, and ends within the block.
 pub adornment_within : (titles : Bool) (X : Block) → 1 ≤ length X → IsTrue (is_adornment_row X) → (1 ≤ adornment_row_size titles X) × (adornment_row_size titles X ≤ length X)
 unfolding adornment_size
 adornment_within titles X some h = by (adornment_of (front_text X))
@@ -111,9 +125,11 @@ adornment_within titles X some h = by (adornment_of (front_text X))
     by None = text_within true X some refl
     by (Some mark) = or_within (fixed_size (adorned_form titles mark (next_text X) (third_text X))) X some (form_sizes titles mark X some)
 
+-- in a block of three lines or more the third is there
 pub third_is : (X : Block) → 2 < length X → third_text X ≡ Some (after_text X)
 third_is X h = rw (lt-ltb 2 (length X) h) refl
 
+-- at the top level a line of one punctuation character over a line that isn't blank is an overline
 pub form_over : (titles : Bool) (mark : Adornment) (next : List ℕ) (after : Option (List ℕ)) → titles ≡ true → is_blank next ≡ false → adorned_form titles mark next after ≡ adorned_over mark next after
 unfolding adorned_form
 form_over true mark next after t b = rw b refl

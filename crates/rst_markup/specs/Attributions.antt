@@ -15,6 +15,7 @@ level_lines n (l ∷ ls) =
     else if indentation l.text == n then option_map (λ m. suc m) (level_lines n ls)
     else None
 
+-- an attribution with n lines below its first, if they share one indentation
 abbrev pub attribution_with : ℕ → ℕ → ℕ → Option ℕ → Option Attribution
 attribution_with k marker indent None = None
 attribution_with k marker indent (Some n) = Some (record { marker = marker; end = k + 1 + n; indent = indent })
@@ -23,6 +24,7 @@ attribution_with k marker indent (Some n) = Some (record { marker = marker; end 
 unfoldable pub attribution_behind : ℕ → ℕ → Block → Option Attribution
 attribution_behind k marker X = attribution_with k marker (indentation (next_text X)) (level_lines (indentation (next_text X)) (drop 1 X))
 
+-- an attribution, if there is a mark of one
 abbrev pub attribution_by : Option ℕ → ℕ → Block → Option Attribution
 attribution_by None k X = None
 attribution_by (Some marker) k X = attribution_behind k marker X

@@ -1,4 +1,4 @@
--- Where what begins at a line of a kind ends, by the row of that kind.
+-- Where what begins at a line of a kind ends, by the row of that kind (Markup Specification, 'Body Elements').
 use Rattle.std.specs.Prelude.{ℕ, Bool}
 use Rattle.rst_text.specs.Block.{Block}
 use Rattle.rst_markup.specs.ExplicitRow.{is_explicit_row, explicit_row_size}

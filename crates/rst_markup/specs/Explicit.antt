@@ -49,6 +49,7 @@ IsTargetShort n (AnonymousMark marker) = n + marker.cut < 2 ^ 64
 abbrev pub call_of : ℕ → ℕ → DirectiveMark → Block → Invocation
 call_of i n d X = record { name = place_of n d.len; block = hanging_part i (n + d.marker.cut) d.marker.bare X }
 
+-- the same where there may be no mark
 abbrev pub call_by : Option DirectiveMark → ℕ → ℕ → Block → Option Invocation
 call_by None i n X = None
 call_by (Some d) i n X = Some (call_of i n d X)
@@ -57,10 +58,12 @@ call_by (Some d) i n X = Some (call_of i n d X)
 unfoldable pub held_of : ℕ → ℕ → Block → Option Invocation
 held_of i n X = call_by (directive_of false (drop n (front_text X))) i n X
 
+-- a footnote or a citation, by its label
 abbrev pub labelled : LabelKind → Characters → Part → Explicit
 labelled FootnoteLabel label body = Footnote label body
 labelled CitationLabel label body = Citation label body
 
+-- a target with this mark behind n characters, by its name or anonymous
 abbrev pub target_of : ℕ → ℕ → TargetMark → Block → Explicit
 target_of i n (Named from len marker) X = Target (place_of (n + from) len) (target_part i (n + marker.cut) X)
 target_of i n (AnonymousMark marker) X = Anonymous (target_part i (n + marker.cut) X)
@@ -81,9 +84,11 @@ explicit_by (CommentForm cause) i m X = Comment (hanging_part i m.cut false X) c
 abbrev pub dots_alone : ℕ → Marker → Block → Explicit
 dots_alone i m X = if is_blank (next_text X) then EmptyComment else Comment (hanging_part i m.cut true X) Plain
 
+-- what dots begin: a comment where nothing is behind them, else what the text behind them is
 unfoldable pub behind_dots : ℕ → Marker → Block → Explicit
 behind_dots i m X = if m.bare then dots_alone i m X else explicit_by (explicit_form (drop m.cut (front_text X))) i m X
 
+-- how many characters a mark has with the spaces behind it, 0 where there is none
 abbrev pub cut_of : Option Marker → ℕ
 cut_of None = 0
 cut_of (Some m) = m.cut
@@ -92,6 +97,7 @@ cut_of (Some m) = m.cut
 unfoldable pub anonymous_of : ℕ → Block → Explicit
 anonymous_of i X = Anonymous (target_part i (cut_of (underscores (front_text X))) X)
 
+-- explicit markup behind dots, or an anonymous target where there are no dots
 abbrev pub explicit_with : Option Marker → ℕ → Block → Explicit
 explicit_with None i X = anonymous_of i X
 explicit_with (Some m) i X = behind_dots i m X
@@ -102,16 +108,22 @@ explicit_of i X = explicit_with (dots (front_text X)) i X
 
 -- ---- where it ends
 
+-- how many lines markup of a form has: its first, and below it for a target the indented lines up to a blank one, for
+-- any other the indented block
 abbrev pub form_size : ExplicitForm → Block → ℕ
 form_size (TargetForm mark) X = indented_size X
 form_size _ X = hanging_size X
 
+-- how many lines the comment has that dots alone begin: one before a blank line or the end, else this one and the
+-- indented block below it
 abbrev pub size_alone : Block → ℕ
 size_alone X = if is_blank (next_text X) then 1 else hanging_size X
 
+-- how many lines the markup has that dots begin
 unfoldable pub size_behind_dots : Marker → Block → ℕ
 size_behind_dots m X = if m.bare then size_alone X else form_size (explicit_form (drop m.cut (front_text X))) X
 
+-- how many lines explicit markup behind dots has, or an anonymous target where there are no dots
 abbrev pub explicit_size_by : Option Marker → Block → ℕ
 explicit_size_by None X = indented_size X
 explicit_size_by (Some m) X = size_behind_dots m X
@@ -133,6 +145,7 @@ explicit_end i EmptyComment = i + 1
 
 -- ---- where its parts stand
 
+-- the directive that a substitution definition holds, if there is one, is called in line i
 abbrev pub IsHeld : Block → ℕ → Option Invocation → Type 0
 IsHeld B i None = Unit {0}
 IsHeld B i (Some call) = IsCall B i call

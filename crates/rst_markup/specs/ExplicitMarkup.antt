@@ -18,6 +18,7 @@ use Rattle.rst_markup.specs.declared.part.Part.{Part}
 use Rattle.rst_markup.specs.Lines.{lines_while}
 use Rattle.rst_markup.specs.Sizes.{hanging_size}
 
+-- what begins like a substitution definition and has no closing bar is a malformed one
 abbrev pub cause_by : Option SubstitutionMark → CommentCause
 cause_by (Some Unclosed) = MalformedSubstitution
 cause_by _ = Plain
@@ -26,18 +27,22 @@ cause_by _ = Plain
 unfoldable pub comment_cause : List ℕ → CommentCause
 comment_cause t = if begins_with 95 t then MalformedTarget else cause_by (substitution_of t)
 
+-- a directive, or else a comment
 abbrev pub or_comment : Option DirectiveMark → List ℕ → ExplicitForm
 or_comment (Some d) t = Directive d
 or_comment None t = Comment (comment_cause t)
 
+-- a substitution definition, or else a directive or a comment
 abbrev pub or_directive : Option SubstitutionMark → List ℕ → ExplicitForm
 or_directive (Some (Named len marker)) t = Substitution len marker
 or_directive _ t = or_comment (directive_of true t) t
 
+-- a target, or else a substitution definition, a directive or a comment
 abbrev pub or_substitution : Option TargetMark → List ℕ → ExplicitForm
 or_substitution (Some m) t = Target m
 or_substitution None t = or_directive (substitution_of t) t
 
+-- a footnote or a citation, or else markup of another form
 abbrev pub or_target : Option LabelMark → List ℕ → ExplicitForm
 or_target (Some l) t = Label l
 or_target None t = or_substitution (target_of t) t
@@ -46,10 +51,12 @@ or_target None t = or_substitution (target_of t) t
 unfoldable pub explicit_form : List ℕ → ExplicitForm
 explicit_form t = or_target (label_of t) t
 
+-- the least indentation of the indented block at the front of lines, 0 where there is none
 abbrev pub least_of : Block → ℕ
 least_of ls = or_zero (least_indent None (take (extent 1 ls) ls))
 
--- the hanging block of the line at place i, which X begins with
+-- the block of markup whose first line, at place i, X begins with: what stands behind its mark, and the indented block
+-- below; where nothing stands behind the mark, that block alone
 unfoldable pub hanging_part : ℕ → ℕ → Bool → Block → Part
 hanging_part i cut bare X =
     if bare then record { from = i + 1 + min (lines_while Blank (drop 1 X)) (extent 1 (drop 1 X)); to = i + hanging_size X; first_cut = least_of (drop 1 X); rest_cut = least_of (drop 1 X) }

@@ -20,6 +20,7 @@ underlined u t =
     else if nat_lt u 4 then ShortUnderline
     else Title true
 
+-- a text over a line that may be an underline: without one it begins a paragraph
 abbrev pub over_underline : Option Adornment → List ℕ → TextForm
 over_underline None t = Paragraph
 over_underline (Some mark) t = underlined mark.len t
@@ -28,9 +29,11 @@ over_underline (Some mark) t = underlined mark.len t
 unfoldable pub text_form : List ℕ → List ℕ → TextForm
 text_form t next = if begins_with 32 next then Definition else over_underline (adornment_of next) t
 
+-- an overline and an underline are the same: of one character and one length
 abbrev pub is_same_adornment : Adornment → Adornment → Bool
 is_same_adornment a b = a.character == b.character && a.len == b.len
 
+-- the characters of a text that may be missing
 abbrev pub text_of : Option (Bor (List ℕ)) → Option (List ℕ)
 text_of None = None
 text_of (Some t) = Some (chars t.now)
@@ -40,6 +43,7 @@ abbrev pub over_title : Adornment → List ℕ → List ℕ → Option Adornment
 over_title mark next after None = MissingUnderline (is_blank after)
 over_title mark next after (Some under) = if is_same_adornment mark under then AdornedTitle (nat_lt mark.len (columns next)) else Mismatch
 
+-- an overline over a title, which is incomplete where no line is behind the title
 abbrev pub overlined_by : Adornment → List ℕ → Option (List ℕ) → Adorned
 overlined_by mark next None = Incomplete
 overlined_by mark next (Some after) = over_title mark next after (adornment_of after)
@@ -48,6 +52,7 @@ overlined_by mark next (Some after) = over_title mark next after (adornment_of a
 unfoldable pub overlined : Adornment → List ℕ → Option (List ℕ) → Adorned
 overlined mark next after = if is_some (adornment_of next) then InvalidMarker else overlined_by mark next after
 
+-- a title that isn't wider than its overline
 abbrev pub is_whole_title : Adorned → Bool
 is_whole_title (AdornedTitle false) = true
 is_whole_title _ = false
@@ -69,5 +74,7 @@ adorned_below mark =
     else if nat_le 4 mark.len then Unexpected
     else ShortAdornment
 
+-- what a line of one punctuation character begins, before the next two lines: at the top level a transition, a title or
+-- a text, and below it neither of the first two
 unfoldable pub adorned_form : Bool → Adornment → List ℕ → Option (List ℕ) → Adorned
 adorned_form titles mark next after = if titles then (if is_blank next then adorned_alone mark else adorned_over mark next after) else adorned_below mark

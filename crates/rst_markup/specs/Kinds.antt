@@ -15,13 +15,15 @@ use Rattle.rst_marks.specs.declared.marker.Marker.{Marker}
 use Rattle.rst_markup.specs.declared.kind.Kind.{Kind}
 use Rattle.rst_markup.specs.declared.kind.Kind.TheVariants.{Blank, Quote, Bullet, Enumerator as EnumeratorKind, Field, OptionItem, Doctest, Line, Grid, Simple, Explicit, Anonymous, Adornment, Text}
 
--- the line after the first, and the one after that
+-- the text of the line after the first
 abbrev pub next_text : Block → List ℕ
 next_text X = front_text (drop 1 X)
 
+-- the text of the line after that
 abbrev pub after_text : Block → List ℕ
 after_text X = front_text (drop 2 X)
 
+-- an enumerator, if the next line is missing, blank, indented, or begins with a next enumerator and a space
 abbrev pub if_listed : Option Enumerator → List ℕ → Option Enumerator
 if_listed None next = None
 if_listed (Some e) next = if is_loose next || begins_next e next then Some e else None
@@ -30,6 +32,7 @@ if_listed (Some e) next = if is_loose next || begins_next e next then Some e els
 unfoldable pub item_enumerator : List ℕ → List ℕ → Option Enumerator
 item_enumerator t next = if_listed (enumerator_of t) next
 
+-- an option marker, if its description stands behind it or, indented, in the next line or in the one after a blank one
 abbrev pub if_described : Option Marker → List ℕ → List ℕ → Option Marker
 if_described None next after = None
 if_described (Some m) next after = if not m.bare || (begins_with 32 next || (is_blank next && begins_with 32 after)) then Some m else None
@@ -38,6 +41,7 @@ if_described (Some m) next after = if not m.bare || (begins_with 32 next || (is_
 unfoldable pub item_option : List ℕ → List ℕ → List ℕ → Option Marker
 item_option t next after = if_described (option_marker t) next after
 
+-- the first row that holds of a line, of those from the doctest block on; they look at this line alone
 unfoldable pub later_kind : List ℕ → Kind
 later_kind t =
     if is_some (doctest t) then Doctest

@@ -1,4 +1,5 @@
--- Lines at the front of a block that pass a test.
+-- Lines at the front of a block that pass a test (Markup Specification, 'Indentation', 'Literal Blocks', 'Grid Tables',
+-- 'Simple Tables').
 use Rattle.std.specs.Prelude.{ℕ, suc, Bool, not, List, [], ◌∷◌, if◌then◌else◌}
 use Rattle.rst_text.specs.Block.{Block, is_blank}
 use Rattle.rst_marks.specs.Front.{begins_with, is_loose}
@@ -6,6 +7,8 @@ use Rattle.rst_markup.specs.declared.lines.LineTest.{LineTest}
 use Rattle.rst_markup.specs.declared.lines.LineTest.TheVariants.{Blank, Filled, Indented, Plain, Begins, Drawn, NoBorder}
 use Rattle.rst_markup.specs.TableLines.{is_drawn, is_border}
 
+-- a line passes a test: it is blank, or isn't; it is indented, or is neither indented nor blank; it begins with a
+-- character; it may belong to a grid table; or it is no border of a simple table
 abbrev pub passes : LineTest → List ℕ → Bool
 passes Blank t = is_blank t
 passes Filled t = not (is_blank t)

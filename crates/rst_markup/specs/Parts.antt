@@ -1,4 +1,4 @@
--- Parts of blocks, and places of characters in lines.
+-- Parts of blocks, and places of characters in lines (Markup Specification, 'Indentation').
 use Rattle.std.specs.Prelude.{ℕ, ◌+◌, ◌-◌, ◌<◌, ◌≤◌, List, length, take, drop, IsTrue}
 use Rattle.rst_text.specs.Block.{Block, front_text}
 use Rattle.rst_text.specs.MayCut.{is_indented}

@@ -12,30 +12,39 @@ use Rattle.rst_marks.specs.Adornment.{adornment_of}
 use Rattle.rst_markup.specs.Kinds.{next_text, after_text, item_enumerator, item_option}
 use Rattle.rst_markup.specs.Sizes.{bullet_size, enumerator_size, hanging_size, indented_size, doctest_size, text_size, adornment_size}
 
+-- a blank line begins nothing
 abbrev pub is_blank_row : Block → Bool
 is_blank_row X = is_blank (front_text X)
 
+-- a line that begins with a space begins a block quote
 abbrev pub is_quote_row : Block → Bool
 is_quote_row X = begins_with 32 (front_text X)
 
+-- a bullet begins an item of a bullet list
 abbrev pub is_bullet_row : Block → Bool
 is_bullet_row X = is_some (bullet (front_text X))
 
+-- an enumerator begins an item of an enumerated list, if the next line may stand below one
 abbrev pub is_enumerator_row : Block → Bool
 is_enumerator_row X = is_some (item_enumerator (front_text X) (next_text X))
 
+-- a name between colons begins a field
 abbrev pub is_field_row : Block → Bool
 is_field_row X = is_some (field_of (front_text X))
 
+-- options begin an item of an option list, if a description follows
 abbrev pub is_option_row : Block → Bool
 is_option_row X = is_some (item_option (front_text X) (next_text X) (after_text X))
 
+-- `>>>` begins a doctest block
 abbrev pub is_doctest_row : Block → Bool
 is_doctest_row X = is_some (doctest (front_text X))
 
+-- a bar begins a line of a line block
 abbrev pub is_bar_row : Block → Bool
 is_bar_row X = is_some (line_bar (front_text X))
 
+-- `__` begins an anonymous target
 abbrev pub is_anonymous_row : Block → Bool
 is_anonymous_row X = is_some (underscores (front_text X))
 
@@ -43,37 +52,47 @@ is_anonymous_row X = is_some (underscores (front_text X))
 abbrev pub own_reach : (Bool → Block → ℕ) → Bool → Block → ℕ
 own_reach size titles X = reach (size titles X) X
 
--- the sizes, by whether titles may stand in the block
+-- The sizes, by whether titles may stand in the block. A blank line is alone.
 abbrev pub blank_size : Bool → Block → ℕ
 blank_size titles X = 1
 
+-- a block quote has the lines that are blank or indented, without the blank ones at its end
 abbrev pub quote_size : Bool → Block → ℕ
 quote_size titles X = extent 1 X
 
+-- an item of a bullet list has its line and those below that are blank or indented far enough, the blank ones at its
+-- end left off
 abbrev pub bullet_row_size : Bool → Block → ℕ
 bullet_row_size titles X = bullet_size X
 
+-- so has an item of an enumerated list
 abbrev pub enumerator_row_size : Bool → Block → ℕ
 enumerator_row_size titles X = enumerator_size X
 
+-- a field, and an item of an option list, has its line and the indented block below it
 abbrev pub hanging_row_size : Bool → Block → ℕ
 hanging_row_size titles X = hanging_size X
 
+-- a line of a line block, and an anonymous target, has its line and the indented ones below it up to a blank one
 abbrev pub indented_row_size : Bool → Block → ℕ
 indented_row_size titles X = indented_size X
 
+-- a doctest block ends before a blank line
 abbrev pub doctest_row_size : Bool → Block → ℕ
 doctest_row_size titles X = doctest_size X
 
--- any line
+-- any line begins a text, where no row before holds
 abbrev pub is_text_row : Block → Bool
 is_text_row X = true
 
+-- a text has the lines of the paragraph, the definition or the title that it begins
 abbrev pub text_row_size : Bool → Block → ℕ
 text_row_size titles X = text_size X
 
+-- a line of one punctuation character, once or more, begins a transition, a title or a text
 abbrev pub is_adornment_row : Block → Bool
 is_adornment_row X = is_some (adornment_of (front_text X))
 
+-- it has the lines of what it begins there
 abbrev pub adornment_row_size : Bool → Block → ℕ
 adornment_row_size titles X = adornment_size titles X

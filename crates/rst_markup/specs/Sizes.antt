@@ -33,17 +33,21 @@ least_below m = if m.bare then 1 else m.cut
 abbrev pub item_size : Marker → Block → ℕ
 item_size m X = suc (extent (least_below m) (drop 1 X))
 
+-- an item, if there is a marker; else the line alone
 abbrev pub item_size_by : Option Marker → Block → ℕ
 item_size_by None X = 1
 item_size_by (Some m) X = item_size m X
 
+-- an item of a bullet list
 unfoldable pub bullet_size : Block → ℕ
 bullet_size X = item_size_by (bullet (front_text X)) X
 
+-- an item, if there is an enumerator; else the line alone
 abbrev pub enumerator_size_by : Option Enumerator → Block → ℕ
 enumerator_size_by None X = 1
 enumerator_size_by (Some e) X = item_size e.marker X
 
+-- an item of an enumerated list
 unfoldable pub enumerator_size : Block → ℕ
 enumerator_size X = enumerator_size_by (enumerator_of (front_text X)) X
 
@@ -63,6 +67,7 @@ doctest_size X = lines_while Filled X
 unfoldable pub paragraph_len : Block → ℕ
 paragraph_len X = run_size Plain X
 
+-- blank lines and, behind them, the lines that begin with this character, if it is punctuation
 abbrev pub quoted_by : Option ℕ → ℕ → Block → ℕ
 quoted_by None blanks Y = 0
 quoted_by (Some c) blanks Y = if is_punctuation c then blanks + lines_while (Begins c) (drop blanks Y) else 0
@@ -75,6 +80,7 @@ quoted_size blanks Y = quoted_by (first (front_text (drop blanks Y))) blanks Y
 unfoldable pub literal_size : Block → ℕ
 literal_size Y = if nat_lt 0 (extent 1 Y) then extent 1 Y else quoted_size (lines_while Blank Y) Y
 
+-- a literal block, if one is announced
 abbrev pub literal_if : Bool → Block → ℕ
 literal_if true Y = literal_size Y
 literal_if false Y = 0
@@ -91,12 +97,14 @@ paragraph_size X = paragraph_len X + literal_if (ends_in_colons (last_text X)) (
 abbrev pub filled : List ℕ → ℕ
 filled t = min 1 (length t)
 
+-- a paragraph with its literal block, a definition with its indented block, or a title with its underline
 abbrev pub form_size : TextForm → Block → ℕ
 form_size Paragraph X = paragraph_size X
 form_size ShortUnderline X = paragraph_size X
 form_size Definition X = hanging_size X
 form_size (Title short) X = 2
 
+-- what a line of text begins: a paragraph, a definition or a title
 unfoldable pub text_size : Block → ℕ
 text_size X = form_size (text_form (front_text X) (next_text X)) X
 
@@ -114,10 +122,12 @@ fixed_size Text = None
 fixed_size ShortOverline = None
 fixed_size ShortAdornment = None
 
+-- this number of lines, or that of a text where none is fixed
 abbrev pub size_or : Option ℕ → Block → ℕ
 size_or None X = text_size X
 size_or (Some n) X = n
 
+-- what a line of one punctuation character begins, by its form
 abbrev pub adorned_size : Adorned → Block → ℕ
 adorned_size form X = size_or (fixed_size form) X
 
@@ -125,9 +135,11 @@ adorned_size form X = size_or (fixed_size form) X
 abbrev pub third_text : Block → Option (List ℕ)
 third_text X = if nat_lt 2 (length X) then Some (after_text X) else None
 
+-- what a line of one punctuation character begins, or a text where the line is no such one
 abbrev pub adornment_size_by : Bool → Option Adornment → Block → ℕ
 adornment_size_by titles None X = text_size X
 adornment_size_by titles (Some mark) X = adorned_size (adorned_form titles mark (next_text X) (third_text X)) X
 
+-- what a line of one punctuation character begins: a transition, a title or a text
 unfoldable pub adornment_size : Bool → Block → ℕ
 adornment_size titles X = adornment_size_by titles (adornment_of (front_text X)) X

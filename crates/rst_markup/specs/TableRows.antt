@@ -12,6 +12,8 @@ use Rattle.rst_markup.specs.Sizes.{run_size}
 
 -- ---- grid tables
 
+-- how many lines there are through the last border where one more stands before them, which may be a border itself;
+-- none without a border
 abbrev pub one_more : Bool → ℕ → ℕ
 one_more border zero = if border then 1 else 0
 one_more border (suc n) = suc (suc n)
@@ -47,6 +49,7 @@ goes_on top Y = border_len (front_text Y) == border_len top && not (is_blank (ne
 abbrev pub through_end : List ℕ → Block → ℕ
 through_end top Y = if goes_on top Y && nat_lt (run_size NoBorder Y) (length Y) then suc (run_size NoBorder Y) else 1
 
+-- a table whose first border below the top one is line n, counted from 0; without one it has all lines
 abbrev pub simple_size_to : ℕ → Block → ℕ
 simple_size_to n X = if nat_lt n (length X) then n + through_end (front_text X) (drop n X) else length X
 
@@ -58,6 +61,7 @@ simple_size X = simple_size_to (run_size NoBorder X) X
 abbrev pub scan_on : List ℕ → Block → ℕ
 scan_on top Y = if goes_on top Y then min (suc (run_size NoBorder Y)) (length Y) else 1
 
+-- how many lines the scan goes over, where the first border below the top one is line n, counted from 0
 abbrev pub simple_scan_to : ℕ → Block → ℕ
 simple_scan_to n X = if nat_lt n (length X) then n + scan_on (front_text X) (drop n X) else length X
 
@@ -67,22 +71,27 @@ simple_scan X = simple_scan_to (run_size NoBorder X) X
 
 -- ---- the rows
 
+-- a border of a grid table begins one
 abbrev pub is_grid_row : Block → Bool
 is_grid_row X = is_grid_border (front_text X)
 
+-- a border of a simple table begins one, if it has two columns or more
 abbrev pub is_simple_row : Block → Bool
 is_simple_row X = is_simple_border (front_text X)
 
+-- a grid table has the lines through its last border, or all that are scanned where there is none
 abbrev pub grid_row_size : Bool → Block → ℕ
 grid_row_size titles X = grid_size X
 
+-- a simple table has the lines through the border that ends it, or all where none does
 abbrev pub simple_row_size : Bool → Block → ℕ
 simple_row_size titles X = simple_size X
 
--- A table's reach: the lines through the first one after it that isn't blank, or the lines of the scan, if they are
--- more.
+-- A grid table's reach: the lines through the first one after it that isn't blank, or the lines of the scan, if they
+-- are more.
 abbrev pub grid_reach : Bool → Block → ℕ
 grid_reach titles X = max (reach (grid_size X) X) (grid_scan X)
 
+-- the same of a simple table
 abbrev pub simple_reach : Bool → Block → ℕ
 simple_reach titles X = max (reach (simple_size X) X) (simple_scan X)

@@ -29,6 +29,7 @@ with_short c rule = record rule { short = Some c }
 abbrev pub bare : App
 bare = on_top (λ s. record s { no_binary_name = true; disable_help_flag = true; disable_version_flag = true }) (new_app (codes "rst2pseudoxml"))
 
+-- a command with further options
 abbrev pub with_all : App → List Rule → App
 with_all app [] = app
 with_all app (rule ∷ rules) = with_all (with_rule app rule) rules

@@ -21,6 +21,7 @@ pub record Choice : Type 0 where
   pub tab : ℕ
   pub limit : ℕ
 
+-- what settings say, each by itself
 abbrev pub said_by : Settings → Choice
 said_by settings = record {
   report = settings.report;
@@ -46,6 +47,7 @@ report_of rows otherwise = if is_on (codes "verbose") rows then Info else (if is
 abbrev pub halt_of : List Row → Threshold → Threshold
 halt_of rows otherwise = if is_on (codes "strict") rows then Info else otherwise
 
+-- two of three, or all three
 abbrev pub more_than_one : Bool → Bool → Bool → Bool
 more_than_one a b c = (a && b) || ((a && c) || (b && c))
 
@@ -66,6 +68,7 @@ first_fault (Some report) (Some halt) None tab limit two choice = Err BadLevel
 first_fault (Some report) None exit tab limit two choice = Err BadLevel
 first_fault None halt exit tab limit two choice = Err BadLevel
 
+-- what the values of the options choose, or their first fault
 unfoldable pub choice_of : List Row → Result Choice OptionFault
 choice_of rows = first_fault
     (threshold_or (first_of (codes "report") rows) usual.report)
@@ -95,6 +98,7 @@ Settles rows (Err fault) = choice_of rows ≡ Err fault
 abbrev pub is_dashed : Option Text → Bool
 is_dashed source = option_map_or (λ text. slice_index text 0 == 45) source false
 
+-- words are refused, if there is a reason to
 abbrev pub refuses : Kinds → Bool
 refuses [] = false
 refuses (kind ∷ kinds) = true
@@ -103,6 +107,7 @@ refuses (kind ∷ kinds) = true
 abbrev pub is_misused : List Text → Bool
 is_misused words = refuses (faults_at words) || is_dashed (first_of (codes "source") (rows_at words))
 
+-- a choice together with the source, or the fault
 abbrev pub with_source : Option Text → Result Choice OptionFault → Result (Choice × Option Text) OptionFault
 with_source source (Ok choice) = Ok (choice, source)
 with_source source (Err fault) = Err fault

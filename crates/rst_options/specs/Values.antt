@@ -7,6 +7,7 @@ use Rattle.clap.specs.Words.{Text}
 use Rattle.rst_settings.specs.declared.Threshold.{Threshold}
 use Rattle.rst_settings.specs.declared.Threshold.TheVariants.{Info, Warning, Error, Severe, Never}
 
+-- a word is one of two
 abbrev pub is_one_of : Text → Text → Text → Bool
 is_one_of a b text = bytes_eq text a || bytes_eq text b
 
@@ -35,6 +36,7 @@ number_to most text = if is_numeral text && nat_le (digits_value 10 text) most t
 
 -- ---- what an option gives, `usual` where it is not given
 
+-- a level from 1 to 5, by its number or its name
 abbrev pub threshold_or : Option Text → Threshold → Option Threshold
 threshold_or given usual = option_map_or threshold_of given (Some usual)
 

@@ -22,6 +22,7 @@ cut_places left None row = drop left row
 abbrev pub cell_line : ℕ → Option ℕ → Row → Line
 cell_line left right row = record { number = row.number; text = drop_trailing_whitespace (characters (cut_places left right row.places)) }
 
+-- lines without the least indentation of those that aren't blank
 abbrev pub unindented : Block → Block
 unindented B = map (shorten (or_zero (least_indent None B))) B
 

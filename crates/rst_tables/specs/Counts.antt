@@ -1,4 +1,5 @@
--- Least numbers that pass a test, all numbers that pass it, and how many.
+-- Least numbers that pass a test, all numbers that pass it, and how many. No rule of markup: the rows and columns of
+-- tables are found and counted by them.
 use Rattle.std.specs.Prelude.{ℕ, zero, suc, ◌+◌, Bool, List, [], ◌∷◌, Option, Some, None, if◌then◌else◌}
 
 -- the least of the n numbers from `low` on that passes

@@ -47,6 +47,7 @@ pub record IsDrawn (G : Grid) (r : Rectangle) : Type 0 where
 unfoldable pub covers : Rectangle → ℕ → ℕ → Bool
 covers r i j = nat_le r.top i && (nat_lt i r.bottom && (nat_le r.left j && nat_lt j r.right))
 
+-- 1 where it is so, else 0
 abbrev pub one_if : Bool → ℕ
 one_if b = if b then 1 else 0
 
@@ -125,6 +126,7 @@ Fills r old new false = (k : ℕ) × (r.left ≤ k) × (k < r.right) × (get_or 
 
 -- ---- where the runs of `-` and `+` begin
 
+-- from `left` on and before `end` the row consists of `-` and `+`
 abbrev pub IsRun : List Place → ℕ → ℕ → Type 0
 IsRun row left end = (j : ℕ) → left ≤ j → j < end → is_across (mark_at row j) ≡ true
 
@@ -132,6 +134,8 @@ IsRun row left end = (j : ℕ) → left ≤ j → j < end → is_across (mark_at
 abbrev pub Begins : List Place → ℕ → ℕ → Type 0
 Begins row end begin = (left : ℕ) → (begin ≤ left → IsRun row left end) × (left < begin → IsRun row left end → ⊥)
 
+-- where the run of `-` and `+` through a column begins, if the one through the column before begins at `begin`; any
+-- other character ends the run, and the next may begin behind it
 unfoldable pub next_begin : ℕ → ℕ → ℕ → ℕ
 next_begin c begin column = if is_across c then begin else column + 1
 
@@ -140,6 +144,7 @@ pub record AreBegins (row : List Place) (begins : List ℕ) : Type 0 where
   pub size : length begins ≡ length row
   pub at : (j : ℕ) → j < length row → Begins row (j + 1) (get_or begins j 0)
 
+-- the same for each row of the grid
 abbrev pub HasBegins : Grid → List (List ℕ) → Type 0
 HasBegins G begins = (i : ℕ) → i < length G → AreBegins (row_at G i) (get_or begins i [])
 

@@ -49,6 +49,8 @@ abbrev pub scanned : Grid → Grid
 scanned [] = []
 scanned (r ∷ rs) = if is_grid_row r.places then r ∷ scanned rs else []
 
+-- how many rows there are through the last border where one more stands before them, which may be a border itself; none
+-- without a border
 abbrev pub one_more : Bool → ℕ → ℕ
 one_more border zero = if border then 1 else 0
 one_more border (suc n) = suc (suc n)
@@ -58,6 +60,7 @@ abbrev pub through_last : Grid → ℕ
 through_last [] = 0
 through_last (r ∷ rs) = one_more (is_border r.places) (through_last rs)
 
+-- how many rows there are with the two before them, none where there are none
 abbrev pub two_more : ℕ → ℕ
 two_more zero = 0
 two_more (suc n) = suc (suc (suc n))
@@ -72,6 +75,7 @@ height S = two_more (through_last (drop 2 S))
 unfoldable pub is_whole : ℕ → List Place → Bool
 is_whole wide row = length row == wide && is_upright (mark_at row (length row - 1))
 
+-- each row has the width of the first and ends in `+` or `|`
 abbrev pub is_square : Grid → Bool
 is_square T = list_all (λ r. is_whole (width T) r.places) T
 
@@ -79,6 +83,7 @@ is_square T = list_all (λ r. is_whole (width T) r.places) T
 abbrev pub head_from : Grid → ℕ → Option ℕ
 head_from T low = first_from (λ k. is_head_rule (row_at T k)) low (length T - low)
 
+-- the first rule between head and body
 abbrev pub head_of : Grid → Option ℕ
 head_of T = head_from T 0
 
@@ -87,6 +92,7 @@ abbrev pub two_heads : ℕ → Option ℕ → Option TableDetail
 two_heads first None = None
 two_heads first (Some second) = Some (TwoHeadRules (first + 1) (second + 1))
 
+-- the fault of a second rule between head and body, where this is the first
 abbrev pub second_head : Grid → Option ℕ → Option TableDetail
 second_head T None = None
 second_head T (Some first) = two_heads first (head_from T (first + 1))
@@ -99,15 +105,18 @@ row_fault T = if is_square T then second_head T (head_of T) else Some RightEdgeB
 abbrev pub dash : Place → Place
 dash p = if mark_of p == 61 then Character 45 else p
 
+-- a row with each `=` as a `-`
 abbrev pub dashed : Row → Row
 dashed r = record { number = r.number; places = map dash r.places }
 
+-- the rows with the rule between head and body as one of `-`, if there is one
 abbrev pub with_dashes : Grid → Option ℕ → Grid
 with_dashes T None = T
 with_dashes T (Some k) = slice_set T k (dashed (get_or T k no_row))
 
 -- ---- its columns, rows and cells
 
+-- a number is neither below one nor above another
 abbrev pub is_between : ℕ → ℕ → ℕ → Bool
 is_between low high k = nat_le low k && nat_le k high
 
@@ -120,18 +129,20 @@ bounds_column G j r = is_between r.left r.right j && (place G r.top j == 43 || p
 unfoldable pub bounds_row : Grid → ℕ → Rectangle → Bool
 bounds_row G i r = is_between r.top r.bottom i && (place G i r.left == 43 || place G i r.right == 43)
 
--- the bounds of columns and of rows: the places of `+` on sides of rectangles
+-- a column is a bound: a `+` of a rectangle's top or bottom side stands in it
 abbrev pub is_column : Grid → List Rectangle → ℕ → Bool
 is_column G rs j = list_any (bounds_column G j) rs
 
+-- a row is a bound: a `+` of a rectangle's left or right side stands in it
 abbrev pub is_row : Grid → List Rectangle → ℕ → Bool
 is_row G rs i = list_any (bounds_row G i) rs
 
--- how many places lie between neighbouring bounds
+-- how many places lie between neighbouring bounds, the first of which is a
 abbrev pub gaps_from : ℕ → List ℕ → List ℕ
 gaps_from a [] = []
 gaps_from a (b ∷ bs) = (b - a - 1) ∷ gaps_from b bs
 
+-- how many places lie between neighbouring bounds
 abbrev pub gaps : List ℕ → List ℕ
 gaps [] = []
 gaps (a ∷ bs) = gaps_from a bs
@@ -157,9 +168,11 @@ row_cells row_rank column_rank G rs n = map (cell_of row_rank column_rank G) (fi
 abbrev pub cell_rows : (ℕ → ℕ) → (ℕ → ℕ) → Grid → List Rectangle → ℕ → List (List Cell)
 cell_rows row_rank column_rank G rs count = each_from (row_cells row_rank column_rank G rs) 0 count
 
+-- the rows of a tiled table, each with the cells that begin in it
 abbrev pub table_rows : Grid → List Rectangle → List (List Cell)
 table_rows G rs = cell_rows (below (is_row G rs)) (below (is_column G rs)) G rs (below (is_row G rs) (length G) - 1)
 
+-- the widths of the columns of a tiled table
 abbrev pub column_widths : Grid → List Rectangle → List ℕ
 column_widths G rs = gaps (all_from (is_column G rs) 0 (width G))
 

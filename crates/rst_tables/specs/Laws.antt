@@ -24,6 +24,7 @@ grid_end R = end_with (length (scanned R)) (height (scanned R))
 abbrev pub NoGridBehind : Type 0
 NoGridBehind = (R : Grid) (k : ℕ) → grid_end R ≤ k → k < grid_looked R → is_border (row_at R k) ≡ false
 
+-- the place behind a simple table, or behind lines that are none
 abbrev pub place_behind : SimpleEnd → ℕ
 place_behind (Ends end head) = end
 place_behind (Fails end detail) = end

@@ -1,4 +1,4 @@
--- Numbers that are marked in a list.
+-- Numbers that are marked in a list. No rule of markup: the bounds of a grid table's rows and columns are kept so.
 use Rattle.std.specs.Prelude.{◌≡◌, ℕ, ◌<◌, ◌≤◌, Bool, false, ◌||◌, List, get_or, length}
 
 -- Of the numbers from `low` through `high` those are marked, too, that pass.

@@ -3,6 +3,7 @@ use Rattle.std.specs.Prelude.{ℕ, List, ◌++◌, codes, decimal}
 use Rattle.rst_tables.specs.declared.results.TableDetail.{TableDetail}
 use Rattle.rst_tables.specs.declared.results.TableDetail.TheVariants.{BottomBorderMissing, RightEdgeBroken, TwoHeadRules, ParseIncomplete, BorderMismatch, BottomMissing, ColumnSpan, Margin}
 
+-- what is wrong with a table, in words
 abbrev pub detail_text : TableDetail → List ℕ
 detail_text BottomBorderMissing = codes "Bottom border missing."
 detail_text RightEdgeBroken = codes "Right edge broken."

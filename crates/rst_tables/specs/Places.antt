@@ -24,25 +24,31 @@ pub record Row : Type 0 where
   pub number : ℕ
   pub places : List Place
 
+-- the lines of a table, from the top
 abbrev pub Grid : Type 0
 Grid = List Row
 
+-- a line as a row of places
 abbrev pub row_of : Line → Row
 row_of l = record { number = l.number; places = places_of l.text }
 
+-- the lines of a block as rows of places
 abbrev pub rows_of : Block → Grid
 rows_of B = map row_of B
 
+-- a row without places
 abbrev pub no_row : Row
 no_row = record { number = 0; places = [] }
 
--- Past the end a row is empty, and no character begins at a place.
+-- the places of a row; past the end a row is empty
 abbrev pub row_at : Grid → ℕ → List Place
 row_at G i = (get_or G i no_row).places
 
+-- the character that begins at a place of a row; past its end there is none, written 0
 abbrev pub mark_at : List Place → ℕ → ℕ
 mark_at row j = mark_of (get_or row j Second)
 
+-- the character that begins at a place of a grid, by its row and column
 abbrev pub place : Grid → ℕ → ℕ → ℕ
 place G i j = mark_at (row_at G i) j
 

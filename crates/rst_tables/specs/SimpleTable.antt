@@ -37,6 +37,7 @@ is_simple_border row = is_ruled 61 row
 unfoldable pub is_rule : List Place → Bool
 is_rule row = is_ruled 61 row || is_ruled 45 row
 
+-- a line is blank
 abbrev pub is_empty : List Place → Bool
 is_empty row = length row == 0
 
@@ -80,6 +81,7 @@ simple_looked R i = looked_to R (length (row_at R i)) (next_border R (i + 1)) - 
 
 -- ---- columns
 
+-- a space stands at the place
 abbrev pub is_space : List Place → ℕ → Bool
 is_space row k = mark_at row k == 32
 
@@ -91,6 +93,7 @@ begins_span row k = not (is_space row k) && (k == 0 || is_space row (k - 1))
 abbrev pub span_end : List Place → ℕ → ℕ
 span_end row k = unwrap_or (first_from (is_space row) k (length row - k)) (length row)
 
+-- the run that begins there, as a span of one column
 abbrev pub span_at : List Place → ℕ → Span
 span_at row k = record { from = k; to = span_end row k; columns = 1 }
 
@@ -102,6 +105,7 @@ spans_of row = map (span_at row) (all_from (begins_span row) 0 (length row))
 abbrev pub columns_of : Grid → List Span
 columns_of T = spans_of (row_at T 0)
 
+-- one column more than some, and none where there are none
 abbrev pub one_past : ℕ → ℕ
 one_past zero = 0
 one_past (suc n) = suc (suc n)
@@ -116,10 +120,12 @@ abbrev pub covered : List Span → Span → ℕ
 covered [] s = 0
 covered (c ∷ cs) s = if c.from == s.from then through s.to (c ∷ cs) else 0
 
+-- spans have covered all columns when none is left
 abbrev pub all_covered : List Span → Option (List Span)
 all_covered [] = Some []
 all_covered (c ∷ cs) = None
 
+-- a span that covers some columns before others; one that covers none is wrong
 abbrev pub with_span : ℕ → Span → Option (List Span) → Option (List Span)
 with_span zero s rest = None
 with_span (suc n) s rest = option_map (λ ss. record { from = s.from; to = s.to; columns = suc n } ∷ ss) rest
@@ -144,7 +150,7 @@ first_unaligned T (k ∷ ks) = if is_some (rule_spans T k) then first_unaligned 
 
 -- ---- rows
 
--- a white character; the second place of one isn't blank
+-- a white character; the second place of a wide one isn't blank
 unfoldable pub is_white_place : Place → Bool
 is_white_place (Character c) = is_whitespace c
 is_white_place Second = false
@@ -153,13 +159,15 @@ is_white_place Second = false
 abbrev pub is_clear : ℕ → ℕ → List Place → Bool
 is_clear from to row = list_all is_white_place (take (to - from) (drop from row))
 
+-- a span of nothing
 abbrev pub no_span : Span
 no_span = record { from = 0; to = 0; columns = 0 }
 
--- its first column isn't blank
+-- a line begins a row: its first column isn't blank
 abbrev pub begins_row : Grid → ℕ → Bool
 begins_row T k = let column = get_or (columns_of T) 0 no_span in not (is_clear column.from column.to (row_at T k))
 
+-- the lines of a row, from one place up to another, with the rule that gives its columns
 abbrev pub row_lines : ℕ → ℕ → ℕ → RowLines
 row_lines from to rule = record { from = from; to = to; rule = rule }
 
@@ -169,6 +177,7 @@ abbrev pub rows_in : Grid → ℕ → ℕ → ℕ → List RowLines
 rows_in T start low zero = row_lines start low low ∷ []
 rows_in T start low (suc n) = if begins_row T low then row_lines start low 0 ∷ rows_in T low (low + 1) n else rows_in T start (low + 1) n
 
+-- the rows before a rule, from the first line that isn't blank, if there is one
 abbrev pub rows_from : Grid → ℕ → Option ℕ → List RowLines
 rows_from T rule None = []
 rows_from T rule (Some start) = rows_in T start (start + 1) (rule - (start + 1))
@@ -182,6 +191,7 @@ abbrev pub sections : Grid → ℕ → List ℕ → List RowLines
 sections T low [] = []
 sections T low (rule ∷ rules) = section T low rule ++ sections T (rule + 1) rules
 
+-- the rows of a table: its lines below the top border, cut at its rules
 abbrev pub simple_rows : Grid → List RowLines
 simple_rows T = sections T 1 (rules_of T)
 
@@ -194,10 +204,12 @@ abbrev pub margins_from : ℕ → List Span → List Place → Bool
 margins_from to [] row = true
 margins_from to (s ∷ ss) row = is_clear to s.from row && margins_from s.to ss row
 
+-- nothing but white stands between neighbouring spans
 abbrev pub are_clear : List Span → List Place → Bool
 are_clear [] row = true
 are_clear (s ∷ ss) row = margins_from s.to ss row
 
+-- the first of two, or the second where the first is missing
 abbrev pub or_else : Option ℕ → Option ℕ → Option ℕ
 or_else None other = other
 or_else (Some k) other = Some k
@@ -223,6 +235,7 @@ abbrev pub longest_of : Grid → List RowLines → ℕ
 longest_of T [] = 0
 longest_of T (r ∷ rs) = max (longest_in T r.from (r.to - r.from)) (longest_of T rs)
 
+-- the k-th span
 abbrev pub span_of : List Span → ℕ → Span
 span_of spans k = get_or spans k no_span
 
@@ -231,6 +244,7 @@ abbrev pub width_of : List Span → ℕ → ℕ → ℕ
 width_of columns longest k = let c = span_of columns k in
     if k + 1 == length columns then max (c.to - c.from) (longest - c.from) else c.to - c.from
 
+-- the widths of all columns
 abbrev pub simple_widths : Grid → List ℕ
 simple_widths T = each_from (width_of (columns_of T) (longest_of T (simple_rows T))) 0 (length (columns_of T))
 
@@ -238,12 +252,15 @@ simple_widths T = each_from (width_of (columns_of T) (longest_of T (simple_rows 
 abbrev pub right_of : List Span → ℕ → Option ℕ
 right_of spans k = if k + 1 == length spans then None else Some (span_of spans k).to
 
+-- the cell of a row's lines in its k-th span
 abbrev pub entry : Grid → List Span → ℕ → Cell
 entry lines spans k = record { morerows = 0; morecols = (span_of spans k).columns - 1; lines = cell_block (span_of spans k).from (right_of spans k) lines }
 
+-- the cells of a row's lines, one in each span
 abbrev pub entries : Grid → List Span → List Cell
 entries lines spans = each_from (entry lines spans) 0 (length spans)
 
+-- the cells of a row
 abbrev pub row_entries : Grid → RowLines → List Cell
 row_entries T r = entries (take (r.to - r.from) (drop r.from T)) (row_spans T r)
 
@@ -254,10 +271,12 @@ simple_head (Some border) rows = count_by (λ r. nat_le r.to border) rows
 
 -- ---- the answer
 
+-- a table, or the fault of text between its columns, in this line of it, counted from 0
 abbrev pub or_table : ℕ → ℕ → Option ℕ → Grid → Option ℕ → TableResult
 or_table line i head T (Some k) = malformed line i (length T) (Margin (k + 1))
 or_table line i head T None = Table (simple_widths T) (simple_head head (simple_rows T)) (map (row_entries T) (simple_rows T)) (i + length T)
 
+-- a table, or the fault of a rule that isn't aligned with its columns, in this line of it, counted from 0
 abbrev pub or_rows : ℕ → ℕ → Option ℕ → Grid → Option ℕ → TableResult
 or_rows line i head T (Some k) = malformed line i (length T) (ColumnSpan (k + 1))
 or_rows line i head T None = or_table line i head T (first_in_margin T (simple_rows T))
@@ -272,6 +291,7 @@ abbrev pub above : ℕ → Option ℕ → Option ℕ
 above i None = None
 above i (Some k) = Some (k - i)
 
+-- what a table is by where it ends, or the fault of its borders
 abbrev pub simple_to : ℕ → ℕ → Grid → SimpleEnd → TableResult
 simple_to line i R (Fails end detail) = malformed line i (end - i) detail
 simple_to line i R (Ends end head) = simple_of line i (above i head) (take (end - i) (drop i R))
