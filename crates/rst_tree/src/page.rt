@@ -42,7 +42,7 @@ impl<const N: usize> Page<N> {
 }
 
 /// Gathers all of the bytes, unless a write has failed.
-#[inline]
+#[inline(always)]
 pub fn put<W: Write, const N: usize>(out: &mut Counted<W>, page: &mut Page<N>, bytes: &[u8])
     ensures { Sends W.contents bytes.now out.old page.old out.new page.new }
 {
@@ -55,6 +55,8 @@ pub fn put<W: Write, const N: usize>(out: &mut Counted<W>, page: &mut Page<N>, b
 }
 
 /// The same, where the bytes don't fit behind what the page holds: that is written first.
+#[cold]
+#[inline(never)]
 fn put_over<W: Write, const N: usize>(out: &mut Counted<W>, page: &mut Page<N>, bytes: &[u8])
     ensures { Sends W.contents bytes.now out.old page.old out.new page.new }
 {
