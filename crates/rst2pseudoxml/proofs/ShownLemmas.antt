@@ -23,11 +23,11 @@ ends_shown Answer parts input out err (NotUtf8 at) read answer shows = absurd sh
 ends_shown Answer parts input out err (TooDeep line) read answer shows = absurd shows
 
 -- a run over bytes of which a document was made
-pub ends_read : {A : Type 0} (settings : Settings) (source : List ℕ) (finished : Finished) (input out err : Stream) (taken : Vec ℕ A) (slice : List ℕ) (end : End)
-    → ((bytes : List ℕ) × HandsOut input bytes × Takes input bytes (Ok taken)) → slice ≡ taken.items → Reads settings source slice (Ok finished)
+pub ends_read : {A : Type 0} (settings : Settings) (source : List ℕ) (finished : Finished) (input out err : Stream) (taken : Vec ℕ A) (end : End)
+    → ((bytes : List ℕ) × HandsOut input bytes × Takes input bytes (Ok taken)) → Reads settings source taken.items (Ok finished)
     → Shows (parts_of settings source finished.tree finished.notes.items) out err end → Headline (Answers settings source) input out err end
-ends_read settings source finished input out err taken slice end (bytes, handed, (read, same, short)) e reads shows =
-    let made : Reads settings source bytes (Ok finished) = subst (λ l. Reads settings source l (Ok finished)) (e ∙ same) reads in
+ends_read settings source finished input out err taken end (bytes, handed, (read, same, short)) reads shows =
+    let made : Reads settings source bytes (Ok finished) = subst (λ l. Reads settings source l (Ok finished)) same reads in
     let parts : parts_of settings source finished.tree finished.notes.items ≡ parts_of settings source (with_source source made.1.0) finished.notes.items =
     ap (λ document. parts_of settings source document finished.notes.items) made.1.2 in
     (bytes, handed, ends_shown (Answers settings source bytes) _ input out err end read (short, made.0, made.1.0, finished.notes.items, made.1.1, parts) shows)

@@ -10,7 +10,7 @@ use rst_block::{BlockFault, Parsed, parse};
 use rst_elements::message;
 use rst_marked::Marked;
 use rst_settings::Settings;
-use rst_text::{Lines, TextFault, decode};
+use rst_text::{Lines, TextFault, text_in};
 use rst_transform::{Finished, TransformFault, finish};
 use rst_tree::{Attrs, Children, Level, Node, Tag, TreeFault};
 use std::alloc::{AllocError, Global};
@@ -20,21 +20,21 @@ pub fn document_of(
     alloc: Global,
     settings: &Settings,
     source: &str,
-    bytes: &[u8],
+    bytes: Vec<u8>,
 ) -> Result<Finished, End>
-    ensures { spec.Reads settings.now source.now bytes.now result }
+    ensures { spec.Reads settings.now source.now bytes.items result }
 {
-    let text = match decode(alloc, bytes) {
+    let text = match text_in(bytes.as_slice()) {
         Ok(text) => text,
         Err(TextFault::NotUtf8 { at }) => return Err(End::NotUtf8 { at }),
         Err(TextFault::NoMemory) => return Err(End::NoMemory),
     };
-    let lines = match Lines::of(alloc, text.as_str(), settings.tab) {
+    let lines = match Lines::of(alloc, text, settings.tab) {
         Ok(lines) => lines,
         Err(_) => return Err(End::NoMemory),
     };
     // Each form of the input is given up before the next is made, so that memory holds few at once.
-    drop(text);
+    drop(bytes);
     let parsed = parsed_of(alloc, settings, &lines)?;
     drop(lines);
     let finished = match finish(alloc, parsed.document, parsed.messages, settings) {

@@ -42,8 +42,7 @@ pub fn run<R: Read, O: Write, E: Write>(
         Ok(bytes) => bytes,
         Err(end) => return end,
     };
-    let document = document_of(alloc, settings, source, bytes.as_slice());
-    drop(bytes);
+    let document = document_of(alloc, settings, source, bytes);
     match document {
         Ok(finished) => {
             let end = show(alloc, settings, source, &finished, out, err);

@@ -1,5 +1,5 @@
 -- Lemmas on the text of bytes.
-use Rattle.std.proofs.Common.{◌≡◌, ℕ, nat_eq, Bool, true, false, ◌&&◌, List, [], ◌∷◌, ◌++◌, Option, None, Some, MatchOption, IsSome, refl, sym, ap, ◌∙◌, Bor, unwrap_or}
+use Rattle.std.proofs.Common.{◌≡◌, ℕ, nat_eq, Bool, true, false, ◌&&◌, List, [], ◌∷◌, ◌++◌, Option, None, Some, MatchOption, refl, sym, ap, ◌∙◌, Bor, unwrap_or}
 use Rattle.std.specs.Str.{IsUtf8, is_utf8, chars}
 use Rattle.std.specs.Str.Pattern.{FindsCharPrefix, StripsPrefix}
 use Rattle.std.proofs.Math.Utf8.{encode, encodes}
@@ -21,9 +21,6 @@ text_of_none bytes bad = let e : is_utf8 bytes ≡ false = not_true (is_utf8 byt
 
 pub text_of_some : (bytes : List ℕ) → IsUtf8 bytes → text_of bytes ≡ Some (without_mark (chars bytes))
 text_of_some bytes good = rw (is_utf8-from_IsUtf8 bytes good) refl
-
-pub IsSome-text_of : (bytes : List ℕ) → IsUtf8 bytes → IsSome (text_of bytes)
-IsSome-text_of bytes good = rw (text_of_some bytes good) refl
 
 -- characters that don't begin with a mark stay as they are
 without_mark-kept : (cs : List ℕ) → ((ds : List ℕ) → cs ≡ 0xFEFF ∷ ds → ⊥) → without_mark cs ≡ cs

@@ -20,9 +20,14 @@ text_of bytes = if is_utf8 bytes then Some (without_mark (chars bytes)) else Non
 abbrev pub chars_of : {A : Type 0} → String A → List ℕ
 chars_of text = chars (string_bytes text)
 
--- Decoding gives the text of the bytes. It refuses just the bytes that have none, at the length of their longest
--- front that is UTF-8, and memory can run out only where there is a text.
+-- the fault of bytes that have no text: it is at the length of their longest front that is UTF-8
+abbrev pub IsWrong : List ℕ → TextFault → Type 0
+IsWrong bytes (NotUtf8 at) = (text_of bytes ≡ None) × (at ≡ utf8_valid_len bytes)
+IsWrong bytes NoMemory = ⊥
+
+-- Decoding gives the text of the bytes. It refuses just the bytes that have none, and memory can run out only where there is
+-- a text.
 abbrev pub Decodes : {A : Type 0} → List ℕ → Result (String A) TextFault → Type 0
 Decodes bytes (Ok text) = text_of bytes ≡ Some (chars_of text)
-Decodes bytes (Err (NotUtf8 at)) = (text_of bytes ≡ None) × (at ≡ utf8_valid_len bytes)
 Decodes bytes (Err NoMemory) = IsSome (text_of bytes)
+Decodes bytes (Err fault) = IsWrong bytes fault

@@ -6,5 +6,5 @@ pub returns-in-Ok-document : goal.returns-in-Ok-document
 returns-in-Ok-document g c =
     ends_read c.args.settings.now c.args.source.now c.in-Ok-document.finished
     (between g.R.Read.remaining c.args.input.now c.read_input.new.input) (between g.O.Write.contents c.args.out.now c.show-end.new.out) (between g.E.Write.contents c.args.err.now c.show-end.new.err)
-    c.in-Ok.bytes c.as_slice.result.now c.show-end.result
-    c.in-Ok.ensures c.as_slice.ensures.value c.in-Ok-document.ensures c.show-end.ensures
+    c.in-Ok.bytes c.show-end.result
+    c.in-Ok.ensures c.in-Ok-document.ensures c.show-end.ensures
