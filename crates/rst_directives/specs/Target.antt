@@ -1,11 +1,12 @@
 -- What the text of a target means (Markup Specification, 'Hyperlink Targets').
-use Rattle.std.specs.Prelude.{ℕ, ◌-◌, Bool, true, false, not, ◌&&◌, ◌||◌, ◌==◌, nat_lt, nat_le, List, [], ◌∷◌, map, filter, take, drop, slice_index, slice_range, length, Option, Some, None, if◌then◌else◌}
+use Rattle.std.specs.Prelude.{ℕ, ◌-◌, Bool, not, ◌&&◌, ◌==◌, nat_lt, nat_le, List, [], ◌∷◌, map, filter, take, drop, slice_index, slice_range, length, Option, Some, None, if◌then◌else◌}
 use Rattle.std.specs.List.{join_with_byte}
 use Rattle.rst_text.specs.Block.{indentation, is_blank}
 use Rattle.rst_text.specs.Lines.{onto_first}
-use Rattle.rst_text.specs.Characters.{is_white, is_alphanumeric}
+use Rattle.rst_text.specs.Characters.{is_white}
 use Rattle.rst_text.specs.Text.{chars_of}
 use Rattle.rst_pieces.specs.Escapes.{unescaped}
+use Rattle.rst_pieces.specs.Names.{is_simple_name}
 use Rattle.rst_directives.specs.Characters.{Text, has}
 use Rattle.rst_directives.specs.Escapes.{ends_escaping, has_bare_backquote}
 use Rattle.rst_directives.specs.declared.target.Target.{Target}
@@ -34,20 +35,7 @@ target_text t = join_with_byte 10 (filled (map unindented (lines_in t)))
 
 -- ---- references
 
--- `-`, `_`, `.`, `:`, `+`
-unfoldable pub is_joint : ℕ → Bool
-is_joint c = c == 45 || (c == 95 || (c == 46 || (c == 58 || c == 43)))
-
--- the rest of a simple name, before which a letter or a number is wanted or not
-abbrev pub name_from : Bool → Text → Bool
-name_from wanted [] = not wanted
-name_from wanted (c ∷ cs) = if is_alphanumeric c then name_from false cs else (not wanted && is_joint c) && name_from true cs
-
--- letters and numbers, with single inner `-`, `_`, `.`, `:` or `+`
-abbrev pub is_simple_name : Text → Bool
-is_simple_name t = name_from true t
-
--- a simple name and `_`
+-- a simple reference name and `_`
 unfoldable pub is_simple_reference : Text → Bool
 is_simple_reference t = nat_lt 0 (length t) && (has t (length t - 1) 95 && is_simple_name (take (length t - 1) t))
 

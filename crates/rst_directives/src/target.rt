@@ -8,8 +8,8 @@ ghost use Rattle.rst_directives.specs.Target as spec;
 
 use super::characters::{has, text_from};
 use super::fault::MarkupFault;
-use rst_pieces::{escapes, unescaped};
-use rst_text::{characters_of, is_alphanumeric, is_white};
+use rst_pieces::{escapes, is_simple_name, unescaped};
+use rst_text::{characters_of, is_white};
 use std::alloc::{AllocError, Global};
 
 /// What a target leads to.
@@ -174,32 +174,6 @@ fn has_bare_backquote(text: &[char]) -> bool
         escaped = escapes(*c, escaped);
     }
     false
-}
-
-#[tactic(auto, unfolding(crate::specs::Target::is_joint))]
-fn is_joint(c: char) -> bool
-    ensures { result ≡ spec.is_joint c }
-{
-    matches!(c, '-' | '_' | '.' | ':' | '+')
-}
-
-/// Whether a text is a simple name: letters and numbers, with single inner `-`, `_`, `.`, `:` or `+`.
-fn is_simple_name(text: &[char]) -> bool
-    ensures { result ≡ spec.is_simple_name text.now }
-{
-    // Whether a letter or a number is wanted next.
-    let mut wanted = true;
-    for c in text {
-        if is_alphanumeric(*c) {
-            wanted = false;
-            continue;
-        }
-        if wanted || !is_joint(*c) {
-            return false;
-        }
-        wanted = true;
-    }
-    !wanted
 }
 
 /// A text without its white characters.

@@ -1,15 +1,14 @@
 -- A line that begins with a word has no enumerator.
-use Rattle.std.proofs.Common.{◌≡◌, ℕ, ◌+◌, ◌==◌, ◌&&◌, Bool, true, false, List, [], ◌∷◌, drop, Option, None, Some, refl, sym, ap, ◌∙◌}
-use Rattle.std.specs.Prelude.{not, if◌then◌else◌, nat_lt, ◌||◌}
+use Rattle.std.proofs.Common.{◌≡◌, ℕ, ◌==◌, ◌&&◌, Bool, true, false, List, [], ◌∷◌, drop, Option, None, Some, refl, sym}
+use Rattle.std.specs.Prelude.{not, if◌then◌else◌}
 use Rattle.std.proofs.lemmas.Bool.{eqb-true}
-use Rattle.rst_marks.specs.Front.{first, begins_with}
+use Rattle.rst_marks.specs.Front.{begins_with}
 use Rattle.rst_marks.specs.Class.{run}
 use Rattle.rst_marks.specs.Roman.{roman, if_some}
 use Rattle.rst_marks.specs.Enumerator.{case_of, digits, letters, letters_by, as_numeral, written_at, framed, enumerator_of, begins_word}
 use Rattle.rst_marks.specs.declared.class.Class.TheVariants.{Digit, Letter}
-use Rattle.rst_marks.specs.declared.enumerator.Format.TheVariants.{Parentheses, Parenthesis, Period}
+use Rattle.rst_marks.specs.declared.enumerator.Format.TheVariants.{Parenthesis, Period}
 use Rattle.rst_marks.specs.declared.enumerator.Written.{Written}
-use Rattle.rst_marks.specs.declared.enumerator.Enumerator.{Enumerator}
 
 and_true : (a b : Bool) → (a && b) ≡ true → (a ≡ true) × (b ≡ true)
 and_true true b h = (refl, h)

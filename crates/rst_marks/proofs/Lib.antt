@@ -1,5 +1,6 @@
 pub mod TextLemmas
 pub mod Runs
+pub mod SimpleNames
 pub mod Steps
 pub mod OptionLemmas
 pub mod ListedLemmas

@@ -1,26 +1,26 @@
 -- Marks of explicit markup stand within their lines.
-use Rattle.std.proofs.Common.{◌≡◌, ℕ, suc, ◌+◌, ◌-◌, ◌<◌, ◌≤◌, ◌==◌, Bool, true, false, not, cond, ◌&&◌, ◌||◌, List, [], ◌∷◌, length, drop, length-drop, Option, None, Some, arith, refl, sym, ap, ◌∙◌}
+use Rattle.std.proofs.Common.{◌≡◌, ℕ, suc, ◌+◌, ◌<◌, ◌≤◌, ◌==◌, Bool, true, false, not, cond, ◌&&◌, ◌||◌, List, [], ◌∷◌, length, drop, length-drop, Option, None, Some, arith, refl, ap}
 use Rattle.std.specs.Prelude.{option_map}
 use Rattle.rst_text.specs.Block.{is_blank}
+use Rattle.rst_pieces.specs.Names.{simple_name}
 use Rattle.rst_marks.specs.Front.{begins_with}
-use Rattle.rst_marks.specs.Class.{run, begins_alphanumeric}
+use Rattle.rst_marks.specs.Class.{run}
 use Rattle.rst_marks.specs.Closing.{closes, closed_from, closed, before_next}
-use Rattle.rst_marks.specs.ExplicitMarks.{dots, underscores, simple_name, label_kind, label_of, label_by, labelled, begins_white, quoted_target, plain_target, anonymous_target, target_of, substitution_of, spaced_bar, closing_bar, colons, directive_by, directive_of}
+use Rattle.rst_marks.specs.ExplicitMarks.{dots, label_kind, label_of, label_by, labelled, begins_white, quoted_target, plain_target, anonymous_target, target_of, substitution_of, spaced_bar, closing_bar, colons, directive_of}
 use Rattle.rst_marks.specs.Marker.{marker_of}
 use Rattle.rst_marks.specs.Roman.{if_some}
-use Rattle.rst_marks.specs.declared.class.Class.TheVariants.{Name, Unbracketed}
+use Rattle.rst_marks.specs.declared.class.Class.TheVariants.{Unbracketed}
 use Rattle.rst_marks.specs.declared.closing.Before.{Before}
 use Rattle.rst_marks.specs.declared.closing.Closing.{Closing}
 use Rattle.rst_marks.specs.declared.closing.Closing.TheVariants.{Colon, QuotedColon, Bar, SpacedBar}
 use Rattle.rst_marks.specs.declared.explicit_marks.DirectiveMark.{DirectiveMark}
 use Rattle.rst_marks.specs.declared.explicit_marks.LabelKind.{LabelKind}
 use Rattle.rst_marks.specs.declared.explicit_marks.LabelMark.{LabelMark}
-use Rattle.rst_marks.specs.declared.explicit_marks.SubstitutionMark.{SubstitutionMark}
 use Rattle.rst_marks.specs.declared.explicit_marks.SubstitutionMark.TheVariants.{Named as NamedSubstitution}
 use Rattle.rst_marks.specs.declared.explicit_marks.TargetMark.{TargetMark}
 use Rattle.rst_marks.specs.declared.explicit_marks.TargetMark.TheVariants.{Named, Anonymous}
 use Rattle.rst_marks.specs.declared.marker.Marker.{Marker}
-use Rattle.rst_marks.proofs.OptionLemmas.{marker_within, run_le, there}
+use Rattle.rst_marks.proofs.OptionLemmas.{marker_within, there}
 
 -- what the second of two computations gives is what it makes of the first's value
 pub some_of : {A C : Type 0} (o : Option A) (f : A → Option C) (y : C) → if_some o f ≡ Some y → (x : A) × (o ≡ Some x) × (f x ≡ Some y)

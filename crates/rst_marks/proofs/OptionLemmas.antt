@@ -18,7 +18,7 @@ use Rattle.rst_marks.proofs.TextLemmas.{indent_within}
 pub run_le : (class : Class) (cs : List ℕ) → run class cs ≤ length cs
 unfolding run
 run_le class [] = omega arith
-run_le class (c ∷ cs) = by (is_in class c cs) (run_le class cs)
+run_le class (c ∷ cs) = by (is_in class c) (run_le class cs)
   where
     by : (b : Bool) → run class cs ≤ length cs → cond b (suc (run class cs)) 0 ≤ suc (length cs)
     by true h = omega arith

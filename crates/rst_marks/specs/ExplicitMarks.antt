@@ -1,14 +1,15 @@
 -- Marks of explicit markup (Markup Specification, 'Explicit Markup Blocks', 'Footnotes', 'Citations', 'Hyperlink
--- Targets', 'Directives', 'Substitution Definitions', 'Reference Names').
+-- Targets', 'Directives', 'Substitution Definitions').
 use Rattle.std.specs.Prelude.{ℕ, ◌+◌, ◌-◌, Bool, false, not, ◌&&◌, ◌||◌, ◌==◌, List, [], ◌∷◌, drop, if◌then◌else◌, Option, None, Some}
 use Rattle.rst_text.specs.Block.{is_blank}
 use Rattle.rst_text.specs.Characters.{is_white}
+use Rattle.rst_pieces.specs.Names.{simple_name}
 use Rattle.rst_marks.specs.Front.{begins_with}
-use Rattle.rst_marks.specs.Class.{run, begins_alphanumeric}
+use Rattle.rst_marks.specs.Class.{run}
 use Rattle.rst_marks.specs.Closing.{closed}
 use Rattle.rst_marks.specs.Marker.{marker_of}
 use Rattle.rst_marks.specs.Roman.{if_some}
-use Rattle.rst_marks.specs.declared.class.Class.TheVariants.{Digit, Name, Unbracketed}
+use Rattle.rst_marks.specs.declared.class.Class.TheVariants.{Digit, Unbracketed}
 use Rattle.rst_marks.specs.declared.closing.Closing.TheVariants.{Colon, QuotedColon, Bar, SpacedBar}
 use Rattle.rst_marks.specs.declared.marker.Marker.{Marker}
 use Rattle.rst_marks.specs.declared.explicit_marks.LabelKind.{LabelKind}
@@ -27,11 +28,6 @@ dots t = if begins_with 46 t && begins_with 46 (drop 1 t) then marker_of 2 t els
 -- the mark of an anonymous target: `__` with spaces or the end behind it
 unfoldable pub underscores : List ℕ → Option Marker
 underscores t = if begins_with 95 t && begins_with 95 (drop 1 t) then marker_of 2 t else None
-
--- how many characters the simple name at the front of a text has: alphanumerics with single inner `-`, `_`, `.`, `:`
--- or `+` between them
-unfoldable pub simple_name : List ℕ → ℕ
-simple_name t = if begins_alphanumeric t then run Name t else 0
 
 -- what the first n characters label
 unfoldable pub label_kind : ℕ → List ℕ → Option LabelKind

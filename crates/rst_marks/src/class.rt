@@ -1,5 +1,5 @@
 //! Classes of characters, and runs of them at the front of a text.
-ghost use Rattle.std.specs.Prelude.{◌≡◌, ◌≤◌, length, Bool};
+ghost use Rattle.std.specs.Prelude.{◌≡◌, ◌≤◌, length};
 ghost use Rattle.std.specs.Str.{chars};
 ghost use Rattle.rst_marks.specs.Class as spec;
 
@@ -23,31 +23,12 @@ pub enum Class {
     Bracketed,
     /// What stands in a label: anything but a closing bracket.
     Unbracketed,
-    /// Letters and numbers by general category, and `-`, `_`, `.`, `:` and `+` before one.
-    Name,
 }
 
-/// Whether a text begins with a letter or a number.
-pub fn begins_alphanumeric(text: &str) -> bool
-    ensures { result ≡ spec.begins_alphanumeric (chars text.now) }
-{
-    match front(text) {
-        Some(c) => is_alphanumeric(c),
-        None => false,
-    }
-}
-
-#[tactic(auto, unfolding(crate::specs::Class::is_joint))]
-fn is_joint(c: char) -> bool
-    ensures { result ≡ spec.is_joint c }
-{
-    matches!(c, '-' | '_' | '.' | ':' | '+')
-}
-
-/// Whether a character, with this text behind it, is in a class.
+/// Whether a character is in a class.
 #[tactic(auto, unfolding(crate::specs::Class::is_in))]
-fn is_in(class: Class, c: char, behind: &str) -> bool
-    ensures { result ≡ spec.is_in class c (chars behind.now) }
+fn is_in(class: Class, c: char) -> bool
+    ensures { result ≡ spec.is_in class c }
 {
     match class {
         Class::Only(a) => c == a,
@@ -57,7 +38,6 @@ fn is_in(class: Class, c: char, behind: &str) -> bool
         Class::Option => is_alphanumeric(c) || matches!(c, '_' | '-'),
         Class::Bracketed => !matches!(c, '<' | '>'),
         Class::Unbracketed => c != ']',
-        Class::Name => is_alphanumeric(c) || (is_joint(c) && begins_alphanumeric(behind)),
     }
 }
 
@@ -69,12 +49,11 @@ pub fn run(class: Class, text: &str) -> usize
     let mut rest = text;
     let mut n = 0;
     while let Some(c) = front(rest) {
-        let behind = after_first(rest);
-        if !is_in(class, c, behind) {
+        if !is_in(class, c) {
             break;
         }
         n += 1;
-        rest = behind;
+        rest = after_first(rest);
     }
     n
 }

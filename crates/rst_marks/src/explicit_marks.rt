@@ -1,13 +1,17 @@
 //! Marks of explicit markup, behind its `..`.
-ghost use Rattle.std.specs.Prelude.{◌≡◌, ◌<◌, ◌≤◌, ◌-◌, ◌^◌, length};
+ghost use Rattle.std.specs.Prelude.{◌≡◌, ◌<◌, ◌≤◌, ◌-◌, ◌^◌, ◌&&◌, ◌||◌, length};
 ghost use Rattle.std.specs.Str.{chars};
+ghost use Rattle.rst_text.specs.Characters as characters;
+ghost use Rattle.rst_pieces.specs.Characters.{is_alnum_at};
+ghost use Rattle.rst_pieces.specs.Names as names;
 ghost use Rattle.rst_marks.specs.ExplicitMarks as spec;
 
-use super::class::{Class, begins_alphanumeric, run};
+use super::class::{Class, run};
 use super::closing::{Closing, closed};
 use super::marker::{Marker, marker_of};
-use super::text::{begins_with, front, is_blank};
-use rst_text::{is_white, skip};
+use super::text::{after_first, begins_with, front, is_blank};
+use rst_pieces::is_joint;
+use rst_text::{is_alphanumeric, is_white, skip};
 
 /// The marker of explicit markup: `..`.
 #[tactic(auto, unfolding(crate::specs::ExplicitMarks::dots))]
@@ -33,17 +37,43 @@ pub fn underscores(text: &str) -> Option<Marker>
     }
 }
 
+/// Whether a text begins with a letter or a number.
+fn begins_alphanumeric(text: &str) -> bool
+    ensures { result ≡ is_alnum_at (chars text.now) 0 }
+{
+    match front(text) {
+        Some(c) => is_alphanumeric(c),
+        None => false,
+    }
+}
+
+/// Whether a character behind those of a simple name goes on with it: a letter or a number does, and a joint with one
+/// of these behind it.
+fn goes_on(c: char, behind: &str) -> bool
+    ensures { result ≡ (characters.is_alphanumeric c || (names.is_joint c && is_alnum_at (chars behind.now) 0)) }
+{
+    is_alphanumeric(c) || (is_joint(c) && begins_alphanumeric(behind))
+}
+
 /// How many characters the simple name at the front of a text has; 0 where there is none.
-#[tactic(auto, unfolding(crate::specs::ExplicitMarks::simple_name))]
 pub fn simple_name(text: &str) -> usize
-    ensures value { result ≡ spec.simple_name (chars text.now) }
+    ensures value { result ≡ names.simple_name (chars text.now) }
     ensures within { result ≤ length text.now }
 {
-    if begins_alphanumeric(text) {
-        run(Class::Name, text)
-    } else {
-        0
+    if !begins_alphanumeric(text) {
+        return 0;
     }
+    let mut rest = text;
+    let mut n = 0;
+    while let Some(c) = front(rest) {
+        let behind = after_first(rest);
+        if !goes_on(c, behind) {
+            break;
+        }
+        n += 1;
+        rest = behind;
+    }
+    n
 }
 
 /// What a label in brackets labels.

@@ -1,17 +1,30 @@
 -- Simple names, roles and references.
-use Rattle.std.proofs.Common.{◌≡◌, ⊎_elim, ℕ, ◌+◌, ◌-◌, ◌<◌, ◌≤◌, Bool, true, false, not, ◌&&◌, Option, Some, None, IfSome, length, refl, sym, ◌∙◌, arith}
+use Rattle.std.proofs.Common.{◌≡◌, ⊎_elim, ℕ, ltb, ◌+◌, ◌-◌, ◌<◌, ◌≤◌, Bool, true, false, not, ◌&&◌, Option, Some, None, IfSome, length, refl, sym, ap, ◌∙◌, arith}
 use Rattle.std.proofs.lemmas.Bool.{and_parts, cases_lt}
 use Rattle.std.proofs.lemmas.Bool.Decides.{nat_tests}
 use Rattle.std.specs.Option.{is_some}
 use Rattle.rst_text.specs.Places.{first_from, last_from, all_from, IsFirst, IsLast}
-use Rattle.rst_text.proofs.PlacesLemmas.{first_from-is, first_from-IsFirst, last_from-is, last_from-IsLast, all_from-at, all_from-all}
+use Rattle.rst_text.proofs.PlacesLemmas.{first_from-is, first_from-IsFirst, last_from-is, last_from-IsLast, all_from-at, all_from-all, all_from-stop}
 use Rattle.rst_pieces.specs.Characters.{Text, has, is_alnum_at}
 use Rattle.rst_pieces.specs.Tails.{name_tail}
-use Rattle.rst_pieces.specs.Names.{is_name_at, name_stop, behind_colon, role_end, ends_name, is_reference, name_end, reference_piece, reference_at, reference}
+use Rattle.rst_pieces.specs.Names.{is_name_at, is_simple_name, name_stop, behind_colon, role_end, ends_name, is_reference, name_end, reference_piece, reference_at, reference}
 use Rattle.rst_pieces.specs.declared.piece.Tail.{Tail}
 use Rattle.rst_pieces.proofs.FitLemmas.{Fit, Fit-none, Fit-some, has-lt, Some-same, Some-None, either, chosen, TailFits, name_tail-fits, name_tail-below}
 
 -- ---- simple names
+
+-- a text with a place that can't be one of a simple name is none
+pub not_simple : (t : Text) (i : ℕ) → i < length t → is_name_at t i ≡ false → is_simple_name t ≡ false
+unfolding is_simple_name
+not_simple t i within h =
+    let all : length t - 0 ≡ length t = omega arith in
+    let none : all_from (is_name_at t) 0 (length t) ≡ false = ap (all_from (is_name_at t) 0) (sym all) ∙ all_from-stop (is_name_at t) 0 i (length t) (omega arith) within h in
+    rw none (grind (arith, nat_tests))
+
+-- a text of which each place may be one of a simple name is one, unless it is empty
+pub simple-where : (t : Text) (i : ℕ) → length t ≤ i → ((k : ℕ) → k < i → is_name_at t k ≡ true) → ltb 0 (length t) ≡ is_simple_name t
+unfolding is_simple_name
+simple-where t i past h = rw (all_from-all (is_name_at t) 0 (length t) (λ k above below. h k (omega arith))) (grind (arith, nat_tests))
 
 -- what a search for the name's end found, where it begins with a letter or a number
 pub name_stop-is : (t : Text) (i : ℕ) (r : Option ℕ) → is_alnum_at t i ≡ true → IsFirst (λ k. not (is_name_at t k)) i (length t) r → r ≡ name_stop t i

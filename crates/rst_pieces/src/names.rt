@@ -1,6 +1,6 @@
-//! Simple names, roles, and references by a simple name.
+//! Simple reference names, roles, and references by such a name.
 ghost use Rattle.std.specs.Prelude.{◌≡◌, ◌<◌, ◌≤◌, ℕ, length, IfSome};
-ghost use Rattle.rst_pieces.specs.Names.{is_joint, is_name_at, name_stop, role_end, ends_name, name_end, reference};
+ghost use Rattle.rst_pieces.specs.Names.{is_joint, is_name_at, is_simple_name, name_stop, role_end, ends_name, name_end, reference};
 ghost use Rattle.rst_pieces.specs.Missing.{IsMissing};
 
 use super::characters::{has, is_alnum_at};
@@ -8,8 +8,9 @@ use super::missing::Missing;
 use super::piece::{Kind, Piece};
 use super::tails::name_tail;
 
+/// Whether the character may stand between two letters or numbers of a simple name: `-`, `_`, `.`, `:` or `+`.
 #[tactic(auto, unfolding(crate::specs::Names::is_joint))]
-fn is_joint(c: char) -> bool
+pub fn is_joint(c: char) -> bool
     ensures { result ≡ is_joint c }
 {
     matches!(c, '-' | '_' | '.' | ':' | '+')
@@ -26,6 +27,19 @@ pub(crate) fn is_name_at(text: &[char], place: usize) -> bool
             && 0 < place
             && is_alnum_at(text, place - 1)
             && is_alnum_at(text, place + 1))
+}
+
+/// Whether a text is a simple name: letters and numbers, with single inner `-`, `_`, `.`, `:` or `+`.
+pub fn is_simple_name(text: &[char]) -> bool
+    ensures { result ≡ is_simple_name text.now }
+{
+    let len = text.len();
+    for place in 0..len {
+        if !is_name_at(text, place) {
+            return false;
+        }
+    }
+    0 < len
 }
 
 /// The end of the longest simple name that begins at the place, where something stands behind it.

@@ -5,12 +5,12 @@ use Rattle.rst_marks.proofs.Runs.{run_more, run_stop, run_end}
 use Rattle.rst_marks.proofs.class.run.Goals as goal
 
 pub loop-c-smaller : goal.loop-c-smaller
-loop-c-smaller c = c.after_first-behind.ensures.shorter (search rules)
+loop-c-smaller c = c.after_first-rest.ensures.shorter (search rules)
 
 pub loop-c-preserved : goal.loop-c-preserved
 loop-c-preserved c =
-    let short : length c.after_first-behind.result.now < length c.loop-c.rest.now = c.after_first-behind.ensures.shorter (search rules) in
-    let inside : is_in c.args.class c.in-Some.c (drop 1 (chars c.loop-c.rest.now)) ≡ true = cc in
+    let short : length c.after_first-rest.result.now < length c.loop-c.rest.now = c.after_first-rest.ensures.shorter (search rules) in
+    let inside : is_in c.args.class c.in-Some.c ≡ true = cc in
     let value : c.loop-c.n + 1 + run c.args.class (drop 1 (chars c.loop-c.rest.now)) ≡ run c.args.class (chars c.args.text.now) = run_more c.args.class (chars c.loop-c.rest.now) c.in-Some.c c.loop-c.n _ (cc) inside c.loop-c.invariant.value in
     record {
       text = search rules;
@@ -20,7 +20,7 @@ loop-c-preserved c =
 
 pub returns-then-not-is_in-clause-value : goal.returns-then-not-is_in-clause-value
 returns-then-not-is_in-clause-value c =
-    let outside : is_in c.args.class c.in-Some.c (drop 1 (chars c.loop-c.rest.now)) ≡ false = cc in
+    let outside : is_in c.args.class c.in-Some.c ≡ false = cc in
     run_stop c.args.class (chars c.loop-c.rest.now) c.in-Some.c c.loop-c.n _ (cc) outside c.loop-c.invariant.value
 
 pub returns-in_default-clause-value : goal.returns-in_default-clause-value
