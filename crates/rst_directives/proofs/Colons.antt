@@ -1,8 +1,17 @@
 -- The colon that ends a field's name, looked for from the front.
-use Rattle.std.proofs.Common.{◌≡◌, ℕ, Bool, List, sym, ◌∙◌, ap}
+use Rattle.std.proofs.Common.{◌≡◌, ℕ, ◌+◌, ◌-◌, ◌<◌, Bool, not, ◌&&◌, List, drop, length, Option, refl, ap, ◌∙◌, arith}
+use Rattle.std.proofs.lemmas.Bool.{lt-ltb}
+use Rattle.rst_text.specs.Places.{first_from, IsFirst}
+use Rattle.rst_text.proofs.PlacesLemmas.{first_from-is}
+use Rattle.rst_pieces.specs.Characters.{has}
 use Rattle.rst_pieces.specs.Escapes.{is_escaped}
-use Rattle.rst_directives.specs.Field.{closes, closes_if}
+use Rattle.rst_marks.specs.Closing.{is_closing, closes, closed}
+use Rattle.rst_marks.specs.Front.{is_loose}
+use Rattle.rst_marks.specs.declared.closing.Closing.TheVariants.{Colon}
 
-pub closes-at : (t : List ℕ) (i : ℕ) (escaped b : Bool) → escaped ≡ is_escaped t 1 i → closes_if t i escaped ≡ b → closes t i ≡ b
-unfolding closes
-closes-at t i escaped b e h = ap (closes_if t i) (sym e) ∙ h
+pub closes-at : (t : List ℕ) (i : ℕ) (escaped b : Bool) → i < length t → escaped ≡ is_escaped t 0 i → (not escaped && (has t i 58 && is_loose (drop (i + 1) t))) ≡ b → closes Colon t i ≡ b
+unfolding closes is_closing
+closes-at t i escaped b within e h = rw (← e) (rw (lt-ltb i (length t) within) at h)
+
+pub closed-is : (t : List ℕ) (r : Option ℕ) → IsFirst (closes Colon t) 0 (length t) r → r ≡ closed Colon t
+closed-is t r h = let all : length t - 0 ≡ length t = omega arith in first_from-is (closes Colon t) 0 (length t) r h ∙ ap (first_from (closes Colon t) 0) all

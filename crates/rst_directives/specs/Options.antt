@@ -3,14 +3,14 @@ use Rattle.std.specs.Prelude.{ℕ, suc, min, Bool, true, false, not, ◌&&◌, �
 use Rattle.std.specs.List.{join_with_byte}
 use Rattle.std.specs.declared.vec.Vec.{Vec}
 use Rattle.rst_text.specs.Block.{indentation}
+use Rattle.rst_marks.specs.Field.{field_of}
+use Rattle.rst_marks.specs.declared.field.FieldMark.{FieldMark}
 use Rattle.rst_directives.specs.Characters.{Text, is_same_word}
-use Rattle.rst_directives.specs.Field.{field_mark}
 use Rattle.rst_directives.specs.Name.{has_option}
 use Rattle.rst_directives.specs.OptionName.{option_of}
 use Rattle.rst_directives.specs.Value.{Meaning, meaning_of, value_of}
 use Rattle.rst_directives.specs.Wrong.{Wrong, unknown, duplicate, invalid, wrong_in}
 use Rattle.rst_directives.specs.declared.fault.Detail.{Detail}
-use Rattle.rst_directives.specs.declared.field.FieldMark.{FieldMark}
 use Rattle.rst_directives.specs.declared.name.Name.{Name}
 use Rattle.rst_directives.specs.declared.option.OptionName.{OptionName}
 use Rattle.rst_directives.specs.declared.options.Field.{Field}
@@ -56,11 +56,11 @@ FieldText = Text × Text
 -- taken off
 abbrev pub field_by : Option FieldMark → Text → List Text → Option FieldText
 field_by None t below = None
-field_by (Some mark) t below = Some (slice_range t 1 mark.colon, joined (drop mark.cut t) below (least_indentation below))
+field_by (Some mark) t below = Some (slice_range t mark.name.from mark.name.to, joined (drop mark.marker.cut t) below (least_indentation below))
 
 -- the field that a line begins, with the indented lines below it
 unfoldable pub field_in : Text → List Text → Option FieldText
-field_in t below = field_by (field_mark t) t below
+field_in t below = field_by (field_of t) t below
 
 -- a field before others, if it and they are fields
 abbrev pub onto_fields : Option FieldText → Option (List FieldText) → Option (List FieldText)

@@ -1,44 +1,49 @@
-//! The marks of fields.
-ghost use Rattle.std.specs.Prelude.{◌≡◌, ◌+◌, ◌<◌, ◌≤◌, length, IfSome};
+//! The marks of fields, over characters.
+ghost use Rattle.std.specs.Prelude.{◌≡◌, ◌+◌, ◌<◌, ◌≤◌, ◌&&◌, not, drop, length, IfSome};
+ghost use Rattle.rst_pieces.specs.Characters as characters;
+ghost use Rattle.rst_marks.specs.Closing.{closed};
+ghost use Rattle.rst_marks.specs.Field.{is_no_name, field_of};
+ghost use Rattle.rst_marks.specs.Front as fronts;
+ghost use Rattle.rst_marks.specs.Marker.{marker_of};
+ghost use Rattle.rst_marks.specs.declared.closing.Closing.TheVariants.{Colon};
 ghost use Rattle.rst_directives.specs.Field as spec;
 
-use super::characters::{has, spaces};
-use rst_pieces::escapes;
+use super::characters::{is_blank, past, spaces};
+use rst_marks::{Characters, FieldMark, Marker};
+use rst_pieces::{escapes, has};
 
-/// The mark of a field at the front of a line: the place of the colon that ends the name, which begins at place 1,
-/// and how many characters the mark has with the spaces behind it.
-#[derive(Clone, Copy)]
-pub(crate) struct FieldMark {
-    pub colon: usize,
-    pub cut: usize,
+/// Whether a text begins with a character.
+fn begins_with(c: char, text: &[char]) -> bool
+    ensures { result ≡ fronts.begins_with c text.now }
+{
+    text.first() == Some(&c)
 }
 
-/// Whether a mark may end before a place: a space stands there, or nothing.
-fn is_free(text: &[char], place: usize) -> bool
-    ensures { result ≡ spec.is_free text.now place }
+/// Whether a text is empty or begins with a space.
+fn is_loose(text: &[char]) -> bool
+    ensures { result ≡ fronts.is_loose text.now }
 {
-    match text.get(place) {
+    match text.first() {
         Some(c) => *c == ' ',
         None => true,
     }
 }
 
-/// Whether the name of a field ends before a place, where the character there is escaped or not.
-#[tactic(auto, unfolding(crate::specs::Field::closes_if))]
+/// Whether the name of a field ends before a place, by whether the character there is escaped.
 fn closes(text: &[char], place: usize, escaped: bool) -> bool
     requires { place < length text.now }
-    ensures { result ≡ spec.closes_if text.now place escaped }
+    ensures { result ≡ (not escaped && (characters.has text.now place 58 && fronts.is_loose (drop (place + 1) text.now))) }
 {
-    has(text, place, ':') && (!escaped && is_free(text, place + 1))
+    !escaped && (has(text, place, ':') && is_loose(past(text, place + 1)))
 }
 
-/// The place of the colon that ends the name of a field.
+/// How many characters of a text stand before the first unescaped colon with a space or the end behind it.
 fn colon_of(text: &[char]) -> Option<usize>
-    ensures exact { result ≡ spec.colon_of text.now }
-    ensures within { IfSome result (λ colon. colon < length text.now) }
+    ensures exact { result ≡ closed Colon text.now }
+    ensures within { IfSome result (λ len. len < length text.now) }
 {
     let mut escaped = false;
-    for place in 1..text.len() {
+    for place in 0..text.len() {
         if closes(text, place, escaped) {
             return Some(place);
         }
@@ -47,36 +52,58 @@ fn colon_of(text: &[char]) -> Option<usize>
     None
 }
 
-/// Whether the characters from place 1 up to the colon are right as the name of a field.
-#[tactic(auto, unfolding(crate::specs::Field::is_name))]
-fn is_name(text: &[char], colon: usize) -> bool
-    requires { 1 < colon }
-    ensures { result ≡ spec.is_name text.now colon }
+/// Whether the first `len` characters of a text are no name.
+fn is_no_name(len: usize, text: &[char]) -> bool
+    ensures { result ≡ is_no_name len text.now }
 {
-    !has(text, 1, ' ') && (!has(text, 1, ':') && !has(text, colon - 1, ' '))
+    len == 0
+        || (begins_with(' ', text)
+            || (begins_with(':', text) || begins_with(' ', past(text, len - 1))))
+}
+
+/// The marker that the first `n` characters of a line are, if spaces or the line's end are behind them.
+#[tactic(auto, unfolding(rst_marks::specs::Marker::marker_of))]
+fn marker_of(n: usize, text: &[char]) -> Option<Marker>
+    requires { n ≤ length text.now }
+    ensures exact { result ≡ marker_of n text.now }
+    ensures within { IfSome result (λ marker. marker.cut ≤ length text.now) }
+{
+    let behind = &text[n..];
+    if is_blank(behind) {
+        return Some(Marker { cut: n, bare: true });
+    }
+    if !begins_with(' ', behind) {
+        return None;
+    }
+    let spaces = spaces(behind);
+    Some(Marker {
+        cut: n + spaces,
+        bare: is_blank(past(behind, spaces)),
+    })
 }
 
 /// The mark of a field that a line begins with.
-#[tactic(auto, unfolding(crate::specs::Field::field_mark))]
+#[tactic(auto, unfolding(rst_marks::specs::Field::field_of))]
 pub(crate) fn field_mark(text: &[char]) -> Option<FieldMark>
-    ensures exact { result ≡ spec.field_mark text.now }
-    ensures ordered { IfSome result (λ mark. (1 < mark.colon) × (mark.colon < mark.cut)) }
-    ensures within { IfSome result (λ mark. mark.cut ≤ length text.now) }
+    ensures exact { result ≡ field_of text.now }
+    ensures name { IfSome result (λ mark. (mark.name.from ≤ mark.name.to) × (mark.name.to ≤ length text.now)) }
+    ensures within { IfSome result (λ mark. mark.marker.cut ≤ length text.now) }
 {
-    if !has(text, 0, ':') {
+    if !begins_with(':', text) {
         return None;
     }
-    let colon = colon_of(text)?;
-    if colon < 2 {
+    let behind = past(text, 1);
+    let len = colon_of(behind)?;
+    if is_no_name(len, behind) {
         return None;
     }
-    if !is_name(text, colon) {
-        return None;
-    }
-    let behind = &text[colon + 1..];
+    let marker = marker_of(len + 2, text)?;
     Some(FieldMark {
-        colon,
-        cut: colon + 1 + spaces(behind),
+        name: Characters {
+            from: 1,
+            to: 1 + len,
+        },
+        marker,
     })
 }
 

@@ -111,8 +111,13 @@ fn field_of(alloc: Global, line: &[char], below: &[Vec<char>]) -> Result<Option<
     let Some(mark) = field_mark(line) else {
         return Ok(None);
     };
-    let name = Vec::from_slice(alloc, &line[1..mark.colon])?;
-    let value = joined(alloc, &line[mark.cut..], below, least_indentation(below))?;
+    let name = Vec::from_slice(alloc, &line[mark.name.from..mark.name.to])?;
+    let value = joined(
+        alloc,
+        &line[mark.marker.cut..],
+        below,
+        least_indentation(below),
+    )?;
     Ok(Some(Field { name, value }))
 }
 

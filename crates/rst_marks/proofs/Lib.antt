@@ -4,6 +4,7 @@ pub mod SimpleNames
 pub mod Steps
 pub mod OptionLemmas
 pub mod ListedLemmas
+pub mod ClosingLemmas
 pub mod MarkBounds
 pub mod ColonLemmas
 pub mod EnumeratorLemmas

@@ -1,17 +1,14 @@
 -- Marks of explicit markup stand within their lines.
-use Rattle.std.proofs.Common.{◌≡◌, ℕ, suc, ◌+◌, ◌<◌, ◌≤◌, ◌==◌, Bool, true, false, not, cond, ◌&&◌, ◌||◌, List, [], ◌∷◌, length, drop, length-drop, Option, None, Some, arith, refl, ap}
-use Rattle.std.specs.Prelude.{option_map}
+use Rattle.std.proofs.Common.{◌≡◌, ℕ, ◌+◌, ◌≤◌, ◌==◌, Bool, true, false, not, cond, ◌&&◌, ◌||◌, List, length, drop, length-drop, Option, None, Some, arith, refl, ap}
 use Rattle.rst_text.specs.Block.{is_blank}
 use Rattle.rst_pieces.specs.Names.{simple_name}
 use Rattle.rst_marks.specs.Front.{begins_with}
 use Rattle.rst_marks.specs.Class.{run}
-use Rattle.rst_marks.specs.Closing.{closes, closed_from, closed, before_next}
+use Rattle.rst_marks.specs.Closing.{closed}
 use Rattle.rst_marks.specs.ExplicitMarks.{dots, label_kind, label_of, label_by, labelled, begins_white, quoted_target, plain_target, anonymous_target, target_of, substitution_of, spaced_bar, closing_bar, colons, directive_of}
 use Rattle.rst_marks.specs.Marker.{marker_of}
 use Rattle.rst_marks.specs.Roman.{if_some}
 use Rattle.rst_marks.specs.declared.class.Class.TheVariants.{Unbracketed}
-use Rattle.rst_marks.specs.declared.closing.Before.{Before}
-use Rattle.rst_marks.specs.declared.closing.Closing.{Closing}
 use Rattle.rst_marks.specs.declared.closing.Closing.TheVariants.{Colon, QuotedColon, Bar, SpacedBar}
 use Rattle.rst_marks.specs.declared.explicit_marks.DirectiveMark.{DirectiveMark}
 use Rattle.rst_marks.specs.declared.explicit_marks.LabelKind.{LabelKind}
@@ -20,6 +17,7 @@ use Rattle.rst_marks.specs.declared.explicit_marks.SubstitutionMark.TheVariants.
 use Rattle.rst_marks.specs.declared.explicit_marks.TargetMark.{TargetMark}
 use Rattle.rst_marks.specs.declared.explicit_marks.TargetMark.TheVariants.{Named, Anonymous}
 use Rattle.rst_marks.specs.declared.marker.Marker.{Marker}
+use Rattle.rst_marks.proofs.ClosingLemmas.{closed_within, quoted_within}
 use Rattle.rst_marks.proofs.OptionLemmas.{marker_within, there}
 
 -- what the second of two computations gives is what it makes of the first's value
@@ -69,49 +67,6 @@ label_within t l h = by (begins_with 91 t) h
     by true h = labelled_within (run Unbracketed (drop 1 t)) t (label_kind (run Unbracketed (drop 1 t)) (drop 1 t)) l (begins_with 93 (drop (run Unbracketed (drop 1 t)) (drop 1 t))) refl h
     by false h = cc
 
--- ---- what is closed
-some_suc : (o : Option ℕ) (n : ℕ) → option_map (λ m. suc m) o ≡ Some n → (m : ℕ) × (o ≡ Some m) × (n ≡ suc m)
-some_suc None n h = cc
-some_suc (Some m) n h = (m, refl, cc)
-
-pub closed_within : (closing : Closing) (before : Before) (t : List ℕ) (n : ℕ) → closed_from closing before t ≡ Some n → n < length t
-unfolding closed_from
-closed_within closing before [] n h = cc
-closed_within closing before (c ∷ cs) n h = by (closes closing before c cs) h (λ m e. closed_within closing (before_next before c) cs m e)
-  where
-    by : (b : Bool) → cond b (Some 0) (option_map (λ m. suc m) (closed_from closing (before_next before c) cs)) ≡ Some n
-        → ((m : ℕ) → closed_from closing (before_next before c) cs ≡ Some m → m < length cs) → n < length (c ∷ cs)
-    by true h later = let same : 0 ≡ n = cc in omega arith
-    by false h later =
-        let more = some_suc (closed_from closing (before_next before c) cs) n h in
-        omega (arith, later more.0 more.1, more.2)
-
-and_false : (b : Bool) → (b && false) ≡ true → ⊥
-and_false true h = cc
-and_false false h = cc
-
--- a quote has a colon behind it
-quote_behind : (before : Before) (c : ℕ) (cs : List ℕ) → closes QuotedColon before c cs ≡ true → 1 ≤ length cs
-unfolding closes
-quote_behind before c [] h = by before.escaped h
-  where
-    by : (escaped : Bool) → cond escaped false ((c == 96) && false) ≡ true → 1 ≤ 0
-    by true h = cc
-    by false h = absurd (and_false (c == 96) h)
-quote_behind before c (d ∷ ds) h = omega arith
-
-pub quoted_within : (before : Before) (t : List ℕ) (n : ℕ) → closed_from QuotedColon before t ≡ Some n → n + 1 < length t
-unfolding closed_from
-quoted_within before [] n h = cc
-quoted_within before (c ∷ cs) n h = by (closes QuotedColon before c cs) refl h (λ m e. quoted_within (before_next before c) cs m e)
-  where
-    by : (b : Bool) → closes QuotedColon before c cs ≡ b → cond b (Some 0) (option_map (λ m. suc m) (closed_from QuotedColon (before_next before c) cs)) ≡ Some n
-        → ((m : ℕ) → closed_from QuotedColon (before_next before c) cs ≡ Some m → m + 1 < length cs) → n + 1 < length (c ∷ cs)
-    by true e h later = let same : 0 ≡ n = cc in omega (arith, quote_behind before c cs e)
-    by false e h later =
-        let more = some_suc (closed_from QuotedColon (before_next before c) cs) n h in
-        omega (arith, later more.0 more.1, more.2)
-
 -- ---- targets
 abbrev pub TargetWithin : List ℕ → TargetMark → Type 0
 TargetWithin t (Named from len m) = (from + len ≤ length t) × (m.cut ≤ length t)
@@ -130,14 +85,14 @@ pub quoted_target_within : (t : List ℕ) (mark : TargetMark) → quoted_target 
 unfolding quoted_target
 quoted_target_within t mark h =
     let c = some_of (closed QuotedColon (drop 2 t)) (λ n. cond (n == 0 || (begins_white (drop 2 t) || begins_with 96 (drop 2 t))) None (if_some (marker_of (n + 4) t) (λ m. Some (Named 2 n m)))) mark h in
-    let room : c.0 + 4 ≤ length t = omega (arith, quoted_within (record { escaped = false; dark = false }) (drop 2 t) c.0 c.1, length-drop 2 t) in
+    let room : c.0 + 4 ≤ length t = omega (arith, quoted_within (drop 2 t) c.0 c.1, length-drop 2 t) in
     named_within 2 c.0 (c.0 + 4) t mark (c.0 == 0 || (begins_white (drop 2 t) || begins_with 96 (drop 2 t))) (omega arith) room c.2
 
 pub plain_target_within : (t : List ℕ) (mark : TargetMark) → plain_target t ≡ Some mark → TargetWithin t mark
 unfolding plain_target
 plain_target_within t mark h =
     let c = some_of (closed Colon (drop 1 t)) (λ n. cond (n == 0 || begins_white (drop 1 t)) None (if_some (marker_of (n + 2) t) (λ m. Some (Named 1 n m)))) mark h in
-    let room : c.0 + 2 ≤ length t = omega (arith, closed_within Colon (record { escaped = false; dark = false }) (drop 1 t) c.0 c.1, length-drop 1 t) in
+    let room : c.0 + 2 ≤ length t = omega (arith, closed_within Colon (drop 1 t) c.0 c.1, length-drop 1 t) in
     named_within 1 c.0 (c.0 + 2) t mark (c.0 == 0 || begins_white (drop 1 t)) (omega arith) room c.2
 
 anonymous_by : (t : List ℕ) (mark : TargetMark) (b : Bool) → begins_with 58 (drop 2 t) ≡ b → cond b (if_some (marker_of 3 t) (λ m. Some (Anonymous m))) None ≡ Some mark → TargetWithin t mark
@@ -170,7 +125,7 @@ spaced_within t n m None e h = by (closed Bar (drop 1 t)) h
     by None h = cc
     by (Some k) h = cc
 spaced_within t n m (Some k) e h =
-    let room : k + 2 ≤ length t = omega (arith, closed_within SpacedBar (record { escaped = false; dark = false }) (drop 1 t) k e, length-drop 1 t) in
+    let room : k + 2 ≤ length t = omega (arith, closed_within SpacedBar (drop 1 t) k e, length-drop 1 t) in
     let c = some_of (marker_of (k + 2) t) (λ x. Some (NamedSubstitution k x)) (NamedSubstitution n m) h in
     let whole : Some (NamedSubstitution k c.0) ≡ Some (NamedSubstitution n m) = c.2 in
     let len : k ≡ n = cc in

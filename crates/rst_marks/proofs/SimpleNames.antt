@@ -15,7 +15,7 @@ abbrev pub goes_on : ℕ → List ℕ → Bool
 goes_on c cs = is_alphanumeric c || (is_joint c && is_alnum_at cs 0)
 
 -- the first character of what stands behind n characters
-at-front : (t cs : List ℕ) (c n : ℕ) → drop n t ≡ cs → first cs ≡ Some c → get_or t n 0 ≡ c
+pub at-front : (t cs : List ℕ) (c n : ℕ) → drop n t ≡ cs → first cs ≡ Some c → get_or t n 0 ≡ c
 at-front t [] c n e h = cc
 at-front [] (d ∷ ds) c zero e h = cc
 at-front [] (d ∷ ds) c (suc n) e h = cc

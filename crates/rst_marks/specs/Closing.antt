@@ -1,48 +1,33 @@
 -- Where marks are closed (Markup Specification, 'Escaping Mechanism', 'Field Lists', 'Hyperlink Targets',
 -- 'Substitution Definitions', 'Literal Blocks').
-use Rattle.std.specs.Prelude.{ℕ, suc, Bool, true, false, not, ◌&&◌, ◌==◌, List, [], ◌∷◌, drop, if◌then◌else◌, Option, None, Some, option_map}
-use Rattle.rst_text.specs.Characters.{is_white}
-use Rattle.rst_text.specs.Block.{is_blank}
-use Rattle.rst_pieces.specs.Escapes.{escapes}
+use Rattle.std.specs.Prelude.{ℕ, ◌+◌, ◌-◌, Bool, not, ◌&&◌, ◌==◌, nat_lt, nat_le, List, drop, length, slice_index, Option}
+use Rattle.rst_text.specs.Places.{first_from}
+use Rattle.rst_pieces.specs.Characters.{has, is_dark}
+use Rattle.rst_pieces.specs.Escapes.{is_escaped}
 use Rattle.rst_marks.specs.Front.{begins_with, is_loose}
 use Rattle.rst_marks.specs.declared.closing.Closing.{Closing}
-use Rattle.rst_marks.specs.declared.closing.Before.{Before}
 use Rattle.rst_marks.specs.declared.closing.Closing.TheVariants.{Colon, QuotedColon, Bar, SpacedBar}
 
--- what stands before the character behind c
-unfoldable pub before_next : Before → ℕ → Before
-before_next before c = record { escaped = escapes c before.escaped; dark = not (is_white c) }
+-- A character closes, behind one that isn't white or behind no such one, and before this text: a colon with a space or the
+-- end behind it, a backquote before such a colon, a bar behind a character that isn't white, or such a bar before a space.
+unfoldable pub is_closing : Closing → Bool → ℕ → List ℕ → Bool
+is_closing Colon dark c cs = c == 58 && is_loose cs
+is_closing QuotedColon dark c cs = c == 96 && (begins_with 58 cs && is_loose (drop 1 cs))
+is_closing Bar dark c cs = c == 124 && dark
+is_closing SpacedBar dark c cs = c == 124 && (dark && begins_with 32 cs)
 
--- a character closes that isn't escaped: a colon with a space or the end behind it, a backquote before such a colon, a
--- bar behind a character that isn't white, or such a bar before a space
-abbrev pub closes_free : Closing → Bool → ℕ → List ℕ → Bool
-closes_free Colon dark c cs = c == 58 && is_loose cs
-closes_free QuotedColon dark c cs = c == 96 && (begins_with 58 cs && is_loose (drop 1 cs))
-closes_free Bar dark c cs = c == 124 && dark
-closes_free SpacedBar dark c cs = c == 124 && (dark && begins_with 32 cs)
+-- a character that isn't white stands before the place
+abbrev pub is_behind_dark : List ℕ → ℕ → Bool
+is_behind_dark t i = nat_lt 0 i && is_dark t (i - 1)
 
--- a character that isn't escaped closes, with this text behind it
-unfoldable pub closes : Closing → Before → ℕ → List ℕ → Bool
-closes closing before c cs = if before.escaped then false else closes_free closing before.dark c cs
+-- the character at the place closes, and isn't escaped
+unfoldable pub closes : Closing → List ℕ → ℕ → Bool
+closes closing t i = not (is_escaped t 0 i) && is_closing closing (is_behind_dark t i) (slice_index t i) (drop (i + 1) t)
 
--- how many characters stand before the first that closes
-unfoldable pub closed_from : Closing → Before → List ℕ → Option ℕ
-closed_from closing before [] = None
-closed_from closing before (c ∷ cs) = if closes closing before c cs then Some 0 else option_map (λ n. suc n) (closed_from closing (before_next before c) cs)
-
--- nothing stands before the first character
+-- how many characters stand before the first that closes: its place, from 0
 abbrev pub closed : Closing → List ℕ → Option ℕ
-closed closing t = closed_from closing (record { escaped = false; dark = false }) t
+closed closing t = first_from (closes closing t) 0 (length t)
 
--- this character and the text behind it are two colons and nothing else, the first of which isn't escaped
-abbrev pub is_colon_pair : Bool → ℕ → List ℕ → Bool
-is_colon_pair escaped c cs = not escaped && (c == 58 && (begins_with 58 cs && is_blank (drop 1 cs)))
-
--- a text ends in two colons of which the first isn't escaped
-unfoldable pub ends_in_colons_from : Bool → List ℕ → Bool
-ends_in_colons_from escaped [] = false
-ends_in_colons_from escaped (c ∷ cs) = if is_colon_pair escaped c cs then true else ends_in_colons_from (escapes c escaped) cs
-
--- a text ends in `::`, by which a paragraph announces a literal block
+-- a text ends in two colons of which the first isn't escaped: in `::`, by which a paragraph announces a literal block
 abbrev pub ends_in_colons : List ℕ → Bool
-ends_in_colons t = ends_in_colons_from false t
+ends_in_colons t = nat_le 2 (length t) && (has t (length t - 2) 58 && (has t (length t - 1) 58 && not (is_escaped t 0 (length t - 2))))

@@ -1,7 +1,9 @@
 //! Where what an opening mark began is closed.
-ghost use Rattle.std.specs.Prelude.{◌≡◌, ◌≤◌, ◌<◌, ◌-◌, length, slice_get, IfSome};
+ghost use Rattle.std.specs.Prelude.{◌≡◌, ◌≤◌, ◌<◌, ◌-◌, ◌&&◌, ◌==◌, not, drop, length, slice_get, IfSome};
 ghost use Rattle.std.specs.Str.{chars};
+ghost use Rattle.rst_text.specs.Block as block;
 ghost use Rattle.rst_marks.specs.Closing as spec;
+ghost use Rattle.rst_marks.specs.Front as fronts;
 
 use super::text::{after_first, begins_with, front, is_blank, is_loose};
 use rst_pieces::escapes;
@@ -20,30 +22,12 @@ pub enum Closing {
     SpacedBar,
 }
 
-/// What stands before a character: whether it escapes it, and whether it is there and isn't white.
-#[derive(Clone, Copy)]
-struct Before {
-    escaped: bool,
-    dark: bool,
-}
-
-/// What stands before the character behind this one.
-#[tactic(auto, unfolding(crate::specs::Closing::before_next))]
-fn before_next(before: Before, c: char) -> Before
-    ensures { result ≡ spec.before_next before c }
+/// Whether a character closes, by whether it is escaped, and whether one that isn't white stands before it.
+#[tactic(auto, unfolding(crate::specs::Closing::is_closing))]
+fn closes(closing: Closing, escaped: bool, dark: bool, c: char, behind: &str) -> bool
+    ensures { result ≡ (not escaped && spec.is_closing closing dark c (chars behind.now)) }
 {
-    Before {
-        escaped: escapes(c, before.escaped),
-        dark: !is_white(c),
-    }
-}
-
-/// Whether a character closes.
-#[tactic(auto, unfolding(crate::specs::Closing::closes))]
-fn closes(closing: Closing, before: Before, c: char, behind: &str) -> bool
-    ensures { result ≡ spec.closes closing before c (chars behind.now) }
-{
-    if before.escaped {
+    if escaped {
         return false;
     }
     match closing {
@@ -51,8 +35,8 @@ fn closes(closing: Closing, before: Before, c: char, behind: &str) -> bool
         Closing::QuotedColon => {
             c == '`' && begins_with(':', behind) && is_loose(skip(behind, 1))
         }
-        Closing::Bar => c == '|' && before.dark,
-        Closing::SpacedBar => c == '|' && before.dark && begins_with(' ', behind),
+        Closing::Bar => c == '|' && dark,
+        Closing::SpacedBar => c == '|' && dark && begins_with(' ', behind),
     }
 }
 
@@ -63,17 +47,16 @@ pub fn closed(closing: Closing, text: &str) -> Option<usize>
 {
     let mut rest = text;
     let mut n = 0;
-    let mut before = Before {
-        escaped: false,
-        dark: false,
-    };
-    while let Some(c) = front(rest) {
+    let mut escaped = false;
+    let mut dark = false;
+    while let Some(letter) = front(rest) {
         let behind = after_first(rest);
-        if closes(closing, before, c, behind) {
+        if closes(closing, escaped, dark, letter, behind) {
             return Some(n);
         }
         n += 1;
-        before = before_next(before, c);
+        escaped = escapes(letter, escaped);
+        dark = !is_white(letter);
         rest = behind;
     }
     None
@@ -109,7 +92,7 @@ pub fn ends_in_colons(text: &str) -> bool
 
 /// Whether a character and what is behind it are two colons.
 fn is_colon_pair(escaped: bool, c: char, behind: &str) -> bool
-    ensures { result ≡ spec.is_colon_pair escaped c (chars behind.now) }
+    ensures { result ≡ (not escaped && (c == 58 && (fronts.begins_with 58 (chars behind.now) && block.is_blank (drop 1 (chars behind.now))))) }
 {
     !escaped && c == ':' && begins_with(':', behind) && is_blank(skip(behind, 1))
 }

@@ -1,30 +1,43 @@
-use Rattle.std.proofs.Common.{◌<◌, length, arith, rules}
+use Rattle.std.proofs.Common.{◌≡◌, ◌<◌, ◌&&◌, true, false, not, length, drop, Some, None, arith, rules, refl, ap, sym, ◌∙◌}
 use Rattle.std.specs.Str.{chars}
-use Rattle.rst_marks.proofs.Steps.{closed_more, closed_stop, closed_end, closed_start}
+use Rattle.std.proofs.lemmas.List.{drop-drop}
+use Rattle.rst_text.proofs.PlacesLemmas.{NoneFrom-more}
+use Rattle.rst_pieces.specs.Escapes.{is_escaped}
+use Rattle.rst_marks.specs.Closing.{is_closing, closes}
+use Rattle.rst_marks.proofs.ClosingLemmas.{closes-here, escaped-next, dark-next, closed-is, past-end}
+use Rattle.rst_marks.proofs.SimpleNames.{inside}
 use Rattle.rst_marks.proofs.closing.closed.Goals as goal
 
-pub loop-c-init : goal.loop-c-init
-loop-c-init c = record { text = search rules; value = closed_start _ _ _; within = omega arith }
+pub loop-letter-init : goal.loop-letter-init
+unfolding is_escaped
+loop-letter-init c = record { text = search rules; place = refl; escaped = refl; dark = refl; none = λ k low high. absurd (omega arith); within = omega arith }
 
-pub loop-c-smaller : goal.loop-c-smaller
-loop-c-smaller c = c.after_first-behind.ensures.shorter (search rules)
+pub loop-letter-smaller : goal.loop-letter-smaller
+loop-letter-smaller c = c.after_first-behind.ensures.shorter (search rules)
 
-pub loop-c-preserved : goal.loop-c-preserved
-loop-c-preserved c =
-    let short : length c.after_first-behind.result.now < length c.loop-c.rest.now = c.after_first-behind.ensures.shorter (search rules) in
-    let value = closed_more c.args.closing c.loop-c.before (chars c.loop-c.rest.now) c.in-Some.c c.loop-c.n _ (cc) (cc) c.loop-c.invariant.value in
+pub loop-letter-preserved : goal.loop-letter-preserved
+loop-letter-preserved c =
+    let short : length c.after_first-behind.result.now < length c.loop-letter.rest.now = c.after_first-behind.ensures.shorter (search rules) in
+    let at = c.loop-letter.invariant.place in
+    let here = closes-here c.args.closing (chars c.args.text.now) (chars c.loop-letter.rest.now) c.in-Some.letter c.loop-letter.n c.loop-letter.escaped c.loop-letter.dark at (cc) c.loop-letter.invariant.escaped c.loop-letter.invariant.dark in
+    let fails : (not c.loop-letter.escaped && is_closing c.args.closing c.loop-letter.dark c.in-Some.letter (drop 1 (chars c.loop-letter.rest.now))) ≡ false = rw c.after_first-behind.ensures.value at (sym c.closes.ensures ∙ c.if-closes.false) in
     record {
       text = search rules;
-      value = cc;
+      place = sym (drop-drop 1 c.loop-letter.n (chars c.args.text.now)) ∙ ap (drop 1) at ∙ sym c.after_first-behind.ensures.value;
+      escaped = c.escapes-escaped.ensures ∙ escaped-next (chars c.args.text.now) (chars c.loop-letter.rest.now) c.in-Some.letter c.loop-letter.n c.loop-letter.escaped at (cc) c.loop-letter.invariant.escaped;
+      dark = ap not c.is_white-dark.ensures ∙ dark-next (chars c.args.text.now) (chars c.loop-letter.rest.now) c.in-Some.letter c.loop-letter.n at (cc);
+      none = NoneFrom-more (closes c.args.closing (chars c.args.text.now)) 0 c.loop-letter.n c.loop-letter.invariant.none (λ low. here ∙ fails);
       within = omega arith;
     }
 
 pub returns-then-closes-clause-value : goal.returns-then-closes-clause-value
-returns-then-closes-clause-value c = closed_stop c.args.closing c.loop-c.before (chars c.loop-c.rest.now) c.in-Some.c c.loop-c.n _ (cc) (cc) c.loop-c.invariant.value
-
-pub returns-then-closes-clause-within : goal.returns-then-closes-clause-within
-returns-then-closes-clause-within c =
-    let short : length c.after_first-behind.result.now < length c.loop-c.rest.now = c.after_first-behind.ensures.shorter (search rules) in omega arith
+returns-then-closes-clause-value c =
+    let at = c.loop-letter.invariant.place in
+    let here = closes-here c.args.closing (chars c.args.text.now) (chars c.loop-letter.rest.now) c.in-Some.letter c.loop-letter.n c.loop-letter.escaped c.loop-letter.dark at (cc) c.loop-letter.invariant.escaped c.loop-letter.invariant.dark in
+    let holds : (not c.loop-letter.escaped && is_closing c.args.closing c.loop-letter.dark c.in-Some.letter (drop 1 (chars c.loop-letter.rest.now))) ≡ true = rw c.after_first-behind.ensures.value at (sym c.closes.ensures ∙ c.if-closes.true) in
+    closed-is c.args.closing (chars c.args.text.now) (Some c.loop-letter.n) (omega arith, inside (chars c.args.text.now) (chars c.loop-letter.rest.now) c.in-Some.letter c.loop-letter.n at (cc), here ∙ holds, c.loop-letter.invariant.none)
 
 pub returns-clause-value : goal.returns-clause-value
-returns-clause-value c = closed_end c.args.closing c.loop-c.before (chars c.loop-c.rest.now) c.loop-c.n _ (cc) c.loop-c.invariant.value
+returns-clause-value c =
+    let past = past-end (chars c.args.text.now) (chars c.loop-letter.rest.now) c.loop-letter.n c.loop-letter.invariant.place (cc) in
+    closed-is c.args.closing (chars c.args.text.now) None (λ k low high. c.loop-letter.invariant.none k low (omega (arith, past)))

@@ -1,17 +1,21 @@
-use Rattle.std.proofs.Common.{◌≡◌, ◌+◌, ◌≤◌, length}
-use Rattle.std.specs.Prelude.{option_map}
+use Rattle.std.proofs.Common.{◌≡◌, ◌+◌, ◌≤◌, length, drop}
 use denote.Shadow.{shadow}
 use denote.Text.{Utf8}
 use Rattle.std.specs.Str.{chars}
-use Rattle.rst_marks.specs.Closing.{closed, closed_from}
+use Rattle.rst_text.specs.Places.{NoneFrom}
+use Rattle.rst_pieces.specs.Escapes.{is_escaped}
+use Rattle.rst_marks.specs.Closing.{is_behind_dark, closes}
 use Rattle.rst_marks.proofs.closing.closed.Given as goal
 
-abbrev pub invariant-loop-c : goal.invariant-loop-c
-invariant-loop-c l = record {
+abbrev pub invariant-loop-letter : goal.invariant-loop-letter
+invariant-loop-letter l = record {
   text : shadow (Utf8 l.rest);
-  value : option_map (λ m. l.n + m) (closed_from l.closing l.before (chars l.rest)) ≡ closed l.closing (chars l.text);
+  place : drop l.n (chars l.text) ≡ chars l.rest;
+  escaped : l.escaped ≡ is_escaped (chars l.text) 0 l.n;
+  dark : l.dark ≡ is_behind_dark (chars l.text) l.n;
+  none : NoneFrom (closes l.closing (chars l.text)) 0 l.n;
   within : l.n + length l.rest ≤ length l.text;
 }
 
-abbrev pub decreases-loop-c : goal.decreases-loop-c
-decreases-loop-c l = length l.rest
+abbrev pub decreases-loop-letter : goal.decreases-loop-letter
+decreases-loop-letter l = length l.rest
