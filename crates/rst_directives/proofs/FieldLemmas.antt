@@ -2,31 +2,32 @@
 use Rattle.std.proofs.Common.{◌≡◌, ℕ, suc, zero, ◌+◌, ◌-◌, ◌<◌, ◌≤◌, length-drop, true, false, List, [], ◌∷◌, ◌++◌, take, drop, length, get_or, Option, Some, None, refl, sym, ap, ◌∙◌, inl, inr, arith}
 use Rattle.std.specs.declared.vec.Vec.{Vec}
 use Rattle.rst_text.proofs.PlacesLemmas.{cases_bool}
+use Rattle.rst_marks.specs.Front.{begins_with}
 use Rattle.rst_directives.specs.Characters.{Text}
 use Rattle.rst_directives.specs.Lines.{texts_of}
-use Rattle.rst_directives.specs.Options.{begins_space, deep_len, FieldText, field_in, onto_fields, fields_from}
+use Rattle.rst_directives.specs.Options.{deep_len, FieldText, field_in, onto_fields, fields_from}
 
 -- fields, and those that come behind them if these are right
 abbrev pub behind_fields : List FieldText → Option (List FieldText) → Option (List FieldText)
 behind_fields done (Some more) = Some (done ++ more)
 behind_fields done None = None
 
-deep-here : (t : Text) (ts : List Text) → begins_space t ≡ true → deep_len (t ∷ ts) ≡ suc (deep_len ts)
+deep-here : (t : Text) (ts : List Text) → begins_with 32 t ≡ true → deep_len (t ∷ ts) ≡ suc (deep_len ts)
 deep-here t ts h = rw h refl
 
-deep-none : (t : Text) (ts : List Text) → begins_space t ≡ false → deep_len (t ∷ ts) ≡ 0
+deep-none : (t : Text) (ts : List Text) → begins_with 32 t ≡ false → deep_len (t ∷ ts) ≡ 0
 deep-none t ts h = rw h refl
 
-fields-deep : (t : Text) (ts : List Text) → begins_space t ≡ true → fields_from true (t ∷ ts) ≡ fields_from true ts
+fields-deep : (t : Text) (ts : List Text) → begins_with 32 t ≡ true → fields_from true (t ∷ ts) ≡ fields_from true ts
 fields-deep t ts h = rw h refl
 
-fields-flat : (t : Text) (ts : List Text) → begins_space t ≡ false → fields_from true (t ∷ ts) ≡ fields_from false (t ∷ ts)
+fields-flat : (t : Text) (ts : List Text) → begins_with 32 t ≡ false → fields_from true (t ∷ ts) ≡ fields_from false (t ∷ ts)
 fields-flat t ts h = rw h refl
 
 -- indented lines below a field are passed over
 pub deep-skip : (ts : List Text) → fields_from true ts ≡ fields_from false (drop (deep_len ts) ts)
 deep-skip [] = refl
-deep-skip (t ∷ ts) = elim (cases_bool (begins_space t)) [
+deep-skip (t ∷ ts) = elim (cases_bool (begins_with 32 t)) [
   | inl h ↦ fields-deep t ts h ∙ deep-skip ts ∙ sym (ap (λ n. fields_from false (drop n (t ∷ ts))) (deep-here t ts h))
   | inr h ↦ fields-flat t ts h ∙ sym (ap (λ n. fields_from false (drop n (t ∷ ts))) (deep-none t ts h))
 ]

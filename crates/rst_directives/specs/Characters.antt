@@ -1,26 +1,19 @@
 -- Characters and words, the words without regard to case where directives and options are named (Markup Specification,
 -- 'Directives').
-use Rattle.std.specs.Prelude.{ℕ, suc, Bool, ◌&&◌, ◌==◌, nat_lt, nat_le, List, [], ◌∷◌, map, slice_index, length, if◌then◌else◌}
+use Rattle.std.specs.Prelude.{ℕ, Bool, ◌==◌, List, map}
 use Rattle.std.specs.Char.{to_ascii_lowercase}
 use Rattle.std.specs.List.{list_any}
 use Rattle.std.specs.Str.{bytes_eq}
+use Rattle.rst_marks.specs.Class.{run}
+use Rattle.rst_marks.specs.declared.class.Class.TheVariants.{Digit}
 
 -- a text: the list of its characters
 abbrev pub Text : Type 0
 Text = List ℕ
 
--- 0 to 9
-unfoldable pub is_digit : ℕ → Bool
-is_digit c = nat_le 48 c && nat_le c 57
-
--- the character stands at the place
-abbrev pub has : Text → ℕ → ℕ → Bool
-has t i c = nat_lt i (length t) && slice_index t i == c
-
 -- how many digits a text begins with
 abbrev pub digits : Text → ℕ
-digits [] = 0
-digits (c ∷ cs) = if is_digit c then suc (digits cs) else 0
+digits t = run Digit t
 
 -- A text is the word. What `bytes_eq` of the standard library compares here and below are lists of characters.
 unfoldable pub is_exactly : Text → List ℕ → Bool

@@ -1,8 +1,9 @@
 -- Measures, scales and alignments (Directives, 'Image', 'Figure').
 use Rattle.std.specs.Prelude.{ℕ, ◌+◌, Bool, not, ◌&&◌, ◌||◌, ◌==◌, nat_lt, [], ◌∷◌, ◌++◌, take, drop, length, codes, Option, Some, None, if◌then◌else◌}
 use Rattle.rst_text.specs.Block.{indentation, is_blank}
+use Rattle.rst_pieces.specs.Characters.{has}
 use Rattle.rst_marks.specs.Decimal.{decimal}
-use Rattle.rst_directives.specs.Characters.{Text, has, digits, is_exactly}
+use Rattle.rst_directives.specs.Characters.{Text, digits, is_exactly}
 use Rattle.rst_directives.specs.declared.measure.Measure.{Measure}
 use Rattle.rst_directives.specs.declared.measure.Alignment.{Alignment}
 use Rattle.rst_directives.specs.declared.measure.Alignment.TheVariants.{Top, Middle, Bottom, Left, Center, Right}

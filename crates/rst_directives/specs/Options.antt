@@ -4,6 +4,7 @@ use Rattle.std.specs.List.{join_with_byte}
 use Rattle.std.specs.declared.vec.Vec.{Vec}
 use Rattle.rst_text.specs.Block.{indentation}
 use Rattle.rst_marks.specs.Field.{field_of}
+use Rattle.rst_marks.specs.Front.{begins_with}
 use Rattle.rst_marks.specs.declared.field.FieldMark.{FieldMark}
 use Rattle.rst_directives.specs.Characters.{Text, is_same_word}
 use Rattle.rst_directives.specs.Name.{has_option}
@@ -16,15 +17,10 @@ use Rattle.rst_directives.specs.declared.option.OptionName.{OptionName}
 use Rattle.rst_directives.specs.declared.options.Field.{Field}
 use Rattle.rst_directives.specs.declared.options.Setting.{Setting}
 
--- a text begins with a space
-abbrev pub begins_space : Text → Bool
-begins_space [] = false
-begins_space (c ∷ cs) = c == 32
-
 -- how many lines at the front begin with a space
 abbrev pub deep_len : List Text → ℕ
 deep_len [] = 0
-deep_len (t ∷ ts) = if begins_space t then suc (deep_len ts) else 0
+deep_len (t ∷ ts) = if begins_with 32 t then suc (deep_len ts) else 0
 
 -- the least indentation of lines, and of n
 abbrev pub least_with : ℕ → List Text → ℕ
@@ -71,7 +67,7 @@ onto_fields None fs = None
 -- the fields of lines, where a field stands above or none does
 abbrev pub fields_from : Bool → List Text → Option (List FieldText)
 fields_from inside [] = Some []
-fields_from inside (t ∷ ts) = if inside && begins_space t then fields_from true ts else onto_fields (field_in t (take (deep_len ts) ts)) (fields_from true ts)
+fields_from inside (t ∷ ts) = if inside && begins_with 32 t then fields_from true ts else onto_fields (field_in t (take (deep_len ts) ts)) (fields_from true ts)
 
 -- the fields of lines, if each line begins a field or is indented below one
 unfoldable pub fields_in : List Text → Option (List FieldText)

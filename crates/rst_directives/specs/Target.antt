@@ -1,13 +1,14 @@
 -- What the text of a target means (Markup Specification, 'Hyperlink Targets').
-use Rattle.std.specs.Prelude.{ℕ, ◌-◌, Bool, not, ◌&&◌, ◌==◌, nat_lt, nat_le, List, [], ◌∷◌, map, filter, take, drop, slice_index, slice_range, length, Option, Some, None, if◌then◌else◌}
+use Rattle.std.specs.Prelude.{ℕ, ◌-◌, Bool, not, ◌&&◌, ◌==◌, nat_lt, nat_le, List, [], ◌∷◌, map, filter, take, drop, slice_range, length, Option, Some, None, if◌then◌else◌}
 use Rattle.std.specs.List.{join_with_byte}
 use Rattle.rst_text.specs.Block.{indentation, is_blank}
 use Rattle.rst_text.specs.Lines.{onto_first}
 use Rattle.rst_text.specs.Characters.{is_white}
 use Rattle.rst_text.specs.Text.{chars_of}
+use Rattle.rst_pieces.specs.Characters.{has, is_dark}
 use Rattle.rst_pieces.specs.Escapes.{unescaped}
 use Rattle.rst_pieces.specs.Names.{is_simple_name}
-use Rattle.rst_directives.specs.Characters.{Text, has}
+use Rattle.rst_directives.specs.Characters.{Text}
 use Rattle.rst_directives.specs.Escapes.{ends_escaping, has_bare_backquote}
 use Rattle.rst_directives.specs.declared.target.Target.{Target}
 use Rattle.rst_directives.specs.declared.target.Target.TheVariants.{Name, Uri}
@@ -39,13 +40,9 @@ target_text t = join_with_byte 10 (filled (map unindented (lines_in t)))
 unfoldable pub is_simple_reference : Text → Bool
 is_simple_reference t = nat_lt 0 (length t) && (has t (length t - 1) 95 && is_simple_name (take (length t - 1) t))
 
--- a character that isn't white stands at the place
-abbrev pub has_dark : Text → ℕ → Bool
-has_dark t i = nat_lt i (length t) && not (is_white (slice_index t i))
-
 -- it isn't empty, white stands at neither end, and each backquote in it is escaped
 unfoldable pub is_phrase : Text → Bool
-is_phrase t = has_dark t 0 && (has_dark t (length t - 1) && not (has_bare_backquote t))
+is_phrase t = is_dark t 0 && (is_dark t (length t - 1) && not (has_bare_backquote t))
 
 -- a text without its first character and its last two
 unfoldable pub phrase_in : Text → Text

@@ -3,26 +3,22 @@ ghost use Rattle.std.specs.Prelude.{◌≡◌, ◌≤◌, IfOk, drop, length};
 ghost use Rattle.std.specs.Str.{chars};
 ghost use Rattle.rst_text.specs.Block.{indentation, is_blank};
 ghost use Rattle.rst_text.specs.Text.{chars_of};
+ghost use Rattle.rst_marks.specs.Class.{is_in};
+ghost use Rattle.rst_marks.specs.declared.class.Class.TheVariants.{Digit};
 ghost use Rattle.rst_directives.specs.Characters as spec;
 
 use std::alloc::{AllocError, Global};
 
 /// Whether a character is one of the digits 0 to 9.
-#[tactic(auto, unfolding(crate::specs::Characters::is_digit))]
-pub(crate) fn is_digit(c: char) -> bool
-    ensures { result ≡ spec.is_digit c }
+#[tactic(auto, unfolding(rst_marks::specs::Class::is_in))]
+fn is_digit(c: char) -> bool
+    ensures { result ≡ is_in Digit c }
 {
     c.is_ascii_digit()
 }
 
-/// Whether a character stands at a place.
-pub(crate) fn has(text: &[char], place: usize, c: char) -> bool
-    ensures { result ≡ spec.has text.now place c }
-{
-    text.get(place) == Some(&c)
-}
-
 /// How many digits a text begins with.
+#[tactic(auto, unfolding(rst_marks::specs::Class::run))]
 pub(crate) fn digits(text: &[char]) -> usize
     ensures value { result ≡ spec.digits text.now }
     ensures within { result ≤ length text.now }

@@ -3,8 +3,9 @@ ghost use Rattle.std.specs.Prelude.{◌≡◌, ◌+◌, ◌*◌, ◌<◌, ◌≤
 ghost use Rattle.rst_marks.specs.Decimal.{spelled};
 ghost use Rattle.rst_directives.specs.Measure as spec;
 
-use super::characters::{digits, has, is_exactly, spaces};
+use super::characters::{digits, is_exactly, spaces};
 use rst_marks::digit;
+use rst_pieces::has;
 use std::alloc::{AllocError, Global};
 
 /// Where an image or a figure stands.

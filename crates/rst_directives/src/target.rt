@@ -6,9 +6,9 @@ ghost use Rattle.rst_pieces.specs.Escapes.{unescaped};
 ghost use Rattle.rst_directives.specs.Escapes as escapes;
 ghost use Rattle.rst_directives.specs.Target as spec;
 
-use super::characters::{has, text_from};
+use super::characters::text_from;
 use super::fault::MarkupFault;
-use rst_pieces::{escapes, is_simple_name, unescaped};
+use rst_pieces::{escapes, has, is_dark, is_simple_name, unescaped};
 use rst_text::{characters_of, is_white};
 use std::alloc::{AllocError, Global};
 
@@ -149,17 +149,7 @@ fn is_phrase_reference(text: &[char]) -> bool
 fn is_phrase(text: &[char]) -> bool
     ensures { result ≡ spec.is_phrase text.now }
 {
-    has_dark(text, 0) && (has_dark(text, text.len() - 1) && !has_bare_backquote(text))
-}
-
-/// Whether a character that isn't white stands at a place.
-fn has_dark(text: &[char], place: usize) -> bool
-    ensures { result ≡ spec.has_dark text.now place }
-{
-    match text.get(place) {
-        Some(c) => !is_white(*c),
-        None => false,
-    }
+    is_dark(text, 0) && (is_dark(text, text.len() - 1) && !has_bare_backquote(text))
 }
 
 /// Whether a backquote in a text isn't escaped.

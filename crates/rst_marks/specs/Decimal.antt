@@ -1,9 +1,11 @@
 -- Decimal numbers (Markup Specification, 'Enumerated Lists').
-use Rattle.std.specs.Prelude.{ℕ, ◌+◌, ◌-◌, ◌*◌, ◌^◌, ◌&&◌, nat_le, List, [], ◌∷◌, length, take, if◌then◌else◌}
+use Rattle.std.specs.Prelude.{ℕ, ◌+◌, ◌-◌, ◌*◌, ◌^◌, List, [], ◌∷◌, length, take, if◌then◌else◌}
+use Rattle.rst_marks.specs.Class.{is_in}
+use Rattle.rst_marks.specs.declared.class.Class.TheVariants.{Digit}
 
 -- the value of an ASCII digit; of another character it is 0
 abbrev pub digit : ℕ → ℕ
-digit c = if nat_le 48 c && nat_le c 57 then c - 48 else 0
+digit c = if is_in Digit c then c - 48 else 0
 
 -- the number that digits spell: each counts ten times as much as it would one place further on
 unfoldable pub spelled : List ℕ → ℕ

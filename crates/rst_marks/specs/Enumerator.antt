@@ -1,5 +1,6 @@
 -- Enumerators (Markup Specification, 'Enumerated Lists').
 use Rattle.std.specs.Prelude.{ℕ, ◌+◌, ◌-◌, Bool, true, false, ◌&&◌, ◌||◌, ◌==◌, nat_le, nat_lt, not, unwrap_or, List, drop, if◌then◌else◌, Option, None, Some}
+use Rattle.rst_pieces.specs.Tails.{or_else}
 use Rattle.rst_marks.specs.Front.{first, begins_with}
 use Rattle.rst_marks.specs.Class.{run}
 use Rattle.rst_marks.specs.Decimal.{decimal}
@@ -51,11 +52,6 @@ letters_by c n t =
 -- a single letter, which may be a Roman numeral as well, or a Roman numeral
 unfoldable pub letters : List ℕ → Option Written
 letters t = if_some (first t) (λ c. letters_by c (run Letter t) t)
-
--- the first of two, or the second where the first is missing
-abbrev pub or_else : {A : Type 0} → Option A → Option A → Option A
-or_else None b = b
-or_else (Some a) b = Some a
 
 -- the ordinal at the front of a text: `#`, digits, a letter or a Roman numeral
 unfoldable pub written_at : List ℕ → Option Written

@@ -1,5 +1,6 @@
 -- Option markers (Markup Specification, 'Option Lists').
-use Rattle.std.specs.Prelude.{ℕ, zero, suc, ◌+◌, ◌-◌, Bool, false, not, ◌&&◌, ◌||◌, ◌==◌, nat_le, List, [], ◌∷◌, drop, if◌then◌else◌, Option, None, Some}
+use Rattle.std.specs.Prelude.{ℕ, zero, suc, ◌+◌, ◌-◌, Bool, false, not, ◌&&◌, ◌||◌, ◌==◌, List, [], ◌∷◌, drop, if◌then◌else◌, Option, None, Some}
+use Rattle.std.specs.Char.{is_ascii_alphanumeric}
 use Rattle.rst_text.specs.Characters.{is_letter}
 use Rattle.rst_marks.specs.Front.{begins_with}
 use Rattle.rst_marks.specs.Class.{run}
@@ -16,7 +17,7 @@ use Rattle.rst_marks.specs.Marker.{marker_of}
 -- a text begins with a digit or a letter of ASCII
 abbrev pub begins_ascii_alphanumeric : List ℕ → Bool
 begins_ascii_alphanumeric [] = false
-begins_ascii_alphanumeric (c ∷ cs) = (nat_le 48 c && nat_le c 57) || ((nat_le 65 c && nat_le c 90) || (nat_le 97 c && nat_le c 122))
+begins_ascii_alphanumeric (c ∷ cs) = is_ascii_alphanumeric c
 
 -- a text begins with a letter
 abbrev pub begins_letter : List ℕ → Bool

@@ -6,6 +6,7 @@ ghost use Rattle.rst_marks.specs.Decimal as spec;
 use super::text::{after_first, front};
 
 /// The value of an ASCII digit; of another character it is 0.
+#[tactic(auto, unfolding(crate::specs::Class::is_in))]
 pub fn digit(c: char) -> u64
     ensures value { result ≡ spec.digit c }
     ensures small { result ≤ 9 }

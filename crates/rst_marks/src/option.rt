@@ -36,7 +36,7 @@ fn begins_ascii_alphanumeric(text: &str) -> bool
     ensures { result ≡ spec.begins_ascii_alphanumeric (chars text.now) }
 {
     match front(text) {
-        Some(c) => matches!(c, '0'..='9' | 'A'..='Z' | 'a'..='z'),
+        Some(c) => c.is_ascii_alphanumeric(),
         None => false,
     }
 }
