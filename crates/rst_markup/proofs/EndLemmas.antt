@@ -16,7 +16,7 @@ use Rattle.rst_marks.specs.declared.marker.Marker.{Marker}
 use Rattle.rst_marks.specs.declared.enumerator.Enumerator.{Enumerator}
 use Rattle.rst_markup.specs.declared.form.TextForm.{TextForm}
 use Rattle.rst_markup.specs.Forms.{text_form}
-use Rattle.rst_markup.specs.Kinds.{next_text}
+use Rattle.rst_markup.specs.Conditions.{next_text}
 use Rattle.rst_markup.specs.declared.form.TextForm.TheVariants.{Paragraph, ShortUnderline, Definition, Title}
 use Rattle.rst_marks.specs.Closing.{ends_in_colons}
 use Rattle.rst_marks.specs.Adornment.{adornment_of}

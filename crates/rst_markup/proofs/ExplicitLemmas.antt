@@ -1,18 +1,13 @@
 -- Explicit markup: its parts stand in its block, and it ends where its size says.
 use Rattle.std.proofs.Common.{◌≡◌, ℕ, suc, ◌+◌, ◌-◌, ◌^◌, ◌<◌, ◌≤◌, Bool, true, false, cond, ◌&&◌, ◌||◌, List, [], ◌∷◌, min, length, take, drop, length-drop, Option, None, Some, arith, refl, sym, ap, ◌∙◌, leb, zero}
-use Rattle.std.specs.Prelude.{is_some, IsTrue}
 use Rattle.std.proofs.lemmas.Bool.{le-leb}
 use Rattle.rst_text.specs.Block.{Block, front_text, is_blank, indentation}
 use Rattle.rst_text.proofs.CutLaws.{take_of}
 use Rattle.rst_text.specs.Extent.{extent}
+use Rattle.rst_text.specs.Reach.{reach}
 use Rattle.rst_text.specs.MayCut.{is_indented}
-use Rattle.rst_text.proofs.Indented.{is_indented-drop, is_indented-take, is_indented-least, is_indented-rest}
-use Rattle.rst_marks.specs.ExplicitMarks.{dots, underscores, label_of, target_of as target_mark, substitution_of as substitution_mark, directive_of}
-use Rattle.rst_marks.specs.Front.{begins_with}
-use Rattle.rst_marks.specs.Marker.{bullet, doctest, line_bar}
-use Rattle.rst_marks.specs.Field.{field_of}
-use Rattle.rst_marks.specs.Border.{is_grid_border, is_simple_border}
-use Rattle.rst_marks.specs.Adornment.{adornment_of}
+use Rattle.rst_text.proofs.Indented.{is_indented-drop, is_indented-take, is_indented-least}
+use Rattle.rst_marks.specs.ExplicitMarks.{dots, underscores, label_of, target_of, substitution_of, directive_of}
 use Rattle.rst_marks.specs.declared.explicit_marks.DirectiveMark.{DirectiveMark}
 use Rattle.rst_marks.specs.declared.explicit_marks.LabelKind.{LabelKind}
 use Rattle.rst_marks.specs.declared.explicit_marks.LabelKind.TheVariants.{Footnote as FootnoteLabel, Citation as CitationLabel}
@@ -23,21 +18,21 @@ use Rattle.rst_marks.specs.declared.explicit_marks.TargetMark.{TargetMark}
 use Rattle.rst_marks.specs.declared.explicit_marks.TargetMark.TheVariants.{Named, Anonymous as AnonymousMark}
 use Rattle.rst_marks.specs.declared.marker.Marker.{Marker}
 use Rattle.rst_marks.specs.declared.place.Characters.{Characters}
-use Rattle.rst_markup.specs.Explicit.{is_explicit_kind, place_of, target_part, call_of, call_by, held_of, labelled, target_of, substitution_of, explicit_by, dots_alone, behind_dots, cut_of, anonymous_of, explicit_with, explicit_of, form_size, size_alone, size_behind_dots, explicit_size_by, explicit_size, explicit_end, IsHeld, IsExplicitIn, IsTargetShort}
-use Rattle.rst_markup.specs.ExplicitMarkup.{explicit_form, or_target, or_substitution, or_directive, or_comment, comment_cause, hanging_part, least_of}
-use Rattle.rst_markup.specs.Kinds.{next_text, kind_by, later_kind, item_enumerator, item_option}
+use Rattle.rst_markup.specs.Explicit.{place_of, target_part, call_of, call_by, held_of, label_with, substitution_with, explicit_by, dots_alone, behind_dots, cut_of, anonymous_of, explicit_with, explicit_of, explicit_size, explicit_end, IsHeld, IsExplicitIn, IsTargetShort}
+use Rattle.rst_markup.specs.ExplicitMarkup.{explicit_form, or_target, or_substitution, or_directive, or_comment, hanging_part, least_of}
+use Rattle.rst_markup.specs.Conditions.{next_text}
 use Rattle.rst_markup.specs.Lines.{lines_while}
 use Rattle.rst_markup.specs.Parts.{IsBlock, IsPlace, IsCall}
-use Rattle.rst_markup.specs.RowLaws.{extent_le, below_le, while_le}
+use Rattle.rst_markup.specs.RowLaws.{below_le, while_le}
 use Rattle.rst_markup.specs.Sizes.{hanging_size, indented_size, run_size}
 use Rattle.rst_markup.specs.declared.explicit_markup.ExplicitForm.{ExplicitForm}
 use Rattle.rst_markup.specs.declared.explicit_markup.ExplicitForm.TheVariants.{Label, Target as TargetForm, Substitution as SubstitutionForm, Directive as DirectiveForm, Comment as CommentForm}
+use Rattle.rst_markup.specs.declared.forms.CommentCause.{CommentCause}
 use Rattle.rst_markup.specs.declared.forms.CommentCause.TheVariants.{Plain}
 use Rattle.rst_markup.specs.declared.forms.Explicit.{Explicit}
 use Rattle.rst_markup.specs.declared.forms.Explicit.TheVariants.{Comment, EmptyComment, Substitution}
 use Rattle.rst_markup.specs.declared.forms.Invocation.{Invocation}
 use Rattle.rst_markup.specs.declared.lines.LineTest.TheVariants.{Blank, Indented}
-use Rattle.rst_markup.specs.declared.kind.Kind.TheVariants.{Blank as BlankKind, Quote, Bullet, Enumerator as EnumeratorKind, Field, OptionItem, Doctest, Line, Grid, Simple, Explicit as ExplicitKind, Anonymous as AnonymousKind, Adornment, Text}
 use Rattle.rst_markup.specs.declared.part.Part.{Part}
 use Rattle.rst_markup.proofs.LineLemmas.{drop_one, drop_far}
 use Rattle.rst_markup.proofs.PartLemmas.{hanging_is}
@@ -55,18 +50,18 @@ within_directive : (t : List ℕ) (o : Option DirectiveMark) → directive_of tr
 within_directive t None e = tt
 within_directive t (Some d) e = directive_within true t d e
 
-within_substitution : (t : List ℕ) (o : Option SubstitutionMark) → substitution_mark t ≡ o → FormWithin t (or_directive o t)
+within_substitution : (t : List ℕ) (o : Option SubstitutionMark) → substitution_of t ≡ o → FormWithin t (or_directive o t)
 within_substitution t None e = within_directive t (directive_of true t) refl
 within_substitution t (Some (NamedSubstitution n m)) e = substitution_within t n m e
 within_substitution t (Some Unclosed) e = within_directive t (directive_of true t) refl
 within_substitution t (Some Tight) e = within_directive t (directive_of true t) refl
 
-within_target : (t : List ℕ) (o : Option TargetMark) → target_mark t ≡ o → FormWithin t (or_substitution o t)
-within_target t None e = within_substitution t (substitution_mark t) refl
+within_target : (t : List ℕ) (o : Option TargetMark) → target_of t ≡ o → FormWithin t (or_substitution o t)
+within_target t None e = within_substitution t (substitution_of t) refl
 within_target t (Some m) e = target_within t m e
 
 within_label : (t : List ℕ) (o : Option LabelMark) → label_of t ≡ o → FormWithin t (or_target o t)
-within_label t None e = within_target t (target_mark t) refl
+within_label t None e = within_target t (target_of t) refl
 within_label t (Some l) e = label_within t l e
 
 pub form_within : (t : List ℕ) → FormWithin t (explicit_form t)
@@ -166,15 +161,15 @@ held_in : (B : Block) (i n : ℕ) → i < length B → n ≤ length (front_text 
 unfolding held_of
 held_in B i n h s = held_by B i n (directive_of false (drop n (front_text (drop i B)))) h s refl
 
-labelled_in : (B : Block) (i : ℕ) (k : LabelKind) (label : Characters) (body : Part) → IsPlace (front_text (drop i B)) label → IsBlock B body → IsExplicitIn B i (labelled k label body)
-labelled_in B i FootnoteLabel label body p b = (p, b)
-labelled_in B i CitationLabel label body p b = (p, b)
+label_in : (B : Block) (i : ℕ) (k : LabelKind) (label : Characters) (body : Part) → IsPlace (front_text (drop i B)) label → IsBlock B body → IsExplicitIn B i (label_with k label body)
+label_in B i FootnoteLabel label body p b = (p, b)
+label_in B i CitationLabel label body p b = (p, b)
 
 form_in : (B : Block) (i : ℕ) (m : Marker) (f : ExplicitForm) → i < length B → m.cut ≤ length (front_text (drop i B))
     → FormWithin (drop m.cut (front_text (drop i B))) f → IsExplicitIn B i (explicit_by f i m (drop i B))
 form_in B i m (Label l) h s w =
     let t : List ℕ = front_text (drop i B) in
-    labelled_in B i l.kind (place_of (m.cut + 1) l.len) (hanging_part i (m.cut + l.marker.cut) l.marker.bare (drop i B))
+    label_in B i l.kind (place_of (m.cut + 1) l.len) (hanging_part i (m.cut + l.marker.cut) l.marker.bare (drop i B))
     (place_in t (m.cut + 1) l.len (omega (arith, w.0, length-drop m.cut t))) (hanging_block B i (m.cut + l.marker.cut) l.marker.bare h)
 form_in B i m (TargetForm (Named from len x)) h s w =
     let t : List ℕ = front_text (drop i B) in
@@ -221,32 +216,36 @@ unfolding hanging_part
 hanging_to i cut true X = refl
 hanging_to i cut false X = refl
 
-labelled_end : (i : ℕ) (k : LabelKind) (label : Characters) (body : Part) → explicit_end i (labelled k label body) ≡ body.to
-labelled_end i FootnoteLabel label body = refl
-labelled_end i CitationLabel label body = refl
+label_end : (i : ℕ) (k : LabelKind) (label : Characters) (body : Part) → explicit_end i (label_with k label body) ≡ body.to
+label_end i FootnoteLabel label body = refl
+label_end i CitationLabel label body = refl
 
-form_end : (i : ℕ) (m : Marker) (f : ExplicitForm) (X : Block) → explicit_end i (explicit_by f i m X) ≡ i + form_size f X
+-- it ends as many lines behind its first as it does where it begins in line 0: for markup of a form
+form_end : (i : ℕ) (m : Marker) (f : ExplicitForm) (X : Block) → explicit_end i (explicit_by f i m X) ≡ i + explicit_end 0 (explicit_by f 0 m X)
 form_end i m (Label l) X =
-    labelled_end i l.kind (place_of (m.cut + 1) l.len) (hanging_part i (m.cut + l.marker.cut) l.marker.bare X) ∙ hanging_to i (m.cut + l.marker.cut) l.marker.bare X
-form_end i m (TargetForm (Named from len x)) X = refl
-form_end i m (TargetForm (AnonymousMark x)) X = refl
-form_end i m (SubstitutionForm len x) X = refl
-form_end i m (DirectiveForm d) X = hanging_to i (m.cut + d.marker.cut) d.marker.bare X
-form_end i m (CommentForm cause) X = hanging_to i m.cut false X
+    let n : ℕ = m.cut + l.marker.cut in
+    omega (arith, label_end i l.kind (place_of (m.cut + 1) l.len) (hanging_part i n l.marker.bare X), label_end 0 l.kind (place_of (m.cut + 1) l.len) (hanging_part 0 n l.marker.bare X), hanging_to i n l.marker.bare X, hanging_to 0 n l.marker.bare X)
+form_end i m (TargetForm (Named from len x)) X = omega arith
+form_end i m (TargetForm (AnonymousMark x)) X = omega arith
+form_end i m (SubstitutionForm len x) X = omega arith
+form_end i m (DirectiveForm d) X = omega (arith, hanging_to i (m.cut + d.marker.cut) d.marker.bare X, hanging_to 0 (m.cut + d.marker.cut) d.marker.bare X)
+form_end i m (CommentForm cause) X = omega (arith, hanging_to i m.cut false X, hanging_to 0 m.cut false X)
 
-alone_end : (i : ℕ) (m : Marker) (X : Block) → explicit_end i (dots_alone i m X) ≡ i + size_alone X
+-- for dots alone
+alone_end : (i : ℕ) (m : Marker) (X : Block) → explicit_end i (dots_alone i m X) ≡ i + explicit_end 0 (dots_alone 0 m X)
 alone_end i m X = by (is_blank (next_text X))
   where
-    by : (b : Bool) → explicit_end i (cond b EmptyComment (Comment (hanging_part i m.cut true X) Plain)) ≡ i + cond b 1 (hanging_size X)
-    by true = refl
-    by false = hanging_to i m.cut true X
+    by : (b : Bool) → explicit_end i (cond b EmptyComment (Comment (hanging_part i m.cut true X) Plain)) ≡ i + explicit_end 0 (cond b EmptyComment (Comment (hanging_part 0 m.cut true X) Plain))
+    by true = omega arith
+    by false = omega (arith, hanging_to i m.cut true X, hanging_to 0 m.cut true X)
 
-behind_end : (i : ℕ) (m : Marker) (X : Block) → explicit_end i (behind_dots i m X) ≡ i + size_behind_dots m X
-unfolding behind_dots size_behind_dots
+-- for what dots begin
+behind_end : (i : ℕ) (m : Marker) (X : Block) → explicit_end i (behind_dots i m X) ≡ i + explicit_end 0 (behind_dots 0 m X)
+unfolding behind_dots
 behind_end i m X = by m.bare
   where
     by : (b : Bool) → explicit_end i (cond b (dots_alone i m X) (explicit_by (explicit_form (drop m.cut (front_text X))) i m X))
-        ≡ i + cond b (size_alone X) (form_size (explicit_form (drop m.cut (front_text X))) X)
+        ≡ i + explicit_end 0 (cond b (dots_alone 0 m X) (explicit_by (explicit_form (drop m.cut (front_text X))) 0 m X))
     by true = alone_end i m X
     by false = form_end i m (explicit_form (drop m.cut (front_text X))) X
 
@@ -255,8 +254,8 @@ pub explicit_ends : (i : ℕ) (X : Block) → explicit_end i (explicit_of i X) �
 unfolding explicit_of explicit_size anonymous_of
 explicit_ends i X = by (dots (front_text X))
   where
-    by : (o : Option Marker) → explicit_end i (explicit_with o i X) ≡ i + explicit_size_by o X
-    by None = refl
+    by : (o : Option Marker) → explicit_end i (explicit_with o i X) ≡ i + explicit_end 0 (explicit_with o 0 X)
+    by None = omega arith
     by (Some m) = behind_end i m X
 
 pub explicit_ends_at : (i : ℕ) (X : Block) (x : Explicit) → x ≡ explicit_of i X → explicit_end i x ≡ i + explicit_size X
@@ -271,46 +270,21 @@ pub explicit_other : (i : ℕ) (X : Block) → dots (front_text X) ≡ None → 
 unfolding explicit_of
 explicit_other i X e = rw e refl
 
-pub size_dots : (X : Block) (m : Marker) → dots (front_text X) ≡ Some m → explicit_size X ≡ size_behind_dots m X
+pub size_dots : (X : Block) (m : Marker) → dots (front_text X) ≡ Some m → explicit_size X ≡ explicit_end 0 (behind_dots 0 m X)
 unfolding explicit_size
-size_dots X m e = rw e refl
+size_dots X m e = ap (explicit_end 0) (explicit_dots 0 X m e)
 
 pub size_other : (X : Block) → dots (front_text X) ≡ None → explicit_size X ≡ indented_size X
-unfolding explicit_size
-size_other X e = rw e refl
+unfolding explicit_size anonymous_of
+size_other X e = ap (explicit_end 0) (explicit_other 0 X e) ∙ omega arith
 
 pub indented_some : (X : Block) → 1 ≤ indented_size X
 unfolding indented_size run_size
 indented_some X = omega arith
 
--- a line of such a kind that doesn't begin with dots begins with underscores
-pub kind_underscores : (t next after : List ℕ) → is_explicit_kind (kind_by t next after) ≡ true → dots t ≡ None → is_some (underscores t) ≡ true
-unfolding kind_by later_kind
-kind_underscores t next after q e =
-    by (is_blank t) (begins_with 32 t) (is_some (bullet t)) (is_some (item_enumerator t next)) (is_some (field_of t)) (is_some (item_option t next after))
-    (is_some (doctest t)) (is_some (line_bar t)) (is_grid_border t) (is_simple_border t) (is_some (dots t)) (is_some (underscores t)) (is_some (adornment_of t))
-    (ap (λ o. is_some o) e) q
-  where
-    by : (a b c d e f g h i j k l m : Bool) → k ≡ false
-        → is_explicit_kind (cond a BlankKind (cond b Quote (cond c Bullet (cond d EnumeratorKind (cond e Field (cond f OptionItem (cond g Doctest (cond h Line (cond i Grid (cond j Simple (cond k ExplicitKind (cond l AnonymousKind (cond m Adornment Text))))))))))))) ≡ true → l ≡ true
-    by true b c d e f g h i j k l m p q = cc
-    by false true c d e f g h i j k l m p q = cc
-    by false false true d e f g h i j k l m p q = cc
-    by false false false true e f g h i j k l m p q = cc
-    by false false false false true f g h i j k l m p q = cc
-    by false false false false false true g h i j k l m p q = cc
-    by false false false false false false true h i j k l m p q = cc
-    by false false false false false false false true i j k l m p q = cc
-    by false false false false false false false false true j k l m p q = cc
-    by false false false false false false false false false true k l m p q = cc
-    by false false false false false false false false false false true l m p q = cc
-    by false false false false false false false false false false false true m p q = refl
-    by false false false false false false false false false false false false true p q = cc
-    by false false false false false false false false false false false false false p q = cc
-
 -- ---- what is read behind the dots
 pub substitution_some : (i n : ℕ) (name : Characters) (d : DirectiveMark) (call : Invocation) (X : Block) → directive_of false (drop n (front_text X)) ≡ Some d → call ≡ call_of i n d X
-    → Substitution name (Some call) call.block.to ≡ substitution_of i name n X
+    → Substitution name (Some call) call.block.to ≡ substitution_with i name n X
 unfolding held_of
 substitution_some i n name d call X e c =
     rw (e, c) (ap (λ m. Substitution name (Some (call_of i n d X)) m) (hanging_to i (n + d.marker.cut) d.marker.bare X))
@@ -318,3 +292,26 @@ substitution_some i n name d call X e c =
 pub target_short : (n : ℕ) (t : List ℕ) (mark : TargetMark) → TargetWithin (drop n t) mark → n ≤ length t → length t < 2 ^ 64 → IsTargetShort n mark
 target_short n t (Named from len m) w h s = (omega (arith, w.0, length-drop n t), omega (arith, w.1, length-drop n t))
 target_short n t (AnonymousMark m) w h s = omega (arith, w, length-drop n t)
+
+-- ---- how far the lines are looked at
+-- the end of a form that is this one
+pub end_reach : (n : ℕ) (f g : ExplicitForm) (m : Marker) (X : Block) → f ≡ g → explicit_end 0 (explicit_by g 0 m X) ≡ n → reach (explicit_end 0 (explicit_by f 0 m X)) X ≡ reach n X
+end_reach n f g m X e to = ap (λ x. reach (explicit_end 0 (explicit_by x 0 m X)) X) e ∙ ap (λ k. reach k X) to
+
+pub label_to : (l : LabelMark) (m : Marker) (X : Block) → explicit_end 0 (explicit_by (Label l) 0 m X) ≡ hanging_size X
+label_to l m X =
+    let n : ℕ = m.cut + l.marker.cut in
+    omega (arith, label_end 0 l.kind (place_of (m.cut + 1) l.len) (hanging_part 0 n l.marker.bare X), hanging_to 0 n l.marker.bare X)
+
+pub target_to : (mark : TargetMark) (m : Marker) (X : Block) → explicit_end 0 (explicit_by (TargetForm mark) 0 m X) ≡ indented_size X
+target_to (Named from len x) m X = omega arith
+target_to (AnonymousMark x) m X = omega arith
+
+pub directive_to : (d : DirectiveMark) (m : Marker) (X : Block) → explicit_end 0 (explicit_by (DirectiveForm d) 0 m X) ≡ hanging_size X
+directive_to d m X = omega (arith, hanging_to 0 (m.cut + d.marker.cut) d.marker.bare X)
+
+pub comment_to : (cause : CommentCause) (m : Marker) (X : Block) → explicit_end 0 (explicit_by (CommentForm cause) 0 m X) ≡ hanging_size X
+comment_to cause m X = omega (arith, hanging_to 0 m.cut false X)
+
+pub alone_reach : (m : Marker) (X : Block) → is_blank (next_text X) ≡ false → reach (explicit_end 0 (dots_alone 0 m X)) X ≡ reach (hanging_size X) X
+alone_reach m X e = rw e (ap (λ k. reach k X) (omega (arith, hanging_to 0 m.cut true X)))

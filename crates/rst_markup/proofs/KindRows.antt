@@ -1,28 +1,32 @@
 -- The kind of a line, row by row.
-use Rattle.std.proofs.Common.{◌≡◌, ℕ, List, refl}
+use Rattle.std.proofs.Common.{◌≡◌, ℕ, List, [], refl, ap, ◌∙◌, subst}
 use Rattle.std.specs.Prelude.{if◌then◌else◌, is_some}
-use Rattle.rst_text.specs.Block.{is_blank}
+use Rattle.rst_text.specs.Block.{Block, front_text, is_blank}
 use Rattle.rst_marks.specs.Front.{begins_with, first}
 use Rattle.rst_marks.specs.Marker.{bullet, bullet_by, doctest, line_bar}
 use Rattle.rst_marks.specs.Field.{field_of}
 use Rattle.rst_marks.specs.Border.{is_grid_border, is_simple_border}
 use Rattle.rst_marks.specs.ExplicitMarks.{dots, underscores}
 use Rattle.rst_marks.specs.Adornment.{adornment_of}
-use Rattle.rst_markup.specs.Kinds.{kind_by, later_kind, item_enumerator, item_option}
+use Rattle.rst_markup.specs.Conditions.{next_text, after_text, item_enumerator, item_option}
+use Rattle.rst_markup.specs.Kinds.{later_kinds, first_kind, kind_at}
+use Rattle.rst_markup.specs.Begun.{kind_in, three_lines, IsMarked, IsBegun}
+use Rattle.rst_markup.specs.declared.begun.Begun.{Begun}
 use Rattle.rst_markup.specs.declared.kind.Kind.TheVariants.{Blank, Quote, Bullet, Enumerator, Field, OptionItem, Doctest, Line, Grid, Simple, Explicit, Anonymous, Adornment, Text}
 
-pub kind_by_is : (t next after : List ℕ) → kind_by t next after ≡ (
+-- by the first rows of the table, and those from the doctest block on
+pub kind_at_is : (t next after : List ℕ) → kind_at (three_lines t next after) ≡ (
     if is_blank t then Blank
     else if begins_with 32 t then Quote
     else if is_some (bullet t) then Bullet
     else if is_some (item_enumerator t next) then Enumerator
     else if is_some (field_of t) then Field
     else if is_some (item_option t next after) then OptionItem
-    else later_kind t)
-unfolding kind_by
-kind_by_is t next after = refl
+    else first_kind later_kinds (three_lines t [] []))
+unfolding kind_at first_kind
+kind_at_is t next after = refl
 
-pub later_kind_is : (t : List ℕ) → later_kind t ≡ (
+pub later_kind_is : (t : List ℕ) → first_kind later_kinds (three_lines t [] []) ≡ (
     if is_some (doctest t) then Doctest
     else if is_some (line_bar t) then Line
     else if is_grid_border t then Grid
@@ -31,8 +35,25 @@ pub later_kind_is : (t : List ℕ) → later_kind t ≡ (
     else if is_some (underscores t) then Anonymous
     else if is_some (adornment_of t) then Adornment
     else Text)
-unfolding later_kind
+unfolding first_kind
 later_kind_is t = refl
+
+-- a block's kind is that of its first three lines
+kind_of_three : (X : Block) → kind_at (three_lines (front_text X) (next_text X) (after_text X)) ≡ kind_at X
+unfolding kind_at first_kind
+kind_of_three X = refl
+
+-- what begins at a line before the next two begins at the front of a block that has these
+pub begun_of : (X : Block) (t next after : List ℕ) (begun : Begun) → t ≡ front_text X → next ≡ next_text X → after ≡ after_text X
+    → kind_in begun ≡ kind_at (three_lines t next after) → IsMarked t next after begun → IsBegun X begun
+begun_of X t next after begun a b d kind mark = record {
+  kind = kind
+      ∙ ap (λ u. kind_at (three_lines u next after)) a
+      ∙ ap (λ u. kind_at (three_lines (front_text X) u after)) b
+      ∙ ap (λ u. kind_at (three_lines (front_text X) (next_text X) u)) d
+      ∙ kind_of_three X;
+  mark = subst (λ u. IsMarked u (next_text X) (after_text X) begun) a (subst (λ u. IsMarked t u (after_text X) begun) b (subst (λ u. IsMarked t next u begun) d mark));
+}
 
 pub bullet_is : (t : List ℕ) → bullet t ≡ bullet_by (first t) t
 unfolding bullet

@@ -7,9 +7,9 @@ use Rattle.rst_text.specs.Characters.{columns}
 use Rattle.rst_marks.specs.Adornment.{adornment_of}
 use Rattle.rst_marks.specs.declared.adornment.Adornment.{Adornment}
 use Rattle.rst_markup.specs.declared.form.Adorned.TheVariants.{Text, ShortOverline, ShortAdornment, Transition, Title, InvalidMarker, MissingUnderline, Mismatch, Unexpected}
-use Rattle.rst_markup.specs.Kinds.{next_text, after_text}
+use Rattle.rst_markup.specs.Conditions.{next_text, after_text}
 use Rattle.rst_markup.specs.Forms.{adorned_form, adorned_below, adorned_alone, adorned_over, overlined, overlined_by, over_title, is_same_adornment, is_whole_title}
-use Rattle.rst_markup.specs.Sizes.{adornment_size, adornment_size_by, fixed_size, size_or, third_text, text_size}
+use Rattle.rst_markup.specs.Sizes.{adornment_size, adornment_size_by, fixed_size, size_or, third_text}
 use Rattle.rst_markup.specs.Rows.{is_adornment_row, adornment_row_size}
 use Rattle.rst_markup.specs.RowLaws.{same_front, text_within}
 
@@ -105,11 +105,6 @@ form_sizes true mark X some = by (is_blank (next_text X)) refl
 pub adornment_is : (titles : Bool) (X : Block) (mark : Adornment) → adornment_of (front_text X) ≡ Some mark → adornment_size titles X ≡ size_or (fixed_size (adorned_form titles mark (next_text X) (third_text X))) X
 unfolding adornment_size
 adornment_is titles X mark e = rw e refl
-
--- any other line has the size of a text
-pub adornment_none : (titles : Bool) (X : Block) → adornment_of (front_text X) ≡ None → adornment_size titles X ≡ text_size X
-unfolding adornment_size
-adornment_none titles X e = rw e refl
 
 -- a fixed size, or that of a text, ends within the block
 or_within : (o : Option ℕ) (X : Block) → 1 ≤ length X → SizeWithin (length X) o → (1 ≤ size_or o X) × (size_or o X ≤ length X)

@@ -3,7 +3,7 @@
 use Rattle.std.specs.Prelude.{ℕ, suc, ◌+◌, ◌==◌, [], ◌∷◌, drop, if◌then◌else◌, Option, None, Some, option_map}
 use Rattle.rst_text.specs.Block.{Block, front_text, is_blank, indentation}
 use Rattle.rst_marks.specs.Attribution.{attribution_of}
-use Rattle.rst_markup.specs.Kinds.{next_text}
+use Rattle.rst_markup.specs.Conditions.{next_text}
 use Rattle.rst_markup.specs.declared.attribution.Attribution.{Attribution}
 use Rattle.rst_markup.specs.declared.part.Part.{Part}
 

@@ -1,11 +1,12 @@
 -- What begins at a line (Markup Specification, 'Body Elements').
-use Rattle.std.specs.Prelude.{◌≡◌, ℕ, List, Some}
+use Rattle.std.specs.Prelude.{◌≡◌, ℕ, List, [], ◌∷◌, Some}
 use Rattle.rst_text.specs.Block.{Block, front_text}
 use Rattle.rst_marks.specs.Adornment.{adornment_of}
 use Rattle.rst_marks.specs.Field.{field_of}
 use Rattle.rst_marks.specs.Front.{first}
 use Rattle.rst_marks.specs.Marker.{bullet, line_bar}
-use Rattle.rst_markup.specs.Kinds.{kind_at, next_text, after_text, item_enumerator, item_option}
+use Rattle.rst_markup.specs.Conditions.{next_text, after_text, item_enumerator, item_option}
+use Rattle.rst_markup.specs.Kinds.{kind_at}
 use Rattle.rst_markup.specs.declared.kind.Kind.{Kind}
 use Rattle.rst_markup.specs.declared.kind.Kind.TheVariants as kinds
 use Rattle.rst_markup.specs.declared.begun.Begun.{Begun}
@@ -37,6 +38,10 @@ IsMarked t next after (OptionItem marker) = item_option t next after ≡ Some ma
 IsMarked t next after (Line marker) = line_bar t ≡ Some marker
 IsMarked t next after (Adornment mark) = adornment_of t ≡ Some mark
 IsMarked t next after begun = Unit {0}
+
+-- a line before the next two
+abbrev pub three_lines : List ℕ → List ℕ → List ℕ → Block
+three_lines t next after = record { number = 0; text = t } ∷ record { number = 0; text = next } ∷ record { number = 0; text = after } ∷ []
 
 -- what begins at the first line of a block
 pub record IsBegun (X : Block) (begun : Begun) : Type 0 where

@@ -1,28 +1,11 @@
 -- Where what begins at a line of a kind ends, by the row of that kind (Markup Specification, 'Body Elements').
 use Rattle.std.specs.Prelude.{ℕ, Bool}
 use Rattle.rst_text.specs.Block.{Block}
-use Rattle.rst_markup.specs.ExplicitRow.{is_explicit_row, explicit_row_size}
-use Rattle.rst_markup.specs.Rows.{adornment_row_size, blank_size, bullet_row_size, doctest_row_size, enumerator_row_size, hanging_row_size, indented_row_size, is_adornment_row, is_anonymous_row, is_bar_row, is_blank_row, is_bullet_row, is_doctest_row, is_enumerator_row, is_field_row, is_option_row, is_quote_row, is_text_row, own_reach, quote_size, text_row_size}
-use Rattle.rst_markup.specs.TableRows.{grid_reach, grid_row_size, is_grid_row, is_simple_row, simple_reach, simple_row_size}
+use Rattle.rst_markup.specs.ExplicitRow.{explicit_row_size}
+use Rattle.rst_markup.specs.Rows.{adornment_row_size, blank_size, bullet_row_size, doctest_row_size, enumerator_row_size, hanging_row_size, indented_row_size, own_reach, quote_size, text_row_size}
+use Rattle.rst_markup.specs.TableRows.{grid_reach, grid_row_size, simple_reach, simple_row_size}
 use Rattle.rst_markup.specs.declared.kind.Kind.{Kind}
 use Rattle.rst_markup.specs.declared.kind.Kind.TheVariants.{Blank, Quote, Bullet, Enumerator, Field, OptionItem, Doctest, Line, Grid, Simple, Explicit, Anonymous, Adornment, Text}
-
--- the condition of a kind's row
-abbrev pub row_holds : Kind → Block → Bool
-row_holds Blank X = is_blank_row X
-row_holds Quote X = is_quote_row X
-row_holds Bullet X = is_bullet_row X
-row_holds Enumerator X = is_enumerator_row X
-row_holds Field X = is_field_row X
-row_holds OptionItem X = is_option_row X
-row_holds Doctest X = is_doctest_row X
-row_holds Line X = is_bar_row X
-row_holds Grid X = is_grid_row X
-row_holds Simple X = is_simple_row X
-row_holds Explicit X = is_explicit_row X
-row_holds Anonymous X = is_anonymous_row X
-row_holds Adornment X = is_adornment_row X
-row_holds Text X = is_text_row X
 
 -- the size of what a kind's row begins
 abbrev pub row_size : Kind → Bool → Block → ℕ

@@ -1,6 +1,6 @@
 -- Explicit markup with its extents, on a block whose first line it begins in; that line stands at place i (Markup
 -- Specification, 'Explicit Markup Blocks').
-use Rattle.std.specs.Prelude.{ℕ, ◌+◌, ◌<◌, ◌^◌, Bool, true, false, List, drop, if◌then◌else◌, Option, None, Some}
+use Rattle.std.specs.Prelude.{ℕ, ◌+◌, ◌<◌, ◌^◌, Bool, true, false, drop, if◌then◌else◌, Option, None, Some}
 use Rattle.rst_text.specs.Block.{Block, front_text, is_blank}
 use Rattle.rst_marks.specs.ExplicitMarks.{dots, underscores, directive_of}
 use Rattle.rst_marks.specs.declared.explicit_marks.DirectiveMark.{DirectiveMark}
@@ -11,7 +11,7 @@ use Rattle.rst_marks.specs.declared.explicit_marks.TargetMark.TheVariants.{Named
 use Rattle.rst_marks.specs.declared.marker.Marker.{Marker}
 use Rattle.rst_marks.specs.declared.place.Characters.{Characters}
 use Rattle.rst_markup.specs.ExplicitMarkup.{explicit_form, hanging_part}
-use Rattle.rst_markup.specs.Kinds.{next_text}
+use Rattle.rst_markup.specs.Conditions.{next_text}
 use Rattle.rst_markup.specs.Parts.{IsBlock, IsPlace, IsCall}
 use Rattle.rst_markup.specs.Sizes.{hanging_size, indented_size}
 use Rattle.rst_markup.specs.declared.explicit_markup.ExplicitForm.{ExplicitForm}
@@ -59,24 +59,24 @@ unfoldable pub held_of : ℕ → ℕ → Block → Option Invocation
 held_of i n X = call_by (directive_of false (drop n (front_text X))) i n X
 
 -- a footnote or a citation, by its label
-abbrev pub labelled : LabelKind → Characters → Part → Explicit
-labelled FootnoteLabel label body = Footnote label body
-labelled CitationLabel label body = Citation label body
+abbrev pub label_with : LabelKind → Characters → Part → Explicit
+label_with FootnoteLabel label body = Footnote label body
+label_with CitationLabel label body = Citation label body
 
 -- a target with this mark behind n characters, by its name or anonymous
-abbrev pub target_of : ℕ → ℕ → TargetMark → Block → Explicit
-target_of i n (Named from len marker) X = Target (place_of (n + from) len) (target_part i (n + marker.cut) X)
-target_of i n (AnonymousMark marker) X = Anonymous (target_part i (n + marker.cut) X)
+abbrev pub target_with : ℕ → ℕ → TargetMark → Block → Explicit
+target_with i n (Named from len marker) X = Target (place_of (n + from) len) (target_part i (n + marker.cut) X)
+target_with i n (AnonymousMark marker) X = Anonymous (target_part i (n + marker.cut) X)
 
 -- n characters stand before what the definition holds
-abbrev pub substitution_of : ℕ → Characters → ℕ → Block → Explicit
-substitution_of i name n X = Substitution name (held_of i n X) (i + hanging_size X)
+abbrev pub substitution_with : ℕ → Characters → ℕ → Block → Explicit
+substitution_with i name n X = Substitution name (held_of i n X) (i + hanging_size X)
 
 -- markup of a form, behind its dots
 abbrev pub explicit_by : ExplicitForm → ℕ → Marker → Block → Explicit
-explicit_by (Label l) i m X = labelled l.kind (place_of (m.cut + 1) l.len) (hanging_part i (m.cut + l.marker.cut) l.marker.bare X)
-explicit_by (TargetForm mark) i m X = target_of i m.cut mark X
-explicit_by (SubstitutionForm len marker) i m X = substitution_of i (place_of (m.cut + 1) len) (m.cut + marker.cut) X
+explicit_by (Label l) i m X = label_with l.kind (place_of (m.cut + 1) l.len) (hanging_part i (m.cut + l.marker.cut) l.marker.bare X)
+explicit_by (TargetForm mark) i m X = target_with i m.cut mark X
+explicit_by (SubstitutionForm len marker) i m X = substitution_with i (place_of (m.cut + 1) len) (m.cut + marker.cut) X
 explicit_by (DirectiveForm d) i m X = Directive (call_of i m.cut d X)
 explicit_by (CommentForm cause) i m X = Comment (hanging_part i m.cut false X) cause
 
@@ -108,31 +108,7 @@ explicit_of i X = explicit_with (dots (front_text X)) i X
 
 -- ---- where it ends
 
--- how many lines markup of a form has: its first, and below it for a target the indented lines up to a blank one, for
--- any other the indented block
-abbrev pub form_size : ExplicitForm → Block → ℕ
-form_size (TargetForm mark) X = indented_size X
-form_size _ X = hanging_size X
-
--- how many lines the comment has that dots alone begin: one before a blank line or the end, else this one and the
--- indented block below it
-abbrev pub size_alone : Block → ℕ
-size_alone X = if is_blank (next_text X) then 1 else hanging_size X
-
--- how many lines the markup has that dots begin
-unfoldable pub size_behind_dots : Marker → Block → ℕ
-size_behind_dots m X = if m.bare then size_alone X else form_size (explicit_form (drop m.cut (front_text X))) X
-
--- how many lines explicit markup behind dots has, or an anonymous target where there are no dots
-abbrev pub explicit_size_by : Option Marker → Block → ℕ
-explicit_size_by None X = indented_size X
-explicit_size_by (Some m) X = size_behind_dots m X
-
--- how many lines it has
-unfoldable pub explicit_size : Block → ℕ
-explicit_size X = explicit_size_by (dots (front_text X)) X
-
--- the place after it
+-- the place after it, where it begins in line i
 abbrev pub explicit_end : ℕ → Explicit → ℕ
 explicit_end i (Footnote label body) = body.to
 explicit_end i (Citation label body) = body.to
@@ -142,6 +118,10 @@ explicit_end i (Substitution name held end) = end
 explicit_end i (Directive call) = call.block.to
 explicit_end i (Comment text cause) = text.to
 explicit_end i EmptyComment = i + 1
+
+-- how many lines it has: those before its end, where it begins in line 0
+unfoldable pub explicit_size : Block → ℕ
+explicit_size X = explicit_end 0 (explicit_of 0 X)
 
 -- ---- where its parts stand
 

@@ -1,7 +1,6 @@
 pub mod TableLines
 pub mod Lines
-pub mod Kinds
-pub mod Begun
+pub mod Conditions
 pub mod Forms
 pub mod Sizes
 pub mod Rows
@@ -15,4 +14,6 @@ pub mod Parts
 pub mod Explicit
 pub mod Attributions
 pub mod ExplicitRow
+pub mod Kinds
+pub mod Begun
 pub mod Ends

@@ -5,7 +5,7 @@ use Rattle.rst_text.specs.Block.{Block, is_blank}
 use Rattle.rst_marks.specs.Front.{begins_with, is_loose}
 use Rattle.rst_markup.specs.declared.lines.LineTest.{LineTest}
 use Rattle.rst_markup.specs.declared.lines.LineTest.TheVariants.{Blank, Filled, Indented, Plain, Begins, Drawn, NoBorder}
-use Rattle.rst_markup.specs.TableLines.{is_drawn, is_border}
+use Rattle.rst_markup.specs.TableLines.{is_drawn, is_lower_border}
 
 -- a line passes a test: it is blank, or isn't; it is indented, or is neither indented nor blank; it begins with a
 -- character; it may belong to a grid table; or it is no border of a simple table
@@ -16,7 +16,7 @@ passes Indented t = begins_with 32 t
 passes Plain t = not (is_loose t)
 passes (Begins c) t = begins_with c t
 passes Drawn t = is_drawn t
-passes NoBorder t = not (is_border t)
+passes NoBorder t = not (is_lower_border t)
 
 -- how many lines at the front pass
 unfoldable pub lines_while : LineTest → Block → ℕ

@@ -21,7 +21,7 @@ use Rattle.rst_marks.specs.declared.enumerator.Enumerator.{Enumerator}
 use Rattle.rst_markup.specs.declared.lines.LineTest.{LineTest}
 use Rattle.rst_markup.specs.declared.lines.LineTest.TheVariants.{Indented, Filled, Blank, Plain, Begins}
 use Rattle.rst_markup.specs.Lines.{passes, lines_while}
-use Rattle.rst_markup.specs.Kinds.{next_text, after_text, item_enumerator, item_option}
+use Rattle.rst_markup.specs.Conditions.{next_text, after_text, item_enumerator, item_option}
 use Rattle.rst_markup.specs.Sizes.{bullet_size, enumerator_size, item_size_by, enumerator_size_by, hanging_size, run_size, indented_size, doctest_size, least_below, literal_size, quoted_size, quoted_by, literal_if, last_text, paragraph_size, paragraph_len, text_size, form_size}
 use Rattle.rst_markup.specs.Rows.{is_blank_row, is_quote_row, is_bullet_row, is_enumerator_row, is_field_row, is_option_row, is_doctest_row, is_bar_row, is_anonymous_row, blank_size, quote_size, bullet_row_size, enumerator_row_size, hanging_row_size, indented_row_size, doctest_row_size, is_text_row, text_row_size}
 

@@ -9,7 +9,7 @@ use Rattle.rst_marks.specs.Marker.{bullet, doctest, line_bar}
 use Rattle.rst_marks.specs.Field.{field_of}
 use Rattle.rst_marks.specs.ExplicitMarks.{underscores}
 use Rattle.rst_marks.specs.Adornment.{adornment_of}
-use Rattle.rst_markup.specs.Kinds.{next_text, after_text, item_enumerator, item_option}
+use Rattle.rst_markup.specs.Conditions.{next_text, after_text, item_enumerator, item_option}
 use Rattle.rst_markup.specs.Sizes.{bullet_size, enumerator_size, hanging_size, indented_size, doctest_size, text_size, adornment_size}
 
 -- a blank line begins nothing

@@ -17,7 +17,7 @@ use Rattle.rst_markup.specs.declared.form.TextForm.TheVariants.{Paragraph, Short
 use Rattle.rst_markup.specs.declared.form.Adorned.{Adorned}
 use Rattle.rst_markup.specs.declared.form.Adorned.TheVariants.{Text, ShortOverline, ShortAdornment, Transition, Title as AdornedTitle, InvalidMarker, Incomplete, MissingUnderline, Mismatch, Unexpected}
 use Rattle.rst_markup.specs.Lines.{lines_while}
-use Rattle.rst_markup.specs.Kinds.{next_text, after_text}
+use Rattle.rst_markup.specs.Conditions.{next_text, after_text}
 use Rattle.rst_markup.specs.Forms.{text_form, adorned_form}
 
 -- the line and the indented block below it

@@ -13,7 +13,7 @@ is_drawn t = begins_with 43 t || begins_with 124 t
 unfoldable pub border_len : List ℕ → ℕ
 border_len t = run (Either 61 32) t
 
--- A border of a simple table: `=` and spaces, `=` first. The top one has two runs of `=` or more, the others may have
--- one.
-unfoldable pub is_border : List ℕ → Bool
-is_border t = begins_with 61 t && is_blank (drop (border_len t) t)
+-- A border of a simple table below its top one: `=` and spaces, `=` first. It may have one run of `=`, where the top
+-- one has two or more.
+unfoldable pub is_lower_border : List ℕ → Bool
+is_lower_border t = begins_with 61 t && is_blank (drop (border_len t) t)

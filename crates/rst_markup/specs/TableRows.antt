@@ -7,7 +7,7 @@ use Rattle.rst_marks.specs.Border.{is_grid_border, is_simple_border}
 use Rattle.rst_markup.specs.declared.lines.LineTest.TheVariants.{Drawn, NoBorder}
 use Rattle.rst_markup.specs.TableLines.{border_len}
 use Rattle.rst_markup.specs.Lines.{lines_while}
-use Rattle.rst_markup.specs.Kinds.{next_text}
+use Rattle.rst_markup.specs.Conditions.{next_text}
 use Rattle.rst_markup.specs.Sizes.{run_size}
 
 -- ---- grid tables

@@ -3,7 +3,7 @@ ghost use Rattle.std.specs.Prelude.{◌≡◌, ◌+◌, ◌*◌, ◌^◌, ◌<�
 ghost use Rattle.std.specs.Str.{chars};
 ghost use Rattle.rst_text.specs.Shown.{block_of};
 ghost use Rattle.rst_markup.specs.Forms.{adorned_form};
-ghost use Rattle.rst_markup.specs.Kinds.{next_text};
+ghost use Rattle.rst_markup.specs.Conditions.{next_text};
 ghost use Rattle.rst_markup.specs.Sizes as spec;
 
 use super::construct::Construct;

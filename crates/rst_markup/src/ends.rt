@@ -4,7 +4,7 @@ ghost use Rattle.std.specs.Str.{chars};
 ghost use Rattle.rst_text.specs.Block.{front_text};
 ghost use Rattle.rst_text.specs.Reach.{reach};
 ghost use Rattle.rst_text.specs.Shown.{block_of};
-ghost use Rattle.rst_markup.specs.Kinds.{next_text};
+ghost use Rattle.rst_markup.specs.Conditions.{next_text};
 ghost use Rattle.rst_markup.specs.Sizes as spec;
 
 use super::form::{TextForm, text_form};

@@ -70,12 +70,12 @@ fn call_of(
 }
 
 /// The footnote or citation with this label, behind `n` characters of the line at place `i`.
-fn labelled(view: &View<'_>, i: usize, n: usize, mark: LabelMark, looks: &mut Looks) -> Explicit
+fn label_with(view: &View<'_>, i: usize, n: usize, mark: LabelMark, looks: &mut Looks) -> Explicit
     requires inside { i < length (block_of view.now) }
     requires label { n + 1 + mark.len < 2 ^ 64 }
     requires marker { n + mark.marker.cut < 2 ^ 64 }
     requires few { looks.old < 2 ^ 120 + 2 }
-    ensures explicit { result ≡ spec.labelled mark.kind (spec.place_of (n + 1) mark.len) (hanging_part i (n + mark.marker.cut) mark.marker.bare (drop i (block_of view.now))) }
+    ensures explicit { result ≡ spec.label_with mark.kind (spec.place_of (n + 1) mark.len) (hanging_part i (n + mark.marker.cut) mark.marker.bare (drop i (block_of view.now))) }
     ensures looks { looks.new + 2 ≤ looks.old + 2 * reach (hanging_size (drop i (block_of view.now))) (drop i (block_of view.now)) }
 {
     let label = place_of(n + 1, mark.len);
@@ -88,11 +88,11 @@ fn labelled(view: &View<'_>, i: usize, n: usize, mark: LabelMark, looks: &mut Lo
 }
 
 /// The target with this mark, behind `n` characters of the line at place `i`.
-fn target_of(view: &View<'_>, i: usize, n: usize, mark: TargetMark, looks: &mut Looks) -> Explicit
+fn target_with(view: &View<'_>, i: usize, n: usize, mark: TargetMark, looks: &mut Looks) -> Explicit
     requires inside { i < length (block_of view.now) }
     requires mark { spec.IsTargetShort n mark }
     requires few { looks.old < 2 ^ 120 + 2 }
-    ensures explicit { result ≡ spec.target_of i n mark (drop i (block_of view.now)) }
+    ensures explicit { result ≡ spec.target_with i n mark (drop i (block_of view.now)) }
     ensures looks { looks.new ≤ looks.old + indented_size (drop i (block_of view.now)) }
 {
     match mark {
@@ -108,7 +108,7 @@ fn target_of(view: &View<'_>, i: usize, n: usize, mark: TargetMark, looks: &mut 
 
 /// The substitution definition with this name; `n` characters of the line at place `i` stand before what it holds.
 #[tactic(auto, unfolding(crate::specs::Explicit::held_of))]
-fn substitution_of(
+fn substitution_with(
     view: &View<'_>,
     i: usize,
     text: &str,
@@ -120,7 +120,7 @@ fn substitution_of(
     requires text { chars text.now ≡ front_text (drop i (block_of view.now)) }
     requires behind { n ≤ length (chars text.now) }
     requires few { looks.old < 2 ^ 120 + 2 }
-    ensures explicit { result ≡ spec.substitution_of i name n (drop i (block_of view.now)) }
+    ensures explicit { result ≡ spec.substitution_with i name n (drop i (block_of view.now)) }
     ensures looks { looks.new + 1 ≤ looks.old + 2 * reach (hanging_size (drop i (block_of view.now))) (drop i (block_of view.now)) }
 {
     match directive_of(false, skip(text, n)) {
@@ -145,7 +145,7 @@ fn dots_alone(view: &View<'_>, i: usize, marker: Marker, looks: &mut Looks) -> E
     requires inside { i < length (block_of view.now) }
     requires few { looks.old < 2 ^ 120 + 1 }
     ensures explicit { result ≡ spec.dots_alone i marker (drop i (block_of view.now)) }
-    ensures looks { looks.new + 1 ≤ looks.old + 2 * reach (spec.size_alone (drop i (block_of view.now))) (drop i (block_of view.now)) }
+    ensures looks { looks.new + 1 ≤ looks.old + 2 * reach (spec.explicit_end 0 (spec.dots_alone 0 marker (drop i (block_of view.now)))) (drop i (block_of view.now)) }
 {
     if is_blank(below_text(view, i, 1, looks)) {
         return Explicit::EmptyComment;
@@ -171,14 +171,14 @@ fn explicit_by(
     requires marker { marker.cut ≤ length (chars text.now) }
     requires few { looks.old < 2 ^ 120 + 1 }
     ensures explicit { result ≡ spec.explicit_by form i marker (drop i (block_of view.now)) }
-    ensures looks { looks.new + 1 ≤ looks.old + 2 * reach (spec.form_size form (drop i (block_of view.now))) (drop i (block_of view.now)) }
+    ensures looks { looks.new + 1 ≤ looks.old + 2 * reach (spec.explicit_end 0 (spec.explicit_by form 0 marker (drop i (block_of view.now)))) (drop i (block_of view.now)) }
 {
     let n = marker.cut;
     match form {
-        ExplicitForm::Label(mark) => labelled(view, i, n, mark, looks),
-        ExplicitForm::Target(mark) => target_of(view, i, n, mark, looks),
+        ExplicitForm::Label(mark) => label_with(view, i, n, mark, looks),
+        ExplicitForm::Target(mark) => target_with(view, i, n, mark, looks),
         ExplicitForm::Substitution { len, marker } => {
-            substitution_of(view, i, text, place_of(n + 1, len), n + marker.cut, looks)
+            substitution_with(view, i, text, place_of(n + 1, len), n + marker.cut, looks)
         }
         ExplicitForm::Directive(mark) => Explicit::Directive(call_of(view, i, n, mark, looks)),
         ExplicitForm::Comment(cause) => Explicit::Comment {
@@ -189,7 +189,7 @@ fn explicit_by(
 }
 
 /// The explicit markup in the line at place `i`, behind dots that make this marker.
-#[tactic(auto, unfolding(crate::specs::Explicit::behind_dots, crate::specs::Explicit::size_behind_dots))]
+#[tactic(auto, unfolding(crate::specs::Explicit::behind_dots))]
 pub(crate) fn behind_dots(
     view: &View<'_>,
     i: usize,
@@ -202,7 +202,7 @@ pub(crate) fn behind_dots(
     requires marker { marker.cut ≤ length (chars text.now) }
     requires few { looks.old < 2 ^ 120 + 1 }
     ensures explicit { result ≡ spec.behind_dots i marker (drop i (block_of view.now)) }
-    ensures looks { looks.new + 1 ≤ looks.old + 2 * reach (spec.size_behind_dots marker (drop i (block_of view.now))) (drop i (block_of view.now)) }
+    ensures looks { looks.new + 1 ≤ looks.old + 2 * reach (spec.explicit_end 0 (spec.behind_dots 0 marker (drop i (block_of view.now)))) (drop i (block_of view.now)) }
 {
     if marker.bare {
         return dots_alone(view, i, marker, looks);

@@ -7,7 +7,7 @@ ghost use Rattle.rst_text.specs.Reach.{reach, through_text};
 ghost use Rattle.rst_text.specs.Shown.{block_of};
 ghost use Rattle.rst_markup.specs.Lines.{passes, lines_while};
 
-use super::table_line::{is_border, is_drawn};
+use super::table_line::{is_drawn, is_lower_border};
 use rst_marks::{begins_with, is_blank, is_loose};
 use rst_text::{Looks, View};
 
@@ -41,7 +41,7 @@ fn passes(test: LineTest, text: &str) -> bool
         LineTest::Plain => !is_loose(text),
         LineTest::Begins(c) => begins_with(c, text),
         LineTest::Drawn => is_drawn(text),
-        LineTest::NoBorder => !is_border(text),
+        LineTest::NoBorder => !is_lower_border(text),
     }
 }
 

@@ -1,7 +1,7 @@
 //! Conditions of the rows of the table of constructs that look below the line.
 ghost use Rattle.std.specs.Prelude.{◌≡◌};
 ghost use Rattle.std.specs.Str.{chars};
-ghost use Rattle.rst_markup.specs.Kinds as spec;
+ghost use Rattle.rst_markup.specs.Conditions as spec;
 
 use rst_marks::{
     Enumerator, Marker, begins_next, begins_with, enumerator_of, is_blank, is_loose, option_marker,
@@ -9,7 +9,7 @@ use rst_marks::{
 
 /// The enumerator that begins a list's item: the next line is missing, blank, indented, or begins with a next
 /// enumerator and a space.
-#[tactic(auto, unfolding(crate::specs::Kinds::item_enumerator))]
+#[tactic(auto, unfolding(crate::specs::Conditions::item_enumerator))]
 pub fn item_enumerator(text: &str, next: &str) -> Option<Enumerator>
     ensures { result ≡ spec.item_enumerator (chars text.now) (chars next.now) }
 {
@@ -23,7 +23,7 @@ pub fn item_enumerator(text: &str, next: &str) -> Option<Enumerator>
 
 /// The marker that begins an option list's item: a description stands behind it or is indented in the next line, which
 /// may follow a blank one.
-#[tactic(auto, unfolding(crate::specs::Kinds::item_option))]
+#[tactic(auto, unfolding(crate::specs::Conditions::item_option))]
 pub fn item_option(text: &str, next: &str, after: &str) -> Option<Marker>
     ensures { result ≡ spec.item_option (chars text.now) (chars next.now) (chars after.now) }
 {

@@ -23,9 +23,9 @@ pub(crate) fn border_len(text: &str) -> usize
 }
 
 /// Whether a line is a border of a simple table: `=` and spaces, `=` first.
-#[tactic(auto, unfolding(crate::specs::TableLines::is_border))]
-pub(crate) fn is_border(text: &str) -> bool
-    ensures { result ≡ spec.is_border (chars text.now) }
+#[tactic(auto, unfolding(crate::specs::TableLines::is_lower_border))]
+pub(crate) fn is_lower_border(text: &str) -> bool
+    ensures { result ≡ spec.is_lower_border (chars text.now) }
 {
     begins_with('=', text) && is_blank(skip(text, border_len(text)))
 }

@@ -9,7 +9,7 @@ use Rattle.rst_marks.specs.Front.{begins_with}
 use Rattle.rst_marks.specs.Class.{is_in, run}
 use Rattle.rst_marks.specs.declared.class.Class.TheVariants.{Only, Either}
 use Rattle.rst_marks.specs.Border.{is_grid_border, is_simple_border as is_top_border}
-use Rattle.rst_markup.specs.TableLines.{is_drawn, border_len, is_border as is_border_text}
+use Rattle.rst_markup.specs.TableLines.{is_drawn, border_len, is_lower_border as is_border_text}
 use Rattle.rst_tables.specs.Places.{is_double, places_of, mark_at, rows_of, row_at}
 use Rattle.rst_tables.specs.GridTable.{is_part, has_ends, is_edge, is_border, is_grid_row}
 use Rattle.rst_tables.specs.SimpleTable.{is_stroke, is_ruled, is_simple_border, is_empty}

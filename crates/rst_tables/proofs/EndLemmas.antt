@@ -6,9 +6,9 @@ use Rattle.std.proofs.lemmas.List.{length-map, drop-drop}
 use Rattle.rst_text.specs.Block.{Block, front_text, is_blank}
 use Rattle.rst_marks.specs.Border.{is_grid_border}
 use Rattle.rst_markup.specs.declared.lines.LineTest.TheVariants.{Drawn, NoBorder}
-use Rattle.rst_markup.specs.TableLines.{is_drawn, border_len, is_border as is_border_text}
+use Rattle.rst_markup.specs.TableLines.{is_drawn, border_len, is_lower_border as is_border_text}
 use Rattle.rst_markup.specs.Lines.{lines_while}
-use Rattle.rst_markup.specs.Kinds.{next_text}
+use Rattle.rst_markup.specs.Conditions.{next_text}
 use Rattle.rst_markup.specs.Sizes.{run_size}
 use Rattle.rst_markup.specs.RowLaws.{while_le}
 use Rattle.rst_markup.specs.TableRows.{one_more, through_border, closed_by, grid_size, grid_scan, goes_on, simple_size, simple_scan}

@@ -1,7 +1,7 @@
 -- Where tables end, by the characters of their lines (Markup Specification, 'Grid Tables', 'Simple Tables').
 use Rattle.std.specs.Prelude.{◌≡◌, ℕ, ◌+◌, ◌<◌, IsTrue, drop, length}
 use Rattle.rst_text.specs.Block.{Block, front_text}
-use Rattle.rst_markup.specs.TableLines.{is_border}
+use Rattle.rst_markup.specs.TableLines.{is_lower_border}
 use Rattle.rst_markup.specs.TableRows.{grid_size, grid_scan, simple_size, simple_scan}
 use Rattle.rst_tables.specs.Places.{rows_of}
 use Rattle.rst_tables.specs.GridTable.{grid_looked}
@@ -22,5 +22,5 @@ GridByCharacters = (X : Block) → (grid_end (rows_of X) ≡ grid_size X) × (gr
 
 -- The same of a simple table, whose top border is the line at place i.
 abbrev pub SimpleByCharacters : Type 0
-SimpleByCharacters = (B : Block) (i : ℕ) → i < length B → IsTrue (is_border (front_text (drop i B)))
+SimpleByCharacters = (B : Block) (i : ℕ) → i < length B → IsTrue (is_lower_border (front_text (drop i B)))
     → (place_behind (simple_end (rows_of B) i) ≡ i + simple_size (drop i B)) × (simple_looked (rows_of B) i ≡ simple_scan (drop i B))

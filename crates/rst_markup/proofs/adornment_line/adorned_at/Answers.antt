@@ -3,7 +3,7 @@ use Rattle.std.specs.Prelude.{Option}
 use Rattle.std.specs.Str.{chars}
 use Rattle.rst_text.specs.Block.{Block, front_text, is_blank}
 use Rattle.rst_text.specs.Shown.{block_of}
-use Rattle.rst_markup.specs.Kinds.{next_text, after_text}
+use Rattle.rst_markup.specs.Conditions.{next_text, after_text}
 use Rattle.rst_markup.specs.Forms.{adorned_over}
 use Rattle.rst_markup.specs.Sizes.{third_text}
 use Rattle.rst_markup.specs.AdornmentLaws.{third_is, form_over}

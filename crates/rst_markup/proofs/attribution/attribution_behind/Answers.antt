@@ -3,7 +3,7 @@ use Rattle.std.specs.Prelude.{option_map}
 use Rattle.rst_text.specs.Block.{Block, indentation}
 use Rattle.rst_text.specs.Shown.{block_of}
 use Rattle.rst_markup.specs.Attributions.{level_lines}
-use Rattle.rst_markup.specs.Kinds.{next_text}
+use Rattle.rst_markup.specs.Conditions.{next_text}
 use Rattle.rst_markup.specs.Lines.{lines_while}
 use Rattle.rst_markup.specs.declared.lines.LineTest.TheVariants.{Filled}
 use Rattle.rst_markup.proofs.AttributionLemmas.{lines_none, lines_some, attribution_none, attribution_some, attribution_block}

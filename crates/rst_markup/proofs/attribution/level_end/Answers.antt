@@ -1,4 +1,4 @@
-use Rattle.std.proofs.Common.{◌≡◌, ◌∙◌, ◌+◌, ◌==◌, true, false, sym, ap, drop, arith, rules, refl}
+use Rattle.std.proofs.Common.{◌≡◌, ◌∙◌, ◌==◌, true, false, sym, drop, arith, rules, refl}
 use Rattle.rst_text.specs.Block.{Block, front_text, is_blank, indentation}
 use Rattle.rst_text.specs.Shown.{block_of}
 use Rattle.rst_markup.specs.Lines.{passes}

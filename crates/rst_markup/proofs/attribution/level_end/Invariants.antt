@@ -1,4 +1,4 @@
-use Rattle.std.proofs.Common.{◌≡◌, ◌+◌, ◌-◌, ◌≤◌, drop}
+use Rattle.std.proofs.Common.{◌≡◌, ◌+◌, ◌-◌, drop}
 use Rattle.std.specs.Prelude.{option_map}
 use Rattle.rst_text.specs.Shown.{block_of}
 use Rattle.rst_markup.specs.Attributions.{level_lines}

@@ -2,7 +2,7 @@ use Rattle.std.proofs.Common.{◌≡◌, ℕ, ◌⊎◌, inl, inr, List, drop, l
 use Rattle.rst_text.specs.Block.{Block, front_text}
 use Rattle.rst_text.specs.Reach.{reach}
 use Rattle.rst_text.specs.Shown.{block_of}
-use Rattle.rst_markup.specs.Kinds.{next_text}
+use Rattle.rst_markup.specs.Conditions.{next_text}
 use Rattle.rst_markup.specs.Forms.{text_form}
 use Rattle.rst_markup.specs.declared.form.TextForm.{TextForm}
 use Rattle.rst_markup.specs.declared.form.TextForm.TheVariants.{Paragraph, ShortUnderline}

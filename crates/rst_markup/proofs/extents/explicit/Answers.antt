@@ -1,12 +1,12 @@
-use Rattle.std.proofs.Common.{◌≡◌, ◌∙◌, ◌+◌, Some, None, sym, ap, drop, arith}
+use Rattle.std.proofs.Common.{◌≡◌, ◌∙◌, Some, None, sym, ap, drop, arith}
 use Rattle.std.specs.Prelude.{is_some}
 use Rattle.std.specs.Str.{chars}
 use Rattle.rst_text.specs.Block.{Block, front_text}
 use Rattle.rst_text.specs.Reach.{reach}
 use Rattle.rst_text.specs.Shown.{block_of}
 use Rattle.rst_marks.specs.ExplicitMarks.{dots, underscores}
-use Rattle.rst_markup.specs.Kinds.{next_text, after_text}
-use Rattle.rst_markup.proofs.ExplicitLemmas.{explicit_in_at, explicit_ends_at, explicit_dots, explicit_other, size_dots, size_other, indented_some, kind_underscores}
+use Rattle.rst_markup.proofs.ExplicitLemmas.{explicit_in_at, explicit_ends_at, explicit_dots, explicit_other, size_dots, size_other, indented_some}
+use Rattle.rst_markup.proofs.RowLemmas.{kind_underscores}
 use Rattle.rst_marks.proofs.MarkBounds.{dots_within}
 use Rattle.rst_markup.proofs.extents.explicit.Goals as goal
 
@@ -17,7 +17,7 @@ pub anonymous-requires-clause-begins : goal.anonymous-requires-clause-begins
 anonymous-requires-clause-begins c =
     let X : Block = drop c.args.i (block_of c.args.view.now) in
     let e : dots (front_text X) ≡ None = ap dots (sym c.line-text.ensures.text) ∙ sym c.dots.ensures ∙ c.in-None.is in
-    ap (λ t. is_some (underscores t)) c.line-text.ensures.text ∙ kind_underscores (front_text X) (next_text X) (after_text X) c.requires.kind e
+    ap (λ t. is_some (underscores t)) c.line-text.ensures.text ∙ kind_underscores X c.requires.kind e
 
 pub returns-in-Some-clause-explicit : goal.returns-in-Some-clause-explicit
 returns-in-Some-clause-explicit c =

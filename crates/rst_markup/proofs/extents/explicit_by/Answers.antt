@@ -1,33 +1,32 @@
-use Rattle.std.proofs.Common.{◌≡◌, ◌∙◌, ◌+◌, List, ℕ, length, length-drop, sym, ap, drop, arith}
+use Rattle.std.proofs.Common.{◌≡◌, ◌∙◌, List, ℕ, length-drop, sym, drop, arith}
 use Rattle.std.specs.Str.{chars}
 use Rattle.rst_text.specs.Block.{Block}
-use Rattle.rst_text.specs.Reach.{reach}
 use Rattle.rst_text.specs.Shown.{block_of}
 use Rattle.rst_marks.proofs.TextLemmas.{length-chars}
-use Rattle.rst_markup.specs.Explicit.{form_size}
+use Rattle.rst_markup.specs.Sizes.{hanging_size, indented_size}
 use Rattle.rst_markup.specs.ExplicitMarkup.{explicit_form}
-use Rattle.rst_markup.specs.declared.explicit_markup.ExplicitForm.TheVariants.{Label, Target, Substitution, Directive}
-use Rattle.rst_markup.proofs.ExplicitLemmas.{form_within_at, target_short, indented_some}
+use Rattle.rst_markup.specs.declared.explicit_markup.ExplicitForm.TheVariants.{Label, Target, Substitution, Directive, Comment}
+use Rattle.rst_markup.proofs.ExplicitLemmas.{form_within_at, target_short, indented_some, end_reach, label_to, target_to, directive_to, comment_to}
 use Rattle.rst_markup.proofs.extents.explicit_by.Goals as goal
 
-pub labelled-requires-clause-label : goal.labelled-requires-clause-label
-labelled-requires-clause-label c =
+pub label_with-requires-clause-label : goal.label_with-requires-clause-label
+label_with-requires-clause-label c =
     let t : List ℕ = chars c.args.text.now in
     let n : ℕ = c.args.marker.cut in
     let e : Label c.in-Label.mark ≡ explicit_form (drop n t) = sym c.in-Label.is ∙ c.requires.form in
     let w = form_within_at (drop n t) (Label c.in-Label.mark) e in
     omega (arith, w.0, length-drop n t, c.requires.marker, length-chars c.args.text.now c.utf8.text)
 
-pub labelled-requires-clause-marker : goal.labelled-requires-clause-marker
-labelled-requires-clause-marker c =
+pub label_with-requires-clause-marker : goal.label_with-requires-clause-marker
+label_with-requires-clause-marker c =
     let t : List ℕ = chars c.args.text.now in
     let n : ℕ = c.args.marker.cut in
     let e : Label c.in-Label.mark ≡ explicit_form (drop n t) = sym c.in-Label.is ∙ c.requires.form in
     let w = form_within_at (drop n t) (Label c.in-Label.mark) e in
     omega (arith, w.1, length-drop n t, c.requires.marker, length-chars c.args.text.now c.utf8.text)
 
-pub target_of-requires-clause-mark : goal.target_of-requires-clause-mark
-target_of-requires-clause-mark c =
+pub target_with-requires-clause-mark : goal.target_with-requires-clause-mark
+target_with-requires-clause-mark c =
     let t : List ℕ = chars c.args.text.now in
     let n : ℕ = c.args.marker.cut in
     let e : Target c.in-Target.mark ≡ explicit_form (drop n t) = sym c.in-Target.is ∙ c.requires.form in
@@ -58,8 +57,8 @@ overflow_add-n-in-Substitution c =
     let w = form_within_at (drop n t) (Substitution c.in-Substitution.len c.in-Substitution.marker) e in
     omega (arith, w.1, length-drop n t, c.requires.marker, length-chars c.args.text.now c.utf8.text)
 
-pub substitution_of-requires-clause-behind : goal.substitution_of-requires-clause-behind
-substitution_of-requires-clause-behind c =
+pub substitution_with-requires-clause-behind : goal.substitution_with-requires-clause-behind
+substitution_with-requires-clause-behind c =
     let t : List ℕ = chars c.args.text.now in
     let n : ℕ = c.args.marker.cut in
     let e : Substitution c.in-Substitution.len c.in-Substitution.marker ≡ explicit_form (drop n t) = sym c.in-Substitution.is ∙ c.requires.form in
@@ -82,7 +81,27 @@ call_of-requires-clause-marker c =
     let w = form_within_at (drop n t) (Directive c.in-Directive.mark) e in
     omega (arith, w.1, length-drop n t, c.requires.marker, length-chars c.args.text.now c.utf8.text)
 
+pub returns-in-Label-clause-looks : goal.returns-in-Label-clause-looks
+returns-in-Label-clause-looks c =
+    let X : Block = drop c.args.i (block_of c.args.view.now) in
+    omega (arith, c.label_with.ensures.looks, end_reach (hanging_size X) c.args.form (Label c.in-Label.mark) c.args.marker X c.in-Label.is (label_to c.in-Label.mark c.args.marker X))
+
 pub returns-in-Target-clause-looks : goal.returns-in-Target-clause-looks
 returns-in-Target-clause-looks c =
     let X : Block = drop c.args.i (block_of c.args.view.now) in
-    omega (arith, c.target_of.ensures.looks, indented_some X, ap (λ f. reach (form_size f X) X) c.in-Target.is)
+    omega (arith, c.target_with.ensures.looks, indented_some X, end_reach (indented_size X) c.args.form (Target c.in-Target.mark) c.args.marker X c.in-Target.is (target_to c.in-Target.mark c.args.marker X))
+
+pub returns-in-Substitution-clause-looks : goal.returns-in-Substitution-clause-looks
+returns-in-Substitution-clause-looks c =
+    let X : Block = drop c.args.i (block_of c.args.view.now) in
+    omega (arith, c.substitution_with.ensures.looks, end_reach (hanging_size X) c.args.form (Substitution c.in-Substitution.len c.in-Substitution.marker) c.args.marker X c.in-Substitution.is (omega arith))
+
+pub returns-in-Directive-clause-looks : goal.returns-in-Directive-clause-looks
+returns-in-Directive-clause-looks c =
+    let X : Block = drop c.args.i (block_of c.args.view.now) in
+    omega (arith, c.call_of.ensures.looks, end_reach (hanging_size X) c.args.form (Directive c.in-Directive.mark) c.args.marker X c.in-Directive.is (directive_to c.in-Directive.mark c.args.marker X))
+
+pub returns-in-Comment-clause-looks : goal.returns-in-Comment-clause-looks
+returns-in-Comment-clause-looks c =
+    let X : Block = drop c.args.i (block_of c.args.view.now) in
+    omega (arith, c.hanging_part.ensures.looks, end_reach (hanging_size X) c.args.form (Comment c.in-Comment.cause) c.args.marker X c.in-Comment.is (comment_to c.in-Comment.cause c.args.marker X))

@@ -4,7 +4,7 @@ use Rattle.rst_text.specs.Block.{Block, front_text}
 use Rattle.rst_text.specs.Reach.{reach}
 use Rattle.rst_text.specs.Shown.{block_of}
 use Rattle.rst_marks.specs.Adornment.{adornment_of}
-use Rattle.rst_markup.specs.Kinds.{next_text}
+use Rattle.rst_markup.specs.Conditions.{next_text}
 use Rattle.rst_markup.specs.Forms.{adorned_form}
 use Rattle.rst_markup.specs.Sizes.{fixed_size, size_or, third_text, adornment_size, text_size}
 use Rattle.rst_markup.specs.AdornmentLaws.{SizeWithin, form_sizes, adornment_is}

@@ -1,4 +1,4 @@
-use Rattle.std.proofs.Common.{◌≡◌, ◌∙◌, ◌+◌, Some, sym, ap, drop, arith}
+use Rattle.std.proofs.Common.{◌≡◌, ◌∙◌, Some, sym, ap, drop, arith}
 use Rattle.std.specs.Str.{chars}
 use Rattle.rst_text.specs.Block.{Block, front_text}
 use Rattle.rst_text.specs.Reach.{reach}

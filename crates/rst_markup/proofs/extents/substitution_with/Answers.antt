@@ -1,4 +1,4 @@
-use Rattle.std.proofs.Common.{◌≡◌, ◌∙◌, ◌+◌, false, Some, List, ℕ, length, length-drop, sym, ap, drop, arith}
+use Rattle.std.proofs.Common.{◌≡◌, ◌∙◌, false, Some, List, ℕ, length-drop, sym, ap, drop, arith}
 use Rattle.std.specs.Str.{chars}
 use Rattle.rst_text.specs.Block.{Block, front_text}
 use Rattle.rst_text.specs.Shown.{block_of}
@@ -6,7 +6,7 @@ use Rattle.rst_marks.specs.ExplicitMarks.{directive_of}
 use Rattle.rst_marks.proofs.MarkBounds.{directive_within}
 use Rattle.rst_marks.proofs.TextLemmas.{length-chars}
 use Rattle.rst_markup.proofs.ExplicitLemmas.{substitution_some}
-use Rattle.rst_markup.proofs.extents.substitution_of.Goals as goal
+use Rattle.rst_markup.proofs.extents.substitution_with.Goals as goal
 
 pub call_of-call-requires-clause-name : goal.call_of-call-requires-clause-name
 call_of-call-requires-clause-name c =
