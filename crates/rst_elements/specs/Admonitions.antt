@@ -11,6 +11,7 @@ use Rattle.rst_tree.specs.declared.node.Node.{Node}
 use Rattle.rst_tree.specs.declared.node.Node.TheVariants.{Element, Text as Words}
 use Rattle.rst_elements.specs.Values.{identifier}
 
+-- the class that a title gives: `admonition-` and the id of its text
 abbrev pub title_class : Node → Value
 title_class title = Listed ((codes "admonition-" ++ identifier (text_in title)) ∷ [])
 
@@ -18,6 +19,7 @@ title_class title = Listed ((codes "admonition-" ++ identifier (text_in title)) 
 abbrev pub with_class : Value → List Attr → List Attr
 with_class class attrs = if is_some (value_of Classes attrs) then attrs else with_attr Classes class attrs
 
+-- an element with the class that its title gives; a text stays as it is
 abbrev pub with_title_class : Node → Node → Node
 with_title_class (Element t a c l) title = Element t (with_class (title_class title) a) c l
 with_title_class (Words t) title = Words t

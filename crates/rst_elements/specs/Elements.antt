@@ -48,9 +48,11 @@ preserved_node tag line text = element_of tag preserving (text_nodes text) line
 
 -- ---- lists
 
+-- a bullet list, which says its bullet, and has no item yet
 abbrev pub bullet_list_node : ℕ → ℕ → Node
 bullet_list_node mark line = Element BulletList (attr Bullet (Said (encode_utf8_all (mark ∷ []))) ∷ []) bare line
 
+-- what a sequence of ordinals is called
 abbrev pub sequence_name : Sequence → List ℕ
 sequence_name Arabic = codes "arabic"
 sequence_name LowerAlpha = codes "loweralpha"
@@ -58,11 +60,13 @@ sequence_name UpperAlpha = codes "upperalpha"
 sequence_name LowerRoman = codes "lowerroman"
 sequence_name UpperRoman = codes "upperroman"
 
+-- what stands before an ordinal
 abbrev pub prefix : Format → List ℕ
 prefix Parentheses = codes "("
 prefix Parenthesis = []
 prefix Period = []
 
+-- what stands behind an ordinal
 abbrev pub suffix : Format → List ℕ
 suffix Parentheses = codes ")"
 suffix Parenthesis = codes ")"
@@ -75,6 +79,7 @@ enumerated_attrs reading format =
     then attr Enumtype (Said (sequence_name reading.sequence)) ∷ attr Prefix (Said (prefix format)) ∷ attr Suffix (Said (suffix format)) ∷ []
     else attr Enumtype (Said (sequence_name reading.sequence)) ∷ attr Prefix (Said (prefix format)) ∷ attr Start (Number reading.ordinal) ∷ attr Suffix (Said (suffix format)) ∷ []
 
+-- an enumerated list, which says how its items are numbered, and has no item yet
 abbrev pub enumerated_list_node : Enumerator → ℕ → Node
 enumerated_list_node enumerator line =
     Element EnumeratedList (enumerated_attrs (first_reading enumerator.written.ordinals) enumerator.format) bare line
@@ -86,19 +91,23 @@ start_text written ordinal =
 
 -- ---- options
 
+-- what stands between an option and its argument
 abbrev pub delimiter_text : Delimiter → List ℕ
 delimiter_text Nothing = []
 delimiter_text Space = codes " "
 delimiter_text Equals = codes "="
 
+-- an option's argument, which says what stands before it
 abbrev pub option_argument_node : Delimiter → List ℕ → ℕ → Node
 option_argument_node delimiter text line =
     element_of OptionArgument (attr DelimiterKey (Said (delimiter_text delimiter)) ∷ []) (text_nodes text) line
 
+-- the string of an option and its argument, if it has one
 abbrev pub option_nodes : List ℕ → Option (Delimiter × List ℕ) → ℕ → List Node
 option_nodes string None line = plain_node OptionString line string ∷ []
 option_nodes string (Some (delimiter, text)) line = plain_node OptionString line string ∷ option_argument_node delimiter text line ∷ []
 
+-- an option with its string and its argument, if it has one
 abbrev pub option_node : List ℕ → Option (Delimiter × List ℕ) → ℕ → Node
 option_node string argument line = element_of OptionTag [] (option_nodes string argument line) line
 
@@ -119,6 +128,7 @@ numbered_attrs label name =
     then attr Auto (Number 1) ∷ attr Mark (Said label) ∷ []
     else attr Auto (Number 1) ∷ attr Mark (Said label) ∷ attr OwnName (Said (encode_utf8_all (name_of name))) ∷ []
 
+-- a footnote that gets its number; it shows no label yet
 abbrev pub numbered_node : List ℕ → ℕ → Node
 numbered_node label line = labelled_node Footnote (numbered_attrs label (drop 1 (chars label))) [] line
 
@@ -126,34 +136,41 @@ numbered_node label line = labelled_node Footnote (numbered_attrs label (drop 1 
 abbrev pub symbol_node : List ℕ → ℕ → Node
 symbol_node label line = labelled_node Footnote (attr Auto (Said (codes "*")) ∷ attr Mark (Said label) ∷ []) [] line
 
+-- a footnote by its label, which `#` or `*` may begin
 abbrev pub footnote_node : List ℕ → ℕ → Node
 footnote_node label line =
     if begins_with 35 (chars label) then numbered_node label line
     else if begins_with 42 (chars label) then symbol_node label line
     else named_node label line
 
+-- a citation, named by its label, which it shows
 abbrev pub citation_node : List ℕ → ℕ → Node
 citation_node label line = labelled_node Citation (attr OwnName (Said (name_in label)) ∷ []) label line
 
 -- ---- substitutions
 
+-- a substitution definition by its name, which holds nothing yet
 abbrev pub substitution_definition_node : List ℕ → ℕ → Node
 substitution_definition_node name line = Element SubstitutionDefinition (attr OwnName (Said name) ∷ []) bare line
 
 -- ---- tables
 
+-- a column of a width
 abbrev pub colspec_node : ℕ → ℕ → Node
 colspec_node line width = Element Colspec (attr Colwidth (Number width) ∷ []) bare line
 
+-- a group of columns of these widths, which says how many they are
 abbrev pub tgroup_node : List ℕ → ℕ → Node
 tgroup_node widths line = element_of Tgroup (attr Cols (Number (length widths)) ∷ []) (map (colspec_node line) widths) line
 
--- what is 0 isn't said
+-- a span of more columns, which isn't said where there are none
 abbrev pub morecols_attrs : ℕ → List Attr
 morecols_attrs n = if n == 0 then [] else attr Morecols (Number n) ∷ []
 
+-- a span of more rows, which isn't said where there are none
 abbrev pub morerows_attrs : ℕ → List Attr
 morerows_attrs n = if n == 0 then [] else attr Morerows (Number n) ∷ []
 
+-- an entry, which says how many rows and columns it spans more, and holds nothing yet
 abbrev pub entry_node : ℕ → ℕ → ℕ → Node
 entry_node morerows morecols line = Element Entry (morecols_attrs morecols ++ morerows_attrs morerows) bare line

@@ -1,4 +1,4 @@
--- What line blocks give.
+-- What a call on line blocks gives that may be refused. No rule of markup.
 use Rattle.std.specs.Prelude.{Result, Ok, Err}
 use Rattle.rst_elements.specs.declared.line_blocks.LineBlockFault.{LineBlockFault}
 

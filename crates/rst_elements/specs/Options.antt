@@ -29,12 +29,14 @@ use Rattle.rst_elements.specs.Values.{listed}
 
 -- ---- options as attributes
 
+-- the attribute that an option gives a figure
 abbrev pub figure_key : OptionName → Option Key
 figure_key AlignOption = Some Align
 figure_key FigureWidth = Some Width
 figure_key FigureClass = Some Classes
 figure_key _ = None
 
+-- the attribute that an option gives any other directive that has a body
 abbrev pub body_key : OptionName → Option Key
 body_key ClassOption = Some Classes
 body_key NameOption = Some OwnName
@@ -58,6 +60,7 @@ option_key FigureImage option = image_key None option
 option_key Figure option = figure_key option
 option_key Body option = body_key option
 
+-- what an alignment is called
 abbrev pub alignment_name : Alignment → List ℕ
 alignment_name Top = codes "top"
 alignment_name Middle = codes "middle"
@@ -66,6 +69,7 @@ alignment_name Left = codes "left"
 alignment_name Center = codes "center"
 alignment_name Right = codes "right"
 
+-- an option's value as that of an attribute
 abbrev pub value_in : OptionValue → Value
 value_in (TextValue text) = Said (string_bytes text)
 value_in (Measure measure) = Said (string_bytes measure)
@@ -75,6 +79,7 @@ value_in (ClassesValue classes) = listed classes.items
 value_in (Link to source) = Said (string_bytes source)
 value_in (NameValue name) = Said (string_bytes name)
 
+-- attributes with a value, if there is a key for it
 abbrev pub with_value_at : Option Key → Value → List Attr → List Attr
 with_value_at (Some key) value attrs = with_attr key value attrs
 with_value_at None value attrs = attrs
@@ -86,9 +91,11 @@ with_options holder (s ∷ more) attrs = with_options holder more (with_value_at
 
 -- ---- figures, admonitions and topics
 
+-- a figure with the attributes of its options, which holds nothing yet
 abbrev pub figure_node : List Setting → ℕ → Node
 figure_node options line = Element FigureTag (with_options Figure options []) bare line
 
+-- the element that a directive makes
 abbrev pub tag_of : Directive → Tag
 tag_of Attention = AttentionTag
 tag_of Caution = CautionTag
@@ -106,11 +113,13 @@ tag_of FigureName = FigureTag
 tag_of Replace = Paragraph
 tag_of Code = LiteralBlock
 
+-- a directive's element with the attributes of its options, which holds nothing yet
 abbrev pub directive_node : Directive → List Setting → ℕ → Node
 directive_node name options line = Element (tag_of name) (with_options Body options []) bare line
 
 -- ---- program code
 
+-- the classes that a language gives program code
 abbrev pub language_classes : Option (List ℕ) → List (List ℕ)
 language_classes (Some word) = codes "code" ∷ word ∷ []
 language_classes None = codes "code" ∷ []
@@ -120,19 +129,23 @@ abbrev pub code_classes : Option (List ℕ) → Option Value → Value
 code_classes language (Some (Listed more)) = Listed (language_classes language ++ more)
 code_classes language _ = Listed (language_classes language)
 
+-- attributes with the classes of program code in a language
 abbrev pub code_attrs : Option (List ℕ) → List Attr → List Attr
 code_attrs language attrs = with_attr Classes (code_classes language (value_of Classes attrs)) (without_key Classes attrs)
 
+-- program code, a literal block with the classes of its language and the attributes of its options
 abbrev pub code_node : Option (List ℕ) → List Setting → List ℕ → ℕ → Node
 code_node language options text line =
     element_of LiteralBlock (code_attrs language (with_options Body options (attr XmlSpace (Said (codes "preserve")) ∷ []))) (text_nodes text) line
 
 -- ---- images
 
+-- attributes with a text instead of the image, if there is one
 abbrev pub with_alt : Option (List ℕ) → List Attr → List Attr
 with_alt (Some text) attrs = with_attr Alt (Said text) attrs
 with_alt None attrs = attrs
 
+-- what an image is, in a figure or not, to its options
 abbrev pub image_holder : Bool → Holder
 image_holder true = FigureImage
 image_holder false = Image
@@ -142,6 +155,7 @@ abbrev pub image_node : List ℕ → List Setting → ℕ → Bool → Option (L
 image_node uri options line in_figure alt =
     Element ImageTag (with_options (image_holder in_figure) options (with_alt alt (attr Uri (Said uri) ∷ []))) bare line
 
+-- the attributes of a reference to a name, or to a URI, which also says its source
 abbrev pub link_attrs : Destination → List ℕ → List Attr
 link_attrs (named name) source =
     attr Name (Said (encode_utf8_all (normalized_white name))) ∷ attr Rawsource (Said source) ∷ attr Refname (Said (encode_utf8_all (name_of name))) ∷ []
@@ -151,10 +165,12 @@ link_attrs (located uri) source = attr Rawsource (Said source) ∷ attr Refuri (
 abbrev pub linked_node : Node → Destination → List ℕ → ℕ → Node
 linked_node image to source line = element_of Reference (link_attrs to source) (image ∷ []) line
 
+-- where an option's value leads, if it leads anywhere, with its source
 abbrev pub link_in : OptionValue → Option (Destination × List ℕ)
 link_in (Link to source) = Some (destination_of to, string_bytes source)
 link_in _ = None
 
+-- the first of two links, or the second where the first is missing
 abbrev pub first_link : Option (Destination × List ℕ) → Option (Destination × List ℕ) → Option (Destination × List ℕ)
 first_link (Some link) more = Some link
 first_link None more = more
@@ -164,9 +180,11 @@ abbrev pub link_of : List Setting → Option (Destination × List ℕ)
 link_of [] = None
 link_of (s ∷ more) = first_link (link_in s.value) (link_of more)
 
+-- an image, with the reference round it, if it leads anywhere
 abbrev pub linked_by : Option (Destination × List ℕ) → Node → ℕ → Node
 linked_by (Some (to, source)) image line = linked_node image to source line
 linked_by None image line = image
 
+-- an image with the attributes of its options, and the reference round it, if they lead anywhere
 abbrev pub whole_image : List ℕ → List Setting → ℕ → Bool → Option (List ℕ) → Node
 whole_image uri options line in_figure alt = linked_by (link_of options) (image_node uri options line in_figure alt) line

@@ -31,9 +31,11 @@ leading_attrs attrs (Some (named name)) = with_attr Refname (Said (encode_utf8_a
 leading_attrs attrs (Some (located uri)) = with_attr Refuri (Said (encode_utf8_all uri)) attrs
 leading_attrs attrs None = attrs
 
+-- a target with attributes, and with what it leads to, if it leads anywhere
 abbrev pub leading_node : List Attr → Option Destination → ℕ → Node
 leading_node attrs destination line = Element Target (leading_attrs attrs destination) bare line
 
+-- the target of a name, or an anonymous one, with what its text leads to
 abbrev pub target_node : Option (List ℕ) → List ℕ → ℕ → Node
 target_node name text line = leading_node (name_attrs name) (target_value (chars text)) line
 
@@ -50,10 +52,12 @@ is_plain_role TitleReference = true
 is_plain_role SubstitutionReference = true
 is_plain_role _ = false
 
+-- the element is a substitution reference
 abbrev pub is_substitution_tag : Tag → Bool
 is_substitution_tag SubstitutionReference = true
 is_substitution_tag _ = false
 
+-- the node is a substitution reference
 abbrev pub is_substitution : Node → Bool
 is_substitution (Element t a c l) = is_substitution_tag t
 is_substitution (Words t) = false
@@ -62,10 +66,12 @@ is_substitution (Words t) = false
 abbrev pub may_refer : List Attr → Forest → Bool
 may_refer a c = not (is_some (value_of Anonymous a)) && not (list_any is_substitution (nodes_of c))
 
+-- an element may stand there: a reference by its attributes and nodes, any other by its kind
 abbrev pub may_stand_as : Tag → List Attr → Forest → Bool
 may_stand_as Reference a c = may_refer a c
 may_stand_as t a c = is_plain_role t
 
+-- a node may stand there; a text always may
 abbrev pub may_stand : Node → Bool
 may_stand (Element t a c l) = may_stand_as t a c
 may_stand (Words t) = true

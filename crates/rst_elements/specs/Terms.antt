@@ -20,26 +20,31 @@ letters_from escaped (c ∷ cs) =
     else if escaped && is_white c then letters_from false cs
     else letter_of c escaped ∷ letters_from false cs
 
+-- the letter is this character, and not escaped
 abbrev pub is_bare : Letter → ℕ → Bool
 is_bare l c = l.character == c && not l.escaped
 
--- how many letters stand before the spaces at the end
+-- how many letters of one, and of those behind it, stand before the spaces at the end, where so many of the latter do
 abbrev pub dark_onto : Letter → ℕ → ℕ
 dark_onto l zero = if is_bare l 32 then 0 else 1
 dark_onto l (suc n) = suc (suc n)
 
+-- how many letters stand before the spaces at the end
 abbrev pub dark_len : List Letter → ℕ
 dark_len [] = 0
 dark_len (l ∷ ls) = dark_onto l (dark_len ls)
 
+-- the last of some letters, of which this is the first, is a space that isn't escaped
 abbrev pub ends_behind : Letter → List Letter → Bool
 ends_behind l [] = is_bare l 32
 ends_behind l (m ∷ ls) = ends_behind m ls
 
+-- the last letter is a space that isn't escaped
 abbrev pub ends_in_space : List Letter → Bool
 ends_in_space [] = false
 ends_in_space (l ∷ ls) = ends_behind l ls
 
+-- the first letter is a space that isn't escaped
 abbrev pub begins_with_space : List Letter → Bool
 begins_with_space [] = false
 begins_with_space (l ∷ ls) = is_bare l 32
@@ -56,6 +61,7 @@ cut skipping part (l ∷ ls) =
     else if is_delimiter part l ls then take (dark_len part) part ∷ cut true [] ls
     else cut false (part ++ l ∷ []) ls
 
+-- the bytes of letters
 abbrev pub spelled : List Letter → List ℕ
 spelled ls = encode_utf8_all (map (λ l. l.character) ls)
 
@@ -75,6 +81,7 @@ abbrev pub IsClassifier : ℕ → Node → Type 0
 IsClassifier line (Element t a c l) = (t ≡ Classifier) × (a ≡ []) × (l ≡ line)
 IsClassifier line (Words t) = ⊥
 
+-- each node is a classifier of a line
 abbrev pub AreClassifiers : ℕ → List Node → Type 0
 AreClassifiers line [] = Unit {0}
 AreClassifiers line (node ∷ nodes) = IsClassifier line node × AreClassifiers line nodes

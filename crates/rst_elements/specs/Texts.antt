@@ -1,4 +1,4 @@
--- Elements that hold a text with inline markup, and messages.
+-- Elements that hold a text with inline markup, and messages (Document Tree, 'Element Reference', 'system_message').
 use Rattle.std.specs.Prelude.{ℕ, ◌+◌, ◌-◌, ◌^◌, ◌==◌, if◌then◌else◌, min, Bool, List, [], ◌∷◌, Option, Some, None, is_some}
 use Rattle.std.specs.List.{list_any}
 use Rattle.rst_tree.specs.Attributes.{attr, with_attr, value_of}
@@ -38,10 +38,12 @@ abbrev pub number_in : Option Value → Option ℕ
 number_in (Some (Number n)) = Some n
 number_in _ = None
 
+-- the number of the message that a node is of, if it is of one
 abbrev pub message_of : Node → Option ℕ
 message_of (Element t a c l) = number_in (value_of Message a)
 message_of (Words t) = None
 
+-- a node with the number of its message counted on from the first, if it is of a message
 abbrev pub numbered_by : ℕ → Option ℕ → Node → Node
 numbered_by first (Some n) node = with_message (counted_on first n) node
 numbered_by first None node = node
@@ -61,6 +63,7 @@ messages_from first (note ∷ notes) = with_message first (note_node note) ∷ m
 
 -- ---- sections
 
+-- a section, named by its title, which it holds; it says how many messages the title has
 abbrev pub section_node : Node → ℕ → ℕ → Node
 section_node title notes line =
     element_of Section (attr OwnName (Said (name_in (text_in title))) ∷ counting notes) (title ∷ []) line

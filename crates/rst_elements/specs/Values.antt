@@ -1,4 +1,4 @@
--- Texts as values of attributes.
+-- Texts as values of attributes (Document Tree, 'Attribute Reference').
 use Rattle.std.specs.Prelude.{ℕ, List, map, encode_utf8_all, string_bytes}
 use Rattle.std.specs.Str.{chars}
 use Rattle.std.specs.declared.string.String.{String}
