@@ -1,3 +1,4 @@
+pub mod Texts
 pub mod TagNames
 pub mod KeyNames
 pub mod LevelNames

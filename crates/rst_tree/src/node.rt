@@ -1,5 +1,5 @@
 //! Nodes and lists of them.
-ghost use Rattle.std.specs.Prelude.{◌≡◌, ◌∷◌, ◌++◌, [], ◌<◌, length, slice_get, slice_index_or, MatchOption, None, Some, IsSomeAnd};
+ghost use Rattle.std.specs.Prelude.{◌≡◌, ◌∷◌, ◌++◌, [], ◌<◌, length, slice_get, slice_index_or, MatchOption, None, Some, IsSomeAnd, string_bytes};
 ghost use Rattle.std.specs.Borrow.{sem};
 ghost use Rattle.rst_tree.specs.Faults.{Gives, Becomes, GivesBack};
 ghost use Rattle.rst_tree.specs.Tree.{text_in};
@@ -251,9 +251,17 @@ impl Node {
     pub fn text_of(&self, alloc: Global) -> Result<Text, TreeFault>
         ensures { Gives (λ t. t ≡ text_in self.now) result }
     {
-        let mut text = Text::from_str(alloc, "")?;
-        add_text(self, &mut text)?;
-        Ok(text)
+        let string = self.string_of(alloc)?;
+        Ok(Text::new(string))
+    }
+
+    /// The same as a `String`.
+    pub(crate) fn string_of(&self, alloc: Global) -> Result<String, TreeFault>
+        ensures { Gives (λ s. string_bytes s ≡ text_in self.now) result }
+    {
+        let mut string = String::new(alloc);
+        add_text(self, &mut string)?;
+        Ok(string)
     }
 
     /// A node equal to this one.
@@ -285,8 +293,8 @@ impl Node {
 }
 
 /// Puts the texts in a node behind a text.
-fn add_text(node: &Node, text: &mut Text) -> Result<(), TreeFault>
-    ensures { Gives (λ _. text.new ≡ text.old ++ text_in node.now) result }
+fn add_text(node: &Node, text: &mut String) -> Result<(), TreeFault>
+    ensures { Gives (λ _. string_bytes text.new ≡ string_bytes text.old ++ text_in node.now) result }
 {
     match node {
         Node::Element { children, .. } => {

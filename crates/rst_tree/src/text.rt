@@ -3,21 +3,34 @@ ghost use Rattle.std.specs.Prelude.{◌≡◌, ◌∷◌, ◌++◌, [], string_b
 ghost use Rattle.rst_tree.specs.Faults.{Gives, Becomes};
 
 use crate::fault::TreeFault;
+use arrayvec::ArrayString;
 use std::alloc::Global;
 use std::marker::Model;
 
 /// A text, which contracts see as the list of its bytes.
 #[derive(Debug, Drop)]
 pub struct Text {
-    string: String,
+    held: Held,
 }
 
+/// What a text is made of. Most are short: those lie in the value itself, and take no memory.
+#[derive(Debug, Drop)]
+enum Held {
+    Short(Global, ArrayString<SHORT>),
+    Long(String),
+}
+
+/// How many bytes a short text has at most: ids, names and the texts of cells mostly have no more.
+const SHORT: usize = 24;
+
 impl Model for Text {
-    ghost use Rattle.std.specs.Prelude.{ℕ, List, string_bytes};
+    ghost use Rattle.std.specs.Prelude.{ℕ, List};
 
     ghost Value = { List ℕ };
 
-    ghost view = { λ t. string_bytes t.string };
+    ghost use Rattle.rst_tree.specs.Texts.{held_bytes};
+
+    ghost view = { λ t. held_bytes t.held };
 }
 
 impl Text {
@@ -25,52 +38,66 @@ impl Text {
     pub fn new(string: String) -> Text
         ensures { result ≡ string_bytes string }
     {
-        Text { string }
+        Text {
+            held: Held::Long(string),
+        }
     }
 
     /// A text of its own.
     pub fn from_str(alloc: Global, text: &str) -> Result<Text, TreeFault>
         ensures { Gives (λ t. t ≡ text.now) result }
     {
-        let string = String::from_str(alloc, text)?;
-        Ok(Text { string })
+        match ArrayString::from(text) {
+            Ok(short) => Ok(Text {
+                held: Held::Short(alloc, short),
+            }),
+            Err(_) => Ok(Text::new(String::from_str(alloc, text)?)),
+        }
     }
 
     /// The text as a `str`.
     pub fn as_str(&self) -> &str
         ensures { result.now ≡ self.now }
     {
-        self.string.as_str()
+        match &self.held {
+            Held::Short(_, short) => short.as_str(),
+            Held::Long(string) => string.as_str(),
+        }
     }
 
     /// The bytes of the text.
     pub fn as_bytes(&self) -> &[u8]
         ensures { result.now ≡ self.now }
     {
-        self.string.as_bytes()
-    }
-
-    /// The `String` inside.
-    pub fn into_string(self) -> String
-        ensures { string_bytes result ≡ self }
-    {
-        let Text { string } = self;
-        string
+        self.as_str().as_bytes()
     }
 
     /// An equal text.
     pub fn copy(&self) -> Result<Text, TreeFault>
         ensures { Gives (λ t. t ≡ self.now) result }
     {
-        let string = self.string.clone()?;
-        Ok(Text { string })
+        match &self.held {
+            Held::Short(alloc, short) => Ok(Text {
+                held: Held::Short(*alloc, *short),
+            }),
+            Held::Long(string) => Text::from_str(*string.allocator(), string.as_str()),
+        }
     }
 
     /// Puts a text behind this one.
     pub fn push_str(&mut self, text: &str) -> Result<(), TreeFault>
         ensures { Becomes self.old self.new (self.old ++ text.now) result }
     {
-        self.string.push_str(text)?;
+        match &mut self.held {
+            Held::Short(alloc, front) => {
+                if front.try_push_str(text).is_err() {
+                    let mut string = String::from_str(*alloc, front.as_str())?;
+                    string.push_str(text)?;
+                    self.held = Held::Long(string);
+                }
+            }
+            Held::Long(string) => string.push_str(text)?,
+        }
         Ok(())
     }
 }

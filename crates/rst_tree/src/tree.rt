@@ -150,10 +150,7 @@ impl Tree {
         ensures { Gives (λ s. string_bytes s ≡ text_at at.now self.now) result }
     {
         match found(&self.root, at) {
-            Some(node) => {
-                let text = node.text_of(alloc)?;
-                Ok(text.into_string())
-            }
+            Some(node) => node.string_of(alloc),
             None => unreachable!(),
         }
     }

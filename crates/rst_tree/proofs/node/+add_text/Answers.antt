@@ -1,4 +1,5 @@
 use Rattle.std.proofs.Common.{rules, arith, ◌+◌, ◌≤◌}
+use Rattle.std.specs.Prelude.{string_bytes}
 use Rattle.rst_tree.specs.Nodes.{node_height}
 use Rattle.rst_tree.proofs.PrintedParts.{child_height}
 use Rattle.rst_tree.proofs.Fitting.{text_whole}
@@ -13,4 +14,4 @@ add_text-requires t c =
 
 pub returns-after-loop-child : goal.returns-after-loop-child
 returns-after-loop-child t c =
-    text_whole c.args.node.now _ _ _ _ c.as_slice-child-items.result.now c.loop-child.child-index c.args.text.now _ c.in-Element.is c.as_slice-child-items.ensures c.loop-child-test.false c.loop-child.invariant
+    text_whole c.args.node.now _ _ _ _ c.as_slice-child-items.result.now c.loop-child.child-index (string_bytes c.args.text.now) _ c.in-Element.is c.as_slice-child-items.ensures c.loop-child-test.false c.loop-child.invariant
