@@ -40,9 +40,13 @@ is_sound_node (Text t) = is_lines t
 abbrev pub most_levels : ℕ
 most_levels = 1350
 
+-- the nodes nest no deeper than so many levels, the attributes are in order, and the texts hold no line end but LF
+abbrev pub is_tree_within : Node → ℕ → Bool
+is_tree_within n levels = nat_le (node_height n) levels && is_sound_node n
+
 -- the attributes are in order, the texts hold no line end but LF, and the nodes don't nest too deep
 abbrev pub is_tree : Node → Bool
-is_tree n = nat_le (node_height n) most_levels && is_sound_node n
+is_tree n = is_tree_within n most_levels
 
 -- the tree of a node, just where the node is one, or else the node
 abbrev pub IsTreeOf : Node → Result Node Node → Type 0

@@ -1,12 +1,11 @@
 //! Documents as trees, and changes of them.
-ghost use Rattle.std.specs.Prelude.{◌≡◌, ◌<◌, nat_le, IsTrue, MatchOption, Some, None, is_some, ◌++◌, string_bytes};
+ghost use Rattle.std.specs.Prelude.{◌≡◌, ◌<◌, IsTrue, MatchOption, Some, None, is_some, ◌++◌, string_bytes};
 ghost use Rattle.std.specs.List.{list_all};
 ghost use Rattle.rst_text.specs.Lines.{is_line_end};
 ghost use Rattle.rst_tree.specs.Attributes.{with_attr};
 ghost use Rattle.rst_tree.specs.Faults.{Gives, Becomes, GivesBack};
-ghost use Rattle.rst_tree.specs.Nodes.{node_height};
 ghost use Rattle.rst_tree.specs.Paths.{node_at, changed_at, with_child, with_value, value_at};
-ghost use Rattle.rst_tree.specs.Tree.{IsTreeOf, is_tree, is_sound_node, is_lines, is_plain_byte, in_order, fits, is_element, text_in, text_at};
+ghost use Rattle.rst_tree.specs.Tree.{IsTreeOf, is_tree, is_tree_within, is_lines, is_plain_byte, in_order, fits, is_element, text_in, text_at};
 
 use crate::attrs::{Attr, Value};
 use crate::fault::TreeFault;
@@ -48,7 +47,7 @@ impl Tree {
     pub fn of(root: Node) -> Result<Tree, Node>
         ensures { IsTreeOf root result }
     {
-        if is_within(&root, MOST_LEVELS) && is_sound(&root) {
+        if is_tree_within(&root, MOST_LEVELS) {
             Ok(Tree { root })
         } else {
             Err(root)
@@ -110,8 +109,7 @@ impl Tree {
     {
         is_element_at(&self.root, at)
             && at.len() < MOST_LEVELS
-            && is_within(node, MOST_LEVELS - 1 - at.len())
-            && is_sound(node)
+            && is_tree_within(node, MOST_LEVELS - 1 - at.len())
     }
 
     /// Puts a node that `fits` behind the last in the element at a path; it is given back at want of memory.
@@ -180,27 +178,14 @@ fn is_element_at(root: &Node, at: &[usize]) -> bool
     matches!(found(root, at), Some(Node::Element { .. }))
 }
 
-/// Whether the node's depth is at most the number of levels.
-fn is_within(node: &Node, levels: usize) -> bool
-    ensures { result ≡ nat_le (node_height node.now) levels }
+/// Whether the node's depth is at most the number of levels, each list of attributes is in order, and no text has a line end
+/// but LF.
+fn is_tree_within(node: &Node, levels: usize) -> bool
+    ensures { result ≡ is_tree_within node.now levels }
 {
     if levels == 0 {
         return false;
     }
-    if let Node::Element { children, .. } = node {
-        for child in children.as_slice() {
-            if !is_within(child, levels - 1) {
-                return false;
-            }
-        }
-    }
-    true
-}
-
-/// Whether each list of attributes is in order and no text has a line end but LF.
-fn is_sound(node: &Node) -> bool
-    ensures { result ≡ is_sound_node node.now }
-{
     match node {
         Node::Element {
             attrs,
@@ -211,7 +196,7 @@ fn is_sound(node: &Node) -> bool
                 return false;
             }
             for child in children.as_slice() {
-                if !is_sound(child) {
+                if !is_tree_within(child, levels - 1) {
                     return false;
                 }
             }
