@@ -57,11 +57,13 @@ is_empty_list _ = false
 abbrev pub is_left_out : Attr → Bool
 is_left_out a = is_empty_list a.value && hides_empty a.key
 
+-- ` name="`, which stands in front of a value
+abbrev pub attribute_opening : Key → List ℕ
+attribute_opening k = codes " " ++ key_name k ++ codes "=\""
+
 -- ` name="value"`, or nothing
 abbrev pub shown_attr : Attr → List ℕ
-shown_attr a =
-    if is_left_out a then []
-    else codes " " ++ key_name a.key ++ codes "=\"" ++ value_text a.value ++ codes "\""
+shown_attr a = if is_left_out a then [] else attribute_opening a.key ++ value_text a.value ++ codes "\""
 
 -- `<tag attributes>`
 abbrev pub start_tag : Tag → List Attr → List ℕ

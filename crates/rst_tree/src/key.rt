@@ -56,55 +56,55 @@ pub enum Key {
 }
 
 impl Key {
-    ghost use Rattle.rst_tree.specs.KeyNames.{key_name, key_code, is_hidden};
-    ghost use Rattle.rst_tree.specs.Print.{hides_empty};
+    ghost use Rattle.rst_tree.specs.KeyNames.{key_code, is_hidden};
+    ghost use Rattle.rst_tree.specs.Print.{hides_empty, attribute_opening};
 
-    /// The name that is printed.
+    /// What is printed in front of the value: a space, the name, `=` and the quote.
     #[tactic(auto, unfolding(crate::specs::KeyNames::key_name))]
-    pub fn name(self) -> &'static str
-        ensures { result.now ≡ key_name self }
+    pub fn opening(self) -> &'static str
+        ensures { result.now ≡ attribute_opening self }
     {
         match self {
-            Key::Align => "align",
-            Key::Alt => "alt",
-            Key::Anonymous => "anonymous",
-            Key::Auto => "auto",
-            Key::Backrefs => "backrefs",
-            Key::Bullet => "bullet",
-            Key::Classes => "classes",
-            Key::Cols => "cols",
-            Key::Colwidth => "colwidth",
-            Key::Delimiter => "delimiter",
-            Key::Dupnames => "dupnames",
-            Key::Enumtype => "enumtype",
-            Key::Height => "height",
-            Key::Ids => "ids",
-            Key::Inline => "inline",
-            Key::Level => "level",
-            Key::Line => "line",
-            Key::Mark => "mark",
-            Key::Message => "message",
-            Key::Morecols => "morecols",
-            Key::Morerows => "morerows",
-            Key::Name => "name",
-            Key::Names => "names",
-            Key::OwnName => "own_name",
-            Key::Prefix => "prefix",
-            Key::Rawsource => "rawsource",
-            Key::Refid => "refid",
-            Key::Refname => "refname",
-            Key::Refuri => "refuri",
-            Key::Scale => "scale",
-            Key::Serial => "serial",
-            Key::Source => "source",
-            Key::Start => "start",
-            Key::Suffix => "suffix",
-            Key::TextMessages => "text_messages",
-            Key::Title => "title",
-            Key::Type_ => "type",
-            Key::Uri => "uri",
-            Key::Width => "width",
-            Key::XmlSpace => "xml:space",
+            Key::Align => " align=\"",
+            Key::Alt => " alt=\"",
+            Key::Anonymous => " anonymous=\"",
+            Key::Auto => " auto=\"",
+            Key::Backrefs => " backrefs=\"",
+            Key::Bullet => " bullet=\"",
+            Key::Classes => " classes=\"",
+            Key::Cols => " cols=\"",
+            Key::Colwidth => " colwidth=\"",
+            Key::Delimiter => " delimiter=\"",
+            Key::Dupnames => " dupnames=\"",
+            Key::Enumtype => " enumtype=\"",
+            Key::Height => " height=\"",
+            Key::Ids => " ids=\"",
+            Key::Inline => " inline=\"",
+            Key::Level => " level=\"",
+            Key::Line => " line=\"",
+            Key::Mark => " mark=\"",
+            Key::Message => " message=\"",
+            Key::Morecols => " morecols=\"",
+            Key::Morerows => " morerows=\"",
+            Key::Name => " name=\"",
+            Key::Names => " names=\"",
+            Key::OwnName => " own_name=\"",
+            Key::Prefix => " prefix=\"",
+            Key::Rawsource => " rawsource=\"",
+            Key::Refid => " refid=\"",
+            Key::Refname => " refname=\"",
+            Key::Refuri => " refuri=\"",
+            Key::Scale => " scale=\"",
+            Key::Serial => " serial=\"",
+            Key::Source => " source=\"",
+            Key::Start => " start=\"",
+            Key::Suffix => " suffix=\"",
+            Key::TextMessages => " text_messages=\"",
+            Key::Title => " title=\"",
+            Key::Type_ => " type=\"",
+            Key::Uri => " uri=\"",
+            Key::Width => " width=\"",
+            Key::XmlSpace => " xml:space=\"",
         }
     }
 

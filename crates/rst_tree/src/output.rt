@@ -1,5 +1,5 @@
 //! The texts of nodes and messages, piece by piece.
-ghost use Rattle.std.specs.Prelude.{◌≡◌, ◌≢◌, ◌+◌, ◌*◌, ◌-◌, ◌^◌, ◌<◌, ◌∷◌, [], length, take, drop, map, replicate};
+ghost use Rattle.std.specs.Prelude.{◌≡◌, ◌≢◌, ◌+◌, ◌*◌, ◌-◌, ◌^◌, ◌<◌, ◌∷◌, ◌++◌, [], length, take, drop, map, replicate};
 ghost use Rattle.rst_tree.specs.Sends.{Sends};
 ghost use Rattle.rst_tree.specs.Print.{is_escaped, escaped_byte, escaped, spaced, value_text, shown_attr, start_tag, line_len, printed_line, printed, text_lines, printed_node};
 ghost use Rattle.rst_tree.specs.Nodes.{node_height};
@@ -13,6 +13,7 @@ use crate::note::Note;
 use crate::page::{Page, put};
 use crate::tag::Tag;
 use crate::text::Text;
+use itoa::Buffer;
 use memchr::memchr;
 use rst_text::Counted;
 use std::io::Write;
@@ -21,12 +22,9 @@ use std::io::Write;
 fn put_number<W: Write, const N: usize>(out: &mut Counted<W>, page: &mut Page<N>, number: u64)
     ensures { Sends W.contents (decimal number) out.old page.old out.new page.new }
 {
-    if number < 10 {
-        put(out, page, &[b'0' + number as u8]);
-    } else {
-        put_number(out, page, number / 10);
-        put(out, page, &[b'0' + (number % 10) as u8]);
-    }
+    let mut buffer = Buffer::new();
+    let digits = buffer.format(number);
+    put(out, page, digits.as_bytes());
 }
 
 /// Writes a byte of a list's member: a space or a backslash stands behind a backslash.
@@ -105,26 +103,24 @@ fn put_attr<W: Write, const N: usize>(out: &mut Counted<W>, page: &mut Page<N>, 
     if attr.is_left_out() {
         return;
     }
-    put(out, page, b" ");
-    put(out, page, attr.key.name().as_bytes());
-    put(out, page, b"=\"");
+    put(out, page, attr.key.opening().as_bytes());
     put_value(out, page, &attr.value);
     put(out, page, b"\"");
 }
 
-/// Writes an element's tag with its attributes.
-fn put_start_tag<W: Write, const N: usize>(
+/// Writes an element's tag with its attributes, and the line's end.
+fn put_tag_line<W: Write, const N: usize>(
     out: &mut Counted<W>,
     page: &mut Page<N>,
     tag: Tag,
     attrs: &[Attr],
 )
-    ensures { Sends W.contents (start_tag tag attrs.now) out.old page.old out.new page.new }
+    ensures { Sends W.contents (start_tag tag attrs.now ++ 10 ∷ []) out.old page.old out.new page.new }
 {
     put(out, page, b"<");
     put(out, page, tag.name().as_bytes());
     put_attrs(out, page, attrs);
-    put(out, page, b">");
+    put(out, page, b">\n");
 }
 
 /// Writes the attributes.
@@ -224,8 +220,7 @@ pub fn put_node<W: Write, const N: usize>(
             line: _,
         } => {
             put_indent(out, page, level);
-            put_start_tag(out, page, *tag, attrs.as_slice());
-            put(out, page, b"\n");
+            put_tag_line(out, page, *tag, attrs.as_slice());
             for child in children.as_slice() {
                 put_node(out, page, level + 1, child);
             }

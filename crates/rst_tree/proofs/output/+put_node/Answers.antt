@@ -21,7 +21,7 @@ loop-child-preserved g t c =
 
 pub returns-after-loop-child : goal.returns-after-loop-child
 returns-after-loop-child g t c =
-    Gets-as (c.put_indent.ensures ▸ c.put_start_tag.ensures ▸ c.put.ensures ▸ c.loop-child.invariant)
+    Gets-as (c.put_indent.ensures ▸ c.put_tag_line.ensures ▸ c.loop-child.invariant)
     (printed-element c.args.level c.args.node.now c.in-Element.tag c.in-Element.attrs c.as_slice.result.now c.in-Element.children c.in-Element.line c.as_slice-child-items.result.now c.loop-child.child-index
     c.in-Element.is c.as_slice.ensures c.as_slice-child-items.ensures c.loop-child-test.false)
 
