@@ -31,9 +31,13 @@ markup_name Target = codes "target"
 markup_name Substitution = codes "substitution_reference"
 markup_name Interpreted = codes "interpreted text or phrase reference"
 
+-- what is said of a start-string without an end
+abbrev pub unended_words : Markup → List ℕ
+unended_words markup = codes "Inline " ++ markup_name markup ++ codes " start-string without end-string."
+
 -- a start-string without an end, which gives a warning
 abbrev pub unended : Markup → Meaning
-unended markup = Wrong Warning (codes "Inline " ++ markup_name markup ++ codes " start-string without end-string.")
+unended markup = Wrong Warning (unended_words markup)
 
 -- a role that no element belongs to, which gives an error
 abbrev pub unknown_role : List ℕ → Meaning

@@ -3,7 +3,7 @@ ghost use Rattle.std.specs.Prelude.{◌<◌, ◌+◌, true, ◌≡◌};
 ghost use Rattle.rst_pieces.specs.Escapes.{unescaped};
 ghost use Rattle.rst_pieces.specs.Pieces.{IsWithin};
 ghost use Rattle.rst_inline.specs.Parts.{source, content};
-ghost use Rattle.rst_inline.specs.Readings.{markup_name, unended, unknown_role, two_roles, mismatch, plain_reading, substitution_reading, embedded_reading, phrase_reading, role_reading, has_prefix, interpreted_reading, marked_reading, reading};
+ghost use Rattle.rst_inline.specs.Readings.{unended_words, unended, unknown_role, two_roles, mismatch, plain_reading, substitution_reading, embedded_reading, phrase_reading, role_reading, has_prefix, interpreted_reading, marked_reading, reading};
 ghost use Rattle.rst_inline.specs.Faults.{Gives};
 
 use super::elements::{plain_element, target, uri_target};
@@ -28,27 +28,26 @@ pub(crate) enum Meaning {
     Wrong(Level, Text),
 }
 
-fn markup_name(markup: Markup) -> &'static str
-    ensures { result.now ≡ markup_name markup }
+/// What is said of a start-string without an end-string.
+fn unended_words(markup: Markup) -> &'static str
+    ensures { result.now ≡ unended_words markup }
 {
     match markup {
-        Markup::Strong => "strong",
-        Markup::Emphasis => "emphasis",
-        Markup::Literal => "literal",
-        Markup::Target => "target",
-        Markup::Substitution => "substitution_reference",
-        Markup::Interpreted => "interpreted text or phrase reference",
+        Markup::Strong => "Inline strong start-string without end-string.",
+        Markup::Emphasis => "Inline emphasis start-string without end-string.",
+        Markup::Literal => "Inline literal start-string without end-string.",
+        Markup::Target => "Inline target start-string without end-string.",
+        Markup::Substitution => "Inline substitution_reference start-string without end-string.",
+        Markup::Interpreted =>
+            "Inline interpreted text or phrase reference start-string without end-string.",
     }
 }
 
-/// A start-string without an end-string.
 fn unended(alloc: Global, markup: Markup) -> Result<Meaning, InlineFault>
     ensures { Gives (λ reading. reading ≡ unended markup) result }
 {
-    let mut text = String::from_str(alloc, "Inline ")?;
-    text.push_str(markup_name(markup))?;
-    text.push_str(" start-string without end-string.")?;
-    Ok(Meaning::Wrong(Level::Warning, Text::new(text)))
+    let text = Text::from_str(alloc, unended_words(markup))?;
+    Ok(Meaning::Wrong(Level::Warning, text))
 }
 
 fn unknown_role(alloc: Global, name: &str) -> Result<Meaning, InlineFault>
