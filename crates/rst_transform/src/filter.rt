@@ -12,7 +12,8 @@ use std::alloc::Global;
 use std::mem;
 
 /// Takes the messages below the report level out of a document, lets each problematic whose message is gone become its text, and
-/// takes off the attributes that serve the transforms alone (Configuration, `report_level`).
+/// takes off the attributes that serve the transforms alone (Configuration, `report_level`). `shown` are the numbers of the
+/// messages that stay, in rising order.
 ///
 /// Before, where WARNINGs aren't shown:
 ///
@@ -27,10 +28,14 @@ use std::mem;
 ///     <paragraph>
 ///         *
 ///         a
-pub(crate) fn filter(alloc: Global, root: Node, report: Threshold) -> Result<Node, TreeFault>
+pub(crate) fn filter(
+    alloc: Global,
+    root: Node,
+    report: Threshold,
+    shown: &[u64],
+) -> Result<Node, TreeFault>
     ensures { Gives (λ node. is_shown_in report node ≡ true) result }
 {
-    let shown = shown_messages(alloc, &root, report)?;
     match root {
         Node::Element {
             tag,
@@ -39,7 +44,7 @@ pub(crate) fn filter(alloc: Global, root: Node, report: Threshold) -> Result<Nod
             line,
         } => {
             attrs.remove_hidden();
-            filter_in(alloc, &mut children, report, &shown)?;
+            filter_in(alloc, &mut children, report, shown)?;
             Ok(Node::Element {
                 tag,
                 attrs,
@@ -49,36 +54,6 @@ pub(crate) fn filter(alloc: Global, root: Node, report: Threshold) -> Result<Nod
         }
         Node::Text(text) => Ok(Node::Text(text)),
     }
-}
-
-/// The numbers of the messages that are at or above the report level, in rising order.
-fn shown_messages(alloc: Global, root: &Node, report: Threshold) -> Result<Vec<u64>, TreeFault> {
-    let mut shown = Vec::new(alloc);
-    find_shown(root, report, &mut shown)?;
-    // They mostly rise as they are found.
-    shown.sort()?;
-    Ok(shown)
-}
-
-/// Gathers the numbers of the messages that are at or above the report level.
-fn find_shown(node: &Node, report: Threshold, shown: &mut Vec<u64>) -> Result<(), TreeFault> {
-    if let Node::Element {
-        tag,
-        attrs,
-        children,
-        ..
-    } = node
-    {
-        if matches!(tag, Tag::SystemMessage) && reaches(level_number(attrs), report) {
-            if let Some(message) = number(attrs, Key::Message) {
-                shown.push(message)?;
-            }
-        }
-        for child in children.as_slice() {
-            find_shown(child, report, shown)?;
-        }
-    }
-    Ok(())
 }
 
 /// What becomes of an element.

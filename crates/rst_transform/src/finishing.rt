@@ -51,16 +51,14 @@ pub fn finish(
     ensures few { IfOk result (λ done. done.highest ≤ 4) }
 {
     let work = registered(alloc, document, messages)?;
-    let mut list = Messages::new(alloc, settings.halt);
-    let kinds = Kinds::of(&work.root);
-    if kinds.messages {
-        list.read(alloc, &work.root)?;
-    }
+    let mut list = Messages::new(alloc, settings.halt, settings.report);
+    let kinds = Kinds::of(alloc, &work.root, &mut list)?;
     let work = transformed(alloc, work, kinds, settings)?;
     let Work { root, reports, .. } = last_section(alloc, work, settings.report)?;
     list.add_reports(reports)?;
+    let root = filter(alloc, root, settings.report, list.shown())?;
     let (notes, highest) = list.end();
-    match Tree::of(filter(alloc, root, settings.report)?) {
+    match Tree::of(root) {
         Ok(tree) => Ok(Finished {
             tree,
             notes,

@@ -1,7 +1,11 @@
-//! Which kinds of elements that transforms act on a document has.
+//! Which kinds of elements that transforms act on a document has, and its messages.
+ghost use Rattle.std.specs.Prelude.{◌≡◌};
 
 use crate::links::is_linked;
-use rst_tree::{Attrs, Key, Node, Tag};
+use crate::messages::Messages;
+use crate::targets::is_internal;
+use rst_tree::{Attrs, Children, Key, Node, Tag, TreeFault};
+use std::alloc::Global;
 
 /// Which kinds of elements that transforms act on a document has. A transform whose kind is missing would change nothing, and
 /// needn't go through the document.
@@ -9,7 +13,7 @@ use rst_tree::{Attrs, Key, Node, Tag};
 pub(crate) struct Kinds {
     /// References to substitution definitions.
     pub substitutions: bool,
-    /// Targets.
+    /// Internal targets.
     pub targets: bool,
     /// Anonymous references or targets.
     pub anonymous: bool,
@@ -21,13 +25,17 @@ pub(crate) struct Kinds {
     pub links: bool,
     /// Transitions.
     pub transitions: bool,
-    /// Messages.
-    pub messages: bool,
 }
 
 impl Kinds {
-    /// The kinds in a document.
-    pub(crate) fn of(root: &Node) -> Kinds {
+    /// The kinds in a document, whose messages are listed on the way, in preorder.
+    pub(crate) fn of(
+        alloc: Global,
+        root: &Node,
+        messages: &mut Messages,
+    ) -> Result<Kinds, TreeFault>
+        ensures { messages.new.halt ≡ messages.old.halt }
+    {
         let mut kinds = Kinds {
             substitutions: false,
             targets: false,
@@ -36,26 +44,39 @@ impl Kinds {
             footnotes: false,
             links: false,
             transitions: false,
-            messages: false,
         };
-        kinds.read(root);
-        kinds
+        if let Node::Element { children, .. } = root {
+            kinds.read(alloc, children, messages)?;
+        }
+        Ok(kinds)
     }
 
-    /// Takes in the elements of a node.
-    fn read(&mut self, node: &Node) {
-        if let Node::Element {
-            tag,
-            attrs,
-            children,
-            ..
-        } = node
-        {
-            self.note(*tag, attrs);
-            for child in children.as_slice() {
-                self.read(child);
+    /// Takes in nodes and the elements in them. A message holds none that a transform acts on.
+    fn read(
+        &mut self,
+        alloc: Global,
+        nodes: &Children,
+        messages: &mut Messages,
+    ) -> Result<(), TreeFault>
+        ensures { messages.new.halt ≡ messages.old.halt }
+    {
+        for node in nodes.as_slice() {
+            if let Node::Element {
+                tag,
+                attrs,
+                children,
+                line,
+            } = node
+            {
+                if matches!(tag, Tag::SystemMessage) {
+                    messages.add(alloc, attrs, children, *line)?;
+                    continue;
+                }
+                self.note(*tag, attrs);
+                self.read(alloc, children, messages)?;
             }
         }
+        Ok(())
     }
 
     /// Takes in an element.
@@ -67,7 +88,6 @@ impl Kinds {
         match tag {
             Tag::SubstitutionReference => self.substitutions = true,
             Tag::Transition => self.transitions = true,
-            Tag::SystemMessage => self.messages = true,
             _ => {}
         }
     }
@@ -78,7 +98,7 @@ impl Kinds {
         self.anonymous = self.anonymous || attrs.get(Key::Anonymous).is_some();
         match tag {
             Tag::Target => {
-                self.targets = true;
+                self.targets = self.targets || is_internal(tag, attrs);
                 self.indirect = self.indirect || attrs.get(Key::Refname).is_some();
             }
             Tag::Footnote | Tag::FootnoteReference => self.footnotes = true,

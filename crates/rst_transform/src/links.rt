@@ -94,30 +94,32 @@ pub(crate) fn take_root(alloc: Global, work: &mut Work) -> Node {
     mem::replace(&mut work.root, Node::element(alloc, Tag::Document, 0))
 }
 
-/// The linked elements of a tree, in preorder.
+/// The linked elements in a document, in preorder.
 pub(crate) fn linked_in<'a>(alloc: Global, root: &'a Node) -> Result<Vec<Linked<'a>>, TreeFault> {
     let mut list = Vec::new(alloc);
-    add_linked(root, None, &mut list)?;
+    if let Node::Element { children, .. } = root {
+        add_linked(children, None, &mut list)?;
+    }
     Ok(list)
 }
 
-/// Adds the linked elements of a node that stands in the one at the place `outer`.
+/// Adds the linked elements among nodes, and in them, that stand in the one at the place `outer`.
 fn add_linked<'a>(
-    node: &'a Node,
+    nodes: &'a Children,
     outer: Option<usize>,
     list: &mut Vec<Linked<'a>>,
 ) -> Result<(), TreeFault> {
-    if let Node::Element { tag, children, .. } = node {
-        let mut inner = outer;
-        if is_linked(*tag) {
-            inner = Some(list.len());
-            list.push(Linked {
-                element: node,
-                outer,
-            })?;
-        }
-        for child in children.as_slice() {
-            add_linked(child, inner, list)?;
+    for node in nodes.as_slice() {
+        if let Node::Element { tag, children, .. } = node {
+            let mut inner = outer;
+            if is_linked(*tag) {
+                inner = Some(list.len());
+                list.push(Linked {
+                    element: node,
+                    outer,
+                })?;
+            }
+            add_linked(children, inner, list)?;
         }
     }
     Ok(())

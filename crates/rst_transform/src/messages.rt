@@ -7,7 +7,7 @@ ghost use Rattle.rst_transform.specs.Messages.{has_halt, EndsAtHalt, highest_lev
 use crate::reading::number;
 use crate::work::Report;
 use rst_settings::Threshold;
-use rst_tree::{Attrs, Children, Key, Level, Node, Note, Tag, Text, TreeFault};
+use rst_tree::{Attrs, Children, Key, Level, Node, Note, Text, TreeFault};
 use std::alloc::Global;
 
 /// Whether a level of that number is at or above a threshold; a number above 4 counts as 4.
@@ -27,7 +27,8 @@ pub(crate) fn level_number(attrs: &Attrs) -> u64
     }
 }
 
-/// The messages of a run in order, up to the first that halts it (Configuration, `halt_level`).
+/// The messages of a run in order, up to the first that halts it (Configuration, `halt_level`), and which of all are shown
+/// (Configuration, `report_level`).
 #[derive(Drop)]
 pub(crate) struct Messages {
     notes: Vec<Note>,
@@ -35,64 +36,77 @@ pub(crate) struct Messages {
     halt: Threshold,
     /// Whether the last message does.
     halted: bool,
+    /// From which level on a message is shown.
+    report: Threshold,
+    /// The numbers of the messages that are shown, as far as they have one.
+    shown: Vec<u64>,
     pub ghost halted_is: { halted ≡ has_halt halt notes.items },
     pub ghost ends: { EndsAtHalt halt notes.items },
 }
 
 impl Messages {
-    /// No message, of a run that halts at a threshold.
-    pub(crate) fn new(alloc: Global, halt: Threshold) -> Messages
+    /// No message, of a run that halts at a threshold and shows messages from another one on.
+    pub(crate) fn new(alloc: Global, halt: Threshold, report: Threshold) -> Messages
         ensures { result.halt ≡ halt }
     {
         Messages {
             notes: Vec::new(alloc),
             halt,
             halted: false,
+            report,
+            shown: Vec::new(alloc),
         }
     }
 
-    /// Adds a message, unless an earlier one halts the run.
-    fn push(&mut self, note: Note) -> Result<(), TreeFault>
+    /// Adds a message with a number, if it has one: to the list only if no earlier one halts the run.
+    fn push(&mut self, note: Note, number: Option<u64>) -> Result<(), TreeFault>
         ensures { self.new.halt ≡ self.old.halt }
     {
+        let level = note.level.number();
+        if self.report.is_reached(level) {
+            if let Some(number) = number {
+                self.shown.push(number)?;
+            }
+        }
         if self.halted {
             return Ok(());
         }
-        let halts = self.halt.is_reached(note.level.number());
+        let halts = self.halt.is_reached(level);
         self.notes.push(note)?;
         self.halted = halts;
         Ok(())
     }
 
-    /// Adds the messages in a tree, in preorder.
-    pub(crate) fn read(&mut self, alloc: Global, node: &Node) -> Result<(), TreeFault>
+    /// Adds the message that a `system_message` with these attributes and nodes tells.
+    pub(crate) fn add(
+        &mut self,
+        alloc: Global,
+        attrs: &Attrs,
+        children: &Children,
+        line: usize,
+    ) -> Result<(), TreeFault>
         ensures { self.new.halt ≡ self.old.halt }
     {
-        if let Node::Element {
-            tag,
-            attrs,
-            children,
-            line,
-        } = node
-        {
-            if matches!(tag, Tag::SystemMessage) {
-                return self.push(note_of(alloc, attrs, children, *line)?);
-            }
-            for child in children.as_slice() {
-                self.read(alloc, child)?;
-            }
-        }
-        Ok(())
+        let note = note_of(alloc, attrs, children, line)?;
+        self.push(note, number(attrs, Key::Message))
     }
 
-    /// Adds the messages of the transforms.
+    /// Adds the messages of the transforms, which are the last.
     pub(crate) fn add_reports(&mut self, reports: Vec<Report>) -> Result<(), TreeFault>
         ensures { self.new.halt ≡ self.old.halt }
     {
         for report in reports {
-            self.push(report.note)?;
+            self.push(report.note, Some(report.number))?;
         }
+        // They mostly rise as they are added.
+        self.shown.sort()?;
         Ok(())
+    }
+
+    /// The numbers of the messages that are shown, in rising order once all messages were added. No transform takes a message
+    /// out of a document, so these stand in it.
+    pub(crate) fn shown(&self) -> &[u64] {
+        self.shown.as_slice()
     }
 
     /// The messages, and the number of their highest level, 0 where there are none.
@@ -111,7 +125,7 @@ impl Messages {
     }
 }
 
-/// The message that a `system_message` with these attributes and nodes tells.
+/// What a `system_message` with these attributes and nodes tells.
 fn note_of(
     alloc: Global,
     attrs: &Attrs,

@@ -66,7 +66,7 @@ pub fn targets(alloc: Global, work: Work) -> Result<Work, TreeFault> {
 }
 
 /// Whether an element is an internal target of the body: one that stands in no text, and tells neither a URI nor a name.
-fn is_internal(tag: Tag, attrs: &Attrs) -> bool {
+pub(crate) fn is_internal(tag: Tag, attrs: &Attrs) -> bool {
     matches!(tag, Tag::Target)
         && attrs.get(Key::Inline).is_none()
         && attrs.get(Key::Refuri).is_none()
@@ -88,7 +88,9 @@ fn moves_in(alloc: Global, root: &Node) -> Result<Vec<bool>, TreeFault> {
         moves: Vec::new(alloc),
         awaited: false,
     };
-    followers.read(root)?;
+    if let Node::Element { children, .. } = root {
+        followers.read(children)?;
+    }
     let Followers { mut moves, awaited } = followers;
     if awaited {
         moves.push(false)?;
@@ -106,21 +108,21 @@ struct Followers {
 }
 
 impl Followers {
-    /// Takes in the elements of a node, in preorder.
-    fn read(&mut self, node: &Node) -> Result<(), TreeFault> {
-        if let Node::Element {
-            tag,
-            attrs,
-            children,
-            ..
-        } = node
-        {
-            if self.awaited {
-                self.moves.push(takes_ids(*tag))?;
-            }
-            self.awaited = is_internal(*tag, attrs);
-            for child in children.as_slice() {
-                self.read(child)?;
+    /// Takes in nodes and the elements in them, in preorder.
+    fn read(&mut self, nodes: &Children) -> Result<(), TreeFault> {
+        for node in nodes.as_slice() {
+            if let Node::Element {
+                tag,
+                attrs,
+                children,
+                ..
+            } = node
+            {
+                if self.awaited {
+                    self.moves.push(takes_ids(*tag))?;
+                }
+                self.awaited = is_internal(*tag, attrs);
+                self.read(children)?;
             }
         }
         Ok(())

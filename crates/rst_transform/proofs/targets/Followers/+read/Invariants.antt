@@ -1,5 +1,5 @@
-use Rattle.rst_tree.specs.Nodes.{node_height}
+use Rattle.rst_tree.specs.Forest.{height}
 use Rattle.rst_transform.proofs.targets.Followers.+read.Given as goal
 
 abbrev pub decreases-read : goal.decreases-read
-decreases-read l = node_height l.node.now
+decreases-read l = height l.nodes.now
