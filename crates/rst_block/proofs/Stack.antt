@@ -3,7 +3,6 @@ use Rattle.std.proofs.Common.{◌≡◌, ℕ, ◌+◌, ◌-◌, ◌*◌, ◌<◌
 use Rattle.std.proofs.lemmas.List.{drop-append-le, take-append-le, map-append, length-map}
 use Rattle.rst_text.specs.Block.{Block}
 use Rattle.rst_text.specs.Shown.{portion_block}
-use Rattle.rst_text.specs.declared.lines.SourceLine.{SourceLine}
 use Rattle.rst_markup.specs.declared.part.Part.{Part}
 use Rattle.rst_block.specs.Frames.{IsFrame, AreFrames, IsBegin, IsNow, HasSecond}
 use Rattle.rst_block.specs.Steps.{IsStep, IsResumed}
@@ -26,11 +25,11 @@ parts_left None = 3
 parts_left (Some p) = 4
 
 -- what is left in a block that waits
-abbrev pub left : List SourceLine → Frame → ℕ
+abbrev pub left : Block → Frame → ℕ
 left S f = 5 * (length (portion_block S f.portion) - f.level.at) + parts_left f.second
 
 -- all that is left where a text has n lines, there is room for so many blocks, and these wait
-abbrev pub all_left : ℕ → ℕ → List SourceLine → List Frame → ℕ → Step → ℕ
+abbrev pub all_left : ℕ → ℕ → Block → List Frame → ℕ → Step → ℕ
 all_left n room S fs lines now = work (5 * n + 6) room (map (left S) fs) (cost lines now)
 
 pub now_of_step : (B : Block) (at : ℕ) (s : Step) → IsStep B at s → IsNow B s
@@ -69,27 +68,27 @@ cost_of_step B at (Open l w first second) i h = omega (arith, h.0)
 cost_of_step B at (Cells l table) i h = omega (arith, h.0)
 cost_of_step B at (Done l) i h = omega arith
 
-fewer : (S : List SourceLine) (fs : List Frame) → length (map (left S) fs) ≡ length fs
+fewer : (S : Block) (fs : List Frame) → length (map (left S) fs) ≡ length fs
 fewer S fs = length-map fs (left S)
 
 -- less is left in the block that is read
-pub goes_on : (n room : ℕ) (S : List SourceLine) (fs : List Frame) (k j : ℕ) (s t : Step) → cost j t < cost k s → all_left n room S fs j t < all_left n room S fs k s
+pub goes_on : (n room : ℕ) (S : Block) (fs : List Frame) (k j : ℕ) (s t : Step) → cost j t < cost k s → all_left n room S fs j t < all_left n room S fs k s
 goes_on n room S fs k j s t h = less (5 * n + 6) room (map (left S) fs) (omega arith) h
 
 -- a step
-pub stepped : (n room : ℕ) (S : List SourceLine) (fs : List Frame) (B : Block) (l : Level) (s : Step) → l.at < length B → IsStep B l.at s
+pub stepped : (n room : ℕ) (S : Block) (fs : List Frame) (B : Block) (l : Level) (s : Step) → l.at < length B → IsStep B l.at s
     → all_left n room S fs (length B) s < all_left n room S fs (length B) (Next l)
 stepped n room S fs B l s i h = goes_on n room S fs (length B) (length B) (Next l) s (cost_of_step B l.at s i h)
 
 -- a block inside is opened
-pub opens : (n room : ℕ) (S : List SourceLine) (fs : List Frame) (B : Block) (s t : Step) (f : Frame) (m : ℕ)
+pub opens : (n room : ℕ) (S : Block) (fs : List Frame) (B : Block) (s t : Step) (f : Frame) (m : ℕ)
     → length fs < room → portion_block S f.portion ≡ B → left S f < cost (length B) s → m ≤ n → IsBegin t
     → all_left n room S (fs ++ f ∷ []) m t < all_left n room S fs (length B) s
 opens n room S fs B s t f m r e h i b =
     rw (map-append (left S) fs (f ∷ [])) (more (5 * n + 6) room (map (left S) fs) (omega (arith, fewer S fs, r)) h (cost_of_begin n m t b i))
 
 -- a block that waited goes on
-pub resumes : (n room : ℕ) (S : List SourceLine) (fs : List Frame) (f : Frame) (k j : ℕ) (s t : Step)
+pub resumes : (n room : ℕ) (S : Block) (fs : List Frame) (f : Frame) (k j : ℕ) (s t : Step)
     → length fs < room → cost j t < left S f → all_left n room S fs j t < all_left n room S (fs ++ f ∷ []) k s
 resumes n room S fs f k j s t r h =
     rw (map-append (left S) fs (f ∷ [])) (
@@ -98,7 +97,7 @@ resumes n room S fs f k j s t r h =
     omega (arith, a, b))
 
 -- a block that waited waits for another part
-pub waits_again : (n room : ℕ) (S : List SourceLine) (fs : List Frame) (f g : Frame) (k m : ℕ) (s t : Step)
+pub waits_again : (n room : ℕ) (S : Block) (fs : List Frame) (f g : Frame) (k m : ℕ) (s t : Step)
     → length fs < room → left S g < left S f → m ≤ n → IsBegin t → all_left n room S (fs ++ g ∷ []) m t < all_left n room S (fs ++ f ∷ []) k s
 waits_again n room S fs f g k m s t r h i b =
     rw (map-append (left S) fs (f ∷ [])) (rw (map-append (left S) fs (g ∷ [])) (
@@ -110,11 +109,11 @@ pub second_left : (p : Option Part) → HasSecond p → parts_left p ≡ 4
 second_left (Some p) h = refl
 second_left None h = absurd h
 
-pub pushed : (S : List SourceLine) (fs : List Frame) (f : Frame) → AreFrames S fs → IsFrame S f → AreFrames S (fs ++ f ∷ [])
+pub pushed : (S : Block) (fs : List Frame) (f : Frame) → AreFrames S fs → IsFrame S f → AreFrames S (fs ++ f ∷ [])
 pushed S [] f h i = (i, tt)
 pushed S (g ∷ fs) f h i = (h.0, pushed S fs f h.1 i)
 
-pub popped : (S : List SourceLine) (fs : List Frame) (f : Frame) → AreFrames S (fs ++ f ∷ []) → AreFrames S fs × IsFrame S f
+pub popped : (S : Block) (fs : List Frame) (f : Frame) → AreFrames S (fs ++ f ∷ []) → AreFrames S fs × IsFrame S f
 popped S [] f h = (tt, h.0)
 popped S (g ∷ fs) f h = let r = popped S fs f h.1 in ((h.0, r.0), r.1)
 
@@ -127,7 +126,7 @@ parts_at_least None = omega arith
 parts_at_least (Some p) = omega arith
 
 -- the last of some blocks that wait is taken off
-pub taken : (S : List SourceLine) (base : ℕ) (items xs : List Frame) (f : Frame) → items ≡ xs ++ f ∷ [] → base < length items → AreFrames S (drop base items)
+pub taken : (S : Block) (base : ℕ) (items xs : List Frame) (f : Frame) → items ≡ xs ++ f ∷ [] → base < length items → AreFrames S (drop base items)
     → (base ≤ length xs) × (drop base items ≡ drop base xs ++ f ∷ []) × (take base items ≡ take base xs) × AreFrames S (drop base xs) × IsFrame S f
 taken S base items xs f e h a =
     let b : base ≤ length xs = omega (arith, ap length e, length-append xs (f ∷ []), h) in
@@ -136,7 +135,7 @@ taken S base items xs f e h a =
     (b, d, ap (take base) e ∙ take-append-le base xs (f ∷ []) b, p.0, p.1)
 
 -- one more is put behind them
-pub placed : (S : List SourceLine) (base : ℕ) (xs : List Frame) (f : Frame) → base ≤ length xs → AreFrames S (drop base xs) → IsFrame S f
+pub placed : (S : Block) (base : ℕ) (xs : List Frame) (f : Frame) → base ≤ length xs → AreFrames S (drop base xs) → IsFrame S f
     → (base ≤ length (xs ++ f ∷ [])) × (drop base (xs ++ f ∷ []) ≡ drop base xs ++ f ∷ []) × (take base (xs ++ f ∷ []) ≡ take base xs) × AreFrames S (drop base (xs ++ f ∷ []))
 placed S base xs f h a i =
     let d : drop base (xs ++ f ∷ []) ≡ drop base xs ++ f ∷ [] = drop-append-le base xs (f ∷ []) h in

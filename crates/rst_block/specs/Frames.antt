@@ -2,7 +2,6 @@
 use Rattle.std.specs.Prelude.{◌≡◌, ◌^◌, ◌<◌, ◌≤◌, List, [], ◌∷◌, length, Option, None, Some}
 use Rattle.rst_text.specs.Block.{Block}
 use Rattle.rst_text.specs.Shown.{block_of, source_of, IsPortion, portion_block}
-use Rattle.rst_text.specs.declared.lines.SourceLine.{SourceLine}
 use Rattle.rst_markup.specs.Parts.{IsBlock}
 use Rattle.rst_markup.specs.declared.part.Part.{Part}
 use Rattle.rst_block.specs.Steps.{IsBlockIf, IsWaiting, IsResumed}
@@ -13,11 +12,11 @@ use Rattle.rst_block.specs.declared.step.Step.{Step}
 use Rattle.rst_block.specs.declared.step.Step.TheVariants.{Next, Open, Cells, Done}
 
 -- a block of a text that waits: its parts are those of its lines
-abbrev pub IsFrame : List SourceLine → Frame → Type 0
+abbrev pub IsFrame : Block → Frame → Type 0
 IsFrame S f = IsPortion S f.portion × (length (portion_block S f.portion) < 2 ^ 64) × IsBlockIf (portion_block S f.portion) f.second × IsWaiting (portion_block S f.portion) f.level.at f.waits
 
 -- all of them are
-abbrev pub AreFrames : List SourceLine → List Frame → Type 0
+abbrev pub AreFrames : Block → List Frame → Type 0
 AreFrames S [] = Unit {0}
 AreFrames S (f ∷ fs) = IsFrame S f × AreFrames S fs
 
@@ -39,7 +38,7 @@ HasSecond (Some p) = Unit {0}
 HasSecond None = ⊥
 
 -- a block inside one that waits was read: the next part is read, of a block that is the same but for that, or it goes on
-abbrev pub IsEnded : List SourceLine → Frame → Ended → Type 0
+abbrev pub IsEnded : Block → Frame → Ended → Type 0
 IsEnded S f (Waiting g r) =
     IsFrame S g × (g.portion ≡ f.portion) × (g.level.at ≡ f.level.at) × (g.second ≡ None) × HasSecond f.second
     × (source_of r.view ≡ S) × (length (block_of r.view) ≤ length (portion_block S f.portion)) × IsBegin r.now

@@ -1,18 +1,15 @@
 -- The lines of a view, which is cut in bytes.
-use Rattle.std.proofs.Common.{◌≡◌, ℕ, zero, suc, ◌+◌, ◌-◌, ◌<◌, ◌≤◌, ◌^◌, min, List, [], ◌∷◌, ◌++◌, ◌==◌, length, get_or, take, drop, map, refl, sym, ◌∙◌, ap, arith, length-drop, length-append, cond, eqb, String, string_bytes, inl, inr, subst, Bool, true, false, ◌||◌, leb}
+use Rattle.std.proofs.Common.{◌≡◌, ℕ, zero, suc, ◌+◌, ◌-◌, ◌<◌, ◌≤◌, ◌^◌, min, List, [], ◌∷◌, ◌++◌, ◌==◌, length, take, drop, map, refl, sym, ◌∙◌, ap, arith, length-drop, length-append, cond, eqb, inl, inr, subst, Bool, true, false, ◌&&◌, ◌||◌, leb, ltb}
 use Rattle.std.proofs.lemmas.List.{drop-map, drop-drop, length-map, length-take, drop_all, drop-take, take-map, take-take, take_all, drop_min, take-append-drop}
 use Rattle.std.proofs.Math.Dec.{eqb-suc-zero}
 use Rattle.std.proofs.Math.Nat.{min-eq_left, min-eq_right}
-use Rattle.std.proofs.lemmas.Bool.{cases_lt, eqb-true, leb-true}
+use Rattle.std.proofs.lemmas.Bool.{cases_lt, eqb-true, leb-true, ltb-true}
 use Rattle.std.specs.Str.{chars, IsUtf8, is_utf8, IsCharBoundary}
 use Rattle.std.proofs.Math.Utf8.{scalar, scalars, encode, encodes}
-use Rattle.std.proofs.lemmas.Str.{chars-encodes, encodes-chars, scalars-chars, encode_ascii, IsUtf8-string_bytes, IsCharBoundary-from_drop, IsCharBoundary-end, IsUtf8-nil, IsUtf8-from_is_utf8, is_utf8-from_IsUtf8, IsUtf8-take, chars-append, chars-nil}
-use Rattle.std.specs.declared.alloc.Global.{Global}
+use Rattle.std.proofs.lemmas.Str.{chars-encodes, encodes-chars, scalars-chars, encode_ascii, chars_from_encodes, IsCharBoundary-from_drop, IsCharBoundary-end, IsUtf8-nil, IsUtf8-from_is_utf8, is_utf8-from_IsUtf8, IsUtf8-take, chars-append, chars-nil}
 use Rattle.rst_text.specs.Block.{Line, Block, shorten_all, cut, shorten, front_text, first_number, indentation, is_blank}
-use Rattle.rst_text.specs.Source.{block_from, line_from}
 use Rattle.rst_text.specs.Shown.{block_of, without_bytes, byte_cut}
-use Rattle.rst_text.specs.MayCut.{may_cut_at, each_may_cut, is_indented}
-use Rattle.rst_text.specs.declared.lines.SourceLine.{SourceLine}
+use Rattle.rst_text.specs.MayCut.{may_cut_at, each_may_cut, is_indented, are_texts}
 use Rattle.rst_text.specs.declared.view.View.{View}
 use Rattle.rst_text.specs.Lines.{is_line_text, are_lines}
 use Rattle.rst_text.proofs.TextLemmas.{and_true}
@@ -20,7 +17,7 @@ use Rattle.rst_text.proofs.LineTexts.{is_line_text-front, is_line_text-nil, is_l
 
 -- The lines.
 
-length-byte_cut : (f r : ℕ) (xs : List SourceLine) → length (byte_cut f r xs) ≡ length xs
+length-byte_cut : (f r : ℕ) (xs : Block) → length (byte_cut f r xs) ≡ length xs
 length-byte_cut f r [] = refl
 length-byte_cut f r (x ∷ xs) = ap suc (length-map xs (without_bytes r))
 
@@ -29,135 +26,165 @@ unfolding block_of
 length-block_of v =
     rw length-byte_cut (rw length-take (rw length-drop (let o : v.from ≤ v.to = v.ordered in let f : v.to ≤ length v.lines.now = v.fits in omega arith)))
 
-byte_cut_same : (r : ℕ) (xs : List SourceLine) → byte_cut r r xs ≡ map (without_bytes r) xs
+byte_cut_same : (r : ℕ) (xs : Block) → byte_cut r r xs ≡ map (without_bytes r) xs
 byte_cut_same r [] = refl
 byte_cut_same r (x ∷ xs) = refl
 
-drop-byte_cut : (f r i : ℕ) (xs : List SourceLine) → drop i (byte_cut f r xs) ≡ byte_cut (cond (eqb i 0) f r) r (drop i xs)
+drop-byte_cut : (f r i : ℕ) (xs : Block) → drop i (byte_cut f r xs) ≡ byte_cut (cond (eqb i 0) f r) r (drop i xs)
 drop-byte_cut f r zero xs = refl
 drop-byte_cut f r (suc i) [] = refl
 drop-byte_cut f r (suc i) (x ∷ xs) = rw eqb-suc-zero (drop-map (without_bytes r) i xs ∙ sym (byte_cut_same r (drop i xs)))
 
-take-byte_cut : (f r m : ℕ) (xs : List SourceLine) → take m (byte_cut f r xs) ≡ byte_cut f r (take m xs)
+take-byte_cut : (f r m : ℕ) (xs : Block) → take m (byte_cut f r xs) ≡ byte_cut f r (take m xs)
 take-byte_cut f r zero xs = refl
 take-byte_cut f r (suc m) [] = refl
 take-byte_cut f r (suc m) (x ∷ xs) = ap (λ (ks : Block). without_bytes f x ∷ ks) (take-map (without_bytes r) m xs)
 
 -- the same with the texts
-abbrev EachMayCut : ℕ → List SourceLine → Type 0
+abbrev EachMayCut : ℕ → Block → Type 0
 EachMayCut n [] = Unit {0}
-EachMayCut n (l ∷ ls) = IsUtf8 (drop n (string_bytes l.text)) × EachMayCut n ls
+EachMayCut n (l ∷ ls) = IsUtf8 (drop n (encodes l.text)) × EachMayCut n ls
 
-abbrev MayCut : ℕ → ℕ → List SourceLine → Type 0
+abbrev MayCut : ℕ → ℕ → Block → Type 0
 MayCut f r [] = Unit {0}
-MayCut f r (l ∷ ls) = IsUtf8 (drop f (string_bytes l.text)) × EachMayCut r ls
+MayCut f r (l ∷ ls) = IsUtf8 (drop f (encodes l.text)) × EachMayCut r ls
 
-each_true : (r : ℕ) (xs : List SourceLine) → each_may_cut r xs ≡ true → EachMayCut r xs
+each_true : (r : ℕ) (xs : Block) → each_may_cut r xs ≡ true → EachMayCut r xs
 each_true r [] h = tt
 each_true r (x ∷ xs) h =
-    let t = and_true (is_utf8 (drop r (string_bytes x.text))) (each_may_cut r xs) h in (IsUtf8-from_is_utf8 _ t.0, each_true r xs t.1)
+    let t = and_true (is_utf8 (drop r (encodes x.text))) (each_may_cut r xs) h in (IsUtf8-from_is_utf8 _ t.0, each_true r xs t.1)
 
-true_each : (r : ℕ) (xs : List SourceLine) → EachMayCut r xs → each_may_cut r xs ≡ true
+true_each : (r : ℕ) (xs : Block) → EachMayCut r xs → each_may_cut r xs ≡ true
 true_each r [] h = refl
-true_each r (x ∷ xs) h = rw (is_utf8-from_IsUtf8 (drop r (string_bytes x.text)) h.0) (true_each r xs h.1)
+true_each r (x ∷ xs) h = rw (is_utf8-from_IsUtf8 (drop r (encodes x.text)) h.0) (true_each r xs h.1)
 
-may_true : (f r : ℕ) (xs : List SourceLine) → may_cut_at f r xs ≡ true → MayCut f r xs
+may_true : (f r : ℕ) (xs : Block) → may_cut_at f r xs ≡ true → MayCut f r xs
 may_true f r [] h = tt
 may_true f r (x ∷ xs) h =
-    let t = and_true (is_utf8 (drop f (string_bytes x.text))) (each_may_cut r xs) h in (IsUtf8-from_is_utf8 _ t.0, each_true r xs t.1)
+    let t = and_true (is_utf8 (drop f (encodes x.text))) (each_may_cut r xs) h in (IsUtf8-from_is_utf8 _ t.0, each_true r xs t.1)
 
-true_may : (f r : ℕ) (xs : List SourceLine) → MayCut f r xs → may_cut_at f r xs ≡ true
+true_may : (f r : ℕ) (xs : Block) → MayCut f r xs → may_cut_at f r xs ≡ true
 true_may f r [] h = refl
-true_may f r (x ∷ xs) h = rw (is_utf8-from_IsUtf8 (drop f (string_bytes x.text)) h.0) (true_each r xs h.1)
+true_may f r (x ∷ xs) h = rw (is_utf8-from_IsUtf8 (drop f (encodes x.text)) h.0) (true_each r xs h.1)
+
+-- the same of lines with UTF-8 of fewer than 2^63 bytes
+abbrev AreTexts : Block → Type 0
+AreTexts [] = Unit {0}
+AreTexts (l ∷ ls) = (IsUtf8 (encodes l.text) × (length (encodes l.text) < 2 ^ 63)) × AreTexts ls
+
+texts_true : (xs : Block) → are_texts xs ≡ true → AreTexts xs
+texts_true [] h = tt
+texts_true (x ∷ xs) h =
+    let t = and_true (is_utf8 (encodes x.text) && ltb (length (encodes x.text)) (2 ^ 63)) (are_texts xs) h in
+    let u = and_true (is_utf8 (encodes x.text)) (ltb (length (encodes x.text)) (2 ^ 63)) t.0 in ((IsUtf8-from_is_utf8 _ u.0, ltb-true (length (encodes x.text)) (2 ^ 63) u.1), texts_true xs t.1)
+
+texts_drop : (i : ℕ) (xs : Block) → AreTexts xs → AreTexts (drop i xs)
+texts_drop zero xs h = h
+texts_drop (suc i) [] h = tt
+texts_drop (suc i) (x ∷ xs) h = texts_drop i xs h.1
+
+texts_take : (m : ℕ) (xs : Block) → AreTexts xs → AreTexts (take m xs)
+texts_take zero xs h = tt
+texts_take (suc m) [] h = tt
+texts_take (suc m) (x ∷ xs) h = (h.0, texts_take m xs h.1)
+
+-- the characters that bytes were made of
+chars-back : (cs : List ℕ) → IsUtf8 (encodes cs) → chars (encodes cs) ≡ cs
+chars-back cs u = sym (chars_from_encodes cs (encodes cs) u refl)
 
 -- what may be cut, further on
-each_drop : (r i : ℕ) (xs : List SourceLine) → EachMayCut r xs → EachMayCut r (drop i xs)
+each_drop : (r i : ℕ) (xs : Block) → EachMayCut r xs → EachMayCut r (drop i xs)
 each_drop r zero xs h = h
 each_drop r (suc i) [] h = tt
 each_drop r (suc i) (x ∷ xs) h = each_drop r i xs h.1
 
-each_first : (r : ℕ) (xs : List SourceLine) → EachMayCut r xs → MayCut r r xs
+each_first : (r : ℕ) (xs : Block) → EachMayCut r xs → MayCut r r xs
 each_first r [] h = tt
 each_first r (x ∷ xs) h = h
 
-may_drop : (f r i : ℕ) (xs : List SourceLine) → MayCut f r xs → MayCut (cond (eqb i 0) f r) r (drop i xs)
+may_drop : (f r i : ℕ) (xs : Block) → MayCut f r xs → MayCut (cond (eqb i 0) f r) r (drop i xs)
 may_drop f r zero xs h = h
 may_drop f r (suc i) [] h = tt
 may_drop f r (suc i) (x ∷ xs) h = rw eqb-suc-zero (each_first r (drop i xs) (each_drop r i xs h.1))
 
-each_take : (r m : ℕ) (xs : List SourceLine) → EachMayCut r xs → EachMayCut r (take m xs)
+each_take : (r m : ℕ) (xs : Block) → EachMayCut r xs → EachMayCut r (take m xs)
 each_take r zero xs h = tt
 each_take r (suc m) [] h = tt
 each_take r (suc m) (x ∷ xs) h = (h.0, each_take r m xs h.1)
 
-may_take : (f r m : ℕ) (xs : List SourceLine) → MayCut f r xs → MayCut f r (take m xs)
+may_take : (f r m : ℕ) (xs : Block) → MayCut f r xs → MayCut f r (take m xs)
 may_take f r zero xs h = tt
 may_take f r (suc m) [] h = tt
 may_take f r (suc m) (x ∷ xs) h = (h.0, each_take r m xs h.1)
 
--- line k of some lines
-front_at : (f r : ℕ) (xs : List SourceLine) (d : SourceLine) → 0 < length xs → front_text (byte_cut f r xs) ≡ chars (drop f (string_bytes (get_or xs 0 d).text))
-front_at f r [] d h = absurd (omega arith)
-front_at f r (x ∷ xs) d h = refl
+-- the first of some lines
+front_at : (f r : ℕ) (xs : Block) → 0 < length xs → front_text (byte_cut f r xs) ≡ chars (drop f (encodes (front_text xs)))
+front_at f r [] h = absurd (omega arith)
+front_at f r (x ∷ xs) h = refl
 
-number_at : (f r : ℕ) (xs : List SourceLine) (d : SourceLine) → 0 < length xs → first_number (byte_cut f r xs) ≡ (get_or xs 0 d).number
-number_at f r [] d h = absurd (omega arith)
-number_at f r (x ∷ xs) d h = refl
+number_at : (f r : ℕ) (xs : Block) → first_number (byte_cut f r xs) ≡ first_number xs
+number_at f r [] = refl
+number_at f r (x ∷ xs) = refl
 
-utf8_at : (f r : ℕ) (xs : List SourceLine) (d : SourceLine) → 0 < length xs → MayCut f r xs → IsUtf8 (drop f (string_bytes (get_or xs 0 d).text))
-utf8_at f r [] d h m = absurd (omega arith)
-utf8_at f r (x ∷ xs) d h m = m.0
+utf8_at : (f r : ℕ) (xs : Block) → 0 < length xs → MayCut f r xs → IsUtf8 (drop f (encodes (front_text xs)))
+utf8_at f r [] h m = absurd (omega arith)
+utf8_at f r (x ∷ xs) h m = m.0
 
-get_drop : (k : ℕ) (xs : List SourceLine) (d : SourceLine) → k < length xs → get_or (drop k xs) 0 d ≡ get_or xs k d
-get_drop zero xs d h = refl
-get_drop (suc k) [] d h = absurd (omega arith)
-get_drop (suc k) (x ∷ xs) d h = get_drop k xs d (omega arith)
+front_text-take : (m : ℕ) (xs : Block) → 0 < m → front_text (take m xs) ≡ front_text xs
+front_text-take zero xs h = absurd (omega arith)
+front_text-take (suc m) [] h = refl
+front_text-take (suc m) (x ∷ xs) h = refl
 
-get_take : (k n : ℕ) (xs : List SourceLine) (d : SourceLine) → k < n → k < length xs → get_or (take n xs) k d ≡ get_or xs k d
-get_take k zero xs d h j = absurd (omega arith)
-get_take k (suc n) [] d h j = absurd (omega arith)
-get_take zero (suc n) (x ∷ xs) d h j = refl
-get_take (suc k) (suc n) (x ∷ xs) d h j = get_take k n xs d (omega arith) (omega arith)
+first_number-take : (m : ℕ) (xs : Block) → 0 < m → first_number (take m xs) ≡ first_number xs
+first_number-take zero xs h = absurd (omega arith)
+first_number-take (suc m) [] h = refl
+first_number-take (suc m) (x ∷ xs) h = refl
+
+-- the first lines of what is left of the first n lines
+take_of : (i m n : ℕ) (xs : Block) → i + m ≤ n → take m (drop i (take n xs)) ≡ take m (drop i xs)
+take_of i m n xs h =
+    let e : n ≡ i + (n - i) = omega arith in
+    rw (e) (rw drop-take (take-take m (n - i) (drop i xs) (omega arith)))
 
 -- the lines that a view shows
-abbrev kept : View → List SourceLine
+abbrev kept : View → Block
 kept v = take (v.to - v.from) (drop v.from v.lines.now)
 
 length-kept : (v : View) → length (kept v) ≡ v.to - v.from
 length-kept v = rw length-take (rw length-drop (let o : v.from ≤ v.to = v.ordered in let f : v.to ≤ length v.lines.now = v.fits in omega arith))
 
-get_kept : (v : View) (i : ℕ) (d : SourceLine) → i < length (block_of v) → get_or (drop i (kept v)) 0 d ≡ get_or v.lines.now (v.from + i) d
-get_kept v i d h =
-    let o : v.from ≤ v.to = v.ordered in
-    let f : v.to ≤ length v.lines.now = v.fits in
+-- line i of them is one of the text's
+first_kept : (v : View) (i : ℕ) → i < length (block_of v) → take 1 (drop i (kept v)) ≡ take 1 (drop (v.from + i) v.lines.now)
+first_kept v i h =
     let n : i < v.to - v.from = omega (arith, length-block_of v) in
-    let m : i < length (kept v) = omega (arith, length-kept v) in
-    let there : v.from + i < length v.lines.now = omega arith in
-    let inside : i < length (drop v.from v.lines.now) = omega (arith, length-drop v.from v.lines.now) in
-    get_drop i (kept v) d m ∙ get_take i (v.to - v.from) (drop v.from v.lines.now) d n inside
-    ∙ sym (get_drop i (drop v.from v.lines.now) d inside) ∙ ap (λ (ys : List SourceLine). get_or ys 0 d) (drop-drop i v.from v.lines.now) ∙ get_drop (v.from + i) v.lines.now d there
+    take_of i 1 (v.to - v.from) (drop v.from v.lines.now) (omega arith) ∙ ap (λ (ys : Block). take 1 ys) (drop-drop i v.from v.lines.now)
+
+front_kept : (v : View) (i : ℕ) → i < length (block_of v) → front_text (drop i (kept v)) ≡ front_text (drop (v.from + i) v.lines.now)
+front_kept v i h = sym (front_text-take 1 (drop i (kept v)) (omega arith)) ∙ ap front_text (first_kept v i h) ∙ front_text-take 1 (drop (v.from + i) v.lines.now) (omega arith)
+
+number_kept : (v : View) (i : ℕ) → i < length (block_of v) → first_number (drop i (kept v)) ≡ first_number (drop (v.from + i) v.lines.now)
+number_kept v i h = sym (first_number-take 1 (drop i (kept v)) (omega arith)) ∙ ap first_number (first_kept v i h) ∙ first_number-take 1 (drop (v.from + i) v.lines.now) (omega arith)
 
 some_left : (v : View) (i : ℕ) → i < length (block_of v) → 0 < length (drop i (kept v))
 some_left v i h = omega (arith, length-block_of v, length-kept v, length-drop i (kept v))
 
 -- line i of a view, and that it may be cut
-pub text_in_view : (v : View) (i : ℕ) (d : SourceLine) → i < length (block_of v) → front_text (drop i (block_of v)) ≡ chars (drop (cond (eqb i 0) v.first v.rest) (string_bytes (get_or v.lines.now (v.from + i) d).text))
+pub text_in_view : (v : View) (i : ℕ) → i < length (block_of v) → front_text (drop i (block_of v)) ≡ chars (drop (cond (eqb i 0) v.first v.rest) (encodes (front_text (drop (v.from + i) v.lines.now))))
 unfolding block_of
-text_in_view v i d h =
-    ap front_text (drop-byte_cut v.first v.rest i (kept v)) ∙ front_at (cond (eqb i 0) v.first v.rest) v.rest (drop i (kept v)) d (some_left v i h)
-    ∙ ap (λ (x : SourceLine). chars (drop (cond (eqb i 0) v.first v.rest) (string_bytes x.text))) (get_kept v i d h)
+text_in_view v i h =
+    ap front_text (drop-byte_cut v.first v.rest i (kept v)) ∙ front_at (cond (eqb i 0) v.first v.rest) v.rest (drop i (kept v)) (some_left v i h)
+    ∙ ap (λ (cs : List ℕ). chars (drop (cond (eqb i 0) v.first v.rest) (encodes cs))) (front_kept v i h)
 
-pub number_in_view : (v : View) (i : ℕ) (d : SourceLine) → i < length (block_of v) → first_number (drop i (block_of v)) ≡ (get_or v.lines.now (v.from + i) d).number
+pub number_in_view : (v : View) (i : ℕ) → i < length (block_of v) → first_number (drop i (block_of v)) ≡ first_number (drop (v.from + i) v.lines.now)
 unfolding block_of
-number_in_view v i d h =
-    ap first_number (drop-byte_cut v.first v.rest i (kept v)) ∙ number_at (cond (eqb i 0) v.first v.rest) v.rest (drop i (kept v)) d (some_left v i h)
-    ∙ ap (λ (x : SourceLine). x.number) (get_kept v i d h)
+number_in_view v i h =
+    ap first_number (drop-byte_cut v.first v.rest i (kept v)) ∙ number_at (cond (eqb i 0) v.first v.rest) v.rest (drop i (kept v)) ∙ number_kept v i h
 
-pub utf8_in_view : (v : View) (i : ℕ) (d : SourceLine) → i < length (block_of v) → IsUtf8 (drop (cond (eqb i 0) v.first v.rest) (string_bytes (get_or v.lines.now (v.from + i) d).text))
-utf8_in_view v i d h =
+pub utf8_in_view : (v : View) (i : ℕ) → i < length (block_of v) → IsUtf8 (drop (cond (eqb i 0) v.first v.rest) (encodes (front_text (drop (v.from + i) v.lines.now))))
+utf8_in_view v i h =
     let m : MayCut v.first v.rest (kept v) = may_true v.first v.rest (kept v) v.may_cut in
-    let u = utf8_at (cond (eqb i 0) v.first v.rest) v.rest (drop i (kept v)) d (some_left v i h) (may_drop v.first v.rest i (kept v) m) in
-    subst (λ (x : SourceLine). IsUtf8 (drop (cond (eqb i 0) v.first v.rest) (string_bytes x.text))) (get_kept v i d h) u
+    let u = utf8_at (cond (eqb i 0) v.first v.rest) v.rest (drop i (kept v)) (some_left v i h) (may_drop v.first v.rest i (kept v) m) in
+    subst (λ (cs : List ℕ). IsUtf8 (drop (cond (eqb i 0) v.first v.rest) (encodes cs))) (front_kept v i h) u
 
 -- where a text may be cut, cut down to its end
 pub boundary : (n k : ℕ) (bs : List ℕ) → IsUtf8 (drop n bs) → k ≡ min n (length bs) → IsCharBoundary bs k
@@ -216,63 +243,52 @@ drop_most a b t h =
       | inr above ↦ drop-drop b a t ∙ drop_all (a + b) t (omega arith) ∙ sym (drop_all (2 ^ 64 - 1) t (omega arith)) ∙ ap (λ n. drop n t) (sym (min-eq_right above))
     ]
 
-short_text : (t : String Global) → length (string_bytes t) < 2 ^ 63
-short_text t = omega (arith, t.bytes.ok, t.bytes.small)
-
-rest_lines : (a r : ℕ) (xs : List SourceLine) → EachMayCut a xs → is_indented r (map (without_bytes a) xs) ≡ true
+rest_lines : (a r : ℕ) (xs : Block) → AreTexts xs → EachMayCut a xs → is_indented r (map (without_bytes a) xs) ≡ true
     → EachMayCut (min (a + r) (2 ^ 64 - 1)) xs × (map (shorten r) (map (without_bytes a) xs) ≡ map (without_bytes (min (a + r) (2 ^ 64 - 1))) xs)
-rest_lines a r [] m h = (tt, refl)
-rest_lines a r (x ∷ xs) m h =
+rest_lines a r [] t m h = (tt, refl)
+rest_lines a r (x ∷ xs) t m h =
     let both = and_true (is_blank (without_bytes a x).text || leb r (indentation (without_bytes a x).text)) (is_indented r (map (without_bytes a) xs)) h in
-    let one = cut_spaces r (drop a (string_bytes x.text)) m.0 both.0 in
-    let more = rest_lines a r xs m.1 both.1 in
-    let same : drop r (drop a (string_bytes x.text)) ≡ drop (min (a + r) (2 ^ 64 - 1)) (string_bytes x.text) = drop_most a r (string_bytes x.text) (short_text x.text) in
+    let one = cut_spaces r (drop a (encodes x.text)) m.0 both.0 in
+    let more = rest_lines a r xs t.1 m.1 both.1 in
+    let same : drop r (drop a (encodes x.text)) ≡ drop (min (a + r) (2 ^ 64 - 1)) (encodes x.text) = drop_most a r (encodes x.text) t.0.1 in
     let line : shorten r (without_bytes a x) ≡ without_bytes (min (a + r) (2 ^ 64 - 1)) x =
     ap (λ (t : List ℕ). let l : Line = record { number = x.number; text = t } in l) (sym one.1 ∙ ap chars same) in
     ((subst IsUtf8 same one.0, more.0), rw (line, more.1) refl)
 
--- some lines, the first without `left`'s front
-abbrev Leaves : ℕ → ℕ → ℕ → SourceLine → Type 0
-Leaves a g left x = IsUtf8 (drop left (string_bytes x.text)) × (chars (drop left (string_bytes x.text)) ≡ drop g (chars (drop a (string_bytes x.text))))
+-- a text without g characters more than `a` bytes is the text without `left` bytes
+abbrev Leaves : ℕ → ℕ → ℕ → List ℕ → Type 0
+Leaves a g left cs = IsUtf8 (drop left (encodes cs)) × (chars (drop left (encodes cs)) ≡ drop g (chars (drop a (encodes cs))))
 
-cut_lines : (a b g r left : ℕ) (xs : List SourceLine) → MayCut a b xs → is_indented r (drop 1 (byte_cut a b xs)) ≡ true
-    → (0 < length xs → (d : SourceLine) → Leaves a g left (get_or xs 0 d))
+cut_lines : (a b g r left : ℕ) (xs : Block) → AreTexts xs → MayCut a b xs → is_indented r (drop 1 (byte_cut a b xs)) ≡ true → (0 < length xs → Leaves a g left (front_text xs))
     → MayCut left (min (b + r) (2 ^ 64 - 1)) xs × (byte_cut left (min (b + r) (2 ^ 64 - 1)) xs ≡ shorten_all g r (byte_cut a b xs))
-cut_lines a b g r left [] m h first = (tt, refl)
-cut_lines a b g r left (x ∷ xs) m h first =
-    let f = first (omega arith) x in
-    let more = rest_lines b r xs m.1 h in
+cut_lines a b g r left [] t m h first = (tt, refl)
+cut_lines a b g r left (x ∷ xs) t m h first =
+    let f = first (omega arith) in
+    let more = rest_lines b r xs t.1 m.1 h in
     let line : without_bytes left x ≡ shorten g (without_bytes a x) = ap (λ (t : List ℕ). let l : Line = record { number = x.number; text = t } in l) f.1 in
     ((f.0, more.0), rw (line, more.1) refl)
 
--- the first lines of what is left of the first n lines
-take_of : (i m n : ℕ) (xs : List SourceLine) → i + m ≤ n → take m (drop i (take n xs)) ≡ take m (drop i xs)
-take_of i m n xs h =
-    let e : n ≡ i + (n - i) = omega arith in
-    rw (e) (rw drop-take (take-take m (n - i) (drop i xs) (omega arith)))
-
 -- lines i to j - 1 of a view
 part_lines : (v : View) (i j : ℕ) → i ≤ j → j ≤ v.to - v.from → take (j - i) (drop i (kept v)) ≡ take (j - i) (drop (v.from + i) v.lines.now)
-part_lines v i j below within = take_of i (j - i) (v.to - v.from) (drop v.from v.lines.now) (omega arith) ∙ ap (λ (ys : List SourceLine). take (j - i) ys) (drop-drop i v.from v.lines.now)
+part_lines v i j below within = take_of i (j - i) (v.to - v.from) (drop v.from v.lines.now) (omega arith) ∙ ap (λ (ys : Block). take (j - i) ys) (drop-drop i v.from v.lines.now)
 
 pub part_of : (v : View) (i j g s left : ℕ) → i ≤ j → j ≤ v.to - v.from
     → is_indented s (take (j - (i + 1)) (drop (i + 1) (block_of v))) ≡ true
-    → (i < j → (d : SourceLine) → Leaves (cond (eqb i 0) v.first v.rest) g left (get_or v.lines.now (v.from + i) d))
+    → (i < j → Leaves (cond (eqb i 0) v.first v.rest) g left (front_text (drop (v.from + i) v.lines.now)))
     → (may_cut_at left (min (v.rest + s) (2 ^ 64 - 1)) (take (j - i) (drop (v.from + i) v.lines.now)) ≡ true)
     × (byte_cut left (min (v.rest + s) (2 ^ 64 - 1)) (take (j - i) (drop (v.from + i) v.lines.now)) ≡ cut (block_of v) i j g s)
 unfolding block_of
 part_of v i j g s left below within white first =
     let F : ℕ = cond (eqb i 0) v.first v.rest in
-    let ys : List SourceLine = take (j - i) (drop (v.from + i) v.lines.now) in
+    let ys : Block = take (j - i) (drop (v.from + i) v.lines.now) in
     let same : take (j - i) (drop i (kept v)) ≡ ys = part_lines v i j below within in
     let may : MayCut F v.rest ys = subst (MayCut F v.rest) same (may_take F v.rest (j - i) (drop i (kept v)) (may_drop v.first v.rest i (kept v) (may_true v.first v.rest (kept v) v.may_cut))) in
+    let texts : AreTexts ys = texts_take (j - i) (drop (v.from + i) v.lines.now) (texts_drop (v.from + i) v.lines.now (texts_true v.lines.now v.of_texts)) in
     let shows : take (j - i) (drop i (byte_cut v.first v.rest (kept v))) ≡ byte_cut F v.rest ys =
     ap (λ (B : Block). take (j - i) B) (drop-byte_cut v.first v.rest i (kept v)) ∙ take-byte_cut F v.rest (j - i) (drop i (kept v)) ∙ ap (byte_cut F v.rest) same in
     let others : take (j - (i + 1)) (drop (i + 1) (byte_cut v.first v.rest (kept v))) ≡ drop 1 (byte_cut F v.rest ys) = tail i j (byte_cut v.first v.rest (kept v)) ∙ ap (λ (B : Block). drop 1 B) shows in
     let indented : is_indented s (drop 1 (byte_cut F v.rest ys)) ≡ true = sym (ap (is_indented s) others) ∙ white in
-    let head : 0 < length ys → (d : SourceLine) → Leaves F g left (get_or ys 0 d) =
-    λ some d. front some d in
-    let lines = cut_lines F v.rest g s left ys may indented head in
+    let lines = cut_lines F v.rest g s left ys texts may indented front in
     (true_may left (min (v.rest + s) (2 ^ 64 - 1)) ys lines.0, lines.1 ∙ sym (ap (shorten_all g s) shows))
   where
     tail : (i j : ℕ) (B : Block) → take (j - (i + 1)) (drop (i + 1) B) ≡ drop 1 (take (j - i) (drop i B))
@@ -287,26 +303,25 @@ part_of v i j g s left below within white first =
             drop_nil (suc n) = refl
         go (suc m) n (x ∷ X) e = let same : n ≡ m = omega arith in rw same refl
 
-    front : 0 < length (take (j - i) (drop (v.from + i) v.lines.now)) → (d : SourceLine) → Leaves (cond (eqb i 0) v.first v.rest) g left (get_or (take (j - i) (drop (v.from + i) v.lines.now)) 0 d)
-    front some d =
-        let f : v.to ≤ length v.lines.now = v.fits in
-        let o : v.from ≤ v.to = v.ordered in
-        let n : i < j = omega (arith, length-take {A = SourceLine}) in
-        let there : v.from + i < length v.lines.now = omega arith in
-        subst (Leaves (cond (eqb i 0) v.first v.rest) g left)
-        (sym (get_take 0 (j - i) (drop (v.from + i) v.lines.now) d (omega arith) (omega (arith, length-drop (v.from + i) v.lines.now)) ∙ get_drop (v.from + i) v.lines.now d there)) (first n d)
+    front : 0 < length (take (j - i) (drop (v.from + i) v.lines.now)) → Leaves (cond (eqb i 0) v.first v.rest) g left (front_text (take (j - i) (drop (v.from + i) v.lines.now)))
+    front some =
+        let n : i < j = omega (arith, length-take {A = Line}) in
+        subst (Leaves (cond (eqb i 0) v.first v.rest) g left) (sym (front_text-take (j - i) (drop (v.from + i) v.lines.now) (omega arith))) (first n)
 
 -- All the lines.
-pub whole_may : (xs : List SourceLine) → may_cut_at 0 0 xs ≡ true
-whole_may [] = refl
-whole_may (x ∷ xs) = rw (is_utf8-from_IsUtf8 (string_bytes x.text) (IsUtf8-string_bytes x.text)) (each xs)
-  where
-    each : (ys : List SourceLine) → each_may_cut 0 ys ≡ true
-    each [] = refl
-    each (y ∷ ys) = rw (is_utf8-from_IsUtf8 (string_bytes y.text) (IsUtf8-string_bytes y.text)) (each ys)
+whole_line : (x : Line) → IsUtf8 (encodes x.text) → without_bytes 0 x ≡ x
+whole_line x u = ap (λ (t : List ℕ). let l : Line = record { number = x.number; text = t } in l) (chars-back x.text u)
 
-pub whole_lines : (xs : List SourceLine) → byte_cut 0 0 (take (length xs - 0) xs) ≡ block_from xs
-whole_lines xs = ap (byte_cut 0 0) (take_all (length xs - 0) xs (omega arith)) ∙ byte_cut_same 0 xs
+each_whole : (xs : Block) → AreTexts xs → EachMayCut 0 xs × (map (without_bytes 0) xs ≡ xs)
+each_whole [] t = (tt, refl)
+each_whole (x ∷ xs) t =
+    let more = each_whole xs t.1 in ((t.0.0, more.0), rw (whole_line x t.0.0, more.1) refl)
+
+pub whole_lines : (xs : Block) → are_texts xs ≡ true → byte_cut 0 0 (take (length xs - 0) xs) ≡ xs
+whole_lines xs t = ap (byte_cut 0 0) (take_all (length xs - 0) xs (omega arith)) ∙ byte_cut_same 0 xs ∙ (each_whole xs (texts_true xs t)).1
+
+pub whole_all : (xs : Block) → are_texts xs ≡ true → may_cut_at 0 0 (take (length xs - 0) xs) ≡ true
+whole_all xs t = ap (may_cut_at 0 0) (take_all (length xs - 0) xs (omega arith)) ∙ true_may 0 0 xs (each_first 0 xs (each_whole xs (texts_true xs t)).0)
 
 -- a line of a view is one of the lines
 pub in_view : (v : View) (i : ℕ) → i < length (block_of v) → v.from + i < length v.lines.now
@@ -341,29 +356,13 @@ ends_in bs front left a e =
     none [] h = refl
     none (y ∷ ys) h = absurd (omega arith)
 
--- what is skipped from a line
-pub leaves : (a g left : ℕ) (x : SourceLine) (bs front rest : List ℕ) → bs ≡ string_bytes x.text → drop a bs ≡ front ++ rest → IsUtf8 rest → chars rest ≡ drop g (chars (drop a bs)) → left ≡ length bs - length rest
-    → IsUtf8 (drop left (string_bytes x.text)) × (chars (drop left (string_bytes x.text)) ≡ drop g (chars (drop a (string_bytes x.text))))
-leaves a g left x bs front rest same e u v n =
-    let d : drop left (string_bytes x.text) ≡ rest = ap (drop left) (sym same) ∙ ap (λ k. drop k bs) n ∙ ends_in bs front rest a e in
-    (subst IsUtf8 (sym d) u, ap chars d ∙ v ∙ ap (λ l. drop g (chars (drop a l))) same)
-
-pub whole_all : (xs : List SourceLine) → may_cut_at 0 0 (take (length xs - 0) xs) ≡ true
-whole_all xs = ap (may_cut_at 0 0) (take_all (length xs - 0) xs (omega arith)) ∙ whole_may xs
-
-get_same : (k : ℕ) (xs : List SourceLine) (d e : SourceLine) → k < length xs → get_or xs k d ≡ get_or xs k e
-get_same k [] d e h = absurd (omega arith)
-get_same zero (x ∷ xs) d e h = refl
-get_same (suc k) (x ∷ xs) d e h = get_same k xs d e (omega arith)
-
--- the same in the words of the code
-pub leaves_at : (v : View) (i g left : ℕ) (d x : SourceLine) (bs rest tail : List ℕ) (a : ℕ) → v.from + i < length v.lines.now → x ≡ get_or v.lines.now (v.from + i) x → bs ≡ string_bytes x.text
-    → a ≡ cond (eqb i 0) v.first v.rest → tail ≡ drop a bs → (front : List ℕ) × (tail ≡ front ++ rest) → IsUtf8 rest → chars rest ≡ drop g (chars tail) → left ≡ length bs - length rest
-    → Leaves (cond (eqb i 0) v.first v.rest) g left (get_or v.lines.now (v.from + i) d)
-leaves_at v i g left d x bs rest tail a there is same shorten_all t suffix u s n =
-    let l = leaves a g left x bs suffix.0 rest same (sym t ∙ suffix.1) u (s ∙ ap (λ l. drop g (chars l)) t) n in
-    let here : x ≡ get_or v.lines.now (v.from + i) d = is ∙ get_same (v.from + i) v.lines.now x d there in
-    subst (λ k. Leaves k g left (get_or v.lines.now (v.from + i) d)) shorten_all (subst (Leaves a g left) here l)
+-- what is skipped from a line, in the words of the code
+pub leaves : (a b g left : ℕ) (cs bs front rest tail : List ℕ) → bs ≡ encodes cs → b ≡ a → tail ≡ drop b bs → tail ≡ front ++ rest → IsUtf8 rest → chars rest ≡ drop g (chars tail) → left ≡ length bs - length rest
+    → Leaves a g left cs
+leaves a b g left cs bs front rest tail same cut t e u v n =
+    let whole : tail ≡ drop a (encodes cs) = t ∙ ap (λ k. drop k bs) cut ∙ ap (drop a) same in
+    let d : drop left (encodes cs) ≡ rest = ap (drop left) (sym same) ∙ ap (λ k. drop k bs) n ∙ ends_in bs front rest a (ap (drop a) same ∙ sym whole ∙ e) in
+    (subst IsUtf8 (sym d) u, ap chars d ∙ v ∙ ap (λ l. drop g (chars l)) whole)
 
 -- ---- the texts of a view
 
@@ -377,26 +376,26 @@ line_text-bytes n bs u v h = elim (cases_lt n (length bs)) [
   | inr over ↦ ap (λ l. is_line_text (chars l)) (drop_all n bs over) ∙ ap is_line_text chars-nil ∙ is_line_text-nil
 ]
 
-each-line_text : (r : ℕ) (xs : List SourceLine) → EachMayCut r xs → are_lines (block_from xs) ≡ true → are_lines (map (without_bytes r) xs) ≡ true
-each-line_text r [] m h = refl
-each-line_text r (x ∷ xs) m h =
-    let t = and_true (is_line_text (chars (string_bytes x.text))) (are_lines (block_from xs)) h in
-    rw (line_text-bytes r (string_bytes x.text) (IsUtf8-string_bytes x.text) m.0 t.0, each-line_text r xs m.1 t.1) refl
+each-line_text : (r : ℕ) (xs : Block) → AreTexts xs → EachMayCut r xs → are_lines xs ≡ true → are_lines (map (without_bytes r) xs) ≡ true
+each-line_text r [] t m h = refl
+each-line_text r (x ∷ xs) t m h =
+    let k = and_true (is_line_text x.text) (are_lines xs) h in
+    let whole : is_line_text (chars (encodes x.text)) ≡ true = ap is_line_text (chars-back x.text t.0.0) ∙ k.0 in
+    rw (line_text-bytes r (encodes x.text) t.0.0 m.0 whole, each-line_text r xs t.1 m.1 k.1) refl
 
-are_lines-byte_cut : (f r : ℕ) (xs : List SourceLine) → MayCut f r xs → are_lines (block_from xs) ≡ true → are_lines (byte_cut f r xs) ≡ true
-are_lines-byte_cut f r [] m h = refl
-are_lines-byte_cut f r (x ∷ xs) m h =
-    let t = and_true (is_line_text (chars (string_bytes x.text))) (are_lines (block_from xs)) h in
-    rw (line_text-bytes f (string_bytes x.text) (IsUtf8-string_bytes x.text) m.0 t.0, each-line_text r xs m.1 t.1) refl
+are_lines-byte_cut : (f r : ℕ) (xs : Block) → AreTexts xs → MayCut f r xs → are_lines xs ≡ true → are_lines (byte_cut f r xs) ≡ true
+are_lines-byte_cut f r [] t m h = refl
+are_lines-byte_cut f r (x ∷ xs) t m h =
+    let k = and_true (is_line_text x.text) (are_lines xs) h in
+    let whole : is_line_text (chars (encodes x.text)) ≡ true = ap is_line_text (chars-back x.text t.0.0) ∙ k.0 in
+    rw (line_text-bytes f (encodes x.text) t.0.0 m.0 whole, each-line_text r xs t.1 m.1 k.1) refl
 
 -- The lines of a view hold no line end, and no white at their ends.
 pub are_lines-block_of : (v : View) → are_lines (block_of v) ≡ true
 unfolding block_of
 are_lines-block_of v =
-    let shown : block_from (kept v) ≡ take (v.to - v.from) (drop v.from (block_from v.lines.now)) =
-    sym (take-map line_from (v.to - v.from) (drop v.from v.lines.now)) ∙ ap (λ (B : Block). take (v.to - v.from) B) (sym (drop-map line_from v.from v.lines.now)) in
-    are_lines-byte_cut v.first v.rest (kept v) (may_true v.first v.rest (kept v) v.may_cut)
-    (ap are_lines shown ∙ are_lines-take (v.to - v.from) (drop v.from (block_from v.lines.now)) (are_lines-drop v.from (block_from v.lines.now) v.of_lines))
+    are_lines-byte_cut v.first v.rest (kept v) (texts_take (v.to - v.from) (drop v.from v.lines.now) (texts_drop v.from v.lines.now (texts_true v.lines.now v.of_texts)))
+    (may_true v.first v.rest (kept v) v.may_cut) (are_lines-take (v.to - v.from) (drop v.from v.lines.now) (are_lines-drop v.from v.lines.now v.of_lines))
 
 pub is_line_text-line : (v : View) (i : ℕ) → is_line_text (front_text (drop i (block_of v))) ≡ true
 is_line_text-line v i = is_line_text-front i (block_of v) (are_lines-block_of v)

@@ -1,16 +1,14 @@
 -- Lemmas on lines.
-use Rattle.std.proofs.Common.{◌≡◌, ℕ, zero, suc, ◌+◌, ◌-◌, ◌%◌, ◌<◌, ◌≤◌, ◌==◌, nat_eq, nat_lt, Bool, true, false, cond, ◌&&◌, ◌||◌, List, [], ◌∷◌, ◌++◌, length, take, drop, map, replicate, refl, sym, ap, ◌∙◌, subst, arith, append_assoc, append-nil, mod-lt, Option, None, Some, MatchOption, Bor, unwrap_or, Result, Ok, Err, IfOk, String, get_or}
+use Rattle.std.proofs.Common.{◌≡◌, ℕ, zero, suc, ◌+◌, ◌-◌, ◌%◌, ◌<◌, ◌≤◌, ◌==◌, nat_eq, nat_lt, Bool, true, false, cond, ◌&&◌, ◌||◌, List, [], ◌∷◌, ◌++◌, length, take, drop, map, replicate, refl, sym, ap, ◌∙◌, subst, arith, append_assoc, append-nil, mod-lt, Option, None, Some, MatchOption, Bor, unwrap_or, Result, Ok, Err, IfOk, String}
 use Rattle.std.specs.Char.{is_whitespace}
 use Rattle.std.specs.Str.{IsUtf8, chars, NonePass, trim_end, drop_trailing_whitespace}
 use Rattle.std.specs.Str.Pattern.{FindsCharPrefix, StripsPrefix}
 use Rattle.std.proofs.Math.Utf8.{scalar, scalars, encode, encodes}
 use Rattle.std.proofs.lemmas.Bool.{eqb-true, lt-ltb, le-ltb}
-use Rattle.std.proofs.lemmas.List.{map-append}
 use Rattle.std.proofs.lemmas.Str.{chars_past_char, encodes-chars, chars-encodes, scalars-chars, length-le-encodes}
-use Rattle.rst_text.specs.declared.lines.SourceLine.{SourceLine}
-use Rattle.rst_text.specs.Block.{Line, Block, front_text}
+use Rattle.rst_text.specs.Block.{Block, front_text, first_number}
 use Rattle.rst_text.specs.Text.{chars_of}
-use Rattle.rst_text.specs.Source.{line_from, block_from}
+use Rattle.rst_text.specs.Kept.{line_of}
 use Rattle.rst_text.specs.Lines.{first_longer, is_line_end, begins_with, onto_first, pieces, shown, expanded_from, tidied, numbered_from}
 use Rattle.rst_text.proofs.TextLemmas.{not_true, and_true}
 use Rattle.rst_text.proofs.Scanning.{Scans, chars-scanned, take-scanned, length-scanned}
@@ -212,18 +210,11 @@ tidies tab piece trimmed (Err x) good e wide h = tt
 
 -- ---- the lines so far, and those to come
 
-line_same : (a b : ℕ) (x y : List ℕ) → a ≡ b → x ≡ y → let p : Line = record { number = a; text = x } in let q : Line = record { number = b; text = y } in p ≡ q
-line_same a b x y p q = cc
-
-pub numbered-push : (tab n : ℕ) (lines : List SourceLine) (line : SourceLine) (p : List ℕ) (ps : List (List ℕ)) (all : Block)
-    → chars_of line.text ≡ tidied tab p → line.number ≡ n
-    → block_from lines ++ numbered_from n (map (tidied tab) (p ∷ ps)) ≡ all
-    → block_from (lines ++ line ∷ []) ++ numbered_from (n + 1) (map (tidied tab) ps) ≡ all
-numbered-push tab n lines line p ps all same number before =
-    let next : Line = record { number = n; text = tidied tab p } in
-    let e : block_from (lines ++ line ∷ []) ≡ block_from lines ++ next ∷ [] =
-    map-append line_from lines (line ∷ []) ∙ ap (λ (x : Line). block_from lines ++ x ∷ []) (line_same _ _ _ _ number same) in
-    ap (λ l. l ++ numbered_from (n + 1) (map (tidied tab) ps)) e ∙ append_assoc (block_from lines) (next ∷ []) (numbered_from (n + 1) (map (tidied tab) ps)) ∙ before
+pub numbered-push : (tab n : ℕ) (so_far made : Block) (text p : List ℕ) (ps : List (List ℕ)) (all : Block) → text ≡ tidied tab p → made ≡ so_far ++ line_of n text ∷ []
+    → so_far ++ numbered_from n (map (tidied tab) (p ∷ ps)) ≡ all → made ++ numbered_from (n + 1) (map (tidied tab) ps) ≡ all
+numbered-push tab n so_far made text p ps all same is before =
+    let next : Block = numbered_from (n + 1) (map (tidied tab) ps) in
+    ap (λ l. l ++ next) is ∙ append_assoc so_far (line_of n text ∷ []) next ∙ ap (λ t. so_far ++ line_of n t ∷ next) same ∙ before
 
 -- no text is left
 pub all_read : (tab n : ℕ) (so_far all : Block) (rest : List ℕ) → so_far ++ numbered_from n (map (tidied tab) (pieces (chars rest))) ≡ all → length rest ≡ 0 → so_far ≡ all
@@ -231,31 +222,19 @@ unfolding chars
 all_read tab n so_far all [] e none = sym (append-nil so_far) ∙ e
 all_read tab n so_far all (x ∷ rest) e none = absurd (omega arith)
 
--- ---- reading a line
-
--- the line at a place
-pub front_text-at : (lines : List SourceLine) (i : ℕ) (line : SourceLine) → i < length lines → line ≡ get_or lines i line → front_text (drop i (block_from lines)) ≡ chars_of line.text
-front_text-at [] i line within at = absurd (omega arith)
-front_text-at (l ∷ lines) zero line within at = ap (λ (x : SourceLine). chars_of x.text) (sym at)
-front_text-at (l ∷ lines) (suc i) line within at = front_text-at lines i line (omega arith) at
-
 -- ---- the first line that is longer
 
-pub first_longer-here : (limit i n : ℕ) (lines : List SourceLine) (line : SourceLine) → i < length lines → line ≡ get_or lines i line → n ≡ length (chars_of line.text) → limit < n
-    → first_longer limit (block_from (drop i lines)) ≡ Some line.number
-first_longer-here limit i n [] line within at is over = absurd (omega arith)
-first_longer-here limit zero n (l ∷ lines) line within at is over =
-    let longer : nat_lt limit (length (chars_of l.text)) ≡ true = lt-ltb limit (length (chars_of l.text)) (omega (arith, is, ap (λ (x : SourceLine). length (chars_of x.text)) at)) in
-    ap (λ b. cond b (Some l.number) (first_longer limit (block_from lines))) longer ∙ ap (λ (x : SourceLine). Some x.number) (sym at)
-first_longer-here limit (suc i) n (l ∷ lines) line within at is over = first_longer-here limit i n lines line (omega arith) at is over
+pub first_longer-here : (limit i n : ℕ) (B : Block) → i < length B → n ≡ length (front_text (drop i B)) → limit < n → first_longer limit (drop i B) ≡ Some (first_number (drop i B))
+first_longer-here limit i n [] within is over = absurd (omega arith)
+first_longer-here limit zero n (l ∷ ls) within is over =
+    let longer : nat_lt limit (length l.text) ≡ true = lt-ltb limit (length l.text) (omega (arith, is)) in ap (λ b. cond b (Some l.number) (first_longer limit ls)) longer
+first_longer-here limit (suc i) n (l ∷ ls) within is over = first_longer-here limit i n ls (omega arith) is over
 
-pub first_longer-next : (limit i n : ℕ) (lines : List SourceLine) (line : SourceLine) → i < length lines → line ≡ get_or lines i line → n ≡ length (chars_of line.text) → n ≤ limit
-    → first_longer limit (block_from (drop i lines)) ≡ first_longer limit (block_from (drop (suc i) lines))
-first_longer-next limit i n [] line within at is under = absurd (omega arith)
-first_longer-next limit zero n (l ∷ lines) line within at is under =
-    let short : nat_lt limit (length (chars_of l.text)) ≡ false = le-ltb limit (length (chars_of l.text)) (omega (arith, is, ap (λ (x : SourceLine). length (chars_of x.text)) at)) in
-    ap (λ b. cond b (Some l.number) (first_longer limit (block_from lines))) short
-first_longer-next limit (suc i) n (l ∷ lines) line within at is under = first_longer-next limit i n lines line (omega arith) at is under
+pub first_longer-next : (limit i n : ℕ) (B : Block) → i < length B → n ≡ length (front_text (drop i B)) → n ≤ limit → first_longer limit (drop i B) ≡ first_longer limit (drop (suc i) B)
+first_longer-next limit i n [] within is under = absurd (omega arith)
+first_longer-next limit zero n (l ∷ ls) within is under =
+    let short : nat_lt limit (length l.text) ≡ false = le-ltb limit (length l.text) (omega (arith, is)) in ap (λ b. cond b (Some l.number) (first_longer limit ls)) short
+first_longer-next limit (suc i) n (l ∷ ls) within is under = first_longer-next limit i n ls (omega arith) is under
 
 -- a character is a byte at least
 pub length-chars : (text : List ℕ) → IsUtf8 text → length (chars text) ≤ length text

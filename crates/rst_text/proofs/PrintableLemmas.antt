@@ -137,8 +137,5 @@ copied-line tab text n (Ok line) p whole same = ap chars same ∙ sym (expanded-
 copied-line tab text n (Err e) p whole same = tt
 
 -- A text without white characters at its end is its line, whatever the width of tabs: there is none in it.
-pub trimmed-line : {A E : Type 0} (text trimmed : List ℕ) (r : Result (String A) E) → IsUtf8 text → ArePrintable text → trimmed ≡ trim_end text → IfOk r (λ line. string_bytes line ≡ trimmed)
-    → IfOk r (λ line. (tab : ℕ) → chars_of line ≡ tidied tab (chars text))
-trimmed-line text trimmed (Ok line) good plain e same = λ tab.
-    ap chars same ∙ chars-trim_end text trimmed good e ∙ ap drop_trailing_whitespace (sym (expanded-line tab text (length text) (all-printable text plain) refl))
-trimmed-line text trimmed (Err x) good plain e same = tt
+pub trimmed-line : (text trimmed : List ℕ) → IsUtf8 text → ArePrintable text → trimmed ≡ trim_end text → (tab : ℕ) → chars trimmed ≡ tidied tab (chars text)
+trimmed-line text trimmed good plain e tab = chars-trim_end text trimmed good e ∙ ap drop_trailing_whitespace (sym (expanded-line tab text (length text) (all-printable text plain) refl))

@@ -1,18 +1,22 @@
 -- Where lines may be cut. No rule of markup: a cut that is counted in bytes splits no character.
-use Rattle.std.specs.Prelude.{ℕ, List, [], ◌∷◌, drop, string_bytes, Bool, true, ◌||◌, ◌&&◌, nat_le}
+use Rattle.std.specs.Prelude.{ℕ, ◌^◌, [], ◌∷◌, drop, length, encode_utf8_all, Bool, true, ◌||◌, ◌&&◌, nat_le, nat_lt}
 use Rattle.std.specs.Str.{is_utf8}
 use Rattle.rst_text.specs.Block.{Block, indentation, is_blank}
-use Rattle.rst_text.specs.declared.lines.SourceLine.{SourceLine}
 
 -- what is left of each line without its first n bytes is text; a shorter line leaves nothing
-abbrev pub each_may_cut : ℕ → List SourceLine → Bool
+abbrev pub each_may_cut : ℕ → Block → Bool
 each_may_cut n [] = true
-each_may_cut n (l ∷ ls) = is_utf8 (drop n (string_bytes l.text)) && each_may_cut n ls
+each_may_cut n (l ∷ ls) = is_utf8 (drop n (encode_utf8_all l.text)) && each_may_cut n ls
 
 -- the first line may be cut by f bytes, each other by r
-abbrev pub may_cut_at : ℕ → ℕ → List SourceLine → Bool
+abbrev pub may_cut_at : ℕ → ℕ → Block → Bool
 may_cut_at f r [] = true
-may_cut_at f r (l ∷ ls) = is_utf8 (drop f (string_bytes l.text)) && each_may_cut r ls
+may_cut_at f r (l ∷ ls) = is_utf8 (drop f (encode_utf8_all l.text)) && each_may_cut r ls
+
+-- each line has UTF-8, of fewer than 2^63 bytes
+abbrev pub are_texts : Block → Bool
+are_texts [] = true
+are_texts (l ∷ ls) = (is_utf8 (encode_utf8_all l.text) && nat_lt (length (encode_utf8_all l.text)) (2 ^ 63)) && are_texts ls
 
 -- each line is blank or indented by n
 abbrev pub is_indented : ℕ → Block → Bool

@@ -1,18 +1,17 @@
 -- The part of the lines that a view shows. No rule of markup: a view is a block whose cuts are counted in bytes.
-use Rattle.std.specs.Prelude.{ℕ, ◌-◌, ◌≤◌, IsTrue, List, [], ◌∷◌, take, drop, map, length, string_bytes}
+use Rattle.std.specs.Prelude.{ℕ, ◌-◌, ◌≤◌, IsTrue, [], ◌∷◌, take, drop, map, length, encode_utf8_all}
 use Rattle.std.specs.Str.{chars}
 use Rattle.rst_text.specs.Block.{Line, Block}
 use Rattle.rst_text.specs.MayCut.{may_cut_at}
-use Rattle.rst_text.specs.declared.lines.SourceLine.{SourceLine}
 use Rattle.rst_text.specs.declared.view.Portion.{Portion}
 use Rattle.rst_text.specs.declared.view.View.{View}
 
 -- a line without its first n bytes
-abbrev pub without_bytes : ℕ → SourceLine → Line
-without_bytes n l = record { number = l.number; text = chars (drop n (string_bytes l.text)) }
+abbrev pub without_bytes : ℕ → Line → Line
+without_bytes n l = record { number = l.number; text = chars (drop n (encode_utf8_all l.text)) }
 
 -- lines, the first without f bytes, each other without r
-abbrev pub byte_cut : ℕ → ℕ → List SourceLine → Block
+abbrev pub byte_cut : ℕ → ℕ → Block → Block
 byte_cut f r [] = []
 byte_cut f r (l ∷ ls) = without_bytes f l ∷ map (without_bytes r) ls
 
@@ -21,13 +20,13 @@ unfoldable pub block_of : View → Block
 block_of v = byte_cut v.first v.rest (take (v.to - v.from) (drop v.from v.lines.now))
 
 -- the lines of the text of which a view shows a part
-abbrev pub source_of : View → List SourceLine
+abbrev pub source_of : View → Block
 source_of v = v.lines.now
 
 -- the block that stands somewhere in a text
-unfoldable pub portion_block : List SourceLine → Portion → Block
+unfoldable pub portion_block : Block → Portion → Block
 portion_block S p = byte_cut p.first p.rest (take (p.to - p.from) (drop p.from S))
 
 -- lines of a text that may be cut so
-abbrev pub IsPortion : List SourceLine → Portion → Type 0
+abbrev pub IsPortion : Block → Portion → Type 0
 IsPortion S p = (p.from ≤ p.to) × (p.to ≤ length S) × IsTrue (may_cut_at p.first p.rest (take (p.to - p.from) (drop p.from S)))

@@ -9,6 +9,7 @@ ghost use Rattle.rst_text.specs.Source.{block_with};
 ghost use Rattle.rst_text.specs.Text.{chars_of};
 
 use super::fault::TextFault;
+use super::kept::Kept;
 use super::printable::printable_len;
 use std::alloc::{AllocError, Global};
 use std::marker::Model;
@@ -17,14 +18,7 @@ use std::marker::Model;
 /// as a block, a list of numbers and characters.
 #[derive(Debug, Drop)]
 pub struct Lines {
-    pub(crate) lines: Vec<SourceLine>,
-}
-
-/// A line as it is kept.
-#[derive(Debug, Drop)]
-pub(crate) struct SourceLine {
-    pub(crate) number: usize,
-    pub(crate) text: String,
+    pub(crate) kept: Kept,
 }
 
 impl Model for Lines {
@@ -32,14 +26,12 @@ impl Model for Lines {
 
     ghost Value = { Block };
 
-    ghost use Rattle.rst_text.specs.Source.{block_from};
-
-    ghost view = { λ l. block_from l.lines.items };
+    ghost view = { λ l. l.kept };
 
     ghost use Rattle.std.specs.Prelude.{IsTrue};
     ghost use Rattle.rst_text.specs.Lines.{are_lines};
 
-    ghost invariant = { λ l. IsTrue (are_lines (block_from l.lines.items)) };
+    ghost invariant = { λ l. IsTrue (are_lines l.kept) };
 }
 
 impl Lines {
@@ -53,22 +45,22 @@ impl Lines {
         requires to { tab ≤ 99 }
         ensures { Gives (λ lines. lines ≡ lines_of tab (chars text.now)) result }
     {
-        let mut lines = Vec::new(alloc);
+        // Only a tab makes a line longer than it stands in the text, so this room is seldom too small.
+        let mut kept = Kept::with_room(alloc, text.len())?;
         let mut rest = text;
         while !rest.is_empty() {
-            let number = lines.len() + 1;
+            let number = kept.len() + 1;
             if let Some((piece, after)) = printable_piece(rest) {
-                let text = trimmed(alloc, piece)?;
-                lines.push(SourceLine { number, text })?;
+                kept.push(number, trimmed(piece))?;
                 rest = after;
                 continue;
             }
             let (piece, after) = first_piece(rest);
-            let text = tidy(alloc, piece, usize::from(tab))?;
-            lines.push(SourceLine { number, text })?;
+            let line = tidy(alloc, piece, usize::from(tab))?;
+            kept.push(number, line.as_str())?;
             rest = after;
         }
-        Ok(Lines { lines })
+        Ok(Lines { kept })
     }
 
     /// Exactly these lines: a number and a text each, in which no character ends a line and no white one is the last.
@@ -78,29 +70,25 @@ impl Lines {
         requires { IsTrue (are_lines (block_with lines.now)) }
         ensures { Gives (λ made. made ≡ block_with lines.now) result }
     {
-        let mut made = Vec::new(alloc);
+        let mut kept = Kept::with_room(alloc, 0)?;
         for (number, text) in lines {
-            let text = String::from_str(alloc, text.as_str())?;
-            made.push(SourceLine {
-                number: *number,
-                text,
-            })?;
+            kept.push(*number, text.as_str())?;
         }
-        Ok(Lines { lines: made })
+        Ok(Lines { kept })
     }
 
     /// The number of the first line with more than `limit` characters.
     pub fn first_longer(&self, limit: usize) -> Option<usize>
         ensures { result ≡ first_longer limit self.now }
     {
-        for line in &self.lines {
-            let text = line.text.as_str();
+        for i in 0..self.kept.len() {
+            let text = self.kept.line(i);
             // A character is a byte at least, so most lines need no count.
             if text.len() <= limit {
                 continue;
             }
             if length_of(text) > limit {
-                return Some(line.number);
+                return Some(self.kept.number(i));
             }
         }
         None
@@ -110,7 +98,7 @@ impl Lines {
     pub fn count(&self) -> usize
         ensures { result ≡ length self.now }
     {
-        self.lines.len()
+        self.kept.len()
     }
 
     /// The text of the line at place `i`, counted from 0.
@@ -118,7 +106,7 @@ impl Lines {
         requires { i < length self.now }
         ensures { chars result.now ≡ front_text (drop i self.now) }
     {
-        self.lines[i].text.as_str()
+        self.kept.line(i)
     }
 }
 
@@ -173,11 +161,11 @@ fn first_piece(text: &str) -> (&str, &str)
 }
 
 /// A piece of printable ASCII, in which no tab stands, without white characters at its end.
-fn trimmed(alloc: Global, text: &str) -> Result<String, AllocError>
+fn trimmed(text: &str) -> &str
     requires { ArePrintable text.now }
-    ensures { IfOk result (λ line. (tab : ℕ) → chars_of line ≡ tidied tab (chars text.now)) }
+    ensures { (tab : ℕ) → chars result.now ≡ tidied tab (chars text.now) }
 {
-    String::from_str(alloc, text.trim_end())
+    text.trim_end()
 }
 
 /// A piece with its tabs expanded, and without white characters at its end.

@@ -1,12 +1,12 @@
 //! A part of a text's lines, cut on the left.
-ghost use Rattle.std.specs.Prelude.{◌≡◌, ◌+◌, ◌-◌, ◌^◌, ◌<◌, ◌≤◌, length, drop, take, ◌==◌, if◌then◌else◌, slice_index_or, IsTrue};
+ghost use Rattle.std.specs.Prelude.{◌≡◌, ◌+◌, ◌-◌, ◌^◌, ◌<◌, ◌≤◌, length, drop, take, ◌==◌, if◌then◌else◌, encode_utf8_all, IsTrue};
 ghost use Rattle.std.specs.Str.{chars};
 ghost use Rattle.rst_text.specs.Extent as extents;
 ghost use Rattle.rst_text.specs.Lines.{are_lines};
-ghost use Rattle.rst_text.specs.MayCut.{may_cut_at, is_indented};
-ghost use Rattle.rst_text.specs.Source.{block_from};
+ghost use Rattle.rst_text.specs.MayCut.{may_cut_at, is_indented, are_texts};
 
-use super::lines::{Lines, SourceLine};
+use super::kept::Kept;
+use super::lines::Lines;
 use super::looks::Looks;
 use super::text::{indentation, skip, tail};
 
@@ -14,7 +14,7 @@ use super::text::{indentation, skip, tail};
 /// theirs. It borrows the lines and copies nothing. Contracts see it by `block_of`, as a block.
 #[derive(Clone, Copy)]
 pub struct View<'a> {
-    lines: &'a [SourceLine],
+    lines: &'a Kept,
     from: usize,
     to: usize,
     // Cuts are kept in bytes, so that a look costs no walk over the characters that are cut.
@@ -22,8 +22,10 @@ pub struct View<'a> {
     rest: usize,
     ghost ordered: { from ≤ to },
     ghost fits: { to ≤ length lines.now },
+    ghost few: { length lines.now < 2 ^ 63 },
     ghost may_cut: { IsTrue (may_cut_at first rest (take (to - from) (drop from lines.now))) },
-    ghost of_lines: { IsTrue (are_lines (block_from lines.now)) },
+    ghost of_lines: { IsTrue (are_lines lines.now) },
+    ghost of_texts: { IsTrue (are_texts lines.now) },
 }
 
 /// Where a view stands in its text, without the text: the lines at which it begins and ends, and its cuts.
@@ -36,14 +38,14 @@ pub struct Portion {
 }
 
 impl Portion {
-    ghost use Rattle.std.specs.Prelude.{List, []};
+    ghost use Rattle.std.specs.Prelude.{[]};
+    ghost use Rattle.rst_text.specs.Block.{Block};
     ghost use Rattle.rst_text.specs.Shown.{portion_block};
-    ghost use Rattle.rst_text.specs.declared.lines.SourceLine.{SourceLine};
 
     /// The portion of any text that has no line.
     #[tactic(auto, unfolding(crate::specs::Shown::portion_block))]
     pub fn none() -> Portion
-        ensures { (lines : List SourceLine) → portion_block lines result ≡ [] }
+        ensures { (lines : Block) → portion_block lines result ≡ [] }
     {
         Portion {
             from: 0,
@@ -73,13 +75,6 @@ fn lower(least: Option<usize>, n: usize) -> usize
     }
 }
 
-fn line_at(lines: &[SourceLine], i: usize) -> &SourceLine
-    requires { i < length lines.now }
-    ensures { result.now ≡ slice_index_or lines.now i result.now }
-{
-    &lines[i]
-}
-
 impl<'a> View<'a> {
     ghost use Rattle.rst_text.specs.Block.{cut, front_text, first_number};
     ghost use Rattle.rst_text.specs.Shown.{block_of, source_of, IsPortion, portion_block};
@@ -90,7 +85,7 @@ impl<'a> View<'a> {
     pub fn whole(lines: &'a Lines) -> View<'a>
         ensures { block_of result ≡ lines.now }
     {
-        let lines = lines.lines.as_slice();
+        let lines = &lines.kept;
         View {
             lines,
             from: 0,
@@ -135,12 +130,12 @@ impl<'a> View<'a> {
         self.to - self.from
     }
 
-    /// The line of the text that is the view's line at place `i`.
-    fn source(&self, i: usize) -> &'a SourceLine
+    /// The text of the line at place `i`, without a cut.
+    fn uncut(&self, i: usize) -> &'a str
         requires { i < length (block_of self.now) }
-        ensures { result.now ≡ slice_index_or self.now.lines.now (self.now.from + i) result.now }
+        ensures { result.now ≡ encode_utf8_all (front_text (drop (self.now.from + i) self.now.lines.now)) }
     {
-        line_at(self.lines, self.from + i)
+        self.lines.line(self.from + i)
     }
 
     /// How many bytes the line at place `i` lacks.
@@ -155,7 +150,7 @@ impl<'a> View<'a> {
         requires { i < length (block_of self.now) }
         ensures { chars result.now ≡ front_text (drop i (block_of self.now)) }
     {
-        tail(self.source(i).text.as_str(), self.cut_at(i))
+        tail(self.uncut(i), self.cut_at(i))
     }
 
     /// The number that the line at place `i`, counted from 0, has in its document, from 1 on.
@@ -163,7 +158,7 @@ impl<'a> View<'a> {
         requires { i < length (block_of self.now) }
         ensures { result ≡ first_number (drop i (block_of self.now)) }
     {
-        self.source(i).number
+        self.lines.number(self.from + i)
     }
 
     /// The text of the line at place `i`, counted from 0, at the price of one look.
@@ -188,7 +183,7 @@ impl<'a> View<'a> {
     {
         let mut first = 0;
         if from < to {
-            let text = self.source(from).text.as_str();
+            let text = self.uncut(from);
             let left = skip(tail(text, self.cut_at(from)), first_cut);
             first = text.len() - left.len();
         }

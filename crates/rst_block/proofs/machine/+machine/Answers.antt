@@ -1,8 +1,7 @@
-use Rattle.std.proofs.Common.{◌≡◌, ℕ, ◌+◌, ◌-◌, ◌*◌, ◌^◌, ◌<◌, ◌≤◌, List, [], ◌∷◌, length, length-append, length-drop, drop, arith, refl, sym, ap, ◌∙◌}
+use Rattle.std.proofs.Common.{◌≡◌, ℕ, ◌+◌, ◌-◌, ◌*◌, ◌^◌, ◌<◌, ◌≤◌, [], ◌∷◌, length, length-append, length-drop, drop, arith, refl, sym, ap, ◌∙◌}
 use Rattle.std.proofs.lemmas.List.{drop-append-le, take_all, drop_all}
 use Rattle.rst_text.specs.Block.{Block}
 use Rattle.rst_text.specs.Shown.{block_of, source_of, portion_block}
-use Rattle.rst_text.specs.declared.lines.SourceLine.{SourceLine}
 use Rattle.rst_block.specs.declared.frame.Frame.{Frame}
 use Rattle.rst_block.specs.declared.step.Step.TheVariants.{Next, Open, Cells, Done}
 use Rattle.rst_block.proofs.Stack.{left, parts_left, now_of_resumed, now_of_begin, cost_of_resumed, goes_on, stepped, opens, resumes, waits_again, second_left, parts_at_most, parts_at_least, taken, placed}
@@ -54,10 +53,10 @@ read-loop-now-smaller-in_ok-now-in-Open t c =
 
 pub read-loop-now-smaller-else-inner-gt-DEEPEST : goal.read-loop-now-smaller-else-inner-gt-DEEPEST
 read-loop-now-smaller-else-inner-gt-DEEPEST t c =
-    let S : List SourceLine = source_of c.whole-whole.result in
+    let S : Block = source_of c.whole-whole.result in
     let B : Block = block_of c.loop-now.view in
     let f : Frame = c.opened-frame.result.0 in
-    let same : portion_block S f.portion ≡ B = ap (λ (T : List SourceLine). portion_block T f.portion) (sym c.loop-now.invariant.text) ∙ c.opened-frame.ensures.block in
+    let same : portion_block S f.portion ≡ B = ap (λ (T : Block). portion_block T f.portion) (sym c.loop-now.invariant.text) ∙ c.opened-frame.ensures.block in
     let fewer : left S f < 5 * (length B - c.in-Open.level.at) + 5 = omega (arith, ap length same, c.opened-frame.ensures.at, parts_at_most f.second) in
     let few : length (drop c.len-base.result c.loop-now.frames.items) < 250 - c.args.depth = omega (arith, length-drop c.len-base.result c.loop-now.frames.items, c.len-in-loop-now.ensures.value, c.if-inner-gt-DEEPEST.false, c.loop-now.invariant.base) in
     rw (c.in-Open.is, c.push.ensures.items, drop-append-le c.len-base.result c.loop-now.frames.items (f ∷ []) c.loop-now.invariant.base)
@@ -81,7 +80,7 @@ read-loop-now-preserved-else-inner-gt-DEEPEST t c =
 
 pub read-loop-now-smaller-in-Waiting : goal.read-loop-now-smaller-in-Waiting
 read-loop-now-smaller-in-Waiting t c =
-    let S : List SourceLine = source_of c.whole-whole.result in
+    let S : Block = source_of c.whole-whole.result in
     let f : Frame = c.in-Some.frame in
     let g : Frame = c.in-Waiting.frame in
     let some : c.len-base.result < length c.loop-now.frames.items = omega (arith, c.if-len-base.false, c.len-in-Done.ensures.value, c.loop-now.invariant.base) in
@@ -96,7 +95,7 @@ read-loop-now-smaller-in-Waiting t c =
 
 pub read-loop-now-preserved-in-Waiting : goal.read-loop-now-preserved-in-Waiting
 read-loop-now-preserved-in-Waiting t c =
-    let S : List SourceLine = source_of c.whole-whole.result in
+    let S : Block = source_of c.whole-whole.result in
     let f : Frame = c.in-Some.frame in
     let g : Frame = c.in-Waiting.frame in
     let some : c.len-base.result < length c.loop-now.frames.items = omega (arith, c.if-len-base.false, c.len-in-Done.ensures.value, c.loop-now.invariant.base) in
@@ -116,7 +115,7 @@ read-loop-now-preserved-in-Waiting t c =
 
 pub read-loop-now-smaller : goal.read-loop-now-smaller
 read-loop-now-smaller t c =
-    let S : List SourceLine = source_of c.whole-whole.result in
+    let S : Block = source_of c.whole-whole.result in
     let f : Frame = c.in-Some.frame in
     let some : c.len-base.result < length c.loop-now.frames.items = omega (arith, c.if-len-base.false, c.len-in-Done.ensures.value, c.loop-now.invariant.base) in
     let off = taken S c.len-base.result c.loop-now.frames.items c.pop.new.self.items f c.in-Some.ensures.items some c.loop-now.invariant.waiting in
@@ -128,7 +127,7 @@ read-loop-now-smaller t c =
 
 pub read-loop-now-preserved : goal.read-loop-now-preserved
 read-loop-now-preserved t c =
-    let S : List SourceLine = source_of c.whole-whole.result in
+    let S : Block = source_of c.whole-whole.result in
     let f : Frame = c.in-Some.frame in
     let some : c.len-base.result < length c.loop-now.frames.items = omega (arith, c.if-len-base.false, c.len-in-Done.ensures.value, c.loop-now.invariant.base) in
     let off = taken S c.len-base.result c.loop-now.frames.items c.pop.new.self.items f c.in-Some.ensures.items some c.loop-now.invariant.waiting in

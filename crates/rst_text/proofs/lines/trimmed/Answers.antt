@@ -2,4 +2,4 @@ use Rattle.rst_text.proofs.PrintableLemmas.{trimmed-line}
 use Rattle.rst_text.proofs.lines.trimmed.Goals as goal
 
 pub returns : goal.returns
-returns c = trimmed-line c.args.text.now c.trim_end.result.now c.from_str.result c.utf8.text c.requires c.trim_end.ensures.trim c.from_str.ensures.ok
+returns c = trimmed-line c.args.text.now c.trim_end.result.now c.utf8.text c.requires c.trim_end.ensures.trim

@@ -1,13 +1,7 @@
-use Rattle.std.proofs.Common.{◌∙◌, ◌<◌, length, drop, sym, ap, arith}
-use Rattle.std.proofs.lemmas.List.{length-map}
-use Rattle.std.specs.Str.{chars}
+use Rattle.std.proofs.Common.{◌∙◌, drop, sym, ap}
+use Rattle.std.proofs.lemmas.Str.{chars_from_encodes}
 use Rattle.rst_text.specs.Block.{Block, front_text}
-use Rattle.rst_text.specs.Source.{line_from}
-use Rattle.rst_text.proofs.LinesLemmas.{front_text-at}
 use Rattle.rst_text.proofs.lines.Lines.line.Goals as goal
 
 pub returns : goal.returns
-returns c =
-    let items = c.self.inside.lines.items in
-    let within : c.args.i < length items = omega (arith, c.requires, ap length c.self.view_is, length-map items line_from) in
-    ap chars c.as_str.ensures.value ∙ sym (front_text-at items c.args.i c.index.result.now within c.index.ensures) ∙ ap (λ (b : Block). front_text (drop c.args.i b)) c.self.view_is
+returns c = sym (chars_from_encodes (front_text (drop c.args.i c.self.inside.kept)) c.line.result.now c.line.utf8 (sym c.line.ensures)) ∙ ap (λ (B : Block). front_text (drop c.args.i B)) c.self.view_is

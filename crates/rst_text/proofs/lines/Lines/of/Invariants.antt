@@ -1,14 +1,13 @@
-use Rattle.std.proofs.Common.{◌≡◌, ◌+◌, ◌++◌, length, map, vec_len}
+use Rattle.std.proofs.Common.{◌≡◌, ◌+◌, ◌++◌, length, map}
 use denote.Text.{Utf8}
 use denote.Shadow.{shadow}
 use Rattle.std.specs.Str.{chars}
-use Rattle.rst_text.specs.Source.{block_from}
 use Rattle.rst_text.specs.Lines.{pieces, tidied, numbered_from, lines_of}
 use Rattle.rst_text.proofs.lines.Lines.of.Given as goal
 
 -- the lines so far, and those of the rest, are those of the text
 abbrev pub invariant-loop-rest : goal.invariant-loop-rest
-invariant-loop-rest l = shadow (Utf8 l.rest) × (block_from l.lines.items ++ numbered_from (vec_len l.lines + 1) (map (tidied l.tab) (pieces (chars l.rest))) ≡ lines_of l.tab (chars l.text))
+invariant-loop-rest l = shadow (Utf8 l.rest) × (l.kept ++ numbered_from (length l.kept + 1) (map (tidied l.tab) (pieces (chars l.rest))) ≡ lines_of l.tab (chars l.text))
 
 abbrev pub decreases-loop-rest : goal.decreases-loop-rest
 decreases-loop-rest l = length l.rest

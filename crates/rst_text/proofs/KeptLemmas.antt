@@ -1,0 +1,102 @@
+-- Lines whose texts stand one behind another.
+use Rattle.std.proofs.Common.{◌≡◌, ℕ, zero, suc, ◌+◌, ◌-◌, ◌<◌, ◌≤◌, ◌^◌, true, List, [], ◌∷◌, ◌++◌, length, get_or, take, drop, slice_range, refl, sym, ap, ◌∙◌, subst, arith, length-append, length-drop}
+use Rattle.std.proofs.lemmas.List.{map-append, take_all, length-take-le}
+use Rattle.std.proofs.lemmas.Bool.{lt-ltb}
+use Rattle.std.specs.Str.{IsUtf8, chars, is_utf8, IsCharBoundary}
+use Rattle.std.proofs.Math.Utf8.{encodes}
+use Rattle.std.proofs.lemmas.Str.{encodes-chars, is_utf8-from_IsUtf8, IsUtf8-between, IsUtf8-drop, IsUtf8-append, IsCharBoundary-from_drop, IsCharBoundary-end, IsCharBoundary-at_seam}
+use Rattle.rst_text.specs.declared.kept.Span.{Span}
+use Rattle.rst_text.specs.Block.{front_text, first_number}
+use Rattle.rst_text.specs.Kept.{line_of, IsSpanOf, AreSpansOf, line_in, block_in}
+use Rattle.rst_text.specs.MayCut.{are_texts}
+
+-- ---- more bytes behind the others
+
+take-front : (n : ℕ) (xs ys : List ℕ) → n ≤ length xs → take n (xs ++ ys) ≡ take n xs
+take-front zero xs ys h = refl
+take-front (suc n) [] ys h = absurd (omega arith)
+take-front (suc n) (x ∷ xs) ys h = ap (λ l. x ∷ l) (take-front n xs ys (omega arith))
+
+drop-front : (n : ℕ) (xs ys : List ℕ) → n ≤ length xs → drop n (xs ++ ys) ≡ drop n xs ++ ys
+drop-front zero xs ys h = refl
+drop-front (suc n) [] ys h = absurd (omega arith)
+drop-front (suc n) (x ∷ xs) ys h = drop-front n xs ys (omega arith)
+
+range-front : (xs ys : List ℕ) (a b : ℕ) → a ≤ b → b ≤ length xs → slice_range (xs ++ ys) a b ≡ slice_range xs a b
+range-front xs ys a b order within =
+    ap (take (b - a)) (drop-front a xs ys (omega arith)) ∙ take-front (b - a) (drop a xs) ys (omega (arith, length-drop a xs))
+
+drop-past : (xs ys : List ℕ) → drop (length xs) (xs ++ ys) ≡ ys
+drop-past [] ys = refl
+drop-past (x ∷ xs) ys = drop-past xs ys
+
+-- the bytes that were added
+range-added : (xs ys : List ℕ) (a b : ℕ) → a ≡ length xs → b ≡ length xs + length ys → slice_range (xs ++ ys) a b ≡ ys
+range-added xs ys a b p q =
+    let n : b - a ≡ length ys = omega arith in
+    rw n (ap (take (length ys)) (ap (λ k. drop k (xs ++ ys)) p ∙ drop-past xs ys) ∙ take_all (length ys) ys (omega arith))
+
+boundary-more : (xs ys : List ℕ) (k : ℕ) → IsUtf8 xs → IsUtf8 ys → IsCharBoundary xs k → IsCharBoundary (xs ++ ys) k
+boundary-more xs ys k u w b =
+    IsCharBoundary-from_drop (xs ++ ys) k (omega (arith, b.0, length-append xs ys)) (subst IsUtf8 (sym (drop-front k xs ys b.0)) (IsUtf8-append (drop k xs) ys (IsUtf8-drop xs k u b) w))
+
+-- ---- the spans stay
+
+pub spans-more : (xs ys : List ℕ) (ss : List Span) → IsUtf8 xs → IsUtf8 ys → AreSpansOf xs ss → AreSpansOf (xs ++ ys) ss
+spans-more xs ys [] u w h = tt
+spans-more xs ys (s ∷ ss) u w h = ((h.0.0, boundary-more xs ys s.start u w h.0.1, boundary-more xs ys s.end u w h.0.2), spans-more xs ys ss u w h.1)
+
+pub block-more : (xs ys : List ℕ) (ss : List Span) → AreSpansOf xs ss → block_in (xs ++ ys) ss ≡ block_in xs ss
+block-more xs ys [] h = refl
+block-more xs ys (s ∷ ss) h =
+    let line : line_in (xs ++ ys) s ≡ line_in xs s = ap (λ t. line_of s.number (chars t)) (range-front xs ys s.start s.end h.0.0 h.0.2.0) in
+    rw (line, block-more xs ys ss h.1) refl
+
+-- ---- one line more
+
+spans-push : (bs : List ℕ) (ss : List Span) (s : Span) → AreSpansOf bs ss → IsSpanOf bs s → AreSpansOf bs (ss ++ s ∷ [])
+spans-push bs [] s h k = (k, tt)
+spans-push bs (t ∷ ss) s h k = (h.0, spans-push bs ss s h.1 k)
+
+pub spans-added : (xs ys : List ℕ) (ss : List Span) (s : Span) → IsUtf8 xs → IsUtf8 ys → AreSpansOf xs ss → s.start ≡ length xs → s.end ≡ length xs + length ys → AreSpansOf (xs ++ ys) (ss ++ s ∷ [])
+spans-added xs ys ss s u w h p q =
+    let whole : s.end ≡ length (xs ++ ys) = omega (arith, length-append xs ys) in
+    spans-push (xs ++ ys) ss s (spans-more xs ys ss u w h)
+    (omega arith, subst (IsCharBoundary (xs ++ ys)) (sym p) (IsCharBoundary-at_seam (xs ++ ys) xs ys refl w), subst (IsCharBoundary (xs ++ ys)) (sym whole) (IsCharBoundary-end (xs ++ ys)))
+
+pub block-added : (xs ys : List ℕ) (ss : List Span) (s : Span) → AreSpansOf xs ss → s.start ≡ length xs → s.end ≡ length xs + length ys → block_in (xs ++ ys) (ss ++ s ∷ []) ≡ block_in xs ss ++ line_of s.number (chars ys) ∷ []
+block-added xs ys ss s h p q =
+    map-append (line_in (xs ++ ys)) ss (s ∷ []) ∙ rw (block-more xs ys ss h) (ap (λ t. block_in xs ss ++ line_of s.number (chars t) ∷ []) (range-added xs ys s.start s.end p q))
+
+-- ---- a line at a place
+
+pub span-at : (bs : List ℕ) (ss : List Span) (i : ℕ) (s : Span) → AreSpansOf bs ss → i < length ss → s ≡ get_or ss i s → IsSpanOf bs s
+span-at bs [] i s h within at = absurd (omega arith)
+span-at bs (t ∷ ss) zero s h within at = subst (IsSpanOf bs) (sym at) h.0
+span-at bs (t ∷ ss) (suc i) s h within at = span-at bs ss i s h.1 (omega arith) at
+
+pub front_text-at : (bs : List ℕ) (ss : List Span) (i : ℕ) (s : Span) → i < length ss → s ≡ get_or ss i s → front_text (drop i (block_in bs ss)) ≡ chars (slice_range bs s.start s.end)
+front_text-at bs [] i s within at = absurd (omega arith)
+front_text-at bs (t ∷ ss) zero s within at = ap (λ (x : Span). chars (slice_range bs x.start x.end)) (sym at)
+front_text-at bs (t ∷ ss) (suc i) s within at = front_text-at bs ss i s (omega arith) at
+
+pub first_number-at : (bs : List ℕ) (ss : List Span) (i : ℕ) (s : Span) → i < length ss → s ≡ get_or ss i s → first_number (drop i (block_in bs ss)) ≡ s.number
+first_number-at bs [] i s within at = absurd (omega arith)
+first_number-at bs (t ∷ ss) zero s within at = ap (λ (x : Span). x.number) (sym at)
+first_number-at bs (t ∷ ss) (suc i) s within at = first_number-at bs ss i s (omega arith) at
+
+pub text-of_span : (bs : List ℕ) (s : Span) → IsUtf8 bs → IsSpanOf bs s → encodes (chars (slice_range bs s.start s.end)) ≡ slice_range bs s.start s.end
+text-of_span bs s u h = encodes-chars (slice_range bs s.start s.end) (IsUtf8-between bs s.start s.end u h.0 h.1 h.2)
+
+-- ---- each line has UTF-8, which takes no more bytes than all of them
+
+pub texts-of_spans : (bs : List ℕ) (ss : List Span) → IsUtf8 bs → length bs < 2 ^ 63 → AreSpansOf bs ss → are_texts (block_in bs ss) ≡ true
+texts-of_spans bs [] u few h = refl
+texts-of_spans bs (s ∷ ss) u few h =
+    let part : List ℕ = slice_range bs s.start s.end in
+    let good : IsUtf8 part = IsUtf8-between bs s.start s.end u h.0.0 h.0.1 h.0.2 in
+    let same : encodes (chars part) ≡ part = encodes-chars part good in
+    let short : length part ≤ length bs = omega (arith, h.0.0, h.0.2.0, length-drop s.start bs, length-take-le (s.end - s.start) (drop s.start bs) (omega (arith, h.0.0, h.0.2.0, length-drop s.start bs))) in
+    let one : is_utf8 (encodes (chars part)) ≡ true = ap is_utf8 same ∙ is_utf8-from_IsUtf8 part good in
+    let two : (length (encodes (chars part)) < 2 ^ 63) = omega (arith, ap length same) in
+    rw (one, lt-ltb (length (encodes (chars part))) (2 ^ 63) two, texts-of_spans bs ss u few h.1) refl
