@@ -7,5 +7,4 @@ pub mod UriLemmas
 pub mod PieceLemmas
 pub mod WordLemmas
 pub mod CalmLemmas
-pub mod RunLemmas
 pub mod QuietLemmas

@@ -16,7 +16,7 @@ use Rattle.rst_pieces.specs.Names.{is_reference, name_end, reference_at, referen
 use Rattle.rst_pieces.specs.Footnotes.{label_stop, closes_label, label_piece, label}
 use Rattle.rst_pieces.specs.Uri.{in_lower_case, has_letter, begins_at, schemes, behind_first, scheme_end, uri_piece, uri}
 use Rattle.rst_pieces.specs.Pieces.{markup_at, is_free_if, piece_if, plain_from, IsPieces, nothing, last}
-use Rattle.rst_pieces.specs.Runs.{IsRun}
+use Rattle.rst_text.specs.Runs.{IsRun}
 use Rattle.rst_pieces.specs.Quiet.{is_quiet, quiet, whole}
 use Rattle.rst_pieces.specs.declared.piece.Markup.TheVariants.{Strong, Emphasis, Literal, Target, Substitution, Interpreted}
 use Rattle.rst_pieces.specs.declared.piece.Piece.{Piece}

@@ -2,7 +2,7 @@
 use Rattle.std.specs.Prelude.{◌≡◌, ℕ, ◌-◌, ◌<◌, ◌≤◌, Bool, false, ◌||◌, ◌==◌, slice_index, length}
 use Rattle.std.specs.Char.{is_ascii_alphanumeric}
 use Rattle.rst_pieces.specs.Characters.{Text}
-use Rattle.rst_pieces.specs.Runs.{PassBetween}
+use Rattle.rst_text.specs.Runs.{PassBetween}
 
 -- an ASCII letter or digit, a space, a line feed or a comma
 abbrev pub is_calm : ℕ → Bool

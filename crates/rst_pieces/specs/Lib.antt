@@ -8,6 +8,5 @@ pub mod Footnotes
 pub mod Uri
 pub mod Pieces
 pub mod Missing
-pub mod Runs
 pub mod Calm
 pub mod Quiet

@@ -2,7 +2,7 @@
 ghost use Rattle.std.specs.Prelude.{◌≡◌, ◌<◌, ◌≤◌, ◌&&◌, ◌==◌, length};
 ghost use Rattle.rst_pieces.specs.Calm.{AreCalm, IsEdge, IsCalm};
 
-use super::runs::{ByteTest, run_end};
+use rst_text::{ByteTest, run_end};
 use std::simd::prelude::*;
 
 /// Whether a byte is calm: a letter or a digit, a space, a line feed or a comma.

@@ -11,7 +11,6 @@ mod missing;
 mod names;
 mod piece;
 mod quiet;
-mod runs;
 mod scanner;
 mod tails;
 mod uri;

@@ -2,7 +2,7 @@
 ghost use Rattle.std.specs.Prelude.{◌≡◌};
 ghost use Rattle.rst_pieces.specs.Quiet.{is_quiet, quiet};
 
-use super::runs::{ByteTest, run_end};
+use rst_text::{ByteTest, run_end};
 use std::simd::prelude::*;
 
 /// Whether a byte is quiet: ASCII, and no character that markup or an escape needs.

@@ -1,21 +1,16 @@
 -- Texts of printable ASCII.
-use Rattle.std.proofs.Common.{◌≡◌, ⊎_elim, map, not, ℕ, zero, suc, ◌+◌, ◌-◌, ◌<◌, ◌≤◌, ◌==◌, ◌||◌, Bool, true, false, List, [], ◌∷◌, ◌++◌, length, take, drop, get_or, length-append, Result, Ok, Err, IfOk, String, string_bytes, refl, sym, ap, ◌∙◌, subst, arith}
+use Rattle.std.proofs.Common.{◌≡◌, ⊎_elim, ℕ, zero, suc, ◌+◌, ◌-◌, ◌<◌, ◌≤◌, ◌==◌, ◌||◌, true, false, List, [], ◌∷◌, ◌++◌, length, take, drop, get_or, length-append, Result, Ok, Err, IfOk, String, string_bytes, refl, sym, ap, ◌∙◌, subst, arith}
 use Rattle.std.specs.Str.{IsUtf8, IsAscii, chars, NonePass, IsCharBoundary, trim_end, drop_trailing_whitespace}
 use Rattle.std.proofs.Math.Utf8.{encode, encodes}
 use Rattle.std.proofs.lemmas.Bool.{cases_lt}
 use Rattle.std.proofs.lemmas.Bool.Decides.{nat_tests}
 use Rattle.std.proofs.lemmas.List.{take_more, drop_more, length-drop, length-take-le, get_or-take, get_or_past}
-use Rattle.std.proofs.lemmas.Simd.{none_from_empty_mask}
 use Rattle.std.proofs.lemmas.Str.{encode_ascii, chars-IsAscii}
-use lib.Count.{count_trailing_zeros}
-use lib.Lanes.{mask_l, chunk}
 use Rattle.rst_text.specs.Lines.{is_line_end, pieces, expanded_from, tidied}
 use Rattle.rst_text.specs.Text.{chars_of}
-use Rattle.rst_text.specs.Printable.{is_printable, is_other, ArePrintable, IsPrintableTo}
+use Rattle.rst_text.specs.Printable.{is_printable, ArePrintable, IsPrintableTo}
 use Rattle.rst_text.proofs.Scanning.{Scans, Scans-start, Scans-step, NonePass-push, IsCharBoundary-scanned, length-scanned}
-use Rattle.rst_text.proofs.LaneLemmas.{lowest_passes}
 use Rattle.rst_text.proofs.LinesLemmas.{pieces-end, pieces-scanned, chars-trim_end}
-use Rattle.rst_text.proofs.LineTexts.{not_false}
 
 -- ---- printable characters
 
@@ -35,32 +30,8 @@ shown-of c h = grind (arith, nat_tests)
 abbrev Printable : List ℕ → ℕ → Type 0
 Printable text n = (i : ℕ) → i < n → is_printable (get_or text i 0) ≡ true
 
--- ---- sixteen of them at once
-
-true_of : (a : Bool) → not a ≡ false → a ≡ true
-true_of true h = refl
-true_of false h = cc
-
-printable_of : (c : ℕ) → is_other c ≡ false → is_printable c ≡ true
-printable_of c h = true_of (is_printable c) h
-
-other_of : (c : ℕ) → is_other c ≡ true → is_printable c ≡ false
-other_of c h = not_false (is_printable c) h
-
-more-printable : (text : List ℕ) (at n : ℕ) → Printable text at → ((k : ℕ) → at ≤ k → k < at + n → is_other (get_or text k 0) ≡ false) → Printable text (at + n)
-more-printable text at n before none i less = ⊎_elim (before i) (λ past. printable_of (get_or text i 0) (none i past less)) (cases_lt i at)
-
-pub none-other : (text : List ℕ) (at n mask : ℕ) → at + n ≤ length text → Printable text at → mask ≡ mask_l (map is_other (chunk at n text)) → mask ≡ 0 → Printable text (at + n)
-none-other text at n mask room before is none = more-printable text at n before (none_from_empty_mask is_other text at n 0 room (sym is ∙ none))
-
-pub first-other : (text : List ℕ) (at n mask : ℕ) → at + n ≤ length text → n ≤ 64 → Printable text at → mask ≡ mask_l (map is_other (chunk at n text)) → 0 < mask → IsPrintableTo text (at + count_trailing_zeros 64 mask)
-first-other text at n mask room short before is some =
-    let first = lowest_passes is_other text at n mask room short is some in
-    record {
-      within = omega (arith, first.inside);
-      plain = more-printable text at (count_trailing_zeros 64 mask) before first.before;
-      stops = λ inside. other_of (get_or text (at + count_trailing_zeros 64 mask) 0) first.passes;
-    }
+front-of : (text : List ℕ) (n : ℕ) → IsPrintableTo text n → Printable text n
+front-of text n p = λ i less. p.pass i (omega arith) less
 
 -- ---- their front
 
@@ -89,16 +60,16 @@ coded_len text n within s = omega (arith, ap length s.bytes ∙ length-append (e
 
 pub IsCharBoundary-printable : (text : List ℕ) (n : ℕ) → IsUtf8 text → IsPrintableTo text n → IsCharBoundary text n
 IsCharBoundary-printable text n good p =
-    let s = scans-front text n good p.within p.plain in IsCharBoundary-scanned text (take n text) (drop n text) n s (coded_len text n p.within s)
+    let s = scans-front text n good p.within (front-of text n p) in IsCharBoundary-scanned text (take n text) (drop n text) n s (coded_len text n p.within s)
 
 -- a line feed behind it ends the first piece
 pub pieces-printable : (text after : List ℕ) (n : ℕ) → IsUtf8 text → IsPrintableTo text n → drop n text ≡ encode 10 ++ after → pieces (chars text) ≡ chars (take n text) ∷ pieces (chars after)
 pieces-printable text after n good p e =
-    let s = scans-front text n good p.within p.plain in
+    let s = scans-front text n good p.within (front-of text n p) in
     let low : length (encode 10) ≡ 1 = ap length (encode_ascii 10 (omega arith)) in
     let len = length-scanned text (take n text) (drop n text) after 10 s e in
     let here : length text - length after - 1 ≡ n = omega (arith, len, low, coded_len text n p.within s) in
-    pieces-scanned text (take n text) (drop n text) after after 10 1 s (clear-front text n p.within p.plain) e (sym low)
+    pieces-scanned text (take n text) (drop n text) after after 10 1 s (clear-front text n p.within (front-of text n p)) e (sym low)
     (pieces-end 10 (chars after) refl (λ e. absurd (omega arith))) ∙ ap (λ k. chars (take k text) ∷ pieces (chars after)) here
 
 -- ---- the whole
@@ -116,18 +87,18 @@ ascii-of text plain i = ⊎_elim
     (cases_lt i (length text))
 
 all-printable : (text : List ℕ) → ArePrintable text → IsPrintableTo text (length text)
-all-printable text plain = record { within = omega arith; plain = plain; stops = λ inside. absurd (omega arith) }
+all-printable text plain = record { above = omega arith; within = omega arith; pass = λ i low less. plain i less; stops = λ inside. absurd (omega arith) }
 
 -- the front of a text is printable itself
 pub front-printable : (text : List ℕ) (n : ℕ) → IsPrintableTo text n → ArePrintable (take n text)
 front-printable text n p i inside =
     let less : i < n = omega (arith, length-take-le n text p.within) in
-    ap is_printable (get_or-take n text i 0 less) ∙ p.plain i less
+    ap is_printable (get_or-take n text i 0 less) ∙ front-of text n p i less
 
 -- a text of printable ASCII stays as it is
 expanded-line : (tab : ℕ) (text : List ℕ) (n : ℕ) → IsPrintableTo text n → n ≡ length text → expanded_from tab 0 (chars text) ≡ chars text
 expanded-line tab text n p whole =
-    let plain : Printable text (length text) = subst (Printable text) whole p.plain in
+    let plain : Printable text (length text) = subst (Printable text) whole (front-of text n p) in
     let same : chars text ≡ text = chars-IsAscii text (ascii-of text plain) in
     ap (expanded_from tab 0) same ∙ expanded-same tab 0 text plain ∙ sym same
 

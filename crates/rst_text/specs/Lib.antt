@@ -13,4 +13,5 @@ pub mod Characters
 pub mod Names
 pub mod Faults
 pub mod Counted
+pub mod Runs
 pub mod Printable

@@ -2,7 +2,7 @@ use Rattle.std.proofs.Common.{ℕ, leb, cond, bit_and, arith}
 use Rattle.std.proofs.lemmas.Simd.{zip2_splat}
 use Rattle.rst_text.proofs.LaneLemmas.{joined, splat_is, masked}
 use Rattle.rst_pieces.specs.Calm.{is_calm}
-use Rattle.rst_pieces.specs.Runs.{fails}
+use Rattle.rst_text.specs.Runs.{fails}
 use Rattle.rst_pieces.proofs.calm.CalmByteTest.failing.Goals as goal
 
 pub returns : goal.returns

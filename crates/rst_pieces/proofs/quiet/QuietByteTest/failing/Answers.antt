@@ -2,7 +2,7 @@ use Rattle.std.proofs.Common.{ℕ, leb, cond, bit_or, arith}
 use Rattle.std.proofs.lemmas.Simd.{zip2_splat, zip2_splat_left}
 use Rattle.rst_text.proofs.LaneLemmas.{joined, masked}
 use Rattle.rst_pieces.specs.Quiet.{is_quiet}
-use Rattle.rst_pieces.specs.Runs.{fails}
+use Rattle.rst_text.specs.Runs.{fails}
 use Rattle.rst_pieces.proofs.quiet.QuietByteTest.failing.Goals as goal
 
 pub returns : goal.returns

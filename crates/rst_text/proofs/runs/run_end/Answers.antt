@@ -1,6 +1,6 @@
 use Rattle.std.proofs.Common.{arith}
-use Rattle.rst_pieces.proofs.RunLemmas.{none-failing, first-failing}
-use Rattle.rst_pieces.proofs.runs.run_end.Goals as goal
+use Rattle.rst_text.proofs.RunLemmas.{none-failing, first-failing}
+use Rattle.rst_text.proofs.runs.run_end.Goals as goal
 
 pub returns-then-failing-ne0 : goal.returns-then-failing-ne0
 returns-then-failing-ne0 g c =

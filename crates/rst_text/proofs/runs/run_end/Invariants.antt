@@ -1,6 +1,6 @@
 use Rattle.std.proofs.Common.{◌≤◌, ◌-◌, length}
-use Rattle.rst_pieces.specs.Runs.{PassBetween}
-use Rattle.rst_pieces.proofs.runs.run_end.Given as goal
+use Rattle.rst_text.specs.Runs.{PassBetween}
+use Rattle.rst_text.proofs.runs.run_end.Given as goal
 
 abbrev pub invariant-loop-at : goal.invariant-loop-at
 invariant-loop-at g l = (l.place ≤ l.at) × (l.at ≤ length l.bytes) × PassBetween g.T.ByteTest.passes l.bytes l.place l.at

@@ -1,7 +1,7 @@
 //! Runs of bytes that pass a test, stepped over sixteen at a time.
 ghost use Rattle.std.specs.Prelude.{◌≡◌, ℕ, Bool, ◌≤◌, length, map};
 ghost use Rattle.std.specs.Simd.Lanes.{mask_l};
-ghost use Rattle.rst_pieces.specs.Runs.{fails, IsRun};
+ghost use Rattle.rst_text.specs.Runs.{fails, IsRun};
 
 use std::simd::prelude::*;
 
@@ -9,7 +9,7 @@ use std::simd::prelude::*;
 const LANES: usize = 16;
 
 /// A test of bytes.
-pub(crate) trait ByteTest {
+pub trait ByteTest {
     /// Whether a byte passes.
     ghost passes: { ℕ → Bool };
 
@@ -23,7 +23,7 @@ pub(crate) trait ByteTest {
 }
 
 /// The place behind the bytes from a place on that pass a test.
-pub(crate) fn run_end<T: ByteTest>(bytes: &[u8], place: usize) -> usize
+pub fn run_end<T: ByteTest>(bytes: &[u8], place: usize) -> usize
     requires { place ≤ length bytes.now }
     ensures { IsRun T.passes bytes.now place result }
 {
