@@ -1,7 +1,12 @@
 -- An identifier in one pass is the identifier in steps.
-use Rattle.std.proofs.Common.{◌≡◌, ℕ, Bool, true, false, eqb, if◌then◌else◌, List, [], ◌∷◌, filter, refl, sym, ap, ◌∙◌, arith, ⊎_elim, chars, encode_utf8_all}
-use Rattle.std.specs.Str.{IsUtf8}
-use Rattle.std.proofs.lemmas.Str.{chars_from_encodes}
+use Rattle.std.proofs.Common.{◌≡◌, ◌<◌, ℕ, Bool, true, false, eqb, if◌then◌else◌, List, [], ◌∷◌, ◌++◌, filter, length, refl, sym, ap, ◌∙◌, subst, append_assoc, append-nil, arith, ⊎_elim, chars, encode_utf8_all}
+use Rattle.std.proofs.Math.Utf8.{encode, encodes}
+use Rattle.rst_text.proofs.Scanning.{past_char}
+use Rattle.std.specs.Str.{IsUtf8, IsAscii}
+use Rattle.std.proofs.lemmas.List.Elements.{All-from_get_or}
+use Rattle.unicode_normalization.specs.Forms.{nfkd, Nfkd}
+use Rattle.unicode_normalization.proofs.FormsLemmas.{normalize-ascii}
+use Rattle.std.proofs.lemmas.Str.{chars_from_encodes, chars_past_char, chars-nil, chars-IsAscii}
 use Rattle.std.proofs.lemmas.Bool.Decides.{nat_tests}
 use Rattle.rst_text.specs.Names.{is_id_letter, is_id_char, is_no_start, is_ascii, hyphenated, skip_while, without_last_hyphens, identifier_of}
 use Rattle.rst_text.proofs.PlacesLemmas.{cases_bool}
@@ -129,6 +134,68 @@ pub id_from-start : (cs : List ℕ) → id_from false false cs ≡ identifier_of
 unfolding identifier_of
 id_from-start cs = begins false cs
 
+-- ASCII is decomposed
+pub nfkd-ascii : (bs : List ℕ) → IsAscii bs → nfkd (chars bs) ≡ chars bs
+nfkd-ascii bs h =
+    let same : chars bs ≡ bs = chars-IsAscii bs h in
+    ap nfkd same ∙ normalize-ascii Nfkd bs (All-from_get_or (λ c. c < 128) bs 0 (λ i less. h i)) ∙ sym same
+
 -- the characters of a text that was made of scalars
 pub chars-made : (bs cs : List ℕ) → IsUtf8 bs → bs ≡ encode_utf8_all cs → chars bs ≡ cs
 chars-made bs cs u e = sym (chars_from_encodes cs bs u (sym e))
+
+-- ---- in the words of the code
+
+-- what is written, and what the bytes that are left give, are the identifier
+pub record Identifies (text out rest : List ℕ) (begun due : Bool) : Type 0 where
+  pub bytes : out ++ encodes (id_from begun due (chars rest)) ≡ encodes (identifier_of text)
+  pub utf8 : IsUtf8 rest
+
+pub Identifies-start : (text out rest : List ℕ) → IsUtf8 text → rest ≡ text → out ≡ [] → Identifies (chars text) out rest false false
+Identifies-start text out rest good same none = record {
+  bytes = ap (λ l. l ++ encodes (id_from false false (chars rest))) none ∙ ap (λ l. encodes (id_from false false (chars l))) same ∙ ap encodes (id_from-start (chars text));
+  utf8 = subst IsUtf8 (sym same) good;
+}
+
+-- a character that writes nothing
+passes-over : (text out rest after : List ℕ) (begun due over : Bool) (c : ℕ) → Identifies text out rest begun due → rest ≡ encode c ++ after → id_from begun due (c ∷ chars after) ≡ id_from begun over (chars after)
+    → Identifies text out after begun over
+passes-over text out rest after begun due over c x e step = record {
+  bytes = sym (ap (λ l. out ++ encodes l) (ap (id_from begun due) (chars_past_char rest after c x.utf8 e) ∙ step)) ∙ x.bytes;
+  utf8 = (past_char rest after c x.utf8 e).1;
+}
+
+pub Identifies-before : (text out rest after : List ℕ) (due : Bool) (c : ℕ) → Identifies text out rest false due → rest ≡ encode c ++ after → is_id_letter c ≡ false → Identifies text out after false due
+Identifies-before text out rest after due c x e h = passes-over text out rest after false due due c x e (start-other due c (chars after) h)
+
+pub Identifies-past : (text out rest after : List ℕ) (due : Bool) (c : ℕ) → Identifies text out rest true due → rest ≡ encode c ++ after → is_ascii c ≡ false → Identifies text out after true due
+Identifies-past text out rest after due c x e h = passes-over text out rest after true due due c x e (past due c (chars after) h)
+
+pub Identifies-run : (text out rest after : List ℕ) (due : Bool) (c : ℕ) → Identifies text out rest true due → rest ≡ encode c ++ after → is_ascii c ≡ true → is_id_char c ≡ false → Identifies text out after true true
+Identifies-run text out rest after due c x e a b = passes-over text out rest after true due true c x e (more-run due c (chars after) a b)
+
+-- a character that is written
+writes : (text out rest after : List ℕ) (begun due over : Bool) (c : ℕ) → Identifies text out rest begun due → rest ≡ encode c ++ after → id_from begun due (c ∷ chars after) ≡ c ∷ id_from true over (chars after)
+    → Identifies text (out ++ encode c) after true over
+writes text out rest after begun due over c x e step = record {
+  bytes = append_assoc out (encode c) (encodes (id_from true over (chars after))) ∙ sym (ap (λ l. out ++ encodes l) (ap (id_from begun due) (chars_past_char rest after c x.utf8 e) ∙ step)) ∙ x.bytes;
+  utf8 = (past_char rest after c x.utf8 e).1;
+}
+
+pub Identifies-first : (text out rest after : List ℕ) (due : Bool) (c : ℕ) → Identifies text out rest false due → rest ≡ encode c ++ after → is_id_letter c ≡ true → Identifies text (out ++ encode c) after true due
+Identifies-first text out rest after due c x e h = writes text out rest after false due due c x e (start-letter due c (chars after) h)
+
+pub Identifies-char : (text out rest after : List ℕ) (c : ℕ) → Identifies text out rest true false → rest ≡ encode c ++ after → is_ascii c ≡ true → is_id_char c ≡ true → Identifies text (out ++ encode c) after true false
+Identifies-char text out rest after c x e a b = writes text out rest after true false false c x e (more-char c (chars after) a b)
+
+-- a character behind a hyphen
+pub Identifies-due : (text out rest after : List ℕ) (c : ℕ) → Identifies text out rest true true → rest ≡ encode c ++ after → is_ascii c ≡ true → is_id_char c ≡ true → Identifies text ((out ++ encode 45) ++ encode c) after true false
+Identifies-due text out rest after c x e a b = record {
+  bytes = append_assoc (out ++ encode 45) (encode c) (encodes (id_from true false (chars after))) ∙ append_assoc out (encode 45) (encode c ++ encodes (id_from true false (chars after)))
+      ∙ sym (ap (λ l. out ++ encodes l) (ap (id_from true true) (chars_past_char rest after c x.utf8 e) ∙ more-due c (chars after) a b)) ∙ x.bytes;
+  utf8 = (past_char rest after c x.utf8 e).1;
+}
+
+pub Identifies-end : (text out rest : List ℕ) (begun due : Bool) → Identifies text out rest begun due → length rest ≡ 0 → out ≡ encodes (identifier_of text)
+Identifies-end text out [] begun due x none = sym (append-nil out) ∙ sym (ap (λ l. out ++ encodes (id_from begun due l)) chars-nil) ∙ x.bytes
+Identifies-end text out (b ∷ rest) begun due x none = absurd (omega arith)

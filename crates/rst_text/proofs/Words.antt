@@ -1,5 +1,9 @@
 -- A text that is read a character at a time, with each run of white characters as one space.
-use Rattle.std.proofs.Common.{◌≡◌, ℕ, Bool, true, false, cond, if◌then◌else◌, List, [], ◌∷◌, ◌++◌, refl, sym, ap, ◌∙◌}
+use Rattle.std.proofs.Common.{◌≡◌, ℕ, Bool, true, false, cond, if◌then◌else◌, List, [], ◌∷◌, ◌++◌, map, length, arith, refl, sym, ap, ◌∙◌, subst, append_assoc, append-nil}
+use Rattle.std.specs.Str.{IsUtf8, chars}
+use Rattle.std.proofs.Math.Utf8.{encode, encodes}
+use Rattle.std.proofs.lemmas.Str.{chars_past_char, chars-nil}
+use Rattle.rst_text.proofs.Scanning.{past_char}
 use Rattle.std.proofs.Common.{inl, inr}
 use Rattle.std.specs.List.{join_with_byte}
 use Rattle.rst_text.proofs.PlacesLemmas.{cases_bool}
@@ -105,3 +109,41 @@ spaced_from-start (c ∷ cs) = elim (cases_bool (is_white c)) [
   | inl h ↦ spaced_from-white false false c cs h ∙ spaced_from-start cs ∙ sym (ap (join_with_byte 32) (words-white c cs h))
   | inr h ↦ spaced_from-word false c cs h ∙ ap (λ l. c ∷ l) (spaced-behind cs) ∙ sym (join-word c cs h)
 ]
+
+-- ---- in the words of the code
+
+-- what is written, and what the bytes that are left give, are the text with what f makes of each character
+pub record Spaces (f : ℕ → ℕ) (text out rest : List ℕ) (begun due : Bool) : Type 0 where
+  pub bytes : out ++ encodes (map f (spaced_from begun due (chars rest))) ≡ encodes (map f (normalized_white text))
+  pub utf8 : IsUtf8 rest
+
+pub Spaces-start : (f : ℕ → ℕ) (text out rest : List ℕ) → IsUtf8 text → rest ≡ text → out ≡ [] → Spaces f (chars text) out rest false false
+Spaces-start f text out rest good same none = record {
+  bytes = ap (λ l. l ++ encodes (map f (spaced_from false false (chars rest)))) none ∙ ap (λ l. encodes (map f (spaced_from false false (chars l)))) same ∙ ap (λ l. encodes (map f l)) (spaced_from-start (chars text));
+  utf8 = subst IsUtf8 (sym same) good;
+}
+
+pub Spaces-white : (f : ℕ → ℕ) (text out rest after : List ℕ) (begun due : Bool) (c : ℕ) → Spaces f text out rest begun due → rest ≡ encode c ++ after → is_white c ≡ true → Spaces f text out after begun begun
+Spaces-white f text out rest after begun due c x e h = record {
+  bytes = sym (ap (λ l. out ++ encodes (map f l)) (ap (spaced_from begun due) (chars_past_char rest after c x.utf8 e) ∙ spaced_from-white begun due c (chars after) h)) ∙ x.bytes;
+  utf8 = (past_char rest after c x.utf8 e).1;
+}
+
+pub Spaces-word : (f : ℕ → ℕ) (text out rest after : List ℕ) (begun : Bool) (c : ℕ) → Spaces f text out rest begun false → rest ≡ encode c ++ after → is_white c ≡ false → Spaces f text (out ++ encode (f c)) after true false
+Spaces-word f text out rest after begun c x e h = record {
+  bytes = append_assoc out (encode (f c)) (encodes (map f (spaced_from true false (chars after))))
+      ∙ sym (ap (λ l. out ++ encodes (map f l)) (ap (spaced_from begun false) (chars_past_char rest after c x.utf8 e) ∙ spaced_from-word begun c (chars after) h)) ∙ x.bytes;
+  utf8 = (past_char rest after c x.utf8 e).1;
+}
+
+pub Spaces-due : (f : ℕ → ℕ) (text out rest after : List ℕ) (begun : Bool) (c : ℕ) → Spaces f text out rest begun true → rest ≡ encode c ++ after → is_white c ≡ false
+    → Spaces f text ((out ++ encode (f 32)) ++ encode (f c)) after true false
+Spaces-due f text out rest after begun c x e h = record {
+  bytes = append_assoc (out ++ encode (f 32)) (encode (f c)) (encodes (map f (spaced_from true false (chars after)))) ∙ append_assoc out (encode (f 32)) (encode (f c) ++ encodes (map f (spaced_from true false (chars after))))
+      ∙ sym (ap (λ l. out ++ encodes (map f l)) (ap (spaced_from begun true) (chars_past_char rest after c x.utf8 e) ∙ spaced_from-due begun c (chars after) h)) ∙ x.bytes;
+  utf8 = (past_char rest after c x.utf8 e).1;
+}
+
+pub Spaces-end : (f : ℕ → ℕ) (text out rest : List ℕ) (begun due : Bool) → Spaces f text out rest begun due → length rest ≡ 0 → out ≡ encodes (map f (normalized_white text))
+Spaces-end f text out [] begun due x none = sym (append-nil out) ∙ sym (ap (λ l. out ++ encodes (map f (spaced_from begun due l))) chars-nil) ∙ x.bytes
+Spaces-end f text out (b ∷ rest) begun due x none = absurd (omega arith)

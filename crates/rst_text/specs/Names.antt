@@ -28,11 +28,6 @@ normalized_white text = join_with_byte 32 (words_of text)
 unfoldable pub name_of : List ℕ → List ℕ
 name_of text = map simple_fold (normalized_white text)
 
--- a character by simple case folding, or as it is
-abbrev pub cased : Bool → ℕ → ℕ
-cased true c = simple_fold c
-cased false c = c
-
 -- an ASCII character
 unfoldable pub is_ascii : ℕ → Bool
 is_ascii c = nat_lt c 128

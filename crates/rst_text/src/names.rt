@@ -1,11 +1,11 @@
 //! Names and ids of texts.
-ghost use Rattle.std.specs.Prelude.{◌≡◌, string_bytes, encode_utf8_all, IfOk, map};
+ghost use Rattle.std.specs.Prelude.{◌≡◌, ℕ, string_bytes, encode_utf8_all, IfOk, map};
 ghost use Rattle.std.specs.Str.{chars};
 ghost use Rattle.rst_text.specs.Faults.{Gives};
 ghost use Rattle.rst_text.specs.Names as spec;
 ghost use Rattle.rst_text.specs.Text.{chars_of};
 
-use super::characters::{characters_of, is_white};
+use super::characters::is_white;
 use super::fault::TextFault;
 use std::alloc::{AllocError, Global};
 use unicode::case::simple_fold;
@@ -18,8 +18,7 @@ use unicode_normalization::to_nfkd;
 pub fn normalized_white(alloc: Global, text: &str) -> Result<String, TextFault>
     ensures { Gives (λ normalized. chars_of normalized ≡ spec.normalized_white (chars text.now)) result }
 {
-    let characters = characters_of(alloc, text)?;
-    Ok(spaced(alloc, &characters, false)?)
+    Ok(spaced::<Written>(alloc, text)?)
 }
 
 /// The name that a text gives: each run of white characters is one space, none is at its ends, and case is folded, by
@@ -29,8 +28,7 @@ pub fn normalized_white(alloc: Global, text: &str) -> Result<String, TextFault>
 pub fn name_of(alloc: Global, text: &str) -> Result<String, TextFault>
     ensures { Gives (λ name. chars_of name ≡ spec.name_of (chars text.now)) result }
 {
-    let characters = characters_of(alloc, text)?;
-    Ok(spaced(alloc, &characters, true)?)
+    Ok(spaced::<Folded>(alloc, text)?)
 }
 
 /// The id that a text gives: its name in NFKD without the characters that aren't ASCII, each run of characters other
@@ -42,38 +40,68 @@ pub fn id_of(alloc: Global, text: &str) -> Result<String, TextFault>
     ensures { Gives (λ id. chars_of id ≡ spec.id_of (chars text.now)) result }
 {
     let name = name_of(alloc, text)?;
+    // ASCII is decomposed.
+    if name.as_str().is_ascii() {
+        return Ok(identifier_of(alloc, name.as_str())?);
+    }
     let decomposed = to_nfkd(alloc, name.as_str())?;
-    let characters = characters_of(alloc, decomposed.as_str())?;
-    Ok(identifier_of(alloc, &characters)?)
+    Ok(identifier_of(alloc, decomposed.as_str())?)
 }
 
-/// The character, folded or as it is.
-fn cased(folds: bool, c: char) -> char
-    ensures { result ≡ spec.cased folds c }
-{
-    if folds { simple_fold(c) } else { c }
+/// What becomes of the case of characters.
+trait Case {
+    /// What becomes of a character.
+    ghost cased: { ℕ → ℕ };
+
+    /// What becomes of a character.
+    fn cased(c: char) -> char
+        ensures { result ≡ cased c };
 }
 
-/// The characters with each run of white ones as one space, and none at the ends, as a text. Each is folded by itself, or kept.
-fn spaced(alloc: Global, characters: &[char], folds: bool) -> Result<String, AllocError>
-    ensures { IfOk result (λ text. string_bytes text ≡ encode_utf8_all (map (spec.cased folds) (spec.normalized_white characters.now))) }
+/// Characters as they are written.
+struct Written;
+
+impl Case for Written {
+    ghost cased = { λ c. c };
+
+    fn cased(c: char) -> char {
+        c
+    }
+}
+
+/// Characters by simple case folding.
+struct Folded;
+
+impl Case for Folded {
+    ghost use Rattle.unicode.specs.CaseFolding.{simple_fold};
+
+    ghost cased = { simple_fold };
+
+    fn cased(c: char) -> char {
+        simple_fold(c)
+    }
+}
+
+/// The text with each run of white characters as one space, and none at the ends, in its case.
+fn spaced<C: Case>(alloc: Global, text: &str) -> Result<String, AllocError>
+    ensures { IfOk result (λ out. string_bytes out ≡ encode_utf8_all (map C.cased (spec.normalized_white (chars text.now)))) }
 {
-    let mut text = String::with_capacity(alloc, characters.len())?;
+    let mut out = String::with_capacity(alloc, text.len())?;
     let mut begun = false;
     let mut due = false;
-    for c in characters {
-        if is_white(*c) {
+    for c in text.chars() {
+        if is_white(c) {
             due = begun;
             continue;
         }
         if due {
-            text.push(cased(folds, ' '))?;
+            out.push(C::cased(' '))?;
             due = false;
         }
-        text.push(cased(folds, *c))?;
+        out.push(C::cased(c))?;
         begun = true;
     }
-    Ok(text)
+    Ok(out)
 }
 
 #[tactic(auto, unfolding(crate::specs::Names::is_ascii))]
@@ -99,24 +127,24 @@ fn is_id_char(c: char) -> bool
 }
 
 /// Decomposed characters as an identifier.
-fn identifier_of(alloc: Global, decomposed: &[char]) -> Result<String, AllocError>
-    ensures { IfOk result (λ id. string_bytes id ≡ encode_utf8_all (spec.identifier_of decomposed.now)) }
+fn identifier_of(alloc: Global, decomposed: &str) -> Result<String, AllocError>
+    ensures { IfOk result (λ id. string_bytes id ≡ encode_utf8_all (spec.identifier_of (chars decomposed.now))) }
 {
     let mut id = String::with_capacity(alloc, decomposed.len())?;
     let mut begun = false;
     let mut due = false;
-    for c in decomposed {
+    for c in decomposed.chars() {
         if !begun {
-            if is_id_letter(*c) {
-                id.push(*c)?;
+            if is_id_letter(c) {
+                id.push(c)?;
                 begun = true;
             }
             continue;
         }
-        if !is_ascii(*c) {
+        if !is_ascii(c) {
             continue;
         }
-        if !is_id_char(*c) {
+        if !is_id_char(c) {
             due = true;
             continue;
         }
@@ -124,7 +152,7 @@ fn identifier_of(alloc: Global, decomposed: &[char]) -> Result<String, AllocErro
             id.push('-')?;
             due = false;
         }
-        id.push(*c)?;
+        id.push(c)?;
     }
     Ok(id)
 }

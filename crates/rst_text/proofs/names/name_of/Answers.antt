@@ -1,9 +1,8 @@
-use Rattle.std.proofs.Common.{◌∙◌, ap, map, true, encode_utf8_all}
 use Rattle.std.proofs.lemmas.Str.{IsUtf8-string_bytes}
-use Rattle.rst_text.specs.Names.{cased, normalized_white, name_of}
+use Rattle.rst_text.specs.Names.{name_of}
 use Rattle.rst_text.proofs.Ids.{chars-made}
 use Rattle.rst_text.proofs.names.name_of.Goals as goal
 
 pub returns : goal.returns
 unfolding name_of
-returns c = chars-made _ _ (IsUtf8-string_bytes c.in_ok-spaced.field-0) (c.in_ok-spaced.ensures ∙ ap (λ cs. encode_utf8_all (map (cased true) (normalized_white cs))) (c.deref.ensures.value ∙ c.in_ok-characters.ensures))
+returns c = chars-made _ _ (IsUtf8-string_bytes c.in_ok-spaced.field-0) c.in_ok-spaced.ensures
