@@ -1,7 +1,7 @@
 -- Changes at each mark, one after another, are a walk.
 use Rattle.std.proofs.Common.{◌≡◌, ℕ, ◌+◌, ◌<◌, ◌≤◌, List, [], ◌∷◌, ◌++◌, length, get_or, set, drop, take, arith, add-one, append_assoc, zero, suc, refl, sym, ◌∙◌, ap, Bool, true, false}
 use Rattle.std.specs.Prelude.{if◌then◌else◌, map, reverse}
-use Rattle.std.proofs.lemmas.List.{append-nil, map-append, reverse-append, drop_all, take_all, take_more, length-take-le}
+use Rattle.std.proofs.lemmas.List.{append-nil, map-append, reverse-append, drop_all, drop_more, take_all, take_more, length-take-le}
 use Rattle.rst_tree.specs.Paths.{with_child}
 use Rattle.rst_tree.specs.declared.attrs.Attr.{Attr}
 use Rattle.rst_tree.specs.declared.tag.Tag.{Tag}
@@ -11,8 +11,8 @@ use Rattle.rst_tree.specs.Forest.{Forest, bare, element, words}
 use Rattle.rst_tree.specs.Nodes.{forest_of, nodes_of}
 use Rattle.rst_tree.specs.Walk.{Item, item, items, node_items, after, walked, walked_node}
 use Rattle.rst_tree.proofs.Walks.{after-append}
-use Rattle.rst_tree.proofs.Changes.{forest_of-nodes_of}
-use Rattle.rst_marked.specs.Marks.{Place, path_of, deeper, later, own_place, places, own_mark, marks_of, from_on, heeded_out, heeded_next, KeepsMarks, touched, touched_node, stepped, stepped_node}
+use Rattle.rst_tree.proofs.Changes.{forest_of-nodes_of, nodes_of-forest_of}
+use Rattle.rst_marked.specs.Marks.{Place, path_of, deeper, later, own_place, places, own_mark, marks_of, from_on, heeded_out, heeded_next, wanted, with_one, touched, touched_node, stepped, stepped_node}
 
 module _ {S : Type 0} (next : S → Item → S) (out : S → Item → Item) where
   -- a state and the nodes, after the element at a place
@@ -173,6 +173,20 @@ module _ {S : Type 0} (next : S → Item → S) where
       → length (nodes_of c) ≤ place → s ≡ stepped_node next s (reverse steps) node
   stepped_none s node t a c l steps rest place is parts past = rw (is, parts, at_end rest place) (sym (stepped-past next s place (reverse rest) c past))
 
+-- the same where the nodes are only read
+module _ {S : Type 0} (next : S → Item → S) where
+  pub stepped_read : (s s' : S) (node : Node) (t : Tag) (a : List Attr) (c : Forest) (l : ℕ) (ns : List Node) (steps rest : List ℕ) (place : ℕ) (d : Node) → node ≡ Element t a c l → c ≡ forest_of ns
+      → steps ≡ rest ++ place ∷ [] → place < length ns → d ≡ get_or ns place d → s' ≡ stepped_node next s (reverse rest) d → s' ≡ stepped_node next s (reverse steps) node
+  stepped_read s s' node t a c l ns steps rest place d is nodes parts fits at moved =
+      let e : nodes_of c ≡ ns = ap nodes_of nodes ∙ nodes_of-forest_of ns in
+      stepped_there next s s' node t a c l steps rest place d is parts (rw e fits) (at ∙ ap (λ z. get_or z place d) (sym e)) moved
+
+  pub stepped_unread : (s : S) (node : Node) (t : Tag) (a : List Attr) (c : Forest) (l : ℕ) (ns : List Node) (steps rest : List ℕ) (place : ℕ) → node ≡ Element t a c l → c ≡ forest_of ns
+      → steps ≡ rest ++ place ∷ [] → length ns ≤ place → s ≡ stepped_node next s (reverse steps) node
+  stepped_unread s node t a c l ns steps rest place is nodes parts past =
+      let e : nodes_of c ≡ ns = ap nodes_of nodes ∙ nodes_of-forest_of ns in
+      stepped_none next s node t a c l steps rest place is parts (rw e past)
+
 map-two : {A B C : Type 0} (g : B → C) (f : A → B) (xs : List A) → map g (map f xs) ≡ map (λ x. g (f x)) xs
 map-two g f [] = refl
 map-two g f (x ∷ xs) = ap (λ ys. g (f x) ∷ ys) (map-two g f xs)
@@ -255,6 +269,11 @@ module _ (needs : Item → Bool) where
       ∙ ap (λ z. own ++ z) (sym (map-append path_of (places needs (forest_of (take i ns))) (map (in_node i) (marks_of needs child))))
       ∙ ap (λ z. own ++ map path_of z) (sym e)
 
+  -- the same, where that one is a text
+  pub paths_text : (ns : List Node) (i : ℕ) (child : Node) (t : List ℕ) (own held : List (List ℕ)) → i < length ns → child ≡ get_or ns i child → child ≡ Text t
+      → held ≡ own ++ map path_of (places needs (forest_of (take i ns))) → held ≡ own ++ map path_of (places needs (forest_of (take (i + 1) ns)))
+  paths_text ns i child t own held fits at is old = paths_more ns i child own held held fits at old (rw is (sym (append-nil held)))
+
   -- the same, with the marks of the last child begun above it
   pub paths_below : (ns : List Node) (i : ℕ) (child : Node) (own held inner now : List (List ℕ)) (from : ℕ) → i < length ns → child ≡ get_or ns i child
       → held ≡ own ++ map path_of (places needs (forest_of (take i ns))) → from ≡ length held → inner ≡ held ++ marks_of needs child → now ≡ from_on from (λ p. i ∷ p) inner
@@ -282,32 +301,42 @@ module _ {S : Type 0} (next : S → Item → S) (out : S → Item → Item) (nee
       let w = e ∙ many_node-marks next out needs s old in
       (ap (λ z. z.0) w, ap (λ z. z.1) w)
 
--- a change after which the same elements are wanted leaves the marks as they were
-module _ {S : Type 0} (next : S → Item → S) (out : S → Item → Item) (needs : Item → Bool) where
-  own_place-kept : (x y : Item) → needs x ≡ needs y → own_place needs x ≡ own_place needs y
-  own_place-kept x y h = ap (λ v. if v then (0, []) ∷ [] else []) h
+-- the elements at some paths of a node, which stays as it is
+abbrev pub read_node : List (List ℕ) → List Item × Node → List Item × Node
+read_node = many_node with_one (λ s x. x)
 
-  own_mark-kept : (x y : Item) → needs x ≡ needs y → own_mark needs x ≡ own_mark needs y
-  own_mark-kept x y h = ap (λ v. if v then [] ∷ [] else []) h
+touched-same : (i : ℕ) (p : List ℕ) (f : Forest) → touched (λ x. x) i p f ≡ f
+touched-same i p bare = refl
+touched-same zero [] (element t a c l r) = refl
+touched-same zero (j ∷ q) (element t a c l r) = ap (λ z. element t a z l r) (touched-same j q c)
+touched-same (suc i) p (element t a c l r) = ap (element t a c l) (touched-same i p r)
+touched-same zero p (words t r) = refl
+touched-same (suc i) p (words t r) = ap (words t) (touched-same i p r)
 
-  heeded-kept : KeepsMarks needs out → (s : S) (x : Item) → needs (heeded_out needs out s x) ≡ needs x
-  heeded-kept keeps s x = elim (needs x) as (λ v. needs (if v then out s x else x) ≡ needs x) [ true ↦ keeps s x | false ↦ refl ]
+touched_node-same : (p : List ℕ) (n : Node) → touched_node (λ x. x) p n ≡ n
+touched_node-same [] (Element t a c l) = refl
+touched_node-same (j ∷ q) (Element t a c l) = ap (λ z. Element t a z l) (touched-same j q c)
+touched_node-same p (Text t) = refl
 
-  places-kept : KeepsMarks needs out → (s : S) (f : Forest) → places needs (walked (heeded_next needs next) (heeded_out needs out) s f) ≡ places needs f
-  places-kept keeps s bare = refl
-  places-kept keeps s (words t r) = ap (map later) (places-kept keeps s r)
-  places-kept keeps s (element t a c l r) =
-      let x : Item = item t a l in
-      let s1 : S = heeded_next needs next s x in
-      let s2 : S = after (heeded_next needs next) (heeded_out needs out) s1 (items c) in
-      ap (λ z. z ++ (map deeper (places needs (walked (heeded_next needs next) (heeded_out needs out) s1 c)) ++ map later (places needs (walked (heeded_next needs next) (heeded_out needs out) s2 r)))) (own_place-kept (heeded_out needs out s x) x (heeded-kept keeps s x))
-      ∙ ap (λ z. own_place needs x ++ (map deeper z ++ map later (places needs (walked (heeded_next needs next) (heeded_out needs out) s2 r)))) (places-kept keeps s1 c)
-      ∙ ap (λ z. own_place needs x ++ (map deeper (places needs c) ++ map later z)) (places-kept keeps s2 r)
+-- the elements that are heeded, one after the other, are those that are wanted
+after-wanted : (needs : Item → Bool) (s : List Item) (xs : List Item) → after (heeded_next needs with_one) (heeded_out needs (λ s x. x)) s xs ≡ s ++ wanted needs xs
+after-wanted needs s [] = sym (append-nil s)
+after-wanted needs s (x ∷ xs) =
+    after-wanted needs (heeded_next needs with_one s x) xs
+    ∙ elim (needs x) as (λ v. (if v then s ++ x ∷ [] else s) ++ wanted needs xs ≡ s ++ (if v then x ∷ wanted needs xs else wanted needs xs))
+    [ true ↦ append_assoc s (x ∷ []) (wanted needs xs) | false ↦ refl ]
 
-  pub marks-kept : KeepsMarks needs out → (s : S) (n : Node) → marks_of needs (walked_node (heeded_next needs next) (heeded_out needs out) s n) ≡ marks_of needs n
-  marks-kept keeps s (Text t) = refl
-  marks-kept keeps s (Element t a c l) =
-      let x : Item = item t a l in
-      let s1 : S = heeded_next needs next s x in
-      ap (λ z. z ++ map path_of (places needs (walked (heeded_next needs next) (heeded_out needs out) s1 c))) (own_mark-kept (heeded_out needs out s x) x (heeded-kept keeps s x))
-      ∙ ap (λ z. own_mark needs x ++ map path_of z) (places-kept keeps s1 c)
+-- one more element read, and all of them
+pub read_more : (marks : List (List ℕ)) (p : List ℕ) (i : ℕ) (node : Node) (old new start : List Item) → i < length marks → p ≡ get_or marks i p
+    → new ≡ stepped_node with_one old p node → (read_node (drop i marks) (old, node)).0 ≡ start → (read_node (drop (i + 1) marks) (new, node)).0 ≡ start
+read_more marks p i node old new start fits at is left =
+    ap (λ z. (read_node (drop (i + 1) marks) z).0) (ap (λ z. (z, node)) is ∙ ap (λ z. (stepped_node with_one old p node, z)) (sym (touched_node-same p node)))
+    ∙ ap (λ z. (read_node (drop (i + 1) marks) (visited_node with_one (λ s x. x) z (old, node))).0) at
+    ∙ sym (ap (λ z. (read_node z (old, node)).0) (drop_more marks i p fits))
+    ∙ left
+
+pub read_whole : (needs : Item → Bool) (marks : List (List ℕ)) (i : ℕ) (node : Node) (found : List Item) → marks ≡ marks_of needs node → length marks ≤ i
+    → (read_node (drop i marks) (found, node)).0 ≡ (read_node marks ([], node)).0 → found ≡ wanted needs (node_items node)
+read_whole needs marks i node found are all left =
+    sym (ap (λ z. (read_node z (found, node)).0) (drop_all i marks all)) ∙ left ∙ ap (λ z. (read_node z ([], node)).0) are
+    ∙ ap (λ z. z.0) (many_node-marks with_one (λ s x. x) needs [] node) ∙ after-wanted needs [] (node_items node)

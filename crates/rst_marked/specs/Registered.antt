@@ -7,8 +7,8 @@ use Rattle.rst_tree.specs.declared.key.Key.{Key}
 use Rattle.rst_tree.specs.declared.key.Key.TheVariants.{OwnName, Message}
 use Rattle.rst_tree.specs.declared.tag.Tag.{Tag}
 use Rattle.rst_tree.specs.declared.tag.Tag.TheVariants.{Section, Target, Footnote, Citation, FootnoteReference, CitationReference, Problematic, SubstitutionDefinition}
-use Rattle.rst_tree.specs.KeyNames.{is_same}
-use Rattle.rst_tree.specs.Walk.{Item}
+use Rattle.rst_tree.specs.Walk.{Item, item}
+use Rattle.rst_marked.specs.declared.marks.Element.{Element}
 
 -- the kinds of elements that always get an id, and substitution definitions
 abbrev pub is_registered_kind : Tag → Bool
@@ -22,10 +22,21 @@ is_registered_kind Problematic = true
 is_registered_kind SubstitutionDefinition = true
 is_registered_kind _ = false
 
--- an attribute of the name is there
-abbrev pub has_key : Key → List Attr → Bool
-has_key k attrs = list_any (λ a. is_same a.key k) attrs
+-- the names of the attributes that an element has that was written with a name, or that is a message of which a problematic
+-- tells
+abbrev pub is_registered_key : Key → Bool
+is_registered_key OwnName = true
+is_registered_key Message = true
+is_registered_key _ = false
 
--- an element of these kinds, one that was written with a name, or a message that a problematic tells of
+-- there is such an attribute
+abbrev pub has_registered_key : List Attr → Bool
+has_registered_key attrs = list_any (λ a. is_registered_key a.key) attrs
+
+-- an element of these kinds, or with such an attribute
 abbrev pub is_registered : Item → Bool
-is_registered x = is_registered_kind x.tag || has_key OwnName x.attrs || has_key Message x.attrs
+is_registered x = is_registered_kind x.tag || has_registered_key x.attrs
+
+-- an element, as contracts see it
+abbrev pub item_of : Element → Item
+item_of e = item e.tag e.attrs.now e.line

@@ -3,4 +3,4 @@
 
 mod marks;
 
-pub use marks::{Marked, Path};
+pub use marks::{Element, Marked, Path};

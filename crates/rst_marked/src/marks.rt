@@ -1,19 +1,21 @@
-//! A node with the paths of the elements that registration needs, and changes at these.
+//! A node with the paths of the elements that registration needs, these elements, and changes at them.
 ghost use Rattle.std.specs.Prelude.{◌≡◌, ◌∷◌, ◌++◌, [], map, reverse};
 ghost use Rattle.rst_tree.specs.Faults.{Gives, Becomes};
 ghost use Rattle.rst_tree.specs.Walk.{item, node_items, after, scanned, walked_node, node_shape};
-ghost use Rattle.rst_marked.specs.Marks.{marks_of, own_mark, from_on, heeded_next, heeded_out, touched_node, stepped_node, KeepsMarks};
-ghost use Rattle.rst_marked.specs.Registered.{is_registered_kind, has_key, is_registered};
+ghost use Rattle.rst_marked.specs.Marks.{marks_of, own_mark, from_on, wanted, with_one, heeded_next, heeded_out, touched_node, stepped_node};
+ghost use Rattle.rst_marked.specs.Registered.{is_registered_kind, is_registered_key, has_registered_key, is_registered, item_of};
 
 use rst_tree::{Attr, Attrs, Children, Key, Node, Tag, Text, TreeFault, Visitor};
+use smallvec::SmallVec;
 use std::alloc::Global;
 use std::marker::Model;
 
 /// A path from a node: the place of one of its children, then of one in that, and so on.
 #[derive(Debug, Drop)]
 pub struct Path {
-    /// The innermost place comes first, so that a path grows at its end as the tree grows round it.
-    steps: Vec<usize>,
+    /// The innermost place comes first, so that a path grows at its end as the tree grows round it. Few paths are longer than
+    /// those that need no allocation.
+    steps: SmallVec<usize, 6>,
 }
 
 impl Model for Path {
@@ -30,7 +32,7 @@ impl Path {
         ensures { result ≡ [] }
     {
         Path {
-            steps: Vec::new(alloc),
+            steps: SmallVec::new(alloc),
         }
     }
 
@@ -67,11 +69,18 @@ fn is_registered_kind(tag: Tag) -> bool
     )
 }
 
-/// Whether an attribute of a name is there.
-fn has_key(key: Key, attrs: &[Attr]) -> bool
-    ensures { result ≡ has_key key attrs.now }
+/// Whether an element with an attribute of this name is registered.
+fn is_registered_key(key: Key) -> bool
+    ensures { result ≡ is_registered_key key }
 {
-    attrs.iter().any(|attr| attr.key.code() == key.code())
+    matches!(key, Key::OwnName | Key::Message)
+}
+
+/// Whether one of some attributes has such a name.
+fn has_registered_key(attrs: &[Attr]) -> bool
+    ensures { result ≡ has_registered_key attrs.now }
+{
+    attrs.iter().any(|attr| is_registered_key(attr.key))
 }
 
 /// Whether registration needs an element.
@@ -79,9 +88,48 @@ fn is_registered(tag: Tag, attrs: &Attrs, line: usize) -> bool
     ensures { result ≡ is_registered (item tag attrs.now line) }
 {
     let _line = line;
-    is_registered_kind(tag)
-        || has_key(Key::OwnName, attrs.as_slice())
-        || has_key(Key::Message, attrs.as_slice())
+    is_registered_kind(tag) || has_registered_key(attrs.as_slice())
+}
+
+/// An element of a node, without the nodes in it.
+#[derive(Clone, Copy)]
+pub struct Element<'a> {
+    pub tag: Tag,
+    pub attrs: &'a Attrs,
+    /// The number of its first line.
+    pub line: usize,
+}
+
+/// Adds the element at a path, given from its end on, if there is one.
+fn add_element<'a>(
+    node: &'a Node,
+    steps: &[usize],
+    list: &mut Vec<Element<'a>>,
+) -> Result<(), TreeFault>
+    ensures { Gives (λ _. map item_of list.new.items ≡ stepped_node with_one (map item_of list.old.items) (reverse steps.now) node.now) result }
+{
+    if let Node::Element {
+        tag,
+        attrs,
+        children,
+        line,
+    } = node
+    {
+        match steps.split_last() {
+            None => list.push(Element {
+                tag: *tag,
+                attrs,
+                line: *line,
+            })?,
+            Some((place, rest)) => {
+                let nodes = children.as_slice();
+                if *place < nodes.len() {
+                    add_element(&nodes[*place], rest, list)?;
+                }
+            }
+        }
+    }
+    Ok(())
 }
 
 /// Visits the element at a path, given from its end on, if there is one.
@@ -107,6 +155,22 @@ fn visit_at<V: Visitor>(node: &mut Node, steps: &[usize], visitor: &mut V) -> Re
         }
     }
     Ok(())
+}
+
+/// The elements of a node at all its marks, in this order.
+fn elements_at<'a>(
+    alloc: Global,
+    node: &'a Node,
+    marks: &[Path],
+) -> Result<Vec<Element<'a>>, TreeFault>
+    requires { marks.now ≡ marks_of is_registered node.now }
+    ensures { Gives (λ list. map item_of list.items ≡ wanted is_registered (node_items node.now)) result }
+{
+    let mut list = Vec::with_capacity(alloc, marks.len())?;
+    for path in marks {
+        add_element(node, path.steps(), &mut list)?;
+    }
+    Ok(list)
 }
 
 /// Visits the elements of a node at all its marks, one after the other.
@@ -180,8 +244,12 @@ fn add_marks(alloc: Global, node: &Node, marks: &mut Vec<Path>) -> Result<(), Tr
         add_own(alloc, *tag, attrs, *line, marks)?;
         let nodes = children.as_slice();
         for place in 0..nodes.len() {
+            let child = &nodes[place];
+            if let Node::Text(_) = child {
+                continue;
+            }
             let from = marks.len();
-            add_marks(alloc, &nodes[place], marks)?;
+            add_marks(alloc, child, marks)?;
             begin_above(marks, from, place)?;
         }
     }
@@ -215,7 +283,7 @@ impl Model for Marked {
 
 impl Marked {
     ghost use Rattle.std.specs.Prelude.{◌≡◌};
-    ghost use Rattle.rst_tree.specs.declared.node.Node.TheVariants.{Element, Text as Words};
+    ghost use Rattle.rst_tree.specs.declared.node.Node.TheVariants.{Element as Tagged, Text as Words};
     ghost use Rattle.rst_tree.specs.Forest.{bare};
     ghost use Rattle.rst_tree.specs.Paths.{with_child, IsElement};
 
@@ -240,7 +308,7 @@ impl Marked {
 
     /// An element with nothing in it.
     pub fn element(alloc: Global, tag: Tag, attrs: Attrs, line: usize) -> Result<Marked, TreeFault>
-        ensures { Gives (λ m. m ≡ Element tag attrs bare line) result }
+        ensures { Gives (λ m. m ≡ Tagged tag attrs bare line) result }
     {
         let mut marks = Vec::new(alloc);
         add_own(alloc, tag, &attrs, line, &mut marks)?;
@@ -291,6 +359,13 @@ impl Marked {
         &self.root
     }
 
+    /// The elements that registration needs, in preorder, found by their paths.
+    pub fn elements(&self, alloc: Global) -> Result<Vec<Element<'_>>, TreeFault>
+        ensures { Gives (λ list. map item_of list.items ≡ wanted is_registered (node_items self.now)) result }
+    {
+        elements_at(alloc, self.root(), self.marks())
+    }
+
     /// Visits the marked elements, in preorder, by their paths.
     pub fn visit<V: Visitor>(self, visitor: &mut V) -> Result<Node, TreeFault>
         ensures node { Gives (λ n. n ≡ walked_node (heeded_next is_registered V.next) (heeded_out is_registered V.out) visitor.old self) result }
@@ -300,16 +375,5 @@ impl Marked {
     {
         let Marked { root, marks } = self;
         visit_all(root, &marks, visitor)
-    }
-
-    /// Visits the marked elements in the same way, by a visitor after which registration needs the same elements.
-    pub fn visit_first<V: Visitor>(self, visitor: &mut V) -> Result<Marked, TreeFault>
-        requires { KeepsMarks is_registered V.out }
-        ensures node { Gives (λ m. m ≡ walked_node (heeded_next is_registered V.next) (heeded_out is_registered V.out) visitor.old self) result }
-        ensures state { Gives (λ _. visitor.new ≡ after (heeded_next is_registered V.next) (heeded_out is_registered V.out) visitor.old (node_items self)) result }
-    {
-        let Marked { root, marks } = self;
-        let root = visit_all(root, &marks, visitor)?;
-        Ok(Marked { root, marks })
     }
 }

@@ -1,13 +1,12 @@
--- What registration takes from each element.
-use Rattle.std.specs.Prelude.{ℕ, List, [], ◌∷◌, ◌++◌, length, Option, Some, None}
+-- What registration takes from each element; it has no rule of markup.
+use Rattle.std.specs.Prelude.{ℕ, List, [], Option, Some, None}
 use Rattle.rst_tree.specs.declared.attrs.Attr.{Attr}
 use Rattle.rst_tree.specs.declared.attrs.Value.{Value}
 use Rattle.rst_tree.specs.declared.attrs.Value.TheVariants.{Text as Words, Number, List as Listed}
 use Rattle.rst_tree.specs.declared.key.Key.{Key}
-use Rattle.rst_tree.specs.declared.key.Key.TheVariants.{OwnName, Refuri, Message, Serial}
-use Rattle.rst_tree.specs.Attributes.{value_of, with_attr}
-use Rattle.rst_tree.specs.Walk.{Item, item}
-use Rattle.rst_names.specs.declared.registrants.Registrant.{Registrant}
+use Rattle.rst_tree.specs.declared.key.Key.TheVariants.{OwnName}
+use Rattle.rst_tree.specs.Attributes.{value_of}
+use Rattle.rst_tree.specs.Walk.{Item}
 
 -- the text that a value says, if it says one
 abbrev pub said_text : Option Value → Option (List ℕ)
@@ -29,20 +28,11 @@ text_at k attrs = said_text (value_of k attrs)
 abbrev pub number_at : Key → List Attr → Option ℕ
 number_at k attrs = said_number (value_of k attrs)
 
--- what registration has to know of an element
-abbrev pub registrant_of : Item → Registrant
-registrant_of x = record {
-  tag = x.tag;
-  name = text_at OwnName x.attrs;
-  refuri = text_at Refuri x.attrs;
-  line = x.line;
-  message = number_at Message x.attrs;
-}
+-- a name, of which none is the empty one
+abbrev pub name_in : Option (List ℕ) → List ℕ
+name_in None = []
+name_in (Some name) = name
 
--- the elements so far, with one more
-abbrev pub gathered : List Registrant → Item → List Registrant
-gathered known x = known ++ registrant_of x ∷ []
-
--- the element with its number
-abbrev pub numbered : List Registrant → Item → Item
-numbered known x = item x.tag (with_attr Serial (Number (length known)) x.attrs) x.line
+-- the name that an element was written with
+abbrev pub own_name : Item → List ℕ
+own_name x = name_in (text_at OwnName x.attrs)

@@ -1,12 +1,16 @@
 -- What registration writes at each element.
 use Rattle.std.specs.Prelude.{ℕ, Bool, List, [], ◌∷◌, if◌then◌else◌, Option, Some, None, drop}
 use Rattle.rst_tree.specs.declared.attrs.Attr.{Attr}
-use Rattle.rst_tree.specs.declared.attrs.Value.TheVariants.{List as Listed}
-use Rattle.rst_tree.specs.declared.key.Key.TheVariants.{Ids, Names, Dupnames, OwnName}
+use Rattle.rst_tree.specs.declared.attrs.Value.TheVariants.{Number, List as Listed}
+use Rattle.rst_tree.specs.declared.key.Key.TheVariants.{Ids, Names, Dupnames, OwnName, Serial}
 use Rattle.rst_tree.specs.Attributes.{with_attr}
 use Rattle.rst_tree.specs.Walk.{Item, item}
 use Rattle.rst_names.specs.declared.registry.Standing.{Standing}
 use Rattle.rst_names.specs.Gathered.{text_at}
+
+-- the attributes with an element's number
+abbrev pub with_serial : ℕ → List Attr → List Attr
+with_serial serial attrs = with_attr Serial (Number serial) attrs
 
 -- the attributes with an element's id, if it has one
 abbrev pub with_id : Option (List ℕ) → List Attr → List Attr
@@ -26,7 +30,7 @@ with_link (Some link) attrs = with_attr link.key link.value attrs
 
 -- with all that registration gave the element
 abbrev pub with_standing : Standing → List Attr → List Attr
-with_standing standing attrs = with_link standing.link (with_name standing.lost (text_at OwnName attrs) (with_id standing.id attrs))
+with_standing standing attrs = with_id standing.id (with_name standing.lost (text_at OwnName attrs) (with_link standing.link (with_serial standing.serial attrs)))
 
 -- what the elements behind one got
 abbrev pub left_standings : List Standing → Item → List Standing

@@ -1,25 +1,29 @@
 //! Messages and their problematics.
 
-use super::registrants::Registrant;
+use super::registrants::number_at;
 use super::registry::Standing;
+use rst_marked::Element;
 use rst_tree::{Attr, Key, Tag, Text, Texts, TreeFault, Value};
 use std::alloc::Global;
-use std::collections::BTreeMap;
 
-/// Links the messages among registered elements to their problematics, and these to them, by the messages' numbers. A message
-/// has the ids of its problematics in document order.
+/// Links the messages among registered elements to their problematics, and these to them, by the messages' numbers, of which
+/// there are so many. A message has the ids of its problematics in document order.
 pub fn link(
     alloc: Global,
-    elements: &[Registrant],
+    elements: &[Element<'_>],
+    messages: u64,
     standings: &mut Vec<Standing>,
 ) -> Result<(), TreeFault> {
-    let messages = messages_among(alloc, elements)?;
-    if messages.is_empty() {
+    if messages == 0 {
         return Ok(());
     }
+    let places = places_of_messages(alloc, elements, messages)?;
     for (serial, element) in elements.iter().enumerate() {
-        if let Some(number) = problematic_of(element) {
-            if let Some(message) = messages.get(&number) {
+        if !matches!(element.tag, Tag::Problematic) {
+            continue;
+        }
+        if let Some(number) = number_at(element.attrs, Key::Message) {
+            if let Some(Some(message)) = places.get(number as usize) {
                 join(alloc, standings, *message, serial)?;
             }
         }
@@ -27,29 +31,27 @@ pub fn link(
     Ok(())
 }
 
-/// The places of the messages, by their numbers.
-fn messages_among(
+/// The places of the messages among registered elements, by their numbers.
+fn places_of_messages(
     alloc: Global,
-    elements: &[Registrant],
-) -> Result<BTreeMap<u64, usize>, TreeFault> {
-    let mut messages = BTreeMap::new(alloc);
+    elements: &[Element<'_>],
+    messages: u64,
+) -> Result<Vec<Option<usize>>, TreeFault> {
+    let mut places = Vec::with_capacity(alloc, messages as usize)?;
+    for _ in 0..messages {
+        places.push(None)?;
+    }
     for (serial, element) in elements.iter().enumerate() {
         if matches!(element.tag, Tag::Problematic) {
             continue;
         }
-        if let Some(number) = element.message {
-            messages.insert(number, serial)?;
+        if let Some(number) = number_at(element.attrs, Key::Message) {
+            if let Some(place) = places.get_mut(number as usize) {
+                *place = Some(serial);
+            }
         }
     }
-    Ok(messages)
-}
-
-/// The number of the message that an element is a problematic of.
-fn problematic_of(element: &Registrant) -> Option<u64> {
-    match element.tag {
-        Tag::Problematic => element.message,
-        _ => None,
-    }
+    Ok(places)
 }
 
 /// Links a message and one more of its problematics, if both have ids.

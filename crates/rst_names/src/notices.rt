@@ -1,11 +1,13 @@
 //! Messages on equal names.
 ghost use Rattle.std.specs.Prelude.{◌≡◌};
 ghost use Rattle.rst_tree.specs.Faults.{Gives};
+ghost use Rattle.rst_marked.specs.Registered.{item_of};
 ghost use Rattle.rst_names.specs.Notices as spec;
 
 use super::names::Strength;
-use super::registrants::Registrant;
+use super::registrants::own_name;
 use super::rulings::Complaint;
+use rst_marked::Element;
 use rst_tree::{Key, Level, Node, Note, Text, Texts, TreeFault, Value};
 use std::alloc::Global;
 
@@ -13,10 +15,10 @@ use std::alloc::Global;
 pub fn duplicate_name(
     alloc: Global,
     complaint: Complaint,
-    new: &Registrant,
+    new: Element<'_>,
     id: &Text,
 ) -> Result<Node, TreeFault>
-    ensures { Gives (λ node. node ≡ spec.duplicate_name complaint new.now id.now) result }
+    ensures { Gives (λ node. node ≡ spec.duplicate_name complaint (item_of new.entry) id.now) result }
 {
     let mut backrefs = Texts::new(alloc);
     backrefs.push(id.copy()?)?;
@@ -37,8 +39,8 @@ fn duplicate_words(strength: Strength) -> &'static str
 }
 
 /// The message on the name of a substitution definition.
-pub fn duplicate_definition(alloc: Global, new: &Registrant) -> Result<Node, TreeFault>
-    ensures { Gives (λ node. node ≡ spec.duplicate_definition new.now) result }
+pub fn duplicate_definition(alloc: Global, new: Element<'_>) -> Result<Node, TreeFault>
+    ensures { Gives (λ node. node ≡ spec.duplicate_definition (item_of new.entry)) result }
 {
     notice(
         alloc,
@@ -49,11 +51,11 @@ pub fn duplicate_definition(alloc: Global, new: &Registrant) -> Result<Node, Tre
 }
 
 /// A message that says some words and an element's name.
-fn notice(alloc: Global, level: Level, words: &str, new: &Registrant) -> Result<Node, TreeFault>
-    ensures { Gives (λ node. node ≡ spec.notice level words.now new.now) result }
+fn notice(alloc: Global, level: Level, words: &str, new: Element<'_>) -> Result<Node, TreeFault>
+    ensures { Gives (λ node. node ≡ spec.notice level words.now (item_of new.entry)) result }
 {
     let mut text = Text::from_str(alloc, words)?;
-    text.push_str(new.name())?;
+    text.push_str(own_name(new))?;
     text.push_str("\".")?;
     let note = Note {
         level,

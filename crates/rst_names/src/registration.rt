@@ -4,7 +4,6 @@ use super::ids::Ids;
 use super::links::link;
 use super::names::Names;
 use super::placing::place_notices;
-use super::registrants::Gathering;
 use super::registry::{Registry, registry_of};
 use super::writing::Writing;
 use rst_marked::Marked;
@@ -41,11 +40,11 @@ pub struct Registered {
 ///                             <target ids="target-1" names="a">
 /// ```
 ///
+/// `messages` numbers were given to its messages, from 0 on.
+///
 /// The only refusal is want of memory.
-pub fn register(alloc: Global, document: Marked) -> Result<Registered, TreeFault> {
-    let mut gathering = Gathering::new(alloc);
-    let numbered = document.visit_first(&mut gathering)?;
-    let elements = gathering.into_list();
+pub fn register(alloc: Global, document: Marked, messages: u64) -> Result<Registered, TreeFault> {
+    let elements = document.elements(alloc)?;
     let serials = elements.len() as u64;
     let Registry {
         ids,
@@ -54,10 +53,10 @@ pub fn register(alloc: Global, document: Marked) -> Result<Registered, TreeFault
         notices,
         ..
     } = registry_of(alloc, &elements)?;
-    link(alloc, &elements, &mut standings)?;
+    link(alloc, &elements, messages, &mut standings)?;
     drop(elements);
     let mut writing = Writing::of(alloc, standings);
-    let written = numbered.visit(&mut writing)?;
+    let written = document.visit(&mut writing)?;
     Ok(Registered {
         root: place_notices(alloc, written, notices)?,
         ids,

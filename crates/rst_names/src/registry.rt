@@ -4,15 +4,18 @@ use super::ids::Ids;
 use super::names::{Held, Holder, Names, Strength};
 use super::notices::{duplicate_definition, duplicate_name};
 use super::placing::Notices;
-use super::registrants::Registrant;
+use super::registrants::{own_name, text_at};
 use super::rulings::{Now, Ruling, ruling_for};
-use rst_tree::{Attr, Node, Tag, Text, TreeFault};
+use rst_marked::Element;
+use rst_tree::{Attr, Key, Node, Tag, Text, TreeFault};
 use std::alloc::Global;
 use std::collections::BTreeMap;
 
 /// What registration gave an element.
 #[derive(Drop)]
 pub struct Standing {
+    /// Its number.
+    pub serial: u64,
     /// Its id; a substitution definition has none.
     pub id: Option<Text>,
     /// Whether its name is a duplicate one.
@@ -22,9 +25,10 @@ pub struct Standing {
 }
 
 impl Standing {
-    /// What an element gets with its id, if it has one.
-    fn new(id: Option<Text>, lost: bool) -> Standing {
+    /// What an element gets with its number, and its id if it has one.
+    fn new(serial: u64, id: Option<Text>, lost: bool) -> Standing {
         Standing {
+            serial,
             id,
             lost,
             link: None,
@@ -61,8 +65,8 @@ impl Registry {
     fn add(
         &mut self,
         alloc: Global,
-        earlier: &[Registrant],
-        new: &Registrant,
+        earlier: &[Element<'_>],
+        new: Element<'_>,
     ) -> Result<(), TreeFault> {
         let standing = if matches!(new.tag, Tag::SubstitutionDefinition) {
             self.define(alloc, new)?
@@ -73,34 +77,42 @@ impl Registry {
         Ok(())
     }
 
+    /// The number of the element that is registered.
+    fn serial(&self) -> u64 {
+        self.standings.len() as u64
+    }
+
     /// Gives an element its id, and its name if it has one.
     fn name(
         &mut self,
         alloc: Global,
-        earlier: &[Registrant],
-        new: &Registrant,
+        earlier: &[Element<'_>],
+        new: Element<'_>,
     ) -> Result<Standing, TreeFault> {
-        let id = self.ids.give(alloc, new.tag, new.name())?;
-        if new.name().is_empty() {
-            return Ok(Standing::new(Some(id), false));
+        let serial = self.serial();
+        let name = own_name(new);
+        let id = self.ids.give(alloc, new.tag, name)?;
+        if name.is_empty() {
+            return Ok(Standing::new(serial, Some(id), false));
         }
         let ruling = self.ruling_on(earlier, new);
         if let Some(complaint) = ruling.complaint {
             self.notice(duplicate_name(alloc, complaint, new, &id)?)?;
         }
         self.follow(alloc, ruling, new, &id)?;
-        Ok(Standing::new(Some(id), ruling.new_loses))
+        Ok(Standing::new(serial, Some(id), ruling.new_loses))
     }
 
     /// Keeps the message on the name of the element that is registered.
     fn notice(&mut self, message: Node) -> Result<(), TreeFault> {
-        self.notices.push(self.standings.len() as u64, message)
+        let serial = self.serial();
+        self.notices.push(serial, message)
     }
 
     /// The rule for the name of a new element.
-    fn ruling_on(&self, earlier: &[Registrant], new: &Registrant) -> Ruling {
+    fn ruling_on(&self, earlier: &[Element<'_>], new: Element<'_>) -> Ruling {
         let strength = strength_of(new.tag);
-        match self.names.get(new.name()) {
+        match self.names.get(own_name(new)) {
             None => ruling_for(None, strength, false),
             Some(held) => {
                 let same = is_same_refuri(held.holder, earlier, new);
@@ -114,26 +126,26 @@ impl Registry {
         &mut self,
         alloc: Global,
         ruling: Ruling,
-        new: &Registrant,
+        new: Element<'_>,
         id: &Text,
     ) -> Result<(), TreeFault> {
         if ruling.old_loses {
-            let old = self.holder_of(new.name());
+            let old = self.holder_of(own_name(new));
             self.lose(old);
         }
         match ruling.now {
             Now::Old => Ok(()),
             Now::Nobody => {
-                self.names.move_to(new.name(), Holder::Nobody);
+                self.names.move_to(own_name(new), Holder::Nobody);
                 Ok(())
             }
             Now::New => {
                 let held = Held {
-                    holder: Holder::Element(self.standings.len() as u64),
+                    holder: Holder::Element(self.serial()),
                     strength: strength_of(new.tag),
                     id: id.copy()?,
                 };
-                self.names.hold(alloc, new.name(), held)
+                self.names.hold(alloc, own_name(new), held)
             }
         }
     }
@@ -157,14 +169,14 @@ impl Registry {
     }
 
     /// Registers a substitution definition: of those with equal names the last has it.
-    fn define(&mut self, alloc: Global, new: &Registrant) -> Result<Standing, TreeFault> {
-        let name = String::from_str(alloc, new.name())?;
+    fn define(&mut self, alloc: Global, new: Element<'_>) -> Result<Standing, TreeFault> {
+        let name = String::from_str(alloc, own_name(new))?;
         let before = self.definitions.insert(name, self.standings.len())?;
         if let Some(old) = before {
             self.lose(Holder::Element(old as u64));
             self.notice(duplicate_definition(alloc, new)?)?;
         }
-        Ok(Standing::new(None, false))
+        Ok(Standing::new(self.serial(), None, false))
     }
 }
 
@@ -178,31 +190,34 @@ fn strength_of(tag: Tag) -> Strength {
 }
 
 /// Whether a name's holder is a target with the URI of a new target.
-fn is_same_refuri(holder: Holder, earlier: &[Registrant], new: &Registrant) -> bool {
+fn is_same_refuri(holder: Holder, earlier: &[Element<'_>], new: Element<'_>) -> bool {
     let Holder::Element(serial) = holder else {
         return false;
     };
     match earlier.get(serial as usize) {
         Some(old) => {
-            matches!((old.tag, new.tag), (Tag::Target, Tag::Target)) && is_equal_refuri(old, new)
+            matches!((old.tag, new.tag), (Tag::Target, Tag::Target)) && is_equal_refuri(*old, new)
         }
         None => false,
     }
 }
 
 /// Whether both elements refer to one URI.
-fn is_equal_refuri(old: &Registrant, new: &Registrant) -> bool {
-    match (&old.refuri, &new.refuri) {
+fn is_equal_refuri(old: Element<'_>, new: Element<'_>) -> bool {
+    match (
+        text_at(old.attrs, Key::Refuri),
+        text_at(new.attrs, Key::Refuri),
+    ) {
         (Some(old), Some(new)) => old.as_str() == new.as_str(),
         _ => false,
     }
 }
 
 /// Registers elements, in preorder.
-pub fn registry_of(alloc: Global, elements: &[Registrant]) -> Result<Registry, TreeFault> {
+pub fn registry_of(alloc: Global, elements: &[Element<'_>]) -> Result<Registry, TreeFault> {
     let mut registry = Registry::new(alloc, elements.len())?;
     for (serial, new) in elements.iter().enumerate() {
-        registry.add(alloc, &elements[..serial], new)?;
+        registry.add(alloc, &elements[..serial], *new)?;
     }
     Ok(registry)
 }

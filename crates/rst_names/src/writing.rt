@@ -1,6 +1,7 @@
 //! The attributes that registration gives, written at the elements.
 ghost use Rattle.std.specs.Prelude.{◌≡◌};
 ghost use Rattle.rst_tree.specs.Faults.{Gives};
+ghost use Rattle.rst_tree.specs.declared.key.Key.TheVariants.{OwnName};
 ghost use Rattle.rst_names.specs.Gathered.{text_at};
 ghost use Rattle.rst_names.specs.Written.{with_id, with_name, with_link, with_standing, left_standings, with_first};
 
@@ -49,15 +50,42 @@ fn write_link(attrs: &mut Attrs, link: Option<Attr>) -> Result<(), TreeFault>
     }
 }
 
+/// A copy of the name that an element was written with, if it was with one.
+fn copied_name(attrs: &Attrs) -> Result<Option<Text>, TreeFault>
+    ensures { Gives (λ name. name ≡ text_at OwnName attrs.now) result }
+{
+    match text_at(attrs, Key::OwnName) {
+        Some(name) => Ok(Some(name.copy()?)),
+        None => Ok(None),
+    }
+}
+
+/// How many attributes tell what an element got that has a name or none.
+fn count_of(standing: &Standing, name: &Option<Text>) -> usize {
+    let parts = [
+        standing.id.is_some(),
+        name.is_some(),
+        standing.link.is_some(),
+    ];
+    1 + parts.iter().filter(|part| **part).count()
+}
+
 /// Lets the attributes of an element tell what registration gave it.
 fn write(alloc: Global, attrs: &mut Attrs, standing: Standing) -> Result<(), TreeFault>
     ensures { Gives (λ _. attrs.new ≡ with_standing standing attrs.old) result }
 {
-    let Standing { id, lost, link } = standing;
-    let name = text_at(attrs, Key::OwnName)?;
-    write_id(alloc, attrs, id)?;
+    let name = copied_name(attrs)?;
+    attrs.reserve(count_of(&standing, &name))?;
+    let Standing {
+        serial,
+        id,
+        lost,
+        link,
+    } = standing;
+    attrs.set(Key::Serial, Value::Number(serial))?;
+    write_link(attrs, link)?;
     write_name(alloc, attrs, lost, name)?;
-    write_link(attrs, link)
+    write_id(alloc, attrs, id)
 }
 
 /// Writes at each element what it got.

@@ -175,7 +175,7 @@ fn document_of(alloc: Global, example: &str) -> Result<Node, TreeFault> {
 /// Ends the test where a document isn't printed as wanted once it is registered.
 pub fn register_as(rt: &impl Abort, alloc: Global, example: &str, want: &str) -> Result<(), Fail> {
     let document = document_of(alloc, example)?;
-    let registered = register(alloc, Marked::of(alloc, document)?)?;
+    let registered = register(alloc, Marked::of(alloc, document)?, 10)?;
     compare(rt, printed(alloc, registered.root)?.as_str(), want, example);
     Ok(())
 }

@@ -75,7 +75,7 @@ fn registered(alloc: Global, document: Marked, messages: u64) -> Result<Work, Tr
         ids,
         names,
         serials,
-    } = register(alloc, document)?;
+    } = register(alloc, document, messages)?;
     Ok(Work {
         root,
         ids,
