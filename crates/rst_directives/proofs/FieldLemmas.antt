@@ -5,7 +5,7 @@ use Rattle.rst_text.proofs.PlacesLemmas.{cases_bool}
 use Rattle.rst_marks.specs.Front.{begins_with}
 use Rattle.rst_directives.specs.Characters.{Text}
 use Rattle.rst_directives.specs.Lines.{texts_of}
-use Rattle.rst_directives.specs.Options.{deep_len, FieldText, field_in, onto_fields, fields_from}
+use Rattle.rst_directives.specs.Options.{deep_len, FieldText, field_in, onto_fields, fields_below, fields_in}
 
 -- fields, and those that come behind them if these are right
 abbrev pub behind_fields : List FieldText → Option (List FieldText) → Option (List FieldText)
@@ -18,18 +18,18 @@ deep-here t ts h = rw h refl
 deep-none : (t : Text) (ts : List Text) → begins_with 32 t ≡ false → deep_len (t ∷ ts) ≡ 0
 deep-none t ts h = rw h refl
 
-fields-deep : (t : Text) (ts : List Text) → begins_with 32 t ≡ true → fields_from true (t ∷ ts) ≡ fields_from true ts
+fields-deep : (t : Text) (ts : List Text) → begins_with 32 t ≡ true → fields_below (t ∷ ts) ≡ fields_below ts
 fields-deep t ts h = rw h refl
 
-fields-flat : (t : Text) (ts : List Text) → begins_with 32 t ≡ false → fields_from true (t ∷ ts) ≡ fields_from false (t ∷ ts)
+fields-flat : (t : Text) (ts : List Text) → begins_with 32 t ≡ false → fields_below (t ∷ ts) ≡ fields_in (t ∷ ts)
 fields-flat t ts h = rw h refl
 
 -- indented lines below a field are passed over
-pub deep-skip : (ts : List Text) → fields_from true ts ≡ fields_from false (drop (deep_len ts) ts)
+pub deep-skip : (ts : List Text) → fields_below ts ≡ fields_in (drop (deep_len ts) ts)
 deep-skip [] = refl
 deep-skip (t ∷ ts) = elim (cases_bool (begins_with 32 t)) [
-  | inl h ↦ fields-deep t ts h ∙ deep-skip ts ∙ sym (ap (λ n. fields_from false (drop n (t ∷ ts))) (deep-here t ts h))
-  | inr h ↦ fields-flat t ts h ∙ sym (ap (λ n. fields_from false (drop n (t ∷ ts))) (deep-none t ts h))
+  | inl h ↦ fields-deep t ts h ∙ deep-skip ts ∙ sym (ap (λ n. fields_in (drop n (t ∷ ts))) (deep-here t ts h))
+  | inr h ↦ fields-flat t ts h ∙ sym (ap (λ n. fields_in (drop n (t ∷ ts))) (deep-none t ts h))
 ]
 
 behind-onto : (done : List FieldText) (f : FieldText) (more : Option (List FieldText)) → behind_fields done (onto_fields (Some f) more) ≡ behind_fields (done ++ f ∷ []) more
@@ -42,16 +42,16 @@ behind-onto done f (Some more) = ap Some (sym (one done))
 
 -- one field more
 pub fields-more : (X : List Text) (t : Text) (ts : List Text) (done : List FieldText) (f : FieldText) (whole : Option (List FieldText)) → X ≡ t ∷ ts
-    → Some f ≡ field_in t (take (deep_len ts) ts) → behind_fields done (fields_from false X) ≡ whole → behind_fields (done ++ f ∷ []) (fields_from false (drop (deep_len ts) ts)) ≡ whole
+    → Some f ≡ field_in t (take (deep_len ts) ts) → behind_fields done (fields_in X) ≡ whole → behind_fields (done ++ f ∷ []) (fields_in (drop (deep_len ts) ts)) ≡ whole
 fields-more X t ts done f whole e found h =
-    sym (behind-onto done f (fields_from false (drop (deep_len ts) ts))) ∙ ap (λ more. behind_fields done (onto_fields (Some f) more)) (sym (deep-skip ts))
-    ∙ ap (λ field. behind_fields done (onto_fields field (fields_from true ts))) found ∙ ap (λ Y. behind_fields done (fields_from false Y)) (sym e) ∙ h
+    sym (behind-onto done f (fields_in (drop (deep_len ts) ts))) ∙ ap (λ more. behind_fields done (onto_fields (Some f) more)) (sym (deep-skip ts))
+    ∙ ap (λ field. behind_fields done (onto_fields field (fields_below ts))) found ∙ ap (λ Y. behind_fields done (fields_in Y)) (sym e) ∙ h
 
 -- a line that begins no field
 pub fields-stop : (X : List Text) (t : Text) (ts : List Text) (done : List FieldText) (whole : Option (List FieldText)) → X ≡ t ∷ ts
-    → None ≡ field_in t (take (deep_len ts) ts) → behind_fields done (fields_from false X) ≡ whole → None ≡ whole
+    → None ≡ field_in t (take (deep_len ts) ts) → behind_fields done (fields_in X) ≡ whole → None ≡ whole
 fields-stop X t ts done whole e none h =
-    ap (λ field. behind_fields done (onto_fields field (fields_from true ts))) none ∙ ap (λ Y. behind_fields done (fields_from false Y)) (sym e) ∙ h
+    ap (λ field. behind_fields done (onto_fields field (fields_below ts))) none ∙ ap (λ Y. behind_fields done (fields_in Y)) (sym e) ∙ h
 
 -- ---- vectors of characters as texts
 
@@ -97,8 +97,8 @@ past-texts (t ∷ ts) zero h = absurd (omega arith)
 past-texts (t ∷ ts) (suc i) h = past-texts ts i (omega arith)
 
 -- where no line is left
-pub fields-end : (ts : List Text) (i : ℕ) (done : List FieldText) (whole : Option (List FieldText)) → length ts ≤ i → behind_fields done (fields_from false (drop i ts)) ≡ whole → Some done ≡ whole
-fields-end ts i done whole h e = ap Some (sym (append-none done)) ∙ ap (λ rest. behind_fields done (fields_from false rest)) (sym (past-texts ts i h)) ∙ e
+pub fields-end : (ts : List Text) (i : ℕ) (done : List FieldText) (whole : Option (List FieldText)) → length ts ≤ i → behind_fields done (fields_in (drop i ts)) ≡ whole → Some done ≡ whole
+fields-end ts i done whole h e = ap Some (sym (append-none done)) ∙ ap (λ rest. behind_fields done (fields_in rest)) (sym (past-texts ts i h)) ∙ e
 
 -- ---- slices
 

@@ -11,3 +11,6 @@ pub mod Parts
 pub mod BlockReads
 pub mod ChoiceLemmas
 pub mod DirectiveParts
+pub mod Bare
+pub mod Indentations
+pub mod AgainLemmas

@@ -1,8 +1,9 @@
 -- The options of a directive's block (Markup Specification, 'Directives').
-use Rattle.std.specs.Prelude.{ℕ, suc, min, Bool, true, false, not, ◌&&◌, ◌||◌, ◌==◌, List, [], ◌∷◌, ◌++◌, map, take, drop, slice_range, Option, Some, None, Result, Ok, Err, if◌then◌else◌}
+use Rattle.std.specs.Prelude.{ℕ, suc, min, Bool, true, false, not, ◌||◌, List, [], ◌∷◌, map, take, drop, length, slice_range, Option, Some, None, option_map, Result, Ok, Err, if◌then◌else◌}
 use Rattle.std.specs.List.{join_with_byte}
 use Rattle.std.specs.declared.vec.Vec.{Vec}
 use Rattle.rst_text.specs.Block.{indentation}
+use Rattle.rst_text.specs.Places.{first_from}
 use Rattle.rst_marks.specs.Field.{field_of}
 use Rattle.rst_marks.specs.Front.{begins_with}
 use Rattle.rst_marks.specs.declared.field.FieldMark.{FieldMark}
@@ -22,15 +23,11 @@ abbrev pub deep_len : List Text → ℕ
 deep_len [] = 0
 deep_len (t ∷ ts) = if begins_with 32 t then suc (deep_len ts) else 0
 
--- the least indentation of lines, and of n
-abbrev pub least_with : ℕ → List Text → ℕ
-least_with n [] = n
-least_with n (t ∷ ts) = least_with (min n (indentation t)) ts
-
 -- the least indentation of lines, 0 where there are none
 abbrev pub least_indentation : List Text → ℕ
 least_indentation [] = 0
-least_indentation (t ∷ ts) = least_with (indentation t) (t ∷ ts)
+least_indentation (t ∷ []) = indentation t
+least_indentation (t ∷ u ∷ us) = min (indentation t) (least_indentation (u ∷ us))
 
 -- a text before lines, unless it is empty
 abbrev pub with_first : Text → List Text → List Text
@@ -64,14 +61,15 @@ onto_fields (Some f) (Some fs) = Some (f ∷ fs)
 onto_fields (Some f) None = None
 onto_fields None fs = None
 
--- the fields of lines, where a field stands above or none does
-abbrev pub fields_from : Bool → List Text → Option (List FieldText)
-fields_from inside [] = Some []
-fields_from inside (t ∷ ts) = if inside && begins_with 32 t then fields_from true ts else onto_fields (field_in t (take (deep_len ts) ts)) (fields_from true ts)
+-- the fields of lines below a field, to which the indented lines at their front belong
+abbrev pub fields_below : List Text → Option (List FieldText)
+fields_below [] = Some []
+fields_below (t ∷ ts) = if begins_with 32 t then fields_below ts else onto_fields (field_in t (take (deep_len ts) ts)) (fields_below ts)
 
 -- the fields of lines, if each line begins a field or is indented below one
-unfoldable pub fields_in : List Text → Option (List FieldText)
-fields_in ts = fields_from false ts
+abbrev pub fields_in : List Text → Option (List FieldText)
+fields_in [] = Some []
+fields_in (t ∷ ts) = onto_fields (field_in t (take (deep_len ts) ts)) (fields_below ts)
 
 -- ---- what is wrong with them
 
@@ -94,10 +92,18 @@ abbrev pub is_among : Text → List FieldText → Bool
 is_among name [] = false
 is_among name (f ∷ fs) = is_same_word f.0 name || is_among name fs
 
--- the name of the first field that one before it has, where some stand before all
-abbrev pub again_from : List FieldText → List FieldText → Option Text
-again_from before [] = None
-again_from before (f ∷ fs) = if is_among f.0 before then Some f.0 else again_from (before ++ f ∷ []) fs
+-- the name of the first of some fields; where there is none it is empty
+abbrev pub front_name : List FieldText → Text
+front_name [] = []
+front_name (f ∷ fs) = f.0
+
+-- the field at the place has the name of one before it
+abbrev pub is_again : List FieldText → ℕ → Bool
+is_again fs i = is_among (front_name (drop i fs)) (take i fs)
+
+-- the name of the first field that one before it has
+abbrev pub first_again : List FieldText → Option Text
+first_again fs = option_map (λ i. front_name (drop i fs)) (first_from (is_again fs) 0 (length fs))
 
 -- an option and the meaning of its value
 abbrev pub Choice : Type 0
@@ -137,7 +143,7 @@ judged_by None None choices = choices
 -- What the fields of a directive choose, or what is wrong: of all fields an unknown option, then a duplicate one, then a
 -- value that an option can't have.
 unfoldable pub settings_in : Name → List FieldText → Result (List Choice) Wrong
-settings_in directive fs = judged_by (first_unknown directive fs) (again_from [] fs) (choices_of directive fs)
+settings_in directive fs = judged_by (first_unknown directive fs) (first_again fs) (choices_of directive fs)
 
 -- ---- as they are kept
 

@@ -1,5 +1,5 @@
 -- What the text of a target means (Markup Specification, 'Hyperlink Targets').
-use Rattle.std.specs.Prelude.{ℕ, ◌-◌, Bool, not, ◌&&◌, ◌==◌, nat_lt, nat_le, List, [], ◌∷◌, map, filter, take, drop, slice_range, length, Option, Some, None, if◌then◌else◌}
+use Rattle.std.specs.Prelude.{◌-◌, Bool, not, ◌&&◌, ◌==◌, nat_lt, nat_le, List, [], ◌∷◌, map, filter, take, drop, slice_range, length, Option, Some, None, if◌then◌else◌}
 use Rattle.std.specs.List.{join_with_byte}
 use Rattle.rst_text.specs.Block.{indentation, is_blank}
 use Rattle.rst_text.specs.Lines.{onto_first}

@@ -157,7 +157,7 @@ fn first_unknown(directive: Name, fields: &[Field]) -> Option<&[char]>
 
 /// The name of the first field that one before it has.
 fn first_again(fields: &[Field]) -> Option<&[char]>
-    ensures { option_map (λ name. name.now) result ≡ spec.again_from [] (spec.field_texts fields.now) }
+    ensures { option_map (λ name. name.now) result ≡ spec.first_again (spec.field_texts fields.now) }
 {
     for i in 0..fields.len() {
         if is_among(&fields[i].name, &fields[..i]) {

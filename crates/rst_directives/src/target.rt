@@ -1,5 +1,5 @@
 //! What the text of a target means.
-ghost use Rattle.std.specs.Prelude.{◌≡◌, ◌+◌, ◌<◌, ◌≤◌, IfOk, IsTrue, Some, option_map, length};
+ghost use Rattle.std.specs.Prelude.{◌≡◌, ◌+◌, ◌<◌, ◌≤◌, ◌&&◌, ◌==◌, not, IfOk, IsTrue, Some, option_map, length};
 ghost use Rattle.std.specs.Str.{chars};
 ghost use Rattle.rst_directives.specs.Faults.{Gives};
 ghost use Rattle.rst_pieces.specs.Escapes.{unescaped};
@@ -152,13 +152,20 @@ fn is_phrase(text: &[char]) -> bool
     is_dark(text, 0) && (is_dark(text, text.len() - 1) && !has_bare_backquote(text))
 }
 
+/// Whether a character is a backquote that isn't escaped.
+fn is_bare_backquote(c: char, escaped: bool) -> bool
+    ensures { result ≡ (c == 96 && not escaped) }
+{
+    c == '`' && !escaped
+}
+
 /// Whether a backquote in a text isn't escaped.
 fn has_bare_backquote(text: &[char]) -> bool
     ensures { result ≡ escapes.has_bare_backquote text.now }
 {
     let mut escaped = false;
     for c in text {
-        if *c == '`' && !escaped {
+        if is_bare_backquote(*c, escaped) {
             return true;
         }
         escaped = escapes(*c, escaped);

@@ -1,6 +1,7 @@
 use Rattle.std.proofs.Common.{◌≡◌, drop}
 use Rattle.rst_directives.specs.Lines.{texts_of}
-use Rattle.rst_directives.specs.Options.{least_with, least_indentation}
+use Rattle.rst_directives.specs.Options.{least_indentation}
+use Rattle.rst_directives.proofs.Indentations.{least_with}
 use Rattle.rst_directives.proofs.options.least_indentation.Given as goal
 
 abbrev pub invariant-loop-line : goal.invariant-loop-line
