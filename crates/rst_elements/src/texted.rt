@@ -108,7 +108,7 @@ fn numbered_on(alloc: Global, nodes: Vec<Node>, first: u64) -> Result<Vec<Node>,
     if !are_numbered(nodes.as_slice()) {
         return Ok(nodes);
     }
-    let mut numbered = Vec::new(alloc);
+    let mut numbered = Vec::with_capacity(alloc, nodes.len())?;
     for node in nodes {
         match message_of(&node) {
             Some(number) => numbered.push(with_message(node, first.saturating_add(number))?)?,
@@ -136,26 +136,13 @@ fn message_of(node: &Node) -> Option<u64>
 }
 
 /// The element with the number of a message; a text stays as it is.
-fn with_message(node: Node, number: u64) -> Result<Node, TreeFault>
+fn with_message(mut node: Node, number: u64) -> Result<Node, TreeFault>
     ensures { Gives (λ numbered. numbered ≡ with_message number node) result }
 {
-    match node {
-        Node::Element {
-            tag,
-            mut attrs,
-            children,
-            line,
-        } => {
-            attrs.set(Key::Message, Value::Number(number))?;
-            Ok(Node::Element {
-                tag,
-                attrs,
-                children,
-                line,
-            })
-        }
-        Node::Text(text) => Ok(Node::Text(text)),
+    if let Node::Element { attrs, .. } = &mut node {
+        attrs.set(Key::Message, Value::Number(number))?;
     }
+    Ok(node)
 }
 
 /// The messages as nodes, numbered on from the first.
@@ -163,7 +150,7 @@ fn with_message(node: Node, number: u64) -> Result<Node, TreeFault>
 fn messages_of(alloc: Global, notes: Vec<Note>, first: u64) -> Result<Vec<Node>, TreeFault>
     ensures { Gives (λ messages. messages.items ≡ messages_from first notes.items) result }
 {
-    let mut messages = Vec::new(alloc);
+    let mut messages = Vec::with_capacity(alloc, notes.len())?;
     let mut number = first;
     for note in notes {
         let node = note.into_node(alloc)?;
