@@ -11,9 +11,8 @@ use super::elements::problematic;
 use super::fault::InlineFault;
 use super::reading::Meaning;
 use super::texts::part;
-use super::written::{if_ascii, if_bare, meaning, pieces, words};
+use super::written::{characters, if_ascii, if_bare, meaning, pieces, words};
 use rst_pieces::{Piece, is_quiet};
-use rst_text::characters_of;
 use rst_tree::{Node, Note};
 use std::alloc::Global;
 
@@ -35,9 +34,10 @@ pub fn inline(alloc: Global, text: &str, line: usize) -> Result<Pieces, InlineFa
     if is_quiet(text.as_bytes()) {
         return quiet(alloc, text);
     }
-    let characters = characters_of(alloc, text)?;
-    let pieces = pieces(alloc, if_ascii(text), &characters)?;
-    read(alloc, if_bare(text), &characters, &pieces, line)
+    let written = if_ascii(text);
+    let characters = characters(alloc, written, text)?;
+    let pieces = pieces(alloc, written, &characters)?;
+    read(alloc, if_bare(written), &characters, &pieces, line)
 }
 
 /// The same of a quiet text, whatever its line: it is one plain piece, so it is neither made characters nor scanned.

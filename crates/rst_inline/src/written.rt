@@ -1,5 +1,5 @@
 //! Pieces of a text that is ASCII: without a backslash in it most are cut out of it as it was written, for there each character is a byte.
-ghost use Rattle.std.specs.Prelude.{◌≡◌, [], IfOk, IfSome};
+ghost use Rattle.std.specs.Prelude.{◌≡◌, ℕ, List, [], IfOk, IfSome};
 ghost use Rattle.std.specs.Str.{chars, IsAscii};
 ghost use Rattle.rst_tree.specs.declared.node.Node.TheVariants.{Text as Words};
 ghost use Rattle.rst_pieces.specs.Pieces.{IsPieces, IsWithin};
@@ -12,6 +12,7 @@ ghost use Rattle.rst_inline.specs.Readings as spec;
 use super::fault::InlineFault;
 use super::reading::{Meaning, reading};
 use rst_pieces::{Kind, Markup, Piece, pieces_of, pieces_of_ascii};
+use rst_text::ascii_characters;
 use rst_tree::{Attrs, Children, Node, Tag, Text};
 use std::alloc::{AllocError, Global};
 
@@ -21,6 +22,21 @@ pub(crate) fn if_ascii(text: &str) -> Option<&str>
     ensures same { IfSome result (λ written. written.now ≡ chars text.now) }
 {
     if text.is_ascii() { Some(text) } else { None }
+}
+
+/// The characters of a text; `written` is the text, too, if that is ASCII.
+pub(crate) fn characters(
+    alloc: Global,
+    written: Option<&str>,
+    text: &str,
+) -> Result<Vec<char>, AllocError>
+    requires { IfSome written (λ written. written.now ≡ chars text.now) }
+    ensures { IfOk result (λ characters. characters.items ≡ chars text.now) }
+{
+    match written {
+        Some(written) => ascii_characters(alloc, written.as_bytes()),
+        None => text.chars().collect(alloc),
+    }
 }
 
 /// The pieces of a text; `written` is the text, too, if that is ASCII.
@@ -38,16 +54,17 @@ pub(crate) fn pieces(
     }
 }
 
-/// The text, if it is ASCII without a backslash.
-pub(crate) fn if_bare(text: &str) -> Option<&str>
-    ensures bare { IfSome result (λ written. IsBare written.now) }
-    ensures same { IfSome result (λ written. written.now ≡ chars text.now) }
+/// What is written, if there is no backslash in it.
+pub(crate) fn if_bare(written: Option<&str>) -> Option<&str>
+    requires { IfSome written (λ written. IsAscii written.now) }
+    ensures bare { IfSome result (λ bare. IsBare bare.now) }
+    ensures same { (text : List ℕ) → IfSome written.entry (λ written. written.now ≡ text) → IfSome result (λ bare. bare.now ≡ text) }
 {
-    if text.is_ascii() && !text.as_bytes().contains(&b'\\') {
-        Some(text)
-    } else {
-        None
+    let written = written?;
+    if written.as_bytes().contains(&b'\\') {
+        return None;
     }
+    Some(written)
 }
 
 /// The text of a piece as it is written.

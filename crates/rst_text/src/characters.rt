@@ -56,7 +56,7 @@ pub fn characters_of(alloc: Global, text: &str) -> Result<Vec<char>, AllocError>
 }
 
 /// ASCII as characters, each of which is a byte.
-fn ascii_characters(alloc: Global, bytes: &[u8]) -> Result<Vec<char>, AllocError>
+pub fn ascii_characters(alloc: Global, bytes: &[u8]) -> Result<Vec<char>, AllocError>
     ensures { IfOk result (λ characters. characters.items ≡ bytes.now) }
 {
     let mut characters = Vec::with_capacity(alloc, bytes.len())?;

@@ -7,11 +7,11 @@ use Rattle.rst_inline.proofs.nodes.inline.Goals as goal
 
 pub read-requires-clause-same : goal.read-requires-clause-same
 read-requires-clause-same c =
-    subst (λ t. IfSome c.if_bare.result (λ written. written.now ≡ t)) (sym (c.deref-2.ensures.value ∙ c.in_ok-characters.ensures)) c.if_bare.ensures.same
+    subst (λ t. IfSome c.if_bare.result (λ written. written.now ≡ t)) (sym (c.deref-2.ensures.value ∙ c.in_ok-characters.ensures)) (c.if_bare.ensures.same (chars c.args.text.now) c.if_ascii-written.ensures.same)
 
 pub pieces-requires : goal.pieces-requires
 pieces-requires c =
-    subst (λ t. IfSome c.if_ascii.result (λ written. written.now ≡ t)) (sym (c.deref.ensures.value ∙ c.in_ok-characters.ensures)) c.if_ascii.ensures.same
+    subst (λ t. IfSome c.if_ascii-written.result (λ written. written.now ≡ t)) (sym (c.deref.ensures.value ∙ c.in_ok-characters.ensures)) c.if_ascii-written.ensures.same
 
 pub read-requires-clause-within : goal.read-requires-clause-within
 read-requires-clause-within c =
