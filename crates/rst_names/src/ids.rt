@@ -1,4 +1,5 @@
 //! Ids.
+ghost use Rattle.std.specs.Prelude.{◌<◌, IfSome, vec_len};
 
 use rst_text::id_of;
 use rst_tree::{Tag, Text, TreeFault};
@@ -14,6 +15,8 @@ pub struct Ids {
     hindering: BTreeSet<String>,
     /// For each text that ids with a number were made of the next number. With each lower one the id is taken.
     next: BTreeMap<String, u64>,
+    /// The same for the names of the kinds of which there are such ids, in place of what `next` tells of them.
+    kinds: Vec<(Tag, u64)>,
 }
 
 impl Ids {
@@ -23,6 +26,7 @@ impl Ids {
             named: BTreeSet::new(alloc),
             hindering: BTreeSet::new(alloc),
             next: BTreeMap::new(alloc),
+            kinds: Vec::new(alloc),
         }
     }
 
@@ -62,19 +66,52 @@ impl Ids {
 
     /// The next number of ids of a text.
     fn next_of(&self, base: &str) -> u64 {
+        if let Some(place) = self.kind_named(base) {
+            return self.kinds[place].1;
+        }
         match self.next.get(base) {
             Some(next) => *next,
             None => 1,
         }
     }
 
+    /// The place among the kinds of the one with a name.
+    fn kind_named(&self, base: &str) -> Option<usize>
+        ensures { IfSome result (λ place. place < vec_len self.now.kinds) }
+    {
+        self.kinds
+            .iter()
+            .position(|(kind, _)| kind.hyphenated() == base)
+    }
+
     /// Takes the first free id of a kind's name, a hyphen and a number.
     fn give_kind(&mut self, alloc: Global, tag: Tag) -> Result<Text, TreeFault> {
-        self.give_numbered(alloc, tag.hyphenated())
+        for i in 0..self.kinds.len() {
+            if self.kinds[i].0 == tag {
+                return self.give_known(alloc, i);
+            }
+        }
+        let base = tag.hyphenated();
+        let (number, id) = free(alloc, &self.hindering, base, self.next_of(base))?;
+        self.kinds.push((tag, number.saturating_add(1)))?;
+        Ok(id)
+    }
+
+    /// The same for the kind at a place among those of which there are such ids.
+    fn give_known(&mut self, alloc: Global, place: usize) -> Result<Text, TreeFault>
+        requires { place < vec_len self.old.kinds }
+    {
+        let (kind, next) = self.kinds[place];
+        let (number, id) = free(alloc, &self.hindering, kind.hyphenated(), next)?;
+        self.kinds[place] = (kind, number.saturating_add(1));
+        Ok(id)
     }
 
     /// Takes the first free id of a text, a hyphen and a number.
     fn give_numbered(&mut self, alloc: Global, base: &str) -> Result<Text, TreeFault> {
+        if let Some(place) = self.kind_named(base) {
+            return self.give_known(alloc, place);
+        }
         if let Some(next) = self.next.get_mut(base) {
             let (number, id) = free(alloc, &self.hindering, base, *next)?;
             *next = number.saturating_add(1);
