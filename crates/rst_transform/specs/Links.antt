@@ -6,12 +6,14 @@ use Rattle.rst_tree.specs.declared.node.Node.TheVariants.{Element, Text}
 use Rattle.rst_tree.specs.declared.rewriting.Rewrite.{Rewrite}
 use Rattle.rst_tree.specs.declared.rewriting.Rewrite.TheVariants.{Keep, Replace}
 use Rattle.rst_tree.specs.declared.tag.Tag.{Tag}
+use Rattle.rst_tree.specs.declared.tag.Tag.TheVariants.{Problematic}
 use Rattle.rst_tree.specs.Forest.{Forest, bare, words}
 use Rattle.rst_tree.specs.Nodes.{forest_of}
 use Rattle.rst_tree.specs.Rewritten.{kept, rewritten}
 use Rattle.rst_transform.specs.declared.links.Change.{Change}
-use Rattle.rst_transform.specs.declared.links.Change.TheVariants.{Stays, Becomes}
+use Rattle.rst_transform.specs.declared.links.Change.TheVariants.{Stays, Fails}
 use Rattle.rst_transform.specs.LinkKinds.{is_linked, with_more}
+use Rattle.rst_transform.specs.Reading.{source_said}
 
 -- an element that stays, or shows a text in place of what stood in it
 abbrev pub shown_as : Option (List ℕ) → Tag → List Attr → ℕ → Rewrite
@@ -23,11 +25,11 @@ abbrev pub Shows : Option (List ℕ) → Forest → Forest → Bool → Type 0
 Shows None old new stays = (new ≡ old) × (stays ≡ true)
 Shows (Some text) old new stays = (new ≡ words text bare) × (stays ≡ false)
 
--- what the first change makes of an element
+-- what the first change makes of an element; what fails becomes a problematic of its source text
 abbrev pub changed_by : List Change → Tag → List Attr → ℕ → Rewrite
 changed_by [] t a l = Keep t a l
 changed_by (Stays x ∷ more) t a l = shown_as x.shown t (with_more x.attr a) l
-changed_by (Becomes n ∷ more) t a l = Replace (forest_of (n ∷ []))
+changed_by (Fails p ∷ more) t a l = Replace (forest_of (Element Problematic p (words (source_said a) bare) l ∷ []))
 
 -- what becomes of an element
 abbrev pub change_of : List Change → Node → Rewrite

@@ -1,10 +1,13 @@
 -- What the attributes of an element say.
-use Rattle.std.specs.Prelude.{ℕ, List, [], Option, Some, None}
+use Rattle.std.specs.Prelude.{ℕ, List, [], Option, Some, None, unwrap_or}
+use Rattle.rst_tree.specs.declared.attrs.Attr.{Attr}
 use Rattle.rst_tree.specs.declared.attrs.Value.{Value}
 use Rattle.rst_tree.specs.declared.attrs.Value.TheVariants.{Text, Number, List as Listed}
 use Rattle.rst_tree.specs.declared.key.Key.{Key}
+use Rattle.rst_tree.specs.declared.key.Key.TheVariants.{Rawsource}
 use Rattle.rst_tree.specs.declared.node.Node.{Node}
 use Rattle.rst_tree.specs.declared.node.Node.TheVariants.{Element, Text as Words}
+use Rattle.rst_tree.specs.Attributes.{value_of}
 use Rattle.rst_tree.specs.Paths.{node_value}
 
 -- the text that a value is
@@ -41,3 +44,7 @@ list_said k n = members_in (node_value k n)
 abbrev pub line_of : Node → ℕ
 line_of (Element t a c l) = l
 line_of (Words t) = 0
+
+-- the source text that the attributes of a reference tell, or the empty text
+abbrev pub source_said : List Attr → List ℕ
+source_said attrs = unwrap_or (text_in (value_of Rawsource attrs)) []

@@ -23,3 +23,7 @@ with_references r attrs = with_id r.id (with_attr Backrefs (Listed r.backrefs) (
 -- the message as a `system_message`
 abbrev pub report_node : Report → Node
 report_node r = Element SystemMessage (with_references r (note_attrs r.note.level r.note.line)) (forest_of (note_nodes r.note.text r.note.block r.note.line)) r.note.line
+
+-- the message once its id and those of its problematics have moved elsewhere
+abbrev pub without_ids : Report → Report
+without_ids r = record { note = r.note; number = r.number; id = None; backrefs = []; own = r.own }

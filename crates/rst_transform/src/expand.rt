@@ -4,6 +4,7 @@ ghost use Rattle.std.specs.Prelude.{◌≡◌, ◌<◌, ◌≤◌, OnOk};
 use crate::definitions::Definitions;
 use crate::lists::joined;
 use crate::reading::said;
+use crate::texts::take_source;
 use crate::work::Work;
 use rst_tree::{Attrs, Children, Key, Level, Node, Tag, TreeFault};
 use std::alloc::{AllocError, AllocFailed, Global};
@@ -223,18 +224,19 @@ fn with_replaced(
     alloc: Global,
     definitions: &Definitions,
     mut nodes: Vec<Node>,
-    attrs: &Attrs,
+    mut attrs: Attrs,
     line: usize,
     within: Option<usize>,
     work: &mut Work,
 ) -> Result<Vec<Node>, TreeFault> {
-    let name = said(attrs, Key::Refname);
+    let name = said(&attrs, Key::Refname);
     match expansion(alloc, definitions, name, within) {
         Ok(expanded) => joined(nodes, expanded),
         Err(fault) => {
             let text = message(alloc, name, fault)?;
             let report = work.report(alloc, Level::Error, line, text, true)?;
-            nodes.push(work.problematic(alloc, report, said(attrs, Key::Rawsource), line)?)?;
+            let source = take_source(alloc, &mut attrs)?;
+            nodes.push(work.problematic(alloc, report, source, line)?)?;
             Ok(nodes)
         }
     }
@@ -272,7 +274,7 @@ fn expanded_in(
                 line,
             } => {
                 if matches!(tag, Tag::SubstitutionReference) {
-                    done = with_replaced(alloc, definitions, done, &attrs, line, within, work)?;
+                    done = with_replaced(alloc, definitions, done, attrs, line, within, work)?;
                     continue;
                 }
                 let within = within_element(definitions, tag, &attrs, within);

@@ -140,7 +140,7 @@ pub(crate) fn found_by_order(
     let symbols = in_order(alloc, linked, Order::Symbols)?;
     let mut numbers = numbers.iter();
     let mut symbols = symbols.iter();
-    let mut found = Vec::new(alloc);
+    let mut found = Vec::with_capacity(alloc, linked.len())?;
     for one in linked {
         let place = match reference_order(one.element) {
             Some(Order::Numbers) => numbers.next().copied(),

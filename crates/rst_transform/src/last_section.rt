@@ -23,7 +23,7 @@ pub(crate) fn last_section(
     if !work.reports.iter().any(|own| is_shown(own, report)) {
         return Ok(work);
     }
-    let section = section(alloc, work.reports.as_slice())?;
+    let section = section(alloc, &mut work.reports)?;
     if let Node::Element { children, .. } = &mut work.root {
         children.push(section)?;
     }
@@ -38,21 +38,18 @@ fn is_shown(report: &Report, threshold: Threshold) -> bool
 }
 
 /// The section with the messages that stand in it.
-fn section(alloc: Global, reports: &[Report]) -> Result<Node, TreeFault> {
-    let mut classes = Texts::new(alloc);
-    classes.push(Text::from_str(alloc, "system-messages")?)?;
-    let mut attrs = Attrs::new(alloc);
-    attrs.set(Key::Classes, Value::List(classes))?;
-    let mut children = Children::new(alloc);
+fn section(alloc: Global, reports: &mut [Report]) -> Result<Node, TreeFault> {
+    let classes = Texts::lone(alloc, Text::from_str(alloc, "system-messages")?)?;
+    let mut children = Children::with_room(alloc, reports.len().saturating_add(1))?;
     children.push(heading(alloc)?)?;
-    for report in reports {
+    for report in reports.iter_mut() {
         if report.own {
             children.push(report.node(alloc)?)?;
         }
     }
     Ok(Node::Element {
         tag: Tag::Section,
-        attrs,
+        attrs: Attrs::lone(alloc, Key::Classes, Value::List(classes))?,
         children,
         line: 0,
     })

@@ -4,9 +4,9 @@ ghost use Rattle.rst_tree.specs.Faults.{Gives};
 ghost use Rattle.rst_transform.specs.LinkKinds.{is_linked, with_more};
 ghost use Rattle.rst_transform.specs.Links.{Shows, changed_root};
 
-use crate::reading::{line_of, text_said};
+use crate::texts::take_source;
 use crate::work::Work;
-use rst_tree::{Attr, Attrs, Children, Key, Node, Rewriter, Tag, Text, TreeFault, rewrite_in};
+use rst_tree::{Attr, Attrs, Children, Node, Rewriter, Tag, Text, TreeFault, rewrite_in};
 use std::alloc::Global;
 use std::collections::VecDeque;
 use std::marker::Model;
@@ -69,8 +69,8 @@ impl Outcome {
 pub(crate) enum Change {
     /// It stays.
     Stays(Addition),
-    /// It becomes this node.
-    Becomes(Node),
+    /// It becomes a problematic with these attributes.
+    Fails(Attrs),
 }
 
 /// Whether elements of this kind refer to others, or are what others refer to; a label stands for its footnote.
@@ -187,16 +187,12 @@ fn turns(
 fn take_turns(
     alloc: Global,
     work: &mut Work,
-    linked: &[Linked<'_>],
     turns: &[(usize, usize)],
     changes: &mut Vec<Change>,
 ) -> Result<(), TreeFault> {
     for (report, place) in turns {
-        if *place < linked.len() && *place < changes.len() {
-            let element = linked[*place].element;
-            let source = text_said(element, Key::Rawsource).unwrap_or("");
-            let node = work.problematic(alloc, *report, source, line_of(element))?;
-            changes[*place] = Change::Becomes(node);
+        if *place < changes.len() {
+            changes[*place] = Change::Fails(work.problematic_attrs(alloc, *report)?);
         }
     }
     Ok(())
@@ -220,7 +216,7 @@ pub(crate) fn settled(
         around.as_slice(),
     )?;
     let mut changes = before_turns(alloc, outcomes)?;
-    take_turns(alloc, work, linked, turns.as_slice(), &mut changes)?;
+    take_turns(alloc, work, turns.as_slice(), &mut changes)?;
     let left = met(alloc, changes, around)?;
     Ok(Changes { left })
 }
@@ -293,7 +289,7 @@ impl Changes {
 fn is_idle(change: &Change) -> bool {
     match change {
         Change::Stays(addition) => addition.attr.is_none() && addition.shown.is_none(),
-        Change::Becomes(_) => false,
+        Change::Fails(_) => false,
     }
 }
 
@@ -344,7 +340,12 @@ impl Rewriter for Changes {
                     add(attrs, addition.attr)?;
                     return show(alloc, children, addition.shown);
                 }
-                Some(Change::Becomes(node)) => *element = node,
+                Some(Change::Fails(of_problematic)) => {
+                    let source = take_source(alloc, attrs)?;
+                    *tag = Tag::Problematic;
+                    *attrs = of_problematic;
+                    *children = Children::lone(alloc, Node::Text(source))?;
+                }
             }
         }
         Ok(false)

@@ -4,6 +4,7 @@ use crate::footnotes::{found_by_order, mark_of, spelled_number};
 use crate::holders::{Holders, lead_by_name, text_attr};
 use crate::links::{Addition, Changes, Linked, Outcome, linked_in, put_back, settled, take_root};
 use crate::reading::{first_said, has, is_a, line_of, text_said};
+use crate::texts::said_of;
 use crate::work::Work;
 use rst_names::{Holder, Names};
 use rst_tree::{Attr, Key, Level, Node, Tag, Text, Texts, TreeFault, Value};
@@ -117,7 +118,10 @@ fn label_of(alloc: Global, note: &Node) -> Result<Option<Text>, TreeFault> {
 
 /// The places of the footnotes that were numbered and not named, by their numbers.
 fn numbers(alloc: Global, linked: &[Linked<'_>]) -> Result<Vec<Option<usize>>, TreeFault> {
-    let mut numbers: Vec<Option<usize>> = Vec::new(alloc);
+    let mut numbers: Vec<Option<usize>> = Vec::with_capacity(
+        alloc,
+        linked.len().saturating_add(1),
+    )?;
     numbers.push(None)?;
     for _ in linked {
         numbers.push(None)?;
@@ -258,8 +262,7 @@ fn outcome(
     one: Linked<'_>,
     meaning: Meaning,
 ) -> Result<Outcome, TreeFault> {
-    let name = text_said(one.element, Key::Refname).unwrap_or("");
-    let text = match meaning {
+    let before = match meaning {
         Meaning::Leads { attr, note } => {
             let shown = match note {
                 Some(place) if is_note_reference(one.element) && has(one.element, Key::Auto) => {
@@ -275,12 +278,11 @@ fn outcome(
                 shown,
             }));
         }
-        Meaning::Unknown => format!(in alloc; "Unknown target name: \"{}\".", name)?,
-        Meaning::Duplicate => format!(in alloc;
-            "Duplicate target name, cannot be used as a unique reference: \"{}\".",
-            name
-        )?,
+        Meaning::Unknown => "Unknown target name: \"",
+        Meaning::Duplicate => "Duplicate target name, cannot be used as a unique reference: \"",
     };
+    let name = text_said(one.element, Key::Refname).unwrap_or("");
+    let text = said_of(alloc, before, name, "\".")?;
     let report = work.report(alloc, Level::Error, line_of(one.element), text, true)?;
     Ok(Outcome::Fails(report))
 }
@@ -292,6 +294,9 @@ fn with_backrefs(
     notes: &[Option<usize>],
     mut outcomes: Vec<Outcome>,
 ) -> Result<Vec<Outcome>, TreeFault> {
+    if notes.iter().all(|note| note.is_none()) {
+        return Ok(outcomes);
+    }
     let mut backrefs = Vec::with_capacity(alloc, linked.len())?;
     for _ in linked {
         backrefs.push(Texts::new(alloc))?;

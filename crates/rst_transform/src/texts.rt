@@ -1,8 +1,11 @@
 //! What several transforms ask of attributes, names and nodes.
+ghost use Rattle.std.specs.Prelude.{◌≡◌, ◌++◌, string_bytes};
+ghost use Rattle.rst_tree.specs.Faults.{Gives};
+ghost use Rattle.rst_transform.specs.Reading.{source_said};
 
 use crate::lists::append_names;
 use rst_text::{id_of, name_of};
-use rst_tree::{Attrs, Children, Node, TreeFault};
+use rst_tree::{Attrs, Children, Key, Node, Text, TreeFault, Value};
 use std::alloc::Global;
 
 /// The name that a text gives, by `name_of`.
@@ -38,4 +41,34 @@ pub(crate) fn add_names(alloc: Global, node: &mut Node, from: &Attrs) -> Result<
         Node::Element { attrs, .. } => append_names(alloc, attrs, from),
         Node::Text(_) => Ok(()),
     }
+}
+
+/// The source text of a reference, taken out of its attributes; the empty text where they tell none.
+pub(crate) fn take_source(alloc: Global, attrs: &mut Attrs) -> Result<Text, TreeFault>
+    ensures { Gives (λ source. source ≡ source_said attrs.old) result }
+{
+    match attrs.remove(Key::Rawsource) {
+        Some(Value::Text(source)) => Ok(source),
+        _ => Text::from_str(alloc, ""),
+    }
+}
+
+/// A name with what is said of it before and behind, in room for that alone.
+pub(crate) fn said_of(
+    alloc: Global,
+    before: &str,
+    name: &str,
+    behind: &str,
+) -> Result<String, TreeFault>
+    ensures { Gives (λ text. string_bytes text ≡ before.now ++ (name.now ++ behind.now)) result }
+{
+    let room = before
+        .len()
+        .saturating_add(name.len())
+        .saturating_add(behind.len());
+    let mut text = String::with_capacity(alloc, room)?;
+    text.push_str(before)?;
+    text.push_str(name)?;
+    text.push_str(behind)?;
+    Ok(text)
 }

@@ -1,11 +1,12 @@
 //! The document between two transforms.
 ghost use Rattle.std.specs.Prelude.{◌≡◌, ◌+◌, ◌∷◌, [], vec_len};
 ghost use Rattle.rst_tree.specs.Faults.{Gives};
-ghost use Rattle.rst_transform.specs.Reports.{with_references, report_node};
+ghost use Rattle.rst_transform.specs.Reports.{with_references, report_node, without_ids};
 
 use rst_names::{Ids, Names};
 use rst_tree::{Attrs, Children, Key, Level, Node, Note, Tag, Text, Texts, TreeFault, Value};
 use std::alloc::Global;
+use std::mem;
 
 /// A message of a transform.
 #[derive(Debug, Drop)]
@@ -23,9 +24,10 @@ pub struct Report {
 }
 
 impl Report {
-    /// The message as a `system_message`.
-    pub fn node(&self, alloc: Global) -> Result<Node, TreeFault>
-        ensures { Gives (λ node. node ≡ report_node self.now) result }
+    /// The message as a `system_message`, to which its id and those of its problematics move.
+    pub fn node(&mut self, alloc: Global) -> Result<Node, TreeFault>
+        ensures node { Gives (λ node. node ≡ report_node self.old) result }
+        ensures left { Gives (λ _. self.new ≡ without_ids self.old) result }
     {
         let block = match &self.note.block {
             Some(block) => Some(block.copy()?),
@@ -44,7 +46,7 @@ impl Report {
                 children,
                 line,
             } => {
-                self.add_references(alloc, &mut attrs)?;
+                self.hand_references(alloc, &mut attrs)?;
                 Ok(Node::Element {
                     tag,
                     attrs,
@@ -57,21 +59,23 @@ impl Report {
     }
 
     /// Lets the attributes of the message tell its number, its id and those of its problematics.
-    fn add_references(&self, alloc: Global, attrs: &mut Attrs) -> Result<(), TreeFault>
-        ensures { Gives (λ _. attrs.new ≡ with_references self.now attrs.old) result }
+    fn hand_references(&mut self, alloc: Global, attrs: &mut Attrs) -> Result<(), TreeFault>
+        ensures attrs { Gives (λ _. attrs.new ≡ with_references self.old attrs.old) result }
+        ensures left { Gives (λ _. self.new ≡ without_ids self.old) result }
     {
+        let backrefs = mem::replace(&mut self.backrefs, Texts::new(alloc));
         attrs.reserve(3)?;
         attrs.set(Key::Message, Value::Number(self.number))?;
-        attrs.set(Key::Backrefs, Value::List(self.backrefs.copy(alloc)?))?;
-        if let Some(id) = &self.id {
-            attrs.set(Key::Ids, Value::List(lone(alloc, id)?))?;
+        attrs.set(Key::Backrefs, Value::List(backrefs))?;
+        if let Some(id) = mem::replace(&mut self.id, None) {
+            attrs.set(Key::Ids, Value::List(Texts::lone(alloc, id)?))?;
         }
         Ok(())
     }
 
     /// Adds a problematic by its id, and gives the message's own, which it gets with the first.
-    fn refer_back(&mut self, alloc: Global, ids: &mut Ids, id: &Text) -> Result<Text, TreeFault> {
-        self.backrefs.push(id.copy()?)?;
+    fn refer_back(&mut self, alloc: Global, ids: &mut Ids, id: Text) -> Result<Text, TreeFault> {
+        self.backrefs.push(id)?;
         if let Some(own) = &self.id {
             return own.copy();
         }
@@ -79,13 +83,6 @@ impl Report {
         self.id = Some(own.copy()?);
         Ok(own)
     }
-}
-
-/// A list with one text.
-fn lone(alloc: Global, text: &Text) -> Result<Texts, TreeFault>
-    ensures { Gives (λ texts. texts ≡ text.now ∷ []) result }
-{
-    Texts::lone(alloc, text.copy()?)
 }
 
 /// The document between two transforms, with what registration left, and the messages of the transforms so far.
@@ -158,35 +155,42 @@ impl Work {
     ) -> Result<Node, TreeFault>
         ensures { Gives (λ _. vec_len self.new.reports ≡ vec_len self.old.reports + 1) result }
     {
-        let report = self.next_report(alloc, level, line, text, false);
+        let mut report = self.next_report(alloc, level, line, text, false);
         let node = report.node(alloc)?;
         self.reports.push(report)?;
         Ok(node)
     }
 
     /// The problematic with the source text of a reference that is at fault, as the message at a place among the reports
-    /// tells. It gets its id before the message gets one. A place behind the last report gives a problematic without message.
+    /// tells.
     pub fn problematic(
         &mut self,
         alloc: Global,
         report: usize,
-        source: &str,
+        source: Text,
         line: usize,
     ) -> Result<Node, TreeFault> {
+        Ok(Node::Element {
+            tag: Tag::Problematic,
+            attrs: self.problematic_attrs(alloc, report)?,
+            children: Children::lone(alloc, Node::Text(source))?,
+            line,
+        })
+    }
+
+    /// The attributes of the next problematic, as the message at a place among the reports tells. It gets its id before the
+    /// message gets one. A place behind the last report gives a problematic without message.
+    pub fn problematic_attrs(&mut self, alloc: Global, report: usize) -> Result<Attrs, TreeFault> {
         let id = self.ids.give(alloc, Tag::Problematic, "")?;
+        let back = id.copy()?;
         let mut attrs = Attrs::with_room(alloc, 3)?;
-        attrs.set(Key::Ids, Value::List(lone(alloc, &id)?))?;
+        attrs.set(Key::Ids, Value::List(Texts::lone(alloc, id)?))?;
         if report < self.reports.len() {
             let report = &mut self.reports[report];
-            let refid = report.refer_back(alloc, &mut self.ids, &id)?;
+            let refid = report.refer_back(alloc, &mut self.ids, back)?;
             attrs.set(Key::Message, Value::Number(report.number))?;
             attrs.set(Key::Refid, Value::Text(refid))?;
         }
-        Ok(Node::Element {
-            tag: Tag::Problematic,
-            attrs,
-            children: Children::lone(alloc, Node::text(alloc, source)?)?,
-            line,
-        })
+        Ok(attrs)
     }
 }
