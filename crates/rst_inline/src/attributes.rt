@@ -13,14 +13,6 @@ pub(crate) fn attr(key: Key, value: Value) -> Attr
     Attr { key, value }
 }
 
-pub(crate) fn one(alloc: Global, first: Attr) -> Result<Vec<Attr>, InlineFault>
-    ensures { Gives (λ list. list.items ≡ first ∷ []) result }
-{
-    let mut list = Vec::with_capacity(alloc, 1)?;
-    list.push(first)?;
-    Ok(list)
-}
-
 pub(crate) fn two(alloc: Global, first: Attr, second: Attr) -> Result<Vec<Attr>, InlineFault>
     ensures { Gives (λ list. list.items ≡ first ∷ second ∷ []) result }
 {

@@ -5,7 +5,7 @@ ghost use Rattle.rst_tree.specs.declared.node.Node.TheVariants.{Element};
 ghost use Rattle.rst_inline.specs.Elements.{text_nodes, element_of, target_node, uri_target_node, problematic_node};
 ghost use Rattle.rst_inline.specs.Faults.{Gives};
 
-use super::attributes::{attr, one, three, two};
+use super::attributes::{attr, three, two};
 use super::fault::InlineFault;
 use super::texts::{name_said, said, spelled};
 use rst_tree::{Attr, Attrs, Children, Key, Node, Tag, Value};
@@ -108,6 +108,8 @@ pub(crate) fn problematic(
 ) -> Result<Node, InlineFault>
     ensures { Gives (λ node. node ≡ problematic_node place source.now line) result }
 {
-    let attrs = one(alloc, attr(Key::Message, Value::Number(place as u64)))?;
+    // Registration adds three: its number, its id and the id of its message.
+    let mut attrs = Vec::with_capacity(alloc, 4)?;
+    attrs.push(attr(Key::Message, Value::Number(place as u64)))?;
     element(alloc, Tag::Problematic, attrs, source, line)
 }

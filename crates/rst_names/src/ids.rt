@@ -139,11 +139,11 @@ fn free(
     for _ in 0..hindering.len() {
         let id = numbered(alloc, base, number)?;
         if !hindering.contains(id.as_str()) {
-            return Ok((number, Text::new(id)));
+            return Ok((number, id));
         }
         number = number.saturating_add(1);
     }
-    Ok((number, Text::new(numbered(alloc, base, number)?)))
+    Ok((number, numbered(alloc, base, number)?))
 }
 
 /// The text and the number of an id that is like those that are made of a text, a hyphen and a number: without a 0 in front.
@@ -172,15 +172,10 @@ fn id_text(alloc: Global, name: &str) -> Result<String, TreeFault> {
 }
 
 /// A text, a hyphen and a number.
-fn numbered(alloc: Global, base: &str, number: u64) -> Result<String, TreeFault> {
+fn numbered(alloc: Global, base: &str, number: u64) -> Result<Text, TreeFault> {
     let mut buffer = itoa::Buffer::new();
-    let digits = buffer.format(number);
-    let mut id = String::with_capacity(
-        alloc,
-        base.len().saturating_add(digits.len()).saturating_add(1),
-    )?;
-    id.push_str(base)?;
-    id.push('-')?;
-    id.push_str(digits)?;
+    let mut id = Text::from_str(alloc, base)?;
+    id.push_str("-")?;
+    id.push_str(buffer.format(number))?;
     Ok(id)
 }
