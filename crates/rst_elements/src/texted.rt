@@ -94,35 +94,22 @@ fn numbered(alloc: Global, pieces: Pieces, numbers: &mut Numbers) -> Result<Read
 {
     let Pieces { nodes, notes } = pieces;
     let first = numbers.take(notes.len());
-    let nodes = numbered_on(alloc, nodes, first)?;
+    let nodes = numbered_on(nodes, first)?;
     let notes = messages_of(alloc, notes, first)?;
     Ok(Reading { nodes, notes })
 }
 
 /// The nodes with the numbers of their messages counted on from the first.
 #[tactic(auto, using(crate::proofs::MessageLemmas::numbered_on_none))]
-fn numbered_on(alloc: Global, nodes: Vec<Node>, first: u64) -> Result<Vec<Node>, TreeFault>
+fn numbered_on(mut nodes: Vec<Node>, first: u64) -> Result<Vec<Node>, TreeFault>
     ensures { Gives (λ numbered. numbered.items ≡ map (numbered_on first) nodes.items) result }
 {
-    // Most texts have no message, and then no node moves.
-    if !are_numbered(nodes.as_slice()) {
-        return Ok(nodes);
-    }
-    let mut numbered = Vec::with_capacity(alloc, nodes.len())?;
-    for node in nodes {
-        match message_of(&node) {
-            Some(number) => numbered.push(with_message(node, first.saturating_add(number))?)?,
-            None => numbered.push(node)?,
+    for i in 0..nodes.len() {
+        if let Some(number) = message_of(&nodes[i]) {
+            set_message(&mut nodes[i], first.saturating_add(number))?;
         }
     }
-    Ok(numbered)
-}
-
-/// Whether one of some nodes is a problematic of a message.
-fn are_numbered(nodes: &[Node]) -> bool
-    ensures { result ≡ are_numbered nodes.now }
-{
-    nodes.iter().any(|node| message_of(node).is_some())
+    Ok(nodes)
 }
 
 /// The number of the message that a node is a problematic of.
@@ -135,14 +122,14 @@ fn message_of(node: &Node) -> Option<u64>
     }
 }
 
-/// The element with the number of a message; a text stays as it is.
-fn with_message(mut node: Node, number: u64) -> Result<Node, TreeFault>
-    ensures { Gives (λ numbered. numbered ≡ with_message number node) result }
+/// Gives an element the number of a message; a text stays as it is.
+fn set_message(node: &mut Node, number: u64) -> Result<(), TreeFault>
+    ensures { Gives (λ _. node.new ≡ with_message number node.old) result }
 {
-    if let Node::Element { attrs, .. } = &mut node {
-        attrs.set(Key::Message, Value::Number(number))?;
+    match node {
+        Node::Element { attrs, .. } => attrs.set(Key::Message, Value::Number(number)),
+        Node::Text(_) => Ok(()),
     }
-    Ok(node)
 }
 
 /// The messages as nodes, numbered on from the first.
@@ -153,8 +140,9 @@ fn messages_of(alloc: Global, notes: Vec<Note>, first: u64) -> Result<Vec<Node>,
     let mut messages = Vec::with_capacity(alloc, notes.len())?;
     let mut number = first;
     for note in notes {
-        let node = note.into_node(alloc)?;
-        messages.push(with_message(node, number)?)?;
+        let mut node = note.into_node(alloc)?;
+        set_message(&mut node, number)?;
+        messages.push(node)?;
         number = number.saturating_add(1);
     }
     Ok(messages)

@@ -108,8 +108,8 @@ pub(crate) fn problematic(
 ) -> Result<Node, InlineFault>
     ensures { Gives (λ node. node ≡ problematic_node place source.now line) result }
 {
-    // Registration adds three: its number, its id and the id of its message.
-    let mut attrs = Vec::with_capacity(alloc, 4)?;
+    // Registration adds two: its id and the id of its message.
+    let mut attrs = Vec::with_capacity(alloc, 3)?;
     attrs.push(attr(Key::Message, Value::Number(place as u64)))?;
     element(alloc, Tag::Problematic, attrs, source, line)
 }

@@ -1,9 +1,9 @@
 //! Messages and their problematics.
 
 use super::registrants::number_at;
-use super::registry::Standing;
+use super::registry::{Link, Standing};
 use rst_marked::Element;
-use rst_tree::{Attr, Key, Tag, Text, Texts, TreeFault, Value};
+use rst_tree::{Key, Tag, Text, Texts, TreeFault};
 use std::alloc::Global;
 
 /// Links the messages among registered elements to their problematics, and these to them, by the messages' numbers, of which
@@ -68,10 +68,7 @@ fn join(
         return Ok(());
     };
     if problematic < standings.len() {
-        standings[problematic].link = Some(Attr {
-            key: Key::Refid,
-            value: Value::Text(refid),
-        });
+        standings[problematic].link = Link::Message(refid);
     }
     if message < standings.len() {
         return add_backref(alloc, &mut standings[message], backref);
@@ -92,18 +89,9 @@ fn id_at(standings: &[Standing], serial: usize) -> Result<Option<Text>, TreeFaul
 
 /// Adds the id of a problematic to those that a message has.
 fn add_backref(alloc: Global, message: &mut Standing, id: Text) -> Result<(), TreeFault> {
-    if let Some(
-        Attr {
-            value: Value::List(ids),
-            ..
-        },
-    ) = &mut message.link
-    {
+    if let Link::Problematics(ids) = &mut message.link {
         return ids.push(id);
     }
-    message.link = Some(Attr {
-        key: Key::Backrefs,
-        value: Value::List(Texts::lone(alloc, id)?),
-    });
+    message.link = Link::Problematics(Texts::lone(alloc, id));
     Ok(())
 }

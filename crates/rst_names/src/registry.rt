@@ -7,31 +7,42 @@ use super::placing::Notices;
 use super::registrants::{own_name, text_at};
 use super::rulings::{Now, Ruling, ruling_for};
 use rst_marked::Element;
-use rst_tree::{Attr, Key, Node, Tag, Text, TreeFault};
+use rst_tree::{Key, Node, Tag, Text, Texts, TreeFault};
 use std::alloc::Global;
 use std::collections::BTreeMap;
 
 /// What registration gave an element.
 #[derive(Drop)]
 pub struct Standing {
-    /// Its number.
-    pub serial: u64,
+    /// Its number, if elements of its kind have names.
+    pub serial: Option<u64>,
     /// Its id; a substitution definition has none.
     pub id: Option<Text>,
     /// Whether its name is a duplicate one.
     pub lost: bool,
-    /// At a message the ids of its problematics, at a problematic the id of its message.
-    pub link: Option<Attr>,
+    /// How it and a message belong together.
+    pub link: Link,
+}
+
+/// What a message and its problematics say of one another.
+#[derive(Drop)]
+pub enum Link {
+    /// The element is neither, or has none.
+    Nothing,
+    /// The message has problematics with these ids.
+    Problematics(Texts),
+    /// The problematic is of the message with this id.
+    Message(Text),
 }
 
 impl Standing {
-    /// What an element gets with its number, and its id if it has one.
-    fn new(serial: u64, id: Option<Text>, lost: bool) -> Standing {
+    /// What an element gets with its number and its id, if it has them.
+    fn new(serial: Option<u64>, id: Option<Text>, lost: bool) -> Standing {
         Standing {
             serial,
             id,
             lost,
-            link: None,
+            link: Link::Nothing,
         }
     }
 }
@@ -89,7 +100,7 @@ impl Registry {
         earlier: &[Element<'_>],
         new: Element<'_>,
     ) -> Result<Standing, TreeFault> {
-        let serial = self.serial();
+        let serial = said_serial(new.tag, self.serial());
         let name = own_name(new);
         let id = self.ids.give(alloc, new.tag, name)?;
         if name.is_empty() {
@@ -176,7 +187,16 @@ impl Registry {
             self.lose(Holder::Element(old as u64));
             self.notice(duplicate_definition(alloc, new)?)?;
         }
-        Ok(Standing::new(self.serial(), None, false))
+        Ok(Standing::new(Some(self.serial()), None, false))
+    }
+}
+
+/// The number of an element, if those of its kind have names: by it a name's holder is found.
+fn said_serial(tag: Tag, serial: u64) -> Option<u64> {
+    if matches!(tag, Tag::Problematic | Tag::SystemMessage) {
+        None
+    } else {
+        Some(serial)
     }
 }
 

@@ -3,21 +3,31 @@ ghost use Rattle.std.specs.Prelude.{◌≡◌};
 ghost use Rattle.rst_tree.specs.Faults.{Gives};
 ghost use Rattle.rst_tree.specs.declared.key.Key.TheVariants.{OwnName};
 ghost use Rattle.rst_names.specs.Gathered.{text_at};
-ghost use Rattle.rst_names.specs.Written.{with_id, with_name, with_link, with_standing, left_standings, with_first};
+ghost use Rattle.rst_names.specs.Written.{with_serial, with_id, with_name, with_link, with_standing, left_standings, with_first};
 
 use super::registrants::text_at;
-use super::registry::Standing;
-use rst_tree::{Attr, Attrs, Key, Tag, Text, Texts, TreeFault, Value, Visitor};
+use super::registry::{Link, Standing};
+use rst_tree::{Attrs, Key, Tag, Text, Texts, TreeFault, Value, Visitor};
 use std::alloc::Global;
 use std::collections::VecDeque;
 use std::marker::Model;
+
+/// Lets attributes tell an element's number, if it has one.
+fn write_serial(attrs: &mut Attrs, serial: Option<u64>) -> Result<(), TreeFault>
+    ensures { Gives (λ _. attrs.new ≡ with_serial serial attrs.old) result }
+{
+    match serial {
+        Some(serial) => attrs.set(Key::Serial, Value::Number(serial)),
+        None => Ok(()),
+    }
+}
 
 /// Lets attributes tell an element's id, if it has one.
 fn write_id(alloc: Global, attrs: &mut Attrs, id: Option<Text>) -> Result<(), TreeFault>
     ensures { Gives (λ _. attrs.new ≡ with_id id attrs.old) result }
 {
     match id {
-        Some(id) => attrs.set(Key::Ids, Value::List(Texts::lone(alloc, id)?)),
+        Some(id) => attrs.set(Key::Ids, Value::List(Texts::lone(alloc, id))),
         None => Ok(()),
     }
 }
@@ -34,19 +44,20 @@ fn write_name(
     match name {
         Some(name) if !name.as_bytes().is_empty() => {
             let key = if lost { Key::Dupnames } else { Key::Names };
-            attrs.set(key, Value::List(Texts::lone(alloc, name)?))
+            attrs.set(key, Value::List(Texts::lone(alloc, name)))
         }
         _ => Ok(()),
     }
 }
 
 /// Lets attributes tell the link of a message or a problematic.
-fn write_link(attrs: &mut Attrs, link: Option<Attr>) -> Result<(), TreeFault>
+fn write_link(attrs: &mut Attrs, link: Link) -> Result<(), TreeFault>
     ensures { Gives (λ _. attrs.new ≡ with_link link attrs.old) result }
 {
     match link {
-        Some(link) => attrs.set(link.key, link.value),
-        None => Ok(()),
+        Link::Nothing => Ok(()),
+        Link::Problematics(ids) => attrs.set(Key::Backrefs, Value::List(ids)),
+        Link::Message(id) => attrs.set(Key::Refid, Value::Text(id)),
     }
 }
 
@@ -63,11 +74,12 @@ fn copied_name(attrs: &Attrs) -> Result<Option<Text>, TreeFault>
 /// How many attributes tell what an element got that has a name or none.
 fn count_of(standing: &Standing, name: &Option<Text>) -> usize {
     let parts = [
+        standing.serial.is_some(),
         standing.id.is_some(),
         name.is_some(),
-        standing.link.is_some(),
+        !matches!(standing.link, Link::Nothing),
     ];
-    1 + parts.iter().filter(|part| **part).count()
+    parts.iter().filter(|part| **part).count()
 }
 
 /// Lets the attributes of an element tell what registration gave it.
@@ -82,7 +94,7 @@ fn write(alloc: Global, attrs: &mut Attrs, standing: Standing) -> Result<(), Tre
         lost,
         link,
     } = standing;
-    attrs.set(Key::Serial, Value::Number(serial))?;
+    write_serial(attrs, serial)?;
     write_link(attrs, link)?;
     write_name(alloc, attrs, lost, name)?;
     write_id(alloc, attrs, id)

@@ -12,8 +12,8 @@ use std::alloc::Global;
 use std::mem;
 
 /// Takes the messages below the report level out of a document, lets each problematic whose message is gone become its text, and
-/// takes off the attributes that serve the transforms alone (Configuration, `report_level`). `shown` are the numbers of the
-/// messages that stay, in rising order.
+/// takes off the attributes that serve the transforms alone (Configuration, `report_level`). `shown` tells of the
+/// number of each message whether that stays.
 ///
 /// Before, where WARNINGs aren't shown:
 ///
@@ -32,7 +32,7 @@ pub(crate) fn filter(
     alloc: Global,
     root: Node,
     report: Threshold,
-    shown: &[u64],
+    shown: &[bool],
 ) -> Result<Node, TreeFault>
     ensures { Gives (λ node. is_shown_in report node ≡ true) result }
 {
@@ -65,13 +65,13 @@ enum Fate {
 }
 
 /// What becomes of an element of a kind with these attributes.
-fn fate_of(tag: Tag, attrs: &Attrs, report: Threshold, shown: &[u64]) -> Fate
+fn fate_of(tag: Tag, attrs: &Attrs, report: Threshold, shown: &[bool]) -> Fate
     ensures { is_gone result ≡ is_below report tag attrs.now }
 {
     match tag {
         Tag::SystemMessage if !reaches(level_number(attrs), report) => Fate::Vanishes,
         Tag::Problematic => match number(attrs, Key::Message) {
-            Some(message) if shown.binary_search(&message).is_ok() => Fate::Stays,
+            Some(message) if matches!(shown.get(message as usize), Some(true)) => Fate::Stays,
             _ => Fate::BecomesText,
         },
         _ => Fate::Stays,
@@ -79,7 +79,7 @@ fn fate_of(tag: Tag, attrs: &Attrs, report: Threshold, shown: &[u64]) -> Fate
 }
 
 /// Whether a node stays.
-fn stays(node: &Node, report: Threshold, shown: &[u64]) -> bool
+fn stays(node: &Node, report: Threshold, shown: &[bool]) -> bool
     ensures { IsTrue result → may_stay report node.now ≡ true }
 {
     match node {
@@ -92,7 +92,7 @@ fn stays(node: &Node, report: Threshold, shown: &[u64]) -> bool
 }
 
 /// Whether all nodes stay.
-fn all_stay(nodes: &[Node], report: Threshold, shown: &[u64]) -> bool
+fn all_stay(nodes: &[Node], report: Threshold, shown: &[bool]) -> bool
     ensures { IsTrue result → list_all (may_stay report) nodes.now ≡ true }
 {
     for node in nodes {
@@ -108,7 +108,7 @@ fn filter_in(
     alloc: Global,
     nodes: &mut Children,
     report: Threshold,
-    shown: &[u64],
+    shown: &[bool],
 ) -> Result<(), TreeFault>
     ensures { Gives (λ _. are_shown report nodes.new ≡ true) result }
 {
@@ -138,7 +138,7 @@ fn filtered(
     alloc: Global,
     nodes: Children,
     report: Threshold,
-    shown: &[u64],
+    shown: &[bool],
 ) -> Result<Children, TreeFault>
     ensures { Gives (λ nodes. are_shown report nodes ≡ true) result }
 {

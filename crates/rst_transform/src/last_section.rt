@@ -39,7 +39,7 @@ fn is_shown(report: &Report, threshold: Threshold) -> bool
 
 /// The section with the messages that stand in it.
 fn section(alloc: Global, reports: &mut [Report]) -> Result<Node, TreeFault> {
-    let classes = Texts::lone(alloc, Text::from_str(alloc, "system-messages")?)?;
+    let classes = Texts::lone(alloc, Text::from_str(alloc, "system-messages")?);
     let mut children = Children::with_room(alloc, reports.len().saturating_add(1))?;
     children.push(heading(alloc)?)?;
     for report in reports.iter_mut() {

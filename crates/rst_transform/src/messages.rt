@@ -38,8 +38,8 @@ pub(crate) struct Messages {
     halted: bool,
     /// From which level on a message is shown.
     report: Threshold,
-    /// The numbers of the messages that are shown, as far as they have one.
-    shown: Vec<u64>,
+    /// Whether the message of each number is shown.
+    shown: Vec<bool>,
     pub ghost halted_is: { halted ≡ has_halt halt notes.items },
     pub ghost ends: { EndsAtHalt halt notes.items },
 }
@@ -58,6 +58,17 @@ impl Messages {
         }
     }
 
+    /// Tells that the message of a number is shown.
+    fn show(&mut self, number: usize) -> Result<(), TreeFault>
+        ensures { self.new.halt ≡ self.old.halt }
+    {
+        while self.shown.len() <= number {
+            self.shown.push(false)?;
+        }
+        self.shown[number] = true;
+        Ok(())
+    }
+
     /// Adds a message with a number, if it has one: to the list only if no earlier one halts the run.
     fn push(&mut self, note: Note, number: Option<u64>) -> Result<(), TreeFault>
         ensures { self.new.halt ≡ self.old.halt }
@@ -65,7 +76,7 @@ impl Messages {
         let level = note.level.number();
         if self.report.is_reached(level) {
             if let Some(number) = number {
-                self.shown.push(number)?;
+                self.show(number as usize)?;
             }
         }
         if self.halted {
@@ -98,14 +109,12 @@ impl Messages {
         for report in reports {
             self.push(report.note, Some(report.number))?;
         }
-        // They mostly rise as they are added.
-        self.shown.sort()?;
         Ok(())
     }
 
-    /// The numbers of the messages that are shown, in rising order once all messages were added. No transform takes a message
-    /// out of a document, so these stand in it.
-    pub(crate) fn shown(&self) -> &[u64] {
+    /// Whether the message of each number is shown, once all messages were added. No transform takes a message out of a
+    /// document, so those that are stand in it.
+    pub(crate) fn shown(&self) -> &[bool] {
         self.shown.as_slice()
     }
 

@@ -68,7 +68,7 @@ impl Report {
         attrs.set(Key::Message, Value::Number(self.number))?;
         attrs.set(Key::Backrefs, Value::List(backrefs))?;
         if let Some(id) = mem::replace(&mut self.id, None) {
-            attrs.set(Key::Ids, Value::List(Texts::lone(alloc, id)?))?;
+            attrs.set(Key::Ids, Value::List(Texts::lone(alloc, id)))?;
         }
         Ok(())
     }
@@ -184,7 +184,7 @@ impl Work {
         let id = self.ids.give(alloc, Tag::Problematic, "")?;
         let back = id.copy()?;
         let mut attrs = Attrs::with_room(alloc, 3)?;
-        attrs.set(Key::Ids, Value::List(Texts::lone(alloc, id)?))?;
+        attrs.set(Key::Ids, Value::List(Texts::lone(alloc, id)))?;
         if report < self.reports.len() {
             let report = &mut self.reports[report];
             let refid = report.refer_back(alloc, &mut self.ids, back)?;

@@ -2,6 +2,7 @@
 #![tactic(auto)]
 
 mod attrs;
+mod brief;
 mod fault;
 mod key;
 pub mod laws;

@@ -30,13 +30,13 @@ impl Note {
     }
 }
 
-/// The level, the line and the level's name, in a list with room for four more: the number of the message, the number that
-/// registration gives, its id and the ids of its problematics.
+/// The level, the line and the level's name, in a list with room for three more: the number of the message, its id and the
+/// ids of its problematics.
 fn note_attrs(alloc: Global, level: Level, line: usize) -> Result<Attrs, TreeFault>
     ensures { Gives (λ attrs. attrs ≡ note_attrs level line) result }
 {
     let name = Text::from_str(alloc, level.name())?;
-    let mut attrs = Vec::with_capacity(alloc, 7)?;
+    let mut attrs = Vec::with_capacity(alloc, 6)?;
     attrs.push(Attr {
         key: Key::Level,
         value: Value::Number(u64::from(level.number())),

@@ -10,7 +10,7 @@ ghost use Rattle.std.specs.Fmt.{decimal};
 use crate::attrs::{Attr, Value};
 use crate::node::Node;
 use crate::note::Note;
-use crate::page::{Page, put};
+use crate::page::{Page, put, put_byte};
 use crate::tag::Tag;
 use crate::text::Text;
 use itoa::Buffer;
@@ -34,7 +34,7 @@ fn put_escaped_byte<W: Write, const N: usize>(out: &mut Counted<W>, page: &mut P
     match byte {
         b'\\' => put(out, page, b"\\\\"),
         b' ' => put(out, page, b"\\ "),
-        _ => put(out, page, &[byte]),
+        _ => put_byte(out, page, byte),
     }
 }
 
@@ -69,7 +69,7 @@ fn put_escaped<W: Write, const N: usize>(out: &mut Counted<W>, page: &mut Page<N
 fn put_next_text<W: Write, const N: usize>(out: &mut Counted<W>, page: &mut Page<N>, text: &Text)
     ensures { Sends W.contents (32 ∷ escaped text.now) out.old page.old out.new page.new }
 {
-    put(out, page, b" ");
+    put_byte(out, page, b' ');
     put_escaped(out, page, text.as_bytes());
 }
 
@@ -105,7 +105,7 @@ fn put_attr<W: Write, const N: usize>(out: &mut Counted<W>, page: &mut Page<N>, 
     }
     put(out, page, attr.key.opening().as_bytes());
     put_value(out, page, &attr.value);
-    put(out, page, b"\"");
+    put_byte(out, page, b'"');
 }
 
 /// Writes an element's tag with its attributes, and the line's end.
@@ -117,7 +117,7 @@ fn put_tag_line<W: Write, const N: usize>(
 )
     ensures { Sends W.contents (start_tag tag attrs.now ++ 10 ∷ []) out.old page.old out.new page.new }
 {
-    put(out, page, b"<");
+    put_byte(out, page, b'<');
     put(out, page, tag.name().as_bytes());
     put_attrs(out, page, attrs);
     put(out, page, b">\n");
@@ -161,7 +161,7 @@ fn put_line<W: Write, const N: usize>(
 {
     put_indent(out, page, level);
     put(out, page, line);
-    put(out, page, b"\n");
+    put_byte(out, page, b'\n');
 }
 
 /// How many bytes come before the first LF.
@@ -239,11 +239,11 @@ fn put_head<W: Write, const N: usize>(
     ensures { Sends W.contents (message_head source.now note.now) out.old page.old out.new page.new }
 {
     put(out, page, source.as_bytes());
-    put(out, page, b":");
+    put_byte(out, page, b':');
     put_number(out, page, note.line as u64);
     put(out, page, b": (");
     put(out, page, note.level.name().as_bytes());
-    put(out, page, b"/");
+    put_byte(out, page, b'/');
     put_number(out, page, u64::from(note.level.number()));
     put(out, page, b") ");
 }
@@ -257,9 +257,9 @@ fn put_block<W: Write, const N: usize>(
     ensures { Sends W.contents (block_text block.now) out.old page.old out.new page.new }
 {
     if let Some(text) = block {
-        put(out, page, b"\n");
+        put_byte(out, page, b'\n');
         put(out, page, text.as_bytes());
-        put(out, page, b"\n");
+        put_byte(out, page, b'\n');
     }
 }
 
@@ -274,6 +274,6 @@ pub fn put_message<W: Write, const N: usize>(
 {
     put_head(out, page, source, note);
     put(out, page, note.text.as_bytes());
-    put(out, page, b"\n");
+    put_byte(out, page, b'\n');
     put_block(out, page, &note.block);
 }

@@ -1,5 +1,5 @@
 //! What is written piece by piece to a writer that may fail, gathered in a page: after a failure nothing more is written.
-ghost use Rattle.std.specs.Prelude.{◌≡◌, [], false};
+ghost use Rattle.std.specs.Prelude.{◌≡◌, ◌∷◌, [], false};
 ghost use Rattle.rst_text.specs.Counted.{has_failed, between, Gains};
 ghost use Rattle.rst_tree.specs.Sends.{Sends, Turns, Takes};
 ghost use Rattle.rst_tree.specs.Faults.{IsEnd};
@@ -51,6 +51,19 @@ pub fn put<W: Write, const N: usize>(out: &mut Counted<W>, page: &mut Page<N>, b
     }
     if page.held.try_extend_from_slice(bytes).is_err() {
         put_over(out, page, bytes);
+    }
+}
+
+/// Gathers one byte, unless a write has failed.
+#[inline(always)]
+pub fn put_byte<W: Write, const N: usize>(out: &mut Counted<W>, page: &mut Page<N>, byte: u8)
+    ensures { Sends W.contents (byte ∷ []) out.old page.old out.new page.new }
+{
+    if out.failed() {
+        return;
+    }
+    if page.held.try_push(byte).is_err() {
+        put_over(out, page, &[byte]);
     }
 }
 

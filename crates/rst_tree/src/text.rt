@@ -2,10 +2,11 @@
 ghost use Rattle.std.specs.Prelude.{◌≡◌, ◌∷◌, ◌++◌, [], string_bytes};
 ghost use Rattle.rst_tree.specs.Faults.{Gives, Becomes};
 
+use crate::brief::Brief;
 use crate::fault::TreeFault;
-use arrayvec::ArrayString;
 use std::alloc::Global;
 use std::marker::Model;
+use std::{mem, slice};
 
 /// A text, which contracts see as the list of its bytes.
 #[derive(Debug, Drop)]
@@ -16,12 +17,9 @@ pub struct Text {
 /// What a text is made of. Most are short: those lie in the value itself, and take no memory.
 #[derive(Debug, Drop)]
 enum Held {
-    Short(Global, ArrayString<SHORT>),
+    Short(Global, Brief),
     Long(String),
 }
-
-/// How many bytes a short text has at most: ids, names and the texts of cells mostly have no more.
-const SHORT: usize = 24;
 
 impl Model for Text {
     ghost use Rattle.std.specs.Prelude.{ℕ, List};
@@ -38,21 +36,22 @@ impl Text {
     pub fn new(string: String) -> Text
         ensures { result ≡ string_bytes string }
     {
-        Text {
-            held: Held::Long(string),
-        }
+        let held = match Brief::of(string.as_str()) {
+            Some(short) => Held::Short(*string.allocator(), short),
+            None => Held::Long(string),
+        };
+        Text { held }
     }
 
     /// A text of its own.
     pub fn from_str(alloc: Global, text: &str) -> Result<Text, TreeFault>
         ensures { Gives (λ t. t ≡ text.now) result }
     {
-        match ArrayString::from(text) {
-            Ok(short) => Ok(Text {
-                held: Held::Short(alloc, short),
-            }),
-            Err(_) => Ok(Text::new(String::from_str(alloc, text)?)),
-        }
+        let held = match Brief::of(text) {
+            Some(short) => Held::Short(alloc, short),
+            None => Held::Long(String::from_str(alloc, text)?),
+        };
+        Ok(Text { held })
     }
 
     /// The text as a `str`.
@@ -78,7 +77,7 @@ impl Text {
     {
         match &self.held {
             Held::Short(alloc, short) => Ok(Text {
-                held: Held::Short(*alloc, *short),
+                held: Held::Short(*alloc, short.copy()),
             }),
             Held::Long(string) => Text::from_str(*string.allocator(), string.as_str()),
         }
@@ -90,11 +89,11 @@ impl Text {
     {
         match &mut self.held {
             Held::Short(alloc, front) => {
-                if front.try_push_str(text).is_err() {
-                    let mut string = String::from_str(*alloc, front.as_str())?;
-                    string.push_str(text)?;
-                    self.held = Held::Long(string);
-                }
+                let alloc = *alloc;
+                self.held = match front.with(text) {
+                    Some(short) => Held::Short(alloc, short),
+                    None => Held::Long(joined(alloc, front.as_str(), text)?),
+                };
             }
             Held::Long(string) => string.push_str(text)?,
         }
@@ -102,10 +101,26 @@ impl Text {
     }
 }
 
+/// Two texts, one behind the other.
+fn joined(alloc: Global, front: &str, text: &str) -> Result<String, TreeFault>
+    ensures { Gives (λ s. string_bytes s ≡ front.now ++ text.now) result }
+{
+    let mut string = String::from_str(alloc, front)?;
+    string.push_str(text)?;
+    Ok(string)
+}
+
 /// A list of texts, which contracts see as the list of their bytes.
 #[derive(Debug, Drop)]
 pub struct Texts {
-    list: Vec<Text>,
+    held: Several,
+}
+
+/// What a list of texts is made of. Most have one text, which lies in the value itself.
+#[derive(Debug, Drop)]
+enum Several {
+    Lone(Global, Text),
+    List(Vec<Text>),
 }
 
 impl Model for Texts {
@@ -113,7 +128,9 @@ impl Model for Texts {
 
     ghost Value = { List (List ℕ) };
 
-    ghost view = { λ t. t.list.items };
+    ghost use Rattle.rst_tree.specs.Texts.{several_texts};
+
+    ghost view = { λ t. several_texts t.held };
 }
 
 impl Texts {
@@ -121,40 +138,59 @@ impl Texts {
     pub fn new(alloc: Global) -> Texts
         ensures { result ≡ [] }
     {
-        Texts {
-            list: Vec::new(alloc),
-        }
+        Texts::of(Vec::new(alloc))
     }
 
-    /// One text, in a list with room for it alone.
-    pub fn lone(alloc: Global, text: Text) -> Result<Texts, TreeFault>
-        ensures { Gives (λ texts. texts ≡ text ∷ []) result }
+    /// One text.
+    pub fn lone(alloc: Global, text: Text) -> Texts
+        ensures { result ≡ text ∷ [] }
     {
-        let mut list = Vec::with_capacity(alloc, 1)?;
-        list.push_reserved(text);
-        Ok(Texts { list })
+        Texts {
+            held: Several::Lone(alloc, text),
+        }
     }
 
     /// The texts of a `Vec`.
     pub fn of(list: Vec<Text>) -> Texts
         ensures { result ≡ list.items }
     {
-        Texts { list }
+        Texts {
+            held: Several::List(list),
+        }
     }
 
     /// The texts in order.
     pub fn as_slice(&self) -> &[Text]
         ensures { result.now ≡ self.now }
     {
-        self.list.as_slice()
+        match &self.held {
+            Several::Lone(_, text) => slice::from_ref(text),
+            Several::List(list) => list.as_slice(),
+        }
     }
 
     /// Puts a text behind the last.
     pub fn push(&mut self, text: Text) -> Result<(), TreeFault>
         ensures { Becomes self.old self.new (self.old ++ text ∷ []) result }
     {
-        make_room(&mut self.list)?;
-        self.list.push(text)?;
+        match &mut self.held {
+            Several::Lone(alloc, _) => {
+                let alloc = *alloc;
+                let mut list = Vec::with_capacity(alloc, 2)?;
+                if let Several::Lone(_, first) =
+                    mem::replace(&mut self.held, Several::List(Vec::new(alloc)))
+                {
+                    list.push_reserved(first);
+                }
+                list.push_reserved(text);
+                self.held = Several::List(list);
+            }
+            Several::List(list) if list.is_empty() => {
+                let alloc = *list.allocator();
+                self.held = Several::Lone(alloc, text);
+            }
+            Several::List(list) => list.push(text)?,
+        }
         Ok(())
     }
 
@@ -162,20 +198,20 @@ impl Texts {
     pub fn copy(&self, alloc: Global) -> Result<Texts, TreeFault>
         ensures { Gives (λ t. t ≡ self.now) result }
     {
-        let mut list = Vec::with_capacity(alloc, self.list.len())?;
-        for text in &self.list {
-            list.push(text.copy()?)?;
+        match &self.held {
+            Several::Lone(alloc, text) => Ok(Texts::lone(*alloc, text.copy()?)),
+            Several::List(list) => Ok(Texts::of(copied(alloc, list)?)),
         }
-        Ok(Texts { list })
     }
 }
 
-/// Makes room for one text where there is none: most lists have a single one.
-fn make_room(list: &mut Vec<Text>) -> Result<(), TreeFault>
-    ensures { list.new.items ≡ list.old.items }
+/// Equal texts.
+fn copied(alloc: Global, texts: &Vec<Text>) -> Result<Vec<Text>, TreeFault>
+    ensures { Gives (λ list. list.items ≡ texts.now.items) result }
 {
-    if list.is_empty() {
-        list.reserve_exact(1)?;
+    let mut list = Vec::with_capacity(alloc, texts.len())?;
+    for text in texts {
+        list.push(text.copy()?)?;
     }
-    Ok(())
+    Ok(list)
 }
