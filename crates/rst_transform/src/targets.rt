@@ -22,47 +22,21 @@ use std::alloc::Global;
 ///     <paragraph ids="b a" names="b a">
 ///
 /// A target that no element follows, or one that takes no ids, stays as it is.
-pub fn targets(alloc: Global, work: Work) -> Result<Work, TreeFault> {
+pub fn targets(alloc: Global, mut work: Work) -> Result<Work, TreeFault> {
     let moves = moves_in(alloc, &work.root)?;
     if moves.is_empty() {
         return Ok(work);
     }
-    let Work {
-        root,
-        ids,
-        mut names,
-        reports,
-        first_number,
-        serials,
-    } = work;
     let mut moving = Moving {
         moves,
         at: 0,
         ids: Vec::new(alloc),
         names: Vec::new(alloc),
     };
-    let root = match root {
-        Node::Element {
-            tag,
-            attrs,
-            children,
-            line,
-        } => Node::Element {
-            tag,
-            attrs,
-            children: moved(alloc, children, &mut moving, &mut names)?,
-            line,
-        },
-        Node::Text(text) => Node::Text(text),
-    };
-    Ok(Work {
-        root,
-        ids,
-        names,
-        reports,
-        first_number,
-        serials,
-    })
+    if let Node::Element { children, .. } = &mut work.root {
+        move_in(alloc, children, &mut moving, &mut work.names)?;
+    }
+    Ok(work)
 }
 
 /// Whether an element is an internal target of the body: one that stands in no text, and tells neither a URI nor a name.
@@ -211,37 +185,26 @@ fn add_backwards(texts: &mut Vec<Text>, more: &[Text]) -> Result<(), TreeFault> 
     Ok(())
 }
 
-/// Nodes whose internal targets have handed on their ids and names.
-fn moved(
+/// Lets the internal targets among nodes and in them hand on their ids and names.
+fn move_in(
     alloc: Global,
-    nodes: Children,
+    nodes: &mut Children,
     moving: &mut Moving,
     names: &mut Names,
-) -> Result<Children, TreeFault> {
-    let mut done = Vec::with_capacity(alloc, nodes.len())?;
-    for node in nodes.into_list() {
-        match node {
-            Node::Text(text) => {
-                done.push(Node::Text(text))?;
-                continue;
-            }
+) -> Result<(), TreeFault> {
+    for i in 0..nodes.len() {
+        match nodes.get_mut(i) {
+            Node::Text(_) => continue,
             Node::Element {
                 tag,
-                mut attrs,
+                attrs,
                 children,
-                line,
+                ..
             } => {
-                moving.visit(alloc, tag, &mut attrs, names)?;
-                let children = moved(alloc, children, moving, names)?;
-                done.push(Node::Element {
-                    tag,
-                    attrs,
-                    children,
-                    line,
-                })?;
-                continue;
+                moving.visit(alloc, *tag, attrs, names)?;
+                move_in(alloc, children, moving, names)?;
             }
         }
     }
-    Ok(Children::of(done))
+    Ok(())
 }
