@@ -1,10 +1,9 @@
 -- Messages numbered on.
-use Rattle.std.proofs.Common.{◌≡◌, ℕ, List, [], ◌∷◌, ◌++◌, length, map, refl, ap, suc, Bool, true, false, Option, Some, None, is_some}
-use Rattle.std.specs.List.{list_any}
+use Rattle.std.proofs.Common.{◌≡◌, ℕ, ◌+◌, ◌<◌, ◌≤◌, List, [], ◌∷◌, ◌++◌, length, map, get_or, set, arith, add-one, zero, suc, refl, ◌∙◌, ap}
 use Rattle.rst_tree.specs.Messages.{note_node}
 use Rattle.rst_tree.specs.declared.note.Note.{Note}
 use Rattle.rst_tree.specs.declared.node.Node.{Node}
-use Rattle.rst_elements.specs.Texts.{counted_on, with_message, messages_from, message_of, numbered_by, numbered_on, are_numbered}
+use Rattle.rst_elements.specs.Texts.{counted_on, with_message, messages_from, numbered_on}
 
 -- the number behind those of some messages
 abbrev pub number_behind : ℕ → List Note → ℕ
@@ -23,17 +22,26 @@ pub messages_from_length : (first : ℕ) (notes : List Note) → length (message
 messages_from_length first [] = refl
 messages_from_length first (note ∷ notes) = ap suc (messages_from_length (counted_on first 1) notes)
 
-unnumbered : (first : ℕ) (node : Node) (number : Option ℕ) → is_some number ≡ false → numbered_by first number node ≡ node
-unnumbered first node None h = refl
-unnumbered first node (Some n) h = cc
+-- the nodes, from a place on with the numbers of their messages counted on
+abbrev pub numbered_from : ℕ → ℕ → List Node → List Node
+numbered_from i first [] = []
+numbered_from zero first (node ∷ nodes) = numbered_on first node ∷ numbered_from zero first nodes
+numbered_from (suc i) first (node ∷ nodes) = node ∷ numbered_from i first nodes
 
--- nodes without a number of a message stay as they are
-pub numbered_on_none : (first : ℕ) (nodes : List Node) → are_numbered nodes ≡ false → map (numbered_on first) nodes ≡ nodes
-numbered_on_none first [] h = refl
-numbered_on_none first (node ∷ nodes) h = by (is_some (message_of node)) refl (numbered_on_none first nodes)
-  where
-    by : (b : Bool) → is_some (message_of node) ≡ b → (are_numbered nodes ≡ false → map (numbered_on first) nodes ≡ nodes) → map (numbered_on first) (node ∷ nodes) ≡ node ∷ nodes
-    by true e rest = cc
-    by false e rest =
-        let none : are_numbered nodes ≡ false = cc in
-        rw (unnumbered first node (message_of node) e, rest none) refl
+pub numbered_from-zero : (first : ℕ) (nodes : List Node) → numbered_from zero first nodes ≡ map (numbered_on first) nodes
+numbered_from-zero first [] = refl
+numbered_from-zero first (node ∷ nodes) = ap (λ ns. numbered_on first node ∷ ns) (numbered_from-zero first nodes)
+
+numbered_from-suc : (i first : ℕ) (nodes : List Node) (old new : Node) → i < length nodes → old ≡ get_or nodes i old → new ≡ numbered_on first old → numbered_from (suc i) first (set nodes i new) ≡ numbered_from i first nodes
+numbered_from-suc i first [] old new h at is = absurd (omega arith)
+numbered_from-suc zero first (node ∷ nodes) old new h at is = ap (λ n. n ∷ numbered_from zero first nodes) (is ∙ ap (numbered_on first) at)
+numbered_from-suc (suc i) first (node ∷ nodes) old new h at is = ap (λ ns. node ∷ ns) (numbered_from-suc i first nodes old new (omega arith) at is)
+
+-- one more node was given its number
+pub numbered_from-set : (i first : ℕ) (nodes : List Node) (old new : Node) → i < length nodes → old ≡ get_or nodes i old → new ≡ numbered_on first old → numbered_from (i + 1) first (set nodes i new) ≡ numbered_from i first nodes
+numbered_from-set i first nodes old new h at is = rw add-one (numbered_from-suc i first nodes old new h at is)
+
+pub numbered_from-past : (i first : ℕ) (nodes : List Node) → length nodes ≤ i → numbered_from i first nodes ≡ nodes
+numbered_from-past i first [] h = refl
+numbered_from-past zero first (node ∷ nodes) h = absurd (omega arith)
+numbered_from-past (suc i) first (node ∷ nodes) h = ap (λ ns. node ∷ ns) (numbered_from-past i first nodes (omega arith))

@@ -1,6 +1,5 @@
 -- Elements that hold a text with inline markup, and messages (Document Tree, 'Element Reference', 'system_message').
-use Rattle.std.specs.Prelude.{ℕ, ◌+◌, ◌-◌, ◌^◌, ◌==◌, if◌then◌else◌, min, Bool, List, [], ◌∷◌, Option, Some, None, is_some}
-use Rattle.std.specs.List.{list_any}
+use Rattle.std.specs.Prelude.{ℕ, ◌+◌, ◌-◌, ◌^◌, ◌==◌, if◌then◌else◌, min, Bool, List, [], ◌∷◌, Option, Some, None}
 use Rattle.rst_tree.specs.Attributes.{attr, with_attr, value_of}
 use Rattle.rst_tree.specs.Messages.{note_node}
 use Rattle.rst_tree.specs.Tree.{text_in}
@@ -47,10 +46,6 @@ message_of (Words t) = None
 abbrev pub numbered_by : ℕ → Option ℕ → Node → Node
 numbered_by first (Some n) node = with_message (counted_on first n) node
 numbered_by first None node = node
-
--- one of some nodes has the number of a message
-abbrev pub are_numbered : List Node → Bool
-are_numbered nodes = list_any (λ node. is_some (message_of node)) nodes
 
 -- a node, whose message's number is counted on from the first
 abbrev pub numbered_on : ℕ → Node → Node

@@ -2,7 +2,7 @@
 ghost use Rattle.std.specs.Prelude.{◌≡◌, map, length};
 ghost use Rattle.std.specs.Str.{chars};
 ghost use Rattle.rst_tree.specs.Faults.{Gives};
-ghost use Rattle.rst_elements.specs.Texts.{counted_on, counting, message_of, are_numbered, with_message, numbered_on, messages_from};
+ghost use Rattle.rst_elements.specs.Texts.{counted_on, counting, message_of, with_message, numbered_on, messages_from};
 ghost use Rattle.rst_elements.specs.Results.{HoldsText, IsHolding, ReadsText, IsNumbered};
 
 use super::nodes::element_of;
@@ -100,16 +100,23 @@ fn numbered(alloc: Global, pieces: Pieces, numbers: &mut Numbers) -> Result<Read
 }
 
 /// The nodes with the numbers of their messages counted on from the first.
-#[tactic(auto, using(crate::proofs::MessageLemmas::numbered_on_none))]
 fn numbered_on(mut nodes: Vec<Node>, first: u64) -> Result<Vec<Node>, TreeFault>
     ensures { Gives (λ numbered. numbered.items ≡ map (numbered_on first) nodes.items) result }
 {
     for i in 0..nodes.len() {
-        if let Some(number) = message_of(&nodes[i]) {
-            set_message(&mut nodes[i], first.saturating_add(number))?;
-        }
+        number_on(&mut nodes[i], first)?;
     }
     Ok(nodes)
+}
+
+/// Counts the number of a node's message on from the first, if it has one.
+fn number_on(node: &mut Node, first: u64) -> Result<(), TreeFault>
+    ensures { Gives (λ _. node.new ≡ numbered_on first node.old) result }
+{
+    match message_of(node) {
+        Some(number) => set_message(node, first.saturating_add(number)),
+        None => Ok(()),
+    }
 }
 
 /// The number of the message that a node is a problematic of.
