@@ -58,17 +58,6 @@ impl Messages {
         }
     }
 
-    /// Tells that the message of a number is shown.
-    fn show(&mut self, number: usize) -> Result<(), TreeFault>
-        ensures { self.new.halt ≡ self.old.halt }
-    {
-        while self.shown.len() <= number {
-            self.shown.push(false)?;
-        }
-        self.shown[number] = true;
-        Ok(())
-    }
-
     /// Adds a message with a number, if it has one: to the list only if no earlier one halts the run.
     fn push(&mut self, note: Note, number: Option<u64>) -> Result<(), TreeFault>
         ensures { self.new.halt ≡ self.old.halt }
@@ -76,7 +65,7 @@ impl Messages {
         let level = note.level.number();
         if self.report.is_reached(level) {
             if let Some(number) = number {
-                self.show(number as usize)?;
+                mark(&mut self.shown, number as usize)?;
             }
         }
         if self.halted {
@@ -132,6 +121,18 @@ impl Messages {
         }
         (self.notes, highest)
     }
+}
+
+/// Marks a number among those up to it or more.
+fn mark(marks: &mut Vec<bool>, number: usize) -> Result<(), TreeFault> {
+    for _ in marks.len()..number {
+        marks.push(false)?;
+    }
+    match marks.get_mut(number) {
+        Some(mark) => *mark = true,
+        None => marks.push(true)?,
+    }
+    Ok(())
 }
 
 /// What a `system_message` with these attributes and nodes tells.
