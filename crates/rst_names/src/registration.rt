@@ -24,7 +24,8 @@ pub struct Registered {
 }
 
 /// Registers a document's elements in preorder: each gets a number, unless elements of its kind have no names, those of 'ids'
-/// (Document Tree) their id, those with a name the name, or the duplicate name where another one has it, and equal names their messages.
+/// (Document Tree) their id, those with a name the name, or the duplicate name where another one has it, and equal names
+/// their messages.
 ///
 /// Sections give their names implicitly, other elements explicitly; of an element that holds two equal names the rules of
 /// 'Implicit Hyperlink Targets' (reStructuredText Markup Specification) say who keeps it. Of substitution definitions with
