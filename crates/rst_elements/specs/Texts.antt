@@ -1,5 +1,5 @@
 -- Elements that hold a text with inline markup, and messages (Document Tree, 'Element Reference', 'system_message').
-use Rattle.std.specs.Prelude.{ℕ, ◌+◌, ◌-◌, ◌^◌, ◌==◌, if◌then◌else◌, min, Bool, List, [], ◌∷◌, Option, Some, None}
+use Rattle.std.specs.Prelude.{ℕ, ◌+◌, ◌-◌, ◌^◌, ◌==◌, if◌then◌else◌, min, List, [], ◌∷◌, Option, Some, None}
 use Rattle.rst_tree.specs.Attributes.{attr, with_attr, value_of}
 use Rattle.rst_tree.specs.Messages.{note_node}
 use Rattle.rst_tree.specs.Tree.{text_in}

@@ -177,9 +177,10 @@ impl Texts {
             Several::Lone(alloc, _) => {
                 let alloc = *alloc;
                 let mut list = Vec::with_capacity(alloc, 2)?;
-                if let Several::Lone(_, first) =
-                    mem::replace(&mut self.held, Several::List(Vec::new(alloc)))
-                {
+                if let Several::Lone(_, first) = mem::replace(
+                    &mut self.held,
+                    Several::List(Vec::new(alloc)),
+                ) {
                     list.push_reserved(first);
                 }
                 list.push_reserved(text);

@@ -1,4 +1,4 @@
-use Rattle.std.proofs.Common.{rules, arith, ◌∙◌, sym}
+use Rattle.std.proofs.Common.{rules, ◌∙◌, sym}
 use Rattle.rst_elements.proofs.MessageLemmas.{numbered_from-zero, numbered_from-set, numbered_from-past}
 use Rattle.rst_elements.proofs.texted.numbered_on.Goals as goal
 

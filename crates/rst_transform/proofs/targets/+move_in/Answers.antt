@@ -1,6 +1,6 @@
-use Rattle.std.proofs.Common.{rules, arith, ◌≡◌, ◌+◌, ◌<◌, ◌≤◌, length, ap}
+use Rattle.std.proofs.Common.{rules, arith, ◌≡◌, ◌+◌, ◌≤◌, ap}
 use Rattle.rst_tree.specs.Forest.{height}
-use Rattle.rst_tree.specs.Nodes.{nodes_of, node_height}
+use Rattle.rst_tree.specs.Nodes.{node_height}
 use Rattle.rst_tree.proofs.Rewrites.{Same-child, Same-more}
 use Rattle.rst_transform.proofs.targets.+move_in.Goals as goal
 
