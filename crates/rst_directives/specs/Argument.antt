@@ -37,7 +37,7 @@ abbrev pub uri_of : List Text → Result Given Wrong
 uri_of [] = Err no_argument
 uri_of (t ∷ ts) = Ok (uri (without_white (text_in (t ∷ ts))))
 
--- one word: a space is left between two, where white runs are one space
+-- one word, of a text whose runs of white are one space each: a space in it parts two words
 unfoldable pub word_of : Text → Result Given Wrong
 word_of words = if has_character 32 words then Err many_arguments else Ok (language words)
 

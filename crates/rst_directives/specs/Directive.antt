@@ -1,5 +1,5 @@
 -- What a directive is: its name, argument, options and content, or what is wrong with it (Markup Specification,
--- 'Directives'; Directives).
+-- 'Directives'; the sections of Directives stand in Name, Judgement and Value).
 use Rattle.std.specs.Prelude.{ℕ, ◌+◌, ◌-◌, Bool, true, false, ◌&&◌, nat_lt, List, [], take, drop, length, Option, Some, None, Result, Ok, Err, if◌then◌else◌}
 use Rattle.rst_text.specs.Block.{Block, cut}
 use Rattle.rst_directives.specs.Argument.{Given, given_in, argument_of}

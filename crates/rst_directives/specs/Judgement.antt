@@ -42,7 +42,8 @@ permitted_by None substitution = if substitution then Err NotInSubstitution else
 unfoldable pub permitted : Option Name → Place → Result Name DirectiveFault
 permitted name place = permitted_by name (is_substitution place)
 
--- The fault of a content by what the directive holds: a figure's has none here; where none is permitted it has to be
+-- The fault of a content by what the directive holds: a figure's is judged once its elements are read; where none is
+-- permitted it has to be
 -- empty, else not; a topic stands at the level of sections alone; a replacement text is a single paragraph and stands
 -- in a substitution definition alone.
 abbrev pub judged_by : Holds → Name → Bool → Place → Bool → Option DirectiveFault

@@ -1,4 +1,4 @@
--- Measures, scales and alignments (Directives, 'Image', 'Figure').
+-- Measures, scales and alignments (Markup Specification, 'Length Units', 'Percentage Units'; Directives, 'Image', 'Figure').
 use Rattle.std.specs.Prelude.{ℕ, ◌+◌, Bool, not, ◌&&◌, ◌||◌, ◌==◌, nat_lt, [], ◌∷◌, ◌++◌, take, drop, length, codes, Option, Some, None, if◌then◌else◌}
 use Rattle.rst_text.specs.Block.{indentation, is_blank}
 use Rattle.rst_pieces.specs.Characters.{has}

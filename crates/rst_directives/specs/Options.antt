@@ -1,4 +1,4 @@
--- The options of a directive's block (Markup Specification, 'Directives').
+-- The options of a directive's block (Markup Specification, 'Directives', 'Field Lists').
 use Rattle.std.specs.Prelude.{ℕ, suc, min, Bool, true, false, not, ◌||◌, List, [], ◌∷◌, map, take, drop, length, slice_range, Option, Some, None, option_map, Result, Ok, Err, if◌then◌else◌}
 use Rattle.std.specs.List.{join_with_byte}
 use Rattle.std.specs.declared.vec.Vec.{Vec}

@@ -26,7 +26,9 @@ pub data Fault : Type 0 where
   topic_not_here : Fault
   replace_not_here : Fault
 
--- as they are kept
+-- ---- as they are kept
+
+-- the meaning of what is wrong inside a directive
 abbrev pub wrong_in : Detail → Wrong
 wrong_in InvalidOptionBlock = option_block
 wrong_in (UnknownOption name) = unknown (chars_of name)

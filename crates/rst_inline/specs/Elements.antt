@@ -86,7 +86,7 @@ outer_node suffix source shown inner line = Element Reference (outer_attrs suffi
 
 -- ---- footnotes and citations
 
--- a number from 0 to 9
+-- the character is one of the digits 0 to 9
 abbrev pub is_digit : ℕ → Bool
 is_digit c = nat_le 48 c && nat_le c 57
 

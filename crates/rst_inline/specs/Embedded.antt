@@ -34,7 +34,7 @@ embedded_at t = if ends_with t 62 then angle_if t (last_angle t) else None
 
 -- ---- its parts
 
--- the place behind the last character before k that is not white
+-- the place behind the last character before k that is not white, 0 where there is none
 unfoldable pub dark_end : Text → ℕ → ℕ
 dark_end t k = unwrap_or (last_from (λ e. not (is_white (slice_index t (e - 1)))) 1 k) 0
 

@@ -21,7 +21,8 @@ content t p = part t p.content_from p.content_to
 abbrev pub spelled : Text → List ℕ
 spelled cs = encode_utf8_all cs
 
--- a text of ASCII without a backslash, so that nothing in it is escaped
+-- A text of ASCII without a backslash, so that nothing in it is escaped. No rule of markup: its pieces are copied as they
+-- are written.
 pub record IsBare (t : Text) : Type 0 where
   pub ascii : IsAscii t
   pub plain : has_backslash t ≡ false

@@ -1,4 +1,5 @@
--- What a piece of an inline text means (Markup Specification, 'Inline Markup').
+-- What a piece of an inline text means (Markup Specification, 'Inline Markup', 'Interpreted Text', 'Hyperlink References',
+-- 'Embedded URIs and Aliases', 'Substitution References'; Document Tree, 'system_message').
 use Rattle.std.specs.Prelude.{ℕ, ◌+◌, ◌-◌, Bool, true, false, nat_lt, List, [], ◌∷◌, ◌++◌, Option, None, Some, codes}
 use Rattle.rst_tree.specs.declared.node.Node.TheVariants.{Text as Words}
 use Rattle.rst_tree.specs.declared.note.Level.TheVariants.{Warning, Error}

@@ -8,7 +8,7 @@ use Rattle.rst_tree.specs.declared.tag.Tag.TheVariants.{Emphasis, Strong, Litera
 abbrev pub is_one_of_two : List ℕ → List ℕ → List ℕ → Bool
 is_one_of_two a b name = bytes_eq name a || bytes_eq name b
 
--- the element that a role makes; a role's name is compared exactly
+-- the element that a role makes; a role's name is compared exactly, other than in Docutils (docs/DOCUTILS.md, 'Roles')
 unfoldable pub role_tag : List ℕ → Option Tag
 role_tag name =
     if bytes_eq name (codes "emphasis") then Some Emphasis

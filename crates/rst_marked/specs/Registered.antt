@@ -22,8 +22,7 @@ is_registered_kind Problematic = true
 is_registered_kind SubstitutionDefinition = true
 is_registered_kind _ = false
 
--- the names of the attributes that an element has that was written with a name, or that is a message of which a problematic
--- tells
+-- the attribute of an element that was written with a name, and that of a message to which a problematic belongs
 abbrev pub is_registered_key : Key → Bool
 is_registered_key OwnName = true
 is_registered_key Message = true

@@ -1,4 +1,5 @@
--- Classes of characters, and runs of them (Markup Specification, 'Enumerated Lists', 'Option Lists', 'Footnotes').
+-- Classes of characters, and runs of them (Markup Specification, 'Sections', 'Enumerated Lists', 'Option Lists',
+-- 'Block Quotes', 'Grid Tables', 'Simple Tables', 'Footnotes', 'Citations').
 use Rattle.std.specs.Prelude.{ℕ, suc, Bool, not, ◌&&◌, ◌||◌, ◌==◌, nat_le, List, [], ◌∷◌, if◌then◌else◌}
 use Rattle.rst_text.specs.Characters.{is_alphanumeric}
 use Rattle.rst_marks.specs.declared.class.Class.{Class}

@@ -31,7 +31,7 @@ place_in_alphabet c =
     else if nat_le 65 c && nat_le c 90 then Some (c - 64)
     else None
 
--- one to nine digits
+-- one to nine digits; that more are no ordinal is a limit of the profile
 unfoldable pub digits : List ℕ → Option Written
 digits t =
     if run Digit t == 0 || nat_lt 9 (run Digit t) then None

@@ -29,7 +29,7 @@ dots t = if begins_with 46 t && begins_with 46 (drop 1 t) then marker_of 2 t els
 unfoldable pub underscores : List ℕ → Option Marker
 underscores t = if begins_with 95 t && begins_with 95 (drop 1 t) then marker_of 2 t else None
 
--- what the first n characters label
+-- what the first n characters label: digits, `*`, `#`, and `#` before a simple name a footnote, another simple name a citation
 unfoldable pub label_kind : ℕ → List ℕ → Option LabelKind
 label_kind n t =
     if n == 0 then None
@@ -104,13 +104,14 @@ colons len n t =
     if not (begins_with 58 (drop n t)) || not (begins_with 58 (drop (n + 1) t)) then None
     else if_some (marker_of (n + 2) t) (λ m. Some (record { len = len; marker = m }))
 
--- a simple name and two colons, between which one space may stand
+-- a simple name of n characters and two colons, between which one space may stand if `spaced` says so
 abbrev pub directive_by : Bool → ℕ → List ℕ → Option DirectiveMark
 directive_by spaced n t =
     if n == 0 then None
     else if spaced && begins_with 32 (drop n t) then colons n (n + 1) t
     else colons n n t
 
--- the mark of a directive: a simple name and `::` with spaces or the end behind it, and maybe a space between the two
+-- The mark of a directive: a simple name and `::` with spaces or the end behind it. A space may stand between the two if
+-- `spaced` says so, as it does but in substitution definitions.
 unfoldable pub directive_of : Bool → List ℕ → Option DirectiveMark
 directive_of spaced t = directive_by spaced (simple_name t) t

@@ -8,7 +8,7 @@ abbrev pub first : List ℕ → Option ℕ
 first [] = None
 first (c ∷ cs) = Some c
 
--- nothing, or a space and more
+-- a text that is empty or begins with a space
 abbrev pub is_loose : List ℕ → Bool
 is_loose [] = true
 is_loose (c ∷ cs) = c == 32

@@ -24,12 +24,12 @@ abbrev pub begins_letter : List ℕ → Bool
 begins_letter [] = false
 begins_letter (c ∷ cs) = is_letter c
 
--- `<`, n characters other than `<` and `>`, and `>`
+-- how many characters `<`, n others than `<` and `>`, and `>` are; 0 where n is 0 or the `>` is missing
 abbrev pub bracketed_len : ℕ → List ℕ → ℕ
 bracketed_len n t = if n == 0 || not (begins_with 62 (drop (n + 1) t)) then 0 else n + 2
 
 -- how many characters the argument at the front of a text has: a letter followed by alphanumerics, `_`, `-`, or one or
--- more characters in angle brackets
+-- more characters other than these in angle brackets; 0 where there is none
 unfoldable pub argument_len : List ℕ → ℕ
 argument_len t =
     if begins_letter t then run OptionClass t
@@ -92,7 +92,8 @@ abbrev pub last_if : Option Marker → OptionTail
 last_if None = Wrong
 last_if (Some m) = Last m
 
--- behind n characters, which are an option
+-- What stands behind the first n characters, which are an option: a comma and a space lead to the next, two or more spaces or
+-- the end make it the last, and all else is wrong.
 unfoldable pub tail_at : ℕ → List ℕ → OptionTail
 tail_at n t =
     if begins_with 44 (drop n t) && begins_with 32 (drop 1 (drop n t)) then Next (n + 2)

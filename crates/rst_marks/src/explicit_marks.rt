@@ -1,4 +1,4 @@
-//! Marks of explicit markup, behind its `..`.
+//! Marks of explicit markup: `..` and `__`, and what stands behind `..`.
 ghost use Rattle.std.specs.Prelude.{◌≡◌, ◌<◌, ◌≤◌, ◌-◌, ◌^◌, ◌&&◌, ◌||◌, length};
 ghost use Rattle.std.specs.Str.{chars};
 ghost use Rattle.rst_text.specs.Characters as characters;

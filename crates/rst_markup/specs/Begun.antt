@@ -39,7 +39,7 @@ IsMarked t next after (Line marker) = line_bar t ≡ Some marker
 IsMarked t next after (Adornment mark) = adornment_of t ≡ Some mark
 IsMarked t next after begun = Unit {0}
 
--- a line before the next two
+-- A block of a line and the next two, whose numbers don't matter. No rule of markup: contracts on three texts are said by it.
 abbrev pub three_lines : List ℕ → List ℕ → List ℕ → Block
 three_lines t next after = record { number = 0; text = t } ∷ record { number = 0; text = next } ∷ record { number = 0; text = after } ∷ []
 

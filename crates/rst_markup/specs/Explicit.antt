@@ -40,7 +40,7 @@ place_of from len = record { from = from; to = from + len }
 abbrev pub target_part : ℕ → ℕ → Block → Part
 target_part i n X = record { from = i; to = i + indented_size X; first_cut = n; rest_cut = 0 }
 
--- the mark, behind n characters, ends within a line
+-- behind n characters, the ends of the mark's name and of the mark are below 2 ^ 64. No rule of markup: places are machine words
 abbrev pub IsTargetShort : ℕ → TargetMark → Type 0
 IsTargetShort n (Named from len marker) = (n + from + len < 2 ^ 64) × (n + marker.cut < 2 ^ 64)
 IsTargetShort n (AnonymousMark marker) = n + marker.cut < 2 ^ 64
@@ -97,12 +97,12 @@ cut_of (Some m) = m.cut
 unfoldable pub anonymous_of : ℕ → Block → Explicit
 anonymous_of i X = Anonymous (target_part i (cut_of (underscores (front_text X))) X)
 
--- explicit markup behind dots, or an anonymous target where there are no dots
+-- explicit markup behind dots, or an anonymous target where there are no dots, one of which begins the line
 abbrev pub explicit_with : Option Marker → ℕ → Block → Explicit
 explicit_with None i X = anonymous_of i X
 explicit_with (Some m) i X = behind_dots i m X
 
--- the explicit markup that begins in the line
+-- the explicit markup that begins in the line, which is of an explicit kind
 unfoldable pub explicit_of : ℕ → Block → Explicit
 explicit_of i X = explicit_with (dots (front_text X)) i X
 

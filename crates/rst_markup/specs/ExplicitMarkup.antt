@@ -55,8 +55,8 @@ explicit_form t = or_target (label_of t) t
 abbrev pub least_of : Block → ℕ
 least_of ls = or_zero (least_indent None (take (extent 1 ls) ls))
 
--- the block of markup whose first line, at place i, X begins with: what stands behind its mark, and the indented block
--- below; where nothing stands behind the mark, that block alone
+-- The block of markup whose first line, at place i, X begins with: what stands behind its mark, and the indented block
+-- below. Where nothing stands behind the mark, it is that block alone, from its first line that isn't blank on.
 unfoldable pub hanging_part : ℕ → ℕ → Bool → Block → Part
 hanging_part i cut bare X =
     if bare then record { from = i + 1 + min (lines_while Blank (drop 1 X)) (extent 1 (drop 1 X)); to = i + hanging_size X; first_cut = least_of (drop 1 X); rest_cut = least_of (drop 1 X) }

@@ -48,7 +48,7 @@ abbrev pub overlined_by : Adornment → List ℕ → Option (List ℕ) → Adorn
 overlined_by mark next None = Incomplete
 overlined_by mark next (Some after) = over_title mark next after (adornment_of after)
 
--- the cases of an overline that is long enough; the line after the next may be missing
+-- what an overline of any length begins; the line after the next may be missing
 unfoldable pub overlined : Adornment → List ℕ → Option (List ℕ) → Adorned
 overlined mark next after = if is_some (adornment_of next) then InvalidMarker else overlined_by mark next after
 
@@ -61,13 +61,15 @@ is_whole_title _ = false
 unfoldable pub adorned_alone : Adornment → Adorned
 adorned_alone mark = if nat_le 4 mark.len then Transition else Text
 
--- over another line
+-- A line of one punctuation character at the top level, over a line that isn't blank: with fewer than four characters it is an
+-- overline only if a whole title follows.
 unfoldable pub adorned_over : Adornment → List ℕ → Option (List ℕ) → Adorned
 adorned_over mark next after =
     if nat_le 4 mark.len || is_whole_title (overlined mark next after) then overlined mark next after
     else ShortOverline
 
--- a line of one punctuation character below the top level
+-- A line of one punctuation character below the top level: `::` is a text, another of four characters or more is out of place,
+-- and a shorter one is a text.
 unfoldable pub adorned_below : Adornment → Adorned
 adorned_below mark =
     if mark.character == 58 && mark.len == 2 then Text

@@ -1,5 +1,5 @@
--- The laws of the rows' reaches (Markup Specification, 'Body Elements'): a reach has the lines of its construct, and ends
--- within the block.
+-- The laws of the rows' reaches: a reach has the lines of its construct, and ends within the block. No rule of markup: a
+-- reach bounds the time.
 use Rattle.std.specs.Prelude.{◌≡◌, ℕ, suc, ◌+◌, min, max, ◌≤◌, Bool, true, false, cond, IsTrue, [], ◌∷◌, List, length, drop, refl}
 use Rattle.std.proofs.Common.{arith, ltb, length-drop}
 use Rattle.std.proofs.Math.Nat.{le-max_left, max-le}

@@ -1,4 +1,5 @@
--- How many lines the construct at the front of a block has (Markup Specification, 'Body Elements').
+-- How many lines the construct at the front of a block has (Markup Specification, 'Body Elements',
+-- 'Quoted Literal Blocks', 'Sections', 'Transitions').
 use Rattle.std.specs.Prelude.{ℕ, suc, ◌+◌, ◌-◌, Bool, true, false, nat_lt, min, List, drop, length, if◌then◌else◌, Option, None, Some}
 use Rattle.rst_text.specs.Block.{Block, front_text}
 use Rattle.rst_text.specs.Extent.{extent}
@@ -93,7 +94,7 @@ last_text X = front_text (drop (paragraph_len X - 1) X)
 unfoldable pub paragraph_size : Block → ℕ
 paragraph_size X = paragraph_len X + literal_if (ends_in_colons (last_text X)) (drop (paragraph_len X) X)
 
--- 1 for a line that isn't empty, else 0
+-- 1 for a line that isn't empty, else 0. No rule of markup: a possible overline over such a line costs one look more.
 abbrev pub filled : List ℕ → ℕ
 filled t = min 1 (length t)
 

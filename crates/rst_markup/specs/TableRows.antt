@@ -33,7 +33,7 @@ closed_by all (suc n) = 2 + suc n
 unfoldable pub grid_size : Block → ℕ
 grid_size X = closed_by (lines_while Drawn X) (through_border (drop 2 (take (lines_while Drawn X) X)))
 
--- how many lines a scan for a grid table goes over: those, and the one that stops it
+-- How many lines a scan for a grid table goes over: those, and the one that stops it. No rule of markup: it bounds the time.
 unfoldable pub grid_scan : Block → ℕ
 grid_scan X = min (suc (lines_while Drawn X)) (length X)
 
@@ -53,7 +53,9 @@ through_end top Y = if goes_on top Y && nat_lt (run_size NoBorder Y) (length Y) 
 abbrev pub simple_size_to : ℕ → Block → ℕ
 simple_size_to n X = if nat_lt n (length X) then n + through_end (front_text X) (drop n X) else length X
 
--- A table whose top border is the first line. Without a border below it, it has all lines of the block.
+-- A simple table whose top border is the first line. It ends with the first border below that, or with the second, if there is
+-- one, where the first is as long as the top one and a line that isn't blank follows it. Without a border below the top one it
+-- has all lines of the block.
 unfoldable pub simple_size : Block → ℕ
 simple_size X = simple_size_to (run_size NoBorder X) X
 
@@ -65,7 +67,8 @@ scan_on top Y = if goes_on top Y then min (suc (run_size NoBorder Y)) (length Y)
 abbrev pub simple_scan_to : ℕ → Block → ℕ
 simple_scan_to n X = if nat_lt n (length X) then n + scan_on (front_text X) (drop n X) else length X
 
--- how many lines a scan for the borders of a table goes over: through the one that ends the scan
+-- How many lines a scan for the borders of a table goes over: through the one that ends the scan. No rule of markup: it bounds
+-- the time.
 unfoldable pub simple_scan : Block → ℕ
 simple_scan X = simple_scan_to (run_size NoBorder X) X
 

@@ -1,4 +1,5 @@
--- The settings and the source that argument words choose (Configuration: each option sets one of its entries).
+-- The settings and the source that argument words choose (Configuration, 'report_level', 'halt_level', 'exit_status_level',
+-- 'doctitle_xform', 'docinfo_xform', 'tab_width', 'line_length_limit').
 use Rattle.std.specs.Prelude.{◌≡◌, ℕ, ◌==◌, Bool, true, false, not, ◌&&◌, ◌||◌, List, [], ◌∷◌, Option, Some, None, option_map, Result, Ok, Err, if◌then◌else◌, codes, slice_index, string_bytes}
 use Rattle.std.specs.declared.string.String.{String}
 use Rattle.std.specs.Option.{option_map_or}
@@ -11,7 +12,8 @@ use Rattle.rst_options.specs.declared.fault.OptionFault.TheVariants.{Usage, BadL
 use Rattle.rst_options.specs.Command.{faults_at, rows_at, is_given, is_on}
 use Rattle.rst_options.specs.Values.{threshold_or, tab_or, limit_or}
 
--- what settings say
+-- what settings say: from which levels on messages are shown, halt and set the exit status, whether a lone title and a leading
+-- field list are transformed, the tab width, and the most characters of a line
 pub record Choice : Type 0 where
   pub report : Threshold
   pub halt : Threshold
@@ -21,7 +23,7 @@ pub record Choice : Type 0 where
   pub tab : ℕ
   pub limit : ℕ
 
--- what settings say, each by itself
+-- what these settings say
 abbrev pub said_by : Settings → Choice
 said_by settings = record {
   report = settings.report;
@@ -59,7 +61,8 @@ has_two_levels rows =
 
 -- ---- the first fault of the values, or what they choose
 
--- of the three levels, the tab width, the line limit, and whether two options give one level
+-- the first fault: a level that names none, then the tab width, then the line limit, then two options for one level; else the
+-- choice
 abbrev pub first_fault : Option Threshold → Option Threshold → Option Threshold → Option ℕ → Option ℕ → Bool → (Threshold → Threshold → Threshold → ℕ → ℕ → Choice) → Result Choice OptionFault
 first_fault (Some report) (Some halt) (Some exit) (Some tab) (Some limit) two choice = if two then Err TwoLevels else Ok (choice report halt exit tab limit)
 first_fault (Some report) (Some halt) (Some exit) (Some tab) None two choice = Err BadLimit

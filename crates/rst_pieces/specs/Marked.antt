@@ -1,4 +1,5 @@
--- Inline markup between a start-string and an end-string (Markup Specification, 'Inline Markup').
+-- Inline markup between a start-string and an end-string (Markup Specification, 'Inline markup recognition rules',
+-- 'Emphasis', 'Strong Emphasis', 'Interpreted Text', 'Inline Literals', 'Inline Internal Targets', 'Substitution References').
 use Rattle.std.specs.Prelude.{ℕ, ◌+◌, ◌-◌, Bool, true, false, not, ◌&&◌, ◌||◌, ◌==◌, Option, None, Some, slice_index, length, unwrap_or, if◌then◌else◌}
 use Rattle.std.specs.Option.{is_some}
 use Rattle.rst_pieces.specs.Characters.{Text, has, is_dark, is_pair}

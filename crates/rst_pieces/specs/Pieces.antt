@@ -1,4 +1,4 @@
--- The pieces of an inline text (Markup Specification, 'Inline Markup').
+-- The pieces of an inline text (Markup Specification, 'Inline markup recognition rules', 'Recognition order').
 use Rattle.std.specs.Prelude.{◌≡◌, ℕ, ◌-◌, ◌<◌, ◌≤◌, Bool, not, ◌&&◌, ◌||◌, ◌==◌, List, [], ◌∷◌, Option, None, Some, slice_index, length, if◌then◌else◌}
 use Rattle.rst_pieces.specs.Characters.{Text, may_precede}
 use Rattle.rst_pieces.specs.Escapes.{is_escaped}
@@ -25,7 +25,7 @@ is_free_if t i escaped = not escaped && (i == 0 || may_precede (slice_index t (i
 unfoldable pub piece_if : Text → ℕ → Bool → Option Piece
 piece_if t i escaped = if is_free_if t i escaped then markup_at t i else None
 
--- the piece that begins at i, if a start stands there, where the piece that i would belong to otherwise begins at `from`
+-- The piece that begins at i, if a start stands there. Plain text before i begins at `from`: no backslash before that counts.
 abbrev pub piece_at : Text → ℕ → ℕ → Option Piece
 piece_at t from i = piece_if t i (is_escaped t from i)
 

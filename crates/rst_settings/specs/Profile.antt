@@ -1,4 +1,5 @@
--- What the definitions leave to be chosen (Configuration, 'line_length_limit', 'docinfo_xform').
+-- What a definition of the whole document leaves to be chosen; there is none yet (Configuration, 'line_length_limit',
+-- 'docinfo_xform'; Directives, 'Code'; the bound on nesting is no rule of markup).
 use Rattle.std.specs.Prelude.{ℕ, Bool, true}
 use Rattle.rst_settings.specs.declared.Settings.{Settings}
 
@@ -10,6 +11,6 @@ pub record Profile : Type 0 where
   pub code : Bool
   pub docinfo : Bool
 
--- the profile that the program runs under
+-- the profile that the program is meant to run under; no contract says so yet
 abbrev pub profile_of : Settings → Profile
 profile_of settings = record { nesting = 250; line_limit = settings.limit; code = true; docinfo = settings.info }

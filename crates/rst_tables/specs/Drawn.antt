@@ -88,7 +88,7 @@ abbrev pub Tells : Bool → Type 0 → Type 0
 Tells true P = P
 Tells false P = P → ⊥
 
--- ---- what the search for a rectangle finds
+-- ---- what the search for a rectangle finds. No rule of markup: it finds what is drawn.
 
 -- both sides go on in the row
 unfoldable pub are_upright : Grid → ℕ → ℕ → ℕ → Bool
@@ -115,7 +115,7 @@ abbrev pub Draws : Grid → ℕ → ℕ → Option Rectangle → Type 0
 Draws G top left (Some r) = IsDrawn G r × (r.top ≡ top) × (r.left ≡ left)
 Draws G top left None = (r : Rectangle) → IsFrame G r → r.top ≡ top → r.left ≡ left → ⊥
 
--- ---- how far the columns of unit squares are covered
+-- ---- how far the columns of unit squares are covered. No rule of markup: the tiling is made so.
 
 -- a rectangle below what is covered: its columns are covered down to its top before, and down to its bottom then
 abbrev pub Fills : Rectangle → List ℕ → List ℕ → Bool → Type 0
@@ -124,7 +124,7 @@ Fills r old new true = (length new ≡ length old)
     × ((k : ℕ) → (r.left ≤ k → k < r.right → ⊥) → get_or new k 0 ≡ get_or old k 0)
 Fills r old new false = (k : ℕ) × (r.left ≤ k) × (k < r.right) × (get_or old k 0 ≢ r.top)
 
--- ---- where the runs of `-` and `+` begin
+-- ---- where the runs of `-` and `+` begin. No rule of markup: it keeps the search's time low.
 
 -- from `left` on and before `end` the row consists of `-` and `+`
 abbrev pub IsRun : List Place → ℕ → ℕ → Type 0

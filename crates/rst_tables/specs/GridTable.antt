@@ -44,7 +44,7 @@ is_grid_row row = mark_at row 0 == 43 || mark_at row 0 == 124
 
 -- ---- where the table ends
 
--- the rows up to the first that doesn't begin with `+` or `|`, as a blank one
+-- the rows before the first that begins with neither `+` nor `|`; a blank one is such a row
 abbrev pub scanned : Grid → Grid
 scanned [] = []
 scanned (r ∷ rs) = if is_grid_row r.places then r ∷ scanned rs else []
@@ -212,7 +212,8 @@ IsOfHeight line i S (suc n) result = IsOfRows line i (take (suc n) S) (row_fault
 abbrev pub IsGridTable : Block → ℕ → TableResult → Type 0
 IsGridTable B i result = let S = scanned (rows_of (drop i B)) in IsOfHeight (first_number (drop i B)) i S (height S) result
 
--- how many rows are looked at to scan the table: all of them, and the one that stops the scan
+-- How many rows are looked at to scan the table: all of them, and the one that stops the scan. No rule of markup: it bounds
+-- the time.
 unfoldable pub grid_looked : Grid → ℕ
 grid_looked [] = 0
 grid_looked (r ∷ rs) = if is_grid_row r.places then suc (grid_looked rs) else 1

@@ -1,4 +1,4 @@
--- Laws on the definitions alone (Markup Specification, 'Grid Tables', 'Simple Tables').
+-- Laws on the definitions alone. No rule of markup: they follow from what tilings and ends of tables are.
 use Rattle.std.specs.Prelude.{◌≡◌, ℕ, zero, suc, ◌+◌, ◌<◌, ◌≤◌, false, length}
 use Rattle.rst_tables.specs.Places.{Grid, row_at}
 use Rattle.rst_tables.specs.Drawn.{IsEven, OneTiling}

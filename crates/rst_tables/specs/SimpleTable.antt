@@ -37,7 +37,7 @@ is_simple_border row = is_ruled 61 row
 unfoldable pub is_rule : List Place → Bool
 is_rule row = is_ruled 61 row || is_ruled 45 row
 
--- a line is blank
+-- a row has no places: its line is blank, or there is no such line
 abbrev pub is_empty : List Place → Bool
 is_empty row = length row == 0
 
@@ -62,6 +62,8 @@ end_at_first R wide (Some first) =
 -- where the table ends whose top border is row i
 abbrev pub simple_end : Grid → ℕ → SimpleEnd
 simple_end R i = end_at_first R (length (row_at R i)) (next_border R (i + 1))
+
+-- ---- how far the scan goes. No rule of markup: it bounds the time.
 
 -- the place behind the row that stops the scan for a border
 abbrev pub scan_end : Grid → Option ℕ → ℕ
@@ -171,8 +173,9 @@ begins_row T k = let column = get_or (columns_of T) 0 no_span in not (is_clear c
 abbrev pub row_lines : ℕ → ℕ → ℕ → RowLines
 row_lines from to rule = record { from = from; to = to; rule = rule }
 
--- The rows from `start` on. Of the n lines from `low` on each whose first column isn't blank begins another. The last
--- row ends at the rule that follows, and a row that ends at another one has the columns of the top border, row 0.
+-- The rows from `start` on. Of the n lines from `low` on each whose first column isn't blank begins another row. The last
+-- row ends at the rule that follows and has its columns; a row that ends where the next row begins has those of the top
+-- border, row 0.
 abbrev pub rows_in : Grid → ℕ → ℕ → ℕ → List RowLines
 rows_in T start low zero = row_lines start low low ∷ []
 rows_in T start low (suc n) = if begins_row T low then row_lines start low 0 ∷ rows_in T low (low + 1) n else rows_in T start (low + 1) n

@@ -1,4 +1,5 @@
--- Kinds of characters, and the width of a text, by the Unicode Character Database.
+-- What white characters, letters, alphanumerics and the width of a text are (Markup Specification, 'Whitespace', 'Reference
+-- Names', 'Option Lists', 'Sections'): the standard leaves it open, the Unicode Character Database says it.
 use Rattle.std.specs.Prelude.{ℕ, Bool, false, ◌||◌, List}
 use Rattle.std.specs.Char.{is_whitespace}
 use Rattle.unicode.specs.GeneralCategory.{general_category}

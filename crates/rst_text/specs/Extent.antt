@@ -30,7 +30,7 @@ least_indent m (l ∷ ls) = least_indent (if is_blank l.text then m else Some (l
 abbrev pub or_zero : Option ℕ → ℕ
 or_zero m = unwrap_or m 0
 
--- indented at all, where no least indentation is given
+-- the indentation that lines need at least: the given one, or one space
 abbrev pub at_least : Option ℕ → ℕ
 at_least least = unwrap_or least 1
 

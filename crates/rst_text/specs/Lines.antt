@@ -1,4 +1,4 @@
--- The lines of a text (Markup Specification, 'Whitespace').
+-- The lines of a text (Markup Specification, 'Whitespace'; Configuration, 'tab_width', 'line_length_limit').
 use Rattle.std.specs.Prelude.{ℕ, ◌+◌, ◌-◌, ◌%◌, Bool, true, false, ◌&&◌, ◌||◌, not, nat_lt, ◌==◌, if◌then◌else◌, List, [], ◌∷◌, ◌++◌, map, replicate, length, Option, None, Some}
 use Rattle.std.specs.Char.{is_whitespace}
 use Rattle.std.specs.List.{list_any}

@@ -1,4 +1,5 @@
--- Names and ids of texts (Markup Specification, 'Reference Names'; Document Tree, attributes `names` and `ids`).
+-- Names and ids of texts (Markup Specification, 'Reference Names'; Directives, 'Identifier Normalization'; Document Tree,
+-- attributes `names` and `ids`).
 use Rattle.std.specs.Prelude.{ℕ, Bool, true, false, ◌&&◌, ◌||◌, nat_lt, ◌==◌, List, [], ◌∷◌, map, filter, if◌then◌else◌}
 use Rattle.std.specs.List.{join_with_byte}
 use Rattle.unicode.specs.CaseFolding.{simple_fold}
@@ -24,7 +25,7 @@ words_of (c ∷ cs) =
 unfoldable pub normalized_white : List ℕ → List ℕ
 normalized_white text = join_with_byte 32 (words_of text)
 
--- the same by simple case folding: how reference names are compared
+-- the same by simple case folding, where the standard says lowercase: how reference names are compared
 unfoldable pub name_of : List ℕ → List ℕ
 name_of text = map simple_fold (normalized_white text)
 

@@ -15,6 +15,6 @@ unfoldable pub through_text : Block → ℕ
 through_text [] = 0
 through_text (l ∷ ls) = if is_blank l.text then suc (through_text ls) else 1
 
--- the lines of a construct of n lines at the front, and those through the first one after it that isn't blank
+-- how many lines a construct of n lines at the front has, with those behind it through the first that isn't blank
 abbrev pub reach : ℕ → Block → ℕ
 reach n X = n + through_text (drop n X)

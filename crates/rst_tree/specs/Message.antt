@@ -1,4 +1,5 @@
--- A message as it stands on standard error (Configuration, 'report_level').
+-- A message as it stands on standard error. No rule of markup: it is the form of Docutils (Configuration, 'report_level', says
+-- which are shown).
 use Rattle.std.specs.Prelude.{List, ℕ, [], ◌++◌, codes, Option, Some, None}
 use Rattle.std.specs.Fmt.{decimal}
 use Rattle.rst_tree.specs.declared.note.Note.{Note}

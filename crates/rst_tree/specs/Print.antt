@@ -1,5 +1,5 @@
--- What is printed of a tree (Document Tree, the pseudo-XML form): its lines in preorder, each behind its indentation and
--- with its end.
+-- What is printed of a tree, in the pseudo-XML of the examples in Document Tree, 'Element Reference': its lines in preorder, each
+-- behind its indentation and with its end.
 use Rattle.std.specs.Prelude.{ℕ, ◌+◌, ◌*◌, ◌==◌, ◌&&◌, ◌||◌, if◌then◌else◌, Bool, true, false, List, [], ◌∷◌, ◌++◌, map, codes, replicate}
 use Rattle.std.specs.List.{flat_map}
 use Rattle.std.specs.Fmt.{decimal}

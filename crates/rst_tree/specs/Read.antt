@@ -1,4 +1,5 @@
--- The elements of a node in preorder, each with what stands in it, and a fold over them (Document Tree, 'Element Hierarchy').
+-- The elements of a node in preorder, each with what stands in it, and a fold over them. No rule of markup: transforms read by
+-- it.
 use Rattle.std.specs.Prelude.{List, [], ◌∷◌, ◌++◌}
 use Rattle.rst_tree.specs.declared.node.Node.{Node}
 use Rattle.rst_tree.specs.declared.node.Node.TheVariants.{Element, Text}

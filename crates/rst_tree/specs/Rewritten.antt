@@ -1,4 +1,4 @@
--- Elements replaced by nodes, or changed, in preorder, with a state (Document Tree, 'Element Hierarchy').
+-- Elements replaced by nodes, or changed, in preorder, with a state. No rule of markup: transforms are said by it.
 use Rattle.std.specs.Prelude.{◌≡◌, Bool, true, false, [], ◌∷◌}
 use Rattle.rst_tree.specs.Nodes.{forest_of}
 use Rattle.rst_tree.specs.declared.node.Node.{Node}
@@ -18,8 +18,8 @@ abbrev pub kept : Node → Rewrite
 kept (Element t a c l) = Keep t a l
 kept (Text t) = Replace (words t bare)
 
--- What becomes of an element was done to it: one node stands in its place; or it stays with other things of its own, and what
--- stands in it is as it was.
+-- The old element became the new node as was told: another node stands in its place; or it stays, with the name, attributes
+-- and line that were told, and with what stood in it.
 abbrev pub Turned : Rewrite → Node → Node → Bool → Type 0
 Turned (Replace f) old new stays = (f ≡ forest_of (new ∷ [])) × (stays ≡ false)
 Turned (Keep t a l) (Element t' a' c l') new stays = (new ≡ Element t a c l) × (stays ≡ true)

@@ -1,4 +1,4 @@
--- What is true of each tree, and the texts in it (Document Tree).
+-- What is true of each tree, and the texts in it. No rule of markup: the standard bounds no nesting and orders no attributes.
 use Rattle.std.specs.Prelude.{◌≡◌, Result, Ok, Err, ℕ, ◌&&◌, ◌||◌, ◌==◌, ◌-◌, Bool, true, false, not, length, Option, Some, None, nat_le, nat_lt, List, [], ◌∷◌, ◌++◌}
 use Rattle.std.specs.List.{list_all}
 use Rattle.std.specs.Str.{chars}
@@ -21,7 +21,7 @@ in_order (a ∷ b ∷ more) = nat_lt (key_code a.key) (key_code b.key) && in_ord
 abbrev pub is_lines : List ℕ → Bool
 is_lines t = list_all (λ c. (c == 10) || not (is_line_end c)) (chars t)
 
--- a byte that is an ASCII character and ends no line, but for LF
+-- LF, or an ASCII byte from the space on: a text of such bytes has no line end but LF. No rule of markup: it is seen at once.
 abbrev pub is_plain_byte : ℕ → Bool
 is_plain_byte b = (b == 10) || (nat_lt 31 b && nat_lt b 128)
 
@@ -74,7 +74,7 @@ abbrev pub text_in : Node → List ℕ
 text_in (Element t a c l) = text_all c
 text_in (Text t) = t
 
--- the texts of a node, or nothing where there is none
+-- the texts in a node, in order; nothing where there is no node
 abbrev pub option_or_nothing : Option Node → List ℕ
 option_or_nothing None = []
 option_or_nothing (Some n) = text_in n

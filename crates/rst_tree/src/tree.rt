@@ -228,7 +228,7 @@ fn is_line_end(c: char) -> bool
     )
 }
 
-/// Whether a byte is an ASCII character that isn't a control character, or LF.
+/// Whether a byte is LF, or ASCII from the space on.
 fn is_plain_byte(byte: u8) -> bool
     ensures { result ≡ is_plain_byte byte }
 {
