@@ -75,12 +75,12 @@ const TARGETS_IN_TITLE: (&str, &str) = (
             <target dupnames="b" ids="b-2" inline="1" own_name="b" serial="3">
                 b
              
-            <problematic ids="problematic-1" message="0" refid="system-message-1" serial="4">
+            <problematic ids="problematic-1" message="0" refid="system-message-1">
                 *
             x 
             <target dupnames="b" ids="b-3" inline="1" own_name="b" serial="5">
                 b
-        <system_message backrefs="problematic-1" ids="system-message-1" message="0" serial="6">
+        <system_message backrefs="problematic-1" ids="system-message-1" message="0">
             <paragraph>
                 Inline emphasis start-string without end-string.
         <system_message backrefs="b-2" level="2" line="6" type="WARNING">
@@ -137,7 +137,7 @@ const TARGETS_IN_LINES: (&str, &str) = (
             <target dupnames="a" ids="a" inline="1" own_name="a" serial="0">
                 a
              
-            <problematic ids="problematic-1" message="0" refid="system-message-1" serial="1">
+            <problematic ids="problematic-1" message="0" refid="system-message-1">
                 *
             x
         <line_block>
@@ -147,7 +147,7 @@ const TARGETS_IN_LINES: (&str, &str) = (
         <line>
             <target dupnames="a" ids="a-2" inline="1" own_name="a" serial="3">
                 a
-    <system_message backrefs="problematic-1" ids="system-message-1" message="0" serial="4">
+    <system_message backrefs="problematic-1" ids="system-message-1" message="0">
         <paragraph>
             Inline emphasis start-string without end-string.
     <system_message backrefs="a-1" level="2" line="2" type="WARNING">
@@ -206,11 +206,11 @@ const TARGETS_IN_TERMS: (&str, &str) = (
                 <target dupnames="a" ids="a-1" inline="1" own_name="a" serial="1">
                     a
                  
-                <problematic ids="problematic-1" message="0" refid="system-message-1" serial="2">
+                <problematic ids="problematic-1" message="0" refid="system-message-1">
                     *
                 x
             <definition>
-                <system_message backrefs="problematic-1" ids="system-message-1" message="0" serial="3">
+                <system_message backrefs="problematic-1" ids="system-message-1" message="0">
                     <paragraph>
                         Inline emphasis start-string without end-string.
                 <system_message backrefs="a-1" level="2" line="1" type="WARNING">
