@@ -2,7 +2,7 @@
 use super::fault::BlockFault;
 use super::texts::{alone, appended, filled};
 use rst_elements::message;
-use rst_tree::{Attrs, Children, Key, Level as Gravity, Node, Tag, Value};
+use rst_tree::{Attrs, Children, Key, Level as Gravity, Node, Said, Tag};
 use std::alloc::Global;
 use std::vec::IntoIter;
 
@@ -116,7 +116,7 @@ fn front_of(node: Option<Node>) -> Front {
 /// How many messages of its text follow a paragraph.
 fn text_messages(attrs: &Attrs) -> u64 {
     match attrs.get(Key::TextMessages) {
-        Some(Value::Number(count)) => *count,
+        Some(Said::Number(count)) => count,
         _ => 0,
     }
 }

@@ -81,7 +81,7 @@ pub fn with_title_class(alloc: Global, admonition: Node, title: &Node) -> Result
 fn with_class(alloc: Global, attrs: Attrs, title: &Node) -> Result<Attrs, TreeFault>
     ensures { Gives (λ classed. classed ≡ with_class (title_class title.now) attrs) result }
 {
-    if attrs.get(Key::Classes).is_some() {
+    if attrs.has(Key::Classes) {
         return Ok(attrs);
     }
     let mut attrs = attrs;

@@ -143,7 +143,7 @@ fn holds_substitution(children: &Children) -> bool
 fn is_anonymous(attrs: &Attrs) -> bool
     ensures { result ≡ is_some (value_of Anonymous attrs.now) }
 {
-    attrs.get(Key::Anonymous).is_some()
+    attrs.has(Key::Anonymous)
 }
 
 /// Whether elements of this kind may stand in a replacement text, whatever they hold.

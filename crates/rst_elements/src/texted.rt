@@ -8,7 +8,7 @@ ghost use Rattle.rst_elements.specs.Results.{HoldsText, IsHolding, ReadsText, Is
 use super::nodes::element_of;
 use super::numbers::Numbers;
 use rst_inline::{Pieces, inline};
-use rst_tree::{Attrs, Key, Node, Note, Tag, TreeFault, Value};
+use rst_tree::{Attrs, Key, Node, Note, Said, Tag, TreeFault, Value};
 use std::alloc::Global;
 
 /// An element with the nodes of its text, and the messages of the text.
@@ -124,7 +124,7 @@ fn message_of(node: &Node) -> Option<u64>
     ensures { result ≡ message_of node.now }
 {
     match node.value(Key::Message) {
-        Some(Value::Number(number)) => Some(*number),
+        Some(Said::Number(number)) => Some(number),
         _ => None,
     }
 }

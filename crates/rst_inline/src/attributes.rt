@@ -4,16 +4,16 @@ ghost use Rattle.rst_tree.specs.Attributes.{attr};
 ghost use Rattle.rst_inline.specs.Faults.{Gives};
 
 use super::fault::InlineFault;
-use rst_tree::{Attr, Key, Value};
+use rst_tree::{Entry, Key, Value};
 use std::alloc::Global;
 
-pub(crate) fn attr(key: Key, value: Value) -> Attr
+pub(crate) fn attr(key: Key, value: Value) -> Entry
     ensures { result ≡ attr key value }
 {
-    Attr { key, value }
+    Entry::new(key, value)
 }
 
-pub(crate) fn two(alloc: Global, first: Attr, second: Attr) -> Result<Vec<Attr>, InlineFault>
+pub(crate) fn two(alloc: Global, first: Entry, second: Entry) -> Result<Vec<Entry>, InlineFault>
     ensures { Gives (λ list. list.items ≡ first ∷ second ∷ []) result }
 {
     let mut list = Vec::with_capacity(alloc, 2)?;
@@ -24,10 +24,10 @@ pub(crate) fn two(alloc: Global, first: Attr, second: Attr) -> Result<Vec<Attr>,
 
 pub(crate) fn three(
     alloc: Global,
-    first: Attr,
-    second: Attr,
-    third: Attr,
-) -> Result<Vec<Attr>, InlineFault>
+    first: Entry,
+    second: Entry,
+    third: Entry,
+) -> Result<Vec<Entry>, InlineFault>
     ensures { Gives (λ list. list.items ≡ first ∷ second ∷ third ∷ []) result }
 {
     let mut list = Vec::with_capacity(alloc, 3)?;

@@ -8,7 +8,7 @@ ghost use Rattle.rst_inline.specs.Faults.{Gives};
 use super::attributes::{attr, three, two};
 use super::fault::InlineFault;
 use super::texts::{name_said, said, spelled};
-use rst_tree::{Attr, Attrs, Children, Key, Node, Tag, Value};
+use rst_tree::{Attrs, Children, Entry, Key, Node, Tag, Value};
 use std::alloc::Global;
 
 /// The nodes of a text: none where it is empty.
@@ -27,7 +27,7 @@ pub(crate) fn text_nodes(alloc: Global, shown: &[char]) -> Result<Children, Inli
 pub(crate) fn element(
     alloc: Global,
     tag: Tag,
-    attrs: Vec<Attr>,
+    attrs: Vec<Entry>,
     shown: &[char],
     line: usize,
 ) -> Result<Node, InlineFault>
@@ -55,7 +55,7 @@ pub(crate) fn plain_element(
 }
 
 /// An element with attributes that holds nothing.
-pub(crate) fn bare_element(alloc: Global, tag: Tag, attrs: Vec<Attr>, line: usize) -> Node
+pub(crate) fn bare_element(alloc: Global, tag: Tag, attrs: Vec<Entry>, line: usize) -> Node
     ensures { result ≡ Element tag attrs.items bare line }
 {
     Node::Element {

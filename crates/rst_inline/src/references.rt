@@ -8,7 +8,7 @@ use super::elements::element;
 use super::fault::InlineFault;
 use super::texts::{name_said, normalized_said, said};
 use rst_pieces::Suffix;
-use rst_tree::{Attr, Attrs, Children, Key, Node, Tag, Value};
+use rst_tree::{Attrs, Children, Entry, Key, Node, Tag, Value};
 use std::alloc::Global;
 
 fn reference_attrs(
@@ -16,7 +16,7 @@ fn reference_attrs(
     suffix: Suffix,
     source: &[char],
     shown: &[char],
-) -> Result<Vec<Attr>, InlineFault>
+) -> Result<Vec<Entry>, InlineFault>
     ensures { Gives (λ attrs. attrs.items ≡ reference_attrs suffix source.now shown.now) result }
 {
     let name = normalized_said(alloc, shown)?;
@@ -136,7 +136,7 @@ fn outer_attrs(
     suffix: Suffix,
     source: &[char],
     shown: &[char],
-) -> Result<Vec<Attr>, InlineFault>
+) -> Result<Vec<Entry>, InlineFault>
     ensures { Gives (λ attrs. attrs.items ≡ outer_attrs suffix source.now shown.now) result }
 {
     let written = said(alloc, source)?;

@@ -5,7 +5,7 @@ ghost use Rattle.rst_tree.specs.Walk.{item, node_items, after, scanned, walked_n
 ghost use Rattle.rst_marked.specs.Marks.{marks_of, own_mark, from_on, wanted, with_one, heeded_next, heeded_out, touched_node, stepped_node};
 ghost use Rattle.rst_marked.specs.Registered.{is_registered_kind, is_registered_key, has_registered_key, is_registered, item_of};
 
-use rst_tree::{Attr, Attrs, Children, Key, Node, Tag, Text, TreeFault, Visitor};
+use rst_tree::{Attrs, Children, Entry, Key, Node, Tag, Text, TreeFault, Visitor};
 use smallvec::SmallVec;
 use std::alloc::Global;
 use std::marker::Model;
@@ -77,10 +77,10 @@ fn is_registered_key(key: Key) -> bool
 }
 
 /// Whether one of some attributes has such a name.
-fn has_registered_key(attrs: &[Attr]) -> bool
+fn has_registered_key(attrs: &[Entry]) -> bool
     ensures { result ≡ has_registered_key attrs.now }
 {
-    attrs.iter().any(|attr| is_registered_key(attr.key))
+    attrs.iter().any(|attr| is_registered_key(attr.key()))
 }
 
 /// Whether registration needs an element.

@@ -154,7 +154,7 @@ impl Placing {
     fn own(&mut self, attrs: &Attrs, own: Option<Node>) -> Result<(), TreeFault> {
         match own {
             None => Ok(()),
-            Some(message) if attrs.get(Key::Inline).is_some() => {
+            Some(message) if attrs.has(Key::Inline) => {
                 self.placed.of_text.push(message)?;
                 Ok(())
             }

@@ -4,7 +4,7 @@ ghost use Rattle.rst_marked.specs.Registered.{item_of};
 ghost use Rattle.rst_names.specs.Gathered.{text_at, number_at, own_name};
 
 use rst_marked::Element;
-use rst_tree::{Attrs, Key, Text, Value};
+use rst_tree::{Attrs, Key, Said, Text};
 
 /// The name that an element was written with; the empty name is none.
 pub fn own_name<'a>(element: Element<'a>) -> &'a str
@@ -21,7 +21,7 @@ pub fn text_at(attrs: &Attrs, key: Key) -> Option<&Text>
     ensures { MatchOption result (text_at key attrs.now ≡ None) (λ t. text_at key attrs.now ≡ Some t.now) }
 {
     match attrs.get(key) {
-        Some(Value::Text(text)) => Some(text),
+        Some(Said::Text(text)) => Some(text),
         _ => None,
     }
 }
@@ -31,7 +31,7 @@ pub fn number_at(attrs: &Attrs, key: Key) -> Option<u64>
     ensures { result ≡ number_at key attrs.now }
 {
     match attrs.get(key) {
-        Some(Value::Number(number)) => Some(*number),
+        Some(Said::Number(number)) => Some(number),
         _ => None,
     }
 }

@@ -12,8 +12,8 @@ use super::comparing::compare;
 use super::printed::printed;
 use super::tree_tests::{Said, element, holding, text, titled};
 use rst_tree::{
-    Attr, Attrs, Children, Key, Node, Reader, Rewrite, Rewriter, Tag, Text, Tree, TreeFault, Value,
-    Visitor, read_elements, rewrite_in, walk,
+    Attrs, Children, Entry, Key, Node, Reader, Rewrite, Rewriter, Said, Tag, Text, Tree, TreeFault,
+    Value, Visitor, read_elements, rewrite_in, walk,
 };
 use std::alloc::Global;
 use std::process::Abort;
@@ -32,10 +32,7 @@ fn nested(alloc: Global, levels: usize) -> Result<Node, TreeFault> {
 fn named(alloc: Global, keys: &[Key]) -> Result<Node, TreeFault> {
     let mut list = Vec::new(alloc);
     for key in keys {
-        list.push(Attr {
-            key: *key,
-            value: Value::Number(1),
-        })?;
+        list.push(Entry::new(*key, Value::Number(1)))?;
     }
     Ok(Node::Element {
         tag: Tag::Paragraph,
@@ -86,7 +83,7 @@ fn reads_trees(rt: HostRuntime) -> Result<(), Fail> {
     assert!(rt; tree.has(&[1, 0]));
     assert!(rt; !tree.has(&[1, 1]));
     match tree.attr(&[], Key::Title) {
-        Some(Value::Text(said)) => compare(&rt, said.as_str(), "Title", "attribute"),
+        Some(Said::Text(said)) => compare(&rt, said.as_str(), "Title", "attribute"),
         _ => assert!(rt; false),
     }
     assert!(rt; tree.attr(&[0], Key::Ids).is_none());

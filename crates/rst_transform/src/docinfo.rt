@@ -6,7 +6,7 @@ use crate::field::Field;
 use crate::texts::add_names;
 use crate::work::Work;
 use rst_names::Names;
-use rst_tree::{Attrs, Children, Key, Node, Tag, TreeFault, Value};
+use rst_tree::{Attrs, Children, Key, Node, Said, Tag, TreeFault};
 use std::alloc::Global;
 use std::mem;
 
@@ -93,11 +93,11 @@ fn keep_uris(alloc: Global, node: &Node, names: &mut Names) -> Result<(), TreeFa
 
 /// Keeps where the names of a target lead, if it has a URI.
 fn keep_uri(alloc: Global, target: &Attrs, names: &mut Names) -> Result<(), TreeFault> {
-    if let (Some(Value::Text(uri)), Some(Value::List(list))) = (
+    if let (Some(Said::Text(uri)), Some(Said::List(list))) = (
         target.get(Key::Refuri),
         target.get(Key::Names),
     ) {
-        for name in list.as_slice() {
+        for name in list {
             names.keep_uri(alloc, name.as_str(), uri.as_str())?;
         }
     }

@@ -4,7 +4,7 @@ use crate::holders::text_attr;
 use crate::links::{Addition, Changes, Linked, Outcome, linked_in, put_back, settled, take_root};
 use crate::reading::{first_said, has, is_a, line_of, list_said, text_said};
 use crate::work::Work;
-use rst_tree::{Attr, Key, Level, Node, Tag, Text, TreeFault, Value};
+use rst_tree::{Entry, Key, Level, Node, Said, Tag, Text, TreeFault, Value};
 use std::alloc::Global;
 
 /// The labels of symbol footnotes; the further ones are these doubled, tripled and so on (Markup Specification, 'Auto-Symbol
@@ -114,7 +114,7 @@ fn reference_order(node: &Node) -> Option<Order> {
         return None;
     }
     match node.value(Key::Auto) {
-        Some(Value::Text(text)) if text.as_str() == "*" => Some(Order::Symbols),
+        Some(Said::Text(text)) if text.as_str() == "*" => Some(Order::Symbols),
         Some(_) => Some(Order::Numbers),
         None => None,
     }
@@ -314,10 +314,7 @@ fn labelled(
         if let Some(number) = text_at(labels, place)? {
             let mut names = list_said(alloc, one.element, Key::Names)?;
             names.push(number)?;
-            return Ok(Outcome::says(Attr {
-                key: Key::Names,
-                value: Value::List(names),
-            }));
+            return Ok(Outcome::says(Entry::new(Key::Names, Value::List(names))));
         }
     }
     Ok(Outcome::same())

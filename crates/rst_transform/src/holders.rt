@@ -3,7 +3,7 @@
 use crate::links::Linked;
 use crate::reading::{is_a, number_said, text_said};
 use rst_names::{Held, Holder, Names};
-use rst_tree::{Attr, Key, Node, Tag, Text, TreeFault, Value};
+use rst_tree::{Entry, Key, Node, Tag, Text, TreeFault, Value};
 use std::alloc::Global;
 
 /// The places of linked elements in the list of all, by their numbers.
@@ -47,17 +47,14 @@ impl Holders {
 }
 
 /// An attribute that is a text.
-pub(crate) fn text_attr(alloc: Global, key: Key, text: &str) -> Result<Attr, TreeFault> {
+pub(crate) fn text_attr(alloc: Global, key: Key, text: &str) -> Result<Entry, TreeFault> {
     let text = Text::from_str(alloc, text)?;
-    Ok(Attr {
-        key,
-        value: Value::Text(text),
-    })
+    Ok(Entry::new(key, Value::Text(text)))
 }
 
 /// Where a target leads that isn't a place of its own: its `refuri` or else its `refid`, as an attribute for what refers to
 /// it.
-pub(crate) fn lead_of(alloc: Global, target: &Node) -> Result<Option<Attr>, TreeFault> {
+pub(crate) fn lead_of(alloc: Global, target: &Node) -> Result<Option<Entry>, TreeFault> {
     for key in [Key::Refuri, Key::Refid] {
         if let Some(to) = text_said(target, key) {
             return Ok(Some(text_attr(alloc, key, to)?));
@@ -74,7 +71,7 @@ pub(crate) fn lead_by_name(
     name: &str,
     held: &Held,
     holder: Option<&Node>,
-) -> Result<Attr, TreeFault> {
+) -> Result<Entry, TreeFault> {
     if let Some(target) = holder {
         if is_a(target, Tag::Target) {
             if let Some(attr) = lead_of(alloc, target)? {

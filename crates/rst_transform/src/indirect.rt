@@ -6,14 +6,14 @@ use crate::links::{Changes, Linked, Outcome, linked_in, put_back, settled, take_
 use crate::reading::{has, is_a, line_of, text_said};
 use crate::work::Work;
 use rst_names::{Holder, Names};
-use rst_tree::{Attr, Key, Level, Node, Tag, Text, TreeFault};
+use rst_tree::{Entry, Key, Level, Node, Tag, Text, TreeFault};
 use std::alloc::Global;
 
 /// What an indirect target comes to, through further ones.
 #[derive(Drop)]
 enum Answer {
     /// It leads where this attribute says.
-    Leads(Attr),
+    Leads(Entry),
     /// The last name on its way is held by no element.
     Missing(Text),
     /// Its way is a circle, or ends in one.
@@ -32,18 +32,11 @@ enum Step {
 impl Answer {
     fn copy(&self, alloc: Global) -> Result<Answer, TreeFault> {
         match self {
-            Answer::Leads(attr) => Ok(Answer::Leads(copy_attr(alloc, attr)?)),
+            Answer::Leads(attr) => Ok(Answer::Leads(attr.copy(alloc)?)),
             Answer::Missing(name) => Ok(Answer::Missing(name.copy()?)),
             Answer::Circular => Ok(Answer::Circular),
         }
     }
-}
-
-fn copy_attr(alloc: Global, attr: &Attr) -> Result<Attr, TreeFault> {
-    Ok(Attr {
-        key: attr.key,
-        value: attr.value.copy(alloc)?,
-    })
 }
 
 /// Lets each target that refers to a name lead where that name leads, through further such targets (Markup Specification,
@@ -294,7 +287,7 @@ fn outcomes(
 /// What becomes of an element that leads where an answer says.
 fn led(alloc: Global, answer: &Answer) -> Result<Outcome, TreeFault> {
     match answer {
-        Answer::Leads(attr) => Ok(Outcome::says(copy_attr(alloc, attr)?)),
+        Answer::Leads(attr) => Ok(Outcome::says(attr.copy(alloc)?)),
         Answer::Missing(_) | Answer::Circular => Ok(Outcome::same()),
     }
 }

@@ -95,11 +95,11 @@ impl Kinds {
     /// Takes in an element at one of the two ends of a link.
     fn note_linked(&mut self, tag: Tag, attrs: &Attrs) {
         self.links = true;
-        self.anonymous = self.anonymous || attrs.get(Key::Anonymous).is_some();
+        self.anonymous = self.anonymous || attrs.has(Key::Anonymous);
         match tag {
             Tag::Target => {
                 self.targets = self.targets || is_internal(tag, attrs);
-                self.indirect = self.indirect || attrs.get(Key::Refname).is_some();
+                self.indirect = self.indirect || attrs.has(Key::Refname);
             }
             Tag::Footnote | Tag::FootnoteReference => self.footnotes = true,
             _ => {}

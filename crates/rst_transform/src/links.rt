@@ -6,7 +6,7 @@ ghost use Rattle.rst_transform.specs.Links.{Shows, changed_root};
 
 use crate::texts::take_source;
 use crate::work::Work;
-use rst_tree::{Attr, Attrs, Children, Node, Rewriter, Tag, Text, TreeFault, rewrite_in};
+use rst_tree::{Attrs, Children, Entry, Node, Rewriter, Tag, Text, TreeFault, rewrite_in};
 use std::alloc::Global;
 use std::collections::VecDeque;
 use std::marker::Model;
@@ -24,7 +24,7 @@ pub(crate) struct Linked<'a> {
 #[derive(Drop)]
 pub(crate) struct Addition {
     /// This attribute, if there is one.
-    pub attr: Option<Attr>,
+    pub attr: Option<Entry>,
     /// This text in place of what stood in it, if there is one. What gets one, a label or a reference to a footnote, holds
     /// no linked element.
     pub shown: Option<Text>,
@@ -56,7 +56,7 @@ impl Outcome {
     }
 
     /// It stays, and says this.
-    pub(crate) fn says(attr: Attr) -> Outcome {
+    pub(crate) fn says(attr: Entry) -> Outcome {
         Outcome::Stays(Addition {
             attr: Some(attr),
             shown: None,
@@ -294,11 +294,11 @@ fn is_idle(change: &Change) -> bool {
 }
 
 /// Adds an attribute, if there is one.
-fn add(attrs: &mut Attrs, more: Option<Attr>) -> Result<(), TreeFault>
+fn add(attrs: &mut Attrs, more: Option<Entry>) -> Result<(), TreeFault>
     ensures { Gives (λ _. attrs.new ≡ with_more more attrs.old) result }
 {
     if let Some(attr) = more {
-        attrs.set(attr.key, attr.value)?;
+        attrs.set(attr.key(), attr.into_value())?;
     }
     Ok(())
 }

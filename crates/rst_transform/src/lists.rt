@@ -2,7 +2,7 @@
 ghost use Rattle.std.specs.Prelude.{◌≡◌, ◌++◌};
 ghost use Rattle.rst_tree.specs.Faults.{Gives};
 
-use rst_tree::{Attrs, Key, Node, Text, Texts, TreeFault, Value};
+use rst_tree::{Attrs, Key, Node, Said, Text, Texts, TreeFault, Value};
 use std::alloc::Global;
 
 /// Takes out an attribute, and gives the texts that it lists; none where it is missing or no list.
@@ -44,7 +44,7 @@ pub(crate) fn append_names(
 /// Puts the texts that an attribute lists elsewhere behind those that it lists here.
 fn append_from(alloc: Global, attrs: &mut Attrs, key: Key, from: &Attrs) -> Result<(), TreeFault> {
     match from.get(key) {
-        Some(Value::List(more)) => append(alloc, attrs, key, more.as_slice()),
+        Some(Said::List(more)) => append(alloc, attrs, key, more),
         _ => Ok(()),
     }
 }

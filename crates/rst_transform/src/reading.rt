@@ -5,7 +5,7 @@ ghost use Rattle.rst_tree.specs.Faults.{Gives};
 ghost use Rattle.rst_tree.specs.Paths.{node_value};
 ghost use Rattle.rst_transform.specs.Reading.{text_in, number_in, text_said, number_said, list_said, line_of};
 
-use rst_tree::{Attrs, Key, Node, Tag, Texts, TreeFault, Value};
+use rst_tree::{Attrs, Key, Node, Said, Tag, Texts, TreeFault};
 use std::alloc::Global;
 
 /// What the attribute of a name says, where it is a text.
@@ -13,7 +13,7 @@ fn text<'a>(attrs: &'a Attrs, key: Key) -> Option<&'a str>
     ensures { MatchOption result (text_in (value_of key attrs.now) ≡ None) (λ text. text_in (value_of key attrs.now) ≡ Some text.now) }
 {
     match attrs.get(key) {
-        Some(Value::Text(text)) => Some(text.as_str()),
+        Some(Said::Text(text)) => Some(text.as_str()),
         _ => None,
     }
 }
@@ -38,7 +38,7 @@ pub(crate) fn number(attrs: &Attrs, key: Key) -> Option<u64>
     ensures { result ≡ number_in (value_of key attrs.now) }
 {
     match attrs.get(key) {
-        Some(Value::Number(number)) => Some(*number),
+        Some(Said::Number(number)) => Some(number),
         _ => None,
     }
 }
@@ -56,7 +56,7 @@ pub(crate) fn number_said(node: &Node, key: Key) -> Option<u64>
 /// The first member of what an attribute says, where it is a list that has one.
 pub(crate) fn first_said<'a>(node: &'a Node, key: Key) -> Option<&'a str> {
     match node.value(key) {
-        Some(Value::List(list)) => match list.as_slice().first() {
+        Some(Said::List(list)) => match list.first() {
             Some(text) => Some(text.as_str()),
             None => None,
         },
@@ -69,7 +69,7 @@ pub(crate) fn list_said(alloc: Global, node: &Node, key: Key) -> Result<Texts, T
     ensures { Gives (λ list. list ≡ list_said key node.now) result }
 {
     match node.value(key) {
-        Some(Value::List(list)) => list.copy(alloc),
+        Some(Said::List(list)) => Texts::copy_of(alloc, list),
         _ => Ok(Texts::new(alloc)),
     }
 }

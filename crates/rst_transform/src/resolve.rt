@@ -7,14 +7,14 @@ use crate::reading::{first_said, has, is_a, line_of, text_said};
 use crate::texts::said_of;
 use crate::work::Work;
 use rst_names::{Holder, Names};
-use rst_tree::{Attr, Key, Level, Node, Tag, Text, Texts, TreeFault, Value};
+use rst_tree::{Entry, Key, Level, Node, Tag, Text, Texts, TreeFault, Value};
 use std::alloc::Global;
 
 /// What a name means to a reference.
 #[derive(Drop)]
 enum Meaning {
     /// It leads where the attribute says: to the footnote or citation at this place, if it is one.
-    Leads { attr: Attr, note: Option<usize> },
+    Leads { attr: Entry, note: Option<usize> },
     /// No element of the kind that is looked for has it.
     Unknown,
     /// Elements with equal names lost it.
@@ -310,10 +310,7 @@ fn with_backrefs(
     }
     for (place, ids) in backrefs.into_iter().enumerate() {
         if place < outcomes.len() && !ids.as_slice().is_empty() {
-            outcomes[place] = Outcome::says(Attr {
-                key: Key::Backrefs,
-                value: Value::List(ids),
-            });
+            outcomes[place] = Outcome::says(Entry::new(Key::Backrefs, Value::List(ids)));
         }
     }
     Ok(outcomes)

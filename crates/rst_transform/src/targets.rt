@@ -42,9 +42,9 @@ pub fn targets(alloc: Global, mut work: Work) -> Result<Work, TreeFault> {
 /// Whether an element is an internal target of the body: one that stands in no text, and tells neither a URI nor a name.
 pub(crate) fn is_internal(tag: Tag, attrs: &Attrs) -> bool {
     matches!(tag, Tag::Target)
-        && attrs.get(Key::Inline).is_none()
-        && attrs.get(Key::Refuri).is_none()
-        && attrs.get(Key::Refname).is_none()
+        && !attrs.has(Key::Inline)
+        && !attrs.has(Key::Refuri)
+        && !attrs.has(Key::Refname)
 }
 
 /// Whether an element of a kind takes the ids and names of a target before it.

@@ -2,7 +2,7 @@
 use crate::lists::{append_names, joined};
 use crate::work::Work;
 use rst_names::{Holder, Names};
-use rst_tree::{Attrs, Children, Key, Node, Tag, TreeFault, Value};
+use rst_tree::{Attrs, Children, Key, Node, Said, Tag, TreeFault, Value};
 use std::alloc::Global;
 
 /// Makes the title of a document's lone section the document's, and then that of a lone subsection its subtitle (Markup
@@ -170,8 +170,8 @@ fn take_names(
     names: &mut Names,
 ) -> Result<(), TreeFault> {
     append_names(alloc, attrs, section)?;
-    if let Some(Value::List(held)) = section.get(Key::Names) {
-        for name in held.as_slice() {
+    if let Some(Said::List(held)) = section.get(Key::Names) {
+        for name in held {
             names.move_to(name.as_str(), Holder::Unregistered);
         }
     }

@@ -4,7 +4,7 @@
 use rst_names::{Held, Holder, Ids, Names, Strength};
 use rst_text::Counted;
 use rst_transform::Work;
-use rst_tree::{Attrs, Key, Node, Tag, Text, Texts, Tree, TreeFault, Value, print};
+use rst_tree::{Attrs, Key, Node, Said, Tag, Text, Texts, Tree, TreeFault, Value, print};
 use std::alloc::Global;
 use std::test::Fail;
 
@@ -164,7 +164,7 @@ pub fn work(alloc: Global, outline: &str) -> Result<Work, TreeFault> {
 /// The holder of the names of an element.
 fn holder(attrs: &Attrs) -> Holder {
     match attrs.get(Key::Serial) {
-        Some(Value::Number(serial)) => Holder::Element(*serial),
+        Some(Said::Number(serial)) => Holder::Element(serial),
         _ => Holder::Unregistered,
     }
 }
@@ -172,12 +172,12 @@ fn holder(attrs: &Attrs) -> Holder {
 /// Lets a holder have the names of a list.
 fn hold_listed(
     alloc: Global,
-    list: Option<&Value>,
+    list: Option<Said<'_>>,
     holder: Holder,
     names: &mut Names,
 ) -> Result<(), TreeFault> {
-    if let Some(Value::List(list)) = list {
-        for name in list.as_slice() {
+    if let Some(Said::List(list)) = list {
+        for name in list {
             let held = Held {
                 holder,
                 strength: Strength::Explicit,

@@ -3,6 +3,7 @@ pub mod TagNames
 pub mod KeyNames
 pub mod LevelNames
 pub mod Attributes
+pub mod Entries
 pub mod Forest
 pub mod Nodes
 pub mod Falls

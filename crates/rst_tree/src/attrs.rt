@@ -1,8 +1,10 @@
 //! The attributes of elements.
-ghost use Rattle.std.specs.Prelude.{◌≡◌, ◌∷◌, drop, vec_len, [], MatchOption, None, Some};
+ghost use Rattle.std.specs.Prelude.{◌≡◌, ◌∷◌, drop, vec_len, [], MatchOption, None, Some, is_some};
 ghost use Rattle.rst_tree.specs.Faults.{Gives, Becomes};
 ghost use Rattle.rst_tree.specs.Attributes.{attr, value_of, with_attr, without_key, without_hidden, place_named, places_below, is_at};
+ghost use Rattle.rst_tree.specs.Entries.{said};
 
+use crate::entry::{Entry, Said};
 use crate::fault::TreeFault;
 use crate::key::Key;
 use crate::text::{Text, Texts};
@@ -17,53 +19,17 @@ pub enum Value {
     List(Texts),
 }
 
-impl Value {
-    ghost use Rattle.rst_tree.specs.Print.{is_empty_list};
-
-    /// An equal value.
-    pub fn copy(&self, alloc: Global) -> Result<Value, TreeFault>
-        ensures { Gives (λ v. v ≡ self.now) result }
-    {
-        match self {
-            Value::Text(text) => Ok(Value::Text(text.copy()?)),
-            Value::Number(number) => Ok(Value::Number(*number)),
-            Value::List(texts) => Ok(Value::List(texts.copy(alloc)?)),
-        }
-    }
-
-    /// Whether it is a list without members.
-    pub fn is_empty_list(&self) -> bool
-        ensures { result ≡ is_empty_list self.now }
-    {
-        match self {
-            Value::List(list) => list.as_slice().is_empty(),
-            _ => false,
-        }
-    }
-}
-
-/// An attribute: its name and what it says.
+/// An attribute: its name and what it says. Lists of them hold each as an `Entry`.
 #[derive(Debug, Drop)]
 pub struct Attr {
     pub key: Key,
     pub value: Value,
 }
 
-impl Attr {
-    ghost use Rattle.rst_tree.specs.Print.{is_left_out};
-
-    /// Whether it is a list that isn't shown where it is empty, and is empty.
-    pub fn is_left_out(&self) -> bool
-        ensures { result ≡ is_left_out self.now }
-    {
-        self.value.is_empty_list() && self.key.hides_empty()
-    }
-}
-
 /// The attributes of an element, which contracts see as the list of them.
 #[derive(Debug, Drop)]
 pub struct Attrs {
-    list: Vec<Attr>,
+    list: Vec<Entry>,
 }
 
 impl Model for Attrs {
@@ -98,34 +64,41 @@ impl Attrs {
         ensures { Gives (λ attrs. attrs ≡ attr key value ∷ []) result }
     {
         let mut list = Vec::with_capacity(alloc, 1)?;
-        list.push_reserved(Attr { key, value });
+        list.push_reserved(Entry::new(key, value));
         Ok(Attrs { list })
     }
 
     /// The attributes of a `Vec`.
-    pub fn of(list: Vec<Attr>) -> Attrs
+    pub fn of(list: Vec<Entry>) -> Attrs
         ensures { result ≡ list.items }
     {
         Attrs { list }
     }
 
     /// The attributes in order.
-    pub fn as_slice(&self) -> &[Attr]
+    pub fn as_slice(&self) -> &[Entry]
         ensures { result.now ≡ self.now }
     {
         self.list.as_slice()
     }
 
     /// What the attribute of a name says, if there is one.
-    pub fn get(&self, key: Key) -> Option<&Value>
-        ensures { MatchOption result (value_of key self.now ≡ None) (λ v. value_of key self.now ≡ Some v.now) }
+    pub fn get(&self, key: Key) -> Option<Said<'_>>
+        ensures { MatchOption result (value_of key self.now ≡ None) (λ v. value_of key self.now ≡ Some (said v)) }
     {
         for attr in &self.list {
-            if attr.key.code() == key.code() {
-                return Some(&attr.value);
+            if attr.key().code() == key.code() {
+                return Some(attr.said());
             }
         }
         None
+    }
+
+    /// Whether there is an attribute of a name.
+    pub fn has(&self, key: Key) -> bool
+        ensures { result ≡ is_some (value_of key self.now) }
+    {
+        self.get(key).is_some()
     }
 
     /// Lets the attribute of a name say a value: in place of what it said, or as a new one at its place among the names.
@@ -134,7 +107,7 @@ impl Attrs {
     {
         let attrs = self.list.as_slice();
         let place = place_of(attrs, key);
-        let attr = Attr { key, value };
+        let attr = Entry::new(key, value);
         if is_at(attrs, place, key) {
             self.list[place] = attr;
             return Ok(());
@@ -160,7 +133,7 @@ impl Attrs {
         let place = place_named(self.list.as_slice(), key);
         if place < self.list.len() {
             let attr = self.list.remove(place);
-            return Some(attr.value);
+            return Some(attr.into_value());
         }
         None
     }
@@ -169,7 +142,7 @@ impl Attrs {
     pub fn remove_hidden(&mut self)
         ensures { self.new ≡ without_hidden self.old }
     {
-        self.list.retain(|attr| !attr.key.is_hidden());
+        self.list.retain(|attr| !attr.key().is_hidden());
     }
 
     /// An equal list of attributes.
@@ -178,18 +151,14 @@ impl Attrs {
     {
         let mut list = Vec::with_capacity(alloc, self.list.len())?;
         for attr in &self.list {
-            let value = attr.value.copy(alloc)?;
-            list.push(Attr {
-                key: attr.key,
-                value,
-            })?;
+            list.push(attr.copy(alloc)?)?;
         }
         Ok(Attrs { list })
     }
 }
 
 /// Makes room for two attributes where there is none: most elements that have some have no more.
-fn make_room(list: &mut Vec<Attr>) -> Result<(), TreeFault>
+fn make_room(list: &mut Vec<Entry>) -> Result<(), TreeFault>
     ensures items { list.new.items ≡ list.old.items }
     ensures len { vec_len list.new ≡ vec_len list.old }
 {
@@ -200,11 +169,11 @@ fn make_room(list: &mut Vec<Attr>) -> Result<(), TreeFault>
 }
 
 /// How many attributes stand before the first whose name isn't before `key`.
-fn place_of(attrs: &[Attr], key: Key) -> usize
+fn place_of(attrs: &[Entry], key: Key) -> usize
     ensures { result ≡ places_below key attrs.now }
 {
     for (i, attr) in attrs.iter().enumerate() {
-        if attr.key.code() >= key.code() {
+        if attr.key().code() >= key.code() {
             return i;
         }
     }
@@ -212,18 +181,18 @@ fn place_of(attrs: &[Attr], key: Key) -> usize
 }
 
 /// Whether the attribute at a place has a name.
-fn is_at(attrs: &[Attr], place: usize, key: Key) -> bool
+fn is_at(attrs: &[Entry], place: usize, key: Key) -> bool
     ensures { result ≡ is_at key (drop place attrs.now) }
 {
-    place < attrs.len() && attrs[place].key.code() == key.code()
+    place < attrs.len() && attrs[place].key().code() == key.code()
 }
 
 /// How many attributes stand before the first of a name.
-fn place_named(attrs: &[Attr], key: Key) -> usize
+fn place_named(attrs: &[Entry], key: Key) -> usize
     ensures { result ≡ place_named key attrs.now }
 {
     for (i, attr) in attrs.iter().enumerate() {
-        if attr.key.code() == key.code() {
+        if attr.key().code() == key.code() {
             return i;
         }
     }

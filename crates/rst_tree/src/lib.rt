@@ -3,6 +3,7 @@
 
 mod attrs;
 mod brief;
+mod entry;
 mod fault;
 mod key;
 pub mod laws;
@@ -20,6 +21,7 @@ mod tree;
 mod walking;
 
 pub use attrs::{Attr, Attrs, Value};
+pub use entry::{Entry, Said};
 pub use fault::{PrintFault, TreeFault};
 pub use key::Key;
 pub use node::{Children, Node};

@@ -4,7 +4,8 @@ ghost use Rattle.rst_tree.specs.Faults.{Gives};
 ghost use Rattle.rst_tree.specs.Nodes.{forest_of};
 ghost use Rattle.rst_tree.specs.Messages.{holding, literal_of, note_nodes, note_attrs, note_node};
 
-use crate::attrs::{Attr, Attrs, Value};
+use crate::attrs::{Attrs, Value};
+use crate::entry::Entry;
 use crate::fault::TreeFault;
 use crate::key::Key;
 use crate::node::{Children, Node};
@@ -37,18 +38,10 @@ fn note_attrs(alloc: Global, level: Level, line: usize) -> Result<Attrs, TreeFau
 {
     let name = Text::from_str(alloc, level.name())?;
     let mut attrs = Vec::with_capacity(alloc, 6)?;
-    attrs.push(Attr {
-        key: Key::Level,
-        value: Value::Number(u64::from(level.number())),
-    })?;
-    attrs.push(Attr {
-        key: Key::Line,
-        value: Value::Number(line as u64),
-    })?;
-    attrs.push(Attr {
-        key: Key::Type_,
-        value: Value::Text(name),
-    })?;
+    let number = Value::Number(u64::from(level.number()));
+    attrs.push_reserved(Entry::new(Key::Level, number));
+    attrs.push_reserved(Entry::new(Key::Line, Value::Number(line as u64)));
+    attrs.push_reserved(Entry::new(Key::Type_, Value::Text(name)));
     Ok(Attrs::of(attrs))
 }
 

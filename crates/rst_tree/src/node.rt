@@ -1,10 +1,12 @@
 //! Nodes and lists of them.
 ghost use Rattle.std.specs.Prelude.{◌≡◌, ◌∷◌, ◌++◌, [], ◌<◌, length, slice_get, slice_index_or, MatchOption, None, Some, IsSomeAnd, string_bytes};
 ghost use Rattle.std.specs.Borrow.{sem};
+ghost use Rattle.rst_tree.specs.Entries.{said};
 ghost use Rattle.rst_tree.specs.Faults.{Gives, Becomes, GivesBack};
 ghost use Rattle.rst_tree.specs.Tree.{text_in};
 
 use crate::attrs::{Attrs, Value};
+use crate::entry::Said;
 use crate::fault::TreeFault;
 use crate::key::Key;
 use crate::tag::Tag;
@@ -192,8 +194,8 @@ impl Node {
     }
 
     /// What the attribute of a name says, if there is one; a text has none.
-    pub fn value(&self, key: Key) -> Option<&Value>
-        ensures { MatchOption result (node_value key self.now ≡ None) (λ v. node_value key self.now ≡ Some v.now) }
+    pub fn value(&self, key: Key) -> Option<Said<'_>>
+        ensures { MatchOption result (node_value key self.now ≡ None) (λ v. node_value key self.now ≡ Some (said v)) }
     {
         match self {
             Node::Element { attrs, .. } => attrs.get(key),

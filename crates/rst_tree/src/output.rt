@@ -2,12 +2,13 @@
 ghost use Rattle.std.specs.Prelude.{◌≡◌, ◌≢◌, ◌+◌, ◌*◌, ◌-◌, ◌^◌, ◌<◌, ◌∷◌, ◌++◌, [], length, take, drop, map, replicate};
 ghost use Rattle.rst_tree.specs.Sends.{Sends};
 ghost use Rattle.rst_tree.specs.Print.{is_escaped, escaped_byte, escaped, spaced, value_text, shown_attr, start_tag, line_len, printed_line, printed, text_lines, printed_node};
+ghost use Rattle.rst_tree.specs.Entries.{said};
 ghost use Rattle.rst_tree.specs.Nodes.{node_height};
 ghost use Rattle.rst_tree.specs.Message.{message_head, block_text, message_of};
 ghost use Rattle.std.specs.List.{flat_map, list_any};
 ghost use Rattle.std.specs.Fmt.{decimal};
 
-use crate::attrs::{Attr, Value};
+use crate::entry::{Entry, Said};
 use crate::node::Node;
 use crate::note::Note;
 use crate::page::{Page, put, put_byte};
@@ -86,25 +87,25 @@ fn put_texts<W: Write, const N: usize>(out: &mut Counted<W>, page: &mut Page<N>,
 }
 
 /// Writes a value.
-fn put_value<W: Write, const N: usize>(out: &mut Counted<W>, page: &mut Page<N>, value: &Value)
-    ensures { Sends W.contents (value_text value.now) out.old page.old out.new page.new }
+fn put_value<W: Write, const N: usize>(out: &mut Counted<W>, page: &mut Page<N>, value: Said<'_>)
+    ensures { Sends W.contents (value_text (said value.entry)) out.old page.old out.new page.new }
 {
     match value {
-        Value::Text(text) => put(out, page, text.as_bytes()),
-        Value::Number(number) => put_number(out, page, *number),
-        Value::List(texts) => put_texts(out, page, texts.as_slice()),
+        Said::Text(text) => put(out, page, text.as_bytes()),
+        Said::Number(number) => put_number(out, page, number),
+        Said::List(texts) => put_texts(out, page, texts),
     }
 }
 
 /// Writes an attribute, unless it is a list that isn't shown where it is empty.
-fn put_attr<W: Write, const N: usize>(out: &mut Counted<W>, page: &mut Page<N>, attr: &Attr)
+fn put_attr<W: Write, const N: usize>(out: &mut Counted<W>, page: &mut Page<N>, attr: &Entry)
     ensures { Sends W.contents (shown_attr attr.now) out.old page.old out.new page.new }
 {
     if attr.is_left_out() {
         return;
     }
-    put(out, page, attr.key.opening().as_bytes());
-    put_value(out, page, &attr.value);
+    put(out, page, attr.key().opening().as_bytes());
+    put_value(out, page, attr.said());
     put_byte(out, page, b'"');
 }
 
@@ -113,7 +114,7 @@ fn put_tag_line<W: Write, const N: usize>(
     out: &mut Counted<W>,
     page: &mut Page<N>,
     tag: Tag,
-    attrs: &[Attr],
+    attrs: &[Entry],
 )
     ensures { Sends W.contents (start_tag tag attrs.now ++ 10 ∷ []) out.old page.old out.new page.new }
 {
@@ -124,7 +125,7 @@ fn put_tag_line<W: Write, const N: usize>(
 }
 
 /// Writes the attributes.
-fn put_attrs<W: Write, const N: usize>(out: &mut Counted<W>, page: &mut Page<N>, attrs: &[Attr])
+fn put_attrs<W: Write, const N: usize>(out: &mut Counted<W>, page: &mut Page<N>, attrs: &[Entry])
     ensures { Sends W.contents (flat_map shown_attr attrs.now) out.old page.old out.new page.new }
 {
     for attr in attrs {

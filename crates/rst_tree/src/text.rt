@@ -113,12 +113,12 @@ fn joined(alloc: Global, front: &str, text: &str) -> Result<String, TreeFault>
 /// A list of texts, which contracts see as the list of their bytes.
 #[derive(Debug, Drop)]
 pub struct Texts {
-    held: Several,
+    pub(crate) held: Several,
 }
 
 /// What a list of texts is made of. Most have one text, which lies in the value itself.
 #[derive(Debug, Drop)]
-enum Several {
+pub(crate) enum Several {
     Lone(Global, Text),
     List(Vec<Text>),
 }
@@ -195,20 +195,27 @@ impl Texts {
         Ok(())
     }
 
+    /// A list of equal texts.
+    pub fn copy_of(alloc: Global, texts: &[Text]) -> Result<Texts, TreeFault>
+        ensures { Gives (λ t. t ≡ texts.now) result }
+    {
+        match texts {
+            [text] => Ok(Texts::lone(alloc, text.copy()?)),
+            _ => Ok(Texts::of(copied(alloc, texts)?)),
+        }
+    }
+
     /// An equal list.
     pub fn copy(&self, alloc: Global) -> Result<Texts, TreeFault>
         ensures { Gives (λ t. t ≡ self.now) result }
     {
-        match &self.held {
-            Several::Lone(alloc, text) => Ok(Texts::lone(*alloc, text.copy()?)),
-            Several::List(list) => Ok(Texts::of(copied(alloc, list)?)),
-        }
+        Texts::copy_of(alloc, self.as_slice())
     }
 }
 
 /// Equal texts.
-fn copied(alloc: Global, texts: &Vec<Text>) -> Result<Vec<Text>, TreeFault>
-    ensures { Gives (λ list. list.items ≡ texts.now.items) result }
+pub(crate) fn copied(alloc: Global, texts: &[Text]) -> Result<Vec<Text>, TreeFault>
+    ensures { Gives (λ list. list.items ≡ texts.now) result }
 {
     let mut list = Vec::with_capacity(alloc, texts.len())?;
     for text in texts {

@@ -3,11 +3,13 @@ ghost use Rattle.std.specs.Prelude.{◌≡◌, ◌<◌, IsTrue, MatchOption, Som
 ghost use Rattle.std.specs.List.{list_all};
 ghost use Rattle.rst_text.specs.Lines.{is_line_end};
 ghost use Rattle.rst_tree.specs.Attributes.{with_attr};
+ghost use Rattle.rst_tree.specs.Entries.{said};
 ghost use Rattle.rst_tree.specs.Faults.{Gives, Becomes, GivesBack};
 ghost use Rattle.rst_tree.specs.Paths.{node_at, changed_at, with_child, with_value, value_at};
 ghost use Rattle.rst_tree.specs.Tree.{IsTreeOf, is_tree, is_tree_within, is_lines, is_plain_byte, in_order, fits, is_element, text_in, text_at};
 
-use crate::attrs::{Attr, Value};
+use crate::attrs::Value;
+use crate::entry::{Entry, Said};
 use crate::fault::TreeFault;
 use crate::key::Key;
 use crate::node::Node;
@@ -80,8 +82,8 @@ impl Tree {
     }
 
     /// What the attribute of a name says at the node at a path, if there is one.
-    pub fn attr(&self, at: &[usize], name: Key) -> Option<&Value>
-        ensures { MatchOption result (value_at at.now name self.now ≡ None) (λ v. value_at at.now name self.now ≡ Some v.now) }
+    pub fn attr(&self, at: &[usize], name: Key) -> Option<Said<'_>>
+        ensures { MatchOption result (value_at at.now name self.now ≡ None) (λ v. value_at at.now name self.now ≡ Some (said v)) }
     {
         match found(&self.root, at) {
             Some(node) => node.value(name),
@@ -207,11 +209,11 @@ fn is_tree_within(node: &Node, levels: usize) -> bool
 }
 
 /// Whether the names rise.
-fn are_in_order(attrs: &[Attr]) -> bool
+fn are_in_order(attrs: &[Entry]) -> bool
     ensures { result ≡ in_order attrs.now }
 {
     for i in 1..attrs.len() {
-        if attrs[i - 1].key.code() >= attrs[i].key.code() {
+        if attrs[i - 1].key().code() >= attrs[i].key().code() {
             return false;
         }
     }

@@ -1,4 +1,4 @@
-use Rattle.std.proofs.Common.{◌≡◌, ◌<◌, length, arith, ap, ◌∙◌}
+use Rattle.std.proofs.Common.{◌≡◌, ◌<◌, length, arith, ap, ◌∙◌, Some}
 use Rattle.rst_tree.specs.Attributes.{place_named}
 use Rattle.rst_tree.proofs.Attributes.{named_value, named_rest, unnamed_value, unnamed_rest}
 use Rattle.rst_tree.proofs.attrs.Attrs.remove.Goals as goal
@@ -8,7 +8,7 @@ returns-then-place-len-clause-value c =
     let p : c.place_named-place.result ≡ place_named c.args.key c.args.self.now = c.place_named-place.ensures ∙ ap (place_named c.args.key) (c.as_slice.ensures.value ∙ c.self.view_is) in
     let n = ap length c.self.view_is in
     let h : place_named c.args.key c.args.self.now < length c.args.self.now = omega (arith, p, n, c.if-place-len.true, c.len.ensures, c.self.inside.list.ok.0) in
-    named_value c.args.key c.args.self.now c.remove-attr.result h (rw (p, c.self.view_is) at c.remove-attr.ensures.value)
+    ap Some c.into_value.ensures ∙ named_value c.args.key c.args.self.now c.remove-attr.result h (rw (p, c.self.view_is) at c.remove-attr.ensures.value)
 
 pub returns-then-place-len-clause-rest : goal.returns-then-place-len-clause-rest
 returns-then-place-len-clause-rest c =
