@@ -1,19 +1,45 @@
 -- Simple tables.
-use Rattle.std.proofs.Common.{⊎_elim, ◌≡◌, ℕ, zero, suc, ◌+◌, ◌-◌, ◌*◌, ◌<◌, ◌≤◌, max, Bool, true, false, cond, eqb, ◌∷◌, length, drop, take, refl, sym, ap, ◌∙◌, arith, Option, Some, None}
-use Rattle.std.proofs.lemmas.Bool.{cases_Bool, cond_both, eq-eqb, ne_eqb, eqb-true, eqb-false}
+use Rattle.std.proofs.Common.{⊎_elim, ◌≡◌, ℕ, zero, suc, ◌+◌, ◌-◌, ◌*◌, ◌<◌, ◌≤◌, max, Bool, true, false, cond, eqb, ltb, List, [], ◌∷◌, ◌++◌, get_or, length, drop, take, append_assoc, option_map, refl, sym, ap, ◌∙◌, arith, Option, Some, None}
+use Rattle.std.proofs.lemmas.Bool.{cases_Bool, cond_both, eq-eqb, ne_eqb, eqb-true, eqb-false, lt-ltb, ltb-true}
+use Rattle.std.proofs.lemmas.List.Sums.{position_or_len_is}
+use Rattle.std.specs.Prelude.{position, option_and_then}
+use Rattle.std.specs.List.{position_or_len}
 use Rattle.rst_tables.specs.Places.{Grid, Row, row_at}
 use Rattle.rst_text.specs.Places.{first_from}
-use Rattle.rst_tables.specs.SimpleTable.{is_lower_border_row, is_empty, next_border, scan_end, looked_to, simple_looked, end_at_first, end_at_second, simple_end, begins_row, row_lines, rows_in, longest_in}
+use Rattle.rst_tables.specs.SimpleTable.{is_lower_border_row, is_empty, next_border, scan_end, looked_to, simple_looked, end_at_first, end_at_second, simple_end, begins_row, row_lines, rows_in, longest_in, last_joined, joining, spread}
+use Rattle.rst_tables.specs.declared.spans.Span.{Span}
 use Rattle.rst_tables.specs.declared.simple_lines.SimpleEnd.TheVariants.{Ends, Fails}
 use Rattle.rst_tables.specs.declared.results.TableDetail.TheVariants.{BorderMismatch}
 
--- n counted from place k on
-abbrev pub past : ℕ → ℕ → ℕ
-past k zero = 0
-past k (suc n) = k + suc n
-
 left_more : (k high : ℕ) → k < high → high - k ≡ suc (high - (k + 1))
 left_more k high h = omega arith
+
+-- ---- the place of the first item that passes
+
+pub position_at : {X : Type 0} (p : X → Bool) (xs : List X) (i : ℕ) (d : X) → i < length xs → p (get_or xs i d) ≡ true → ((k : ℕ) → k < i → p (get_or xs k d) ≡ false) → position p xs ≡ Some i
+position_at p xs i d inside hit before =
+    let e : position_or_len p xs ≡ i = position_or_len_is p xs i d (omega arith) before (λ there. hit) in rw (e, lt-ltb i (length xs) inside) refl
+
+pub position_none : {X : Type 0} (p : X → Bool) (xs : List X) (d : X) → ((k : ℕ) → k < length xs → p (get_or xs k d) ≡ false) → position p xs ≡ None
+position_none p xs d fails =
+    let e : position_or_len p xs ≡ length xs = position_or_len_is p xs (length xs) d (omega arith) fails (λ there. absurd (omega (arith, there))) in
+    ap (λ n. cond (ltb n (length xs)) (Some n) None) e ∙ by (ltb (length xs) (length xs)) refl
+  where
+    by : (b : Bool) → ltb (length xs) (length xs) ≡ b → cond b (Some (length xs)) None ≡ None
+    by true less = absurd (omega (arith, ltb-true (length xs) (length xs) less))
+    by false less = refl
+
+-- ---- the spans of a rule
+
+pub spread_more : (wide new left : List Span) (s : Span) (ss : List Span) (last : ℕ) → last_joined left s ≡ Some last → new ≡ wide ++ joining s (last + 1) ∷ []
+    → option_map (λ others. new ++ others) (spread (drop (last + 1) left) ss) ≡ option_map (λ others. wide ++ others) (spread left (s ∷ ss))
+spread_more wide new left s ss last e is =
+    by (spread (drop (last + 1) left) ss)
+    ∙ sym (ap (λ o. option_map (λ others. wide ++ others) (option_and_then (λ k. option_map (λ others. joining s (k + 1) ∷ others) (spread (drop (k + 1) left) ss)) o)) e)
+  where
+    by : (o : Option (List Span)) → option_map (λ others. new ++ others) o ≡ option_map (λ others. wide ++ others) (option_map (λ others. joining s (last + 1) ∷ others) o)
+    by None = refl
+    by (Some others) = ap Some (ap (λ l. l ++ others) is ∙ append_assoc wide (joining s (last + 1) ∷ []) others)
 
 -- ---- rows
 

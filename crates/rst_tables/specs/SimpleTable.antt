@@ -1,6 +1,6 @@
 -- Simple tables: which lines they are, what can be wrong with them, and what stands in them (Markup Specification,
 -- 'Simple Tables').
-use Rattle.std.specs.Prelude.{ℕ, zero, suc, ◌+◌, ◌-◌, max, Bool, true, false, not, ◌&&◌, ◌||◌, ◌==◌, nat_le, List, [], ◌∷◌, ◌++◌, Option, Some, None, is_some, if◌then◌else◌, get_or, length, take, drop, map, count_by, unwrap_or, option_map, filter}
+use Rattle.std.specs.Prelude.{ℕ, zero, suc, ◌+◌, ◌-◌, max, Bool, true, false, not, ◌&&◌, ◌||◌, ◌==◌, nat_le, List, [], ◌∷◌, ◌++◌, Option, Some, None, is_some, if◌then◌else◌, get_or, length, take, drop, map, count_by, unwrap_or, option_map, option_and_then, filter, position}
 use Rattle.std.specs.Char.{is_whitespace}
 use Rattle.std.specs.List.{list_all, range_with_len}
 use Rattle.rst_text.specs.Block.{Block, first_number}
@@ -107,35 +107,26 @@ spans_of row = map (span_at row) (filter (begins_span row) (range_with_len 0 (le
 abbrev pub columns_of : Grid → List Span
 columns_of T = spans_of (row_at T 0)
 
--- one column more than some, and none where there are none
-abbrev pub one_past : ℕ → ℕ
-one_past zero = 0
-one_past (suc n) = suc (suc n)
+-- The place, in the list of columns, of the last that a span joins: the span begins where the first of them does, and ends
+-- where this one does. There is none where no columns lie so.
+abbrev pub last_joined : List Span → Span → Option ℕ
+last_joined [] s = None
+last_joined (c ∷ cs) s = if c.from == s.from then position (λ d. d.to == s.to) (c ∷ cs) else None
 
--- how many columns there are through the first that ends at a place, none if none does
-abbrev pub through : ℕ → List Span → ℕ
-through to [] = 0
-through to (c ∷ cs) = if c.to == to then 1 else one_past (through to cs)
+-- a span with how many columns it joins
+abbrev pub joining : Span → ℕ → Span
+joining s n = record { from = s.from; to = s.to; columns = n }
 
--- how many columns at the front a span covers: it begins with the first and ends with one of them; else none
-abbrev pub covered : List Span → Span → ℕ
-covered [] s = 0
-covered (c ∷ cs) s = if c.from == s.from then through s.to (c ∷ cs) else 0
+-- no span is needed more when no column is left; else there are spans too few
+abbrev pub no_more : List Span → Option (List Span)
+no_more [] = Some []
+no_more (c ∷ cs) = None
 
--- spans have covered all columns when none is left
-abbrev pub all_covered : List Span → Option (List Span)
-all_covered [] = Some []
-all_covered (c ∷ cs) = None
-
--- a span that covers some columns before others; one that covers none is wrong
-abbrev pub with_span : ℕ → Span → Option (List Span) → Option (List Span)
-with_span zero s rest = None
-with_span (suc n) s rest = option_map (λ ss. record { from = s.from; to = s.to; columns = suc n } ∷ ss) rest
-
--- Spans with the number of columns that each covers. They have to cover all columns, one after the other.
+-- Spans with how many columns each joins. They have to join all columns, each those behind the ones that the span before
+-- it joins.
 abbrev pub spread : List Span → List Span → Option (List Span)
-spread columns [] = all_covered columns
-spread columns (s ∷ ss) = with_span (covered columns s) s (spread (drop (covered columns s) columns) ss)
+spread columns [] = no_more columns
+spread columns (s ∷ ss) = option_and_then (λ last. option_map (λ others. joining s (last + 1) ∷ others) (spread (drop (last + 1) columns) ss)) (last_joined columns s)
 
 -- the spans of a row that is a rule
 abbrev pub rule_spans : Grid → ℕ → Option (List Span)
