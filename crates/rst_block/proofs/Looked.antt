@@ -8,9 +8,9 @@ use Rattle.rst_marks.specs.declared.marker.Marker.{Marker}
 use Rattle.rst_markup.specs.Explicit.{explicit_size}
 use Rattle.rst_markup.specs.ExplicitRow.{explicit_within}
 use Rattle.rst_markup.proofs.ExplicitLemmas.{indented_le, size_other}
-use Rattle.rst_tables.specs.GridTable.{grid_looked, is_grid_row}
+use Rattle.rst_tables.specs.GridTable.{grid_looked, is_drawn_row}
 use Rattle.rst_tables.specs.Places.{Grid, rows_of, row_of, row_at}
-use Rattle.rst_tables.specs.SimpleTable.{is_empty, is_simple_border, next_border, looked_to, scan_end, simple_looked}
+use Rattle.rst_tables.specs.SimpleTable.{is_empty, is_lower_border_row, next_border, looked_to, scan_end, simple_looked}
 use Rattle.rst_tables.proofs.SimpleLemmas.{first_above}
 use Rattle.rst_block.proofs.Reached.{reach_le}
 
@@ -29,7 +29,7 @@ explicit_looks B i h =
 grid_fits : (R : Grid) → grid_looked R ≤ length R
 unfolding grid_looked
 grid_fits [] = omega arith
-grid_fits (r ∷ rs) = by (is_grid_row r.places) (grid_fits rs)
+grid_fits (r ∷ rs) = by (is_drawn_row r.places) (grid_fits rs)
   where
     by : (b : Bool) → grid_looked rs ≤ length rs → cond b (suc (grid_looked rs)) 1 ≤ suc (length rs)
     by true h = omega arith
@@ -42,7 +42,7 @@ pub grid_looks : (B : Block) (i : ℕ) → grid_looked (rows_of (drop i B)) ≤ 
 grid_looks B i = omega (arith, grid_fits (rows_of (drop i B)), rows_fit B i)
 
 border_fits : (R : Grid) (low k : ℕ) → low ≤ length R → next_border R low ≡ Some k → k < length R
-border_fits R low k h e = let r = first_above (λ j. is_simple_border (row_at R j)) low (length R - low) k e in omega (arith, r.0, r.1)
+border_fits R low k h e = let r = first_above (λ j. is_lower_border_row (row_at R j)) low (length R - low) k e in omega (arith, r.0, r.1)
 
 scan_fits : (R : Grid) (low : ℕ) (o : Option ℕ) → low ≤ length R → next_border R low ≡ o → scan_end R o ≤ length R
 scan_fits R low None h e = omega arith

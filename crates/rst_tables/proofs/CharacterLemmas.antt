@@ -11,8 +11,8 @@ use Rattle.rst_marks.specs.declared.class.Class.TheVariants.{Only, Either}
 use Rattle.rst_marks.specs.Border.{is_grid_border, is_simple_border as is_top_border}
 use Rattle.rst_markup.specs.TableLines.{is_drawn, border_len, is_lower_border as is_border_text}
 use Rattle.rst_tables.specs.Places.{is_double, places_of, mark_at, rows_of, row_at}
-use Rattle.rst_tables.specs.GridTable.{is_part, has_ends, is_edge, is_border, is_grid_row}
-use Rattle.rst_tables.specs.SimpleTable.{is_stroke, is_ruled, is_simple_border, is_empty}
+use Rattle.rst_tables.specs.GridTable.{is_part, has_ends, is_edge, is_grid_border_row, is_drawn_row}
+use Rattle.rst_tables.specs.SimpleTable.{is_stroke, is_ruled, is_lower_border_row, is_empty}
 use Rattle.rst_tables.specs.declared.places.Place.{Place}
 use Rattle.rst_tables.specs.declared.places.Place.TheVariants.{Character, Second}
 
@@ -82,8 +82,8 @@ run_whole a b (c ∷ cs) h =
 
 -- ---- grid tables
 
-pub drawn_row : (t : List ℕ) → is_grid_row (places_of t) ≡ is_drawn t
-unfolding is_grid_row is_drawn
+pub drawn_row : (t : List ℕ) → is_drawn_row (places_of t) ≡ is_drawn t
+unfolding is_drawn_row is_drawn
 drawn_row [] = refl
 drawn_row (c ∷ cs) = refl
 
@@ -109,7 +109,7 @@ part_places : (t : List ℕ) → list_all (is_part 45) (places_of t) ≡ list_al
 unfolding is_part
 part_places t = all_places (is_part 45) 45 43 (λ c. refl) narrow_dash narrow_plus t
 
-pub border_row : (t : List ℕ) → is_border (places_of t) ≡ is_grid_border t
+pub border_row : (t : List ℕ) → is_grid_border_row (places_of t) ≡ is_grid_border t
 unfolding is_edge is_grid_border
 border_row t = ⊎_elim
     (λ all.
@@ -134,7 +134,7 @@ first_mark : (t : List ℕ) → eqb (mark_at (places_of t) 0) 61 ≡ begins_with
 first_mark [] = refl
 first_mark (c ∷ cs) = refl
 
-pub simple_row : (t : List ℕ) → is_simple_border (places_of t) ≡ is_border_text t
+pub simple_row : (t : List ℕ) → is_lower_border_row (places_of t) ≡ is_border_text t
 unfolding is_ruled is_border_text border_len
 simple_row t = rw (first_mark t, stroke_places t, whole_run 61 32 t) refl
 

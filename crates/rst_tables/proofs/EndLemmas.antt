@@ -15,14 +15,14 @@ use Rattle.rst_markup.specs.TableRows.{one_more, through_border, closed_by, grid
 use Rattle.rst_markup.proofs.LineLemmas.{drop_one, while_more, while_stop}
 use Rattle.rst_markup.proofs.TableLemmas.{simple_open, ends_first, ends_second, ends_open}
 use Rattle.rst_tables.specs.Places.{Grid, row_of, rows_of, row_at}
-use Rattle.rst_tables.specs.Counts.{first_from}
-use Rattle.rst_tables.specs.GridTable.{is_border, scanned, through_last, one_more as more_rows, two_more, height, grid_looked, head_of, with_dashes, row_fault, tiled, IsOfRows, IsOfHeight}
+use Rattle.rst_text.specs.Places.{first_from}
+use Rattle.rst_tables.specs.GridTable.{is_grid_border_row, scanned, through_last, one_more as more_rows, two_more, height, grid_looked, head_of, with_dashes, row_fault, tiled, IsOfRows, IsOfHeight}
 use Rattle.rst_tables.specs.Ends.{end_of}
 use Rattle.rst_tables.specs.declared.drawn.Rectangle.{Rectangle}
 use Rattle.rst_tables.specs.declared.results.TableDetail.{TableDetail}
 use Rattle.rst_tables.specs.declared.results.TableResult.{TableResult}
 use Rattle.rst_tables.proofs.RowLemmas.{dashes-length}
-use Rattle.rst_tables.specs.SimpleTable.{is_simple_border, is_empty, next_border, scan_end, looked_to, simple_looked, end_at_first, end_at_second, simple_end, rules_of, first_unaligned, simple_rows, first_in_margin, or_table, or_rows, simple_of}
+use Rattle.rst_tables.specs.SimpleTable.{is_lower_border_row, is_empty, next_border, scan_end, looked_to, simple_looked, end_at_first, end_at_second, simple_end, rules_of, first_unaligned, simple_rows, first_in_margin, or_table, or_rows, simple_of}
 use Rattle.rst_tables.specs.Laws.{end_with, grid_end, place_behind}
 use Rattle.rst_tables.proofs.GridLemmas.{drop_rows}
 use Rattle.rst_tables.proofs.SimpleLemmas.{end-mismatch, end-first, end-second, second-mismatch, second-ends, looked-scan}
@@ -94,16 +94,16 @@ place_none len k h = by (ltb k len) refl
     by false e = refl
 
 -- whether a row is a border
-row_border : (B : Block) (k : ℕ) → is_simple_border (row_at (rows_of B) k) ≡ is_border_text (front_text (drop k B))
-row_border B k = ap is_simple_border (row_text B k) ∙ simple_row (front_text (drop k B))
+row_border : (B : Block) (k : ℕ) → is_lower_border_row (row_at (rows_of B) k) ≡ is_border_text (front_text (drop k B))
+row_border B k = ap is_lower_border_row (row_text B k) ∙ simple_row (front_text (drop k B))
 
-next_from : (B : Block) (low n : ℕ) → low + n ≡ length B → first_from (λ k. is_simple_border (row_at (rows_of B) k)) low n ≡ place_in (length B) (low + lines_while NoBorder (drop low B))
+next_from : (B : Block) (low n : ℕ) → low + n ≡ length B → first_from (λ k. is_lower_border_row (row_at (rows_of B) k)) low n ≡ place_in (length B) (low + lines_while NoBorder (drop low B))
 next_from B low zero e = sym (place_none (length B) (low + lines_while NoBorder (drop low B)) (omega arith))
-next_from B low (suc n) e = ap (λ b. cond b (Some low) (first_from (λ k. is_simple_border (row_at (rows_of B) k)) (low + 1) n)) (row_border B low) ∙ by (is_border_text (front_text (drop low B))) refl (next_from B (low + 1) n (omega (arith, e)))
+next_from B low (suc n) e = ap (λ b. cond b (Some low) (first_from (λ k. is_lower_border_row (row_at (rows_of B) k)) (low + 1) n)) (row_border B low) ∙ by (is_border_text (front_text (drop low B))) refl (next_from B (low + 1) n (omega (arith, e)))
   where
     by : (b : Bool) → is_border_text (front_text (drop low B)) ≡ b
-        → first_from (λ k. is_simple_border (row_at (rows_of B) k)) (low + 1) n ≡ place_in (length B) (low + 1 + lines_while NoBorder (drop (low + 1) B))
-        → cond b (Some low) (first_from (λ k. is_simple_border (row_at (rows_of B) k)) (low + 1) n) ≡ place_in (length B) (low + lines_while NoBorder (drop low B))
+        → first_from (λ k. is_lower_border_row (row_at (rows_of B) k)) (low + 1) n ≡ place_in (length B) (low + 1 + lines_while NoBorder (drop (low + 1) B))
+        → cond b (Some low) (first_from (λ k. is_lower_border_row (row_at (rows_of B) k)) (low + 1) n) ≡ place_in (length B) (low + lines_while NoBorder (drop low B))
     by true h others =
         let stop = while_stop low NoBorder B (omega (arith, e)) (ap not h) in
         let here : low + lines_while NoBorder (drop low B) ≡ low = omega (arith, stop.0) in
@@ -117,7 +117,7 @@ unfolding run_size
 next_is B i inside =
     let size : length (rows_of B) ≡ length B = length-map B row_of in
     let place : i + 1 + lines_while NoBorder (drop (i + 1) B) ≡ i + suc (lines_while NoBorder (drop 1 (drop i B))) = omega (arith, ap (lines_while NoBorder) (drop_one i B)) in
-    ap (λ n. first_from (λ k. is_simple_border (row_at (rows_of B) k)) (i + 1) (n - (i + 1))) size ∙ next_from B (i + 1) (length B - (i + 1)) (omega arith) ∙ ap (place_in (length B)) place
+    ap (λ n. first_from (λ k. is_lower_border_row (row_at (rows_of B) k)) (i + 1) (n - (i + 1))) size ∙ next_from B (i + 1) (length B - (i + 1)) (omega arith) ∙ ap (place_in (length B)) place
 
 -- the line that stops a search for a border is one
 stops : (X : Block) → lines_while NoBorder X < length X → is_border_text (front_text (drop (lines_while NoBorder X) X)) ≡ true
@@ -247,7 +247,7 @@ rows_end line i T None r h = ap end_of h.2 ∙ by h.0 ∙ ap (λ n. i + n) (dash
 
 through_within : (S : Grid) → through_last S ≤ length S
 through_within [] = omega arith
-through_within (r ∷ rs) = by (is_border r.places) (through_last rs) (through_within rs)
+through_within (r ∷ rs) = by (is_grid_border_row r.places) (through_last rs) (through_within rs)
   where
     by : (b : Bool) (n : ℕ) → n ≤ length rs → more_rows b n ≤ suc (length rs)
     by true zero h = omega arith

@@ -9,7 +9,7 @@ use Rattle.rst_text.specs.Block.{Line, Block, front_text, first_number}
 use Rattle.rst_text.specs.Lines.{is_line_end}
 use Rattle.rst_tables.specs.Places.{Row, Grid, no_row, row_of, rows_of, row_at}
 use Rattle.rst_tables.specs.Cells.{characters}
-use Rattle.rst_tables.specs.GridTable.{is_border, through_last, one_more, is_grid_row, scanned, grid_looked, dash}
+use Rattle.rst_tables.specs.GridTable.{is_grid_border_row, through_last, one_more, is_drawn_row, scanned, grid_looked, dash}
 use Rattle.rst_tables.specs.declared.places.Place.{Place}
 use Rattle.rst_tables.specs.declared.places.Place.TheVariants.{Character, Second}
 
@@ -23,9 +23,9 @@ step last k zero true new hit miss = hit refl
 step last k zero false new hit miss = miss refl
 step last k (suc n) b new hit miss = omega arith
 
-pub reach-step : (last k : ℕ) (r : Row) (rs : Grid) (new : ℕ) → (is_border r.places ≡ true → new ≡ k + 1) → (is_border r.places ≡ false → new ≡ last)
+pub reach-step : (last k : ℕ) (r : Row) (rs : Grid) (new : ℕ) → (is_grid_border_row r.places ≡ true → new ≡ k + 1) → (is_grid_border_row r.places ≡ false → new ≡ last)
     → reach_from new (k + 1) (through_last rs) ≡ reach_from last k (through_last (r ∷ rs))
-reach-step last k r rs new hit miss = step last k (through_last rs) (is_border r.places) new hit miss
+reach-step last k r rs new hit miss = step last k (through_last rs) (is_grid_border_row r.places) new hit miss
 
 -- ---- a line that was read
 
@@ -39,19 +39,19 @@ rows_more B k r below is =
     let same : row_of (record { number = first_number (drop k B); text = front_text (drop k B) }) ≡ row_of (get_or B k none) = ap (λ (X : Block). row_of (record { number = first_number X; text = front_text X })) e in
     ap rows_of e ∙ ap (λ x. x ∷ rows_of (drop (k + 1) B)) (sym same ∙ sym is)
 
-pub scanned-row : (r : Row) (rs : Grid) → is_grid_row r.places ≡ true → scanned (r ∷ rs) ≡ r ∷ scanned rs
+pub scanned-row : (r : Row) (rs : Grid) → is_drawn_row r.places ≡ true → scanned (r ∷ rs) ≡ r ∷ scanned rs
 scanned-row r rs e = rw e refl
 
-pub scanned-stop : (r : Row) (rs : Grid) → is_grid_row r.places ≡ false → scanned (r ∷ rs) ≡ []
+pub scanned-stop : (r : Row) (rs : Grid) → is_drawn_row r.places ≡ false → scanned (r ∷ rs) ≡ []
 scanned-stop r rs e = rw e refl
 
-pub looked-row : (r : Row) (rs : Grid) → is_grid_row r.places ≡ true → grid_looked (r ∷ rs) ≡ suc (grid_looked rs)
+pub looked-row : (r : Row) (rs : Grid) → is_drawn_row r.places ≡ true → grid_looked (r ∷ rs) ≡ suc (grid_looked rs)
 unfolding grid_looked
 looked-row r rs e = rw e refl
 
 pub looked-stop : (r : Row) (rs : Grid) → 1 ≤ grid_looked (r ∷ rs)
 unfolding grid_looked
-looked-stop r rs = cond_both (is_grid_row r.places) (suc (grid_looked rs)) 1 (λ n. 1 ≤ n) (λ e. omega arith) (λ e. omega arith)
+looked-stop r rs = cond_both (is_drawn_row r.places) (suc (grid_looked rs)) 1 (λ n. 1 ≤ n) (λ e. omega arith) (λ e. omega arith)
 
 pub looked-some : (B : Block) (k : ℕ) → k < length B → 1 ≤ grid_looked (rows_of (drop k B))
 looked-some B k below =

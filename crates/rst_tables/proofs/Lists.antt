@@ -1,9 +1,11 @@
 -- Lists that are read an item at a time.
-use Rattle.std.proofs.Common.{◌≡◌, ℕ, zero, suc, ◌+◌, ◌-◌, ◌<◌, ◌≤◌, Bool, true, false, cond, List, [], ◌∷◌, ◌++◌, get_or, length, drop, take, refl, sym, ap, ◌∙◌, arith, append_assoc, add-one, Some, None}
+use Rattle.std.proofs.Common.{◌≡◌, ℕ, zero, suc, ◌+◌, ◌-◌, ◌<◌, ◌≤◌, Bool, true, false, cond, List, [], ◌∷◌, ◌++◌, get_or, length, drop, take, map, filter, refl, sym, ap, ◌∙◌, arith, append_assoc, add-one, Some, None}
 use Rattle.std.proofs.lemmas.List.{drop_more}
 use Rattle.std.proofs.Math.Seq.{take-append_seam}
 use Rattle.rst_text.specs.Block.{is_blank}
-use Rattle.rst_tables.specs.Counts.{first_from, all_from, below, each_from}
+use Rattle.rst_text.specs.Places.{first_from}
+use Rattle.std.specs.List.{range_with_len}
+use Rattle.rst_tables.specs.Counts.{below}
 
 -- what is left of a list whose item at place i was read
 pub read_more : {X : Type 0} (xs : List X) (i : ℕ) (x : X) → i < length xs → x ≡ get_or xs i x → drop i xs ≡ x ∷ drop (i + 1) xs
@@ -31,20 +33,20 @@ first_from-more p k high h e = ap (first_from p k) (left_more k high h) ∙ rw e
 pub first_from-end : (p : ℕ → Bool) (k high : ℕ) → high ≤ k → first_from p k (high - k) ≡ None
 first_from-end p k high h = let e : high - k ≡ 0 = omega arith in ap (first_from p k) e
 
-pub all_from-take : (p : ℕ → Bool) (k high : ℕ) → k < high → p k ≡ true → all_from p k (high - k) ≡ k ∷ all_from p (k + 1) (high - (k + 1))
-all_from-take p k high h e = ap (all_from p k) (left_more k high h) ∙ rw e refl
+pub all_from-take : (p : ℕ → Bool) (k high : ℕ) → k < high → p k ≡ true → filter p (range_with_len k (high - k)) ≡ k ∷ filter p (range_with_len (k + 1) (high - (k + 1)))
+all_from-take p k high h e = ap (λ n. filter p (range_with_len k n)) (left_more k high h) ∙ rw e refl
 
-pub all_from-more : (p : ℕ → Bool) (k high : ℕ) → k < high → p k ≡ false → all_from p k (high - k) ≡ all_from p (k + 1) (high - (k + 1))
-all_from-more p k high h e = ap (all_from p k) (left_more k high h) ∙ rw e refl
+pub all_from-more : (p : ℕ → Bool) (k high : ℕ) → k < high → p k ≡ false → filter p (range_with_len k (high - k)) ≡ filter p (range_with_len (k + 1) (high - (k + 1)))
+all_from-more p k high h e = ap (λ n. filter p (range_with_len k n)) (left_more k high h) ∙ rw e refl
 
-pub all_from-end : (p : ℕ → Bool) (k high : ℕ) → high ≤ k → all_from p k (high - k) ≡ []
-all_from-end p k high h = let e : high - k ≡ 0 = omega arith in ap (all_from p k) e
+pub all_from-end : (p : ℕ → Bool) (k high : ℕ) → high ≤ k → filter p (range_with_len k (high - k)) ≡ []
+all_from-end p k high h = let e : high - k ≡ 0 = omega arith in ap (λ n. filter p (range_with_len k n)) e
 
-pub each_from-more : {X : Type 0} (f : ℕ → X) (k high : ℕ) → k < high → each_from f k (high - k) ≡ f k ∷ each_from f (k + 1) (high - (k + 1))
-each_from-more f k high h = ap (each_from f k) (left_more k high h)
+pub each_from-more : {X : Type 0} (f : ℕ → X) (k high : ℕ) → k < high → map f (range_with_len k (high - k)) ≡ f k ∷ map f (range_with_len (k + 1) (high - (k + 1)))
+each_from-more f k high h = ap (λ n. map f (range_with_len k n)) (left_more k high h)
 
-pub each_from-end : {X : Type 0} (f : ℕ → X) (k high : ℕ) → high ≤ k → each_from f k (high - k) ≡ []
-each_from-end f k high h = let e : high - k ≡ 0 = omega arith in ap (each_from f k) e
+pub each_from-end : {X : Type 0} (f : ℕ → X) (k high : ℕ) → high ≤ k → map f (range_with_len k (high - k)) ≡ []
+each_from-end f k high h = let e : high - k ≡ 0 = omega arith in ap (λ n. map f (range_with_len k n)) e
 
 pub below-yes : (p : ℕ → Bool) (k : ℕ) → p k ≡ true → below p (k + 1) ≡ below p k + 1
 below-yes p k e = let f : below p (suc k) ≡ suc (below p k) = rw e refl in ap (below p) (add-one k) ∙ f ∙ sym (add-one (below p k))
@@ -53,12 +55,12 @@ pub below-no : (p : ℕ → Bool) (k : ℕ) → p k ≡ false → below p (k + 1
 below-no p k e = let f : below p (suc k) ≡ below p k = rw e refl in ap (below p) (add-one k) ∙ f
 
 -- tests that agree on the numbers that are looked at
-pub all_from-same : (p q : ℕ → Bool) (low n : ℕ) → ((k : ℕ) → low ≤ k → k < low + n → p k ≡ q k) → all_from p low n ≡ all_from q low n
+pub all_from-same : (p q : ℕ → Bool) (low n : ℕ) → ((k : ℕ) → low ≤ k → k < low + n → p k ≡ q k) → filter p (range_with_len low n) ≡ filter q (range_with_len low n)
 all_from-same p q low zero same = refl
 all_from-same p q low (suc n) same =
-    let rest : all_from p (low + 1) n ≡ all_from q (low + 1) n = all_from-same p q (low + 1) n (λ k above under. same k (omega arith) (omega arith)) in
+    let rest : filter p (range_with_len (low + 1) n) ≡ filter q (range_with_len (low + 1) n) = all_from-same p q (low + 1) n (λ k above under. same k (omega arith) (omega arith)) in
     let here : p low ≡ q low = same low (omega arith) (omega arith) in
-    ap (λ b. cond b (low ∷ all_from p (low + 1) n) (all_from p (low + 1) n)) here ∙ ap (λ l. cond (q low) (low ∷ l) l) rest
+    ap (λ b. cond b (low ∷ filter p (range_with_len (low + 1) n)) (filter p (range_with_len (low + 1) n))) here ∙ ap (λ l. cond (q low) (low ∷ l) l) rest
 
 pub below-same : (p q : ℕ → Bool) (n : ℕ) → ((k : ℕ) → k < n → p k ≡ q k) → below p n ≡ below q n
 below-same p q zero same = refl

@@ -5,7 +5,8 @@ use Rattle.std.proofs.lemmas.List.Folds.{list_any_at}
 use Rattle.std.proofs.lemmas.Bool.{cases_lt, cases_eq, eq-eqb, ne_eqb, le-leb, and_from, and_parts, or_left, eqb-true}
 use Rattle.std.specs.List.{list_all}
 use Rattle.rst_tables.specs.Places.{Row, Grid, no_row, width, row_at, place}
-use Rattle.rst_tables.specs.Counts.{below, each_from, all_from}
+use Rattle.std.specs.List.{range_with_len}
+use Rattle.rst_tables.specs.Counts.{below}
 use Rattle.rst_tables.specs.Marks.{AreMarked, AreRanks}
 use Rattle.rst_tables.specs.Drawn.{IsEven, IsFrame, IsDrawn, AreDrawn, IsTiling}
 use Rattle.rst_tables.specs.GridTable.{bounds_row, is_row, is_column, cell_of, row_cells, more_of, is_square, is_whole, dashed, with_dashes, column_widths, gaps}
@@ -48,17 +49,17 @@ cell_more f g G rs i d old new m x below row within is now n had =
 
 -- ---- the rows as a whole
 
-each_from-length : {X : Type 0} (f : ℕ → X) (low n : ℕ) → length (each_from f low n) ≡ n
+each_from-length : {X : Type 0} (f : ℕ → X) (low n : ℕ) → length (map f (range_with_len low n)) ≡ n
 each_from-length f low zero = refl
 each_from-length f low (suc n) = ap suc (each_from-length f (low + 1) n)
 
-each_from-at : {X : Type 0} (f : ℕ → X) (low n k : ℕ) (d : X) → k < n → get_or (each_from f low n) k d ≡ f (low + k)
+each_from-at : {X : Type 0} (f : ℕ → X) (low n k : ℕ) (d : X) → k < n → get_or (map f (range_with_len low n)) k d ≡ f (low + k)
 each_from-at f low zero k d h = absurd (omega arith)
 each_from-at f low (suc n) zero d h = let e : low ≡ low + 0 = omega arith in ap f e
 each_from-at f low (suc n) (suc k) d h = let e : low + 1 + k ≡ low + suc k = omega arith in each_from-at f (low + 1) n k d (omega arith) ∙ ap f e
 
-pub each_from-is : {X : Type 0} (f : ℕ → X) (d : X) (n : ℕ) (xs : List X) → length xs ≡ n → ((k : ℕ) → k < n → get_or xs k d ≡ f k) → xs ≡ each_from f 0 n
-each_from-is f d n xs size at = ext_get_or d xs (each_from f 0 n) (size ∙ sym (each_from-length f 0 n))
+pub each_from-is : {X : Type 0} (f : ℕ → X) (d : X) (n : ℕ) (xs : List X) → length xs ≡ n → ((k : ℕ) → k < n → get_or xs k d ≡ f k) → xs ≡ map f (range_with_len 0 n)
+each_from-is f d n xs size at = ext_get_or d xs (map f (range_with_len 0 n)) (size ∙ sym (each_from-length f 0 n))
     (λ k below. let e : 0 + k ≡ k = omega arith in at k (omega arith) ∙ sym (each_from-at f 0 n k d (omega arith) ∙ ap f e))
 
 -- ---- ranks
@@ -69,8 +70,8 @@ ranks_of p n marks ranks m r = record {
   at = λ k within. r.at k (omega (arith, m.size)) ∙ below-same (λ j. get_or marks j false) p k (λ j less. m.at j (omega arith));
 }
 
-pub widths_of : (G : Grid) (rs : List Rectangle) (marks : List Bool) → AreMarked (is_column G rs) (width G) marks → gaps (all_from (λ k. get_or marks k false) 0 (length marks)) ≡ column_widths G rs
-widths_of G rs marks m = ap (λ n. gaps (all_from (λ k. get_or marks k false) 0 n)) m.size
+pub widths_of : (G : Grid) (rs : List Rectangle) (marks : List Bool) → AreMarked (is_column G rs) (width G) marks → gaps (filter (λ k. get_or marks k false) (range_with_len 0 (length marks))) ≡ column_widths G rs
+widths_of G rs marks m = ap (λ n. gaps (filter (λ k. get_or marks k false) (range_with_len 0 n))) m.size
     ∙ ap gaps (all_from-same (λ k. get_or marks k false) (is_column G rs) 0 (width G) (λ k above under. m.at k (omega arith)))
 
 below-mono : (p : ℕ → Bool) (a b : ℕ) → a ≤ b → below p a ≤ below p b
@@ -145,7 +146,7 @@ same_rows f f' g g' G (r ∷ rs) n a =
     (λ away. cells-else f g G r rs n away ∙ rest ∙ sym (cells-else f' g' G r rs n (λ e. away (a.0 ∙ e))))
     (cases_eq (f r.top) n)
 
-pub same_cells : (f f' g g' : ℕ → ℕ) (G : Grid) (rs : List Rectangle) (low n : ℕ) → Agree f f' g g' rs → each_from (row_cells f g G rs) low n ≡ each_from (row_cells f' g' G rs) low n
+pub same_cells : (f f' g g' : ℕ → ℕ) (G : Grid) (rs : List Rectangle) (low n : ℕ) → Agree f f' g g' rs → map (row_cells f g G rs) (range_with_len low n) ≡ map (row_cells f' g' G rs) (range_with_len low n)
 same_cells f f' g g' G rs low zero a = refl
 same_cells f f' g g' G rs low (suc n) a = ap₂ (λ x xs. x ∷ xs) (same_rows f f' g g' G rs low a) (same_cells f f' g g' G rs (low + 1) n a)
 

@@ -1,19 +1,45 @@
 -- Simple tables.
-use Rattle.std.proofs.Common.{⊎_elim, ◌≡◌, ℕ, zero, suc, ◌+◌, ◌-◌, ◌*◌, ◌<◌, ◌≤◌, max, Bool, true, false, cond, eqb, ◌∷◌, length, drop, take, refl, sym, ap, ◌∙◌, arith, Option, Some, None}
-use Rattle.std.proofs.lemmas.Bool.{cases_Bool, cond_both, eq-eqb, ne_eqb, eqb-true, eqb-false}
+use Rattle.std.proofs.Common.{⊎_elim, ◌≡◌, ℕ, zero, suc, ◌+◌, ◌-◌, ◌*◌, ◌<◌, ◌≤◌, max, Bool, true, false, cond, eqb, ltb, List, [], ◌∷◌, ◌++◌, get_or, length, drop, take, append_assoc, option_map, refl, sym, ap, ◌∙◌, arith, Option, Some, None}
+use Rattle.std.proofs.lemmas.Bool.{cases_Bool, cond_both, eq-eqb, ne_eqb, eqb-true, eqb-false, lt-ltb, ltb-true}
+use Rattle.std.proofs.lemmas.List.Sums.{position_or_len_is}
+use Rattle.std.specs.Prelude.{position, option_and_then}
+use Rattle.std.specs.List.{position_or_len}
 use Rattle.rst_tables.specs.Places.{Grid, Row, row_at}
-use Rattle.rst_tables.specs.Counts.{first_from}
-use Rattle.rst_tables.specs.SimpleTable.{is_simple_border, is_empty, next_border, scan_end, looked_to, simple_looked, end_at_first, end_at_second, simple_end, begins_row, row_lines, rows_in, longest_in}
+use Rattle.rst_text.specs.Places.{first_from}
+use Rattle.rst_tables.specs.SimpleTable.{is_lower_border_row, is_empty, next_border, scan_end, looked_to, simple_looked, end_at_first, end_at_second, simple_end, begins_row, row_lines, rows_in, longest_in, last_joined, joining, spread}
+use Rattle.rst_tables.specs.declared.spans.Span.{Span}
 use Rattle.rst_tables.specs.declared.simple_lines.SimpleEnd.TheVariants.{Ends, Fails}
 use Rattle.rst_tables.specs.declared.results.TableDetail.TheVariants.{BorderMismatch}
 
--- n counted from place k on
-abbrev pub past : ℕ → ℕ → ℕ
-past k zero = 0
-past k (suc n) = k + suc n
-
 left_more : (k high : ℕ) → k < high → high - k ≡ suc (high - (k + 1))
 left_more k high h = omega arith
+
+-- ---- the place of the first item that passes
+
+pub position_at : {X : Type 0} (p : X → Bool) (xs : List X) (i : ℕ) (d : X) → i < length xs → p (get_or xs i d) ≡ true → ((k : ℕ) → k < i → p (get_or xs k d) ≡ false) → position p xs ≡ Some i
+position_at p xs i d inside hit before =
+    let e : position_or_len p xs ≡ i = position_or_len_is p xs i d (omega arith) before (λ there. hit) in rw (e, lt-ltb i (length xs) inside) refl
+
+pub position_none : {X : Type 0} (p : X → Bool) (xs : List X) (d : X) → ((k : ℕ) → k < length xs → p (get_or xs k d) ≡ false) → position p xs ≡ None
+position_none p xs d fails =
+    let e : position_or_len p xs ≡ length xs = position_or_len_is p xs (length xs) d (omega arith) fails (λ there. absurd (omega (arith, there))) in
+    ap (λ n. cond (ltb n (length xs)) (Some n) None) e ∙ by (ltb (length xs) (length xs)) refl
+  where
+    by : (b : Bool) → ltb (length xs) (length xs) ≡ b → cond b (Some (length xs)) None ≡ None
+    by true less = absurd (omega (arith, ltb-true (length xs) (length xs) less))
+    by false less = refl
+
+-- ---- the spans of a rule
+
+pub spread_more : (wide new left : List Span) (s : Span) (ss : List Span) (last : ℕ) → last_joined left s ≡ Some last → new ≡ wide ++ joining s (last + 1) ∷ []
+    → option_map (λ others. new ++ others) (spread (drop (last + 1) left) ss) ≡ option_map (λ others. wide ++ others) (spread left (s ∷ ss))
+spread_more wide new left s ss last e is =
+    by (spread (drop (last + 1) left) ss)
+    ∙ sym (ap (λ o. option_map (λ others. wide ++ others) (option_and_then (λ k. option_map (λ others. joining s (k + 1) ∷ others) (spread (drop (k + 1) left) ss)) o)) e)
+  where
+    by : (o : Option (List Span)) → option_map (λ others. new ++ others) o ≡ option_map (λ others. wide ++ others) (option_map (λ others. joining s (last + 1) ∷ others) o)
+    by None = refl
+    by (Some others) = ap Some (ap (λ l. l ++ others) is ∙ append_assoc wide (joining s (last + 1) ∷ []) others)
 
 -- ---- rows
 
@@ -40,9 +66,9 @@ first_above p low (suc n) k e = ⊎_elim
     (cases_Bool (p low))
 
 -- a line that is looked at stands before the end of the scan
-pub scan_above : (R : Grid) (k : ℕ) (o : Option ℕ) → k < length R → first_from (λ j. is_simple_border (row_at R j)) k (length R - k) ≡ o → k + 1 ≤ scan_end R o
+pub scan_above : (R : Grid) (k : ℕ) (o : Option ℕ) → k < length R → first_from (λ j. is_lower_border_row (row_at R j)) k (length R - k) ≡ o → k + 1 ≤ scan_end R o
 scan_above R k None inside e = omega arith
-scan_above R k (Some b) inside e = let r = first_above (λ j. is_simple_border (row_at R j)) k (length R - k) b e in omega (arith, r.0)
+scan_above R k (Some b) inside e = let r = first_above (λ j. is_lower_border_row (row_at R j)) k (length R - k) b e in omega (arith, r.0)
 
 pub looked-least : (R : Grid) (wide first : ℕ) → first < length R → first + 1 ≤ looked_to R wide (Some first)
 looked-least R wide first inside =
@@ -54,7 +80,7 @@ looked-least R wide first inside =
   where
     scan_least : (o : Option ℕ) → next_border R (first + 1) ≡ o → first + 1 ≤ scan_end R o
     scan_least None e = omega arith
-    scan_least (Some b) e = let r = first_above (λ j. is_simple_border (row_at R j)) (first + 1) (length R - (first + 1)) b e in omega (arith, r.0)
+    scan_least (Some b) e = let r = first_above (λ j. is_lower_border_row (row_at R j)) (first + 1) (length R - (first + 1)) b e in omega (arith, r.0)
 
 pub looked-scan : (R : Grid) (wide first : ℕ) → length (row_at R first) ≡ wide → (length (row_at R (first + 1)) ≡ 0 → ⊥) → looked_to R wide (Some first) ≡ scan_end R (next_border R (first + 1))
 looked-scan R wide first same some =
@@ -90,7 +116,7 @@ take-more G k to r h e = ap (λ n. take n (drop k G)) (left_more k to h) ∙ ap 
 looked-scanned : (R : Grid) (i wide : ℕ) (o : Option ℕ) → i < length R → next_border R (i + 1) ≡ o → scan_end R o ≤ looked_to R wide o
 looked-scanned R i wide None inside e = omega arith
 looked-scanned R i wide (Some first) inside e =
-    let r = first_above (λ j. is_simple_border (row_at R j)) (i + 1) (length R - (i + 1)) first e in
+    let r = first_above (λ j. is_lower_border_row (row_at R j)) (i + 1) (length R - (i + 1)) first e in
     omega (arith, looked-least R wide first (omega (arith, r.0, r.1)))
 
 pub looked-one : (R : Grid) (i : ℕ) → i < length R → 1 ≤ simple_looked R i
@@ -99,7 +125,7 @@ looked-one R i inside = at (next_border R (i + 1)) refl
     at : (o : Option ℕ) → next_border R (i + 1) ≡ o → 1 ≤ looked_to R (length (row_at R i)) o - i
     at None e = omega arith
     at (Some first) e =
-        let r = first_above (λ j. is_simple_border (row_at R j)) (i + 1) (length R - (i + 1)) first e in
+        let r = first_above (λ j. is_lower_border_row (row_at R j)) (i + 1) (length R - (i + 1)) first e in
         omega (arith, r.0, r.1, looked-least R (length (row_at R i)) first (omega (arith, r.0, r.1)))
 
 pub looks-scan : (R : Grid) (i l0 l2 : ℕ) → i < length R → l2 + (i + 1) ≤ l0 + 1 + scan_end R (next_border R (i + 1)) → l2 ≤ l0 + 3 * simple_looked R i
@@ -108,7 +134,7 @@ looks-scan R i l0 l2 inside h = omega (arith, looked-scanned R i (length (row_at
 pub looks-some : (R : Grid) (i wide first l0 l2 l3 : ℕ) → i < length R → wide ≡ length (row_at R i) → next_border R (i + 1) ≡ Some first
     → l2 + (i + 1) ≤ l0 + 1 + scan_end R (next_border R (i + 1)) → l3 + first ≤ l2 + 2 + looked_to R wide (Some first) → l3 ≤ l0 + 3 * simple_looked R i
 looks-some R i wide first l0 l2 l3 inside same e h k =
-    let r = first_above (λ j. is_simple_border (row_at R j)) (i + 1) (length R - (i + 1)) first e in
+    let r = first_above (λ j. is_lower_border_row (row_at R j)) (i + 1) (length R - (i + 1)) first e in
     let scanned : scan_end R (next_border R (i + 1)) ≡ first + 1 = ap (scan_end R) e in
     let looked : simple_looked R i ≡ looked_to R (length (row_at R i)) (Some first) - i = ap (λ o. looked_to R (length (row_at R i)) o - i) e in
     let all : looked_to R wide (Some first) ≡ looked_to R (length (row_at R i)) (Some first) = ap (λ w. looked_to R w (Some first)) same in
@@ -122,7 +148,7 @@ second_within R wide first end head inside e = at (next_border R (first + 1)) re
     at : (o : Option ℕ) → next_border R (first + 1) ≡ o → end_at_second R wide first o ≡ Ends end head → (first ≤ end) × (end ≤ length R)
     at None f e = cc
     at (Some second) f e =
-        let r = first_above (λ j. is_simple_border (row_at R j)) (first + 1) (length R - (first + 1)) second f in
+        let r = first_above (λ j. is_lower_border_row (row_at R j)) (first + 1) (length R - (first + 1)) second f in
         ⊎_elim
         (λ same. let is : second + 1 ≡ end = (let s = second-ends R wide first second (eqb-true _ _ same) in cc) in (omega (arith, r.0), omega (arith, r.1)))
         (λ other. let s = second-mismatch R wide first second (eqb-false _ _ other) in cc)
@@ -135,7 +161,7 @@ ends_within R i end head inside e = at (next_border R (i + 1)) refl e
     at None f e = cc
     at (Some first) f e =
         let wide : ℕ = length (row_at R i) in
-        let r = first_above (λ j. is_simple_border (row_at R j)) (i + 1) (length R - (i + 1)) first f in
+        let r = first_above (λ j. is_lower_border_row (row_at R j)) (i + 1) (length R - (i + 1)) first f in
         ⊎_elim
         (λ same. ⊎_elim
         (λ none. let is : first + 1 ≡ end = (let s = end-first R wide first (eqb-true _ _ same) (eqb-true _ _ none) in cc) in (omega (arith, r.0), omega (arith, r.1)))

@@ -1,10 +1,11 @@
 -- Grid tables: which lines they are, what can be wrong with them, and what stands in them (Markup Specification,
 -- 'Grid Tables').
 use Rattle.std.specs.Prelude.{◌≡◌, ℕ, zero, suc, ◌+◌, ◌-◌, Bool, ◌&&◌, ◌||◌, ◌==◌, nat_le, List, [], ◌∷◌, Option, Some, None, if◌then◌else◌, get_or, slice_set, length, take, drop, map, filter}
-use Rattle.std.specs.List.{list_all, list_any}
+use Rattle.std.specs.List.{list_all, list_any, range_with_len}
 use Rattle.rst_text.specs.Block.{Block, first_number}
 use Rattle.rst_tables.specs.Places.{Row, Grid, no_row, rows_of, row_at, mark_of, mark_at, place, width}
-use Rattle.rst_tables.specs.Counts.{first_from, all_from, below, each_from}
+use Rattle.rst_text.specs.Places.{first_from}
+use Rattle.rst_tables.specs.Counts.{below}
 use Rattle.rst_tables.specs.Cells.{cell_block}
 use Rattle.rst_tables.specs.Drawn.{is_upright, Tiles}
 use Rattle.rst_tables.specs.declared.drawn.Rectangle.{Rectangle}
@@ -31,23 +32,23 @@ unfoldable pub is_edge : ℕ → ℕ → List Place → Bool
 is_edge mark shortest row = nat_le shortest (length row) && (has_ends mark row && list_all (is_part mark) row)
 
 -- `+-`, one or more of `-` and `+`, `-+`
-abbrev pub is_border : List Place → Bool
-is_border row = is_edge 45 5 row
+abbrev pub is_grid_border_row : List Place → Bool
+is_grid_border_row row = is_edge 45 5 row
 
 -- `+=`, any number of `=` and `+`, `=+`
 abbrev pub is_head_rule : List Place → Bool
 is_head_rule row = is_edge 61 4 row
 
 -- it begins with `+` or `|`
-unfoldable pub is_grid_row : List Place → Bool
-is_grid_row row = mark_at row 0 == 43 || mark_at row 0 == 124
+unfoldable pub is_drawn_row : List Place → Bool
+is_drawn_row row = mark_at row 0 == 43 || mark_at row 0 == 124
 
 -- ---- where the table ends
 
 -- the rows before the first that begins with neither `+` nor `|`; a blank one is such a row
 abbrev pub scanned : Grid → Grid
 scanned [] = []
-scanned (r ∷ rs) = if is_grid_row r.places then r ∷ scanned rs else []
+scanned (r ∷ rs) = if is_drawn_row r.places then r ∷ scanned rs else []
 
 -- how many rows there are through the last border where one more stands before them, which may be a border itself; none
 -- without a border
@@ -58,7 +59,7 @@ one_more border (suc n) = suc (suc n)
 -- how many rows there are through the last border, none if there is no border
 abbrev pub through_last : Grid → ℕ
 through_last [] = 0
-through_last (r ∷ rs) = one_more (is_border r.places) (through_last rs)
+through_last (r ∷ rs) = one_more (is_grid_border_row r.places) (through_last rs)
 
 -- how many rows there are with the two before them, none where there are none
 abbrev pub two_more : ℕ → ℕ
@@ -166,7 +167,7 @@ row_cells row_rank column_rank G rs n = map (cell_of row_rank column_rank G) (fi
 
 -- the rows, one between each bound and the next
 abbrev pub cell_rows : (ℕ → ℕ) → (ℕ → ℕ) → Grid → List Rectangle → ℕ → List (List Cell)
-cell_rows row_rank column_rank G rs count = each_from (row_cells row_rank column_rank G rs) 0 count
+cell_rows row_rank column_rank G rs count = map (row_cells row_rank column_rank G rs) (range_with_len 0 count)
 
 -- the rows of a tiled table, each with the cells that begin in it
 abbrev pub table_rows : Grid → List Rectangle → List (List Cell)
@@ -174,7 +175,7 @@ table_rows G rs = cell_rows (below (is_row G rs)) (below (is_column G rs)) G rs 
 
 -- the widths of the columns of a tiled table
 abbrev pub column_widths : Grid → List Rectangle → List ℕ
-column_widths G rs = gaps (all_from (is_column G rs) 0 (width G))
+column_widths G rs = gaps (filter (is_column G rs) (range_with_len 0 (width G)))
 
 -- how many rows lie above the rule between head and body
 abbrev pub head_size : (ℕ → ℕ) → Option ℕ → ℕ
@@ -216,4 +217,4 @@ IsGridTable B i result = let S = scanned (rows_of (drop i B)) in IsOfHeight (fir
 -- the time.
 unfoldable pub grid_looked : Grid → ℕ
 grid_looked [] = 0
-grid_looked (r ∷ rs) = if is_grid_row r.places then suc (grid_looked rs) else 1
+grid_looked (r ∷ rs) = if is_drawn_row r.places then suc (grid_looked rs) else 1

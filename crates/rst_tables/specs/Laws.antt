@@ -2,8 +2,8 @@
 use Rattle.std.specs.Prelude.{◌≡◌, ℕ, zero, suc, ◌+◌, ◌<◌, ◌≤◌, false, length}
 use Rattle.rst_tables.specs.Places.{Grid, row_at}
 use Rattle.rst_tables.specs.Drawn.{IsEven, OneTiling}
-use Rattle.rst_tables.specs.GridTable.{height, scanned, grid_looked, is_border}
-use Rattle.rst_tables.specs.SimpleTable.{simple_end, simple_looked, is_simple_border}
+use Rattle.rst_tables.specs.GridTable.{height, scanned, grid_looked, is_grid_border_row}
+use Rattle.rst_tables.specs.SimpleTable.{simple_end, simple_looked, is_lower_border_row}
 use Rattle.rst_tables.specs.declared.simple_lines.SimpleEnd.{SimpleEnd}
 use Rattle.rst_tables.specs.declared.simple_lines.SimpleEnd.TheVariants.{Ends, Fails}
 
@@ -22,7 +22,7 @@ grid_end R = end_with (length (scanned R)) (height (scanned R))
 
 -- Of the rows that a scan for a grid table went over behind the table none is a border, so no grid table begins there.
 abbrev pub NoGridBehind : Type 0
-NoGridBehind = (R : Grid) (k : ℕ) → grid_end R ≤ k → k < grid_looked R → is_border (row_at R k) ≡ false
+NoGridBehind = (R : Grid) (k : ℕ) → grid_end R ≤ k → k < grid_looked R → is_grid_border_row (row_at R k) ≡ false
 
 -- the place behind a simple table, or behind lines that are none
 abbrev pub place_behind : SimpleEnd → ℕ
@@ -31,4 +31,4 @@ place_behind (Fails end detail) = end
 
 -- Of the rows that a scan for a simple table went over behind the table none is a border.
 abbrev pub NoSimpleBehind : Type 0
-NoSimpleBehind = (R : Grid) (i k : ℕ) → i < length R → place_behind (simple_end R i) ≤ k → k < i + simple_looked R i → is_simple_border (row_at R k) ≡ false
+NoSimpleBehind = (R : Grid) (i k : ℕ) → i < length R → place_behind (simple_end R i) ≤ k → k < i + simple_looked R i → is_lower_border_row (row_at R k) ≡ false

@@ -1,11 +1,11 @@
 -- Simple tables: which lines they are, what can be wrong with them, and what stands in them (Markup Specification,
 -- 'Simple Tables').
-use Rattle.std.specs.Prelude.{ℕ, zero, suc, ◌+◌, ◌-◌, max, Bool, true, false, not, ◌&&◌, ◌||◌, ◌==◌, nat_le, List, [], ◌∷◌, ◌++◌, Option, Some, None, is_some, if◌then◌else◌, get_or, length, take, drop, map, count_by, unwrap_or, option_map}
+use Rattle.std.specs.Prelude.{ℕ, zero, suc, ◌+◌, ◌-◌, max, Bool, true, false, not, ◌&&◌, ◌||◌, ◌==◌, nat_le, List, [], ◌∷◌, ◌++◌, Option, Some, None, is_some, if◌then◌else◌, get_or, length, take, drop, map, count_by, unwrap_or, option_map, option_and_then, filter, position}
 use Rattle.std.specs.Char.{is_whitespace}
-use Rattle.std.specs.List.{list_all}
+use Rattle.std.specs.List.{list_all, range_with_len}
 use Rattle.rst_text.specs.Block.{Block, first_number}
 use Rattle.rst_tables.specs.Places.{Grid, rows_of, row_at, mark_of, mark_at}
-use Rattle.rst_tables.specs.Counts.{first_from, all_from, each_from}
+use Rattle.rst_text.specs.Places.{first_from}
 use Rattle.rst_tables.specs.Cells.{cell_block}
 use Rattle.rst_tables.specs.GridTable.{malformed}
 use Rattle.rst_tables.specs.declared.places.Place.{Place}
@@ -29,13 +29,13 @@ is_stroke mark p = mark_of p == mark || mark_of p == 32
 unfoldable pub is_ruled : ℕ → List Place → Bool
 is_ruled mark row = mark_at row 0 == mark && list_all (is_stroke mark) row
 
--- `=` and spaces
-abbrev pub is_simple_border : List Place → Bool
-is_simple_border row = is_ruled 61 row
+-- a border: `=` and spaces, `=` first
+abbrev pub is_lower_border_row : List Place → Bool
+is_lower_border_row row = is_ruled 61 row
 
 -- a border, or a span rule of `-` and spaces
 unfoldable pub is_rule : List Place → Bool
-is_rule row = is_ruled 61 row || is_ruled 45 row
+is_rule row = is_lower_border_row row || is_ruled 45 row
 
 -- a row has no places: its line is blank, or there is no such line
 abbrev pub is_empty : List Place → Bool
@@ -45,7 +45,7 @@ is_empty row = length row == 0
 
 -- the first border from a place on
 abbrev pub next_border : Grid → ℕ → Option ℕ
-next_border R low = first_from (λ k. is_simple_border (row_at R k)) low (length R - low)
+next_border R low = first_from (λ k. is_lower_border_row (row_at R k)) low (length R - low)
 
 -- The table ends at its second border below the top. Its first one, at place `first`, closes the head.
 abbrev pub end_at_second : Grid → ℕ → ℕ → Option ℕ → SimpleEnd
@@ -101,41 +101,32 @@ span_at row k = record { from = k; to = span_end row k; columns = 1 }
 
 -- the runs of marks in a rule
 abbrev pub spans_of : List Place → List Span
-spans_of row = map (span_at row) (all_from (begins_span row) 0 (length row))
+spans_of row = map (span_at row) (filter (begins_span row) (range_with_len 0 (length row)))
 
 -- the columns of the table: the runs of the top border
 abbrev pub columns_of : Grid → List Span
 columns_of T = spans_of (row_at T 0)
 
--- one column more than some, and none where there are none
-abbrev pub one_past : ℕ → ℕ
-one_past zero = 0
-one_past (suc n) = suc (suc n)
+-- The place, in the list of columns, of the last that a span joins: the span begins where the first of them does, and ends
+-- where this one does. There is none where no columns lie so.
+abbrev pub last_joined : List Span → Span → Option ℕ
+last_joined [] s = None
+last_joined (c ∷ cs) s = if c.from == s.from then position (λ d. d.to == s.to) (c ∷ cs) else None
 
--- how many columns there are through the first that ends at a place, none if none does
-abbrev pub through : ℕ → List Span → ℕ
-through to [] = 0
-through to (c ∷ cs) = if c.to == to then 1 else one_past (through to cs)
+-- a span with how many columns it joins
+abbrev pub joining : Span → ℕ → Span
+joining s n = record { from = s.from; to = s.to; columns = n }
 
--- how many columns at the front a span covers: it begins with the first and ends with one of them; else none
-abbrev pub covered : List Span → Span → ℕ
-covered [] s = 0
-covered (c ∷ cs) s = if c.from == s.from then through s.to (c ∷ cs) else 0
+-- no span is needed more when no column is left; else there are spans too few
+abbrev pub no_more : List Span → Option (List Span)
+no_more [] = Some []
+no_more (c ∷ cs) = None
 
--- spans have covered all columns when none is left
-abbrev pub all_covered : List Span → Option (List Span)
-all_covered [] = Some []
-all_covered (c ∷ cs) = None
-
--- a span that covers some columns before others; one that covers none is wrong
-abbrev pub with_span : ℕ → Span → Option (List Span) → Option (List Span)
-with_span zero s rest = None
-with_span (suc n) s rest = option_map (λ ss. record { from = s.from; to = s.to; columns = suc n } ∷ ss) rest
-
--- Spans with the number of columns that each covers. They have to cover all columns, one after the other.
+-- Spans with how many columns each joins. They have to join all columns, each those behind the ones that the span before
+-- it joins.
 abbrev pub spread : List Span → List Span → Option (List Span)
-spread columns [] = all_covered columns
-spread columns (s ∷ ss) = with_span (covered columns s) s (spread (drop (covered columns s) columns) ss)
+spread columns [] = no_more columns
+spread columns (s ∷ ss) = option_and_then (λ last. option_map (λ others. joining s (last + 1) ∷ others) (spread (drop (last + 1) columns) ss)) (last_joined columns s)
 
 -- the spans of a row that is a rule
 abbrev pub rule_spans : Grid → ℕ → Option (List Span)
@@ -143,7 +134,7 @@ rule_spans T k = spread (columns_of T) (spans_of (row_at T k))
 
 -- the rules below the top border: span rules, the border that closes the head and the last border
 abbrev pub rules_of : Grid → List ℕ
-rules_of T = all_from (λ k. is_rule (row_at T k)) 1 (length T - 1)
+rules_of T = filter (λ k. is_rule (row_at T k)) (range_with_len 1 (length T - 1))
 
 -- the first of the rules whose spans don't cover the columns
 abbrev pub first_unaligned : Grid → List ℕ → Option ℕ
@@ -249,7 +240,7 @@ width_of columns longest k = let c = span_of columns k in
 
 -- the widths of all columns
 abbrev pub simple_widths : Grid → List ℕ
-simple_widths T = each_from (width_of (columns_of T) (longest_of T (simple_rows T))) 0 (length (columns_of T))
+simple_widths T = map (width_of (columns_of T) (longest_of T (simple_rows T))) (range_with_len 0 (length (columns_of T)))
 
 -- where the k-th span of a row ends: the last has no end
 abbrev pub right_of : List Span → ℕ → Option ℕ
@@ -261,7 +252,7 @@ entry lines spans k = record { morerows = 0; morecols = (span_of spans k).column
 
 -- the cells of a row's lines, one in each span
 abbrev pub entries : Grid → List Span → List Cell
-entries lines spans = each_from (entry lines spans) 0 (length spans)
+entries lines spans = map (entry lines spans) (range_with_len 0 (length spans))
 
 -- the cells of a row
 abbrev pub row_entries : Grid → RowLines → List Cell

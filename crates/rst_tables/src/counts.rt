@@ -1,13 +1,14 @@
 //! Which numbers are marked, and how many.
-ghost use Rattle.std.specs.Prelude.{◌≡◌, false, get_or, length, IfOk};
-ghost use Rattle.rst_tables.specs.Counts.{all_from, below};
+ghost use Rattle.std.specs.Prelude.{◌≡◌, false, get_or, length, IfOk, filter};
+ghost use Rattle.std.specs.List.{range_with_len};
+ghost use Rattle.rst_tables.specs.Counts.{below};
 ghost use Rattle.rst_tables.specs.Marks.{AreRanks};
 
 use std::alloc::{AllocError, Global};
 
 /// The places of the marks that are set.
 pub(crate) fn marked(alloc: Global, marks: &[bool]) -> Result<Vec<usize>, AllocError>
-    ensures { IfOk result (λ numbers. numbers.items ≡ all_from (λ k. get_or marks.now k false) 0 (length marks.now)) }
+    ensures { IfOk result (λ numbers. numbers.items ≡ filter (λ k. get_or marks.now k false) (range_with_len 0 (length marks.now))) }
 {
     let mut numbers = Vec::new(alloc);
     for place in 0..marks.len() {

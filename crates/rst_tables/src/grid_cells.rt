@@ -1,7 +1,7 @@
 //! The cells of a grid table.
 ghost use Rattle.std.specs.Prelude.{◌≡◌, ◌+◌, ◌-◌, ◌<◌, ◌≤◌, ℕ, [], List, Some, length, get_or, IfOk, IfSome};
 ghost use Rattle.rst_tables.specs.Places.{width};
-ghost use Rattle.rst_tables.specs.Counts.{below, each_from};
+ghost use Rattle.rst_tables.specs.Counts.{below};
 ghost use Rattle.rst_tables.specs.Marks.{AreRanks};
 ghost use Rattle.rst_tables.specs.Drawn.{IsEven, IsTiling};
 ghost use Rattle.rst_tables.specs.GridTable as spec;

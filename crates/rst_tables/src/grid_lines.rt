@@ -50,8 +50,8 @@ fn is_edge(mark: char, shortest: usize, row: &[Place]) -> bool
     shortest <= row.len() && has_ends(mark, row) && are_parts(mark, row)
 }
 
-fn is_border(row: &[Place]) -> bool
-    ensures { result ≡ spec.is_border row.now }
+fn is_grid_border_row(row: &[Place]) -> bool
+    ensures { result ≡ spec.is_grid_border_row row.now }
 {
     is_edge('-', 5, row)
 }
@@ -62,9 +62,9 @@ fn is_head_rule(row: &[Place]) -> bool
     is_edge('=', 4, row)
 }
 
-#[tactic(auto, unfolding(crate::specs::GridTable::is_grid_row))]
-fn is_grid_row(row: &[Place]) -> bool
-    ensures { result ≡ spec.is_grid_row row.now }
+#[tactic(auto, unfolding(crate::specs::GridTable::is_drawn_row))]
+fn is_drawn_row(row: &[Place]) -> bool
+    ensures { result ≡ spec.is_drawn_row row.now }
 {
     mark_at(row, 0) == '+' || mark_at(row, 0) == '|'
 }
@@ -85,7 +85,7 @@ pub(crate) fn scanned(
     let mut lines = Vec::new(alloc);
     for k in from..view.len() {
         let line = read_line(alloc, view, k, looks)?;
-        if !is_grid_row(line.places()) {
+        if !is_drawn_row(line.places()) {
             return Ok(lines);
         }
         lines.push(line)?;
@@ -100,7 +100,7 @@ fn through_last(lines: &[TableLine]) -> usize
 {
     let mut last = 0;
     for k in 0..lines.len() {
-        if is_border(lines[k].places()) {
+        if is_grid_border_row(lines[k].places()) {
             last = k + 1;
             continue;
         }

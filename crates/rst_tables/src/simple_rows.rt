@@ -2,7 +2,7 @@
 ghost use Rattle.std.specs.Prelude.{◌≡◌, ◌++◌, ◌+◌, ◌-◌, ◌^◌, ◌<◌, ◌≤◌, ℕ, Bool, not, get_or, length, IfOk, IfSome, option_map, vec_items};
 ghost use Rattle.std.specs.List.{list_all};
 ghost use Rattle.rst_tables.specs.Places.{row_at};
-ghost use Rattle.rst_tables.specs.Counts.{first_from};
+ghost use Rattle.rst_text.specs.Places.{first_from};
 ghost use Rattle.rst_tables.specs.SimpleTable as spec;
 
 use super::places::{Place, TableLine};

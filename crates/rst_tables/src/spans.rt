@@ -1,11 +1,11 @@
 //! The spans of a simple table's rules.
-ghost use Rattle.std.specs.Prelude.{◌≡◌, ◌≤◌, drop, length, IfOk, option_map, vec_items};
+ghost use Rattle.std.specs.Prelude.{◌≡◌, ◌+◌, ◌^◌, ◌<◌, ◌==◌, drop, length, position, IfOk, IfSome, option_map, vec_items};
 ghost use Rattle.rst_tables.specs.SimpleTable as spec;
 
 use super::places::{Place, mark_at};
 use std::alloc::{AllocError, Global};
 
-/// A run of marks in a rule: its places from `from` on, before `to`, and how many of the table's columns it covers.
+/// A run of marks in a rule: its places from `from` on, before `to`, and how many of the table's columns it joins.
 #[derive(Clone, Copy)]
 pub(crate) struct Span {
     pub(crate) from: usize,
@@ -58,33 +58,33 @@ pub(crate) fn spans_of(alloc: Global, row: &[Place]) -> Result<Vec<Span>, AllocE
     Ok(spans)
 }
 
-/// How many columns there are through the first that ends at a place, 0 if none does.
-fn through(columns: &[Span], to: usize) -> usize
-    ensures value { result ≡ spec.through to columns.now }
-    ensures within { result ≤ length columns.now }
+/// The place of the first column that ends at a place.
+fn ending(columns: &[Span], to: usize) -> Option<usize>
+    ensures value { result ≡ position (λ c. c.to == to) columns.now }
+    ensures fits { IfSome result (λ k. k + 1 < 2 ^ 64) }
 {
     for place in 0..columns.len() {
         if columns[place].to == to {
-            return place + 1;
+            return Some(place);
         }
     }
-    0
+    None
 }
 
-/// How many columns at the front a span covers, 0 if it doesn't begin and end where columns do.
-fn covered(columns: &[Span], span: Span) -> usize
-    ensures value { result ≡ spec.covered columns.now span }
-    ensures within { result ≤ length columns.now }
+/// The place of the last column that a span joins, if it begins where the first does and ends where a column does.
+fn last_joined(columns: &[Span], span: Span) -> Option<usize>
+    ensures value { result ≡ spec.last_joined columns.now span }
+    ensures fits { IfSome result (λ k. k + 1 < 2 ^ 64) }
 {
     match columns.first() {
         Some(first) => {
             if first.from == span.from {
-                through(columns, span.to)
+                ending(columns, span.to)
             } else {
-                0
+                None
             }
         }
-        None => 0,
+        None => None,
     }
 }
 
@@ -96,7 +96,7 @@ fn behind(spans: &[Span], n: usize) -> &[Span]
     &spans[begin..]
 }
 
-/// The spans with how many columns each covers, if they cover all, one after the other.
+/// The spans with how many columns each joins, if they join all, one after the other.
 pub(crate) fn spread(
     alloc: Global,
     columns: &[Span],
@@ -107,10 +107,10 @@ pub(crate) fn spread(
     let mut wide = Vec::new(alloc);
     let mut left = columns;
     for span in spans {
-        let columns = covered(left, *span);
-        if columns == 0 {
+        let Some(last) = last_joined(left, *span) else {
             return Ok(None);
-        }
+        };
+        let columns = last + 1;
         wide.push(Span {
             from: span.from,
             to: span.to,

@@ -1,6 +1,7 @@
-use Rattle.std.proofs.Common.{◌≡◌, ◌∙◌, ◌-◌, ℕ, List, get_or, length, ap, arith}
+use Rattle.std.proofs.Common.{◌≡◌, ◌∙◌, ◌-◌, ℕ, List, get_or, length, ap, arith, map}
 use Rattle.rst_tables.specs.Places.{Grid}
-use Rattle.rst_tables.specs.Counts.{below, each_from}
+use Rattle.std.specs.List.{range_with_len}
+use Rattle.rst_tables.specs.Counts.{below}
 use Rattle.rst_tables.specs.GridTable.{is_row, is_column, row_cells}
 use Rattle.rst_tables.specs.declared.drawn.Rectangle.{Rectangle}
 use Rattle.rst_tables.proofs.RowLemmas.{rank-few, agree, same_cells}
@@ -20,5 +21,5 @@ returns c =
     let same = agree f (below (is_row G rs)) g (below (is_column G rs)) G 0 0 rs c.requires.even c.requires.tiling.drawn
     (λ k inside. c.requires.rows.at k (omega arith)) (λ k inside. c.requires.columns.at k (omega arith)) in
     let count : c.saturating_sub-count.result ≡ below (is_row G rs) (length G) - 1 = c.saturating_sub-count.ensures ∙ ap (λ n. n - 1) (c.row.ensures ∙ c.requires.rows.at (length G) (omega arith)) in
-    c.of.ensures ∙ c.in_ok-rows.ensures ∙ ap (each_from (row_cells f g G rs) 0) count
+    c.of.ensures ∙ c.in_ok-rows.ensures ∙ ap (λ n. map (row_cells f g G rs) (range_with_len 0 n)) count
     ∙ same_cells f (below (is_row G rs)) g (below (is_column G rs)) G rs 0 (below (is_row G rs) (length G) - 1) same

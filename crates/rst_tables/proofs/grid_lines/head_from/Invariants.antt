@@ -1,6 +1,6 @@
 use Rattle.std.proofs.Common.{◌≡◌, ◌-◌, length}
 use Rattle.rst_tables.specs.Places.{row_at}
-use Rattle.rst_tables.specs.Counts.{first_from}
+use Rattle.rst_text.specs.Places.{first_from}
 use Rattle.rst_tables.specs.GridTable.{is_head_rule, head_from}
 use Rattle.rst_tables.proofs.grid_lines.head_from.Given as goal
 

@@ -1,6 +1,6 @@
 use Rattle.std.proofs.Common.{◌≡◌, ◌-◌, not}
 use Rattle.rst_tables.specs.Places.{row_at}
-use Rattle.rst_tables.specs.Counts.{first_from}
+use Rattle.rst_text.specs.Places.{first_from}
 use Rattle.rst_tables.specs.SimpleTable.{are_clear, text_in_margin}
 use Rattle.rst_tables.proofs.simple_rows.text_in_margin.Given as goal
 

@@ -1,5 +1,5 @@
 use Rattle.std.proofs.Common.{◌≡◌, ◌-◌, length}
-use Rattle.rst_tables.specs.Counts.{first_from}
+use Rattle.rst_text.specs.Places.{first_from}
 use Rattle.rst_tables.specs.SimpleTable.{is_space}
 use Rattle.rst_tables.proofs.spans.span_end.Given as goal
 
