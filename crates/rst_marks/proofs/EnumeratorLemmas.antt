@@ -1,13 +1,14 @@
 -- A line that begins with a word has no enumerator.
-use Rattle.std.proofs.Common.{◌≡◌, ℕ, ◌==◌, ◌&&◌, Bool, true, false, List, [], ◌∷◌, drop, Option, None, Some, refl, sym}
-use Rattle.std.specs.Prelude.{not, if◌then◌else◌}
-use Rattle.std.proofs.lemmas.Bool.{eqb-true}
+use Rattle.std.proofs.Common.{◌≡◌, ℕ, zero, suc, ◌-◌, sub-one, arith, ◌==◌, ◌&&◌, Bool, true, false, List, [], ◌∷◌, drop, Option, None, Some, refl, sym}
+use Rattle.std.specs.Prelude.{nat_lt, not}
+use Rattle.std.proofs.lemmas.Bool.{eqb-true, ne_eqb, lt-ltb}
+use Rattle.std.proofs.Math.Dec.{eqb-suc-suc}
+use Rattle.std.specs.Option.{option_and_then}
 use Rattle.rst_marks.specs.Front.{begins_with}
 use Rattle.rst_marks.specs.Class.{run}
-use Rattle.rst_marks.specs.Roman.{roman, if_some}
-use Rattle.rst_marks.specs.Enumerator.{case_of, digits, letters, letters_by, as_numeral, written_at, framed, enumerator_of, begins_word}
+use Rattle.rst_marks.specs.Roman.{roman}
+use Rattle.rst_marks.specs.Enumerator.{case_of, digits, letters, letters_by, as_numeral, written_at, before_one, enumerator_of, begins_unnumbered}
 use Rattle.rst_marks.specs.declared.class.Class.TheVariants.{Digit, Letter}
-use Rattle.rst_marks.specs.declared.enumerator.Format.TheVariants.{Parenthesis, Period}
 use Rattle.rst_marks.specs.declared.enumerator.Written.{Written}
 
 and_true : (a b : Bool) → (a && b) ≡ true → (a ≡ true) × (b ≡ true)
@@ -23,7 +24,7 @@ abbrev has_len : ℕ → Option Written → Type 0
 has_len n None = Unit {0}
 has_len n (Some w) = w.len ≡ n
 
-numeral_len : (c n : ℕ) (o : Option ℕ) → has_len n (if_some o (as_numeral (case_of c) n))
+numeral_len : (c n : ℕ) (o : Option ℕ) → has_len n (option_and_then (as_numeral (case_of c) n) o)
 numeral_len c n None = tt
 numeral_len c n (Some v) = refl
 
@@ -41,7 +42,7 @@ letters_len [] = tt
 letters_len (c ∷ cs) = letters_by_len c (run Letter (c ∷ cs)) (c ∷ cs)
 
 unclosed : (t : List ℕ) (n : ℕ) (o : Option Written) → has_len n o → begins_with 41 (drop n t) ≡ false → begins_with 46 (drop n t) ≡ false
-    → if_some o (λ w. if begins_with 41 (drop w.len t) then framed Parenthesis 0 t else if begins_with 46 (drop w.len t) then framed Period 0 t else None) ≡ None
+    → option_and_then (before_one t) o ≡ None
 unclosed t n None h p q = refl
 unclosed t n (Some w) h p q = rw (h, p, q) refl
 
@@ -52,8 +53,8 @@ written_letters t h d = rw (h, d) refl
 zero_of : (n : ℕ) → (n == 0) ≡ true → n ≡ 0
 zero_of n h = eqb-true n 0 h
 
-pub word_none : (t : List ℕ) → begins_with 40 t ≡ false → begins_word t ≡ true → None ≡ enumerator_of t
-unfolding enumerator_of begins_word
+pub word_none : (t : List ℕ) → begins_with 40 t ≡ false → begins_unnumbered t ≡ true → None ≡ enumerator_of t
+unfolding enumerator_of begins_unnumbered
 word_none t p h =
     let a = and_true (not (begins_with 35 t)) (run Digit t == 0 && (not (begins_with 41 (drop (run Letter t) t)) && not (begins_with 46 (drop (run Letter t) t)))) h in
     let b = and_true (run Digit t == 0) (not (begins_with 41 (drop (run Letter t) t)) && not (begins_with 46 (drop (run Letter t) t))) a.1 in
@@ -61,3 +62,11 @@ word_none t p h =
     let w : written_at t ≡ letters t = written_letters t (not_true (begins_with 35 t) a.0) (zero_of (run Digit t) b.0) in
     let u = unclosed t (run Letter t) (letters t) (letters_len t) (not_true (begins_with 41 (drop (run Letter t) t)) c.0) (not_true (begins_with 46 (drop (run Letter t) t)) c.1) in
     rw (p, w) (sym u)
+
+-- one number is one more than another
+pub more_by_one : (a b : ℕ) → (nat_lt 0 b && b - 1 == a) ≡ (b == suc a)
+more_by_one a zero = sym (ne_eqb 0 (suc a) (λ e. absurd (omega (arith, e))))
+more_by_one a (suc n) =
+    let some : nat_lt 0 (suc n) ≡ true = lt-ltb 0 (suc n) (omega arith) in
+    let less : (suc n - 1 == a) ≡ (n == a) = rw sub-one refl in
+    rw (some, less) (sym (eqb-suc-suc n a))

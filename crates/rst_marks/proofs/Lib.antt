@@ -3,6 +3,7 @@ pub mod Runs
 pub mod SimpleNames
 pub mod Steps
 pub mod OptionLemmas
+pub mod PlacedLemmas
 pub mod ListedLemmas
 pub mod ClosingLemmas
 pub mod MarkBounds

@@ -1,5 +1,6 @@
 -- Marks of explicit markup stand within their lines.
 use Rattle.std.proofs.Common.{◌≡◌, ℕ, ◌+◌, ◌≤◌, ◌==◌, Bool, true, false, not, cond, ◌&&◌, ◌||◌, List, length, drop, length-drop, Option, None, Some, arith, refl, ap}
+use Rattle.std.specs.Option.{option_and_then}
 use Rattle.rst_text.specs.Block.{is_blank}
 use Rattle.rst_pieces.specs.Names.{simple_name}
 use Rattle.rst_marks.specs.Front.{begins_with}
@@ -7,7 +8,6 @@ use Rattle.rst_marks.specs.Class.{run}
 use Rattle.rst_marks.specs.Closing.{closed}
 use Rattle.rst_marks.specs.ExplicitMarks.{dots, label_kind, label_of, label_by, labelled, begins_white, quoted_target, plain_target, anonymous_target, target_of, substitution_of, spaced_bar, closing_bar, colons, directive_of}
 use Rattle.rst_marks.specs.Marker.{marker_of}
-use Rattle.rst_marks.specs.Roman.{if_some}
 use Rattle.rst_marks.specs.declared.class.Class.TheVariants.{Unbracketed}
 use Rattle.rst_marks.specs.declared.closing.Closing.TheVariants.{Colon, QuotedColon, Bar, SpacedBar}
 use Rattle.rst_marks.specs.declared.explicit_marks.DirectiveMark.{DirectiveMark}
@@ -21,7 +21,7 @@ use Rattle.rst_marks.proofs.ClosingLemmas.{closed_within, quoted_within}
 use Rattle.rst_marks.proofs.OptionLemmas.{marker_within, there}
 
 -- what the second of two computations gives is what it makes of the first's value
-pub some_of : {A C : Type 0} (o : Option A) (f : A → Option C) (y : C) → if_some o f ≡ Some y → (x : A) × (o ≡ Some x) × (f x ≡ Some y)
+pub some_of : {A C : Type 0} (o : Option A) (f : A → Option C) (y : C) → option_and_then f o ≡ Some y → (x : A) × (o ≡ Some x) × (f x ≡ Some y)
 some_of None f y h = cc
 some_of (Some x) f y h = (x, refl, h)
 
@@ -48,7 +48,7 @@ label_cut None = 0
 label_cut (Some l) = l.marker.cut
 
 labelled_within : (n : ℕ) (t : List ℕ) (k : Option LabelKind) (l : LabelMark) (b : Bool) → begins_with 93 (drop n (drop 1 t)) ≡ b
-    → cond b (if_some k (labelled n t)) None ≡ Some l → (1 + l.len ≤ length t) × (l.marker.cut ≤ length t)
+    → cond b (option_and_then (labelled n t) k) None ≡ Some l → (1 + l.len ≤ length t) × (l.marker.cut ≤ length t)
 labelled_within n t k l true e h =
     let kind = some_of k (labelled n t) l h in
     let mark = some_of (marker_of (n + 2) t) (label_with n kind.0) l kind.2 in
@@ -73,7 +73,7 @@ TargetWithin t (Named from len m) = (from + len ≤ length t) × (m.cut ≤ leng
 TargetWithin t (Anonymous m) = m.cut ≤ length t
 
 named_within : (from len n : ℕ) (t : List ℕ) (mark : TargetMark) (b : Bool) → from + len ≤ length t → n ≤ length t
-    → cond b None (if_some (marker_of n t) (λ m. Some (Named from len m))) ≡ Some mark → TargetWithin t mark
+    → cond b None (option_and_then (λ m. Some (Named from len m)) (marker_of n t)) ≡ Some mark → TargetWithin t mark
 named_within from len n t mark true h k e = cc
 named_within from len n t mark false h k e =
     let m = some_of (marker_of n t) (λ m. Some (Named from len m)) mark e in
@@ -84,18 +84,18 @@ named_within from len n t mark false h k e =
 pub quoted_target_within : (t : List ℕ) (mark : TargetMark) → quoted_target t ≡ Some mark → TargetWithin t mark
 unfolding quoted_target
 quoted_target_within t mark h =
-    let c = some_of (closed QuotedColon (drop 2 t)) (λ n. cond (n == 0 || (begins_white (drop 2 t) || begins_with 96 (drop 2 t))) None (if_some (marker_of (n + 4) t) (λ m. Some (Named 2 n m)))) mark h in
+    let c = some_of (closed QuotedColon (drop 2 t)) (λ n. cond (n == 0 || (begins_white (drop 2 t) || begins_with 96 (drop 2 t))) None (option_and_then (λ m. Some (Named 2 n m)) (marker_of (n + 4) t))) mark h in
     let room : c.0 + 4 ≤ length t = omega (arith, quoted_within (drop 2 t) c.0 c.1, length-drop 2 t) in
     named_within 2 c.0 (c.0 + 4) t mark (c.0 == 0 || (begins_white (drop 2 t) || begins_with 96 (drop 2 t))) (omega arith) room c.2
 
 pub plain_target_within : (t : List ℕ) (mark : TargetMark) → plain_target t ≡ Some mark → TargetWithin t mark
 unfolding plain_target
 plain_target_within t mark h =
-    let c = some_of (closed Colon (drop 1 t)) (λ n. cond (n == 0 || begins_white (drop 1 t)) None (if_some (marker_of (n + 2) t) (λ m. Some (Named 1 n m)))) mark h in
+    let c = some_of (closed Colon (drop 1 t)) (λ n. cond (n == 0 || begins_white (drop 1 t)) None (option_and_then (λ m. Some (Named 1 n m)) (marker_of (n + 2) t))) mark h in
     let room : c.0 + 2 ≤ length t = omega (arith, closed_within Colon (drop 1 t) c.0 c.1, length-drop 1 t) in
     named_within 1 c.0 (c.0 + 2) t mark (c.0 == 0 || begins_white (drop 1 t)) (omega arith) room c.2
 
-anonymous_by : (t : List ℕ) (mark : TargetMark) (b : Bool) → begins_with 58 (drop 2 t) ≡ b → cond b (if_some (marker_of 3 t) (λ m. Some (Anonymous m))) None ≡ Some mark → TargetWithin t mark
+anonymous_by : (t : List ℕ) (mark : TargetMark) (b : Bool) → begins_with 58 (drop 2 t) ≡ b → cond b (option_and_then (λ m. Some (Anonymous m)) (marker_of 3 t)) None ≡ Some mark → TargetWithin t mark
 anonymous_by t mark true e h =
     let m = some_of (marker_of 3 t) (λ m. Some (Anonymous m)) mark h in
     let whole : Some (Anonymous m.0) ≡ Some mark = m.2 in
@@ -154,7 +154,7 @@ directive_cut None = 0
 directive_cut (Some d) = d.marker.cut
 
 colons_by : (len n : ℕ) (t : List ℕ) (d : DirectiveMark) (a b : Bool) → begins_with 58 (drop (n + 1) t) ≡ b → len ≤ n
-    → cond (not a || not b) None (if_some (marker_of (n + 2) t) (directive_with len)) ≡ Some d → (d.len ≤ length t) × (d.marker.cut ≤ length t)
+    → cond (not a || not b) None (option_and_then (directive_with len) (marker_of (n + 2) t)) ≡ Some d → (d.len ≤ length t) × (d.marker.cut ≤ length t)
 colons_by len n t d false b e s h = cc
 colons_by len n t d true false e s h = cc
 colons_by len n t d true true e s h =

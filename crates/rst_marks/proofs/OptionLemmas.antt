@@ -1,5 +1,5 @@
 -- Option markers stand within their lines.
-use Rattle.std.proofs.Common.{◌≡◌, ℕ, zero, suc, ◌+◌, ◌-◌, ◌<◌, ◌≤◌, ◌==◌, Bool, true, false, not, cond, ◌&&◌, ◌||◌, List, [], ◌∷◌, length, drop, length-drop, Option, None, Some, IfSome, arith, sub-one, refl, sym, ap, ◌∙◌, subst}
+use Rattle.std.proofs.Common.{◌≡◌, ℕ, suc, ◌+◌, ◌-◌, ◌<◌, ◌≤◌, ◌==◌, Bool, true, false, not, cond, ◌&&◌, ◌||◌, List, [], ◌∷◌, length, drop, length-drop, Option, None, Some, IfSome, arith, refl, ap, ◌∙◌, subst}
 use Rattle.rst_marks.specs.Front.{begins_with}
 use Rattle.rst_marks.specs.Class.{run, is_in}
 use Rattle.rst_marks.specs.declared.class.Class.{Class}
@@ -10,7 +10,7 @@ use Rattle.rst_marks.specs.declared.option.Argument.{Argument}
 use Rattle.rst_marks.specs.declared.option.OptionMark.{OptionMark}
 use Rattle.rst_marks.specs.declared.option.OptionTail.TheVariants.{Last, Next, Wrong}
 use Rattle.rst_marks.specs.declared.marker.Marker.{Marker}
-use Rattle.rst_marks.specs.OptionMarker.{argument_len, bracketed_len, begins_letter, begins_ascii_alphanumeric, argument_behind, with_delimiter, width_with, argument_width, short_argument, long_argument, long_option, short_option, option_at, option_of, tail_at, option_tail, tail_of, last_if, options_from, shifted}
+use Rattle.rst_marks.specs.OptionMarker.{argument_len, bracketed_len, begins_letter, begins_ascii_alphanumeric, argument_behind, with_delimiter, width_with, argument_width, short_argument, long_argument, long_option, short_option, option_at, option_of, tail_at, option_tail, tail_of, last_if}
 use Rattle.rst_marks.specs.Marker.{marker_of}
 use Rattle.rst_text.specs.Block.{is_blank, indentation}
 use Rattle.rst_marks.proofs.TextLemmas.{indent_within}
@@ -140,36 +140,6 @@ argument_len_le (Some a) n h = by a.delimiter h
 pub argument_len_below : (a : Option Argument) (n m : ℕ) → argument_width a ≤ n → n < m → IfSome a (λ x. x.len < m)
 argument_len_below None n m h l = tt
 argument_len_below (Some a) n m h l = omega (arith, argument_len_le (Some a) n h)
-
--- what was read already is passed
-pub options_passed : (k before : ℕ) (t : List ℕ) → options_from k before t ≡ options_from 0 before (drop k t)
-unfolding options_from
-options_passed zero before t = refl
-options_passed (suc k) before [] = refl
-options_passed (suc k) before (c ∷ cs) = options_passed k before cs
-
--- there is no option in nothing
-pub nothing_wrong : option_tail [] ≡ Wrong
-unfolding option_tail option_at
-nothing_wrong = refl
-
-pub options_last : (before : ℕ) (t : List ℕ) (m : Marker) (total : Option Marker) → option_tail t ≡ Last m → options_from 0 before t ≡ total → Some (shifted before m) ≡ total
-unfolding options_from
-options_last before [] m total e h = let no : Wrong ≡ Last m = sym nothing_wrong ∙ e in cc
-options_last before (c ∷ cs) m total e h = let one : options_from 0 before (c ∷ cs) ≡ Some (shifted before m) = rw e refl in sym one ∙ h
-
-pub options_wrong : (before : ℕ) (t : List ℕ) (total : Option Marker) → option_tail t ≡ Wrong → options_from 0 before t ≡ total → None ≡ total
-unfolding options_from
-options_wrong before [] total e h = h
-options_wrong before (c ∷ cs) total e h = let one : options_from 0 before (c ∷ cs) ≡ None = rw e refl in sym one ∙ h
-
-pub options_next : (before n : ℕ) (t : List ℕ) (total : Option Marker) → option_tail t ≡ Next n → 1 ≤ n → options_from 0 before t ≡ total → options_from 0 (before + n) (drop n t) ≡ total
-unfolding options_from
-options_next before zero t total e s h = absurd (omega arith)
-options_next before (suc n) [] total e s h = let no : Wrong ≡ Next (suc n) = sym nothing_wrong ∙ e in cc
-options_next before (suc n) (c ∷ cs) total e s h =
-    let one : options_from 0 before (c ∷ cs) ≡ options_from n (before + suc n) cs = rw (e, sub-one) refl in
-    sym (options_passed n (before + suc n) cs) ∙ sym one ∙ h
 
 no_next : (d : Bool) (o : Option Marker) (m : ℕ) → cond d Wrong (last_if o) ≡ Next m → ⊥
 no_next true o m h = cc

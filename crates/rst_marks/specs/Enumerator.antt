@@ -1,10 +1,10 @@
 -- Enumerators (Markup Specification, 'Enumerated Lists').
-use Rattle.std.specs.Prelude.{ℕ, ◌+◌, ◌-◌, Bool, true, false, ◌&&◌, ◌||◌, ◌==◌, nat_le, nat_lt, not, unwrap_or, List, drop, if◌then◌else◌, Option, None, Some}
-use Rattle.rst_pieces.specs.Tails.{or_else}
+use Rattle.std.specs.Prelude.{ℕ, suc, ◌+◌, ◌-◌, Bool, true, false, ◌&&◌, ◌||◌, ◌==◌, nat_le, nat_lt, not, unwrap_or, List, drop, if◌then◌else◌, Option, None, Some}
+use Rattle.std.specs.Option.{option_and_then, option_map, option_or}
 use Rattle.rst_marks.specs.Front.{first, begins_with}
 use Rattle.rst_marks.specs.Class.{run}
 use Rattle.rst_marks.specs.Decimal.{decimal}
-use Rattle.rst_marks.specs.Roman.{roman, if_some}
+use Rattle.rst_marks.specs.Roman.{roman}
 use Rattle.rst_marks.specs.declared.class.Class.TheVariants.{Digit, Letter}
 use Rattle.rst_marks.specs.declared.enumerator.Case.{Case}
 use Rattle.rst_marks.specs.declared.enumerator.Case.TheVariants.{Lower, Upper}
@@ -17,7 +17,6 @@ use Rattle.rst_marks.specs.declared.enumerator.Enumerator.{Enumerator}
 use Rattle.rst_marks.specs.declared.enumerator.Sequence.{Sequence}
 use Rattle.rst_marks.specs.declared.enumerator.Sequence.TheVariants.{Arabic as ArabicSequence, LowerAlpha, UpperAlpha, LowerRoman, UpperRoman}
 use Rattle.rst_marks.specs.declared.enumerator.Reading.{Reading}
-use Rattle.rst_marks.specs.declared.marker.Marker.{Marker}
 use Rattle.rst_marks.specs.Marker.{marker_of}
 
 -- the case of a letter
@@ -47,41 +46,45 @@ abbrev pub letters_by : ℕ → ℕ → List ℕ → Option Written
 letters_by c n t =
     if n == 0 then None
     else if n == 1 then Some (record { ordinals = Letters (case_of c) (place_in_alphabet c) (roman (case_of c) n t); len = n })
-    else if_some (roman (case_of c) n t) (as_numeral (case_of c) n)
+    else option_and_then (as_numeral (case_of c) n) (roman (case_of c) n t)
 
 -- a single letter, which may be a Roman numeral as well, or a Roman numeral
 unfoldable pub letters : List ℕ → Option Written
-letters t = if_some (first t) (λ c. letters_by c (run Letter t) t)
+letters t = option_and_then (λ c. letters_by c (run Letter t) t) (first t)
 
 -- the ordinal at the front of a text: `#`, digits, a letter or a Roman numeral
 unfoldable pub written_at : List ℕ → Option Written
-written_at t = if begins_with 35 t then Some (record { ordinals = Auto; len = 1 }) else or_else (digits t) (letters t)
-
--- an enumerator of this format and ordinal, if spaces or the end are behind it
-abbrev pub with_marker : Format → Written → Option Marker → Option Enumerator
-with_marker format w None = None
-with_marker format w (Some m) = Some (record { format = format; written = w; marker = m })
+written_at t = if begins_with 35 t then Some (record { ordinals = Auto; len = 1 }) else option_or (digits t) (letters t)
 
 -- neither `#` nor digits are at the front, and what ends an enumerator isn't behind the letters there
-unfoldable pub begins_word : List ℕ → Bool
-begins_word t = not (begins_with 35 t) && (run Digit t == 0 && (not (begins_with 41 (drop (run Letter t) t)) && not (begins_with 46 (drop (run Letter t) t))))
+unfoldable pub begins_unnumbered : List ℕ → Bool
+begins_unnumbered t = not (begins_with 35 t) && (run Digit t == 0 && (not (begins_with 41 (drop (run Letter t) t)) && not (begins_with 46 (drop (run Letter t) t))))
 
--- the ordinal behind `from` characters, and a marker that ends a character after it
-unfoldable pub framed : Format → ℕ → List ℕ → Option Enumerator
-framed format from t = if_some (written_at (drop from t)) (λ w. with_marker format w (marker_of (from + w.len + 1) t))
+-- an enumerator of this format with an ordinal that stands behind `from` characters and before one more, if spaces or the
+-- end are behind it
+abbrev pub framed : Format → ℕ → Written → List ℕ → Option Enumerator
+framed format from w t = option_map (λ m. record { format = format; written = w; marker = m }) (marker_of (from + w.len + 1) t)
+
+-- `(x)`, by its ordinal
+abbrev pub between_parentheses : List ℕ → Written → Option Enumerator
+between_parentheses t w = if begins_with 41 (drop (1 + w.len) t) then framed Parentheses 1 w t else None
+
+-- `x)` or `x.`, by its ordinal
+abbrev pub before_one : List ℕ → Written → Option Enumerator
+before_one t w =
+    if begins_with 41 (drop w.len t) then framed Parenthesis 0 w t
+    else if begins_with 46 (drop w.len t) then framed Period 0 w t
+    else None
 
 -- `(x)`, `x)` or `x.`
 unfoldable pub enumerator_of : List ℕ → Option Enumerator
 enumerator_of t =
-    if begins_with 40 t then if_some (written_at (drop 1 t)) (λ w. if begins_with 41 (drop (1 + w.len) t) then framed Parentheses 1 t else None)
-    else if_some (written_at t) (λ w.
-    if begins_with 41 (drop w.len t) then framed Parenthesis 0 t
-    else if begins_with 46 (drop w.len t) then framed Period 0 t
-    else None)
+    if begins_with 40 t then option_and_then (between_parentheses t) (written_at (drop 1 t))
+    else option_and_then (before_one t) (written_at t)
 
 -- the second ordinal follows the first directly, where both are there
 abbrev pub is_one_more : Option ℕ → Option ℕ → Bool
-is_one_more (Some a) (Some b) = nat_lt 0 b && b - 1 == a
+is_one_more (Some a) (Some b) = b == suc a
 is_one_more _ _ = false
 
 -- both are lower case, or both are upper case

@@ -1,6 +1,7 @@
 -- Marks of explicit markup (Markup Specification, 'Explicit Markup Blocks', 'Footnotes', 'Citations', 'Hyperlink
 -- Targets', 'Directives', 'Substitution Definitions').
 use Rattle.std.specs.Prelude.{ℕ, ◌+◌, ◌-◌, Bool, false, not, ◌&&◌, ◌||◌, ◌==◌, List, [], ◌∷◌, drop, if◌then◌else◌, Option, None, Some}
+use Rattle.std.specs.Option.{option_and_then}
 use Rattle.rst_text.specs.Block.{is_blank}
 use Rattle.rst_text.specs.Characters.{is_white}
 use Rattle.rst_pieces.specs.Names.{simple_name}
@@ -8,7 +9,6 @@ use Rattle.rst_marks.specs.Front.{begins_with}
 use Rattle.rst_marks.specs.Class.{run}
 use Rattle.rst_marks.specs.Closing.{closed}
 use Rattle.rst_marks.specs.Marker.{marker_of}
-use Rattle.rst_marks.specs.Roman.{if_some}
 use Rattle.rst_marks.specs.declared.class.Class.TheVariants.{Digit, Unbracketed}
 use Rattle.rst_marks.specs.declared.closing.Closing.TheVariants.{Colon, QuotedColon, Bar, SpacedBar}
 use Rattle.rst_marks.specs.declared.marker.Marker.{Marker}
@@ -41,11 +41,11 @@ label_kind n t =
 
 -- a label of this kind, of n characters between brackets, if spaces or the end are behind them
 abbrev pub labelled : ℕ → List ℕ → LabelKind → Option LabelMark
-labelled n t k = if_some (marker_of (n + 2) t) (λ m. Some (record { kind = k; len = n; marker = m }))
+labelled n t k = option_and_then (λ m. Some (record { kind = k; len = n; marker = m })) (marker_of (n + 2) t)
 
 -- a label between brackets
 abbrev pub label_by : ℕ → List ℕ → Option LabelMark
-label_by n t = if begins_with 93 (drop n (drop 1 t)) then if_some (label_kind n (drop 1 t)) (labelled n t) else None
+label_by n t = if begins_with 93 (drop n (drop 1 t)) then option_and_then (labelled n t) (label_kind n (drop 1 t)) else None
 
 -- the label of a footnote or a citation: what stands between `[` and the first `]`
 unfoldable pub label_of : List ℕ → Option LabelMark
@@ -56,21 +56,22 @@ abbrev pub begins_white : List ℕ → Bool
 begins_white [] = false
 begins_white (c ∷ cs) = is_white c
 
+-- n characters behind `from` others are the name of a target whose mark has `len` characters, if it isn't empty and doesn't
+-- begin wrongly
+abbrev pub named_if : Bool → ℕ → ℕ → ℕ → List ℕ → Option TargetMark
+named_if wrong from n len t = if n == 0 || wrong then None else option_and_then (λ m. Some (Named from n m)) (marker_of len t)
+
 -- a name in backquotes, which isn't empty and doesn't begin with white or a backquote
 unfoldable pub quoted_target : List ℕ → Option TargetMark
-quoted_target t = if_some (closed QuotedColon (drop 2 t)) (λ n.
-    if n == 0 || (begins_white (drop 2 t) || begins_with 96 (drop 2 t)) then None
-    else if_some (marker_of (n + 4) t) (λ m. Some (Named 2 n m)))
+quoted_target t = option_and_then (λ n. named_if (begins_white (drop 2 t) || begins_with 96 (drop 2 t)) 2 n (n + 4) t) (closed QuotedColon (drop 2 t))
 
 -- a name, which isn't empty and doesn't begin with white
 unfoldable pub plain_target : List ℕ → Option TargetMark
-plain_target t = if_some (closed Colon (drop 1 t)) (λ n.
-    if n == 0 || begins_white (drop 1 t) then None
-    else if_some (marker_of (n + 2) t) (λ m. Some (Named 1 n m)))
+plain_target t = option_and_then (λ n. named_if (begins_white (drop 1 t)) 1 n (n + 2) t) (closed Colon (drop 1 t))
 
 -- an anonymous target: a colon behind its two underscores, and spaces or the end behind that
 unfoldable pub anonymous_target : List ℕ → Option TargetMark
-anonymous_target t = if begins_with 58 (drop 2 t) then if_some (marker_of 3 t) (λ m. Some (Anonymous m)) else None
+anonymous_target t = if begins_with 58 (drop 2 t) then option_and_then (λ m. Some (Anonymous m)) (marker_of 3 t) else None
 
 -- `__:`, `` _`name`: `` or `_name:`
 unfoldable pub target_of : List ℕ → Option TargetMark
@@ -89,7 +90,7 @@ closing_bar (Some n) = Tight
 -- bar has a space behind it
 abbrev pub spaced_bar : List ℕ → Option ℕ → Option SubstitutionMark
 spaced_bar t None = Some (closing_bar (closed Bar (drop 1 t)))
-spaced_bar t (Some n) = if_some (marker_of (n + 2) t) (λ m. Some (NamedSubstitution n m))
+spaced_bar t (Some n) = option_and_then (λ m. Some (NamedSubstitution n m)) (marker_of (n + 2) t)
 
 -- a name between bars: the closing one is the first unescaped with a character before it that isn't white, and a space
 -- behind
@@ -102,7 +103,7 @@ substitution_of t =
 unfoldable pub colons : ℕ → ℕ → List ℕ → Option DirectiveMark
 colons len n t =
     if not (begins_with 58 (drop n t)) || not (begins_with 58 (drop (n + 1) t)) then None
-    else if_some (marker_of (n + 2) t) (λ m. Some (record { len = len; marker = m }))
+    else option_and_then (λ m. Some (record { len = len; marker = m })) (marker_of (n + 2) t)
 
 -- a simple name of n characters and two colons, between which one space may stand if `spaced` says so
 abbrev pub directive_by : Bool → ℕ → List ℕ → Option DirectiveMark

@@ -1,9 +1,9 @@
 -- Fields (Markup Specification, 'Field Lists').
 use Rattle.std.specs.Prelude.{ℕ, ◌+◌, ◌-◌, Bool, ◌||◌, ◌==◌, List, drop, if◌then◌else◌, Option, None, Some}
+use Rattle.std.specs.Option.{option_and_then}
 use Rattle.rst_marks.specs.Front.{begins_with}
 use Rattle.rst_marks.specs.Closing.{closed}
 use Rattle.rst_marks.specs.Marker.{marker_of}
-use Rattle.rst_marks.specs.Roman.{if_some}
 use Rattle.rst_marks.specs.declared.closing.Closing.TheVariants.{Colon}
 use Rattle.rst_marks.specs.declared.marker.Marker.{Marker}
 use Rattle.rst_marks.specs.declared.field.FieldMark.{FieldMark}
@@ -17,9 +17,10 @@ is_no_name n t = n == 0 || (begins_with 32 t || (begins_with 58 t || begins_with
 abbrev pub named : ℕ → Marker → Option FieldMark
 named n m = Some (record { name = record { from = 1; to = 1 + n }; marker = m })
 
+-- the same, if the n characters are a name and spaces or the end are behind its colon
+abbrev pub named_if : List ℕ → ℕ → Option FieldMark
+named_if t n = if is_no_name n (drop 1 t) then None else option_and_then (named n) (marker_of (n + 2) t)
+
 -- a name between colons, up to the first unescaped one with a space or the end behind it
 unfoldable pub field_of : List ℕ → Option FieldMark
-field_of t =
-    if begins_with 58 t then if_some (closed Colon (drop 1 t)) (λ n.
-    if is_no_name n (drop 1 t) then None else if_some (marker_of (n + 2) t) (named n))
-    else None
+field_of t = if begins_with 58 t then option_and_then (named_if t) (closed Colon (drop 1 t)) else None

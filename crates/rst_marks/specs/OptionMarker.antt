@@ -1,6 +1,8 @@
 -- Option markers (Markup Specification, 'Option Lists').
-use Rattle.std.specs.Prelude.{ℕ, zero, suc, ◌+◌, ◌-◌, Bool, false, not, ◌&&◌, ◌||◌, ◌==◌, List, [], ◌∷◌, drop, if◌then◌else◌, Option, None, Some}
+use Rattle.std.specs.Prelude.{ℕ, zero, suc, ◌+◌, ◌-◌, Bool, false, not, ◌&&◌, ◌||◌, ◌==◌, List, [], ◌∷◌, drop, map, if◌then◌else◌, Option, None, Some}
 use Rattle.std.specs.Char.{is_ascii_alphanumeric}
+use Rattle.std.specs.List.{last_or}
+use Rattle.std.specs.Option.{option_and_then}
 use Rattle.rst_text.specs.Characters.{is_letter}
 use Rattle.rst_marks.specs.Front.{begins_with}
 use Rattle.rst_marks.specs.Class.{run}
@@ -109,24 +111,42 @@ tail_of (Some o) t = tail_at (o.string + argument_width o.argument) t
 unfoldable pub option_tail : List ℕ → OptionTail
 option_tail t = tail_of (option_at t) t
 
+-- an option of a text: how many characters stand before it, the option, and what stands behind it
+pub record PlacedOption : Type 0 where
+  pub from : ℕ
+  pub mark : OptionMark
+  pub tail : OptionTail
+
+-- the same option, n characters further on
+abbrev pub moved : ℕ → PlacedOption → PlacedOption
+moved n o = record { from = n + o.from; mark = o.mark; tail = o.tail }
+
+-- the option at the front of a text, if there is one, and those behind it, if its tail leads to a next
+abbrev pub with_next : Option OptionMark → OptionTail → (ℕ → List PlacedOption) → List PlacedOption
+with_next None tail next = []
+with_next (Some o) (Next n) next = record { from = 0; mark = o; tail = Next n } ∷ next n
+with_next (Some o) tail next = record { from = 0; mark = o; tail = tail } ∷ []
+
+-- The options of a text from its place k on: the one that stands there, and those that the tail of each leads to. They are
+-- the options of the text without its first character from the place before, a character further on.
+unfoldable pub options_from : ℕ → List ℕ → List PlacedOption
+options_from k [] = []
+options_from (suc k) (c ∷ cs) = map (moved 1) (options_from k cs)
+options_from zero (c ∷ cs) = with_next (option_at (c ∷ cs)) (option_tail (c ∷ cs)) (λ n. map (moved 1) (options_from (n - 1) cs))
+
 -- a marker behind further characters
 abbrev pub shifted : ℕ → Marker → Marker
 shifted before m = record { cut = before + m.cut; bare = m.bare }
 
--- the marker of options that stand `before` characters further on, by what stands behind the first of them: it ends
--- with the last, and goes on with the next
-abbrev pub by_tail : OptionTail → ℕ → (ℕ → Option Marker) → Option Marker
-by_tail (Last m) before next = Some (shifted before m)
-by_tail (Next n) before next = next n
-by_tail Wrong before next = None
+-- the marker that ends with an option behind this many characters, if nothing more or two or more spaces stand behind it
+abbrev pub marker_by : ℕ → OptionTail → Option Marker
+marker_by before (Last m) = Some (shifted before m)
+marker_by before tail = None
 
--- The marker of the options at the front of a text, where the first `passed` characters belong to an option that was
--- read already; `before` is how many characters stand before the option.
-unfoldable pub options_from : ℕ → ℕ → List ℕ → Option Marker
-options_from passed before [] = None
-options_from (suc passed) before (c ∷ cs) = options_from passed before cs
-options_from zero before (c ∷ cs) = by_tail (option_tail (c ∷ cs)) before (λ n. options_from (n - 1) (before + n) cs)
+-- the marker of options joined by `, `: their last makes it, with two or more spaces or the end behind it
+abbrev pub marker_of_options : List PlacedOption → Option Marker
+marker_of_options os = option_and_then (λ o. marker_by o.from o.tail) (last_or None os)
 
 -- options joined by `, `, then two or more spaces or the end
 abbrev pub option_marker : List ℕ → Option Marker
-option_marker t = options_from 0 0 t
+option_marker t = marker_of_options (options_from 0 t)

@@ -1,10 +1,11 @@
 -- The options of an option list's item, by the places of their characters (Markup Specification, 'Option Lists').
-use Rattle.std.specs.Prelude.{ℕ, zero, suc, ◌+◌, ◌-◌, ◌≤◌, List, [], ◌∷◌, length, Option, None, Some, All}
-use Rattle.rst_marks.specs.OptionMarker.{option_at, option_tail, width_with}
+use Rattle.std.specs.Prelude.{ℕ, ◌+◌, ◌≤◌, Bool, true, false, List, length, map, Option, None, Some, All}
+use Rattle.std.specs.List.{filter}
+use Rattle.rst_marks.specs.OptionMarker.{PlacedOption, options_from, width_with}
 use Rattle.rst_marks.specs.declared.option.Argument.{Argument}
 use Rattle.rst_marks.specs.declared.option.OptionMark.{OptionMark}
 use Rattle.rst_marks.specs.declared.option.OptionTail.{OptionTail}
-use Rattle.rst_marks.specs.declared.option.OptionTail.TheVariants.{Last, Next, Wrong}
+use Rattle.rst_marks.specs.declared.option.OptionTail.TheVariants.{Wrong}
 use Rattle.rst_marks.specs.declared.options.ListedArgument.{ListedArgument}
 use Rattle.rst_marks.specs.declared.options.ListedOption.{ListedOption}
 use Rattle.rst_marks.specs.declared.place.Characters.{Characters}
@@ -26,24 +27,18 @@ argument_in before (Some a) = Some (argument_behind before a)
 abbrev pub option_in : ℕ → OptionMark → ListedOption
 option_in before o = record { string = place_of before o.string; argument = argument_in (before + o.string) o.argument }
 
--- the options from one on: it and those after it, where it is followed by another; it alone, where it is the last; and
--- none, where it is wrong
-abbrev pub listed : OptionTail → Option OptionMark → ℕ → (ℕ → List ListedOption) → List ListedOption
-listed tail None before next = []
-listed Wrong (Some o) before next = []
-listed (Last m) (Some o) before next = option_in before o ∷ []
-listed (Next n) (Some o) before next = option_in before o ∷ next n
+-- a comma and a space, two or more spaces or the end follow an option
+abbrev pub is_right : OptionTail → Bool
+is_right Wrong = false
+is_right tail = true
 
--- The options at the front of a text, where the first `passed` characters belong to an option that was read already;
--- `before` is how many characters stand before the option.
-unfoldable pub options_from : ℕ → ℕ → List ℕ → List ListedOption
-options_from passed before [] = []
-options_from (suc passed) before (c ∷ cs) = options_from passed before cs
-options_from zero before (c ∷ cs) = listed (option_tail (c ∷ cs)) (option_at (c ∷ cs)) before (λ n. options_from (n - 1) (before + n) cs)
+-- the options with one of these behind them, where they stand
+abbrev pub listed : List PlacedOption → List ListedOption
+listed os = map (λ o. option_in o.from o.mark) (filter (λ o. is_right o.tail) os)
 
 -- the options that a line begins with, each followed by a comma and a space, by two or more spaces or by the end
 abbrev pub options_in : List ℕ → List ListedOption
-options_in t = options_from 0 0 t
+options_in t = listed (options_from 0 t)
 
 -- ---- where they stand
 

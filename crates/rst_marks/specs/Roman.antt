@@ -2,6 +2,7 @@
 -- ones a digit each, written as 0 to 3 ones, as one before five, as five with 0 to 3 ones, or as one before ten. The
 -- thousands are 0 to 4 of their letter.
 use Rattle.std.specs.Prelude.{ℕ, ◌+◌, ◌*◌, ◌&&◌, ◌==◌, nat_lt, List, drop, if◌then◌else◌, Option, None, Some}
+use Rattle.std.specs.Option.{option_and_then}
 use Rattle.rst_marks.specs.Front.{begins_with}
 use Rattle.rst_marks.specs.Class.{run}
 use Rattle.rst_marks.specs.declared.class.Class.TheVariants.{Only}
@@ -40,17 +41,20 @@ digit_at place t =
     else if begins_with place.one t && begins_with place.five (drop 1 t) then Some (record { value = 4; len = 2 })
     else with_ones (fives_at place t) (run (Only place.one) (drop (fives_at place t) t))
 
--- what a function gives for a value, if there is one
-abbrev pub if_some : {A B : Type 0} → Option A → (A → Option B) → Option B
-if_some None f = None
-if_some (Some a) f = f a
+-- the value of a numeral of m thousands and these hundreds, tens and ones, if it has just n characters
+abbrev pub value_of : ℕ → ℕ → RomanDigit → RomanDigit → RomanDigit → Option ℕ
+value_of n m h x i = if m + h.len + x.len + i.len == n then Some (m * 1000 + h.value * 100 + x.value * 10 + i.value) else None
+
+-- the same, with the ones that stand behind the tens
+abbrev pub with_ones_behind : Case → ℕ → List ℕ → ℕ → RomanDigit → RomanDigit → Option ℕ
+with_ones_behind case n t m h x = option_and_then (value_of n m h x) (digit_at (ones case) (drop (m + h.len + x.len) t))
+
+-- the same, with the tens that stand behind the hundreds
+abbrev pub with_tens_behind : Case → ℕ → List ℕ → ℕ → RomanDigit → Option ℕ
+with_tens_behind case n t m h = option_and_then (with_ones_behind case n t m h) (digit_at (tens case) (drop (m + h.len) t))
 
 -- the value of the numeral at the front of a text, if it has just n characters
 unfoldable pub roman : Case → ℕ → List ℕ → Option ℕ
 roman case n t =
     let m = run (Only (hundreds case).ten) t in
-    if nat_lt 4 m then None
-    else if_some (digit_at (hundreds case) (drop m t)) (λ h.
-    if_some (digit_at (tens case) (drop (m + h.len) t)) (λ x.
-    if_some (digit_at (ones case) (drop (m + h.len + x.len) t)) (λ i.
-    if m + h.len + x.len + i.len == n then Some (m * 1000 + h.value * 100 + x.value * 10 + i.value) else None)))
+    if nat_lt 4 m then None else option_and_then (with_tens_behind case n t m) (digit_at (hundreds case) (drop m t))

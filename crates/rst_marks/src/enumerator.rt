@@ -148,13 +148,12 @@ fn written_at(text: &str) -> Option<Written>
     letters(text)
 }
 
-/// The enumerator whose ordinal stands behind `from` characters, with one more character behind it.
-#[tactic(auto, unfolding(crate::specs::Enumerator::framed))]
-fn framed(format: Format, from: usize, text: &str) -> Option<Enumerator>
-    requires { from ≤ 1 }
-    ensures { result ≡ spec.framed format from (chars text.now) }
+/// The enumerator whose ordinal, which was read, stands behind `from` characters, with one more character behind it.
+fn framed(format: Format, from: usize, written: Written, text: &str) -> Option<Enumerator>
+    requires front { from ≤ 1 }
+    requires short { written.len < 2 ^ 63 }
+    ensures { result ≡ spec.framed format from written (chars text.now) }
 {
-    let written = written_at(skip(text, from))?;
     let marker = marker_of(from + written.len + 1, text)?;
     Some(Enumerator {
         format,
@@ -164,9 +163,9 @@ fn framed(format: Format, from: usize, text: &str) -> Option<Enumerator>
 }
 
 /// Whether neither `#` nor digits are at the front of a text, and what ends an enumerator isn't behind the letters there.
-#[tactic(auto, unfolding(crate::specs::Enumerator::begins_word))]
+#[tactic(auto, unfolding(crate::specs::Enumerator::begins_unnumbered))]
 fn begins_word(text: &str) -> bool
-    ensures { result ≡ spec.begins_word (chars text.now) }
+    ensures { result ≡ spec.begins_unnumbered (chars text.now) }
 {
     if begins_with('#', text) || run(Class::Digit, text) != 0 {
         return false;
@@ -185,7 +184,7 @@ pub fn enumerator_of(text: &str) -> Option<Enumerator>
         if !begins_with(')', skip(text, 1 + written.len)) {
             return None;
         }
-        return framed(Format::Parentheses, 1, text);
+        return framed(Format::Parentheses, 1, written, text);
     }
     // Most lines begin with a word, which isn't read as a numeral first.
     if begins_word(text) {
@@ -194,15 +193,16 @@ pub fn enumerator_of(text: &str) -> Option<Enumerator>
     let written = written_at(text)?;
     let behind = skip(text, written.len);
     if begins_with(')', behind) {
-        return framed(Format::Parenthesis, 0, text);
+        return framed(Format::Parenthesis, 0, written, text);
     }
     if begins_with('.', behind) {
-        return framed(Format::Period, 0, text);
+        return framed(Format::Period, 0, written, text);
     }
     None
 }
 
 /// Whether a value is one more than another, where there are both.
+#[tactic(auto, using(crate::proofs::EnumeratorLemmas::more_by_one))]
 fn is_one_more(value: Option<u64>, next: Option<u64>) -> bool
     ensures { result ≡ spec.is_one_more value next }
 {

@@ -1,22 +1,32 @@
-use Rattle.std.proofs.Common.{◌≡◌, ◌+◌, ◌<◌, [], ◌∷◌, ◌++◌, None, Some, length, length-drop, arith, sym, ap, ◌∙◌, rules}
+use Rattle.std.proofs.Common.{◌≡◌, ◌+◌, ◌<◌, [], ◌∷◌, ◌++◌, None, Some, length, map, length-drop, arith, sym, ap, ◌∙◌, rules}
 use Rattle.std.specs.Str.{chars}
-use Rattle.rst_marks.specs.OptionMarker.{option_at, option_tail}
-use Rattle.rst_marks.specs.Options.{options_from, option_in}
+use Rattle.rst_marks.specs.OptionMarker.{option_at, option_tail, moved, options_from}
+use Rattle.rst_marks.specs.Options.{listed, option_in}
 use Rattle.rst_marks.specs.declared.option.OptionTail.TheVariants.{Last, Next, Wrong}
 use Rattle.rst_marks.proofs.OptionLemmas.{width_within, next_within}
+use Rattle.rst_marks.proofs.PlacedLemmas.{moved_nowhere}
 use Rattle.rst_marks.proofs.ListedLemmas.{listed_none, listed_wrong, listed_last, listed_next, listed_all_within}
 use Rattle.rst_marks.proofs.TextLemmas.{length-chars}
 use Rattle.rst_marks.proofs.options.listed_options.Goals as goal
 
+pub loop-option-init : goal.loop-option-init
+loop-option-init c = record {
+  text = search rules;
+  value = rw (c.new-options.ensures.items) (ap listed (moved_nowhere (options_from 0 (chars c.args.text.now))));
+  within = omega arith;
+}
+
 pub returns-in-Wrong-clause-options : goal.returns-in-Wrong-clause-options
 returns-in-Wrong-clause-options c =
     let e : option_tail (chars c.loop-option.rest.now) ≡ Wrong = sym c.option_tail.ensures ∙ c.in-Wrong.is in
-    listed_wrong c.loop-option.before (chars c.loop-option.rest.now) c.loop-option.options.items _ e c.loop-option.invariant.value
+    let f : option_at (chars c.loop-option.rest.now) ≡ Some c.in-Some.option = sym c.option_at.ensures.value ∙ c.in-Some.is in
+    listed_wrong c.loop-option.before (chars c.loop-option.rest.now) c.in-Some.option c.loop-option.options.items _ e f c.loop-option.invariant.value
 
 pub returns-in-Wrong-clause-within : goal.returns-in-Wrong-clause-within
 returns-in-Wrong-clause-within c =
     let e : option_tail (chars c.loop-option.rest.now) ≡ Wrong = sym c.option_tail.ensures ∙ c.in-Wrong.is in
-    listed_all_within (chars c.args.text.now) c.loop-option.options.items (listed_wrong c.loop-option.before (chars c.loop-option.rest.now) c.loop-option.options.items _ e c.loop-option.invariant.value)
+    let f : option_at (chars c.loop-option.rest.now) ≡ Some c.in-Some.option = sym c.option_at.ensures.value ∙ c.in-Some.is in
+    listed_all_within (chars c.args.text.now) c.loop-option.options.items (listed_wrong c.loop-option.before (chars c.loop-option.rest.now) c.in-Some.option c.loop-option.options.items _ e f c.loop-option.invariant.value)
 
 pub option_in-requires : goal.option_in-requires
 option_in-requires c =
@@ -59,8 +69,8 @@ loop-option-preserved c =
     let items : c.push-in-Next.new.self.items ≡ c.loop-option.options.items ++ c.option_in-in-Next.result ∷ [] = c.in_ok-push-in-Next.ensures.items in
     record {
       text = search rules;
-      value = ap (λ os. os ++ options_from 0 (c.loop-option.before + c.in-Next.n) (chars c.skip-rest.result.now)) (items ∙ ap (λ o. c.loop-option.options.items ++ o ∷ []) c.option_in-in-Next.ensures)
-          ∙ ap (λ t. (c.loop-option.options.items ++ option_in c.loop-option.before c.in-Some.option ∷ []) ++ options_from 0 (c.loop-option.before + c.in-Next.n) t) c.skip-rest.ensures.chars
+      value = ap (λ os. os ++ listed (map (moved (c.loop-option.before + c.in-Next.n)) (options_from 0 (chars c.skip-rest.result.now)))) (items ∙ ap (λ o. c.loop-option.options.items ++ o ∷ []) c.option_in-in-Next.ensures)
+          ∙ ap (λ t. (c.loop-option.options.items ++ option_in c.loop-option.before c.in-Some.option ∷ []) ++ listed (map (moved (c.loop-option.before + c.in-Next.n)) (options_from 0 t))) c.skip-rest.ensures.chars
           ∙ listed_next c.loop-option.before c.in-Next.n (chars c.loop-option.rest.now) c.in-Some.option c.loop-option.options.items _ e f w.0 c.loop-option.invariant.value;
       within = omega (arith, w.0, w.1, c.loop-option.invariant.within, ap length c.skip-rest.ensures.chars, length-drop c.in-Next.n (chars c.loop-option.rest.now));
     }

@@ -1,14 +1,15 @@
-use Rattle.std.proofs.Common.{◌≡◌, ◌+◌, ◌++◌, ◌≤◌, length}
+use Rattle.std.proofs.Common.{◌≡◌, ◌+◌, ◌++◌, ◌≤◌, length, map}
 use denote.Shadow.{shadow}
 use denote.Text.{Utf8}
 use Rattle.std.specs.Str.{chars}
-use Rattle.rst_marks.specs.Options.{options_from, options_in}
+use Rattle.rst_marks.specs.OptionMarker.{moved, options_from}
+use Rattle.rst_marks.specs.Options.{listed, options_in}
 use Rattle.rst_marks.proofs.options.listed_options.Given as goal
 
 abbrev pub invariant-loop-option : goal.invariant-loop-option
 invariant-loop-option l = record {
   text : shadow (Utf8 l.rest);
-  value : l.options.items ++ options_from 0 l.before (chars l.rest) ≡ options_in (chars l.text);
+  value : l.options.items ++ listed (map (moved l.before) (options_from 0 (chars l.rest))) ≡ options_in (chars l.text);
   within : l.before + length (chars l.rest) ≤ length (chars l.text);
 }
 
