@@ -1,5 +1,5 @@
 -- Tables of words, and what is looked up in them.
-use Rattle.std.proofs.Common.{◌≡◌, Bool, true, false, cond, ◌||◌, ◌&&◌, if◌then◌else◌, List, [], ◌∷◌, ◌++◌, map, Option, Some, find, option_map, refl}
+use Rattle.std.proofs.Common.{◌≡◌, Bool, true, false, cond, ◌||◌, ◌&&◌, if◌then◌else◌, List, [], ◌∷◌, ◌++◌, map, Some, find, option_map, refl}
 use Rattle.std.specs.List.{list_any}
 use Rattle.rst_directives.specs.Characters.{Text, lookup, is_word}
 use Rattle.rst_directives.specs.Name.{admonitions, code_names, code_directives, is_code, admonition_of}
