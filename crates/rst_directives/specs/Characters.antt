@@ -4,12 +4,10 @@ use Rattle.std.specs.Prelude.{ℕ, Bool, ◌==◌, List, map, find, Option, opti
 use Rattle.std.specs.Char.{to_ascii_lowercase}
 use Rattle.std.specs.List.{list_any}
 use Rattle.std.specs.Str.{bytes_eq}
+-- a text: the list of its characters
+pub use Rattle.rst_pieces.specs.Characters.{Text}
 use Rattle.rst_marks.specs.Class.{run}
 use Rattle.rst_marks.specs.declared.class.Class.TheVariants.{Digit}
-
--- a text: the list of its characters
-abbrev pub Text : Type 0
-Text = List ℕ
 
 -- how many digits a text begins with
 abbrev pub digits : Text → ℕ
