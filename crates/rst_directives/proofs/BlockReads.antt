@@ -1,13 +1,14 @@
 -- A block that is read by its first run of lines.
-use Rattle.std.proofs.Common.{◌≡◌, ℕ, ◌+◌, Bool, List, length, drop}
+use Rattle.std.proofs.Common.{◌≡◌, ℕ, Bool, List, length}
 use Rattle.rst_text.specs.Block.{Block}
 use Rattle.rst_markup.specs.declared.part.Part.{Part}
 use Rattle.rst_directives.specs.Characters.{Text}
-use Rattle.rst_directives.specs.Directive.{run_in, read_run, read_block}
-use Rattle.rst_directives.specs.Lines.{blank_len}
+use Rattle.rst_directives.specs.Directive.{run_in, read_by, read_block}
+use Rattle.rst_directives.specs.Layout.{layout_at}
+use Rattle.rst_directives.specs.Lines.{past_blank}
 use Rattle.rst_directives.specs.declared.name.Name.{Name}
 
 pub read-is : (name : Name) (late : Bool) (block : Part) (H L : Block) (run : List Text) (all n m rest : ℕ) → L ≡ H → length L ≡ all → run ≡ run_in name late L → n ≡ length run → m ≡ length run
-    → rest ≡ m + blank_len (drop m L) → read_run name block all run n rest ≡ read_block name late block H
+    → rest ≡ past_blank L m → read_by name block all run (layout_at name run n all rest) ≡ read_block name late block H
 unfolding read_block
 read-is name late block H L run all n m rest same count texts len len2 place = cc

@@ -3,10 +3,10 @@ use Rattle.std.proofs.Common.{◌≡◌, ℕ, suc, ◌<◌, Bool, true, false, i
 use Rattle.rst_text.specs.Block.{is_blank}
 use Rattle.rst_text.specs.Characters.{is_white}
 use Rattle.rst_text.specs.Lines.{onto_first}
-use Rattle.rst_text.specs.Names.{begins_word, words_of, skip_while}
+use Rattle.rst_text.specs.Names.{begins_word, words_of, skip_while, id_of}
 use Rattle.rst_text.proofs.PlacesLemmas.{cases_bool}
 use Rattle.rst_directives.specs.Characters.{Text}
-use Rattle.rst_directives.specs.Value.{word_len, id_in, onto_ids, all_ids, some_ids}
+use Rattle.rst_directives.specs.Value.{word_len, onto_ids, all_ids, some_ids}
 
 -- ids, and those that come behind them if these are right
 abbrev pub behind_ids : List Text → Option (List Text) → Option (List Text)
@@ -110,14 +110,14 @@ behind-onto ids id (Some more) = ap Some (sym (one ids))
     one [] = refl
     one (x ∷ xs) = ap (λ l. x ∷ l) (one xs)
 
-all_ids-some : (w : Text) (ws : List Text) → is_blank (id_in w) ≡ false → all_ids (w ∷ ws) ≡ onto_ids (id_in w) (all_ids ws)
+all_ids-some : (w : Text) (ws : List Text) → is_blank (id_of w) ≡ false → all_ids (w ∷ ws) ≡ onto_ids (id_of w) (all_ids ws)
 all_ids-some w ws h = rw h refl
 
-all_ids-none : (w : Text) (ws : List Text) → is_blank (id_in w) ≡ true → all_ids (w ∷ ws) ≡ None
+all_ids-none : (w : Text) (ws : List Text) → is_blank (id_of w) ≡ true → all_ids (w ∷ ws) ≡ None
 all_ids-none w ws h = rw h refl
 
 -- one word more
-pub ids-more : (t : Text) (ids : List Text) (id : Text) (whole : Option (List Text)) → IsTrimmed t → is_blank t ≡ false → id ≡ id_in (take (word_len t) t) → is_blank id ≡ false
+pub ids-more : (t : Text) (ids : List Text) (id : Text) (whole : Option (List Text)) → IsTrimmed t → is_blank t ≡ false → id ≡ id_of (take (word_len t) t) → is_blank id ≡ false
     → behind_ids ids (all_ids (words_of t)) ≡ whole → behind_ids (ids ++ id ∷ []) (all_ids (words_of (skip_while is_white (drop (word_len t) t)))) ≡ whole
 ids-more t ids id whole h some e dark e2 =
     sym (behind-onto ids id (all_ids (words_of (skip_while is_white (drop (word_len t) t)))))
@@ -126,7 +126,7 @@ ids-more t ids id whole h some e dark e2 =
     ∙ ap (behind_ids ids) (sym (ids-first t h some)) ∙ e2
 
 -- a word whose id is empty
-pub ids-stop : (t : Text) (ids : List Text) (id : Text) (whole : Option (List Text)) → IsTrimmed t → is_blank t ≡ false → id ≡ id_in (take (word_len t) t) → is_blank id ≡ true
+pub ids-stop : (t : Text) (ids : List Text) (id : Text) (whole : Option (List Text)) → IsTrimmed t → is_blank t ≡ false → id ≡ id_of (take (word_len t) t) → is_blank id ≡ true
     → behind_ids ids (all_ids (words_of t)) ≡ whole → None ≡ whole
 ids-stop t ids id whole h some e blank e2 =
     ap (behind_ids ids) (sym (ids-first t h some ∙ all_ids-none (take (word_len t) t) (words_of (skip_while is_white (drop (word_len t) t))) (ap is_blank (sym e) ∙ blank))) ∙ e2

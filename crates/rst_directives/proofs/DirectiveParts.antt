@@ -13,13 +13,13 @@ use Rattle.rst_markup.specs.declared.lines.LineTest.TheVariants.{Blank}
 use Rattle.rst_directives.specs.Argument.{Given, title, language, text_in, word_of, argument_by, argument_of}
 use Rattle.rst_directives.specs.Call.{part_of, content_of, is_empty, IsContentIn, IsDirectiveIn}
 use Rattle.rst_directives.specs.Characters.{Text, has_character}
-use Rattle.rst_directives.specs.Directive.{Read, Outcome, found, wrong, run_in, is_code_name, read_options, read_fields, read_run, read_block, judged_by, judged, outcome_of}
+use Rattle.rst_directives.specs.Directive.{Read, Outcome, found, wrong, run_in, is_code_name, options_of, read_parts, read_by, read_block, found_unless, judged, outcome_of}
 use Rattle.rst_directives.specs.Field.{begins_field}
 use Rattle.rst_directives.specs.Judgement.{content_fault}
-use Rattle.rst_directives.specs.Layout.{before_field, undivided, divided_by, layout_by, layout_of}
-use Rattle.rst_directives.specs.Lines.{first_run, blank_len}
+use Rattle.rst_directives.specs.Layout.{before_field, undivided, divided_by, layout_by, layout_at, layout_of}
+use Rattle.rst_directives.specs.Lines.{first_run, blank_len, past_blank}
 use Rattle.rst_directives.specs.Name.{takes, holds}
-use Rattle.rst_directives.specs.Options.{FieldText, Choice, fields_in, settings_in}
+use Rattle.rst_directives.specs.Options.{Choice}
 use Rattle.rst_directives.specs.Wrong.{Wrong as WrongInside, many_arguments}
 use Rattle.rst_directives.specs.declared.argument.Argument.TheVariants.{Absent, Title, Uri, Language}
 use Rattle.rst_directives.specs.declared.fault.DirectiveFault.{DirectiveFault}
@@ -110,8 +110,8 @@ divided_within TakesTitle from len all rest h k l = record { argument = omega ar
 divided_within TakesUri from len all rest h k l = record { argument = omega arith; first = omega arith; second = omega arith }
 divided_within TakesLanguage from len all rest h k l = record { argument = omega arith; first = omega arith; second = omega arith }
 
-layout_within : (name : Name) (run : List Text) (all rest : ℕ) → length run ≤ all → rest ≤ all → IsWithin (layout_of name run (length run) all rest) all
-unfolding layout_of
+layout_within : (name : Name) (run : List Text) (all rest : ℕ) → length run ≤ all → rest ≤ all → IsWithin (layout_at name run (length run) all rest) all
+unfolding layout_at
 layout_within name run all rest h k = by (holds name)
   where
     by : (content : Holds) → IsWithin (layout_by content name (before_field run) (length run) all rest) all
@@ -155,25 +155,21 @@ argument_in B TakesUri (t ∷ ts) part b = tt
 argument_in B TakesLanguage [] part b = tt
 argument_in B TakesLanguage (t ∷ ts) part b = word_in B (normalized_white (text_in (t ∷ ts)))
 
-fields_in_block : (B : Block) (name : Name) (content : Content) (given : Result Given WrongInside) (fields : Option (List FieldText))
-    → IsContentIn B content → MayBeGivenIn B given → MayBeReadIn B (read_fields name content given fields)
-fields_in_block B name content given None h k = tt
-fields_in_block B name content given (Some fs) h k = options (settings_in name fs) given k
-  where
-    options : (choices : Result (List Choice) WrongInside) (g : Result Given WrongInside) → MayBeGivenIn B g → MayBeReadIn B (read_options name content g choices)
-    options (Err w) g k = tt
-    options (Ok choices) (Err w) k = tt
-    options (Ok choices) (Ok value) k = (k, h)
+parts_in_block : (B : Block) (name : Name) (content : Content) (given : Result Given WrongInside) (choices : Result (List Choice) WrongInside)
+    → IsContentIn B content → MayBeGivenIn B given → MayBeReadIn B (read_parts name content given choices)
+parts_in_block B name content given (Err w) h k = tt
+parts_in_block B name content (Err w) (Ok choices) h k = tt
+parts_in_block B name content (Ok value) (Ok choices) h k = (k, h)
 
 read_in_block : (B : Block) (name : Name) (late : Bool) (block : Part) (H : Block) → IsBlock B block → length H ≡ block.to - block.from → MayBeReadIn B (read_block name late block H)
-unfolding read_block read_run
+unfolding read_block read_by
 read_in_block B name late block H b count =
     let run : List Text = run_in name late H in
-    let rest : ℕ = length run + blank_len (drop (length run) H) in
+    let rest : ℕ = past_blank H (length run) in
     let within = layout_within name run (length H) rest (run_in-le name late H) (omega (arith, run_in-le name late H, blank_len-le (drop (length run) H), length-drop (length run) H)) in
-    let layout : Layout = layout_of name run (length run) (length H) rest in
+    let layout : Layout = layout_of name run H in
     let inside : block.from + length H ≤ block.to = omega (arith, b.ordered, count) in
-    fields_in_block B name (content_of block layout (length H)) (argument_of name (take layout.argument run) (part_of block 0 layout.argument)) (fields_in (drop layout.options run))
+    parts_in_block B name (content_of block layout (length H)) (argument_of name (take layout.argument run) (part_of block 0 layout.argument)) (options_of name (drop layout.options run))
     (content_block B block layout (length H) b within inside)
     (argument_in B (takes name) (take layout.argument run) (part_of block 0 layout.argument) (part_block B block 0 layout.argument b (omega arith) (omega (arith, within.argument, inside))))
 
@@ -183,7 +179,7 @@ judged_in : (B : Block) (place : Place) (paragraph : Bool) (source : Part) (read
 judged_in B place paragraph source (Err w) h = tt
 judged_in B place paragraph source (Ok read) h = by (content_fault read.name (is_empty read.content) place paragraph)
   where
-    by : (fault : Option DirectiveFault) → IsOutcomeIn B (judged_by read source fault)
+    by : (fault : Option DirectiveFault) → IsOutcomeIn B (found_unless read source fault)
     by (Some fault) = tt
     by None = h
 

@@ -14,3 +14,5 @@ pub mod DirectiveParts
 pub mod Bare
 pub mod Indentations
 pub mod AgainLemmas
+pub mod Tables
+pub mod Measures

@@ -1,6 +1,5 @@
 -- The arguments of directives (Directives, 'Generic Admonition', 'Topic', 'Image', 'Figure', 'Code').
 use Rattle.std.specs.Prelude.{List, [], ◌∷◌, Result, Ok, Err, if◌then◌else◌}
-use Rattle.std.specs.declared.string.String.{String}
 use Rattle.rst_text.specs.Names.{normalized_white}
 use Rattle.rst_text.specs.Text.{chars_of}
 use Rattle.rst_directives.specs.Characters.{Text, has_character}
@@ -70,7 +69,3 @@ given_in (Language text) = language (chars_of text)
 abbrev pub argument_in : Result Argument Detail → Result Given Wrong
 argument_in (Ok argument) = Ok (given_in argument)
 argument_in (Err detail) = Err (wrong_in detail)
-
--- the characters of a text
-abbrev pub chars_in : {A : Type 0} → String A → Text
-chars_in text = chars_of text

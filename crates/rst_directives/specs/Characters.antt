@@ -1,15 +1,13 @@
 -- Characters and words, the words without regard to case where directives and options are named (Markup Specification,
 -- 'Directives').
-use Rattle.std.specs.Prelude.{ℕ, Bool, ◌==◌, List, map}
+use Rattle.std.specs.Prelude.{ℕ, Bool, ◌==◌, List, map, find, Option, option_map}
 use Rattle.std.specs.Char.{to_ascii_lowercase}
 use Rattle.std.specs.List.{list_any}
 use Rattle.std.specs.Str.{bytes_eq}
+-- a text: the list of its characters
+pub use Rattle.rst_pieces.specs.Characters.{Text}
 use Rattle.rst_marks.specs.Class.{run}
 use Rattle.rst_marks.specs.declared.class.Class.TheVariants.{Digit}
-
--- a text: the list of its characters
-abbrev pub Text : Type 0
-Text = List ℕ
 
 -- how many digits a text begins with
 abbrev pub digits : Text → ℕ
@@ -30,3 +28,7 @@ is_same_word t other = bytes_eq (map to_ascii_lowercase t) (map to_ascii_lowerca
 -- the character is one of the text
 abbrev pub has_character : ℕ → Text → Bool
 has_character c t = list_any (λ d. d == c) t
+
+-- what a table has for the first of its words that passes
+abbrev pub lookup : {A : Type 0} → (Text → Bool) → List (Text × A) → Option A
+lookup passes table = option_map (λ entry. entry.1) (find (λ entry. passes entry.0) table)

@@ -1,15 +1,15 @@
 -- What a directive is: its name, argument, options and content, or what is wrong with it (Markup Specification,
 -- 'Directives'; the sections of Directives stand in Name, Judgement and Value).
-use Rattle.std.specs.Prelude.{ℕ, ◌+◌, ◌-◌, Bool, true, false, ◌&&◌, nat_lt, List, [], take, drop, length, Option, Some, None, Result, Ok, Err, if◌then◌else◌}
+use Rattle.std.specs.Prelude.{ℕ, ◌-◌, Bool, true, false, ◌&&◌, nat_lt, List, [], take, drop, length, Option, Some, None, Result, Ok, Err, ok_or, if◌then◌else◌}
 use Rattle.rst_text.specs.Block.{Block, cut}
 use Rattle.rst_directives.specs.Argument.{Given, given_in, argument_of}
 use Rattle.rst_directives.specs.Call.{called_at, part_of, content_of, is_empty}
 use Rattle.rst_directives.specs.Characters.{Text}
 use Rattle.rst_directives.specs.Judgement.{permitted, content_fault}
 use Rattle.rst_directives.specs.Layout.{layout_of}
-use Rattle.rst_directives.specs.Lines.{first_run, blank_len}
-use Rattle.rst_directives.specs.Options.{FieldText, fields_in, Choice, choices_in, settings_in}
-use Rattle.rst_directives.specs.Wrong.{Wrong, Fault, option_block, inside, wrong_in, fault_in}
+use Rattle.rst_directives.specs.Lines.{first_run}
+use Rattle.rst_directives.specs.Options.{fields_in, Choice, choices_in, settings_in}
+use Rattle.rst_directives.specs.Wrong.{Wrong, Fault, and_then, option_block, inside, wrong_in, fault_in}
 use Rattle.rst_directives.specs.declared.calls.Reading.{Reading}
 use Rattle.rst_directives.specs.declared.fault.Detail.{Detail}
 use Rattle.rst_directives.specs.declared.fault.DirectiveFault.{DirectiveFault}
@@ -42,38 +42,26 @@ pub record Read : Type 0 where
   pub options : List Choice
   pub content : Content
 
--- a directive whose options are right, by its argument, or what is wrong with that
-abbrev pub read_argument : Name → List Choice → Content → Result Given Wrong → Result Read Wrong
-read_argument name choices content (Ok given) = Ok (record { name = name; argument = given; options = choices; content = content })
-read_argument name choices content (Err wrong) = Err wrong
+-- the options that lines are; lines that aren't fields alone are an invalid option block
+abbrev pub options_of : Name → List Text → Result (List Choice) Wrong
+options_of name lines = and_then (settings_in name) (ok_or (fields_in lines) option_block)
 
--- a directive by its options and its argument, where what is wrong with an option counts first
-abbrev pub read_options : Name → Content → Result Given Wrong → Result (List Choice) Wrong → Result Read Wrong
-read_options name content given (Ok choices) = read_argument name choices content given
-read_options name content given (Err wrong) = Err wrong
+-- a directive whose options are right, by its argument
+abbrev pub with_argument : Name → Content → List Choice → Result Given Wrong → Result Read Wrong
+with_argument name content options given = and_then (λ argument. Ok (record { name = name; argument = argument; options = options; content = content })) given
 
--- a directive by the fields that its options are; lines that aren't fields alone are an invalid option block
-abbrev pub read_fields : Name → Content → Result Given Wrong → Option (List FieldText) → Result Read Wrong
-read_fields name content given (Some fs) = read_options name content given (settings_in name fs)
-read_fields name content given None = Err option_block
+-- a directive by its argument and its options, where what is wrong with an option counts first
+abbrev pub read_parts : Name → Content → Result Given Wrong → Result (List Choice) Wrong → Result Read Wrong
+read_parts name content given choices = and_then (λ options. with_argument name content options given) choices
 
--- a directive whose block has this layout; its argument and its options stand in the run of lines that the block begins
--- with
-abbrev pub read_with : Name → Part → ℕ → List Text → Layout → Result Read Wrong
-read_with name block all run layout =
-    read_fields name (content_of block layout all) (argument_of name (take layout.argument run) (part_of block 0 layout.argument)) (fields_in (drop layout.options run))
-
--- of a block of `all` lines, the run of `len` lines, and the place of the first line behind it that isn't blank
-unfoldable pub read_run : Name → Part → ℕ → List Text → ℕ → ℕ → Result Read Wrong
-read_run name block all run len rest = read_with name block all run (layout_of name run len all rest)
-
--- what a block with this run of lines at its front holds, or the first that is wrong in it
-abbrev pub read_from : Name → Part → Block → List Text → Result Read Wrong
-read_from name block H run = read_run name block (length H) run (length run) (length run + blank_len (drop (length run) H))
+-- a directive by the run of lines that its block of `all` lines begins with, and by where the parts of the block stand
+unfoldable pub read_by : Name → Part → ℕ → List Text → Layout → Result Read Wrong
+read_by name block all run layout =
+    read_parts name (content_of block layout all) (argument_of name (take layout.argument run) (part_of block 0 layout.argument)) (options_of name (drop layout.options run))
 
 -- what the block of a directive holds, or the first that is wrong: its options, then its argument
 unfoldable pub read_block : Name → Bool → Part → Block → Result Read Wrong
-read_block name late block H = read_from name block H (run_in name late H)
+read_block name late block H = read_by name block (length H) (run_in name late H) (layout_of name (run_in name late H) H)
 
 -- ---- the directive
 
@@ -83,13 +71,13 @@ pub data Outcome : Type 0 where
   wrong : Fault → Part → Outcome
 
 -- a directive, unless its content has a fault
-abbrev pub judged_by : Read → Part → Option DirectiveFault → Outcome
-judged_by read source (Some fault) = wrong (fault_in fault) source
-judged_by read source None = found read
+abbrev pub found_unless : Read → Part → Option DirectiveFault → Outcome
+found_unless read source (Some fault) = wrong (fault_in fault) source
+found_unless read source None = found read
 
 -- a directive with its content judged, or what is wrong inside it
 abbrev pub judged : Place → Bool → Part → Result Read Wrong → Outcome
-judged place paragraph source (Ok read) = judged_by read source (content_fault read.name (is_empty read.content) place paragraph)
+judged place paragraph source (Ok read) = found_unless read source (content_fault read.name (is_empty read.content) place paragraph)
 judged place paragraph source (Err w) = wrong (inside w) source
 
 -- the lines that a directive stands in

@@ -46,14 +46,14 @@ permitted name place = permitted_by name (is_substitution place)
 -- permitted it has to be
 -- empty, else not; a topic stands at the level of sections alone; a replacement text is a single paragraph and stands
 -- in a substitution definition alone.
-abbrev pub judged_by : Holds → Name → Bool → Place → Bool → Option DirectiveFault
-judged_by Figure name empty place paragraph = None
-judged_by Nothing name empty place paragraph = if empty then None else Some (Inside ContentNotPermitted)
-judged_by Required name empty place paragraph =
+abbrev pub fault_by : Holds → Name → Bool → Place → Bool → Option DirectiveFault
+fault_by Figure name empty place paragraph = None
+fault_by Nothing name empty place paragraph = if empty then None else Some (Inside ContentNotPermitted)
+fault_by Required name empty place paragraph =
     if empty then Some NoContent
     else if is_topic name && not (is_top place) then Some TopicNotHere
     else None
-judged_by Paragraph name empty place paragraph =
+fault_by Paragraph name empty place paragraph =
     if empty then Some NoContent
     else if not paragraph then Some (Inside NotOneParagraph)
     else if is_substitution place then None
@@ -61,4 +61,4 @@ judged_by Paragraph name empty place paragraph =
 
 -- the fault of a directive's content, which is empty or not, and maybe a single paragraph
 unfoldable pub content_fault : Name → Bool → Place → Bool → Option DirectiveFault
-content_fault name empty place paragraph = judged_by (holds name) name empty place paragraph
+content_fault name empty place paragraph = fault_by (holds name) name empty place paragraph

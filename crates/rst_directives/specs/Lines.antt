@@ -1,5 +1,5 @@
 -- The lines of a directive's block (Markup Specification, 'Directives').
-use Rattle.std.specs.Prelude.{ℕ, List, [], ◌∷◌, map, if◌then◌else◌}
+use Rattle.std.specs.Prelude.{ℕ, ◌+◌, List, [], ◌∷◌, map, drop, if◌then◌else◌}
 use Rattle.std.specs.declared.vec.Vec.{Vec}
 use Rattle.rst_text.specs.Block.{Block, is_blank}
 use Rattle.rst_markup.specs.Lines.{lines_while}
@@ -18,3 +18,7 @@ first_run (l ∷ ls) = if is_blank l.text then [] else l.text ∷ first_run ls
 -- how many blank lines a block begins with
 abbrev pub blank_len : Block → ℕ
 blank_len X = lines_while Blank X
+
+-- the place of the first line from this one on that isn't blank
+abbrev pub past_blank : Block → ℕ → ℕ
+past_blank H from = from + blank_len (drop from H)

@@ -1,9 +1,10 @@
 -- Measures, scales and alignments (Markup Specification, 'Length Units', 'Percentage Units'; Directives, 'Image', 'Figure').
-use Rattle.std.specs.Prelude.{ℕ, ◌+◌, Bool, not, ◌&&◌, ◌||◌, ◌==◌, nat_lt, [], ◌∷◌, ◌++◌, take, drop, length, codes, Option, Some, None, if◌then◌else◌}
+use Rattle.std.specs.Prelude.{ℕ, ◌+◌, Bool, not, ◌&&◌, ◌||◌, ◌==◌, nat_lt, List, [], ◌∷◌, ◌++◌, take, drop, codes, Option, Some, None, option_map, if◌then◌else◌}
+use Rattle.std.specs.List.{list_any}
 use Rattle.rst_text.specs.Block.{indentation, is_blank}
 use Rattle.rst_pieces.specs.Characters.{has}
 use Rattle.rst_marks.specs.Decimal.{decimal}
-use Rattle.rst_directives.specs.Characters.{Text, digits, is_exactly}
+use Rattle.rst_directives.specs.Characters.{Text, digits, is_exactly, lookup}
 use Rattle.rst_directives.specs.declared.measure.Measure.{Measure}
 use Rattle.rst_directives.specs.declared.measure.Alignment.{Alignment}
 use Rattle.rst_directives.specs.declared.measure.Alignment.TheVariants.{Top, Middle, Bottom, Left, Center, Right}
@@ -16,36 +17,41 @@ with_part whole part = if part == 0 then whole else whole + 1 + part
 unfoldable pub number_len : Text → ℕ
 number_len t = if digits t == 0 || not (has t (digits t) 46) then digits t else with_part (digits t) (digits (drop (digits t + 1) t))
 
--- the unit of a length, or a percent sign where that may stand
+-- the units of lengths
+abbrev pub length_units : List Text
+length_units = codes "em" ∷ codes "ex" ∷ codes "px" ∷ codes "in" ∷ codes "cm" ∷ codes "mm" ∷ codes "pt" ∷ codes "pc" ∷ []
+
+-- the units of measures: those of lengths, and a percent sign where that may stand
+abbrev pub units : Bool → List Text
+units percent = length_units ++ (if percent then codes "%" ∷ [] else [])
+
+-- the text is one of the units
 unfoldable pub is_unit : Text → Bool → Bool
-is_unit t percent =
-    is_exactly t (codes "em") || (is_exactly t (codes "ex") || (is_exactly t (codes "px") || (is_exactly t (codes "in") || (is_exactly t (codes "cm")
-    || (is_exactly t (codes "mm") || (is_exactly t (codes "pt") || (is_exactly t (codes "pc") || (percent && is_exactly t (codes "%")))))))))
+is_unit t percent = list_any (is_exactly t) (units percent)
 
--- a measure whose number has this many characters, if a unit or nothing follows behind the spaces
-abbrev pub parts_by : Text → Bool → ℕ → Option Measure
-parts_by t percent number =
-    if number == 0 then None
-    else if number + indentation (drop number t) == length t || is_unit (drop (number + indentation (drop number t)) t) percent
-    then Some (record { number = number; unit = number + indentation (drop number t) })
-    else None
+-- where the unit of a measure stands: behind the number and the spaces after it
+abbrev pub unit_place : Text → ℕ
+unit_place t = number_len t + indentation (drop (number_len t) t)
 
--- a number, spaces, and a unit or nothing
+-- what stands where the unit of a measure does, which may be nothing
+abbrev pub unit_in : Text → Text
+unit_in t = drop (unit_place t) t
+
+-- a measure: a number, maybe spaces, and a unit or nothing
+unfoldable pub is_measure : Text → Bool → Bool
+is_measure t percent = not (number_len t == 0) && (is_blank (unit_in t) || is_unit (unit_in t) percent)
+
+-- where the number of a measure ends and its unit begins
 unfoldable pub measure_parts : Text → Bool → Option Measure
-measure_parts t percent = parts_by t percent (number_len t)
+measure_parts t percent = if is_measure t percent then Some (record { number = number_len t; unit = unit_place t }) else None
 
 -- the unit, or `px` where there is none and one is wanted
 abbrev pub unit_or : Bool → Text → Text
-unit_or wanted unit = if wanted && is_blank unit then 112 ∷ 120 ∷ [] else unit
+unit_or wanted unit = if wanted && is_blank unit then codes "px" else unit
 
 -- the number and the unit of a measure, without the spaces between them
-abbrev pub measure_by : Text → Bool → Option Measure → Option Text
-measure_by t wanted (Some parts) = Some (take parts.number t ++ unit_or wanted (drop parts.unit t))
-measure_by t wanted None = None
-
--- a measure without its spaces
 unfoldable pub measure_of : Text → Bool → Bool → Option Text
-measure_of t percent wanted = measure_by t wanted (measure_parts t percent)
+measure_of t percent wanted = option_map (λ parts. take parts.number t ++ unit_or wanted (drop parts.unit t)) (measure_parts t percent)
 
 -- a scale: one to nine digits, maybe a percent sign with or without spaces before it
 unfoldable pub scale_of : Text → Option ℕ
@@ -55,19 +61,22 @@ scale_of t =
     then Some (decimal (digits t) t)
     else None
 
+-- the horizontal alignments by their words
+abbrev pub horizontal_alignments : List (Text × Alignment)
+horizontal_alignments = (codes "left", Left) ∷ (codes "center", Center) ∷ (codes "right", Right) ∷ []
+
+-- the vertical alignments by their words
+abbrev pub vertical_alignments : List (Text × Alignment)
+vertical_alignments = (codes "top", Top) ∷ (codes "middle", Middle) ∷ (codes "bottom", Bottom) ∷ []
+
+-- the alignments by their words, the vertical ones only where they may stand
+abbrev pub alignments : Bool → List (Text × Alignment)
+alignments vertical = horizontal_alignments ++ (if vertical then vertical_alignments else [])
+
 -- the vertical alignment that a word names
 unfoldable pub vertical_alignment : Text → Option Alignment
-vertical_alignment t =
-    if is_exactly t (codes "top") then Some Top
-    else if is_exactly t (codes "middle") then Some Middle
-    else if is_exactly t (codes "bottom") then Some Bottom
-    else None
+vertical_alignment t = lookup (is_exactly t) vertical_alignments
 
--- the alignment that a word names, a vertical one only where that may stand
+-- the alignment that a word names
 unfoldable pub alignment_of : Text → Bool → Option Alignment
-alignment_of t vertical =
-    if is_exactly t (codes "left") then Some Left
-    else if is_exactly t (codes "center") then Some Center
-    else if is_exactly t (codes "right") then Some Right
-    else if vertical then vertical_alignment t
-    else None
+alignment_of t vertical = lookup (is_exactly t) (alignments vertical)

@@ -1,7 +1,8 @@
 -- The directives, and what each of them takes (Directives, 'Specific Admonitions', 'Generic Admonition', 'Topic',
 -- 'Image', 'Figure', 'Code', 'Replacement Text', 'Common Options').
-use Rattle.std.specs.Prelude.{Bool, true, false, ◌&&◌, ◌||◌, codes, Option, Some, None, if◌then◌else◌}
-use Rattle.rst_directives.specs.Characters.{Text, is_word}
+use Rattle.std.specs.Prelude.{Bool, true, false, List, [], ◌∷◌, ◌++◌, map, codes, Option, if◌then◌else◌}
+use Rattle.std.specs.List.{list_any}
+use Rattle.rst_directives.specs.Characters.{Text, is_word, lookup}
 use Rattle.rst_directives.specs.declared.name.Name.{Name}
 use Rattle.rst_directives.specs.declared.name.Name.TheVariants.{Attention, Caution, Danger, Error, Hint, Important, Note, Tip, Warning, Admonition, Topic, Image, Figure, Replace, Code}
 use Rattle.rst_directives.specs.declared.name.Takes.{Takes}
@@ -11,34 +12,37 @@ use Rattle.rst_directives.specs.declared.name.Holds.TheVariants.{Required, Nothi
 use Rattle.rst_directives.specs.declared.option.OptionName.{OptionName}
 use Rattle.rst_directives.specs.declared.option.OptionName.TheVariants.{Class, Name as NameOption, FigureWidth, FigureClass}
 
+-- the admonitions without a title, by their names
+abbrev pub admonitions : List (Text × Name)
+admonitions =
+    (codes "attention", Attention) ∷ (codes "caution", Caution) ∷ (codes "danger", Danger) ∷ (codes "error", Error) ∷ (codes "hint", Hint)
+    ∷ (codes "important", Important) ∷ (codes "note", Note) ∷ (codes "tip", Tip) ∷ (codes "warning", Warning) ∷ []
+
+-- the three names of the directive for program code
+abbrev pub code_names : List Text
+code_names = codes "code" ∷ codes "code-block" ∷ codes "sourcecode" ∷ []
+
+-- the directive for program code by its names
+abbrev pub code_directives : List (Text × Name)
+code_directives = map (λ name. (name, Code)) code_names
+
+-- the directives by their names, with or without the one for program code
+abbrev pub directives : Bool → List (Text × Name)
+directives code =
+    (codes "admonition", Admonition) ∷ (codes "topic", Topic) ∷ (codes "image", Image) ∷ (codes "figure", Figure) ∷ (codes "replace", Replace)
+    ∷ ((if code then code_directives else []) ++ admonitions)
+
 -- an admonition without a title
 unfoldable pub admonition_of : Text → Option Name
-admonition_of t =
-    if is_word t (codes "attention") then Some Attention
-    else if is_word t (codes "caution") then Some Caution
-    else if is_word t (codes "danger") then Some Danger
-    else if is_word t (codes "error") then Some Error
-    else if is_word t (codes "hint") then Some Hint
-    else if is_word t (codes "important") then Some Important
-    else if is_word t (codes "note") then Some Note
-    else if is_word t (codes "tip") then Some Tip
-    else if is_word t (codes "warning") then Some Warning
-    else None
+admonition_of t = lookup (is_word t) admonitions
 
--- the text is one of the three names of the directive for program code
+-- the text is one of the names of the directive for program code
 unfoldable pub is_code : Text → Bool
-is_code t = is_word t (codes "code") || (is_word t (codes "code-block") || is_word t (codes "sourcecode"))
+is_code t = list_any (is_word t) code_names
 
--- the directive that a text names, where those for program code are some or none
+-- the directive that a text names, where the one for program code is some or none
 unfoldable pub name_of : Text → Bool → Option Name
-name_of t code =
-    if is_word t (codes "admonition") then Some Admonition
-    else if is_word t (codes "topic") then Some Topic
-    else if is_word t (codes "image") then Some Image
-    else if is_word t (codes "figure") then Some Figure
-    else if is_word t (codes "replace") then Some Replace
-    else if code && is_code t then Some Code
-    else admonition_of t
+name_of t code = lookup (is_word t) (directives code)
 
 -- what a directive takes as its argument
 abbrev pub takes : Name → Takes

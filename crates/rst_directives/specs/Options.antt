@@ -1,6 +1,7 @@
 -- The options of a directive's block (Markup Specification, 'Directives', 'Field Lists').
 use Rattle.std.specs.Prelude.{ℕ, suc, min, Bool, true, false, not, ◌||◌, List, [], ◌∷◌, map, take, drop, length, slice_range, Option, Some, None, option_map, Result, Ok, Err, if◌then◌else◌}
 use Rattle.std.specs.List.{join_with_byte}
+use Rattle.std.specs.Option.{option_or}
 use Rattle.std.specs.declared.vec.Vec.{Vec}
 use Rattle.rst_text.specs.Block.{indentation}
 use Rattle.rst_text.specs.Places.{first_from}
@@ -11,7 +12,7 @@ use Rattle.rst_directives.specs.Characters.{Text, is_same_word}
 use Rattle.rst_directives.specs.Name.{has_option}
 use Rattle.rst_directives.specs.OptionName.{option_of}
 use Rattle.rst_directives.specs.Value.{Meaning, meaning_of, value_of}
-use Rattle.rst_directives.specs.Wrong.{Wrong, unknown, duplicate, invalid, wrong_in}
+use Rattle.rst_directives.specs.Wrong.{Wrong, unless, unknown, duplicate, invalid, wrong_in}
 use Rattle.rst_directives.specs.declared.fault.Detail.{Detail}
 use Rattle.rst_directives.specs.declared.name.Name.{Name}
 use Rattle.rst_directives.specs.declared.option.OptionName.{OptionName}
@@ -134,16 +135,14 @@ abbrev pub choices_of : Name → List FieldText → Result (List Choice) Wrong
 choices_of directive [] = Ok []
 choices_of directive (f ∷ fs) = onto_choices (choice_of directive f) f.0 (choices_of directive fs)
 
--- what fields choose, unless one is unknown or, else, one stands there again
-abbrev pub judged_by : Option Text → Option Text → Result (List Choice) Wrong → Result (List Choice) Wrong
-judged_by (Some name) again choices = Err (unknown name)
-judged_by None (Some name) choices = Err (duplicate name)
-judged_by None None choices = choices
+-- what is wrong with the names of fields: of all of them an unknown one, then a duplicate one
+abbrev pub wrong_name : Name → List FieldText → Option Wrong
+wrong_name directive fs = option_or (option_map unknown (first_unknown directive fs)) (option_map duplicate (first_again fs))
 
 -- What the fields of a directive choose, or what is wrong: of all fields an unknown option, then a duplicate one, then a
 -- value that an option can't have.
 unfoldable pub settings_in : Name → List FieldText → Result (List Choice) Wrong
-settings_in directive fs = judged_by (first_unknown directive fs) (first_again fs) (choices_of directive fs)
+settings_in directive fs = unless (wrong_name directive fs) (choices_of directive fs)
 
 -- ---- as they are kept
 

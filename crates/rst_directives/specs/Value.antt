@@ -33,10 +33,6 @@ abbrev pub word_len : Text → ℕ
 word_len [] = 0
 word_len (c ∷ cs) = if is_white c then 0 else suc (word_len cs)
 
--- the id that a word gives
-unfoldable pub id_in : Text → Text
-id_in word = id_of word
-
 -- an id before others, if these are right
 abbrev pub onto_ids : Text → Option (List Text) → Option (List Text)
 onto_ids id (Some ids) = Some (id ∷ ids)
@@ -45,7 +41,7 @@ onto_ids id None = None
 -- the ids of all words, where none is empty
 abbrev pub all_ids : List Text → Option (List Text)
 all_ids [] = Some []
-all_ids (w ∷ ws) = if is_blank (id_in w) then None else onto_ids (id_in w) (all_ids ws)
+all_ids (w ∷ ws) = if is_blank (id_of w) then None else onto_ids (id_of w) (all_ids ws)
 
 -- the same, where there are some
 abbrev pub some_ids : List Text → Option (List Text)
@@ -81,10 +77,6 @@ value_of directive FigureWidth t = option_map measured (measure_of t true true)
 value_of directive FigureClass t = option_map classed (ids_of t)
 
 -- ---- as they are kept
-
--- the characters of a text
-abbrev pub chars_in : {A : Type 0} → String A → Text
-chars_in text = chars_of text
 
 -- the characters of texts
 abbrev pub texts_in : {A : Type 0} → List (String A) → List Text

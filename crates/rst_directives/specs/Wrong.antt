@@ -1,4 +1,5 @@
 -- What can be wrong with a directive, over characters (Markup Specification, 'Directives').
+use Rattle.std.specs.Prelude.{Option, Some, None, Result, Ok, Err}
 use Rattle.rst_text.specs.Text.{chars_of}
 use Rattle.rst_directives.specs.Characters.{Text}
 use Rattle.rst_directives.specs.declared.fault.Detail.{Detail}
@@ -16,6 +17,16 @@ pub data Wrong : Type 0 where
   many_arguments : Wrong
   content_not_permitted : Wrong
   not_one_paragraph : Wrong
+
+-- what the next step makes of a value, where nothing was wrong before it
+abbrev pub and_then : {A B : Type 0} → (A → Result B Wrong) → Result A Wrong → Result B Wrong
+and_then next (Ok value) = next value
+and_then next (Err wrong) = Err wrong
+
+-- a value, unless something is wrong
+abbrev pub unless : {A : Type 0} → Option Wrong → Result A Wrong → Result A Wrong
+unless (Some wrong) value = Err wrong
+unless None value = value
 
 -- what is wrong with a directive
 pub data Fault : Type 0 where

@@ -1,6 +1,7 @@
 //! The arguments of directives.
 ghost use Rattle.std.specs.Prelude.{◌≡◌};
 ghost use Rattle.std.specs.Str.{chars};
+ghost use Rattle.rst_text.specs.Text.{chars_of};
 ghost use Rattle.rst_directives.specs.Argument as spec;
 ghost use Rattle.rst_directives.specs.Faults.{Gives};
 ghost use Rattle.rst_directives.specs.Lines.{texts_of};
@@ -80,7 +81,7 @@ fn language_of(alloc: Global, lines: &[Vec<char>]) -> Result<Result<Argument, De
 /// A text as a language, if one word is all that it is: one space is left between two words.
 #[tactic(auto, unfolding(crate::specs::Argument::word_of))]
 fn word_of(alloc: Global, words: String) -> Result<Result<Argument, Detail>, MarkupFault>
-    ensures { Gives (λ argument. spec.argument_in argument ≡ spec.word_of (spec.chars_in words)) result }
+    ensures { Gives (λ argument. spec.argument_in argument ≡ spec.word_of (chars_of words)) result }
 {
     let characters = characters_of(alloc, words.as_str())?;
     if has_character(&characters, ' ') {

@@ -8,6 +8,7 @@ ghost use Rattle.rst_directives.specs.Faults.{Gives};
 ghost use Rattle.rst_directives.specs.Call as spec;
 ghost use Rattle.rst_directives.specs.Directive as directives;
 ghost use Rattle.rst_directives.specs.Judgement as judgement;
+ghost use Rattle.rst_directives.specs.Layout as layouts;
 ghost use Rattle.rst_directives.specs.Lines.{texts_of};
 ghost use Rattle.rst_directives.specs.Options as choices;
 
@@ -161,7 +162,7 @@ fn read(
 }
 
 /// Reads a block by its first run of lines; `rest` is the place of the first line behind it that isn't blank.
-#[tactic(auto, unfolding(crate::specs::Directive::read_run))]
+#[tactic(auto, unfolding(crate::specs::Directive::read_by))]
 fn read_run(
     alloc: Global,
     name: Name,
@@ -172,7 +173,7 @@ fn read_run(
     requires ordered { block.from ≤ block.to }
     requires run { length run.now ≤ block.to - block.from }
     requires rest { rest ≤ block.to - block.from }
-    ensures { Gives (λ reading. directives.reading_in reading ≡ directives.read_run name block (block.to - block.from) (texts_of run.now) (length run.now) rest) result }
+    ensures { Gives (λ reading. directives.reading_in reading ≡ directives.read_by name block (block.to - block.from) (texts_of run.now) (layouts.layout_at name (texts_of run.now) (length run.now) (block.to - block.from) rest)) result }
 {
     let all = block.to - block.from;
     let layout = layout_of(name, run, all, rest);
@@ -208,7 +209,7 @@ fn read_fields(
     part: Part,
     fields: &[Field],
 ) -> Result<Result<Reading, Detail>, MarkupFault>
-    ensures { Gives (λ reading. directives.reading_in reading ≡ directives.read_options name content (arguments.argument_of name (texts_of lines.now) part) (choices.settings_in name (choices.field_texts fields.now))) result }
+    ensures { Gives (λ reading. directives.reading_in reading ≡ directives.read_parts name content (arguments.argument_of name (texts_of lines.now) part) (choices.settings_in name (choices.field_texts fields.now))) result }
 {
     match settings_of(alloc, name, fields)? {
         Ok(options) => read_argument(alloc, name, content, lines, part, options),
@@ -225,7 +226,7 @@ fn read_argument(
     part: Part,
     options: Vec<Setting>,
 ) -> Result<Result<Reading, Detail>, MarkupFault>
-    ensures { Gives (λ reading. directives.reading_in reading ≡ directives.read_argument name (choices.choices_in options.items) content (arguments.argument_of name (texts_of lines.now) part)) result }
+    ensures { Gives (λ reading. directives.reading_in reading ≡ directives.with_argument name content (choices.choices_in options.items) (arguments.argument_of name (texts_of lines.now) part)) result }
 {
     match argument_of(alloc, name, lines, part)? {
         Ok(argument) => Ok(Ok(Reading {
@@ -302,7 +303,7 @@ fn judged(
 
 /// A directive whose options and argument are right, judged by its content.
 fn by_content(reading: Reading, place: Place, paragraph: bool, source: Part) -> Directive
-    ensures { directives.outcome_of result ≡ directives.judged_by (directives.read_in reading) source (judgement.content_fault reading.name (spec.is_empty reading.content) place paragraph) }
+    ensures { directives.outcome_of result ≡ directives.found_unless (directives.read_in reading) source (judgement.content_fault reading.name (spec.is_empty reading.content) place paragraph) }
 {
     match content_fault(reading.name, is_empty(reading.content), place, paragraph) {
         Some(fault) => Directive::Wrong { fault, source },

@@ -32,9 +32,9 @@ fn before_field(run: &[Vec<char>]) -> usize
 
 /// The parts of a block of `all` lines: those of its first run, up to a blank line, and `rest`, the place of the first
 /// line behind it that isn't blank.
-#[tactic(auto, unfolding(crate::specs::Layout::layout_of))]
+#[tactic(auto, unfolding(crate::specs::Layout::layout_at))]
 pub(crate) fn layout_of(name: Name, run: &[Vec<char>], all: usize, rest: usize) -> Layout
-    ensures value { result ≡ spec.layout_of name (texts_of run.now) (length run.now) all rest }
+    ensures value { result ≡ spec.layout_at name (texts_of run.now) (length run.now) all rest }
     ensures argument { result.argument ≤ length run.now }
     ensures options { result.options ≤ length run.now }
     ensures first { length run.now ≤ all → result.first ≤ all }

@@ -58,7 +58,7 @@ struct Measure {
 }
 
 /// The parts of a measure.
-#[tactic(auto, unfolding(crate::specs::Measure::measure_parts))]
+#[tactic(auto, using(crate::proofs::Measures::blank_behind), unfolding(crate::specs::Measure::measure_parts, crate::specs::Measure::is_measure))]
 fn measure_parts(text: &[char], percent: bool) -> Option<Measure>
     ensures exact { result ≡ spec.measure_parts text.now percent }
     ensures number { IfSome result (λ parts. parts.number ≤ length text.now) }
@@ -132,7 +132,7 @@ pub(crate) fn scale_of(text: &[char]) -> Option<u64>
 }
 
 /// The alignment that a word names; a figure has none of the vertical ones.
-#[tactic(auto, unfolding(crate::specs::Measure::alignment_of))]
+#[tactic(auto, unfolding(crate::specs::Measure::alignment_of, crate::specs::Measure::vertical_alignment))]
 pub(crate) fn alignment_of(text: &[char], vertical: bool) -> Option<Alignment>
     ensures { result ≡ spec.alignment_of text.now vertical }
 {

@@ -50,7 +50,7 @@ pub(crate) enum Holds {
 impl Name {
     /// The directive that a text names, without regard to the case of letters of ASCII. Where `code` is false, those
     /// for program code are none.
-    #[tactic(auto, unfolding(crate::specs::Name::name_of))]
+    #[tactic(auto, using(crate::proofs::Tables::code_or_admonition), unfolding(crate::specs::Name::name_of))]
     pub fn of(text: &[char], code: bool) -> Option<Name>
         ensures { result ≡ spec.name_of text.now code }
     {

@@ -1,7 +1,8 @@
 //! The values of options.
 ghost use Rattle.std.specs.Prelude.{◌≡◌, ◌+◌, ◌≤◌, take, drop, length, Some, option_map};
 ghost use Rattle.rst_text.specs.Characters.{is_white};
-ghost use Rattle.rst_text.specs.Names.{skip_while};
+ghost use Rattle.rst_text.specs.Names.{id_of, skip_while};
+ghost use Rattle.rst_text.specs.Text.{chars_of};
 ghost use Rattle.rst_directives.specs.Faults.{Gives};
 ghost use Rattle.rst_directives.specs.Measure as measures;
 ghost use Rattle.rst_directives.specs.Name as names;
@@ -148,7 +149,7 @@ fn ids_of(alloc: Global, text: &[char]) -> Result<Option<Vec<String>>, MarkupFau
 }
 
 fn id_from(alloc: Global, word: &[char]) -> Result<String, MarkupFault>
-    ensures { Gives (λ id. spec.chars_in id ≡ spec.id_in word.now) result }
+    ensures { Gives (λ id. chars_of id ≡ id_of word.now) result }
 {
     let text = text_from(alloc, word)?;
     let id = id_of(alloc, text.as_str())?;

@@ -1,9 +1,9 @@
 use Rattle.std.proofs.Common.{◌≡◌, ◌<◌, ◌++◌, [], ◌∷◌, true, false, take, drop, length, sym, ap, ◌∙◌, arith}
 use Rattle.std.specs.Str.{chars}
 use Rattle.rst_text.specs.Block.{is_blank}
-use Rattle.rst_text.specs.Names.{words_of}
+use Rattle.rst_text.specs.Names.{words_of, id_of}
 use Rattle.rst_text.specs.Text.{chars_of}
-use Rattle.rst_directives.specs.Value.{all_ids, some_ids, ids_of, id_in, word_len, texts_in}
+use Rattle.rst_directives.specs.Value.{all_ids, some_ids, ids_of, word_len, texts_in}
 use Rattle.rst_directives.proofs.Runs.{map-one}
 use Rattle.rst_directives.proofs.ClassLemmas.{behind_ids, is_trimmed, skip-trimmed, words-skip, word_len-some, ids-more, ids-stop, ids-end, blank-words, some-none, has_words, first-has, some-all, behind-start}
 use Rattle.rst_directives.proofs.value.ids_of.Goals as goal
@@ -26,7 +26,7 @@ pub returns-then-is_blank_text : goal.returns-then-is_blank_text
 unfolding ids_of
 returns-then-is_blank_text c =
     let dark : is_blank c.loop-rest.rest.now ≡ false = cc in
-    let id : chars_of c.in_ok-id.id ≡ id_in (take (word_len c.loop-rest.rest.now) c.loop-rest.rest.now) = c.in_ok-id.ensures ∙ ap id_in c.first_word.ensures in
+    let id : chars_of c.in_ok-id.id ≡ id_of (take (word_len c.loop-rest.rest.now) c.loop-rest.rest.now) = c.in_ok-id.ensures ∙ ap id_of c.first_word.ensures in
     let blank : is_blank (chars_of c.in_ok-id.id) ≡ true = ap (λ bs. is_blank (chars bs)) (sym c.as_str.ensures.value) ∙ sym c.is_blank_text.ensures ∙ c.if-is_blank_text.true in
     some-none (words_of c.args.text.now) (ids-stop c.loop-rest.rest.now (texts_in c.loop-rest.ids.items) (chars_of c.in_ok-id.id) _ c.loop-rest.invariant.trimmed dark id blank c.loop-rest.invariant.ids)
 
@@ -40,7 +40,7 @@ loop-rest-smaller c =
 pub loop-rest-preserved : goal.loop-rest-preserved
 loop-rest-preserved c =
     let dark : is_blank c.loop-rest.rest.now ≡ false = cc in
-    let id : chars_of c.in_ok-id.id ≡ id_in (take (word_len c.loop-rest.rest.now) c.loop-rest.rest.now) = c.in_ok-id.ensures ∙ ap id_in c.first_word.ensures in
+    let id : chars_of c.in_ok-id.id ≡ id_of (take (word_len c.loop-rest.rest.now) c.loop-rest.rest.now) = c.in_ok-id.ensures ∙ ap id_of c.first_word.ensures in
     let some : is_blank (chars_of c.in_ok-id.id) ≡ false = ap (λ bs. is_blank (chars bs)) (sym c.as_str.ensures.value) ∙ sym c.is_blank_text.ensures ∙ c.if-is_blank_text.false in
     let items : c.push.new.self.items ≡ c.loop-rest.ids.items ++ c.in_ok-id.id ∷ [] = c.in_ok-push.ensures.items in
     record {
