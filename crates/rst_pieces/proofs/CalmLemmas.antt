@@ -8,7 +8,7 @@ use Rattle.rst_pieces.specs.Characters.{Text}
 use Rattle.rst_pieces.specs.Escapes.{is_escaped}
 use Rattle.rst_pieces.specs.Words.{IsWord, goes_on}
 use Rattle.rst_pieces.specs.Calm.{is_calm, IsCalm}
-use Rattle.rst_pieces.specs.Pieces.{piece_if, HasNoStart}
+use Rattle.rst_pieces.specs.Pieces.{piece_at, HasNoStart}
 use Rattle.rst_pieces.proofs.EscapeLemmas.{other-bare, is_escaped-bare}
 use Rattle.rst_pieces.proofs.WordLemmas.{differs, absent, lacks-by, no-piece-lacking, goes_on-space, goes_on-feed, goes_on-comma}
 
@@ -55,17 +55,17 @@ word-within t (suc n) i last order within stop = ⊎_elim
     (λ other. (i, empty t i (omega arith) other, omega arith))
     (cases_bool (is_ascii_alphanumeric (get_or t i 0)))
 
-none-calm : (t : Text) (from to i : ℕ) (escaped : Bool) → IsCalm t from to → from ≤ i → i < to → piece_if t i escaped ≡ None
-none-calm t from to i escaped run low less =
+none-calm : (t : Text) (begin from to i : ℕ) → IsCalm t from to → from ≤ i → i < to → piece_at t begin i ≡ None
+none-calm t begin from to i run low less =
     let within : to < length t = run.within (omega arith) in
     let word = word-within t (to - 1 - i) i (to - 1) (omega arith) (omega arith) (run.edge (omega arith)) in
     let short = word.2 in
     let above = word.1.above in
     let calm_end = run.calm word.0 (omega arith) (omega arith) in
-    no-piece-lacking t i word.0 escaped word.1 (lacks-by is_calm t i (run.calm i low less) refl refl refl refl refl) (absent is_calm t i 91 (run.calm i low less) refl) (goes_on-calm t word.0 calm_end (word.1.stops (omega arith)))
+    no-piece-lacking t begin i word.0 word.1 (lacks-by is_calm t i (run.calm i low less) refl refl refl refl refl) (absent is_calm t i 91 (run.calm i low less) refl) (goes_on-calm t word.0 calm_end (word.1.stops (omega arith)))
 
 HasNoStart-calm : (t : Text) (from place start : ℕ) → HasNoStart t from from place → IsCalm t place start → HasNoStart t from from start
-HasNoStart-calm t from place start none run i low less = ⊎_elim (none i low) (λ past. none-calm t place start i _ run past less) (cases_lt i place)
+HasNoStart-calm t from place start none run i low less = ⊎_elim (none i low) (λ past. none-calm t from place start i run past less) (cases_lt i place)
 
 and-true : (b : Bool) → (b && true) ≡ b
 and-true true = refl

@@ -1,13 +1,13 @@
 -- Markup between a start-string and an end-string.
-use Rattle.std.proofs.Common.{◌≡◌, ℕ, ◌+◌, ◌-◌, ◌<◌, ◌≤◌, Bool, true, not, Option, Some, None, length, unwrap_or, refl, sym, ap, ◌∙◌, subst, arith}
+use Rattle.std.proofs.Common.{◌≡◌, ℕ, ◌+◌, ◌-◌, ◌<◌, ◌≤◌, true, not, ◌&&◌, Option, Some, None, length, unwrap_or, refl, sym, ap, ◌∙◌, subst, arith}
 use Rattle.std.proofs.lemmas.Bool.{and_parts}
 use Rattle.rst_text.specs.Places.{IsFirst}
 use Rattle.rst_text.proofs.PlacesLemmas.{first_from-is, first_from-IsFirst}
-use Rattle.rst_pieces.specs.Characters.{Text, has}
-use Rattle.rst_pieces.specs.Escapes.{is_escaped}
+use Rattle.std.specs.Option.{is_some}
+use Rattle.rst_pieces.specs.Characters.{Text, has, is_dark}
 use Rattle.rst_pieces.specs.Tails.{or_else, name_tail, role_tail, bare_tail}
 use Rattle.rst_pieces.specs.Names.{role_end}
-use Rattle.rst_pieces.specs.Marked.{start_len, end_len, has_start, has_end, start_of, starts, tail_of, ends_if, ends, end_of, unended_piece, ended_piece, marked_piece, marked_from, marked}
+use Rattle.rst_pieces.specs.Marked.{start_len, end_len, has_start, has_end, has_escapes, start_of, starts, tail_of, ends, end_of, unended_piece, ended_piece, marked_piece, marked_from, marked}
 use Rattle.rst_pieces.specs.Missing.{IsUnended}
 use Rattle.rst_pieces.specs.declared.piece.Markup.{Markup}
 use Rattle.rst_pieces.specs.declared.piece.Markup.TheVariants.{Strong, Emphasis, Literal, Target, Substitution, Interpreted}
@@ -15,10 +15,6 @@ use Rattle.rst_pieces.specs.declared.piece.Tail.{Tail}
 use Rattle.rst_pieces.proofs.EscapeLemmas.{IsBare, has-bare, is_escaped-agree}
 use Rattle.rst_pieces.proofs.FitLemmas.{Fits, Fit, Fit-none, Fit-some, has-lt, either, TailFits, TailFits-or, bare_tail-fits, name_tail-fits, role_tail-fits}
 use Rattle.rst_pieces.proofs.NameLemmas.{role_end-fits}
-
-pub ends-at : (markup : Markup) (t : Text) (i k : ℕ) (escaped : Bool) → escaped ≡ is_escaped t i k → ends markup t i k ≡ ends_if markup t k escaped
-unfolding ends
-ends-at markup t i k escaped h = ap (ends_if markup t k) (sym h)
 
 -- ---- marks lie within the text, and begin with no backslash
 
@@ -47,7 +43,7 @@ end-fits Substitution t k h = let l : k < length t = has-lt t k 124 h in omega a
 end-fits Interpreted t k h = let l : k < length t = has-lt t k 96 h in omega arith
 
 ends-end : (markup : Markup) (t : Text) (i k : ℕ) → ends markup t i k ≡ true → has_end markup t k ≡ true
-unfolding ends ends_if
+unfolding ends
 ends-end markup t i k h = (and_parts (has_end markup t k) _ h).0
 
 start_len-some : (markup : Markup) → 0 < start_len markup
@@ -126,7 +122,7 @@ marked-fits markup t i = marked_from-fits markup t i (start_of markup t i) (star
 
 ends-agree : (markup : Markup) (t : Text) (i q k : ℕ) → i ≤ q → q < k → has_start markup t q ≡ true → ends markup t i k ≡ ends markup t q k
 unfolding ends
-ends-agree markup t i q k order less mark = ap (ends_if markup t k) (is_escaped-agree t i q k order less (start-bare markup t q mark))
+ends-agree markup t i q k order less mark = ap (λ escaped. has_end markup t k && (is_dark t (k - 1) && (not (has_escapes markup && escaped) && is_some (tail_of markup t k)))) (is_escaped-agree t i q k order less (start-bare markup t q mark))
 
 -- where a start-string has no end, no later one has
 pub unended : (markup : Markup) (t : Text) (i q : ℕ) → i ≤ q → has_start markup t q ≡ true → end_of markup t i q ≡ None → IsUnended markup t q

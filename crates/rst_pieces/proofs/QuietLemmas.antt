@@ -15,7 +15,7 @@ use Rattle.rst_pieces.specs.Escapes.{has_backslash}
 use Rattle.rst_pieces.specs.Names.{is_reference, name_end, reference_at, reference}
 use Rattle.rst_pieces.specs.Footnotes.{label_stop, closes_label, label_piece, label}
 use Rattle.rst_pieces.specs.Uri.{in_lower_case, has_letter, begins_at, schemes, behind_first, scheme_end, uri_piece, uri}
-use Rattle.rst_pieces.specs.Pieces.{markup_at, is_free_if, piece_if, plain_from, IsPieces, nothing, last}
+use Rattle.rst_pieces.specs.Pieces.{markup_at, is_free, piece_at, plain_from, IsPieces, nothing, last}
 use Rattle.rst_text.specs.Runs.{IsRun}
 use Rattle.rst_pieces.specs.Quiet.{is_quiet, quiet, whole}
 use Rattle.rst_pieces.specs.declared.piece.Markup.TheVariants.{Strong, Emphasis, Literal, Target, Substitution, Interpreted}
@@ -111,9 +111,9 @@ no-markup t i h =
       no-uri t i h,
     ) refl
 
-no-piece : (t : Text) (i : ℕ) (escaped : Bool) → IsQuiet t → piece_if t i escaped ≡ None
-unfolding piece_if
-no-piece t i escaped h = by_case (is_free_if t i escaped)
+no-piece : (t : Text) (from i : ℕ) → IsQuiet t → piece_at t from i ≡ None
+unfolding piece_at
+no-piece t from i h = by_case (is_free t from i)
   where
     by_case : (free : Bool) → cond free (markup_at t i) None ≡ None
     by_case true = no-markup t i h
@@ -122,7 +122,7 @@ no-piece t i escaped h = by_case (is_free_if t i escaped)
 pub quiet-pieces : (t : Text) → quiet t ≡ true → IsPieces t 0 (whole t)
 quiet-pieces [] h = nothing refl
 quiet-pieces (c ∷ cs) h =
-    last (plain_from 0 (length (c ∷ cs))) (record { is_plain = refl; some = omega arith; within = omega arith; none = λ i low less. no-piece (c ∷ cs) i _ h }) refl
+    last (plain_from 0 (length (c ∷ cs))) (record { is_plain = refl; some = omega arith; within = omega arith; none = λ i low less. no-piece (c ∷ cs) 0 i h }) refl
 
 -- ---- its characters
 

@@ -76,15 +76,10 @@ tail_of Substitution t k = or_else (name_tail t (k + 1)) (bare_tail t (k + 1))
 tail_of Interpreted t k = or_else (name_tail t (k + 1)) (or_else (role_tail t (role_end t (k + 1))) (bare_tail t (k + 1)))
 tail_of markup t k = bare_tail t (k + end_len markup)
 
--- The end-string at k, which is escaped or not, may end the markup: what stands before it is not white, what stands behind
--- it fits, and an escaped one ends only a literal.
-unfoldable pub ends_if : Markup → Text → ℕ → Bool → Bool
-ends_if markup t k escaped = has_end markup t k && (is_dark t (k - 1) && (not (has_escapes markup && escaped) && is_some (tail_of markup t k)))
-
 -- Markup that begins at i may end at k: its end-string stands there, unescaped unless it is a literal's, what stands before it
 -- is not white, and what stands behind it fits.
 unfoldable pub ends : Markup → Text → ℕ → ℕ → Bool
-ends markup t i k = ends_if markup t k (is_escaped t i k)
+ends markup t i k = has_end markup t k && (is_dark t (k - 1) && (not (has_escapes markup && is_escaped t i k) && is_some (tail_of markup t k)))
 
 -- the least end, with a character at least between it and the start-string at q
 unfoldable pub end_of : Markup → Text → ℕ → ℕ → Option ℕ

@@ -17,17 +17,14 @@ markup_at t i =
     or_else (marked Strong t i) (or_else (marked Emphasis t i) (or_else (marked Literal t i) (or_else (marked Target t i)
     (or_else (marked Substitution t i) (or_else (marked Interpreted t i) (or_else (label t i) (or_else (reference t i) (uri t i))))))))
 
--- a start may stand at the place: it is not escaped, and what stands before it fits
-unfoldable pub is_free_if : Text → ℕ → Bool → Bool
-is_free_if t i escaped = not escaped && (i == 0 || may_precede (slice_index t (i - 1)))
+-- A start may stand at i: it is not escaped, and what stands before it fits. Plain text before i begins at `from`: no backslash
+-- before that counts.
+unfoldable pub is_free : Text → ℕ → ℕ → Bool
+is_free t from i = not (is_escaped t from i) && (i == 0 || may_precede (slice_index t (i - 1)))
 
--- the piece that begins at the place, which is escaped or not, if a start may stand there and markup begins
-unfoldable pub piece_if : Text → ℕ → Bool → Option Piece
-piece_if t i escaped = if is_free_if t i escaped then markup_at t i else None
-
--- The piece that begins at i, if a start stands there. Plain text before i begins at `from`: no backslash before that counts.
-abbrev pub piece_at : Text → ℕ → ℕ → Option Piece
-piece_at t from i = piece_if t i (is_escaped t from i)
+-- the piece that begins at i, if a start may stand there and markup begins
+unfoldable pub piece_at : Text → ℕ → ℕ → Option Piece
+piece_at t from i = if is_free t from i then markup_at t i else None
 
 -- no start stands at the places from `low` below `high`
 abbrev pub HasNoStart : Text → ℕ → ℕ → ℕ → Type 0

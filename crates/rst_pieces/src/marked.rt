@@ -1,6 +1,7 @@
 //! Inline markup between a start-string and an end-string.
-ghost use Rattle.std.specs.Prelude.{◌≡◌, ◌+◌, ◌<◌, ◌≤◌, true, length, IfSome};
-ghost use Rattle.rst_pieces.specs.Marked.{start_len, end_len, has_start, has_end, has_escapes, start_of, starts, tail_of, ends_if, end_of, unended_piece, ended_piece, marked};
+ghost use Rattle.std.specs.Prelude.{◌≡◌, ℕ, ◌+◌, ◌<◌, ◌≤◌, true, length, IfSome};
+ghost use Rattle.rst_pieces.specs.Marked.{start_len, end_len, has_start, has_end, has_escapes, start_of, starts, tail_of, ends, end_of, unended_piece, ended_piece, marked};
+ghost use Rattle.rst_pieces.specs.Escapes.{is_escaped};
 ghost use Rattle.rst_pieces.specs.Tails.{or_else, name_tail, role_tail, bare_tail};
 ghost use Rattle.rst_pieces.specs.Names.{role_end};
 ghost use Rattle.rst_pieces.specs.Missing.{IsMissing};
@@ -114,12 +115,12 @@ impl Markup {
         }
     }
 
-    /// Whether the end-string stands at the place and may end the markup.
-    #[tactic(auto, unfolding(crate::specs::Marked::ends_if))]
+    /// Whether the end-string stands at the place, which is escaped or not, and may end the markup.
+    #[tactic(auto, unfolding(crate::specs::Marked::ends))]
     fn ends(self, text: &[char], place: usize, escaped: bool) -> bool
         requires above { 0 < place }
         requires below { place < length text.now }
-        ensures { result ≡ ends_if self text.now place escaped }
+        ensures { (from : ℕ) → escaped ≡ is_escaped text.now from place → result ≡ ends self text.now from place }
     {
         self.has_end(text, place)
             && is_dark(text, place - 1)
