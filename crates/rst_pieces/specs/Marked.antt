@@ -1,8 +1,8 @@
 -- Inline markup between a start-string and an end-string (Markup Specification, 'Inline markup recognition rules',
 -- 'Emphasis', 'Strong Emphasis', 'Interpreted Text', 'Inline Literals', 'Inline Internal Targets', 'Substitution References').
-use Rattle.std.specs.Prelude.{ℕ, ◌+◌, ◌-◌, Bool, true, false, not, ◌&&◌, ◌||◌, ◌==◌, Option, None, Some, slice_index, length, unwrap_or, if◌then◌else◌}
+use Rattle.std.specs.Prelude.{ℕ, ◌+◌, ◌-◌, Bool, true, false, not, ◌&&◌, ◌||◌, ◌==◌, Option, None, Some, [], ◌∷◌, slice_index, length, unwrap_or, codes, if◌then◌else◌}
 use Rattle.std.specs.Option.{is_some}
-use Rattle.rst_pieces.specs.Characters.{Text, has, is_dark, is_pair}
+use Rattle.rst_pieces.specs.Characters.{Text, has, has_string, is_dark, is_pair}
 use Rattle.rst_pieces.specs.Escapes.{is_escaped}
 use Rattle.rst_text.specs.Places.{first_from}
 use Rattle.rst_pieces.specs.declared.piece.Tail.{Tail}
@@ -13,41 +13,40 @@ use Rattle.rst_pieces.specs.declared.piece.Markup.TheVariants.{Strong, Emphasis,
 use Rattle.rst_pieces.specs.declared.piece.Kind.TheVariants.{Marked, Unended}
 use Rattle.rst_pieces.specs.declared.piece.Piece.{Piece}
 
+-- the start-string
+abbrev pub start_string : Markup → Text
+start_string Strong = codes "**"
+start_string Emphasis = codes "*"
+start_string Literal = codes "``"
+start_string Target = codes "_`"
+start_string Substitution = codes "|"
+start_string Interpreted = codes "`"
+
+-- the end-string is the same, but for a target
+abbrev pub end_string : Markup → Text
+end_string Target = codes "`"
+end_string markup = start_string markup
+
 -- how many characters the start-string has
 abbrev pub start_len : Markup → ℕ
-start_len Strong = 2
-start_len Emphasis = 1
-start_len Literal = 2
-start_len Target = 2
-start_len Substitution = 1
-start_len Interpreted = 1
+start_len markup = length (start_string markup)
 
 -- how many characters the end-string has
 abbrev pub end_len : Markup → ℕ
-end_len Strong = 2
-end_len Emphasis = 1
-end_len Literal = 2
-end_len Target = 1
-end_len Substitution = 1
-end_len Interpreted = 1
+end_len markup = length (end_string markup)
 
--- The start-string stands at the place: ** * `` _` | `, where a single one is not followed by the same character.
+-- a string of one character that stands at the place has the same character behind it
+abbrev pub is_doubled : Text → ℕ → Text → Bool
+is_doubled t i (c ∷ []) = has t (i + 1) c
+is_doubled t i _ = false
+
+-- the start-string stands at the place, and one of a single character is not doubled
 abbrev pub has_start : Markup → Text → ℕ → Bool
-has_start Strong t i = has t i 42 && has t (i + 1) 42
-has_start Emphasis t i = has t i 42 && not (has t (i + 1) 42)
-has_start Literal t i = has t i 96 && has t (i + 1) 96
-has_start Target t i = has t i 95 && has t (i + 1) 96
-has_start Substitution t i = has t i 124 && not (has t (i + 1) 124)
-has_start Interpreted t i = has t i 96 && not (has t (i + 1) 96)
+has_start markup t i = has_string t i (start_string markup) && not (is_doubled t i (start_string markup))
 
--- the end-string stands at the place: ** * `` ` | `
+-- the end-string stands at the place
 abbrev pub has_end : Markup → Text → ℕ → Bool
-has_end Strong t i = has t i 42 && has t (i + 1) 42
-has_end Emphasis t i = has t i 42
-has_end Literal t i = has t i 96 && has t (i + 1) 96
-has_end Target t i = has t i 96
-has_end Substitution t i = has t i 124
-has_end Interpreted t i = has t i 96
+has_end markup t i = has_string t i (end_string markup)
 
 -- nothing is escaped inside a literal
 abbrev pub has_escapes : Markup → Bool
