@@ -1,5 +1,5 @@
 -- Markup between a start-string and an end-string.
-use Rattle.std.proofs.Common.{◌≡◌, ℕ, ◌+◌, ◌-◌, ◌<◌, ◌≤◌, [], ◌∷◌, true, not, ◌&&◌, Option, Some, None, length, unwrap_or, refl, sym, ap, ◌∙◌, subst, arith}
+use Rattle.std.proofs.Common.{◌≡◌, ℕ, ◌+◌, ◌-◌, ◌<◌, ◌≤◌, [], ◌∷◌, true, not, ◌&&◌, Option, Some, None, length, unwrap_or, option_map, refl, sym, ap, ◌∙◌, subst, arith}
 use Rattle.std.proofs.lemmas.Bool.{and_parts}
 use Rattle.rst_text.specs.Places.{IsFirst}
 use Rattle.rst_text.proofs.PlacesLemmas.{first_from-is, first_from-IsFirst}
@@ -96,7 +96,7 @@ tail-fits Interpreted t k h =
 unended-fits : (markup : Markup) (t : Text) (i q : ℕ) → i ≤ q → q + start_len markup ≤ length t → Fits t i (unended_piece markup i q)
 unended-fits markup t i q order within = let some : 0 < start_len markup = start-some markup in record { begins = refl; some = omega arith; within = within; above = omega arith; order = omega arith; behind = omega arith }
 
-ended-fits : (markup : Markup) (t : Text) (i q k : ℕ) (r : Option Tail) → i ≤ q → q + start_len markup ≤ length t → q + start_len markup < k → TailFits t k r → Fits t i (ended_piece markup i q k r)
+ended-fits : (markup : Markup) (t : Text) (i q k : ℕ) (r : Option Tail) → i ≤ q → q + start_len markup ≤ length t → q + start_len markup < k → TailFits t k r → Fits t i (unwrap_or (option_map (ended_piece markup i q k) r) (unended_piece markup i q))
 ended-fits markup t i q k (Some tail) order within above fits =
     let found = fits tail refl in
     let past : k ≤ tail.to = found.0 in

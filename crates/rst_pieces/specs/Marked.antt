@@ -1,6 +1,6 @@
 -- Inline markup between a start-string and an end-string (Markup Specification, 'Inline markup recognition rules',
 -- 'Emphasis', 'Strong Emphasis', 'Interpreted Text', 'Inline Literals', 'Inline Internal Targets', 'Substitution References').
-use Rattle.std.specs.Prelude.{ℕ, ◌+◌, ◌-◌, Bool, true, false, not, ◌&&◌, ◌||◌, ◌==◌, Option, None, Some, [], ◌∷◌, slice_index, length, unwrap_or, codes, if◌then◌else◌}
+use Rattle.std.specs.Prelude.{ℕ, ◌+◌, ◌-◌, Bool, true, false, not, ◌&&◌, ◌||◌, ◌==◌, Option, None, Some, [], ◌∷◌, slice_index, length, unwrap_or, option_map, option_and_then, codes, if◌then◌else◌}
 use Rattle.std.specs.Option.{is_some}
 use Rattle.rst_pieces.specs.Characters.{Text, has, has_string, is_dark, is_pair}
 use Rattle.rst_pieces.specs.Escapes.{is_escaped}
@@ -90,15 +90,17 @@ end_of markup t i q = first_from (ends markup t i) (q + start_len markup + 1) (l
 abbrev pub unended_piece : Markup → ℕ → ℕ → Piece
 unended_piece markup i q = record { kind = Unended markup; from = i; content_from = q + start_len markup; content_to = q + start_len markup; to = q + start_len markup }
 
--- markup with its end-string at k and what stands behind that; where nothing fits there, a start without an end
-abbrev pub ended_piece : Markup → ℕ → ℕ → ℕ → Option Tail → Piece
-ended_piece markup i q k (Some tail) = record { kind = Marked markup tail.suffix; from = i; content_from = q + start_len markup; content_to = k; to = tail.to }
-ended_piece markup i q k None = unended_piece markup i q
+-- markup with its end-string at k and this behind it
+abbrev pub ended_piece : Markup → ℕ → ℕ → ℕ → Tail → Piece
+ended_piece markup i q k tail = record { kind = Marked markup tail.suffix; from = i; content_from = q + start_len markup; content_to = k; to = tail.to }
+
+-- the same with what stands behind the end-string at k
+abbrev pub ended : Markup → Text → ℕ → ℕ → ℕ → Option Piece
+ended markup t i q k = option_map (ended_piece markup i q k) (tail_of markup t k)
 
 -- markup up to its end, or, where it has none, a start without an end
 abbrev pub marked_piece : Markup → Text → ℕ → ℕ → Option ℕ → Piece
-marked_piece markup t i q (Some k) = ended_piece markup i q k (tail_of markup t k)
-marked_piece markup t i q None = unended_piece markup i q
+marked_piece markup t i q end = unwrap_or (option_and_then (ended markup t i q) end) (unended_piece markup i q)
 
 -- the piece of markup that begins at i with its start-string at q, if it may begin so
 abbrev pub marked_from : Markup → Text → ℕ → ℕ → Option Piece

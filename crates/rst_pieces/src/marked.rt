@@ -1,5 +1,5 @@
 //! Inline markup between a start-string and an end-string.
-ghost use Rattle.std.specs.Prelude.{◌≡◌, ℕ, ◌+◌, ◌<◌, ◌≤◌, true, length, IfSome};
+ghost use Rattle.std.specs.Prelude.{◌≡◌, ℕ, ◌+◌, ◌<◌, ◌≤◌, true, length, unwrap_or, option_map, IfSome};
 ghost use Rattle.rst_pieces.specs.Marked.{start_len, end_len, has_start, has_end, has_escapes, start_of, starts, tail_of, ends, end_of, unended_piece, ended_piece, marked};
 ghost use Rattle.rst_pieces.specs.Escapes.{is_escaped};
 ghost use Rattle.rst_pieces.specs.Tails.{or_else, name_tail, role_tail, bare_tail};
@@ -161,9 +161,10 @@ impl Markup {
         }
     }
 
+    /// The markup with its end-string at `end` and what stands behind that; a start without an end where nothing does.
     fn ended_piece(self, place: usize, start: usize, end: usize, tail: Option<Tail>) -> Piece
         requires { start + 2 ≤ usize.MAX }
-        ensures { result ≡ ended_piece self place start end tail }
+        ensures { result ≡ unwrap_or (option_map (ended_piece self place start end) tail) (unended_piece self place start) }
     {
         match tail {
             Some(tail) => Piece {
