@@ -1,5 +1,5 @@
 -- Standalone URIs.
-use Rattle.std.proofs.Common.{◌≡◌, ⊎_elim, ℕ, zero, suc, ◌+◌, ◌-◌, ◌<◌, ◌≤◌, Bool, true, false, not, ◌&&◌, ◌||◌, ◌==◌, cond, List, [], ◌∷◌, ◌++◌, Option, Some, None, length, get_or, unwrap_or, true≢false, refl, sym, ap, ◌∙◌, subst, arith}
+use Rattle.std.proofs.Common.{◌≡◌, ◌↔◌, ⊎_elim, ℕ, zero, suc, ◌+◌, ◌-◌, ◌<◌, ◌≤◌, Bool, true, false, not, ◌&&◌, ◌||◌, ◌==◌, cond, List, [], ◌∷◌, ◌++◌, Option, Some, None, length, get_or, unwrap_or, true≢false, refl, sym, ap, ap₂, ◌∙◌, subst, arith}
 use Rattle.std.specs.Prelude.{nat_lt}
 use Rattle.std.specs.List.{list_all}
 use Rattle.std.specs.Char.{is_ascii_alphanumeric}
@@ -11,7 +11,7 @@ use Rattle.std.proofs.lemmas.Bool.Decides.{nat_tests}
 use Rattle.rst_text.specs.Places.{first_from, last_from, NoneFrom, IsFirst, IsLast}
 use Rattle.rst_text.proofs.PlacesLemmas.{cases_bool, lt_eq_gt, first_from-is, first_from-IsFirst, last_from-is, last_from-last, NoneFrom-within}
 use Rattle.rst_pieces.specs.Characters.{Text, is_among, is_free_behind}
-use Rattle.rst_pieces.specs.Uri.{in_lower_case, has_letter, begins_at, schemes, behind_first, scheme_end, is_uri_char, is_uri_trail, uri_stop, uri_close, uri_behind, if_free, uri_end, uri_piece, uri, is_ascii_uri_from, is_ascii_uri, IsUri}
+use Rattle.rst_pieces.specs.Uri.{in_lower_case, has_letter, begins_at, schemes, behind_first, scheme_end, is_uri_char, is_uri_trail, uri_stop, uri_close, uri_behind, if_free, uri_end, uri_piece, uri, IsUri}
 use Rattle.rst_pieces.proofs.FitLemmas.{Fit, Fit-none, Fit-some, Some-same, Some-None, chosen}
 
 -- ---- the scheme
@@ -261,6 +261,16 @@ chars-bytes bytes good h = sym (encodes-uri (chars bytes) h) ∙ encodes-chars b
 free-at-end : (t : Text) → is_free_behind t (length t) ≡ true
 free-at-end t = grind (arith, nat_tests)
 
+-- the bytes are a URI with its scheme's end at the place: more stands behind that, each is a character of a URI, and the last
+-- may end one
+abbrev is_ascii_uri_from : List ℕ → Option ℕ → Bool
+is_ascii_uri_from bytes (Some i) = nat_lt i (length bytes) && (list_all is_uri_char bytes && not (is_uri_trail (get_or bytes (length bytes - 1) 0)))
+is_ascii_uri_from bytes None = false
+
+-- the bytes of a text say at once whether it is one URI, as each character of a URI is one byte
+abbrev pub is_ascii_uri : List ℕ → Bool
+is_ascii_uri bytes = is_ascii_uri_from bytes (scheme_end bytes 0)
+
 IsUri-from : (t : Text) (r : Option ℕ) → scheme_end t 0 ≡ r → is_ascii_uri_from t r ≡ true → IsUri t
 IsUri-from t (Some m) scheme h =
     let first = and_parts (nat_lt m (length t)) (list_all is_uri_char t && not (is_uri_trail (get_or t (length t - 1) 0))) h in
@@ -301,10 +311,32 @@ all-of-uri t (Some m) h =
     (and_parts (list_all is_uri_char t) (not (is_uri_trail (get_or t (length t - 1) 0))) first.1).0
 all-of-uri t None h = absurd (cc)
 
-pub is_ascii_uri-is : (bytes : List ℕ) → IsUtf8 bytes → is_ascii_uri bytes ≡ true → IsUri (chars bytes)
+is_ascii_uri-is : (bytes : List ℕ) → IsUtf8 bytes → is_ascii_uri bytes ≡ true → IsUri (chars bytes)
 is_ascii_uri-is bytes good h = subst IsUri (bytes-chars bytes good (all-of-uri bytes (scheme_end bytes 0) h)) (IsUri-from bytes (scheme_end bytes 0) refl h)
 
-pub IsUri-ascii : (bytes : List ℕ) → IsUtf8 bytes → IsUri (chars bytes) → is_ascii_uri bytes ≡ true
+IsUri-ascii : (bytes : List ℕ) → IsUtf8 bytes → IsUri (chars bytes) → is_ascii_uri bytes ≡ true
 IsUri-ascii bytes good h =
     let found = from-IsUri (chars bytes) h in
     subst (λ t. is_ascii_uri t ≡ true) (chars-bytes bytes good (all-of-uri (chars bytes) (scheme_end (chars bytes) 0) found)) found
+
+ascii-uri : (bytes : List ℕ) (answer : Bool) → answer ≡ is_ascii_uri bytes → IsUtf8 bytes → (answer ≡ true) ↔ IsUri (chars bytes)
+ascii-uri bytes answer same good = (λ h. is_ascii_uri-is bytes good (sym same ∙ h), λ h. same ∙ IsUri-ascii bytes good h)
+
+-- ---- the answer by what the bytes were found to be
+
+ascii-by : (bytes : List ℕ) (answer : Bool) (r : Option ℕ) → r ≡ scheme_end bytes 0 → answer ≡ is_ascii_uri_from bytes r → IsUtf8 bytes → (answer ≡ true) ↔ IsUri (chars bytes)
+ascii-by bytes answer r scheme same = ascii-uri bytes answer (same ∙ ap (is_ascii_uri_from bytes) scheme)
+
+pub ascii-none : (bytes : List ℕ) → None ≡ scheme_end bytes 0 → IsUtf8 bytes → (false ≡ true) ↔ IsUri (chars bytes)
+ascii-none bytes scheme = ascii-by bytes false None scheme refl
+
+pub ascii-short : (bytes : List ℕ) (answer : Bool) (i : ℕ) → Some i ≡ scheme_end bytes 0 → answer ≡ false → length bytes ≤ i → IsUtf8 bytes → (answer ≡ true) ↔ IsUri (chars bytes)
+ascii-short bytes answer i scheme fails past = ascii-by bytes answer (Some i) scheme (fails ∙ short)
+  where
+    short : false ≡ is_ascii_uri_from bytes (Some i)
+    short = grind (arith, nat_tests)
+
+pub ascii-found : (bytes : List ℕ) (answer fit : Bool) (i : ℕ) → Some i ≡ scheme_end bytes 0 → i < length bytes → fit ≡ list_all is_uri_char bytes → answer ≡ (fit && not (is_uri_trail (get_or bytes (length bytes - 1) 0))) → IsUtf8 bytes → (answer ≡ true) ↔ IsUri (chars bytes)
+ascii-found bytes answer fit i scheme less fits same =
+    ascii-by bytes answer (Some i) scheme (same
+    ∙ sym (ap₂ (λ x y. x && (y && not (is_uri_trail (get_or bytes (length bytes - 1) 0)))) (lt-ltb i (length bytes) less) (sym fits)))

@@ -1,6 +1,5 @@
 -- Standalone hyperlinks (Markup Specification, 'Standalone Hyperlinks').
-use Rattle.std.specs.Prelude.{◌≡◌, ℕ, ◌+◌, ◌-◌, Bool, true, false, not, ◌&&◌, ◌||◌, ◌==◌, nat_lt, List, [], ◌∷◌, Option, None, Some, slice_index, length, unwrap_or, codes, if◌then◌else◌}
-use Rattle.std.specs.List.{list_all}
+use Rattle.std.specs.Prelude.{◌≡◌, ℕ, ◌+◌, ◌-◌, Bool, true, not, ◌&&◌, ◌||◌, ◌==◌, nat_lt, List, [], ◌∷◌, Option, None, Some, slice_index, length, unwrap_or, codes, if◌then◌else◌}
 use Rattle.std.specs.Char.{to_ascii_lowercase, is_ascii_alphanumeric}
 use Rattle.rst_pieces.specs.Characters.{Text, is_among, is_free_behind}
 use Rattle.rst_text.specs.Places.{first_from, last_from}
@@ -76,13 +75,3 @@ uri t i = uri_piece i (uri_end t i)
 -- the whole text is one URI
 abbrev pub IsUri : Text → Type 0
 IsUri t = uri_end t 0 ≡ Some (length t)
-
--- the bytes are a URI with its scheme's end at the place: more stands behind that, each is a character of a URI, and the last
--- may end one
-abbrev pub is_ascii_uri_from : List ℕ → Option ℕ → Bool
-is_ascii_uri_from bytes (Some i) = nat_lt i (length bytes) && (list_all is_uri_char bytes && not (is_uri_trail (slice_index bytes (length bytes - 1))))
-is_ascii_uri_from bytes None = false
-
--- the bytes of a text say at once whether it is one URI, as each character of a URI is one byte
-abbrev pub is_ascii_uri : List ℕ → Bool
-is_ascii_uri bytes = is_ascii_uri_from bytes (scheme_end bytes 0)
