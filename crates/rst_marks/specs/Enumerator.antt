@@ -1,6 +1,6 @@
 -- Enumerators (Markup Specification, 'Enumerated Lists').
 use Rattle.std.specs.Prelude.{ℕ, ◌+◌, ◌-◌, Bool, true, false, ◌&&◌, ◌||◌, ◌==◌, nat_le, nat_lt, not, unwrap_or, List, drop, if◌then◌else◌, Option, None, Some}
-use Rattle.rst_pieces.specs.Tails.{or_else}
+use Rattle.std.specs.Option.{option_or}
 use Rattle.rst_marks.specs.Front.{first, begins_with}
 use Rattle.rst_marks.specs.Class.{run}
 use Rattle.rst_marks.specs.Decimal.{decimal}
@@ -55,7 +55,7 @@ letters t = if_some (first t) (λ c. letters_by c (run Letter t) t)
 
 -- the ordinal at the front of a text: `#`, digits, a letter or a Roman numeral
 unfoldable pub written_at : List ℕ → Option Written
-written_at t = if begins_with 35 t then Some (record { ordinals = Auto; len = 1 }) else or_else (digits t) (letters t)
+written_at t = if begins_with 35 t then Some (record { ordinals = Auto; len = 1 }) else option_or (digits t) (letters t)
 
 -- an enumerator of this format and ordinal, if spaces or the end are behind it
 abbrev pub with_marker : Format → Written → Option Marker → Option Enumerator

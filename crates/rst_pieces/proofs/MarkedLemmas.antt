@@ -3,9 +3,9 @@ use Rattle.std.proofs.Common.{◌≡◌, ℕ, ◌+◌, ◌-◌, ◌<◌, ◌≤�
 use Rattle.std.proofs.lemmas.Bool.{and_parts}
 use Rattle.rst_text.specs.Places.{IsFirst}
 use Rattle.rst_text.proofs.PlacesLemmas.{first_from-is, first_from-IsFirst}
-use Rattle.std.specs.Option.{is_some}
+use Rattle.std.specs.Option.{is_some, option_or}
 use Rattle.rst_pieces.specs.Characters.{Text, has, has_string, is_dark}
-use Rattle.rst_pieces.specs.Tails.{or_else, name_tail, role_tail, bare_tail}
+use Rattle.rst_pieces.specs.Tails.{name_tail, role_tail, bare_tail}
 use Rattle.rst_pieces.specs.Names.{role_end}
 use Rattle.rst_pieces.specs.Marked.{start_string, end_string, start_len, end_len, has_start, has_end, has_escapes, start_of, starts, tail_of, ends, end_of, unended_piece, ended_piece, marked_piece, marked_from, marked}
 use Rattle.rst_pieces.specs.Missing.{IsUnended}
@@ -85,11 +85,11 @@ tail-fits Emphasis t k h = further t k (k + 1) (omega arith) (bare_tail t (k + 1
 tail-fits Literal t k h = further t k (k + 2) (omega arith) (bare_tail t (k + 2)) (bare_tail-fits t (k + 2) (end-fits Literal t k h))
 tail-fits Target t k h = further t k (k + 1) (omega arith) (bare_tail t (k + 1)) (bare_tail-fits t (k + 1) (end-fits Target t k h))
 tail-fits Substitution t k h =
-    further t k (k + 1) (omega arith) (or_else (name_tail t (k + 1)) (bare_tail t (k + 1)))
+    further t k (k + 1) (omega arith) (option_or (name_tail t (k + 1)) (bare_tail t (k + 1)))
     (TailFits-or t (k + 1) (name_tail t (k + 1)) (bare_tail t (k + 1)) (name_tail-fits t (k + 1)) (bare_tail-fits t (k + 1) (end-fits Substitution t k h)))
 tail-fits Interpreted t k h =
-    further t k (k + 1) (omega arith) (or_else (name_tail t (k + 1)) (or_else (role_tail t (role_end t (k + 1))) (bare_tail t (k + 1))))
-    (TailFits-or t (k + 1) (name_tail t (k + 1)) (or_else (role_tail t (role_end t (k + 1))) (bare_tail t (k + 1))) (name_tail-fits t (k + 1))
+    further t k (k + 1) (omega arith) (option_or (name_tail t (k + 1)) (option_or (role_tail t (role_end t (k + 1))) (bare_tail t (k + 1))))
+    (TailFits-or t (k + 1) (name_tail t (k + 1)) (option_or (role_tail t (role_end t (k + 1))) (bare_tail t (k + 1))) (name_tail-fits t (k + 1))
     (TailFits-or t (k + 1) (role_tail t (role_end t (k + 1))) (bare_tail t (k + 1)) (role_tail-fits t (k + 1) (role_end t (k + 1)) (role_end-fits t (k + 1)))
     (bare_tail-fits t (k + 1) (end-fits Interpreted t k h))))
 

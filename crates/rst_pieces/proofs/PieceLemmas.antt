@@ -1,5 +1,5 @@
 -- The pieces of a text.
-use Rattle.std.proofs.Common.{◌≡◌, ◌⊎◌, inl, inr, ⊎_elim, ℕ, zero, suc, ◌+◌, ◌-◌, ◌<◌, ◌≤◌, List, [], ◌∷◌, ◌++◌, ◌&&◌, cond, Option, Some, None, IfSome, length, append_assoc, append-nil, ap₂, le_of_lt, refl, sym, ap, ◌∙◌, subst, arith}
+use Rattle.std.proofs.Common.{◌≡◌, ◌⊎◌, inl, inr, ⊎_elim, ℕ, zero, suc, ◌+◌, ◌-◌, ◌<◌, ◌≤◌, List, [], ◌∷◌, ◌++◌, ◌&&◌, cond, Option, Some, None, IfSome, length, option_and_then, append_assoc, append-nil, ap₂, le_of_lt, refl, sym, ap, ◌∙◌, subst, arith}
 use Rattle.std.proofs.lemmas.Bool.{and_parts, cases_lt}
 use Rattle.std.proofs.lemmas.List.Elements.{All-nil, All-cons}
 use Rattle.std.specs.Prelude.{All}
@@ -30,7 +30,7 @@ label_stop-fits t i =
     (λ hash. either (is_alnum_at t (i + 1)) (name_stop t (i + 1)) (Some (i + 1)) Above (λ alnum. from-above i (i + 1) (name_stop t (i + 1)) (omega arith) (name_stop-fits t (i + 1))) (omega arith))
     (name_stop-fits t i))
 
-label_piece-fits : (t : Text) (i : ℕ) (r : Option ℕ) → IfSome r (λ e. i + 1 ≤ e) → Fit t i (label_piece t i r)
+label_piece-fits : (t : Text) (i : ℕ) (r : Option ℕ) → IfSome r (λ e. i + 1 ≤ e) → Fit t i (option_and_then (label_piece t i) r)
 label_piece-fits t i (Some e) h = either (closes_label t e) (Some _) None (Fit t i)
     (λ closes.
     let second = (and_parts (has t e 93) (has t (e + 1) 95 && is_free_behind t (e + 2)) closes).1 in
@@ -41,7 +41,7 @@ label_piece-fits t i None h = Fit-none t i
 
 label-fits : (t : Text) (i : ℕ) → Fit t i (label t i)
 unfolding label
-label-fits t i = either (has t i 91) (label_piece t i (label_stop t (i + 1))) None (Fit t i) (λ bracket. label_piece-fits t i (label_stop t (i + 1)) (label_stop-fits t (i + 1))) (Fit-none t i)
+label-fits t i = either (has t i 91) (option_and_then (label_piece t i) (label_stop t (i + 1))) None (Fit t i) (λ bracket. label_piece-fits t i (label_stop t (i + 1)) (label_stop-fits t (i + 1))) (Fit-none t i)
 
 -- ---- any markup
 

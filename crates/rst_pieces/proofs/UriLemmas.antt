@@ -1,5 +1,5 @@
 -- Standalone URIs.
-use Rattle.std.proofs.Common.{◌≡◌, ◌↔◌, ⊎_elim, ℕ, zero, suc, ◌+◌, ◌-◌, ◌<◌, ◌≤◌, Bool, true, false, not, ◌&&◌, ◌||◌, ◌==◌, cond, List, [], ◌∷◌, ◌++◌, Option, Some, None, length, get_or, unwrap_or, true≢false, refl, sym, ap, ap₂, ◌∙◌, subst, arith}
+use Rattle.std.proofs.Common.{◌≡◌, ◌↔◌, ⊎_elim, ℕ, zero, suc, ◌+◌, ◌-◌, ◌<◌, ◌≤◌, Bool, true, false, not, ◌&&◌, ◌||◌, ◌==◌, cond, List, [], ◌∷◌, ◌++◌, Option, Some, None, length, option_and_then, option_map, get_or, unwrap_or, true≢false, refl, sym, ap, ap₂, ◌∙◌, subst, arith}
 use Rattle.std.specs.Prelude.{nat_lt}
 use Rattle.std.specs.List.{list_all}
 use Rattle.std.specs.Char.{is_ascii_alphanumeric}
@@ -141,19 +141,19 @@ uri_close-last t i stop e h = ⊎_elim
 
 pub uri_end-none : (t : Text) (i : ℕ) → scheme_end t i ≡ None → uri_end t i ≡ None
 unfolding uri_end
-uri_end-none t i h = ap (λ r. if_free t (uri_behind t r)) h
+uri_end-none t i h = ap (λ r. option_and_then (if_free t) (option_and_then (uri_behind t) r)) h
 
 pub uri_end-empty : (t : Text) (i m : ℕ) → scheme_end t i ≡ Some m → uri_close t m (uri_stop t m) ≡ None → uri_end t i ≡ None
 unfolding uri_end
-uri_end-empty t i m h k = ap (λ r. if_free t (uri_behind t r)) h ∙ ap (if_free t) k
+uri_end-empty t i m h k = ap (λ r. option_and_then (if_free t) (option_and_then (uri_behind t) r)) h ∙ ap (option_and_then (if_free t)) k
 
 pub uri_end-found : (t : Text) (i m e : ℕ) → scheme_end t i ≡ Some m → uri_close t m (uri_stop t m) ≡ Some e → is_free_behind t e ≡ true → uri_end t i ≡ Some e
 unfolding uri_end
-uri_end-found t i m e h k free = ap (λ r. if_free t (uri_behind t r)) h ∙ ap (if_free t) k ∙ ap (λ b. cond b (Some e) None) free
+uri_end-found t i m e h k free = ap (λ r. option_and_then (if_free t) (option_and_then (uri_behind t) r)) h ∙ ap (option_and_then (if_free t)) k ∙ ap (λ b. cond b (Some e) None) free
 
 pub uri_end-stuck : (t : Text) (i m e : ℕ) → scheme_end t i ≡ Some m → uri_close t m (uri_stop t m) ≡ Some e → is_free_behind t e ≡ false → uri_end t i ≡ None
 unfolding uri_end
-uri_end-stuck t i m e h k stuck = ap (λ r. if_free t (uri_behind t r)) h ∙ ap (if_free t) k ∙ ap (λ b. cond b (Some e) None) stuck
+uri_end-stuck t i m e h k stuck = ap (λ r. option_and_then (if_free t) (option_and_then (uri_behind t) r)) h ∙ ap (option_and_then (if_free t)) k ∙ ap (λ b. cond b (Some e) None) stuck
 
 -- where what stands behind a URI doesn't fit, none begins in it
 inside : (t : Text) (start m e i : ℕ) (r : Option ℕ) → start ≤ length t → scheme_end t start ≡ Some m → uri_close t m (uri_stop t m) ≡ Some e → is_free_behind t e ≡ false → start ≤ i → i < e → scheme_end t i ≡ r → uri_end t i ≡ None
@@ -183,11 +183,11 @@ none-inside t start m e within h k stuck i above below = inside t start m e i (s
 
 -- ---- the piece
 
-if_free-some : (t : Text) (r : Option ℕ) (e : ℕ) → if_free t r ≡ Some e → r ≡ Some e
+if_free-some : (t : Text) (r : Option ℕ) (e : ℕ) → option_and_then (if_free t) r ≡ Some e → r ≡ Some e
 if_free-some t (Some f) e h = (chosen (is_free_behind t f) (Some f) e h).1
 if_free-some t None e h = absurd (Some-None (sym h))
 
-behind-fits : (t : Text) (i : ℕ) (r : Option ℕ) (e : ℕ) → i ≤ length t → scheme_end t i ≡ r → uri_behind t r ≡ Some e → (i < e) × (e ≤ length t)
+behind-fits : (t : Text) (i : ℕ) (r : Option ℕ) (e : ℕ) → i ≤ length t → scheme_end t i ≡ r → option_and_then (uri_behind t) r ≡ Some e → (i < e) × (e ≤ length t)
 behind-fits t i (Some m) e within h k =
     let begins = scheme_end-begins t i m h in
     let above : i ≤ m = begins.above in
@@ -201,9 +201,9 @@ behind-fits t i None e within h k = absurd (Some-None (sym k))
 
 pub uri_end-fits : (t : Text) (i e : ℕ) → i ≤ length t → uri_end t i ≡ Some e → (i < e) × (e ≤ length t)
 unfolding uri_end
-uri_end-fits t i e within h = behind-fits t i (scheme_end t i) e within refl (if_free-some t (uri_behind t (scheme_end t i)) e h)
+uri_end-fits t i e within h = behind-fits t i (scheme_end t i) e within refl (if_free-some t (option_and_then (uri_behind t) (scheme_end t i)) e h)
 
-uri_piece-fits : (t : Text) (i : ℕ) (r : Option ℕ) → ((e : ℕ) → r ≡ Some e → (i < e) × (e ≤ length t)) → Fit t i (uri_piece i r)
+uri_piece-fits : (t : Text) (i : ℕ) (r : Option ℕ) → ((e : ℕ) → r ≡ Some e → (i < e) × (e ≤ length t)) → Fit t i (option_map (uri_piece i) r)
 uri_piece-fits t i (Some e) h = let found = h e refl in Fit-some t i _ (record { begins = refl; some = found.0; within = found.1; above = omega arith; order = (let less = found.0 in omega arith); behind = omega arith })
 uri_piece-fits t i None h = Fit-none t i
 
@@ -282,7 +282,7 @@ IsUri-from t (Some m) scheme h =
     uri_end-found t 0 m (length t) scheme close (free-at-end t)
 IsUri-from t None scheme h = absurd (cc)
 
-behind-uri : (t : Text) (r : Option ℕ) → scheme_end t 0 ≡ r → uri_behind t r ≡ Some (length t) → is_ascii_uri_from t r ≡ true
+behind-uri : (t : Text) (r : Option ℕ) → scheme_end t 0 ≡ r → option_and_then (uri_behind t) r ≡ Some (length t) → is_ascii_uri_from t r ≡ true
 behind-uri t (Some m) scheme h =
     let begins = scheme_end-begins t 0 m scheme in
     let run = uri_stop-stops t m (begins.within (omega arith)) in
@@ -303,7 +303,7 @@ behind-uri t None scheme h = absurd (Some-None (sym h))
 
 from-IsUri : (t : Text) → IsUri t → is_ascii_uri t ≡ true
 unfolding uri_end
-from-IsUri t h = behind-uri t (scheme_end t 0) refl (if_free-some t (uri_behind t (scheme_end t 0)) (length t) h)
+from-IsUri t h = behind-uri t (scheme_end t 0) refl (if_free-some t (option_and_then (uri_behind t) (scheme_end t 0)) (length t) h)
 
 all-of-uri : (t : Text) (r : Option ℕ) → is_ascii_uri_from t r ≡ true → AllUri t
 all-of-uri t (Some m) h =

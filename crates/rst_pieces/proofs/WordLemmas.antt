@@ -1,5 +1,5 @@
 -- Inside words nothing begins.
-use Rattle.std.proofs.Common.{◌≡◌, ⊎_elim, ℕ, ◌+◌, ◌-◌, ◌<◌, ◌≤◌, Bool, true, false, not, ◌&&◌, ◌||◌, ◌==◌, cond, List, [], ◌∷◌, Some, None, length, get_or, true≢false, refl, sym, ap, ◌∙◌, subst, arith}
+use Rattle.std.proofs.Common.{◌≡◌, ⊎_elim, ℕ, ◌+◌, ◌-◌, ◌<◌, ◌≤◌, Bool, true, false, not, ◌&&◌, ◌||◌, ◌==◌, cond, List, [], ◌∷◌, Some, None, length, option_and_then, option_map, get_or, true≢false, refl, sym, ap, ◌∙◌, subst, arith}
 use Rattle.std.specs.Prelude.{nat_lt}
 use Rattle.std.specs.List.{list_all}
 use Rattle.std.specs.Char.{is_ascii_alphanumeric}
@@ -12,7 +12,7 @@ use Rattle.rst_text.proofs.PlacesLemmas.{cases_bool, lt_eq_gt, all_from-at, all_
 use Rattle.rst_pieces.specs.Characters.{Text, has, may_precede, is_alnum_at}
 use Rattle.rst_pieces.specs.Escapes.{is_escaped}
 use Rattle.rst_pieces.specs.Tails.{name_tail}
-use Rattle.rst_pieces.specs.Names.{is_joint, is_name_at, role_end, ends_name, is_reference, name_end, reference_at, reference}
+use Rattle.rst_pieces.specs.Names.{is_joint, is_name_at, role_end, ends_name, is_reference, name_end, reference_to, reference}
 use Rattle.rst_pieces.specs.Marked.{has_start, start_of, starts, marked_from, marked}
 use Rattle.rst_pieces.specs.Footnotes.{label}
 use Rattle.rst_pieces.specs.Uri.{in_lower_case, has_letter, begins_at, schemes, behind_first, scheme_end, uri_piece, uri}
@@ -111,7 +111,7 @@ no-name t i to word ends = sym (last_from-is (is_reference t i) (i + 1) (length 
 
 no-reference : (t : Text) (i to : ℕ) → IsWord t i to → Ends t to → reference t i ≡ None
 unfolding reference
-no-reference t i to word ends = ap (reference_at t i) (no-name t i to word ends)
+no-reference t i to word ends = ap (option_and_then (reference_to t i)) (no-name t i to word ends)
 
 -- ---- URIs
 
@@ -166,7 +166,7 @@ no-first t i to (word ∷ words) run colon all =
 
 no-uri : (t : Text) (i to : ℕ) → IsWord t i to → has t to 58 ≡ false → uri t i ≡ None
 unfolding uri scheme_end
-no-uri t i to run colon = ap (uri_piece i) (uri_end-none t i (no-first t i to schemes run colon refl))
+no-uri t i to run colon = ap (option_map (uri_piece i)) (uri_end-none t i (no-first t i to schemes run colon refl))
 
 -- ---- other markup
 

@@ -1,12 +1,12 @@
 -- Inline markup between a start-string and an end-string (Markup Specification, 'Inline markup recognition rules',
 -- 'Emphasis', 'Strong Emphasis', 'Interpreted Text', 'Inline Literals', 'Inline Internal Targets', 'Substitution References').
 use Rattle.std.specs.Prelude.{ℕ, ◌+◌, ◌-◌, Bool, true, false, not, ◌&&◌, ◌||◌, ◌==◌, Option, None, Some, [], ◌∷◌, slice_index, length, unwrap_or, option_map, option_and_then, codes, if◌then◌else◌}
-use Rattle.std.specs.Option.{is_some}
+use Rattle.std.specs.Option.{is_some, option_or}
 use Rattle.rst_pieces.specs.Characters.{Text, has, has_string, is_dark, is_pair}
 use Rattle.rst_pieces.specs.Escapes.{is_escaped}
 use Rattle.rst_text.specs.Places.{first_from}
 use Rattle.rst_pieces.specs.declared.piece.Tail.{Tail}
-use Rattle.rst_pieces.specs.Tails.{or_else, name_tail, role_tail, bare_tail}
+use Rattle.rst_pieces.specs.Tails.{name_tail, role_tail, bare_tail}
 use Rattle.rst_pieces.specs.Names.{role_end}
 use Rattle.rst_pieces.specs.declared.piece.Markup.{Markup}
 use Rattle.rst_pieces.specs.declared.piece.Markup.TheVariants.{Strong, Emphasis, Literal, Target, Substitution, Interpreted}
@@ -71,8 +71,8 @@ starts markup t i q = has_start markup t q && (is_dark t (q + start_len markup)
 -- What stands behind the end-string at k, the first that fits: behind a substitution `__`, `_` or nothing, behind
 -- interpreted text `__`, `_`, a role or nothing, behind other markup nothing.
 unfoldable pub tail_of : Markup → Text → ℕ → Option Tail
-tail_of Substitution t k = or_else (name_tail t (k + 1)) (bare_tail t (k + 1))
-tail_of Interpreted t k = or_else (name_tail t (k + 1)) (or_else (role_tail t (role_end t (k + 1))) (bare_tail t (k + 1)))
+tail_of Substitution t k = option_or (name_tail t (k + 1)) (bare_tail t (k + 1))
+tail_of Interpreted t k = option_or (name_tail t (k + 1)) (option_or (role_tail t (role_end t (k + 1))) (bare_tail t (k + 1)))
 tail_of markup t k = bare_tail t (k + end_len markup)
 
 -- Markup that begins at i may end at k: its end-string stands there, unescaped unless it is a literal's, what stands before it

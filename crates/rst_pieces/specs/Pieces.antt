@@ -1,8 +1,8 @@
 -- The pieces of an inline text (Markup Specification, 'Inline markup recognition rules', 'Recognition order').
 use Rattle.std.specs.Prelude.{◌≡◌, ℕ, ◌-◌, ◌<◌, ◌≤◌, Bool, not, ◌&&◌, ◌||◌, ◌==◌, List, [], ◌∷◌, Option, None, Some, slice_index, length, if◌then◌else◌}
+use Rattle.std.specs.Option.{option_or}
 use Rattle.rst_pieces.specs.Characters.{Text, may_precede}
 use Rattle.rst_pieces.specs.Escapes.{is_escaped}
-use Rattle.rst_pieces.specs.Tails.{or_else}
 use Rattle.rst_pieces.specs.Marked.{marked}
 use Rattle.rst_pieces.specs.Names.{reference}
 use Rattle.rst_pieces.specs.Footnotes.{label}
@@ -14,8 +14,8 @@ use Rattle.rst_pieces.specs.declared.piece.Piece.{Piece}
 -- the piece that the first kind of markup gives that holds at the place
 unfoldable pub markup_at : Text → ℕ → Option Piece
 markup_at t i =
-    or_else (marked Strong t i) (or_else (marked Emphasis t i) (or_else (marked Literal t i) (or_else (marked Target t i)
-    (or_else (marked Substitution t i) (or_else (marked Interpreted t i) (or_else (label t i) (or_else (reference t i) (uri t i))))))))
+    option_or (marked Strong t i) (option_or (marked Emphasis t i) (option_or (marked Literal t i) (option_or (marked Target t i)
+    (option_or (marked Substitution t i) (option_or (marked Interpreted t i) (option_or (label t i) (option_or (reference t i) (uri t i))))))))
 
 -- A start may stand at i: it is not escaped, and what stands before it fits. Plain text before i begins at `from`: no backslash
 -- before that counts.

@@ -1,8 +1,9 @@
 //! Inline markup between a start-string and an end-string.
 ghost use Rattle.std.specs.Prelude.{◌≡◌, ℕ, ◌+◌, ◌<◌, ◌≤◌, true, length, unwrap_or, option_map, IfSome};
+ghost use Rattle.std.specs.Option.{option_or};
 ghost use Rattle.rst_pieces.specs.Marked.{start_len, end_len, has_start, has_end, has_escapes, start_of, starts, tail_of, ends, end_of, unended_piece, ended_piece, marked};
 ghost use Rattle.rst_pieces.specs.Escapes.{is_escaped};
-ghost use Rattle.rst_pieces.specs.Tails.{or_else, name_tail, role_tail, bare_tail};
+ghost use Rattle.rst_pieces.specs.Tails.{name_tail, role_tail, bare_tail};
 ghost use Rattle.rst_pieces.specs.Names.{role_end};
 ghost use Rattle.rst_pieces.specs.Missing.{IsMissing};
 
@@ -200,7 +201,7 @@ impl Markup {
 /// Underscores or nothing.
 fn substitution_tail(text: &[char], place: usize) -> Option<Tail>
     requires { place ≤ length text.now }
-    ensures { result ≡ or_else (name_tail text.now place) (bare_tail text.now place) }
+    ensures { result ≡ option_or (name_tail text.now place) (bare_tail text.now place) }
 {
     if let Some(tail) = name_tail(text, place) {
         return Some(tail);
@@ -211,7 +212,7 @@ fn substitution_tail(text: &[char], place: usize) -> Option<Tail>
 /// Underscores, a role or nothing.
 fn interpreted_tail(text: &[char], place: usize) -> Option<Tail>
     requires { place ≤ length text.now }
-    ensures { result ≡ or_else (name_tail text.now place) (or_else (role_tail text.now (role_end text.now place)) (bare_tail text.now place)) }
+    ensures { result ≡ option_or (name_tail text.now place) (option_or (role_tail text.now (role_end text.now place)) (bare_tail text.now place)) }
 {
     if let Some(tail) = name_tail(text, place) {
         return Some(tail);
