@@ -1,16 +1,24 @@
 -- Between calm characters nothing begins.
-use Rattle.std.proofs.Common.{◌≡◌, ⊎_elim, ◌⊎◌, inl, inr, ℕ, zero, suc, ◌+◌, ◌-◌, ◌<◌, ◌≤◌, Bool, true, false, ◌&&◌, ◌||◌, ◌==◌, None, length, get_or, true≢false, refl, sym, ap, ◌∙◌, subst, arith}
+use Rattle.std.proofs.Common.{◌≡◌, ◌≢◌, ⊎_elim, ◌⊎◌, inl, inr, ℕ, zero, suc, ◌+◌, ◌-◌, ◌<◌, ◌≤◌, Bool, true, false, ◌&&◌, ◌||◌, ◌==◌, None, length, get_or, true≢false, refl, sym, ap, ◌∙◌, subst, arith}
 use Rattle.std.specs.Char.{is_ascii_alphanumeric}
 use Rattle.std.proofs.lemmas.Bool.{eqb-true, cases_lt}
 use Rattle.std.proofs.lemmas.Bool.Decides.{nat_tests}
+use Rattle.rst_text.specs.Runs.{PassBetween}
 use Rattle.rst_text.proofs.PlacesLemmas.{cases_bool}
 use Rattle.rst_pieces.specs.Characters.{Text}
 use Rattle.rst_pieces.specs.Escapes.{is_escaped}
 use Rattle.rst_pieces.specs.Words.{IsWord, goes_on}
-use Rattle.rst_pieces.specs.Calm.{is_calm, IsCalm}
-use Rattle.rst_pieces.specs.Pieces.{piece_if, HasNoStart}
+use Rattle.rst_pieces.specs.Calm.{is_calm, IsStep}
+use Rattle.rst_pieces.specs.Pieces.{piece_at, HasNoStart}
 use Rattle.rst_pieces.proofs.EscapeLemmas.{other-bare, is_escaped-bare}
 use Rattle.rst_pieces.proofs.WordLemmas.{differs, absent, lacks-by, no-piece-lacking, goes_on-space, goes_on-feed, goes_on-comma}
+
+-- from one place up to another all are calm, no word of them ends at the other, and it isn't the text's end
+pub record IsCalm (t : Text) (from to : ℕ) : Type 0 where
+  pub above : from ≤ to
+  pub within : from < to → to < length t
+  pub calm : PassBetween is_calm t from to
+  pub edge : from < to → is_ascii_alphanumeric (get_or t (to - 1) 0) ≡ false
 
 -- ---- words among them
 
@@ -55,17 +63,28 @@ word-within t (suc n) i last order within stop = ⊎_elim
     (λ other. (i, empty t i (omega arith) other, omega arith))
     (cases_bool (is_ascii_alphanumeric (get_or t i 0)))
 
-none-calm : (t : Text) (from to i : ℕ) (escaped : Bool) → IsCalm t from to → from ≤ i → i < to → piece_if t i escaped ≡ None
-none-calm t from to i escaped run low less =
+none-calm : (t : Text) (begin from to i : ℕ) → IsCalm t from to → from ≤ i → i < to → piece_at t begin i ≡ None
+none-calm t begin from to i run low less =
     let within : to < length t = run.within (omega arith) in
     let word = word-within t (to - 1 - i) i (to - 1) (omega arith) (omega arith) (run.edge (omega arith)) in
     let short = word.2 in
     let above = word.1.above in
     let calm_end = run.calm word.0 (omega arith) (omega arith) in
-    no-piece-lacking t i word.0 escaped word.1 (lacks-by is_calm t i (run.calm i low less) refl refl refl refl refl) (absent is_calm t i 91 (run.calm i low less) refl) (goes_on-calm t word.0 calm_end (word.1.stops (omega arith)))
+    no-piece-lacking t begin i word.0 word.1 (lacks-by is_calm t i (run.calm i low less) refl refl refl refl refl) (absent is_calm t i 91 (run.calm i low less) refl) (goes_on-calm t word.0 calm_end (word.1.stops (omega arith)))
 
-HasNoStart-calm : (t : Text) (from place start : ℕ) → HasNoStart t from from place → IsCalm t place start → HasNoStart t from from start
-HasNoStart-calm t from place start none run i low less = ⊎_elim (none i low) (λ past. none-calm t place start i _ run past less) (cases_lt i place)
+-- so they are stepped over
+pub calm-step : (t : Text) (from to : ℕ) → IsCalm t from to → IsStep t from to
+calm-step t from to run = record {
+  above = run.above;
+  within = run.within;
+  none = λ begin i low less. none-calm t begin from to i run low less;
+  bare = λ some same. true≢false (sym (ap (λ c. c == 92) same) ∙ differs is_calm (get_or t (to - 1) 0) 92 (run.calm (to - 1) (omega arith) (omega arith)) refl);
+}
+
+-- ---- steps
+
+HasNoStart-step : (t : Text) (from place start : ℕ) → HasNoStart t from from place → IsStep t place start → HasNoStart t from from start
+HasNoStart-step t from place start none over i low less = ⊎_elim (none i low) (λ past. over.none from i past less) (cases_lt i place)
 
 and-true : (b : Bool) → (b && true) ≡ b
 and-true true = refl
@@ -75,15 +94,18 @@ and-false : (b : Bool) → (b && false) ≡ false
 and-false true = refl
 and-false false = refl
 
--- a calm character escapes nothing
-escaped-calm : (t : Text) (from place start : ℕ) (escaped : Bool) → from ≤ place → IsCalm t place start → escaped ≡ is_escaped t from place → (escaped && start == place) ≡ is_escaped t from start
-escaped-calm t from place start escaped order run known = ⊎_elim
+not-eqb : (c d : ℕ) → c ≢ d → (c == d) ≡ false
+not-eqb c d differ = ⊎_elim (λ same. absurd (differ (eqb-true c d same))) (λ other. other) (cases_bool (c == d))
+
+-- what stands before a step's end escapes nothing
+escaped-step : (t : Text) (from place start : ℕ) (escaped : Bool) → from ≤ place → IsStep t place start → escaped ≡ is_escaped t from place → (escaped && start == place) ≡ is_escaped t from start
+escaped-step t from place start escaped order over known = ⊎_elim
     (λ same. let e : start ≡ place = eqb-true start place same in rw same (and-true escaped ∙ known ∙ ap (is_escaped t from) (sym e)))
     (λ other.
-    let above = run.above in
+    let above = over.above in
     let less : place < start = behind above other in
     let back : start - 1 + 1 ≡ start = omega arith in
-    let bare = other-bare t (start - 1) (differs is_calm (get_or t (start - 1) 0) 92 (run.calm (start - 1) (omega arith) (omega arith)) refl) in
+    let bare = other-bare t (start - 1) (not-eqb _ 92 (over.bare less)) in
     rw other (and-false escaped ∙ sym (ap (is_escaped t from) (sym back) ∙ is_escaped-bare t from (start - 1) (omega arith) bare)))
     (cases_bool (start == place))
   where
@@ -98,19 +120,19 @@ pub record Stepped (t : Text) (from place start : ℕ) (after : Bool) : Type 0 w
   pub escaped : after ≡ is_escaped t from start
 
 -- the bytes of ASCII are the text; of another text there are none, and then no step is done
-calm-of : (t bytes : Text) (place start : ℕ) → (0 < length bytes → bytes ≡ t) → IsCalm bytes place start → IsCalm t place start
-calm-of t bytes place start same run = ⊎_elim
-    (λ some. let within = run.within some in subst (λ (x : Text). IsCalm x place start) (same (omega arith)) run)
-    (λ none. record { above = run.above; within = λ some. absurd (omega arith); calm = λ k low less. absurd (omega arith); edge = λ some. absurd (omega arith) })
+step-of : (t bytes : Text) (place start : ℕ) → (0 < length bytes → bytes ≡ t) → IsStep bytes place start → IsStep t place start
+step-of t bytes place start same over = ⊎_elim
+    (λ some. let within = over.within some in subst (λ (x : Text). IsStep x place start) (same (omega arith)) over)
+    (λ none. record { above = over.above; within = λ some. absurd (omega arith); none = λ begin i low less. absurd (omega arith); bare = λ some. absurd (omega arith) })
     (cases_lt place start)
 
 pub stepped : (t bytes : Text) (from place start : ℕ) (escaped after : Bool) → from ≤ place → place < length t → (0 < length bytes → bytes ≡ t) → HasNoStart t from from place → escaped ≡ is_escaped t from place
-    → IsCalm bytes place start → after ≡ (escaped && start == place) → Stepped t from place start after
-stepped t bytes from place start escaped after order inside same none known run is =
-    let calm = calm-of t bytes place start same run in
+    → IsStep bytes place start → after ≡ (escaped && start == place) → Stepped t from place start after
+stepped t bytes from place start escaped after order inside same none known over is =
+    let step = step-of t bytes place start same over in
     record {
-      above = calm.above;
-      below = ⊎_elim calm.within (λ none. let above = calm.above in omega arith) (cases_lt place start);
-      none = HasNoStart-calm t from place start none calm;
-      escaped = is ∙ escaped-calm t from place start escaped order calm known;
+      above = step.above;
+      below = ⊎_elim step.within (λ none. let above = step.above in omega arith) (cases_lt place start);
+      none = HasNoStart-step t from place start none step;
+      escaped = is ∙ escaped-step t from place start escaped order step known;
     }

@@ -1,8 +1,9 @@
 -- Pieces lie within the text, and are not empty.
 use Rattle.std.proofs.Common.{◌≡◌, ℕ, ◌+◌, ◌<◌, ◌≤◌, Bool, true, false, ◌&&◌, cond, Option, Some, None, length, refl, sym, subst, arith}
+use Rattle.std.specs.Option.{option_or}
 use Rattle.std.proofs.lemmas.Bool.{ltb-true, and_parts}
 use Rattle.rst_pieces.specs.Characters.{Text, has, is_free_behind}
-use Rattle.rst_pieces.specs.Tails.{or_else, anonymous_tail, named_tail, name_tail, role_tail, bare_tail}
+use Rattle.rst_pieces.specs.Tails.{anonymous_tail, named_tail, name_tail, role_tail, bare_tail}
 use Rattle.rst_pieces.specs.declared.piece.Piece.{Piece}
 use Rattle.rst_pieces.specs.declared.piece.Tail.{Tail}
 use Rattle.rst_pieces.specs.declared.piece.Suffix.TheVariants.{Bare, Role, Named, Anonymous}
@@ -42,7 +43,7 @@ Fit-none t i p h = absurd (Some-None (sym h))
 pub Fit-some : (t : Text) (i : ℕ) (q : Piece) → Fits t i q → Fit t i (Some q)
 Fit-some t i q fits p h = subst (Fits t i) (Some-same h) fits
 
-pub Fit-or : (t : Text) (i : ℕ) (r s : Option Piece) → Fit t i r → Fit t i s → Fit t i (or_else r s)
+pub Fit-or : (t : Text) (i : ℕ) (r s : Option Piece) → Fit t i r → Fit t i s → Fit t i (option_or r s)
 Fit-or t i (Some q) s first second p h = first p h
 Fit-or t i None s first second p h = second p h
 
@@ -58,7 +59,7 @@ one_tail t e made above within tail h = subst (λ (tail : Tail). (e ≤ tail.to)
 no_tail : (t : Text) (e : ℕ) → TailFits t e None
 no_tail t e tail h = absurd (Some-None (sym h))
 
-pub TailFits-or : (t : Text) (e : ℕ) (r s : Option Tail) → TailFits t e r → TailFits t e s → TailFits t e (or_else r s)
+pub TailFits-or : (t : Text) (e : ℕ) (r s : Option Tail) → TailFits t e r → TailFits t e s → TailFits t e (option_or r s)
 TailFits-or t e (Some q) s first second tail h = first tail h
 TailFits-or t e None s first second tail h = second tail h
 
@@ -99,6 +100,6 @@ name_tail-below t e tail h = first (anonymous_tail t e) (anonymous_tail-below t 
     anonymous_tail-below : (t : Text) (e : ℕ) (made : Tail) → anonymous_tail t e ≡ Some made → e < length t
     anonymous_tail-below t e made h = has-lt t e 95 (and_parts (has t e 95) (has t (e + 1) 95 && is_free_behind t (e + 2)) (chosen (has t e 95 && (has t (e + 1) 95 && is_free_behind t (e + 2))) (Some (record { suffix = Anonymous; to = e + 2 })) made h).0).0
 
-    first : (r : Option Tail) → ((made : Tail) → r ≡ Some made → e < length t) → or_else r (named_tail t e) ≡ Some tail → e < length t
+    first : (r : Option Tail) → ((made : Tail) → r ≡ Some made → e < length t) → option_or r (named_tail t e) ≡ Some tail → e < length t
     first (Some q) below h = below q refl
     first None below h = named_tail-below tail h

@@ -1,13 +1,13 @@
 -- Markup between a start-string and an end-string.
-use Rattle.std.proofs.Common.{◌≡◌, ℕ, ◌+◌, ◌-◌, ◌<◌, ◌≤◌, Bool, true, not, Option, Some, None, length, unwrap_or, refl, sym, ap, ◌∙◌, subst, arith}
+use Rattle.std.proofs.Common.{◌≡◌, ℕ, ◌+◌, ◌-◌, ◌<◌, ◌≤◌, [], ◌∷◌, true, not, ◌&&◌, Option, Some, None, length, unwrap_or, option_map, refl, sym, ap, ◌∙◌, subst, arith}
 use Rattle.std.proofs.lemmas.Bool.{and_parts}
 use Rattle.rst_text.specs.Places.{IsFirst}
 use Rattle.rst_text.proofs.PlacesLemmas.{first_from-is, first_from-IsFirst}
-use Rattle.rst_pieces.specs.Characters.{Text, has}
-use Rattle.rst_pieces.specs.Escapes.{is_escaped}
-use Rattle.rst_pieces.specs.Tails.{or_else, name_tail, role_tail, bare_tail}
+use Rattle.std.specs.Option.{is_some, option_or}
+use Rattle.rst_pieces.specs.Characters.{Text, has, has_string, is_dark}
+use Rattle.rst_pieces.specs.Tails.{name_tail, role_tail, bare_tail}
 use Rattle.rst_pieces.specs.Names.{role_end}
-use Rattle.rst_pieces.specs.Marked.{start_len, end_len, has_start, has_end, start_of, starts, tail_of, ends_if, ends, end_of, unended_piece, ended_piece, marked_piece, marked_from, marked}
+use Rattle.rst_pieces.specs.Marked.{start_string, end_string, start_len, end_len, has_start, has_end, has_escapes, start_of, starts, tail_of, ends, end_of, unended_piece, ended_piece, marked_piece, marked_from, marked}
 use Rattle.rst_pieces.specs.Missing.{IsUnended}
 use Rattle.rst_pieces.specs.declared.piece.Markup.{Markup}
 use Rattle.rst_pieces.specs.declared.piece.Markup.TheVariants.{Strong, Emphasis, Literal, Target, Substitution, Interpreted}
@@ -16,47 +16,49 @@ use Rattle.rst_pieces.proofs.EscapeLemmas.{IsBare, has-bare, is_escaped-agree}
 use Rattle.rst_pieces.proofs.FitLemmas.{Fits, Fit, Fit-none, Fit-some, has-lt, either, TailFits, TailFits-or, bare_tail-fits, name_tail-fits, role_tail-fits}
 use Rattle.rst_pieces.proofs.NameLemmas.{role_end-fits}
 
-pub ends-at : (markup : Markup) (t : Text) (i k : ℕ) (escaped : Bool) → escaped ≡ is_escaped t i k → ends markup t i k ≡ ends_if markup t k escaped
-unfolding ends
-ends-at markup t i k escaped h = ap (ends_if markup t k) (sym h)
-
 -- ---- marks lie within the text, and begin with no backslash
 
-pub start-fits : (markup : Markup) (t : Text) (q : ℕ) → has_start markup t q ≡ true → q + start_len markup ≤ length t
-start-fits Strong t q h = let l : q + 1 < length t = has-lt t (q + 1) 42 (and_parts (has t q 42) (has t (q + 1) 42) h).1 in omega arith
-start-fits Emphasis t q h = let l : q < length t = has-lt t q 42 (and_parts (has t q 42) (not (has t (q + 1) 42)) h).0 in omega arith
-start-fits Literal t q h = let l : q + 1 < length t = has-lt t (q + 1) 96 (and_parts (has t q 96) (has t (q + 1) 96) h).1 in omega arith
-start-fits Target t q h = let l : q + 1 < length t = has-lt t (q + 1) 96 (and_parts (has t q 95) (has t (q + 1) 96) h).1 in omega arith
-start-fits Substitution t q h = let l : q < length t = has-lt t q 124 (and_parts (has t q 124) (not (has t (q + 1) 124)) h).0 in omega arith
-start-fits Interpreted t q h = let l : q < length t = has-lt t q 96 (and_parts (has t q 96) (not (has t (q + 1) 96)) h).0 in omega arith
+string-fits : (t s : Text) (i : ℕ) → 0 < length s → has_string t i s ≡ true → i + length s ≤ length t
+string-fits t [] i some h = absurd (omega arith)
+string-fits t (c ∷ []) i some h = let l : i < length t = has-lt t i c (and_parts (has t i c) true h).0 in omega arith
+string-fits t (c ∷ d ∷ cs) i some h = let rest = string-fits t (d ∷ cs) (i + 1) (omega arith) (and_parts (has t i c) (has_string t (i + 1) (d ∷ cs)) h).1 in omega arith
 
-pub start-bare : (markup : Markup) (t : Text) (q : ℕ) → has_start markup t q ≡ true → IsBare t q
-start-bare Strong t q h = has-bare t q 42 refl (and_parts (has t q 42) (has t (q + 1) 42) h).0
-start-bare Emphasis t q h = has-bare t q 42 refl (and_parts (has t q 42) (not (has t (q + 1) 42)) h).0
-start-bare Literal t q h = has-bare t q 96 refl (and_parts (has t q 96) (has t (q + 1) 96) h).0
-start-bare Target t q h = has-bare t q 95 refl (and_parts (has t q 95) (has t (q + 1) 96) h).0
-start-bare Substitution t q h = has-bare t q 124 refl (and_parts (has t q 124) (not (has t (q + 1) 124)) h).0
-start-bare Interpreted t q h = has-bare t q 96 refl (and_parts (has t q 96) (not (has t (q + 1) 96)) h).0
+start-some : (markup : Markup) → 0 < start_len markup
+start-some Strong = omega arith
+start-some Emphasis = omega arith
+start-some Literal = omega arith
+start-some Target = omega arith
+start-some Substitution = omega arith
+start-some Interpreted = omega arith
+
+end-some : (markup : Markup) → 0 < end_len markup
+end-some Strong = omega arith
+end-some Emphasis = omega arith
+end-some Literal = omega arith
+end-some Target = omega arith
+end-some Substitution = omega arith
+end-some Interpreted = omega arith
+
+start-stands : (markup : Markup) (t : Text) (q : ℕ) → has_start markup t q ≡ true → has_string t q (start_string markup) ≡ true
+start-stands markup t q h = (and_parts (has_string t q (start_string markup)) _ h).0
+
+pub start-fits : (markup : Markup) (t : Text) (q : ℕ) → has_start markup t q ≡ true → q + start_len markup ≤ length t
+start-fits markup t q h = string-fits t (start_string markup) q (start-some markup) (start-stands markup t q h)
 
 end-fits : (markup : Markup) (t : Text) (k : ℕ) → has_end markup t k ≡ true → k + end_len markup ≤ length t
-end-fits Strong t k h = let l : k + 1 < length t = has-lt t (k + 1) 42 (and_parts (has t k 42) (has t (k + 1) 42) h).1 in omega arith
-end-fits Emphasis t k h = let l : k < length t = has-lt t k 42 h in omega arith
-end-fits Literal t k h = let l : k + 1 < length t = has-lt t (k + 1) 96 (and_parts (has t k 96) (has t (k + 1) 96) h).1 in omega arith
-end-fits Target t k h = let l : k < length t = has-lt t k 96 h in omega arith
-end-fits Substitution t k h = let l : k < length t = has-lt t k 124 h in omega arith
-end-fits Interpreted t k h = let l : k < length t = has-lt t k 96 h in omega arith
+end-fits markup t k h = string-fits t (end_string markup) k (end-some markup) h
+
+pub start-bare : (markup : Markup) (t : Text) (q : ℕ) → has_start markup t q ≡ true → IsBare t q
+start-bare Strong t q h = has-bare t q 42 refl (and_parts (has t q 42) _ (start-stands Strong t q h)).0
+start-bare Emphasis t q h = has-bare t q 42 refl (and_parts (has t q 42) _ (start-stands Emphasis t q h)).0
+start-bare Literal t q h = has-bare t q 96 refl (and_parts (has t q 96) _ (start-stands Literal t q h)).0
+start-bare Target t q h = has-bare t q 95 refl (and_parts (has t q 95) _ (start-stands Target t q h)).0
+start-bare Substitution t q h = has-bare t q 124 refl (and_parts (has t q 124) _ (start-stands Substitution t q h)).0
+start-bare Interpreted t q h = has-bare t q 96 refl (and_parts (has t q 96) _ (start-stands Interpreted t q h)).0
 
 ends-end : (markup : Markup) (t : Text) (i k : ℕ) → ends markup t i k ≡ true → has_end markup t k ≡ true
-unfolding ends ends_if
+unfolding ends
 ends-end markup t i k h = (and_parts (has_end markup t k) _ h).0
-
-start_len-some : (markup : Markup) → 0 < start_len markup
-start_len-some Strong = omega arith
-start_len-some Emphasis = omega arith
-start_len-some Literal = omega arith
-start_len-some Target = omega arith
-start_len-some Substitution = omega arith
-start_len-some Interpreted = omega arith
 
 behind_or : (r : Option ℕ) (i : ℕ) → ((e : ℕ) → r ≡ Some e → i < e) → i ≤ unwrap_or r i
 behind_or (Some e) i h = let less : i < e = h e refl in omega arith
@@ -83,18 +85,18 @@ tail-fits Emphasis t k h = further t k (k + 1) (omega arith) (bare_tail t (k + 1
 tail-fits Literal t k h = further t k (k + 2) (omega arith) (bare_tail t (k + 2)) (bare_tail-fits t (k + 2) (end-fits Literal t k h))
 tail-fits Target t k h = further t k (k + 1) (omega arith) (bare_tail t (k + 1)) (bare_tail-fits t (k + 1) (end-fits Target t k h))
 tail-fits Substitution t k h =
-    further t k (k + 1) (omega arith) (or_else (name_tail t (k + 1)) (bare_tail t (k + 1)))
+    further t k (k + 1) (omega arith) (option_or (name_tail t (k + 1)) (bare_tail t (k + 1)))
     (TailFits-or t (k + 1) (name_tail t (k + 1)) (bare_tail t (k + 1)) (name_tail-fits t (k + 1)) (bare_tail-fits t (k + 1) (end-fits Substitution t k h)))
 tail-fits Interpreted t k h =
-    further t k (k + 1) (omega arith) (or_else (name_tail t (k + 1)) (or_else (role_tail t (role_end t (k + 1))) (bare_tail t (k + 1))))
-    (TailFits-or t (k + 1) (name_tail t (k + 1)) (or_else (role_tail t (role_end t (k + 1))) (bare_tail t (k + 1))) (name_tail-fits t (k + 1))
+    further t k (k + 1) (omega arith) (option_or (name_tail t (k + 1)) (option_or (role_tail t (role_end t (k + 1))) (bare_tail t (k + 1))))
+    (TailFits-or t (k + 1) (name_tail t (k + 1)) (option_or (role_tail t (role_end t (k + 1))) (bare_tail t (k + 1))) (name_tail-fits t (k + 1))
     (TailFits-or t (k + 1) (role_tail t (role_end t (k + 1))) (bare_tail t (k + 1)) (role_tail-fits t (k + 1) (role_end t (k + 1)) (role_end-fits t (k + 1)))
     (bare_tail-fits t (k + 1) (end-fits Interpreted t k h))))
 
 unended-fits : (markup : Markup) (t : Text) (i q : ℕ) → i ≤ q → q + start_len markup ≤ length t → Fits t i (unended_piece markup i q)
-unended-fits markup t i q order within = let some : 0 < start_len markup = start_len-some markup in record { begins = refl; some = omega arith; within = within; above = omega arith; order = omega arith; behind = omega arith }
+unended-fits markup t i q order within = let some : 0 < start_len markup = start-some markup in record { begins = refl; some = omega arith; within = within; above = omega arith; order = omega arith; behind = omega arith }
 
-ended-fits : (markup : Markup) (t : Text) (i q k : ℕ) (r : Option Tail) → i ≤ q → q + start_len markup ≤ length t → q + start_len markup < k → TailFits t k r → Fits t i (ended_piece markup i q k r)
+ended-fits : (markup : Markup) (t : Text) (i q k : ℕ) (r : Option Tail) → i ≤ q → q + start_len markup ≤ length t → q + start_len markup < k → TailFits t k r → Fits t i (unwrap_or (option_map (ended_piece markup i q k) r) (unended_piece markup i q))
 ended-fits markup t i q k (Some tail) order within above fits =
     let found = fits tail refl in
     let past : k ≤ tail.to = found.0 in
@@ -126,7 +128,7 @@ marked-fits markup t i = marked_from-fits markup t i (start_of markup t i) (star
 
 ends-agree : (markup : Markup) (t : Text) (i q k : ℕ) → i ≤ q → q < k → has_start markup t q ≡ true → ends markup t i k ≡ ends markup t q k
 unfolding ends
-ends-agree markup t i q k order less mark = ap (ends_if markup t k) (is_escaped-agree t i q k order less (start-bare markup t q mark))
+ends-agree markup t i q k order less mark = ap (λ escaped. has_end markup t k && (is_dark t (k - 1) && (not (has_escapes markup && escaped) && is_some (tail_of markup t k)))) (is_escaped-agree t i q k order less (start-bare markup t q mark))
 
 -- where a start-string has no end, no later one has
 pub unended : (markup : Markup) (t : Text) (i q : ℕ) → i ≤ q → has_start markup t q ≡ true → end_of markup t i q ≡ None → IsUnended markup t q

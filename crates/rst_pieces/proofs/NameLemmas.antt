@@ -1,5 +1,5 @@
 -- Simple names, roles and references.
-use Rattle.std.proofs.Common.{◌≡◌, ⊎_elim, ℕ, ltb, ◌+◌, ◌-◌, ◌<◌, ◌≤◌, Bool, true, false, not, ◌&&◌, Option, Some, None, IfSome, length, refl, sym, ap, ◌∙◌, arith}
+use Rattle.std.proofs.Common.{◌≡◌, ⊎_elim, ℕ, ltb, ◌+◌, ◌-◌, ◌<◌, ◌≤◌, Bool, true, false, not, ◌&&◌, Option, Some, None, IfSome, length, option_and_then, option_map, refl, sym, ap, ◌∙◌, arith}
 use Rattle.std.proofs.lemmas.Bool.{and_parts, cases_lt}
 use Rattle.std.proofs.lemmas.Bool.Decides.{nat_tests}
 use Rattle.std.specs.Option.{is_some}
@@ -7,7 +7,7 @@ use Rattle.rst_text.specs.Places.{first_from, last_from, all_from, IsFirst, IsLa
 use Rattle.rst_text.proofs.PlacesLemmas.{first_from-is, first_from-IsFirst, last_from-is, last_from-IsLast, all_from-at, all_from-all, all_from-stop}
 use Rattle.rst_pieces.specs.Characters.{Text, has, is_alnum_at}
 use Rattle.rst_pieces.specs.Tails.{name_tail}
-use Rattle.rst_pieces.specs.Names.{is_name_at, is_simple_name, name_stop, behind_colon, role_end, ends_name, is_reference, name_end, reference_piece, reference_at, reference}
+use Rattle.rst_pieces.specs.Names.{is_name_at, is_simple_name, name_stop, behind_colon, role_end, ends_name, is_reference, name_end, reference_piece, reference_to, reference}
 use Rattle.rst_pieces.specs.declared.piece.Tail.{Tail}
 use Rattle.rst_pieces.proofs.FitLemmas.{Fit, Fit-none, Fit-some, has-lt, Some-same, Some-None, either, chosen, TailFits, name_tail-fits, name_tail-below}
 
@@ -46,7 +46,7 @@ name_stop-fits t i = either (is_alnum_at t i) (first_from (λ k. not (is_name_at
 
 -- ---- roles
 
-behind_colon-fits : (t : Text) (i : ℕ) (r : Option ℕ) (e : ℕ) → IfSome r (λ s. i ≤ s) → behind_colon t r ≡ Some e → (i < e) × (e ≤ length t)
+behind_colon-fits : (t : Text) (i : ℕ) (r : Option ℕ) (e : ℕ) → IfSome r (λ s. i ≤ s) → option_and_then (behind_colon t) r ≡ Some e → (i < e) × (e ≤ length t)
 behind_colon-fits t i (Some s) e h k =
     let found = chosen (has t s 58) (Some (s + 1)) e k in
     let less : s < length t = has-lt t s 58 found.0 in
@@ -57,7 +57,7 @@ behind_colon-fits t i None e h k = absurd (Some-None (sym k))
 pub role_end-fits : (t : Text) (i e : ℕ) → role_end t i ≡ Some e → (i < e) × (e ≤ length t)
 unfolding role_end
 role_end-fits t i e h =
-    let found = behind_colon-fits t (i + 1) (name_stop t (i + 1)) e (name_stop-fits t (i + 1)) (chosen (has t i 58) (behind_colon t (name_stop t (i + 1))) e h).1 in
+    let found = behind_colon-fits t (i + 1) (name_stop t (i + 1)) e (name_stop-fits t (i + 1)) (chosen (has t i 58) (option_and_then (behind_colon t) (name_stop t (i + 1))) e h).1 in
     (omega (arith, found.0), found.1)
 
 -- ---- references
@@ -106,17 +106,17 @@ nameless t start place h alnum names none past i above below =
 
 -- ---- the piece
 
-reference_piece-fits : (t : Text) (i j : ℕ) (r : Option Tail) → i < j → TailFits t j r → Fit t i (reference_piece i j r)
+reference_piece-fits : (t : Text) (i j : ℕ) (r : Option Tail) → i < j → TailFits t j r → Fit t i (option_map (reference_piece i j) r)
 reference_piece-fits t i j (Some tail) some fits =
     let within = fits tail refl in
     let above : j ≤ tail.to = within.0 in
     Fit-some t i _ (record { begins = refl; some = omega arith; within = within.1; above = omega arith; order = omega arith; behind = above })
 reference_piece-fits t i j None some fits = Fit-none t i
 
-reference_at-fits : (t : Text) (i high : ℕ) (r : Option ℕ) → IsLast (is_reference t i) (i + 1) high r → Fit t i (reference_at t i r)
-reference_at-fits t i high (Some j) h = let above : i + 1 ≤ j = h.0 in reference_piece-fits t i j (name_tail t j) (omega arith) (name_tail-fits t j)
-reference_at-fits t i high None h = Fit-none t i
+reference_to-fits : (t : Text) (i high : ℕ) (r : Option ℕ) → IsLast (is_reference t i) (i + 1) high r → Fit t i (option_and_then (reference_to t i) r)
+reference_to-fits t i high (Some j) h = let above : i + 1 ≤ j = h.0 in reference_piece-fits t i j (name_tail t j) (omega arith) (name_tail-fits t j)
+reference_to-fits t i high None h = Fit-none t i
 
 pub reference-fits : (t : Text) (i : ℕ) → Fit t i (reference t i)
 unfolding reference name_end
-reference-fits t i = reference_at-fits t i (i + 1 + (length t - (i + 1))) (last_from (is_reference t i) (i + 1) (length t - (i + 1))) (last_from-IsLast (is_reference t i) (i + 1) (length t - (i + 1)))
+reference-fits t i = reference_to-fits t i (i + 1 + (length t - (i + 1))) (last_from (is_reference t i) (i + 1) (length t - (i + 1))) (last_from-IsLast (is_reference t i) (i + 1) (length t - (i + 1)))

@@ -1,5 +1,5 @@
 -- The pieces of a text.
-use Rattle.std.proofs.Common.{◌≡◌, ◌⊎◌, inl, inr, ⊎_elim, ℕ, zero, suc, ◌+◌, ◌-◌, ◌<◌, ◌≤◌, List, [], ◌∷◌, ◌++◌, Bool, ◌&&◌, cond, Option, Some, None, IfSome, length, append_assoc, append-nil, ap₂, le_of_lt, refl, sym, ap, ◌∙◌, subst, arith}
+use Rattle.std.proofs.Common.{◌≡◌, ◌⊎◌, inl, inr, ⊎_elim, ℕ, zero, suc, ◌+◌, ◌-◌, ◌<◌, ◌≤◌, List, [], ◌∷◌, ◌++◌, ◌&&◌, cond, Option, Some, None, IfSome, length, option_and_then, append_assoc, append-nil, ap₂, le_of_lt, refl, sym, ap, ◌∙◌, subst, arith}
 use Rattle.std.proofs.lemmas.Bool.{and_parts, cases_lt}
 use Rattle.std.proofs.lemmas.List.Elements.{All-nil, All-cons}
 use Rattle.std.specs.Prelude.{All}
@@ -7,7 +7,7 @@ use Rattle.rst_text.proofs.PlacesLemmas.{lt_eq_gt}
 use Rattle.rst_pieces.specs.Characters.{Text, has, is_alnum_at, is_free_behind}
 use Rattle.rst_pieces.specs.Names.{name_stop}
 use Rattle.rst_pieces.specs.Footnotes.{label_stop, closes_label, label_piece, label}
-use Rattle.rst_pieces.specs.Pieces.{markup_at, is_free_if, piece_if, piece_at, HasNoStart, plain_from, IsPlain, IsWithin, IsPieces, nothing, last, other, plain}
+use Rattle.rst_pieces.specs.Pieces.{markup_at, is_free, piece_at, HasNoStart, plain_from, IsPlain, IsWithin, IsPieces, nothing, last, other, plain}
 use Rattle.rst_pieces.specs.declared.piece.Markup.TheVariants.{Strong, Emphasis, Literal, Target, Substitution, Interpreted}
 use Rattle.rst_pieces.specs.declared.piece.Piece.{Piece}
 use Rattle.rst_pieces.proofs.FitLemmas.{Fits, Fit, Fit-none, Fit-some, Fit-or, has-lt, Some-same, Some-None, either, chosen}
@@ -30,7 +30,7 @@ label_stop-fits t i =
     (λ hash. either (is_alnum_at t (i + 1)) (name_stop t (i + 1)) (Some (i + 1)) Above (λ alnum. from-above i (i + 1) (name_stop t (i + 1)) (omega arith) (name_stop-fits t (i + 1))) (omega arith))
     (name_stop-fits t i))
 
-label_piece-fits : (t : Text) (i : ℕ) (r : Option ℕ) → IfSome r (λ e. i + 1 ≤ e) → Fit t i (label_piece t i r)
+label_piece-fits : (t : Text) (i : ℕ) (r : Option ℕ) → IfSome r (λ e. i + 1 ≤ e) → Fit t i (option_and_then (label_piece t i) r)
 label_piece-fits t i (Some e) h = either (closes_label t e) (Some _) None (Fit t i)
     (λ closes.
     let second = (and_parts (has t e 93) (has t (e + 1) 95 && is_free_behind t (e + 2)) closes).1 in
@@ -41,7 +41,7 @@ label_piece-fits t i None h = Fit-none t i
 
 label-fits : (t : Text) (i : ℕ) → Fit t i (label t i)
 unfolding label
-label-fits t i = either (has t i 91) (label_piece t i (label_stop t (i + 1))) None (Fit t i) (λ bracket. label_piece-fits t i (label_stop t (i + 1)) (label_stop-fits t (i + 1))) (Fit-none t i)
+label-fits t i = either (has t i 91) (option_and_then (label_piece t i) (label_stop t (i + 1))) None (Fit t i) (λ bracket. label_piece-fits t i (label_stop t (i + 1)) (label_stop-fits t (i + 1))) (Fit-none t i)
 
 -- ---- any markup
 
@@ -51,9 +51,9 @@ markup_at-fits t i within =
     Fit-or t i _ _ (marked-fits Strong t i) (Fit-or t i _ _ (marked-fits Emphasis t i) (Fit-or t i _ _ (marked-fits Literal t i) (Fit-or t i _ _ (marked-fits Target t i)
     (Fit-or t i _ _ (marked-fits Substitution t i) (Fit-or t i _ _ (marked-fits Interpreted t i) (Fit-or t i _ _ (label-fits t i) (Fit-or t i _ _ (reference-fits t i) (uri-fits t i within))))))))
 
-pub piece_if-fits : (t : Text) (i : ℕ) (escaped : Bool) (p : Piece) → i ≤ length t → piece_if t i escaped ≡ Some p → Fits t i p
-unfolding piece_if
-piece_if-fits t i escaped p within h = markup_at-fits t i within p (chosen (is_free_if t i escaped) (markup_at t i) p h).1
+pub piece_at-fits : (t : Text) (from i : ℕ) (p : Piece) → i ≤ length t → piece_at t from i ≡ Some p → Fits t i p
+unfolding piece_at
+piece_at-fits t from i p within h = markup_at-fits t i within p (chosen (is_free t from i) (markup_at t i) p h).1
 
 -- ---- the pieces so far
 
@@ -85,7 +85,7 @@ told-end t from items told end = subst (IsPieces t 0) (append-nil items) (told [
 -- a start stands within the text, as nothing stands past its end: a piece there would reach further
 inside_at : (t : Text) (from i : ℕ) (p : Piece) → i ≤ length t → piece_at t from i ≡ Some p → i < length t
 inside_at t from i p within h =
-    let fits = piece_if-fits t i _ p within h in
+    let fits = piece_at-fits t from i p within h in
     let some = fits.some in
     let end = fits.within in omega arith
 
@@ -201,7 +201,7 @@ pieces_from t (suc left) from e within =
     (λ end. with_last t from stop end)
     (λ start.
     let above = stop.above in
-    let fits = piece_if-fits t stop.at _ start.0 stop.within start.1 in
+    let fits = piece_at-fits t from stop.at start.0 stop.within start.1 in
     let some = fits.some in
     with_next t from stop start.0 start.1 (pieces_from t left start.0.to (omega arith) fits.within))
     stop.stops
@@ -228,7 +228,7 @@ pub IsPieces-within : (t : Text) (from : ℕ) (ps : List Piece) → from ≤ len
 IsPieces-within t from _ h (nothing e) = All-nil (IsWithin t)
 IsPieces-within t from _ h (last p a e) = All-cons (IsWithin t) p [] (plain-within t from p a) (All-nil (IsWithin t))
 IsPieces-within t from _ h (other p ps a rest) =
-    let fits = piece_if-fits t from _ p h a in All-cons (IsWithin t) p ps (fits-within t from p fits) (IsPieces-within t p.to ps fits.within rest)
+    let fits = piece_at-fits t from from p h a in All-cons (IsWithin t) p ps (fits-within t from p fits) (IsPieces-within t p.to ps fits.within rest)
 IsPieces-within t from _ h (plain p q ps a s rest) =
-    let fits = piece_if-fits t p.to _ q a.within s in
+    let fits = piece_at-fits t from p.to q a.within s in
     All-cons (IsWithin t) p (q ∷ ps) (plain-within t from p a) (All-cons (IsWithin t) q ps (fits-within t p.to q fits) (IsPieces-within t q.to ps fits.within rest))

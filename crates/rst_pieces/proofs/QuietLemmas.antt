@@ -1,5 +1,5 @@
 -- In a quiet text nothing begins.
-use Rattle.std.proofs.Common.{◌≡◌, ⊎_elim, ℕ, ◌+◌, ◌<◌, Bool, true, false, ◌||◌, ◌==◌, cond, List, [], ◌∷◌, Option, Some, None, length, get_or, true≢false, refl, sym, ap, ◌∙◌, subst, arith}
+use Rattle.std.proofs.Common.{◌≡◌, ⊎_elim, ℕ, ◌+◌, ◌<◌, Bool, true, false, ◌||◌, ◌==◌, cond, List, [], ◌∷◌, Option, Some, None, length, option_and_then, option_map, get_or, true≢false, refl, sym, ap, ◌∙◌, subst, arith}
 use Rattle.std.specs.Prelude.{nat_lt}
 use Rattle.std.specs.List.{list_all, list_any}
 use Rattle.std.specs.Str.{IsAscii}
@@ -12,10 +12,10 @@ use Rattle.std.proofs.lemmas.List.Sums.{list_all-from_AllPass}
 use Rattle.rst_text.proofs.PlacesLemmas.{cases_bool, last_from-is}
 use Rattle.rst_pieces.specs.Characters.{Text, has}
 use Rattle.rst_pieces.specs.Escapes.{has_backslash}
-use Rattle.rst_pieces.specs.Names.{is_reference, name_end, reference_at, reference}
+use Rattle.rst_pieces.specs.Names.{is_reference, name_end, reference_to, reference}
 use Rattle.rst_pieces.specs.Footnotes.{label_stop, closes_label, label_piece, label}
 use Rattle.rst_pieces.specs.Uri.{in_lower_case, has_letter, begins_at, schemes, behind_first, scheme_end, uri_piece, uri}
-use Rattle.rst_pieces.specs.Pieces.{markup_at, is_free_if, piece_if, plain_from, IsPieces, nothing, last}
+use Rattle.rst_pieces.specs.Pieces.{markup_at, is_free, piece_at, plain_from, IsPieces, nothing, last}
 use Rattle.rst_text.specs.Runs.{IsRun}
 use Rattle.rst_pieces.specs.Quiet.{is_quiet, quiet, whole}
 use Rattle.rst_pieces.specs.declared.piece.Markup.TheVariants.{Strong, Emphasis, Literal, Target, Substitution, Interpreted}
@@ -47,12 +47,12 @@ lacks t i h = record { star = absent t 42 h refl i; grave = absent t 96 h refl i
 no-reference : (t : Text) (i : ℕ) → IsQuiet t → reference t i ≡ None
 unfolding reference name_end
 no-reference t i h =
-    ap (reference_at t i) (sym (last_from-is (is_reference t i) (i + 1) (length t) None (λ k more less. not_reference t i k (no-underscore t k (absent t 95 h refl k)))))
+    ap (option_and_then (reference_to t i)) (sym (last_from-is (is_reference t i) (i + 1) (length t) None (λ k more less. not_reference t i k (no-underscore t k (absent t 95 h refl k)))))
 
 open-label : (t : Text) (e : ℕ) → has t (e + 1) 95 ≡ false → closes_label t e ≡ false
 open-label t e h = rw h (grind (arith, nat_tests))
 
-no-label_piece : (t : Text) (i : ℕ) (r : Option ℕ) → IsQuiet t → label_piece t i r ≡ None
+no-label_piece : (t : Text) (i : ℕ) (r : Option ℕ) → IsQuiet t → option_and_then (label_piece t i) r ≡ None
 no-label_piece t i (Some e) h = rw (open-label t e (absent t 95 h refl (e + 1))) refl
 no-label_piece t i None h = refl
 
@@ -92,7 +92,7 @@ no-first t i (word ∷ words) h all =
 
 no-uri : (t : Text) (i : ℕ) → IsQuiet t → uri t i ≡ None
 unfolding uri scheme_end
-no-uri t i h = ap (uri_piece i) (uri_end-none t i (no-first t i schemes h refl))
+no-uri t i h = ap (option_map (uri_piece i)) (uri_end-none t i (no-first t i schemes h refl))
 
 -- ---- one plain piece
 
@@ -111,9 +111,9 @@ no-markup t i h =
       no-uri t i h,
     ) refl
 
-no-piece : (t : Text) (i : ℕ) (escaped : Bool) → IsQuiet t → piece_if t i escaped ≡ None
-unfolding piece_if
-no-piece t i escaped h = by_case (is_free_if t i escaped)
+no-piece : (t : Text) (from i : ℕ) → IsQuiet t → piece_at t from i ≡ None
+unfolding piece_at
+no-piece t from i h = by_case (is_free t from i)
   where
     by_case : (free : Bool) → cond free (markup_at t i) None ≡ None
     by_case true = no-markup t i h
@@ -122,7 +122,7 @@ no-piece t i escaped h = by_case (is_free_if t i escaped)
 pub quiet-pieces : (t : Text) → quiet t ≡ true → IsPieces t 0 (whole t)
 quiet-pieces [] h = nothing refl
 quiet-pieces (c ∷ cs) h =
-    last (plain_from 0 (length (c ∷ cs))) (record { is_plain = refl; some = omega arith; within = omega arith; none = λ i low less. no-piece (c ∷ cs) i _ h }) refl
+    last (plain_from 0 (length (c ∷ cs))) (record { is_plain = refl; some = omega arith; within = omega arith; none = λ i low less. no-piece (c ∷ cs) 0 i h }) refl
 
 -- ---- its characters
 

@@ -1,5 +1,5 @@
 -- Standalone URIs.
-use Rattle.std.proofs.Common.{◌≡◌, ⊎_elim, ℕ, zero, suc, ◌+◌, ◌-◌, ◌<◌, ◌≤◌, Bool, true, false, not, ◌&&◌, ◌||◌, ◌==◌, cond, List, [], ◌∷◌, ◌++◌, Option, Some, None, length, get_or, unwrap_or, true≢false, refl, sym, ap, ◌∙◌, subst, arith}
+use Rattle.std.proofs.Common.{◌≡◌, ◌↔◌, ⊎_elim, ℕ, zero, suc, ◌+◌, ◌-◌, ◌<◌, ◌≤◌, Bool, true, false, not, ◌&&◌, ◌||◌, ◌==◌, cond, List, [], ◌∷◌, ◌++◌, Option, Some, None, length, option_and_then, option_map, get_or, unwrap_or, true≢false, refl, sym, ap, ap₂, ◌∙◌, subst, arith}
 use Rattle.std.specs.Prelude.{nat_lt}
 use Rattle.std.specs.List.{list_all}
 use Rattle.std.specs.Char.{is_ascii_alphanumeric}
@@ -11,7 +11,7 @@ use Rattle.std.proofs.lemmas.Bool.Decides.{nat_tests}
 use Rattle.rst_text.specs.Places.{first_from, last_from, NoneFrom, IsFirst, IsLast}
 use Rattle.rst_text.proofs.PlacesLemmas.{cases_bool, lt_eq_gt, first_from-is, first_from-IsFirst, last_from-is, last_from-last, NoneFrom-within}
 use Rattle.rst_pieces.specs.Characters.{Text, is_among, is_free_behind}
-use Rattle.rst_pieces.specs.Uri.{in_lower_case, has_letter, begins_at, schemes, behind_first, scheme_end, is_uri_char, is_uri_trail, uri_stop, uri_close, uri_behind, if_free, uri_end, uri_piece, uri, is_ascii_uri_from, is_ascii_uri, IsUri}
+use Rattle.rst_pieces.specs.Uri.{in_lower_case, has_letter, begins_at, schemes, behind_first, scheme_end, is_uri_char, is_uri_trail, uri_stop, uri_close, uri_behind, if_free, uri_end, uri_piece, uri, IsUri}
 use Rattle.rst_pieces.proofs.FitLemmas.{Fit, Fit-none, Fit-some, Some-same, Some-None, chosen}
 
 -- ---- the scheme
@@ -141,19 +141,19 @@ uri_close-last t i stop e h = ⊎_elim
 
 pub uri_end-none : (t : Text) (i : ℕ) → scheme_end t i ≡ None → uri_end t i ≡ None
 unfolding uri_end
-uri_end-none t i h = ap (λ r. if_free t (uri_behind t r)) h
+uri_end-none t i h = ap (λ r. option_and_then (if_free t) (option_and_then (uri_behind t) r)) h
 
 pub uri_end-empty : (t : Text) (i m : ℕ) → scheme_end t i ≡ Some m → uri_close t m (uri_stop t m) ≡ None → uri_end t i ≡ None
 unfolding uri_end
-uri_end-empty t i m h k = ap (λ r. if_free t (uri_behind t r)) h ∙ ap (if_free t) k
+uri_end-empty t i m h k = ap (λ r. option_and_then (if_free t) (option_and_then (uri_behind t) r)) h ∙ ap (option_and_then (if_free t)) k
 
 pub uri_end-found : (t : Text) (i m e : ℕ) → scheme_end t i ≡ Some m → uri_close t m (uri_stop t m) ≡ Some e → is_free_behind t e ≡ true → uri_end t i ≡ Some e
 unfolding uri_end
-uri_end-found t i m e h k free = ap (λ r. if_free t (uri_behind t r)) h ∙ ap (if_free t) k ∙ ap (λ b. cond b (Some e) None) free
+uri_end-found t i m e h k free = ap (λ r. option_and_then (if_free t) (option_and_then (uri_behind t) r)) h ∙ ap (option_and_then (if_free t)) k ∙ ap (λ b. cond b (Some e) None) free
 
 pub uri_end-stuck : (t : Text) (i m e : ℕ) → scheme_end t i ≡ Some m → uri_close t m (uri_stop t m) ≡ Some e → is_free_behind t e ≡ false → uri_end t i ≡ None
 unfolding uri_end
-uri_end-stuck t i m e h k stuck = ap (λ r. if_free t (uri_behind t r)) h ∙ ap (if_free t) k ∙ ap (λ b. cond b (Some e) None) stuck
+uri_end-stuck t i m e h k stuck = ap (λ r. option_and_then (if_free t) (option_and_then (uri_behind t) r)) h ∙ ap (option_and_then (if_free t)) k ∙ ap (λ b. cond b (Some e) None) stuck
 
 -- where what stands behind a URI doesn't fit, none begins in it
 inside : (t : Text) (start m e i : ℕ) (r : Option ℕ) → start ≤ length t → scheme_end t start ≡ Some m → uri_close t m (uri_stop t m) ≡ Some e → is_free_behind t e ≡ false → start ≤ i → i < e → scheme_end t i ≡ r → uri_end t i ≡ None
@@ -183,11 +183,11 @@ none-inside t start m e within h k stuck i above below = inside t start m e i (s
 
 -- ---- the piece
 
-if_free-some : (t : Text) (r : Option ℕ) (e : ℕ) → if_free t r ≡ Some e → r ≡ Some e
+if_free-some : (t : Text) (r : Option ℕ) (e : ℕ) → option_and_then (if_free t) r ≡ Some e → r ≡ Some e
 if_free-some t (Some f) e h = (chosen (is_free_behind t f) (Some f) e h).1
 if_free-some t None e h = absurd (Some-None (sym h))
 
-behind-fits : (t : Text) (i : ℕ) (r : Option ℕ) (e : ℕ) → i ≤ length t → scheme_end t i ≡ r → uri_behind t r ≡ Some e → (i < e) × (e ≤ length t)
+behind-fits : (t : Text) (i : ℕ) (r : Option ℕ) (e : ℕ) → i ≤ length t → scheme_end t i ≡ r → option_and_then (uri_behind t) r ≡ Some e → (i < e) × (e ≤ length t)
 behind-fits t i (Some m) e within h k =
     let begins = scheme_end-begins t i m h in
     let above : i ≤ m = begins.above in
@@ -201,9 +201,9 @@ behind-fits t i None e within h k = absurd (Some-None (sym k))
 
 pub uri_end-fits : (t : Text) (i e : ℕ) → i ≤ length t → uri_end t i ≡ Some e → (i < e) × (e ≤ length t)
 unfolding uri_end
-uri_end-fits t i e within h = behind-fits t i (scheme_end t i) e within refl (if_free-some t (uri_behind t (scheme_end t i)) e h)
+uri_end-fits t i e within h = behind-fits t i (scheme_end t i) e within refl (if_free-some t (option_and_then (uri_behind t) (scheme_end t i)) e h)
 
-uri_piece-fits : (t : Text) (i : ℕ) (r : Option ℕ) → ((e : ℕ) → r ≡ Some e → (i < e) × (e ≤ length t)) → Fit t i (uri_piece i r)
+uri_piece-fits : (t : Text) (i : ℕ) (r : Option ℕ) → ((e : ℕ) → r ≡ Some e → (i < e) × (e ≤ length t)) → Fit t i (option_map (uri_piece i) r)
 uri_piece-fits t i (Some e) h = let found = h e refl in Fit-some t i _ (record { begins = refl; some = found.0; within = found.1; above = omega arith; order = (let less = found.0 in omega arith); behind = omega arith })
 uri_piece-fits t i None h = Fit-none t i
 
@@ -261,6 +261,16 @@ chars-bytes bytes good h = sym (encodes-uri (chars bytes) h) ∙ encodes-chars b
 free-at-end : (t : Text) → is_free_behind t (length t) ≡ true
 free-at-end t = grind (arith, nat_tests)
 
+-- the bytes are a URI with its scheme's end at the place: more stands behind that, each is a character of a URI, and the last
+-- may end one
+abbrev is_ascii_uri_from : List ℕ → Option ℕ → Bool
+is_ascii_uri_from bytes (Some i) = nat_lt i (length bytes) && (list_all is_uri_char bytes && not (is_uri_trail (get_or bytes (length bytes - 1) 0)))
+is_ascii_uri_from bytes None = false
+
+-- the bytes of a text say at once whether it is one URI, as each character of a URI is one byte
+abbrev pub is_ascii_uri : List ℕ → Bool
+is_ascii_uri bytes = is_ascii_uri_from bytes (scheme_end bytes 0)
+
 IsUri-from : (t : Text) (r : Option ℕ) → scheme_end t 0 ≡ r → is_ascii_uri_from t r ≡ true → IsUri t
 IsUri-from t (Some m) scheme h =
     let first = and_parts (nat_lt m (length t)) (list_all is_uri_char t && not (is_uri_trail (get_or t (length t - 1) 0))) h in
@@ -272,7 +282,7 @@ IsUri-from t (Some m) scheme h =
     uri_end-found t 0 m (length t) scheme close (free-at-end t)
 IsUri-from t None scheme h = absurd (cc)
 
-behind-uri : (t : Text) (r : Option ℕ) → scheme_end t 0 ≡ r → uri_behind t r ≡ Some (length t) → is_ascii_uri_from t r ≡ true
+behind-uri : (t : Text) (r : Option ℕ) → scheme_end t 0 ≡ r → option_and_then (uri_behind t) r ≡ Some (length t) → is_ascii_uri_from t r ≡ true
 behind-uri t (Some m) scheme h =
     let begins = scheme_end-begins t 0 m scheme in
     let run = uri_stop-stops t m (begins.within (omega arith)) in
@@ -293,7 +303,7 @@ behind-uri t None scheme h = absurd (Some-None (sym h))
 
 from-IsUri : (t : Text) → IsUri t → is_ascii_uri t ≡ true
 unfolding uri_end
-from-IsUri t h = behind-uri t (scheme_end t 0) refl (if_free-some t (uri_behind t (scheme_end t 0)) (length t) h)
+from-IsUri t h = behind-uri t (scheme_end t 0) refl (if_free-some t (option_and_then (uri_behind t) (scheme_end t 0)) (length t) h)
 
 all-of-uri : (t : Text) (r : Option ℕ) → is_ascii_uri_from t r ≡ true → AllUri t
 all-of-uri t (Some m) h =
@@ -301,10 +311,32 @@ all-of-uri t (Some m) h =
     (and_parts (list_all is_uri_char t) (not (is_uri_trail (get_or t (length t - 1) 0))) first.1).0
 all-of-uri t None h = absurd (cc)
 
-pub is_ascii_uri-is : (bytes : List ℕ) → IsUtf8 bytes → is_ascii_uri bytes ≡ true → IsUri (chars bytes)
+is_ascii_uri-is : (bytes : List ℕ) → IsUtf8 bytes → is_ascii_uri bytes ≡ true → IsUri (chars bytes)
 is_ascii_uri-is bytes good h = subst IsUri (bytes-chars bytes good (all-of-uri bytes (scheme_end bytes 0) h)) (IsUri-from bytes (scheme_end bytes 0) refl h)
 
-pub IsUri-ascii : (bytes : List ℕ) → IsUtf8 bytes → IsUri (chars bytes) → is_ascii_uri bytes ≡ true
+IsUri-ascii : (bytes : List ℕ) → IsUtf8 bytes → IsUri (chars bytes) → is_ascii_uri bytes ≡ true
 IsUri-ascii bytes good h =
     let found = from-IsUri (chars bytes) h in
     subst (λ t. is_ascii_uri t ≡ true) (chars-bytes bytes good (all-of-uri (chars bytes) (scheme_end (chars bytes) 0) found)) found
+
+ascii-uri : (bytes : List ℕ) (answer : Bool) → answer ≡ is_ascii_uri bytes → IsUtf8 bytes → (answer ≡ true) ↔ IsUri (chars bytes)
+ascii-uri bytes answer same good = (λ h. is_ascii_uri-is bytes good (sym same ∙ h), λ h. same ∙ IsUri-ascii bytes good h)
+
+-- ---- the answer by what the bytes were found to be
+
+ascii-by : (bytes : List ℕ) (answer : Bool) (r : Option ℕ) → r ≡ scheme_end bytes 0 → answer ≡ is_ascii_uri_from bytes r → IsUtf8 bytes → (answer ≡ true) ↔ IsUri (chars bytes)
+ascii-by bytes answer r scheme same = ascii-uri bytes answer (same ∙ ap (is_ascii_uri_from bytes) scheme)
+
+pub ascii-none : (bytes : List ℕ) → None ≡ scheme_end bytes 0 → IsUtf8 bytes → (false ≡ true) ↔ IsUri (chars bytes)
+ascii-none bytes scheme = ascii-by bytes false None scheme refl
+
+pub ascii-short : (bytes : List ℕ) (answer : Bool) (i : ℕ) → Some i ≡ scheme_end bytes 0 → answer ≡ false → length bytes ≤ i → IsUtf8 bytes → (answer ≡ true) ↔ IsUri (chars bytes)
+ascii-short bytes answer i scheme fails past = ascii-by bytes answer (Some i) scheme (fails ∙ short)
+  where
+    short : false ≡ is_ascii_uri_from bytes (Some i)
+    short = grind (arith, nat_tests)
+
+pub ascii-found : (bytes : List ℕ) (answer fit : Bool) (i : ℕ) → Some i ≡ scheme_end bytes 0 → i < length bytes → fit ≡ list_all is_uri_char bytes → answer ≡ (fit && not (is_uri_trail (get_or bytes (length bytes - 1) 0))) → IsUtf8 bytes → (answer ≡ true) ↔ IsUri (chars bytes)
+ascii-found bytes answer fit i scheme less fits same =
+    ascii-by bytes answer (Some i) scheme (same
+    ∙ sym (ap₂ (λ x y. x && (y && not (is_uri_trail (get_or bytes (length bytes - 1) 0)))) (lt-ltb i (length bytes) less) (sym fits)))

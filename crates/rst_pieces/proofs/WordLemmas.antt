@@ -1,5 +1,5 @@
 -- Inside words nothing begins.
-use Rattle.std.proofs.Common.{◌≡◌, ⊎_elim, ℕ, ◌+◌, ◌-◌, ◌<◌, ◌≤◌, Bool, true, false, not, ◌&&◌, ◌||◌, ◌==◌, cond, List, [], ◌∷◌, Some, None, length, get_or, true≢false, refl, sym, ap, ◌∙◌, subst, arith}
+use Rattle.std.proofs.Common.{◌≡◌, ⊎_elim, ℕ, ◌+◌, ◌-◌, ◌<◌, ◌≤◌, Bool, true, false, not, ◌&&◌, ◌||◌, ◌==◌, cond, List, [], ◌∷◌, Some, None, length, option_and_then, option_map, get_or, true≢false, refl, sym, ap, ◌∙◌, subst, arith}
 use Rattle.std.specs.Prelude.{nat_lt}
 use Rattle.std.specs.List.{list_all}
 use Rattle.std.specs.Char.{is_ascii_alphanumeric}
@@ -12,12 +12,12 @@ use Rattle.rst_text.proofs.PlacesLemmas.{cases_bool, lt_eq_gt, all_from-at, all_
 use Rattle.rst_pieces.specs.Characters.{Text, has, may_precede, is_alnum_at}
 use Rattle.rst_pieces.specs.Escapes.{is_escaped}
 use Rattle.rst_pieces.specs.Tails.{name_tail}
-use Rattle.rst_pieces.specs.Names.{is_joint, is_name_at, role_end, ends_name, is_reference, name_end, reference_at, reference}
+use Rattle.rst_pieces.specs.Names.{is_joint, is_name_at, role_end, ends_name, is_reference, name_end, reference_to, reference}
 use Rattle.rst_pieces.specs.Marked.{has_start, start_of, starts, marked_from, marked}
 use Rattle.rst_pieces.specs.Footnotes.{label}
 use Rattle.rst_pieces.specs.Uri.{in_lower_case, has_letter, begins_at, schemes, behind_first, scheme_end, uri_piece, uri}
 use Rattle.rst_pieces.specs.Words.{IsWord, goes_on}
-use Rattle.rst_pieces.specs.Pieces.{markup_at, is_free_if, piece_if, piece_at, HasNoStart}
+use Rattle.rst_pieces.specs.Pieces.{markup_at, is_free, piece_at, HasNoStart}
 use Rattle.rst_pieces.specs.declared.piece.Markup.{Markup}
 use Rattle.rst_pieces.specs.declared.piece.Markup.TheVariants.{Strong, Emphasis, Literal, Target, Substitution, Interpreted}
 use Rattle.rst_pieces.proofs.EscapeLemmas.{IsBare, other-bare, is_escaped-bare}
@@ -111,7 +111,7 @@ no-name t i to word ends = sym (last_from-is (is_reference t i) (i + 1) (length 
 
 no-reference : (t : Text) (i to : ℕ) → IsWord t i to → Ends t to → reference t i ≡ None
 unfolding reference
-no-reference t i to word ends = ap (reference_at t i) (no-name t i to word ends)
+no-reference t i to word ends = ap (option_and_then (reference_to t i)) (no-name t i to word ends)
 
 -- ---- URIs
 
@@ -166,7 +166,7 @@ no-first t i to (word ∷ words) run colon all =
 
 no-uri : (t : Text) (i to : ℕ) → IsWord t i to → has t to 58 ≡ false → uri t i ≡ None
 unfolding uri scheme_end
-no-uri t i to run colon = ap (uri_piece i) (uri_end-none t i (no-first t i to schemes run colon refl))
+no-uri t i to run colon = ap (option_map (uri_piece i)) (uri_end-none t i (no-first t i to schemes run colon refl))
 
 -- ---- other markup
 
@@ -227,24 +227,24 @@ no-markup t i to run lacks bracket ends =
     ) refl
 
 -- no markup begins at a place that lacks its marks and where a word ends, which may be empty, with which nothing goes on
-pub no-piece-lacking : (t : Text) (i to : ℕ) (escaped : Bool) → IsWord t i to → Lacks t i → has t i 91 ≡ false → goes_on t to ≡ false → piece_if t i escaped ≡ None
-unfolding piece_if
-no-piece-lacking t i to escaped run lacks bracket h = by_case (is_free_if t i escaped)
+pub no-piece-lacking : (t : Text) (from i to : ℕ) → IsWord t i to → Lacks t i → has t i 91 ≡ false → goes_on t to ≡ false → piece_at t from i ≡ None
+unfolding piece_at
+no-piece-lacking t from i to run lacks bracket h = by_case (is_free t from i)
   where
     by_case : (free : Bool) → cond free (markup_at t i) None ≡ None
     by_case true = no-markup t i to run lacks bracket (ends-by t to h)
     by_case false = refl
 
 -- nothing begins where a word does, if nothing goes on with it,
-pub no-piece : (t : Text) (i to : ℕ) (escaped : Bool) → IsWord t i to → i < to → goes_on t to ≡ false → piece_if t i escaped ≡ None
-no-piece t i to escaped run some h =
+pub no-piece : (t : Text) (from i to : ℕ) → IsWord t i to → i < to → goes_on t to ≡ false → piece_at t from i ≡ None
+no-piece t from i to run some h =
     let letter = run.letters i (omega arith) some in
-    no-piece-lacking t i to escaped run (lacks-by is_ascii_alphanumeric t i letter refl refl refl refl refl) (absent is_ascii_alphanumeric t i 91 letter refl) h
+    no-piece-lacking t from i to run (lacks-by is_ascii_alphanumeric t i letter refl refl refl refl refl) (absent is_ascii_alphanumeric t i 91 letter refl) h
 
 -- and further on in it nothing does.
-inside-word : (t : Text) (i to k : ℕ) (escaped : Bool) → IsWord t i to → i < k → k ≤ to → piece_if t k escaped ≡ None
-unfolding piece_if is_free_if
-inside-word t i to k escaped run above upto =
+inside-word : (t : Text) (from i to k : ℕ) → IsWord t i to → i < k → k ≤ to → piece_at t from k ≡ None
+unfolding piece_at is_free
+inside-word t from i to k run above upto =
     let before : may_precede (get_or t (k - 1) 0) ≡ false = letter-before _ (run.letters (k - 1) (omega arith) (omega arith)) in
     rw before (grind (arith, nat_tests))
 
@@ -254,7 +254,7 @@ HasNoStart-word t from i to run none here k low high =
     (λ before. none k low before)
     (λ rest. ⊎_elim
     (λ same. subst (λ n. piece_at t from n ≡ None) (sym same) here)
-    (λ past. inside-word t i to k _ run past (omega arith))
+    (λ past. inside-word t from i to k run past (omega arith))
     rest)
     (lt_eq_gt k i)
 

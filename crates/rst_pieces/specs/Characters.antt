@@ -1,5 +1,5 @@
 -- The characters that decide where inline markup may stand (Markup Specification, 'Inline markup recognition rules').
-use Rattle.std.specs.Prelude.{ℕ, Bool, true, false, not, ◌&&◌, ◌||◌, ◌==◌, nat_lt, List, [], ◌∷◌, slice_index, length}
+use Rattle.std.specs.Prelude.{ℕ, ◌+◌, Bool, true, false, not, ◌&&◌, ◌||◌, ◌==◌, nat_lt, List, [], ◌∷◌, slice_index, length}
 use Rattle.std.specs.List.{list_any}
 use Rattle.unicode.specs.GeneralCategory.{general_category}
 use Rattle.ucd_category.specs.declared.GeneralCategory.{GeneralCategory}
@@ -49,6 +49,11 @@ is_pair a b = (a == 39 && b == 39) || ((a == 34 && b == 34) || ((a == 60 && b ==
 -- the character stands at the place
 abbrev pub has : Text → ℕ → ℕ → Bool
 has t i c = nat_lt i (length t) && slice_index t i == c
+
+-- the string stands at the place
+abbrev pub has_string : Text → ℕ → Text → Bool
+has_string t i [] = true
+has_string t i (c ∷ cs) = has t i c && has_string t (i + 1) cs
 
 -- a character that is not white stands at the place
 abbrev pub is_dark : Text → ℕ → Bool

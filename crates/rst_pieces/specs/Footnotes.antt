@@ -1,5 +1,5 @@
 -- References to footnotes and citations (Markup Specification, 'Footnote References', 'Citation References').
-use Rattle.std.specs.Prelude.{ℕ, ◌+◌, Bool, ◌&&◌, Option, None, Some, if◌then◌else◌}
+use Rattle.std.specs.Prelude.{ℕ, ◌+◌, Bool, ◌&&◌, Option, None, Some, option_and_then, if◌then◌else◌}
 use Rattle.rst_pieces.specs.Characters.{Text, has, is_alnum_at, is_free_behind}
 use Rattle.rst_pieces.specs.Names.{name_stop}
 use Rattle.rst_pieces.specs.declared.piece.Kind.TheVariants.{Label}
@@ -18,10 +18,9 @@ abbrev pub closes_label : Text → ℕ → Bool
 closes_label t e = has t e 93 && (has t (e + 1) 95 && is_free_behind t (e + 2))
 
 -- the reference whose label has this end, if the label is closed there and what stands behind fits
-abbrev pub label_piece : Text → ℕ → Option ℕ → Option Piece
-label_piece t i (Some e) = if closes_label t e then Some (record { kind = Label; from = i; content_from = i + 1; content_to = e; to = e + 2 }) else None
-label_piece t i None = None
+abbrev pub label_piece : Text → ℕ → ℕ → Option Piece
+label_piece t i e = if closes_label t e then Some (record { kind = Label; from = i; content_from = i + 1; content_to = e; to = e + 2 }) else None
 
 -- `[`, a label and `]_`
 unfoldable pub label : Text → ℕ → Option Piece
-label t i = if has t i 91 then label_piece t i (label_stop t (i + 1)) else None
+label t i = if has t i 91 then option_and_then (label_piece t i) (label_stop t (i + 1)) else None

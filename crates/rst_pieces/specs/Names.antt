@@ -1,6 +1,6 @@
 -- Simple reference names, roles, and references by such a name (Markup Specification, 'Reference Names', 'Interpreted Text',
 -- 'Hyperlink References').
-use Rattle.std.specs.Prelude.{ℕ, ◌+◌, ◌-◌, Bool, not, ◌&&◌, ◌||◌, ◌==◌, nat_lt, Option, None, Some, slice_index, length, unwrap_or, if◌then◌else◌}
+use Rattle.std.specs.Prelude.{ℕ, ◌+◌, ◌-◌, Bool, not, ◌&&◌, ◌||◌, ◌==◌, nat_lt, Option, None, Some, slice_index, length, unwrap_or, option_map, option_and_then, if◌then◌else◌}
 use Rattle.std.specs.Option.{is_some}
 use Rattle.rst_pieces.specs.Characters.{Text, has, is_alnum_at}
 use Rattle.rst_text.specs.Places.{first_from, last_from, all_from}
@@ -32,13 +32,12 @@ simple_name t = if is_alnum_at t 0 then unwrap_or (name_stop t 0) (length t) els
 -- ---- roles
 
 -- the place behind the colon that closes a role, if one stands at the end of its name
-abbrev pub behind_colon : Text → Option ℕ → Option ℕ
-behind_colon t (Some e) = if has t e 58 then Some (e + 1) else None
-behind_colon t None = None
+abbrev pub behind_colon : Text → ℕ → Option ℕ
+behind_colon t e = if has t e 58 then Some (e + 1) else None
 
 -- the place behind a role, a simple name between colons, that begins at the place
 unfoldable pub role_end : Text → ℕ → Option ℕ
-role_end t i = if has t i 58 then behind_colon t (name_stop t (i + 1)) else None
+role_end t i = if has t i 58 then option_and_then (behind_colon t) (name_stop t (i + 1)) else None
 
 -- ---- references: the longest simple name that fits, and one underscore or two
 
@@ -54,16 +53,14 @@ is_reference t i j = is_alnum_at t i && (all_from (is_name_at t) i (j - i) && en
 unfoldable pub name_end : Text → ℕ → Option ℕ
 name_end t i = last_from (is_reference t i) (i + 1) (length t - (i + 1))
 
--- the reference from i on whose name ends at j, where underscores stand behind it that fit
-abbrev pub reference_piece : ℕ → ℕ → Option Tail → Option Piece
-reference_piece i j (Some tail) = Some (record { kind = Reference tail.suffix; from = i; content_from = i; content_to = j; to = tail.to })
-reference_piece i j None = None
+-- the reference from i on whose name ends at j and has this behind it
+abbrev pub reference_piece : ℕ → ℕ → Tail → Piece
+reference_piece i j tail = record { kind = Reference tail.suffix; from = i; content_from = i; content_to = j; to = tail.to }
 
--- the reference that begins at the place, if its name has an end
-abbrev pub reference_at : Text → ℕ → Option ℕ → Option Piece
-reference_at t i (Some j) = reference_piece i j (name_tail t j)
-reference_at t i None = None
+-- the reference from i on whose name ends at j, where underscores stand behind it that fit
+abbrev pub reference_to : Text → ℕ → ℕ → Option Piece
+reference_to t i j = option_map (reference_piece i j) (name_tail t j)
 
 -- the reference by a simple name that begins at the place, if one does
 unfoldable pub reference : Text → ℕ → Option Piece
-reference t i = reference_at t i (name_end t i)
+reference t i = option_and_then (reference_to t i) (name_end t i)

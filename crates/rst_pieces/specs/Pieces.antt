@@ -1,8 +1,8 @@
 -- The pieces of an inline text (Markup Specification, 'Inline markup recognition rules', 'Recognition order').
 use Rattle.std.specs.Prelude.{◌≡◌, ℕ, ◌-◌, ◌<◌, ◌≤◌, Bool, not, ◌&&◌, ◌||◌, ◌==◌, List, [], ◌∷◌, Option, None, Some, slice_index, length, if◌then◌else◌}
+use Rattle.std.specs.Option.{option_or}
 use Rattle.rst_pieces.specs.Characters.{Text, may_precede}
 use Rattle.rst_pieces.specs.Escapes.{is_escaped}
-use Rattle.rst_pieces.specs.Tails.{or_else}
 use Rattle.rst_pieces.specs.Marked.{marked}
 use Rattle.rst_pieces.specs.Names.{reference}
 use Rattle.rst_pieces.specs.Footnotes.{label}
@@ -14,20 +14,17 @@ use Rattle.rst_pieces.specs.declared.piece.Piece.{Piece}
 -- the piece that the first kind of markup gives that holds at the place
 unfoldable pub markup_at : Text → ℕ → Option Piece
 markup_at t i =
-    or_else (marked Strong t i) (or_else (marked Emphasis t i) (or_else (marked Literal t i) (or_else (marked Target t i)
-    (or_else (marked Substitution t i) (or_else (marked Interpreted t i) (or_else (label t i) (or_else (reference t i) (uri t i))))))))
+    option_or (marked Strong t i) (option_or (marked Emphasis t i) (option_or (marked Literal t i) (option_or (marked Target t i)
+    (option_or (marked Substitution t i) (option_or (marked Interpreted t i) (option_or (label t i) (option_or (reference t i) (uri t i))))))))
 
--- a start may stand at the place: it is not escaped, and what stands before it fits
-unfoldable pub is_free_if : Text → ℕ → Bool → Bool
-is_free_if t i escaped = not escaped && (i == 0 || may_precede (slice_index t (i - 1)))
+-- A start may stand at i: it is not escaped, and what stands before it fits. Plain text before i begins at `from`: no backslash
+-- before that counts.
+unfoldable pub is_free : Text → ℕ → ℕ → Bool
+is_free t from i = not (is_escaped t from i) && (i == 0 || may_precede (slice_index t (i - 1)))
 
--- the piece that begins at the place, which is escaped or not, if a start may stand there and markup begins
-unfoldable pub piece_if : Text → ℕ → Bool → Option Piece
-piece_if t i escaped = if is_free_if t i escaped then markup_at t i else None
-
--- The piece that begins at i, if a start stands there. Plain text before i begins at `from`: no backslash before that counts.
-abbrev pub piece_at : Text → ℕ → ℕ → Option Piece
-piece_at t from i = piece_if t i (is_escaped t from i)
+-- the piece that begins at i, if a start may stand there and markup begins
+unfoldable pub piece_at : Text → ℕ → ℕ → Option Piece
+piece_at t from i = if is_free t from i then markup_at t i else None
 
 -- no start stands at the places from `low` below `high`
 abbrev pub HasNoStart : Text → ℕ → ℕ → ℕ → Type 0

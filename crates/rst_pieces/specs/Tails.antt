@@ -1,14 +1,10 @@
 -- What may stand behind the end-string or the name of inline markup (Markup Specification, 'Interpreted Text',
 -- 'Hyperlink References', 'Substitution References').
 use Rattle.std.specs.Prelude.{ℕ, ◌+◌, ◌&&◌, Option, None, Some, if◌then◌else◌}
+use Rattle.std.specs.Option.{option_or}
 use Rattle.rst_pieces.specs.Characters.{Text, has, is_free_behind}
 use Rattle.rst_pieces.specs.declared.piece.Suffix.TheVariants.{Bare, Role, Named, Anonymous}
 use Rattle.rst_pieces.specs.declared.piece.Tail.{Tail}
-
--- the first of two
-abbrev pub or_else : {A : Type 0} → Option A → Option A → Option A
-or_else (Some x) next = Some x
-or_else None next = next
 
 -- two underscores at the place, if what stands behind them fits
 abbrev pub anonymous_tail : Text → ℕ → Option Tail
@@ -29,4 +25,4 @@ bare_tail t e = if is_free_behind t e then Some (record { suffix = Bare; to = e 
 
 -- the underscores behind a name, two where both fit
 unfoldable pub name_tail : Text → ℕ → Option Tail
-name_tail t e = or_else (anonymous_tail t e) (named_tail t e)
+name_tail t e = option_or (anonymous_tail t e) (named_tail t e)

@@ -1,6 +1,5 @@
 -- Standalone hyperlinks (Markup Specification, 'Standalone Hyperlinks').
-use Rattle.std.specs.Prelude.{◌≡◌, ℕ, ◌+◌, ◌-◌, Bool, true, false, not, ◌&&◌, ◌||◌, ◌==◌, nat_lt, List, [], ◌∷◌, Option, None, Some, slice_index, length, unwrap_or, codes, if◌then◌else◌}
-use Rattle.std.specs.List.{list_all}
+use Rattle.std.specs.Prelude.{◌≡◌, ℕ, ◌+◌, ◌-◌, Bool, true, not, ◌&&◌, ◌||◌, ◌==◌, nat_lt, List, [], ◌∷◌, Option, None, Some, slice_index, length, unwrap_or, option_map, option_and_then, codes, if◌then◌else◌}
 use Rattle.std.specs.Char.{to_ascii_lowercase, is_ascii_alphanumeric}
 use Rattle.rst_pieces.specs.Characters.{Text, is_among, is_free_behind}
 use Rattle.rst_text.specs.Places.{first_from, last_from}
@@ -51,38 +50,25 @@ unfoldable pub uri_close : Text → ℕ → ℕ → Option ℕ
 uri_close t i stop = last_from (λ e. not (is_uri_trail (slice_index t (e - 1)))) (i + 1) (stop - i)
 
 -- the end of a URI by the place behind its scheme, if it has one
-abbrev pub uri_behind : Text → Option ℕ → Option ℕ
-uri_behind t (Some i) = uri_close t i (uri_stop t i)
-uri_behind t None = None
+abbrev pub uri_behind : Text → ℕ → Option ℕ
+uri_behind t i = uri_close t i (uri_stop t i)
 
 -- the end, if what stands behind it fits
-abbrev pub if_free : Text → Option ℕ → Option ℕ
-if_free t (Some e) = if is_free_behind t e then Some e else None
-if_free t None = None
+abbrev pub if_free : Text → ℕ → Option ℕ
+if_free t e = if is_free_behind t e then Some e else None
 
 -- the end of the URI that begins at the place, where what stands behind it fits
 unfoldable pub uri_end : Text → ℕ → Option ℕ
-uri_end t i = if_free t (uri_behind t (scheme_end t i))
+uri_end t i = option_and_then (if_free t) (option_and_then (uri_behind t) (scheme_end t i))
 
--- the standalone hyperlink from the place on, if it has an end
-abbrev pub uri_piece : ℕ → Option ℕ → Option Piece
-uri_piece i (Some e) = Some (record { kind = Uri; from = i; content_from = i; content_to = e; to = e })
-uri_piece i None = None
+-- the standalone hyperlink from one place up to another
+abbrev pub uri_piece : ℕ → ℕ → Piece
+uri_piece i e = record { kind = Uri; from = i; content_from = i; content_to = e; to = e }
 
 -- the standalone hyperlink that begins at the place, if one does
 unfoldable pub uri : Text → ℕ → Option Piece
-uri t i = uri_piece i (uri_end t i)
+uri t i = option_map (uri_piece i) (uri_end t i)
 
 -- the whole text is one URI
 abbrev pub IsUri : Text → Type 0
 IsUri t = uri_end t 0 ≡ Some (length t)
-
--- the bytes are a URI with its scheme's end at the place: more stands behind that, each is a character of a URI, and the last
--- may end one
-abbrev pub is_ascii_uri_from : List ℕ → Option ℕ → Bool
-is_ascii_uri_from bytes (Some i) = nat_lt i (length bytes) && (list_all is_uri_char bytes && not (is_uri_trail (slice_index bytes (length bytes - 1))))
-is_ascii_uri_from bytes None = false
-
--- the bytes of a text say at once whether it is one URI, as each character of a URI is one byte
-abbrev pub is_ascii_uri : List ℕ → Bool
-is_ascii_uri bytes = is_ascii_uri_from bytes (scheme_end bytes 0)

@@ -1,6 +1,8 @@
 //! Calm characters: between them nothing begins.
-ghost use Rattle.std.specs.Prelude.{◌≡◌, ◌<◌, ◌≤◌, ◌&&◌, ◌==◌, length};
-ghost use Rattle.rst_pieces.specs.Calm.{AreCalm, IsEdge, IsCalm};
+ghost use Rattle.std.specs.Prelude.{◌≡◌, ◌-◌, ◌<◌, ◌≤◌, ◌&&◌, ◌==◌, false, slice_index, length};
+ghost use Rattle.std.specs.Char.{is_ascii_alphanumeric};
+ghost use Rattle.rst_text.specs.Runs.{PassBetween};
+ghost use Rattle.rst_pieces.specs.Calm.{is_calm, IsStep};
 
 use rst_text::{ByteTest, run_end};
 use std::simd::prelude::*;
@@ -35,7 +37,7 @@ fn calm_end(bytes: &[u8], place: usize) -> usize
     requires { place < length bytes.now }
     ensures above { place ≤ result }
     ensures within { result < length bytes.now }
-    ensures calm { AreCalm bytes.now place result }
+    ensures calm { PassBetween is_calm bytes.now place result }
 {
     run_end::<Calm>(bytes, place).min(bytes.len() - 1)
 }
@@ -46,7 +48,7 @@ fn word_start(bytes: &[u8], from: usize, to: usize) -> usize
     requires within { to ≤ length bytes.now }
     ensures above { from ≤ result }
     ensures below { result ≤ to }
-    ensures edge { IsEdge bytes.now from result }
+    ensures edge { from < result → is_ascii_alphanumeric (slice_index bytes.now (result - 1)) ≡ false }
 {
     let mut start = to;
     while from < start && bytes[start - 1].is_ascii_alphanumeric() {
@@ -57,7 +59,7 @@ fn word_start(bytes: &[u8], from: usize, to: usize) -> usize
 
 /// The place behind the calm bytes from the place on, but not inside a word.
 fn calm_step(bytes: &[u8], place: usize) -> usize
-    ensures { IsCalm bytes.now place result }
+    ensures { IsStep bytes.now place result }
 {
     if bytes.len() <= place {
         return place;
@@ -67,7 +69,7 @@ fn calm_step(bytes: &[u8], place: usize) -> usize
 
 /// The same, and whether what stands there is escaped if what stands at `place` is or not.
 pub(crate) fn step(bytes: &[u8], place: usize, escaped: bool) -> (usize, bool)
-    ensures calm { IsCalm bytes.now place result.0 }
+    ensures over { IsStep bytes.now place result.0 }
     ensures escaped { result.1 ≡ (escaped && result.0 == place) }
 {
     let start = calm_step(bytes, place);

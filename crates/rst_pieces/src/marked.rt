@@ -1,7 +1,9 @@
 //! Inline markup between a start-string and an end-string.
-ghost use Rattle.std.specs.Prelude.{◌≡◌, ◌+◌, ◌<◌, ◌≤◌, true, length, IfSome};
-ghost use Rattle.rst_pieces.specs.Marked.{start_len, end_len, has_start, has_end, has_escapes, start_of, starts, tail_of, ends_if, end_of, unended_piece, ended_piece, marked};
-ghost use Rattle.rst_pieces.specs.Tails.{or_else, name_tail, role_tail, bare_tail};
+ghost use Rattle.std.specs.Prelude.{◌≡◌, ℕ, ◌+◌, ◌<◌, ◌≤◌, true, length, unwrap_or, option_map, IfSome};
+ghost use Rattle.std.specs.Option.{option_or};
+ghost use Rattle.rst_pieces.specs.Marked.{start_len, end_len, has_start, has_end, has_escapes, start_of, starts, tail_of, ends, end_of, unended_piece, ended_piece, marked};
+ghost use Rattle.rst_pieces.specs.Escapes.{is_escaped};
+ghost use Rattle.rst_pieces.specs.Tails.{name_tail, role_tail, bare_tail};
 ghost use Rattle.rst_pieces.specs.Names.{role_end};
 ghost use Rattle.rst_pieces.specs.Missing.{IsMissing};
 
@@ -114,12 +116,12 @@ impl Markup {
         }
     }
 
-    /// Whether the end-string stands at the place and may end the markup.
-    #[tactic(auto, unfolding(crate::specs::Marked::ends_if))]
+    /// Whether the end-string stands at the place, which is escaped or not, and may end the markup.
+    #[tactic(auto, unfolding(crate::specs::Marked::ends))]
     fn ends(self, text: &[char], place: usize, escaped: bool) -> bool
         requires above { 0 < place }
         requires below { place < length text.now }
-        ensures { result ≡ ends_if self text.now place escaped }
+        ensures { (from : ℕ) → escaped ≡ is_escaped text.now from place → result ≡ ends self text.now from place }
     {
         self.has_end(text, place)
             && is_dark(text, place - 1)
@@ -160,9 +162,10 @@ impl Markup {
         }
     }
 
+    /// The markup with its end-string at `end` and what stands behind that; a start without an end where nothing does.
     fn ended_piece(self, place: usize, start: usize, end: usize, tail: Option<Tail>) -> Piece
         requires { start + 2 ≤ usize.MAX }
-        ensures { result ≡ ended_piece self place start end tail }
+        ensures { result ≡ unwrap_or (option_map (ended_piece self place start end) tail) (unended_piece self place start) }
     {
         match tail {
             Some(tail) => Piece {
@@ -198,7 +201,7 @@ impl Markup {
 /// Underscores or nothing.
 fn substitution_tail(text: &[char], place: usize) -> Option<Tail>
     requires { place ≤ length text.now }
-    ensures { result ≡ or_else (name_tail text.now place) (bare_tail text.now place) }
+    ensures { result ≡ option_or (name_tail text.now place) (bare_tail text.now place) }
 {
     if let Some(tail) = name_tail(text, place) {
         return Some(tail);
@@ -209,7 +212,7 @@ fn substitution_tail(text: &[char], place: usize) -> Option<Tail>
 /// Underscores, a role or nothing.
 fn interpreted_tail(text: &[char], place: usize) -> Option<Tail>
     requires { place ≤ length text.now }
-    ensures { result ≡ or_else (name_tail text.now place) (or_else (role_tail text.now (role_end text.now place)) (bare_tail text.now place)) }
+    ensures { result ≡ option_or (name_tail text.now place) (option_or (role_tail text.now (role_end text.now place)) (bare_tail text.now place)) }
 {
     if let Some(tail) = name_tail(text, place) {
         return Some(tail);

@@ -1,6 +1,7 @@
 //! The scanner.
-ghost use Rattle.std.specs.Prelude.{◌≡◌, ◌<◌, length, IfOk};
-ghost use Rattle.rst_pieces.specs.Pieces.{markup_at, is_free_if, piece_if, plain_from, IsPieces};
+ghost use Rattle.std.specs.Prelude.{◌≡◌, ℕ, ◌<◌, length, IfOk};
+ghost use Rattle.rst_pieces.specs.Escapes.{is_escaped};
+ghost use Rattle.rst_pieces.specs.Pieces.{markup_at, is_free, piece_at, plain_from, IsPieces};
 ghost use Rattle.rst_pieces.specs.Missing.{IsMissing};
 ghost use Rattle.rst_pieces.specs.Words.{IsWord};
 
@@ -50,17 +51,18 @@ fn markup_at(text: &[char], place: usize, missing: &mut Missing) -> Option<Piece
     uri(text, place, missing)
 }
 
-/// Whether a start may stand at the place.
-#[tactic(auto, unfolding(crate::specs::Pieces::is_free_if))]
+/// Whether a start may stand at the place, which is escaped or not.
+#[tactic(auto, unfolding(crate::specs::Pieces::is_free))]
 fn is_free(text: &[char], place: usize, escaped: bool) -> bool
     requires { place < length text.now }
-    ensures { result ≡ is_free_if text.now place escaped }
+    ensures { (from : ℕ) → escaped ≡ is_escaped text.now from place → result ≡ is_free text.now from place }
 {
     !escaped && (place == 0 || may_precede(text[place - 1]))
 }
 
-/// The piece that begins at the place, if a start stands there. The word that begins there ends at `end`.
-#[tactic(auto, unfolding(crate::specs::Pieces::piece_if))]
+/// The piece that begins at the place, which is escaped or not, if a start stands there. The word that begins there ends at
+/// `end`.
+#[tactic(auto, unfolding(crate::specs::Pieces::piece_at))]
 fn piece_at(
     text: &[char],
     place: usize,
@@ -71,7 +73,7 @@ fn piece_at(
     requires place { place < length text.now }
     requires word { IsWord text.now place end }
     requires known { IsMissing text.now missing.old place }
-    ensures exact { result ≡ piece_if text.now place escaped }
+    ensures exact { (from : ℕ) → escaped ≡ is_escaped text.now from place → result ≡ piece_at text.now from place }
     ensures known { IsMissing text.now missing.new place }
 {
     if place < end && !goes_on(text, end) {

@@ -1,8 +1,8 @@
 //! Standalone URIs.
 ghost use Rattle.std.specs.Prelude.{◌≡◌, ◌<◌, ◌≤◌, ◌↔◌, ℕ, length, IsTrue};
-ghost use Rattle.std.specs.Str.{chars};
+ghost use Rattle.std.specs.Str.{chars, IsUtf8};
 ghost use Rattle.std.specs.List.{list_all};
-ghost use Rattle.rst_pieces.specs.Uri.{in_lower_case, has_letter, begins_at, scheme_end, is_uri_char, is_uri_trail, uri_stop, uri_close, uri_end, uri, is_ascii_uri, IsUri};
+ghost use Rattle.rst_pieces.specs.Uri.{in_lower_case, has_letter, begins_at, scheme_end, is_uri_char, is_uri_trail, uri_stop, uri_close, uri_end, uri, IsUri};
 ghost use Rattle.rst_pieces.specs.Missing.{IsMissing};
 
 use super::characters::is_free_behind;
@@ -186,7 +186,7 @@ pub fn plain_uri(text: &str) -> bool
 
 /// The same for the bytes of a text. Each character of a URI is one byte.
 fn is_ascii_uri(bytes: &[u8]) -> bool
-    ensures { result ≡ is_ascii_uri bytes.now }
+    ensures { IsUtf8 bytes.now → IsTrue result ↔ IsUri (chars bytes.now) }
 {
     match ascii_scheme_end(bytes) {
         Some(behind) => behind < bytes.len()

@@ -4,6 +4,6 @@ use Rattle.rst_pieces.proofs.WordLemmas.{no-piece}
 use Rattle.rst_pieces.proofs.scanner.piece_at.Goals as goal
 
 pub returns-then-not-goes_on-clause-exact : goal.returns-then-not-goes_on-clause-exact
-returns-then-not-goes_on-clause-exact c =
+returns-then-not-goes_on-clause-exact c from known =
     let stops : goes_on c.args.text.now c.args.end ≡ false = cc in
-    sym (no-piece c.args.text.now c.args.place c.args.end c.args.escaped c.requires.word (omega arith) stops)
+    sym (no-piece c.args.text.now from c.args.place c.args.end c.requires.word (omega arith) stops)

@@ -1,9 +1,9 @@
 use Rattle.std.proofs.Common.{◌≡◌, ◌<◌, ◌+◌, ◌≤◌, Some, None, sym, ap, ◌∙◌, arith, length, subst, vec_items, [], ◌∷◌, ◌++◌, ◌&&◌, ◌==◌}
 use Rattle.std.proofs.lemmas.List.{get_or_read}
 use Rattle.rst_pieces.specs.Escapes.{escapes}
-use Rattle.rst_pieces.specs.Pieces.{piece_at, piece_if, IsPieces}
+use Rattle.rst_pieces.specs.Pieces.{piece_at, IsPieces}
 use Rattle.rst_pieces.proofs.EscapeLemmas.{is_escaped-start, is_escaped-more}
-use Rattle.rst_pieces.proofs.PieceLemmas.{Told, piece_if-fits, told-start, told-other, told-plain, told-last, told-end}
+use Rattle.rst_pieces.proofs.PieceLemmas.{Told, piece_at-fits, told-start, told-other, told-plain, told-last, told-end}
 use Rattle.rst_pieces.proofs.MissingLemmas.{IsMissing-later}
 use Rattle.rst_pieces.proofs.CalmLemmas.{stepped}
 use Rattle.rst_pieces.proofs.WordLemmas.{HasNoStart-word, unescaped-word, unescaped-behind}
@@ -23,12 +23,11 @@ loop-place-init c = record {
 pub loop-place-preserved-in-Some : goal.loop-place-preserved-in-Some
 loop-place-preserved-in-Some c =
     let start = stepped c.args.text.now c.args.bytes.now c.loop-place.from c.loop-place.place c.step-start.result.0 c.loop-place.escaped c.step-start.result.1 (omega arith) (omega arith) c.requires
-    c.loop-place.invariant.none c.loop-place.invariant.escaped c.step-start.ensures.calm c.step-start.ensures.escaped in
+    c.loop-place.invariant.none c.loop-place.invariant.escaped c.step-start.ensures.over c.step-start.ensures.escaped in
     let later = start.above in
     let inside = start.below in
-    let told_here : piece_if c.args.text.now c.step-start.result.0 c.step-start.result.1 ≡ Some c.in-Some.piece = sym c.piece_at.ensures.exact ∙ c.in-Some.is in
-    let fits = piece_if-fits c.args.text.now c.step-start.result.0 c.step-start.result.1 c.in-Some.piece (omega arith) told_here in
-    let begins : piece_at c.args.text.now c.loop-place.from c.step-start.result.0 ≡ Some c.in-Some.piece = ap (piece_if c.args.text.now c.step-start.result.0) (sym start.escaped) ∙ told_here in
+    let begins : piece_at c.args.text.now c.loop-place.from c.step-start.result.0 ≡ Some c.in-Some.piece = sym (c.piece_at.ensures.exact c.loop-place.from start.escaped) ∙ c.in-Some.is in
+    let fits = piece_at-fits c.args.text.now c.loop-place.from c.step-start.result.0 c.in-Some.piece (omega arith) begins in
     record {
       above = omega arith;
       below = fits.within;
@@ -53,10 +52,10 @@ loop-place-preserved-in-Some c =
 pub loop-place-preserved-then-end-text : goal.loop-place-preserved-then-end-text
 loop-place-preserved-then-end-text c =
     let start = stepped c.args.text.now c.args.bytes.now c.loop-place.from c.loop-place.place c.step-start.result.0 c.loop-place.escaped c.step-start.result.1 (omega arith) (omega arith) c.requires
-    c.loop-place.invariant.none c.loop-place.invariant.escaped c.step-start.ensures.calm c.step-start.ensures.escaped in
+    c.loop-place.invariant.none c.loop-place.invariant.escaped c.step-start.ensures.over c.step-start.ensures.escaped in
     let later = start.above in
     let inside = start.below in
-    let here : piece_at c.args.text.now c.loop-place.from c.step-start.result.0 ≡ None = ap (piece_if c.args.text.now c.step-start.result.0) (sym start.escaped) ∙ sym c.piece_at.ensures.exact ∙ c.in-None.is in
+    let here : piece_at c.args.text.now c.loop-place.from c.step-start.result.0 ≡ None = sym (c.piece_at.ensures.exact c.loop-place.from start.escaped) ∙ c.in-None.is in
     let none = HasNoStart-word c.args.text.now c.loop-place.from c.step-start.result.0 c.word_end-end.result c.word_end-end.ensures start.none here in
     record {
       above = omega arith;
@@ -70,13 +69,13 @@ loop-place-preserved-then-end-text c =
 pub loop-place-preserved : goal.loop-place-preserved
 loop-place-preserved c =
     let start = stepped c.args.text.now c.args.bytes.now c.loop-place.from c.loop-place.place c.step-start.result.0 c.loop-place.escaped c.step-start.result.1 (omega arith) (omega arith) c.requires
-    c.loop-place.invariant.none c.loop-place.invariant.escaped c.step-start.ensures.calm c.step-start.ensures.escaped in
+    c.loop-place.invariant.none c.loop-place.invariant.escaped c.step-start.ensures.over c.step-start.ensures.escaped in
     let later = start.above in
     let inside = start.below in
     let above = c.word_end-end.ensures.above in
     let within = c.word_end-end.ensures.within in
     let next = is_escaped-more c.args.text.now c.loop-place.from c.word_end-end.result (omega arith) in
-    let here : piece_at c.args.text.now c.loop-place.from c.step-start.result.0 ≡ None = ap (piece_if c.args.text.now c.step-start.result.0) (sym start.escaped) ∙ sym c.piece_at.ensures.exact ∙ c.in-None.is in
+    let here : piece_at c.args.text.now c.loop-place.from c.step-start.result.0 ≡ None = sym (c.piece_at.ensures.exact c.loop-place.from start.escaped) ∙ c.in-None.is in
     let shown : c.if-start_escaped.escapes ≡ (c.step-start.result.1 && c.step-start.result.0 == c.word_end-end.result) = elim c.if-start_escaped.branch [
       | then-start_escaped w ↦ cc
       | else-start_escaped w ↦ cc
@@ -105,11 +104,11 @@ returns c =
 pub loop-place-smaller-in-Some : goal.loop-place-smaller-in-Some
 loop-place-smaller-in-Some c =
     let start = stepped c.args.text.now c.args.bytes.now c.loop-place.from c.loop-place.place c.step-start.result.0 c.loop-place.escaped c.step-start.result.1 (omega arith) (omega arith) c.requires
-    c.loop-place.invariant.none c.loop-place.invariant.escaped c.step-start.ensures.calm c.step-start.ensures.escaped in
+    c.loop-place.invariant.none c.loop-place.invariant.escaped c.step-start.ensures.over c.step-start.ensures.escaped in
     let later = start.above in
     let inside = start.below in
-    let told_here : piece_if c.args.text.now c.step-start.result.0 c.step-start.result.1 ≡ Some c.in-Some.piece = sym c.piece_at.ensures.exact ∙ c.in-Some.is in
-    let fits = piece_if-fits c.args.text.now c.step-start.result.0 c.step-start.result.1 c.in-Some.piece (omega arith) told_here in
+    let begins : piece_at c.args.text.now c.loop-place.from c.step-start.result.0 ≡ Some c.in-Some.piece = sym (c.piece_at.ensures.exact c.loop-place.from start.escaped) ∙ c.in-Some.is in
+    let fits = piece_at-fits c.args.text.now c.loop-place.from c.step-start.result.0 c.in-Some.piece (omega arith) begins in
     let some : c.step-start.result.0 < c.in-Some.piece.to = fits.some in
     let within : c.in-Some.piece.to ≤ length c.args.text.now = fits.within in
     omega arith

@@ -4,7 +4,7 @@ use Rattle.rst_text.proofs.PlacesLemmas.{first_from-is}
 use Rattle.rst_pieces.specs.Escapes.{escapes}
 use Rattle.rst_pieces.specs.Marked.{start_len, ends, end_of}
 use Rattle.rst_pieces.proofs.EscapeLemmas.{is_escaped-bare, is_escaped-more}
-use Rattle.rst_pieces.proofs.MarkedLemmas.{ends-at, start-bare}
+use Rattle.rst_pieces.proofs.MarkedLemmas.{start-bare}
 use Rattle.rst_pieces.proofs.piece.Markup.end.Goals as goal
 use Rattle.rst_pieces.proofs.piece.Markup.end.Goals.{else-start-start_len-via-then-start-start_len+else-ends, else-start-start_len-via-else-start-start_len}
 
@@ -17,7 +17,7 @@ loop-at-init c = record {
 pub returns-then-ends : goal.returns-then-ends
 unfolding end_of
 returns-then-ends c =
-    let here = ends-at c.args.self c.args.text.now c.args.place c.loop-at.at c.loop-at.escaped c.loop-at.invariant.escaped in
+    let here = c.ends.ensures c.args.place c.loop-at.invariant.escaped in
     record {
       exact = first_from-is (ends c.args.self c.args.text.now c.args.place) _ (length c.args.text.now) (Some c.loop-at.at) (omega arith, omega arith, cc, c.loop-at.invariant.none);
       within = omega arith;
@@ -30,11 +30,11 @@ returns-clause-exact c =
 
 pub loop-at-preserved : goal.loop-at-preserved
 loop-at-preserved c =
-    let here = ends-at c.args.self c.args.text.now c.args.place c.loop-at.at c.loop-at.escaped c.loop-at.invariant.escaped in
+    let known = c.loop-at.invariant.escaped in
     let next = is_escaped-more c.args.text.now c.args.place c.loop-at.at (omega arith) in
     let not_here : c.args.start + start_len c.args.self + 1 ≤ c.loop-at.at → ends c.args.self c.args.text.now c.args.place c.loop-at.at ≡ false = λ low.
     elim c.else-start-start_len.branch [
-      | else-start-start_len-via-then-start-start_len+else-ends w ↦ cc
+      | else-start-start_len-via-then-start-start_len+else-ends w ↦ sym (w.ends.ensures c.args.place known) ∙ cc
       | else-start-start_len-via-else-start-start_len w ↦ absurd (omega arith)
     ] in
     record {
