@@ -18,7 +18,7 @@ use Rattle.rst_pieces.specs.declared.piece.Suffix.{Suffix}
 use Rattle.rst_pieces.specs.declared.piece.Piece.{Piece}
 use Rattle.rst_pieces.proofs.EscapeLemmas.{either-false, unescaped-plain}
 use Rattle.rst_inline.specs.declared.reading.Meaning.TheVariants.{One}
-use Rattle.rst_inline.specs.Elements.{text_nodes, element_of}
+use Rattle.rst_inline.specs.Elements.{text_children, text_element}
 use Rattle.rst_inline.specs.Parts.{part, source, content, IsBare}
 use Rattle.rst_inline.specs.Readings.{plain_reading, reading_by, reading}
 
@@ -65,17 +65,17 @@ reading-plain t line p known within is =
     sym (ap (λ kind. reading_by kind t p line) is ∙ ap plain_reading (unescaped-part t p.from p.to known)
     ∙ plain-some (source t p) (ascii-part t p.from p.to known.ascii) (some-part t p.from p.to within.some within.within))
 
-pub reading-strong : (t : Text) (line : ℕ) (p : Piece) (suffix : Suffix) → IsBare t → p.kind ≡ Marked Strong suffix → One (element_of tag.Strong [] (content t p) line) ≡ reading t line p
+pub reading-strong : (t : Text) (line : ℕ) (p : Piece) (suffix : Suffix) → IsBare t → p.kind ≡ Marked Strong suffix → One (text_element tag.Strong [] (content t p) line) ≡ reading t line p
 unfolding reading
 reading-strong t line p suffix known is =
-    sym (ap (λ kind. reading_by kind t p line) is ∙ ap (λ shown. One (element_of tag.Strong [] shown line)) (unescaped-part t p.content_from p.content_to known))
+    sym (ap (λ kind. reading_by kind t p line) is ∙ ap (λ shown. One (text_element tag.Strong [] shown line)) (unescaped-part t p.content_from p.content_to known))
 
-pub reading-emphasis : (t : Text) (line : ℕ) (p : Piece) (suffix : Suffix) → IsBare t → p.kind ≡ Marked Emphasis suffix → One (element_of tag.Emphasis [] (content t p) line) ≡ reading t line p
+pub reading-emphasis : (t : Text) (line : ℕ) (p : Piece) (suffix : Suffix) → IsBare t → p.kind ≡ Marked Emphasis suffix → One (text_element tag.Emphasis [] (content t p) line) ≡ reading t line p
 unfolding reading
 reading-emphasis t line p suffix known is =
-    sym (ap (λ kind. reading_by kind t p line) is ∙ ap (λ shown. One (element_of tag.Emphasis [] shown line)) (unescaped-part t p.content_from p.content_to known))
+    sym (ap (λ kind. reading_by kind t p line) is ∙ ap (λ shown. One (text_element tag.Emphasis [] shown line)) (unescaped-part t p.content_from p.content_to known))
 
-pub reading-literal : (t : Text) (line : ℕ) (p : Piece) (suffix : Suffix) → p.kind ≡ Marked Literal suffix → One (element_of tag.Literal [] (content t p) line) ≡ reading t line p
+pub reading-literal : (t : Text) (line : ℕ) (p : Piece) (suffix : Suffix) → p.kind ≡ Marked Literal suffix → One (text_element tag.Literal [] (content t p) line) ≡ reading t line p
 unfolding reading
 reading-literal t line p suffix is = sym (ap (λ kind. reading_by kind t p line) is)
 
@@ -86,6 +86,6 @@ some-of [] h = absurd (cc)
 some-of (c ∷ cs) h = omega arith
 
 -- the nodes of a text that is ASCII
-pub text_nodes-ascii : (cs : Text) → IsAscii cs → 0 < length cs → forest_of (Words cs ∷ []) ≡ text_nodes cs
-text_nodes-ascii [] ascii some = absurd (omega arith)
-text_nodes-ascii (c ∷ cs) ascii some = ap (λ s. words s bare) (sym (encodes-IsAscii (c ∷ cs) ascii))
+pub text_children-ascii : (cs : Text) → IsAscii cs → 0 < length cs → forest_of (Words cs ∷ []) ≡ text_children cs
+text_children-ascii [] ascii some = absurd (omega arith)
+text_children-ascii (c ∷ cs) ascii some = ap (λ s. words s bare) (sym (encodes-IsAscii (c ∷ cs) ascii))

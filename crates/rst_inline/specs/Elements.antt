@@ -22,14 +22,14 @@ use Rattle.rst_inline.specs.Parts.{spelled}
 abbrev pub said : Text → Value
 said cs = Said (spelled cs)
 
--- the nodes of a text: none where it is empty
-abbrev pub text_nodes : Text → Forest
-text_nodes [] = bare
-text_nodes (c ∷ cs) = words (spelled (c ∷ cs)) bare
+-- what stands in an element that holds a text: the text, and nothing where it is empty
+abbrev pub text_children : Text → Forest
+text_children [] = bare
+text_children (c ∷ cs) = words (spelled (c ∷ cs)) bare
 
 -- an element that holds a text
-abbrev pub element_of : Tag → List Attr → Text → ℕ → Node
-element_of tag attrs cs line = Element tag attrs (text_nodes cs) line
+abbrev pub text_element : Tag → List Attr → Text → ℕ → Node
+text_element tag attrs cs line = Element tag attrs (text_children cs) line
 
 -- ---- references
 
@@ -41,27 +41,27 @@ reference_attrs _ source shown = attr Name (said (normalized_white shown)) ∷ a
 
 -- a reference by a simple name, or by a phrase in which nothing is embedded
 abbrev pub reference_node : Suffix → Text → Text → ℕ → Node
-reference_node suffix source shown line = element_of Reference (reference_attrs suffix source shown) shown line
+reference_node suffix source shown line = text_element Reference (reference_attrs suffix source shown) shown line
 
 -- a standalone URI
 abbrev pub uri_node : Text → ℕ → Node
-uri_node source line = element_of Reference (attr Rawsource (said source) ∷ attr Refuri (said source) ∷ []) source line
+uri_node source line = text_element Reference (attr Rawsource (said source) ∷ attr Refuri (said source) ∷ []) source line
 
 -- a phrase with an embedded alias
 abbrev pub alias_node : Text → Text → Text → ℕ → Node
 alias_node source shown name line =
-    element_of Reference (attr Name (said (normalized_white shown)) ∷ attr Rawsource (said source) ∷ attr Refname (said (name_of name)) ∷ []) shown line
+    text_element Reference (attr Name (said (normalized_white shown)) ∷ attr Rawsource (said source) ∷ attr Refname (said (name_of name)) ∷ []) shown line
 
 -- a phrase with an embedded URI
 abbrev pub embedded_node : Text → Text → Text → ℕ → Node
 embedded_node source shown uri line =
-    element_of Reference (attr Name (said (normalized_white shown)) ∷ attr Rawsource (said source) ∷ attr Refuri (said uri) ∷ []) shown line
+    text_element Reference (attr Name (said (normalized_white shown)) ∷ attr Rawsource (said source) ∷ attr Refuri (said uri) ∷ []) shown line
 
 -- ---- targets
 
 -- an inline target, named by its text
-abbrev pub target_node : Text → ℕ → Node
-target_node shown line = element_of Target (attr Inline (Number 1) ∷ attr OwnName (said (name_of shown)) ∷ []) shown line
+abbrev pub inline_target_node : Text → ℕ → Node
+inline_target_node shown line = text_element Target (attr Inline (Number 1) ∷ attr OwnName (said (name_of shown)) ∷ []) shown line
 
 -- the target that an embedded URI leaves, named by its phrase
 abbrev pub uri_target_node : Text → Text → ℕ → Node
@@ -72,7 +72,7 @@ uri_target_node shown uri line = Element Target (attr Inline (Number 1) ∷ attr
 -- a substitution reference, which refers to a definition by the name that is shown
 abbrev pub substitution_node : Text → Text → ℕ → Node
 substitution_node source shown line =
-    element_of SubstitutionReference (attr Rawsource (said source) ∷ attr Refname (said (normalized_white shown)) ∷ []) shown line
+    text_element SubstitutionReference (attr Rawsource (said source) ∷ attr Refname (said (normalized_white shown)) ∷ []) shown line
 
 -- The reference round a substitution reference has its source and the name that it refers to, unless it is anonymous, but no
 -- name of its own.
@@ -94,28 +94,28 @@ is_digit c = nat_le 48 c && nat_le c 57
 abbrev pub label_tag : Text → Tag
 label_tag label = if list_all is_digit label then FootnoteReference else CitationReference
 
--- a reference to a footnote by its number, or to a citation by its name
-abbrev pub labelled_node : Text → Text → ℕ → Node
-labelled_node source label line = element_of (label_tag label) (attr Rawsource (said source) ∷ attr Refname (said (name_of label)) ∷ []) label line
+-- a reference whose label says itself what it refers to: to a manually numbered footnote, or to a citation
+abbrev pub manual_reference_node : Text → Text → ℕ → Node
+manual_reference_node source label line = text_element (label_tag label) (attr Rawsource (said source) ∷ attr Refname (said (name_of label)) ∷ []) label line
 
--- a reference to a footnote that gets its number: `#` alone, or with a name
-abbrev pub numbered_node : Text → Text → ℕ → Node
-numbered_node source [] line = Element FootnoteReference (attr Auto (Number 1) ∷ attr Rawsource (said source) ∷ []) bare line
-numbered_node source (c ∷ cs) line = Element FootnoteReference (attr Auto (Number 1) ∷ attr Rawsource (said source) ∷ attr Refname (said (name_of (c ∷ cs))) ∷ []) bare line
+-- a reference to an autonumbered footnote: `#` alone, or with the name that is behind it
+abbrev pub autonumbered_reference_node : Text → Text → ℕ → Node
+autonumbered_reference_node source [] line = Element FootnoteReference (attr Auto (Number 1) ∷ attr Rawsource (said source) ∷ []) bare line
+autonumbered_reference_node source (c ∷ cs) line = Element FootnoteReference (attr Auto (Number 1) ∷ attr Rawsource (said source) ∷ attr Refname (said (name_of (c ∷ cs))) ∷ []) bare line
 
--- a reference to a footnote that gets a symbol: `*`
-abbrev pub symbol_node : Text → ℕ → Node
-symbol_node source line = Element FootnoteReference (attr Auto (said (42 ∷ [])) ∷ attr Rawsource (said source) ∷ []) bare line
+-- a reference to an auto-symbol footnote: `*`
+abbrev pub autosymbol_reference_node : Text → ℕ → Node
+autosymbol_reference_node source line = Element FootnoteReference (attr Auto (said (42 ∷ [])) ∷ attr Rawsource (said source) ∷ []) bare line
 
--- a reference to a footnote or a citation by its label, which `#` or `*` may begin
-abbrev pub label_node : Text → Text → ℕ → Node
-label_node source [] line = labelled_node source [] line
-label_node source (c ∷ cs) line =
-    if c == 35 then numbered_node source cs line
-    else (if c == 42 then symbol_node source line else labelled_node source (c ∷ cs) line)
+-- a reference to a footnote or a citation by the label in its brackets, which `#` or `*` may begin
+abbrev pub label_reference_node : Text → Text → ℕ → Node
+label_reference_node source [] line = manual_reference_node source [] line
+label_reference_node source (c ∷ cs) line =
+    if c == 35 then autonumbered_reference_node source cs line
+    else (if c == 42 then autosymbol_reference_node source line else manual_reference_node source (c ∷ cs) line)
 
 -- ---- problems
 
 -- what is wrong as it is written, with the place of its message among those of the text
 abbrev pub problematic_node : ℕ → Text → ℕ → Node
-problematic_node place source line = element_of Problematic (attr Message (Number place) ∷ []) source line
+problematic_node place source line = text_element Problematic (attr Message (Number place) ∷ []) source line

@@ -19,7 +19,7 @@ use Rattle.rst_inline.specs.declared.reading.Meaning.TheVariants.{Nothing, One, 
 use Rattle.rst_inline.specs.Parts.{part, source, content, spelled}
 use Rattle.rst_inline.specs.Roles.{role_tag}
 use Rattle.rst_inline.specs.Embedded.{embedded_at, enclosed, is_alias, meant, shown_by}
-use Rattle.rst_inline.specs.Elements.{element_of, reference_node, uri_node, alias_node, embedded_node, target_node, uri_target_node, substitution_node, outer_node, label_node}
+use Rattle.rst_inline.specs.Elements.{text_element, reference_node, uri_node, alias_node, embedded_node, inline_target_node, uri_target_node, substitution_node, outer_node, label_reference_node}
 
 -- ---- messages
 
@@ -81,16 +81,16 @@ phrase_reading suffix source phrase line = phrase_reading_at suffix source phras
 
 -- interpreted text, with the element of its role, or with none where the role is unknown
 abbrev pub role_reading_by : Option Tag → List ℕ → Text → ℕ → Meaning
-role_reading_by (Some element) name shown line = One (element_of element [] shown line)
+role_reading_by (Some element) name shown line = One (text_element element [] shown line)
 role_reading_by None name shown line = unknown_role name
 
 -- interpreted text with a role
 abbrev pub role_reading : Text → Text → ℕ → Meaning
 role_reading role shown line = role_reading_by (role_tag (spelled role)) (spelled role) shown line
 
--- a role stands in front of the backquote
-abbrev pub has_prefix : Piece → Bool
-has_prefix p = nat_lt (p.from + 1) p.content_from
+-- A role stands in front of interpreted text: the content begins further behind the piece's place than one backquote.
+abbrev pub has_prefix_role : Piece → Bool
+has_prefix_role p = nat_lt (p.from + 1) p.content_from
 
 -- the role in front of the backquote
 abbrev pub prefix_role : Text → Piece → Text
@@ -106,26 +106,26 @@ interpreted_reading true Bare t p line = role_reading (prefix_role t p) (unescap
 interpreted_reading true Role t p line = two_roles
 interpreted_reading true Named t p line = mismatch
 interpreted_reading true Anonymous t p line = mismatch
-interpreted_reading false Bare t p line = One (element_of tag.TitleReference [] (unescaped (content t p)) line)
+interpreted_reading false Bare t p line = One (text_element tag.TitleReference [] (unescaped (content t p)) line)
 interpreted_reading false Role t p line = role_reading (suffix_role t p) (unescaped (content t p)) line
 interpreted_reading false Named t p line = phrase_reading Named (source t p) (content t p) line
 interpreted_reading false Anonymous t p line = phrase_reading Anonymous (source t p) (content t p) line
 
 -- what markup with both its strings means: what it encloses, without escapes unless it is a literal, in an element of its kind
 abbrev pub marked_reading : Markup → Suffix → Text → Piece → ℕ → Meaning
-marked_reading Strong suffix t p line = One (element_of tag.Strong [] (unescaped (content t p)) line)
-marked_reading Emphasis suffix t p line = One (element_of tag.Emphasis [] (unescaped (content t p)) line)
-marked_reading Literal suffix t p line = One (element_of tag.Literal [] (content t p) line)
-marked_reading Target suffix t p line = One (target_node (unescaped (content t p)) line)
+marked_reading Strong suffix t p line = One (text_element tag.Strong [] (unescaped (content t p)) line)
+marked_reading Emphasis suffix t p line = One (text_element tag.Emphasis [] (unescaped (content t p)) line)
+marked_reading Literal suffix t p line = One (text_element tag.Literal [] (content t p) line)
+marked_reading Target suffix t p line = One (inline_target_node (unescaped (content t p)) line)
 marked_reading Substitution suffix t p line = substitution_reading suffix (part t p.from (p.content_to + 1)) (source t p) (unescaped (content t p)) line
-marked_reading Interpreted suffix t p line = interpreted_reading (has_prefix p) suffix t p line
+marked_reading Interpreted suffix t p line = interpreted_reading (has_prefix_role p) suffix t p line
 
 -- what a piece of a kind means
 abbrev pub reading_by : Kind → Text → Piece → ℕ → Meaning
 reading_by Plain t p line = plain_reading (unescaped (source t p))
 reading_by (Marked markup suffix) t p line = marked_reading markup suffix t p line
 reading_by (Unended markup) t p line = unended markup
-reading_by Label t p line = One (label_node (source t p) (content t p) line)
+reading_by Label t p line = One (label_reference_node (source t p) (content t p) line)
 reading_by (Reference suffix) t p line = One (reference_node suffix (source t p) (content t p) line)
 reading_by Uri t p line = One (uri_node (source t p) line)
 

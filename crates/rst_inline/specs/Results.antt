@@ -1,5 +1,6 @@
 -- What an inline text means (Markup Specification, 'Inline Markup'; Document Tree, 'problematic').
-use Rattle.std.specs.Prelude.{◌≡◌, ℕ, ◌+◌, List, [], ◌∷◌, ◌++◌, None}
+use Rattle.std.specs.Prelude.{◌≡◌, ℕ, List, [], ◌∷◌, ◌++◌, length, None}
+use Rattle.std.specs.List.{flat_map}
 use Rattle.rst_tree.specs.declared.node.Node.{Node}
 use Rattle.rst_tree.specs.declared.note.Note.{Note}
 use Rattle.rst_pieces.specs.Characters.{Text}
@@ -12,37 +13,32 @@ use Rattle.rst_inline.specs.Parts.{source}
 use Rattle.rst_inline.specs.Elements.{problematic_node}
 use Rattle.rst_inline.specs.Readings.{reading}
 
--- the nodes of a piece; `count` messages stand before those of the piece
-abbrev pub nodes_by : Meaning → ℕ → Text → ℕ → List Node
-nodes_by Nothing count source line = []
-nodes_by (One node) count source line = node ∷ []
-nodes_by (Two node next) count source line = node ∷ next ∷ []
-nodes_by (Wrong level text) count source line = problematic_node count source line ∷ []
-
 -- the messages of a piece: one where it is wrong
 abbrev pub notes_by : Meaning → ℕ → List Note
 notes_by (Wrong level text) line = record { level = level; line = line; text = text; block = None } ∷ []
 notes_by _ line = []
 
--- how many messages there are then
-abbrev pub count_by : Meaning → ℕ → ℕ
-count_by (Wrong level text) count = count + 1
-count_by _ count = count
-
--- the nodes of pieces in order
-abbrev pub nodes_from : Text → ℕ → ℕ → List Piece → List Node
-nodes_from t line count [] = []
-nodes_from t line count (p ∷ ps) = nodes_by (reading t line p) count (source t p) line ++ nodes_from t line (count_by (reading t line p) count) ps
-
 -- the messages of pieces in order
-abbrev pub notes_from : Text → ℕ → List Piece → List Note
-notes_from t line [] = []
-notes_from t line (p ∷ ps) = notes_by (reading t line p) line ++ notes_from t line ps
+abbrev pub notes_of : Text → ℕ → List Piece → List Note
+notes_of t line pieces = flat_map (λ p. notes_by (reading t line p) line) pieces
+
+-- the nodes of a piece, whose message, if it has one, has this place among those of the text
+abbrev pub nodes_by : Meaning → ℕ → Text → ℕ → List Node
+nodes_by Nothing place source line = []
+nodes_by (One node) place source line = node ∷ []
+nodes_by (Two node next) place source line = node ∷ next ∷ []
+nodes_by (Wrong level text) place source line = problematic_node place source line ∷ []
+
+-- the nodes of pieces in order, behind other pieces: the message of a piece stands behind all those of the pieces before it
+abbrev pub nodes_behind : Text → ℕ → List Piece → List Piece → List Node
+nodes_behind t line before [] = []
+nodes_behind t line before (p ∷ ps) =
+    nodes_by (reading t line p) (length (notes_of t line before)) (source t p) line ++ nodes_behind t line (before ++ p ∷ []) ps
 
 -- the nodes and the messages are those of the pieces
 pub record Reads (t : Text) (line : ℕ) (pieces : List Piece) (read : Pieces) : Type 0 where
-  pub nodes : read.nodes.items ≡ nodes_from t line 0 pieces
-  pub notes : read.notes.items ≡ notes_from t line pieces
+  pub nodes : read.nodes.items ≡ nodes_behind t line [] pieces
+  pub notes : read.notes.items ≡ notes_of t line pieces
 
 -- They are those of the pieces of the text, of which there is exactly one list.
 abbrev pub IsRead : Text → ℕ → Pieces → Type 0

@@ -2,7 +2,7 @@
 ghost use Rattle.std.specs.Prelude.{◌≡◌, []};
 ghost use Rattle.rst_tree.specs.Forest.{bare};
 ghost use Rattle.rst_tree.specs.declared.node.Node.TheVariants.{Element};
-ghost use Rattle.rst_inline.specs.Elements.{text_nodes, element_of, target_node, uri_target_node, problematic_node};
+ghost use Rattle.rst_inline.specs.Elements.{text_children, text_element, inline_target_node, uri_target_node, problematic_node};
 ghost use Rattle.rst_inline.specs.Faults.{Gives};
 
 use super::attributes::{attr, three, two};
@@ -13,7 +13,7 @@ use std::alloc::Global;
 
 /// The nodes of a text: none where it is empty.
 pub(crate) fn text_nodes(alloc: Global, shown: &[char]) -> Result<Children, InlineFault>
-    ensures { Gives (λ nodes. nodes ≡ text_nodes shown.now) result }
+    ensures { Gives (λ nodes. nodes ≡ text_children shown.now) result }
 {
     if shown.is_empty() {
         return Ok(Children::new(alloc));
@@ -31,7 +31,7 @@ pub(crate) fn element(
     shown: &[char],
     line: usize,
 ) -> Result<Node, InlineFault>
-    ensures { Gives (λ node. node ≡ element_of tag attrs.items shown.now line) result }
+    ensures { Gives (λ node. node ≡ text_element tag attrs.items shown.now line) result }
 {
     let children = text_nodes(alloc, shown)?;
     Ok(Node::Element {
@@ -49,7 +49,7 @@ pub(crate) fn plain_element(
     shown: &[char],
     line: usize,
 ) -> Result<Node, InlineFault>
-    ensures { Gives (λ node. node ≡ element_of tag [] shown.now line) result }
+    ensures { Gives (λ node. node ≡ text_element tag [] shown.now line) result }
 {
     element(alloc, tag, Vec::new(alloc), shown, line)
 }
@@ -68,7 +68,7 @@ pub(crate) fn bare_element(alloc: Global, tag: Tag, attrs: Vec<Entry>, line: usi
 
 /// An inline target, named by its text.
 pub(crate) fn target(alloc: Global, shown: &[char], line: usize) -> Result<Node, InlineFault>
-    ensures { Gives (λ node. node ≡ target_node shown.now line) result }
+    ensures { Gives (λ node. node ≡ inline_target_node shown.now line) result }
 {
     let name = name_said(alloc, shown)?;
     let attrs = two(

@@ -1,7 +1,7 @@
 //! References to footnotes and citations.
 ghost use Rattle.std.specs.Prelude.{◌≡◌};
 ghost use Rattle.std.specs.List.{list_all};
-ghost use Rattle.rst_inline.specs.Elements.{is_digit, label_tag, labelled_node, numbered_node, symbol_node, label_node};
+ghost use Rattle.rst_inline.specs.Elements.{is_digit, label_tag, manual_reference_node, autonumbered_reference_node, autosymbol_reference_node, label_reference_node};
 ghost use Rattle.rst_inline.specs.Faults.{Gives};
 
 use super::attributes::{attr, three, two};
@@ -45,7 +45,7 @@ fn labelled(
     label: &[char],
     line: usize,
 ) -> Result<Node, InlineFault>
-    ensures { Gives (λ node. node ≡ labelled_node source.now label.now line) result }
+    ensures { Gives (λ node. node ≡ manual_reference_node source.now label.now line) result }
 {
     let written = said(alloc, source)?;
     let name = name_said(alloc, label)?;
@@ -59,7 +59,7 @@ fn labelled(
 
 /// A footnote that is numbered, alone or with a name.
 fn numbered(alloc: Global, source: &[char], name: &[char], line: usize) -> Result<Node, InlineFault>
-    ensures { Gives (λ node. node ≡ numbered_node source.now name.now line) result }
+    ensures { Gives (λ node. node ≡ autonumbered_reference_node source.now name.now line) result }
 {
     let written = said(alloc, source)?;
     match name {
@@ -86,7 +86,7 @@ fn numbered(alloc: Global, source: &[char], name: &[char], line: usize) -> Resul
 
 /// A footnote with a symbol.
 fn symbol(alloc: Global, source: &[char], line: usize) -> Result<Node, InlineFault>
-    ensures { Gives (λ node. node ≡ symbol_node source.now line) result }
+    ensures { Gives (λ node. node ≡ autosymbol_reference_node source.now line) result }
 {
     let written = said(alloc, source)?;
     let auto = said(alloc, &['*'])?;
@@ -101,7 +101,7 @@ pub(crate) fn label_reference(
     label: &[char],
     line: usize,
 ) -> Result<Node, InlineFault>
-    ensures { Gives (λ node. node ≡ label_node source.now label.now line) result }
+    ensures { Gives (λ node. node ≡ label_reference_node source.now label.now line) result }
 {
     match label {
         [] => labelled(alloc, source, label, line),

@@ -3,7 +3,7 @@ ghost use Rattle.std.specs.Prelude.{◌<◌, ◌+◌, true, ◌≡◌};
 ghost use Rattle.rst_pieces.specs.Escapes.{unescaped};
 ghost use Rattle.rst_pieces.specs.Pieces.{IsWithin};
 ghost use Rattle.rst_inline.specs.Parts.{source, content};
-ghost use Rattle.rst_inline.specs.Readings.{unended_words, unended, unknown_role, two_roles, mismatch, plain_reading, substitution_reading, embedded_reading, phrase_reading, role_reading, has_prefix, interpreted_reading, marked_reading, reading};
+ghost use Rattle.rst_inline.specs.Readings.{unended_words, unended, unknown_role, two_roles, mismatch, plain_reading, substitution_reading, embedded_reading, phrase_reading, role_reading, has_prefix_role, interpreted_reading, marked_reading, reading};
 ghost use Rattle.rst_inline.specs.Faults.{Gives};
 
 use super::elements::{plain_element, target, uri_target};
@@ -228,7 +228,7 @@ fn interpreted(
     line: usize,
 ) -> Result<Meaning, InlineFault>
     requires { IsWithin text.now piece }
-    ensures { Gives (λ reading. reading ≡ interpreted_reading (has_prefix piece) suffix text.now piece line) result }
+    ensures { Gives (λ reading. reading ≡ interpreted_reading (has_prefix_role piece) suffix text.now piece line) result }
 {
     if piece.from + 1 < piece.content_from {
         return prefixed(alloc, suffix, text, piece, line);

@@ -5,7 +5,7 @@ ghost use Rattle.rst_tree.specs.declared.node.Node.TheVariants.{Text as Words};
 ghost use Rattle.rst_pieces.specs.Pieces.{IsPieces, IsWithin};
 ghost use Rattle.rst_inline.specs.declared.reading.Meaning.TheVariants.{One};
 ghost use Rattle.rst_inline.specs.Faults.{Gives};
-ghost use Rattle.rst_inline.specs.Elements.{text_nodes, element_of};
+ghost use Rattle.rst_inline.specs.Elements.{text_children, text_element};
 ghost use Rattle.rst_inline.specs.Parts.{source, content, IsBare};
 ghost use Rattle.rst_inline.specs.Readings as spec;
 
@@ -80,7 +80,7 @@ fn copied(alloc: Global, written: &str, piece: Piece) -> Result<Meaning, InlineF
 /// The nodes of a text that is ASCII: none where it is empty.
 pub(crate) fn words(alloc: Global, text: &str) -> Result<Children, InlineFault>
     requires { IsAscii text.now }
-    ensures { Gives (λ nodes. nodes ≡ text_nodes text.now) result }
+    ensures { Gives (λ nodes. nodes ≡ text_children text.now) result }
 {
     if text.is_empty() {
         return Ok(Children::new(alloc));
@@ -100,7 +100,7 @@ fn enclosed(
 ) -> Result<Meaning, InlineFault>
     requires ascii { IsAscii written.now }
     requires within { IsWithin written.now piece }
-    ensures { Gives (λ read. read ≡ One (element_of tag [] (content written.now piece) line)) result }
+    ensures { Gives (λ read. read ≡ One (text_element tag [] (content written.now piece) line)) result }
 {
     let children = words(alloc, &written[piece.content_from..piece.content_to])?;
     Ok(Meaning::One(Node::Element {

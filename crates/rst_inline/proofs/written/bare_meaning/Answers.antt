@@ -7,7 +7,7 @@ use Rattle.rst_pieces.specs.declared.piece.Markup.TheVariants as markups
 use Rattle.rst_inline.specs.declared.reading.Meaning.TheVariants.{One}
 use Rattle.rst_inline.specs.Faults.{Gives}
 use Rattle.rst_inline.specs.Parts.{source, content, IsBare}
-use Rattle.rst_inline.specs.Elements.{element_of}
+use Rattle.rst_inline.specs.Elements.{text_element}
 use Rattle.rst_inline.proofs.WrittenLemmas.{reading-plain, reading-strong, reading-emphasis, reading-literal}
 use Rattle.rst_inline.proofs.written.bare_meaning.Goals as goal
 
@@ -21,7 +21,7 @@ pub returns-in-Marked-Strong-default : goal.returns-in-Marked-Strong-default
 returns-in-Marked-Strong-default c =
     let markup : c.in-Marked-Strong-default.field-0 ≡ markups.Strong = rw c.in-Marked-Strong-default.is at c.in-Marked-Strong-default.field-0-is in
     let kind = c.in-Marked-Strong-default.is ∙ ap (λ m. Marked m c.in-Marked-Strong-default.field-1) markup in
-    let is = ap (λ (w : Text). One (element_of Strong [] (content w c.args.piece) c.args.line)) c.requires.same
+    let is = ap (λ (w : Text). One (text_element Strong [] (content w c.args.piece) c.args.line)) c.requires.same
     ∙ reading-strong c.args.text.now c.args.line c.args.piece c.in-Marked-Strong-default.field-1 (subst IsBare c.requires.same c.requires.bare) kind in
     subst (λ m. Gives (λ read. read ≡ m) c.enclosed.result) is c.enclosed.ensures
 
@@ -29,7 +29,7 @@ pub returns-in-Marked-Emphasis-default : goal.returns-in-Marked-Emphasis-default
 returns-in-Marked-Emphasis-default c =
     let markup : c.in-Marked-Emphasis-default.field-0 ≡ markups.Emphasis = rw c.in-Marked-Emphasis-default.is at c.in-Marked-Emphasis-default.field-0-is in
     let kind = c.in-Marked-Emphasis-default.is ∙ ap (λ m. Marked m c.in-Marked-Emphasis-default.field-1) markup in
-    let is = ap (λ (w : Text). One (element_of Emphasis [] (content w c.args.piece) c.args.line)) c.requires.same
+    let is = ap (λ (w : Text). One (text_element Emphasis [] (content w c.args.piece) c.args.line)) c.requires.same
     ∙ reading-emphasis c.args.text.now c.args.line c.args.piece c.in-Marked-Emphasis-default.field-1 (subst IsBare c.requires.same c.requires.bare) kind in
     subst (λ m. Gives (λ read. read ≡ m) c.enclosed-in-Marked-Emphasis-default.result) is c.enclosed-in-Marked-Emphasis-default.ensures
 
@@ -37,6 +37,6 @@ pub returns-in-Marked-Literal-default : goal.returns-in-Marked-Literal-default
 returns-in-Marked-Literal-default c =
     let markup : c.in-Marked-Literal-default.field-0 ≡ markups.Literal = rw c.in-Marked-Literal-default.is at c.in-Marked-Literal-default.field-0-is in
     let kind = c.in-Marked-Literal-default.is ∙ ap (λ m. Marked m c.in-Marked-Literal-default.field-1) markup in
-    let is = ap (λ (w : Text). One (element_of Literal [] (content w c.args.piece) c.args.line)) c.requires.same
+    let is = ap (λ (w : Text). One (text_element Literal [] (content w c.args.piece) c.args.line)) c.requires.same
     ∙ reading-literal c.args.text.now c.args.line c.args.piece c.in-Marked-Literal-default.field-1 kind in
     subst (λ m. Gives (λ read. read ≡ m) c.enclosed-in-Marked-Literal-default.result) is c.enclosed-in-Marked-Literal-default.ensures
