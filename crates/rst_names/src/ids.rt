@@ -1,5 +1,7 @@
 //! Ids.
-ghost use Rattle.std.specs.Prelude.{◌<◌, IfSome, vec_len};
+ghost use Rattle.std.specs.Prelude.{◌≡◌, ◌<◌, ◌++◌, IfSome, vec_len, decimal};
+ghost use Rattle.rst_tree.specs.Faults.{Gives};
+ghost use Rattle.rst_names.specs.Written as spec;
 
 use rst_text::id_of;
 use rst_tree::{Tag, Text, TreeFault};
@@ -86,46 +88,61 @@ impl Ids {
 
     /// Takes the first free id of a kind's name, a hyphen and a number.
     fn give_kind(&mut self, alloc: Global, tag: Tag) -> Result<Text, TreeFault> {
+        let number = self.give_number(alloc, tag)?;
+        let front = front_of(alloc, tag.hyphenated())?;
+        numbered(alloc, front.as_str(), number)
+    }
+
+    /// Takes the first free id of a kind's name, a hyphen and a number, and gives that number.
+    ///
+    /// The only refusal is want of memory.
+    pub fn give_number(&mut self, alloc: Global, tag: Tag) -> Result<u64, TreeFault> {
         for i in 0..self.kinds.len() {
             if self.kinds[i].0 == tag {
                 return self.give_known(alloc, i);
             }
         }
         let base = tag.hyphenated();
-        let (number, id) = free(alloc, &self.hindering, base, self.next_of(base))?;
+        let number = free(alloc, &self.hindering, base, self.next_of(base))?;
         self.kinds.push((tag, number.saturating_add(1)))?;
-        Ok(id)
+        Ok(number)
     }
 
     /// The same for the kind at a place among those of which there are such ids.
-    fn give_known(&mut self, alloc: Global, place: usize) -> Result<Text, TreeFault>
+    fn give_known(&mut self, alloc: Global, place: usize) -> Result<u64, TreeFault>
         requires { place < vec_len self.old.kinds }
     {
         let (kind, next) = self.kinds[place];
-        let (number, id) = free(alloc, &self.hindering, kind.hyphenated(), next)?;
+        let number = free(alloc, &self.hindering, kind.hyphenated(), next)?;
         self.kinds[place] = (kind, number.saturating_add(1));
-        Ok(id)
+        Ok(number)
     }
 
     /// Takes the first free id of a text, a hyphen and a number.
     fn give_numbered(&mut self, alloc: Global, base: &str) -> Result<Text, TreeFault> {
+        let number = self.give_number_of(alloc, base)?;
+        let front = front_of(alloc, base)?;
+        numbered(alloc, front.as_str(), number)
+    }
+
+    /// Takes the first free id of a text, a hyphen and a number, and gives that number.
+    fn give_number_of(&mut self, alloc: Global, base: &str) -> Result<u64, TreeFault> {
         if let Some(place) = self.kind_named(base) {
             return self.give_known(alloc, place);
         }
         if let Some(next) = self.next.get_mut(base) {
-            let (number, id) = free(alloc, &self.hindering, base, *next)?;
+            let number = free(alloc, &self.hindering, base, *next)?;
             *next = number.saturating_add(1);
-            return Ok(id);
+            return Ok(number);
         }
-        let (number, id) = free(alloc, &self.hindering, base, 1)?;
+        let number = free(alloc, &self.hindering, base, 1)?;
         self.next
             .insert(String::from_str(alloc, base)?, number.saturating_add(1))?;
-        Ok(id)
+        Ok(number)
     }
 }
 
-/// The least number from `first` on, with each below which the id is taken, that makes an id free behind a text and a hyphen,
-/// and that id.
+/// The least number from `first` on, with each below which the id is taken, that makes an id free behind a text and a hyphen.
 ///
 /// Each hindering id hinders one number at most, so no more steps than there are of these come before the last. Ids stay
 /// taken, so a number that was passed over need never be looked at again.
@@ -134,16 +151,20 @@ fn free(
     hindering: &BTreeSet<String>,
     base: &str,
     first: u64,
-) -> Result<(u64, Text), TreeFault> {
+) -> Result<u64, TreeFault> {
+    if hindering.is_empty() {
+        return Ok(first);
+    }
+    let front = front_of(alloc, base)?;
     let mut number = first;
     for _ in 0..hindering.len() {
-        let id = numbered(alloc, base, number)?;
+        let id = numbered(alloc, front.as_str(), number)?;
         if !hindering.contains(id.as_str()) {
-            return Ok((number, id));
+            return Ok(number);
         }
         number = number.saturating_add(1);
     }
-    Ok((number, numbered(alloc, base, number)?))
+    Ok(number)
 }
 
 /// The text and the number of an id that is like those that are made of a text, a hyphen and a number: without a 0 in front.
@@ -171,11 +192,33 @@ fn id_text(alloc: Global, name: &str) -> Result<String, TreeFault> {
     }
 }
 
-/// A text, a hyphen and a number.
-fn numbered(alloc: Global, base: &str, number: u64) -> Result<Text, TreeFault> {
+/// What stands in ids of a text before their number.
+fn front_of(alloc: Global, base: &str) -> Result<Text, TreeFault> {
+    let mut front = Text::from_str(alloc, base)?;
+    front.push_str("-")?;
+    Ok(front)
+}
+
+/// A text and a number.
+fn numbered(alloc: Global, front: &str, number: u64) -> Result<Text, TreeFault>
+    ensures { Gives (λ id. id ≡ front.now ++ decimal number) result }
+{
     let mut buffer = itoa::Buffer::new();
-    let mut id = Text::from_str(alloc, base)?;
-    id.push_str("-")?;
+    let mut id = Text::from_str(alloc, front)?;
     id.push_str(buffer.format(number))?;
     Ok(id)
+}
+
+/// The id of a problematic by its number.
+pub fn problematic_id(alloc: Global, number: u64) -> Result<Text, TreeFault>
+    ensures { Gives (λ id. id ≡ spec.problematic_id number) result }
+{
+    numbered(alloc, "problematic-", number)
+}
+
+/// The id of a message by its number.
+pub fn message_id(alloc: Global, number: u64) -> Result<Text, TreeFault>
+    ensures { Gives (λ id. id ≡ spec.message_id number) result }
+{
+    numbered(alloc, "system-message-", number)
 }

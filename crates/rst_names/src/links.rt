@@ -1,97 +1,65 @@
 //! Messages and their problematics.
 
+use super::ids::problematic_id;
 use super::registrants::number_at;
-use super::registry::{Link, Standing};
 use rst_marked::Element;
-use rst_tree::{Key, Tag, Text, Texts, TreeFault};
+use rst_tree::{Key, Tag, Texts, TreeFault};
 use std::alloc::Global;
 
-/// Links the messages among registered elements to their problematics, and these to them, by the messages' numbers, of which
-/// there are so many. A message has the ids of its problematics in document order.
-pub fn link(
-    alloc: Global,
-    elements: &[Element<'_>],
-    messages: u64,
-    standings: &mut Vec<Standing>,
-) -> Result<(), TreeFault> {
-    if messages == 0 {
-        return Ok(());
-    }
-    let places = places_of_messages(alloc, elements, messages)?;
-    for (serial, element) in elements.iter().enumerate() {
-        if !matches!(element.tag, Tag::Problematic) {
-            continue;
+/// What is known of a message.
+#[derive(Drop)]
+pub struct Linked {
+    /// The number in its id, if it is in the document.
+    pub id: Option<u64>,
+    /// The ids of its problematics, in document order.
+    pub problematics: Texts,
+}
+
+/// What is known of messages and problematics. They have no names; of their ids the numbers are enough.
+#[derive(Drop)]
+pub struct Links {
+    /// The numbers in their ids, in preorder.
+    pub numbers: Vec<u64>,
+    /// What is known of each message, by the number that it and its problematics carry.
+    pub messages: Vec<Linked>,
+}
+
+impl Links {
+    /// What is known before the first of so many messages and problematics; so many numbers were given to messages.
+    pub fn new(alloc: Global, linked: usize, messages: u64) -> Result<Links, TreeFault> {
+        let mut links = Links {
+            numbers: Vec::with_capacity(alloc, linked)?,
+            messages: Vec::with_capacity(alloc, messages as usize)?,
+        };
+        for _ in 0..messages {
+            links.messages.push(Linked {
+                id: None,
+                problematics: Texts::new(alloc),
+            })?;
         }
-        if let Some(number) = number_at(element.attrs, Key::Message) {
-            if let Some(Some(message)) = places.get(number as usize) {
-                join(alloc, standings, *message, serial)?;
+        Ok(links)
+    }
+
+    /// Adds one more message or problematic, whose id has a number.
+    pub fn add(&mut self, alloc: Global, new: Element<'_>, number: u64) -> Result<(), TreeFault> {
+        self.numbers.push(number)?;
+        let Some(message) = number_at(new.attrs, Key::Message) else {
+            return Ok(());
+        };
+        match self.messages.get_mut(message as usize) {
+            Some(linked) if matches!(new.tag, Tag::Problematic) => {
+                linked.problematics.push(problematic_id(alloc, number)?)
             }
-        }
-    }
-    Ok(())
-}
-
-/// The places of the messages among registered elements, by their numbers.
-fn places_of_messages(
-    alloc: Global,
-    elements: &[Element<'_>],
-    messages: u64,
-) -> Result<Vec<Option<usize>>, TreeFault> {
-    let mut places = Vec::with_capacity(alloc, messages as usize)?;
-    for _ in 0..messages {
-        places.push(None)?;
-    }
-    for (serial, element) in elements.iter().enumerate() {
-        if matches!(element.tag, Tag::Problematic) {
-            continue;
-        }
-        if let Some(number) = number_at(element.attrs, Key::Message) {
-            if let Some(place) = places.get_mut(number as usize) {
-                *place = Some(serial);
+            Some(linked) => {
+                linked.id = Some(number);
+                Ok(())
             }
+            None => Ok(()),
         }
     }
-    Ok(places)
 }
 
-/// Links a message and one more of its problematics, if both have ids.
-fn join(
-    alloc: Global,
-    standings: &mut Vec<Standing>,
-    message: usize,
-    problematic: usize,
-) -> Result<(), TreeFault> {
-    let (Some(refid), Some(backref)) = (
-        id_at(standings.as_slice(), message)?,
-        id_at(standings.as_slice(), problematic)?,
-    ) else {
-        return Ok(());
-    };
-    if problematic < standings.len() {
-        standings[problematic].link = Link::Message(refid);
-    }
-    if message < standings.len() {
-        return add_backref(alloc, &mut standings[message], backref);
-    }
-    Ok(())
-}
-
-/// A copy of the id of the element at a place.
-fn id_at(standings: &[Standing], serial: usize) -> Result<Option<Text>, TreeFault> {
-    match standings.get(serial) {
-        Some(standing) => match &standing.id {
-            Some(id) => Ok(Some(id.copy()?)),
-            None => Ok(None),
-        },
-        None => Ok(None),
-    }
-}
-
-/// Adds the id of a problematic to those that a message has.
-fn add_backref(alloc: Global, message: &mut Standing, id: Text) -> Result<(), TreeFault> {
-    if let Link::Problematics(ids) = &mut message.link {
-        return ids.push(id);
-    }
-    message.link = Link::Problematics(Texts::lone(alloc, id));
-    Ok(())
+/// Whether elements of a kind are messages or problematics.
+pub fn is_linked(tag: Tag) -> bool {
+    matches!(tag, Tag::Problematic | Tag::SystemMessage)
 }

@@ -1,7 +1,6 @@
 //! The registration of a document's elements.
 
 use super::ids::Ids;
-use super::links::link;
 use super::names::Names;
 use super::placing::place_notices;
 use super::registry::{Registry, registry_of};
@@ -19,11 +18,11 @@ pub struct Registered {
     pub ids: Ids,
     /// The names of its elements.
     pub names: Names,
-    /// How many elements were registered; their numbers (`Key::Serial`) are those below it.
+    /// How many of the registered elements may have names; their numbers (`Key::Serial`) are those below it.
     pub serials: u64,
 }
 
-/// Registers a document's elements in preorder: each gets a number, unless elements of its kind have no names, those of 'ids'
+/// Registers a document's elements in preorder: each gets a number, unless it is a message or a problematic, which have no names, those of 'ids'
 /// (Document Tree) their id, those with a name the name, or the duplicate name where another one has it, and equal names
 /// their messages.
 ///
@@ -46,17 +45,17 @@ pub struct Registered {
 /// The only refusal is want of memory.
 pub fn register(alloc: Global, document: Marked, messages: u64) -> Result<Registered, TreeFault> {
     let elements = document.elements(alloc)?;
-    let serials = elements.len() as u64;
     let Registry {
         ids,
         names,
-        mut standings,
+        standings,
+        links,
         notices,
         ..
-    } = registry_of(alloc, &elements)?;
-    link(alloc, &elements, messages, &mut standings)?;
+    } = registry_of(alloc, &elements, messages)?;
     drop(elements);
-    let mut writing = Writing::of(alloc, standings);
+    let serials = standings.len() as u64;
+    let mut writing = Writing::of(alloc, standings, links);
     let written = document.visit(&mut writing)?;
     Ok(Registered {
         root: place_notices(alloc, written, notices)?,

@@ -1,50 +1,26 @@
 //! Names and ids, given one element after the other.
 
 use super::ids::Ids;
+use super::links::{Links, is_linked};
 use super::names::{Held, Holder, Names, Strength};
 use super::notices::{duplicate_definition, duplicate_name};
 use super::placing::Notices;
 use super::registrants::{own_name, text_at};
 use super::rulings::{Now, Ruling, ruling_for};
 use rst_marked::Element;
-use rst_tree::{Key, Node, Tag, Text, Texts, TreeFault};
+use rst_tree::{Key, Node, Tag, Text, TreeFault};
 use std::alloc::Global;
 use std::collections::BTreeMap;
 
-/// What registration gave an element.
+/// What registration gave an element that may have a name: any but messages and problematics.
 #[derive(Drop)]
 pub struct Standing {
-    /// Its number, if elements of its kind have names.
-    pub serial: Option<u64>,
+    /// Its number: how many of these elements stand before it.
+    pub serial: u64,
     /// Its id; a substitution definition has none.
     pub id: Option<Text>,
     /// Whether its name is a duplicate one.
     pub lost: bool,
-    /// How it and a message belong together.
-    pub link: Link,
-}
-
-/// What a message and its problematics say of one another.
-#[derive(Drop)]
-pub enum Link {
-    /// The element is neither, or has none.
-    Nothing,
-    /// The message has problematics with these ids.
-    Problematics(Texts),
-    /// The problematic is of the message with this id.
-    Message(Text),
-}
-
-impl Standing {
-    /// What an element gets with its number and its id, if it has them.
-    fn new(serial: Option<u64>, id: Option<Text>, lost: bool) -> Standing {
-        Standing {
-            serial,
-            id,
-            lost,
-            link: Link::Nothing,
-        }
-    }
 }
 
 /// What is known after some elements.
@@ -54,25 +30,34 @@ pub struct Registry {
     pub names: Names,
     /// The number of the last substitution definition of each name.
     definitions: BTreeMap<String, usize>,
-    /// What each element got, by its number.
+    /// What each element got that may have a name, by its number.
     pub standings: Vec<Standing>,
+    /// What is known of messages and problematics.
+    pub links: Links,
     /// The messages on the elements' names.
     pub notices: Notices,
 }
 
 impl Registry {
-    /// What is known before the first of so many elements.
-    fn new(alloc: Global, elements: usize) -> Result<Registry, TreeFault> {
+    /// What is known before the first element, with room for so many that may have names.
+    fn new(alloc: Global, named: usize, links: Links) -> Result<Registry, TreeFault> {
         Ok(Registry {
             ids: Ids::new(alloc),
             names: Names::new(alloc),
             definitions: BTreeMap::new(alloc),
-            standings: Vec::with_capacity(alloc, elements)?,
+            standings: Vec::with_capacity(alloc, named)?,
+            links,
             notices: Notices::new(alloc),
         })
     }
 
-    /// Registers one more element, which follows those that have a standing.
+    /// Registers one more message or problematic.
+    fn add_linked(&mut self, alloc: Global, new: Element<'_>) -> Result<(), TreeFault> {
+        let number = self.ids.give_number(alloc, new.tag)?;
+        self.links.add(alloc, new, number)
+    }
+
+    /// Registers one more element that may have a name, which follows those that have a standing.
     fn add(
         &mut self,
         alloc: Global,
@@ -100,18 +85,26 @@ impl Registry {
         earlier: &[Element<'_>],
         new: Element<'_>,
     ) -> Result<Standing, TreeFault> {
-        let serial = said_serial(new.tag, self.serial());
+        let serial = self.serial();
         let name = own_name(new);
         let id = self.ids.give(alloc, new.tag, name)?;
         if name.is_empty() {
-            return Ok(Standing::new(serial, Some(id), false));
+            return Ok(Standing {
+                serial,
+                id: Some(id),
+                lost: false,
+            });
         }
         let ruling = self.ruling_on(earlier, new);
         if let Some(complaint) = ruling.complaint {
             self.notice(duplicate_name(alloc, complaint, new, &id)?)?;
         }
         self.follow(alloc, ruling, new, &id)?;
-        Ok(Standing::new(serial, Some(id), ruling.new_loses))
+        Ok(Standing {
+            serial,
+            id: Some(id),
+            lost: ruling.new_loses,
+        })
     }
 
     /// Keeps the message on the name of the element that is registered.
@@ -187,16 +180,11 @@ impl Registry {
             self.lose(Holder::Element(old as u64));
             self.notice(duplicate_definition(alloc, new)?)?;
         }
-        Ok(Standing::new(Some(self.serial()), None, false))
-    }
-}
-
-/// The number of an element, if those of its kind have names: by it a name's holder is found.
-fn said_serial(tag: Tag, serial: u64) -> Option<u64> {
-    if matches!(tag, Tag::Problematic | Tag::SystemMessage) {
-        None
-    } else {
-        Some(serial)
+        Ok(Standing {
+            serial: self.serial(),
+            id: None,
+            lost: false,
+        })
     }
 }
 
@@ -233,11 +221,24 @@ fn is_equal_refuri(old: Element<'_>, new: Element<'_>) -> bool {
     }
 }
 
-/// Registers elements, in preorder.
-pub fn registry_of(alloc: Global, elements: &[Element<'_>]) -> Result<Registry, TreeFault> {
-    let mut registry = Registry::new(alloc, elements.len())?;
-    for (serial, new) in elements.iter().enumerate() {
-        registry.add(alloc, &elements[..serial], *new)?;
+/// Registers elements, in preorder, among which `messages` numbers were given to messages.
+pub fn registry_of(
+    alloc: Global,
+    elements: &[Element<'_>],
+    messages: u64,
+) -> Result<Registry, TreeFault> {
+    let linked = elements.iter().filter(|new| is_linked(new.tag)).count();
+    let named = elements.len().saturating_sub(linked);
+    let links = Links::new(alloc, linked, messages)?;
+    let mut registry = Registry::new(alloc, named, links)?;
+    let mut earlier = Vec::with_capacity(alloc, named)?;
+    for new in elements {
+        if is_linked(new.tag) {
+            registry.add_linked(alloc, *new)?;
+            continue;
+        }
+        registry.add(alloc, &earlier, *new)?;
+        earlier.push(*new)?;
     }
     Ok(registry)
 }

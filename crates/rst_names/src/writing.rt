@@ -1,26 +1,18 @@
 //! The attributes that registration gives, written at the elements.
-ghost use Rattle.std.specs.Prelude.{◌≡◌};
+ghost use Rattle.std.specs.Prelude.{◌≡◌, MatchOption, None, Some};
 ghost use Rattle.rst_tree.specs.Faults.{Gives};
 ghost use Rattle.rst_tree.specs.declared.key.Key.TheVariants.{OwnName};
 ghost use Rattle.rst_names.specs.Gathered.{text_at};
-ghost use Rattle.rst_names.specs.Written.{with_serial, with_id, with_name, with_link, with_standing, left_standings, with_first};
+ghost use Rattle.rst_names.specs.Written.{given, with_id, with_name, with_standing, linked_of, with_problematic, with_refid, with_message, with_backrefs, left_behind, with_given};
 
-use super::registrants::text_at;
-use super::registry::{Link, Standing};
+use super::ids::{message_id, problematic_id};
+use super::links::{Linked, Links};
+use super::registrants::{number_at, text_at};
+use super::registry::Standing;
 use rst_tree::{Attrs, Key, Tag, Text, Texts, TreeFault, Value, Visitor};
 use std::alloc::Global;
 use std::collections::VecDeque;
 use std::marker::Model;
-
-/// Lets attributes tell an element's number, if it has one.
-fn write_serial(attrs: &mut Attrs, serial: Option<u64>) -> Result<(), TreeFault>
-    ensures { Gives (λ _. attrs.new ≡ with_serial serial attrs.old) result }
-{
-    match serial {
-        Some(serial) => attrs.set(Key::Serial, Value::Number(serial)),
-        None => Ok(()),
-    }
-}
 
 /// Lets attributes tell an element's id, if it has one.
 fn write_id(alloc: Global, attrs: &mut Attrs, id: Option<Text>) -> Result<(), TreeFault>
@@ -50,17 +42,6 @@ fn write_name(
     }
 }
 
-/// Lets attributes tell the link of a message or a problematic.
-fn write_link(attrs: &mut Attrs, link: Link) -> Result<(), TreeFault>
-    ensures { Gives (λ _. attrs.new ≡ with_link link attrs.old) result }
-{
-    match link {
-        Link::Nothing => Ok(()),
-        Link::Problematics(ids) => attrs.set(Key::Backrefs, Value::List(ids)),
-        Link::Message(id) => attrs.set(Key::Refid, Value::Text(id)),
-    }
-}
-
 /// A copy of the name that an element was written with, if it was with one.
 fn copied_name(attrs: &Attrs) -> Result<Option<Text>, TreeFault>
     ensures { Gives (λ name. name ≡ text_at OwnName attrs.now) result }
@@ -73,12 +54,7 @@ fn copied_name(attrs: &Attrs) -> Result<Option<Text>, TreeFault>
 
 /// How many attributes tell what an element got that has a name or none.
 fn count_of(standing: &Standing, name: &Option<Text>) -> usize {
-    let parts = [
-        standing.serial.is_some(),
-        standing.id.is_some(),
-        name.is_some(),
-        !matches!(standing.link, Link::Nothing),
-    ];
+    let parts = [true, standing.id.is_some(), name.is_some()];
     parts.iter().filter(|part| **part).count()
 }
 
@@ -88,61 +64,133 @@ fn write(alloc: Global, attrs: &mut Attrs, standing: Standing) -> Result<(), Tre
 {
     let name = copied_name(attrs)?;
     attrs.reserve(count_of(&standing, &name))?;
-    let Standing {
-        serial,
-        id,
-        lost,
-        link,
-    } = standing;
-    write_serial(attrs, serial)?;
-    write_link(attrs, link)?;
+    let Standing { serial, id, lost } = standing;
+    attrs.set(Key::Serial, Value::Number(serial))?;
     write_name(alloc, attrs, lost, name)?;
     write_id(alloc, attrs, id)
+}
+
+/// What is known of the message whose number an element's attributes say, if they say one.
+fn linked_of<'a>(messages: &'a [Linked], attrs: &Attrs) -> Option<&'a Linked>
+    ensures { MatchOption result (linked_of messages.now attrs.now ≡ None) (λ l. linked_of messages.now attrs.now ≡ Some l.now) }
+{
+    match number_at(attrs, Key::Message) {
+        Some(number) => messages.get(number as usize),
+        None => None,
+    }
+}
+
+/// Lets the attributes of a problematic tell its id, which has a number, and its message.
+fn write_problematic(
+    alloc: Global,
+    attrs: &mut Attrs,
+    number: u64,
+    messages: &[Linked],
+) -> Result<(), TreeFault>
+    ensures { Gives (λ _. attrs.new ≡ with_problematic messages.now number attrs.old) result }
+{
+    attrs.reserve(2)?;
+    if let Some(linked) = linked_of(messages, attrs) {
+        write_refid(alloc, attrs, linked.id)?;
+    }
+    write_id(alloc, attrs, Some(problematic_id(alloc, number)?))
+}
+
+/// Lets the attributes of a problematic tell the id of its message, which has a number, if there is that.
+fn write_refid(alloc: Global, attrs: &mut Attrs, message: Option<u64>) -> Result<(), TreeFault>
+    ensures { Gives (λ _. attrs.new ≡ with_refid message attrs.old) result }
+{
+    match message {
+        Some(number) => attrs.set(Key::Refid, Value::Text(message_id(alloc, number)?)),
+        None => Ok(()),
+    }
+}
+
+/// Lets the attributes of a message tell its id, which has a number, and its problematics.
+fn write_message(
+    alloc: Global,
+    attrs: &mut Attrs,
+    number: u64,
+    messages: &[Linked],
+) -> Result<(), TreeFault>
+    ensures { Gives (λ _. attrs.new ≡ with_message messages.now number attrs.old) result }
+{
+    attrs.reserve(2)?;
+    if let Some(linked) = linked_of(messages, attrs) {
+        write_backrefs(alloc, attrs, &linked.problematics)?;
+    }
+    write_id(alloc, attrs, Some(message_id(alloc, number)?))
+}
+
+/// Lets the attributes of a message tell the ids of its problematics, if it has some.
+fn write_backrefs(alloc: Global, attrs: &mut Attrs, ids: &Texts) -> Result<(), TreeFault>
+    ensures { Gives (λ _. attrs.new ≡ with_backrefs ids.now attrs.old) result }
+{
+    if ids.as_slice().is_empty() {
+        return Ok(());
+    }
+    attrs.set(Key::Backrefs, Value::List(ids.copy(alloc)?))
 }
 
 /// Writes at each element what it got.
 #[derive(Drop)]
 pub struct Writing {
     alloc: Global,
-    /// What the elements got that are still to come, in preorder.
+    /// What the elements got that are still to come and may have names, in preorder.
     standings: VecDeque<Standing>,
+    /// The numbers in the ids of the messages and problematics that are still to come, in preorder.
+    numbers: VecDeque<u64>,
+    /// What is known of each message, by the number that it and its problematics carry.
+    messages: Vec<Linked>,
 }
 
 impl Model for Writing {
-    ghost use Rattle.std.specs.Prelude.{List};
-    ghost use Rattle.rst_names.specs.declared.registry.Standing.{Standing};
+    ghost use Rattle.rst_names.specs.Written.{Given, given};
 
-    ghost Value = { List Standing };
+    ghost Value = { Given };
 
-    ghost view = { λ w. w.standings.items };
+    ghost view = { λ w. given w.standings.items w.numbers.items w.messages.items };
 }
 
 impl Writing {
     /// Before the first element.
-    pub fn of(alloc: Global, standings: Vec<Standing>) -> Writing
-        ensures { result ≡ standings.items }
+    pub fn of(alloc: Global, standings: Vec<Standing>, links: Links) -> Writing
+        ensures { result ≡ given standings.items links.numbers.items links.messages.items }
     {
+        let Links { numbers, messages } = links;
         Writing {
             alloc,
             standings: VecDeque::from_vec(standings),
+            numbers: VecDeque::from_vec(numbers),
+            messages,
         }
     }
 }
 
 impl Visitor for Writing {
-    ghost next = { left_standings };
+    ghost next = { left_behind };
 
-    ghost out = { with_first };
+    ghost out = { with_given };
 
     fn visit(
         &mut self,
-        _tag: &mut Tag,
+        tag: &mut Tag,
         attrs: &mut Attrs,
         _line: &mut usize,
     ) -> Result<(), TreeFault> {
-        match self.standings.pop_front() {
-            Some(standing) => write(self.alloc, attrs, standing),
-            None => Ok(()),
+        match *tag {
+            Tag::Problematic => match self.numbers.pop_front() {
+                Some(number) => write_problematic(self.alloc, attrs, number, &self.messages),
+                None => Ok(()),
+            },
+            Tag::SystemMessage => match self.numbers.pop_front() {
+                Some(number) => write_message(self.alloc, attrs, number, &self.messages),
+                None => Ok(()),
+            },
+            _ => match self.standings.pop_front() {
+                Some(standing) => write(self.alloc, attrs, standing),
+                None => Ok(()),
+            },
         }
     }
 }

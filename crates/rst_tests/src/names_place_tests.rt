@@ -78,7 +78,7 @@ const TARGETS_IN_TITLE: (&str, &str) = (
             <problematic ids="problematic-1" message="0" refid="system-message-1">
                 *
             x 
-            <target dupnames="b" ids="b-3" inline="1" own_name="b" serial="5">
+            <target dupnames="b" ids="b-3" inline="1" own_name="b" serial="4">
                 b
         <system_message backrefs="problematic-1" ids="system-message-1" message="0">
             <paragraph>
@@ -92,7 +92,7 @@ const TARGETS_IN_TITLE: (&str, &str) = (
         <system_message>
             <paragraph>
                 Title underline too short.
-    <section dupnames="b" ids="b-4" own_name="b" serial="7">
+    <section dupnames="b" ids="b-4" own_name="b" serial="5">
         <title>
             b
         <system_message backrefs="b-4" level="1" line="9" type="INFO">
@@ -142,10 +142,10 @@ const TARGETS_IN_LINES: (&str, &str) = (
             x
         <line_block>
             <line>
-                <target dupnames="a" ids="a-1" inline="1" own_name="a" serial="2">
+                <target dupnames="a" ids="a-1" inline="1" own_name="a" serial="1">
                     a
         <line>
-            <target dupnames="a" ids="a-2" inline="1" own_name="a" serial="3">
+            <target dupnames="a" ids="a-2" inline="1" own_name="a" serial="2">
                 a
     <system_message backrefs="problematic-1" ids="system-message-1" message="0">
         <paragraph>
@@ -221,7 +221,7 @@ const TARGETS_IN_TERMS: (&str, &str) = (
     <field_list>
         <field>
             <field_name>
-                <target dupnames="a" ids="a-2" inline="1" own_name="a" serial="4">
+                <target dupnames="a" ids="a-2" inline="1" own_name="a" serial="2">
                     a
             <field_body>
                 <system_message backrefs="a-2" level="2" line="4" type="WARNING">
