@@ -10,7 +10,7 @@ ghost use Rattle.rst_tree.specs.declared.tag.Tag.TheVariants.{Transition};
 
 use super::comparing::compare;
 use super::printed::printed;
-use super::tree_tests::{Said, element, holding, text, titled};
+use super::tree_tests::{Says, element, holding, text, titled};
 use rst_tree::{
     Attrs, Children, Entry, Key, Node, Reader, Rewrite, Rewriter, Said, Tag, Text, Tree, TreeFault,
     Value, Visitor, read_elements, rewrite_in, walk,
@@ -215,7 +215,7 @@ fn rewrites(rt: HostRuntime) -> Result<(), Fail> {
     let quote = element(
         alloc,
         Tag::BlockQuote,
-        &[(Key::Line, Said::Number(2))],
+        &[(Key::Line, Says::Number(2))],
         [
             text(alloc, "x")?,
             holding(alloc, Tag::Paragraph, "a")?,

@@ -50,17 +50,17 @@ impl Write for Narrow {
 
 /// What an attribute of a test's element says.
 #[derive(Clone, Copy)]
-pub enum Said<'a> {
+pub enum Says<'a> {
     Text(&'a str),
     Number(u64),
     List(&'a [&'a str]),
 }
 
-fn value(alloc: Global, said: Said<'_>) -> Result<Value, TreeFault> {
+fn value(alloc: Global, said: Says<'_>) -> Result<Value, TreeFault> {
     match said {
-        Said::Text(text) => Ok(Value::Text(Text::from_str(alloc, text)?)),
-        Said::Number(number) => Ok(Value::Number(number)),
-        Said::List(members) => {
+        Says::Text(text) => Ok(Value::Text(Text::from_str(alloc, text)?)),
+        Says::Number(number) => Ok(Value::Number(number)),
+        Says::List(members) => {
             let mut texts = Texts::new(alloc);
             for member in members {
                 texts.push(Text::from_str(alloc, member)?)?;
@@ -78,7 +78,7 @@ pub fn text(alloc: Global, said: &str) -> Result<Node, TreeFault> {
 pub fn element<const N: usize>(
     alloc: Global,
     tag: Tag,
-    said: &[(Key, Said<'_>)],
+    said: &[(Key, Says<'_>)],
     nodes: [Node; N],
 ) -> Result<Node, TreeFault> {
     let mut attrs = Attrs::new(alloc);
@@ -98,9 +98,9 @@ pub fn holding(alloc: Global, tag: Tag, said: &str) -> Result<Node, TreeFault> {
     element(alloc, tag, &[], [text(alloc, said)?])
 }
 
-const SOURCE: (Key, Said<'static>) = (Key::Source, Said::Text("<stdin>"));
+const SOURCE: (Key, Says<'static>) = (Key::Source, Says::Text("<stdin>"));
 
-const PRESERVE: (Key, Said<'static>) = (Key::XmlSpace, Said::Text("preserve"));
+const PRESERVE: (Key, Says<'static>) = (Key::XmlSpace, Says::Text("preserve"));
 
 fn empty(alloc: Global) -> Result<Node, TreeFault> {
     element(alloc, Tag::Document, &[SOURCE], [])
@@ -120,11 +120,11 @@ pub fn titled(alloc: Global) -> Result<Node, TreeFault> {
         alloc,
         Tag::Document,
         &[
-            (Key::Title, Said::Text("Title")),
+            (Key::Title, Says::Text("Title")),
             SOURCE,
-            (Key::Names, Said::List(&["title"])),
-            (Key::Ids, Said::List(&["title"])),
-            (Key::Classes, Said::List(&[])),
+            (Key::Names, Says::List(&["title"])),
+            (Key::Ids, Says::List(&["title"])),
+            (Key::Classes, Says::List(&[])),
         ],
         [
             holding(alloc, Tag::Title, "Title")?,
@@ -135,7 +135,7 @@ pub fn titled(alloc: Global) -> Result<Node, TreeFault> {
 
 fn footnote(
     alloc: Global,
-    said: &[(Key, Said<'_>)],
+    said: &[(Key, Says<'_>)],
     label: &str,
     body: &str,
 ) -> Result<Node, TreeFault> {
@@ -152,7 +152,7 @@ fn footnote(
 
 fn footnote_reference(
     alloc: Global,
-    said: &[(Key, Said<'_>)],
+    said: &[(Key, Says<'_>)],
     label: &str,
 ) -> Result<Node, TreeFault> {
     element(alloc, Tag::FootnoteReference, said, [text(alloc, label)?])
@@ -160,24 +160,24 @@ fn footnote_reference(
 
 fn footnotes(alloc: Global) -> Result<Node, TreeFault> {
     let first = [
-        (Key::Auto, Said::Number(1)),
-        (Key::Ids, Said::List(&["footnote-reference-1"])),
-        (Key::Refid, Said::Text("footnote-1")),
+        (Key::Auto, Says::Number(1)),
+        (Key::Ids, Says::List(&["footnote-reference-1"])),
+        (Key::Refid, Says::Text("footnote-1")),
     ];
     let second = [
-        (Key::Refid, Said::Text("footnote-2")),
-        (Key::Ids, Said::List(&["footnote-reference-2"])),
+        (Key::Refid, Says::Text("footnote-2")),
+        (Key::Ids, Says::List(&["footnote-reference-2"])),
     ];
     let auto = [
-        (Key::Auto, Said::Text("1")),
-        (Key::Backrefs, Said::List(&["footnote-reference-1"])),
-        (Key::Ids, Said::List(&["footnote-1"])),
-        (Key::Names, Said::List(&["2"])),
+        (Key::Auto, Says::Text("1")),
+        (Key::Backrefs, Says::List(&["footnote-reference-1"])),
+        (Key::Ids, Says::List(&["footnote-1"])),
+        (Key::Names, Says::List(&["2"])),
     ];
     let numbered = [
-        (Key::Backrefs, Said::List(&["footnote-reference-2"])),
-        (Key::Ids, Said::List(&["footnote-2"])),
-        (Key::Names, Said::List(&["1"])),
+        (Key::Backrefs, Says::List(&["footnote-reference-2"])),
+        (Key::Ids, Says::List(&["footnote-2"])),
+        (Key::Names, Says::List(&["1"])),
     ];
     let references = [
         footnote_reference(alloc, &first, "2")?,
@@ -204,12 +204,12 @@ fn table(alloc: Global) -> Result<Node, TreeFault> {
         &[],
         [entry(alloc, "a")?, entry(alloc, "b c\nd")?],
     )?;
-    let two = (Key::Colwidth, Said::Number(2));
-    let three = (Key::Colwidth, Said::Number(3));
+    let two = (Key::Colwidth, Says::Number(2));
+    let three = (Key::Colwidth, Says::Number(3));
     let group = element(
         alloc,
         Tag::Tgroup,
-        &[(Key::Cols, Said::Number(2))],
+        &[(Key::Cols, Says::Number(2))],
         [
             element(alloc, Tag::Colspec, &[two], [])?,
             element(alloc, Tag::Colspec, &[three], [])?,
@@ -226,17 +226,17 @@ fn table(alloc: Global) -> Result<Node, TreeFault> {
 
 fn targets(alloc: Global) -> Result<Node, TreeFault> {
     let refers = [
-        (Key::Name, Said::Text("Python")),
-        (Key::Refuri, Said::Text("https://x.org/")),
+        (Key::Name, Says::Text("Python")),
+        (Key::Refuri, Says::Text("https://x.org/")),
     ];
     let is_referred_to = [
-        (Key::Refuri, Said::Text("https://x.org/")),
-        (Key::Names, Said::List(&["python"])),
-        (Key::Ids, Said::List(&["python"])),
+        (Key::Refuri, Says::Text("https://x.org/")),
+        (Key::Names, Says::List(&["python"])),
+        (Key::Ids, Says::List(&["python"])),
     ];
     let is_named = [
-        (Key::Names, Said::List(&["a b\\c", "d"])),
-        (Key::Dupnames, Said::List(&[])),
+        (Key::Names, Says::List(&["a b\\c", "d"])),
+        (Key::Dupnames, Says::List(&[])),
     ];
     let texts = [
         element(alloc, Tag::Reference, &refers, [text(alloc, "Python")?])?,
@@ -265,10 +265,10 @@ fn message(alloc: Global) -> Result<Node, TreeFault> {
         "Error in \"image\" directive:\nunknown option: \"foo\".",
     )?;
     let attrs = [
-        (Key::Level, Said::Number(3)),
-        (Key::Line, Said::Number(1)),
+        (Key::Level, Says::Number(3)),
+        (Key::Line, Says::Number(1)),
         SOURCE,
-        (Key::Type_, Said::Text("ERROR")),
+        (Key::Type_, Says::Text("ERROR")),
     ];
     element(
         alloc,
