@@ -6,6 +6,7 @@ use Rattle.rst_text.specs.Block.{Block, first_number}
 use Rattle.rst_tables.specs.Places.{Row, Grid, no_row, rows_of, row_at, mark_of, mark_at, place, width}
 use Rattle.rst_text.specs.Places.{first_from}
 use Rattle.rst_tables.specs.Counts.{below}
+use Rattle.rst_tables.specs.Neighbours.{neighbours}
 use Rattle.rst_tables.specs.Cells.{cell_block}
 use Rattle.rst_tables.specs.Drawn.{is_upright, Tiles}
 use Rattle.rst_tables.specs.declared.drawn.Rectangle.{Rectangle}
@@ -138,15 +139,9 @@ is_column G rs j = list_any (bounds_column G j) rs
 abbrev pub is_row : Grid → List Rectangle → ℕ → Bool
 is_row G rs i = list_any (bounds_row G i) rs
 
--- how many places lie between neighbouring bounds, the first of which is a
-abbrev pub gaps_from : ℕ → List ℕ → List ℕ
-gaps_from a [] = []
-gaps_from a (b ∷ bs) = (b - a - 1) ∷ gaps_from b bs
-
 -- how many places lie between neighbouring bounds
 abbrev pub gaps : List ℕ → List ℕ
-gaps [] = []
-gaps (a ∷ bs) = gaps_from a bs
+gaps bounds = map (λ (p : ℕ × ℕ). p.1 - p.0 - 1) (neighbours bounds)
 
 -- How many rows, or columns, there are from one bound up to another, less 1. A rank says how many bounds stand before
 -- a place.

@@ -1,5 +1,6 @@
 pub mod Places
 pub mod Counts
+pub mod Neighbours
 pub mod Results
 pub mod Messages
 pub mod Laws
