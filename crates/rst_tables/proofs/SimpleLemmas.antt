@@ -9,7 +9,8 @@ use Rattle.rst_tables.specs.declared.simple_rows.RowLines.{RowLines}
 use Rattle.rst_tables.proofs.Lists.{all_from-take, all_from-more, all_from-end}
 use Rattle.rst_tables.specs.Places.{Grid, Row, row_at}
 use Rattle.rst_text.specs.Places.{first_from}
-use Rattle.rst_tables.specs.SimpleTable.{is_lower_border_row, is_empty, next_border, scan_end, looked_to, simple_looked, end_at_first, end_at_second, simple_end, begins_row, row_lines, row_between, section, longest_in, last_joined, joining, spread}
+use Rattle.rst_tables.specs.SimpleTable.{is_lower_border_row, is_empty, next_border, end_at_first, end_at_second, simple_end, begins_row, row_lines, row_between, section, longest_in, last_joined, joining, spread}
+use Rattle.rst_tables.specs.Looked.{scan_end, looked_to, simple_looked}
 use Rattle.rst_tables.specs.declared.spans.Span.{Span}
 use Rattle.rst_tables.specs.declared.simple_lines.SimpleEnd.TheVariants.{Ends, Fails}
 use Rattle.rst_tables.specs.declared.results.TableDetail.TheVariants.{BorderMismatch}

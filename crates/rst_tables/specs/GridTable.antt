@@ -207,9 +207,3 @@ IsOfHeight line i S (suc n) result = IsOfRows line i (take (suc n) S) (row_fault
 -- `Malformed` with the first fault.
 abbrev pub IsGridTable : Block → ℕ → TableResult → Type 0
 IsGridTable B i result = let S = scanned (rows_of (drop i B)) in IsOfHeight (first_number (drop i B)) i S (height S) result
-
--- How many rows are looked at to scan the table: all of them, and the one that stops the scan. No rule of markup: it bounds
--- the time.
-unfoldable pub grid_looked : Grid → ℕ
-grid_looked [] = 0
-grid_looked (r ∷ rs) = if is_drawn_row r.places then suc (grid_looked rs) else 1

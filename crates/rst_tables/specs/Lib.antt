@@ -7,6 +7,8 @@ pub mod Laws
 pub mod Ends
 pub mod Cells
 pub mod Drawn
+pub mod Search
 pub mod Marks
 pub mod GridTable
 pub mod SimpleTable
+pub mod Looked

@@ -65,24 +65,6 @@ end_at_first R wide (Some first) =
 abbrev pub simple_end : Grid → ℕ → SimpleEnd
 simple_end R i = end_at_first R (length (row_at R i)) (next_border R (i + 1))
 
--- ---- how far the scan goes. No rule of markup: it bounds the time.
-
--- the place behind the row that stops the scan for a border
-abbrev pub scan_end : Grid → Option ℕ → ℕ
-scan_end R None = length R
-scan_end R (Some k) = k + 1
-
--- the place behind the rows that are looked at to find the end
-abbrev pub looked_to : Grid → ℕ → Option ℕ → ℕ
-looked_to R wide None = length R
-looked_to R wide (Some first) =
-    if length (row_at R first) == wide then (if is_empty (row_at R (first + 1)) then first + 1 else scan_end R (next_border R (first + 1)))
-    else first + 1
-
--- how many rows are looked at from the top border on
-abbrev pub simple_looked : Grid → ℕ → ℕ
-simple_looked R i = looked_to R (length (row_at R i)) (next_border R (i + 1)) - i
-
 -- ---- columns
 
 -- a space stands at the place
