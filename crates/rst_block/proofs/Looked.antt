@@ -8,9 +8,10 @@ use Rattle.rst_marks.specs.declared.marker.Marker.{Marker}
 use Rattle.rst_markup.specs.Explicit.{explicit_size}
 use Rattle.rst_markup.specs.ExplicitRow.{explicit_within}
 use Rattle.rst_markup.proofs.ExplicitLemmas.{indented_le, size_other}
-use Rattle.rst_tables.specs.GridTable.{grid_looked, is_drawn_row}
+use Rattle.rst_tables.specs.GridTable.{is_drawn_row}
+use Rattle.rst_tables.specs.Looked.{grid_looked, looked_to, scan_end, simple_looked}
 use Rattle.rst_tables.specs.Places.{Grid, rows_of, row_of, row_at}
-use Rattle.rst_tables.specs.SimpleTable.{is_empty, is_lower_border_row, next_border, looked_to, scan_end, simple_looked}
+use Rattle.rst_tables.specs.SimpleTable.{is_empty, is_lower_border_row, next_border}
 use Rattle.rst_tables.proofs.SimpleLemmas.{first_above}
 use Rattle.rst_block.proofs.Reached.{reach_le}
 

@@ -5,7 +5,8 @@ use Rattle.std.proofs.lemmas.Bool.{cases_lt, cases_Bool, false≢true}
 use Rattle.std.proofs.lemmas.List.{get_or_append_left, length-append}
 use Rattle.std.proofs.Math.Seq.{get_or-append_seam}
 use Rattle.rst_tables.specs.Places.{Grid, place, mark_at}
-use Rattle.rst_tables.specs.Drawn.{is_across, begin_at, Begins, next_begin, HasBegins, IsAcross}
+use Rattle.rst_tables.specs.Drawn.{is_across, IsAcross}
+use Rattle.rst_tables.specs.Search.{begin_at, Begins, next_begin, HasBegins}
 use Rattle.rst_tables.proofs.Rectangles.{place_within}
 
 pub begins_start : (row : List Place) → Begins row 0 0

@@ -16,13 +16,14 @@ use Rattle.rst_markup.proofs.LineLemmas.{drop_one, while_more, while_stop}
 use Rattle.rst_markup.proofs.TableLemmas.{simple_open, ends_first, ends_second, ends_open}
 use Rattle.rst_tables.specs.Places.{Grid, row_of, rows_of, row_at}
 use Rattle.rst_text.specs.Places.{first_from}
-use Rattle.rst_tables.specs.GridTable.{is_grid_border_row, scanned, through_last, one_more as more_rows, two_more, height, grid_looked, head_of, with_dashes, row_fault, tiled, IsOfRows, IsOfHeight}
+use Rattle.rst_tables.specs.GridTable.{is_grid_border_row, scanned, through_last, one_more as more_rows, two_more, height, head_of, with_dashes, row_fault, tiled, IsOfRows, IsOfHeight}
+use Rattle.rst_tables.specs.Looked.{grid_looked, scan_end, looked_to, simple_looked}
 use Rattle.rst_tables.specs.Ends.{end_of}
 use Rattle.rst_tables.specs.declared.drawn.Rectangle.{Rectangle}
 use Rattle.rst_tables.specs.declared.results.TableDetail.{TableDetail}
 use Rattle.rst_tables.specs.declared.results.TableResult.{TableResult}
 use Rattle.rst_tables.proofs.RowLemmas.{dashes-length}
-use Rattle.rst_tables.specs.SimpleTable.{is_lower_border_row, is_empty, next_border, scan_end, looked_to, simple_looked, end_at_first, end_at_second, simple_end, rules_of, first_unaligned, simple_rows, first_in_margin, or_table, or_rows, simple_of}
+use Rattle.rst_tables.specs.SimpleTable.{is_lower_border_row, is_empty, next_border, end_at_first, end_at_second, simple_end, rules_of, first_unaligned, simple_rows, first_in_margin, or_table, or_rows, simple_of}
 use Rattle.rst_tables.specs.Laws.{end_with, grid_end, place_behind}
 use Rattle.rst_tables.proofs.GridLemmas.{drop_rows}
 use Rattle.rst_tables.proofs.SimpleLemmas.{end-mismatch, end-first, end-second, second-mismatch, second-ends, looked-scan}

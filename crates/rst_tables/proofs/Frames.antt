@@ -3,7 +3,8 @@ use Rattle.std.proofs.Common.{⊎_elim, ◌≡◌, ℕ, ◌+◌, ◌<◌, ◌≤
 use Rattle.std.proofs.lemmas.Bool.{and_parts, and_from, false≢true, cases_lt, cases_eq}
 use Rattle.rst_tables.specs.declared.drawn.Rectangle.{Rectangle}
 use Rattle.rst_tables.specs.Places.{Grid, place}
-use Rattle.rst_tables.specs.Drawn.{is_across, is_upright, are_upright, IsFrame, IsDrawn, IsBottom, IsClosed}
+use Rattle.rst_tables.specs.Drawn.{is_across, is_upright, IsFrame, IsDrawn}
+use Rattle.rst_tables.specs.Search.{are_upright, IsBottom, IsClosed}
 use Rattle.rst_tables.proofs.Rectangles.{place_within}
 
 pub plus_across : (c : ℕ) → c ≡ 43 → is_across c ≡ true

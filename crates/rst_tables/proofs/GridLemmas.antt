@@ -9,7 +9,8 @@ use Rattle.rst_text.specs.Block.{Line, Block, front_text, first_number}
 use Rattle.rst_text.specs.Lines.{is_line_end}
 use Rattle.rst_tables.specs.Places.{Row, Grid, no_row, row_of, rows_of, row_at}
 use Rattle.rst_tables.specs.Cells.{characters}
-use Rattle.rst_tables.specs.GridTable.{is_grid_border_row, through_last, one_more, is_drawn_row, scanned, grid_looked, dash}
+use Rattle.rst_tables.specs.GridTable.{is_grid_border_row, through_last, one_more, is_drawn_row, scanned, dash}
+use Rattle.rst_tables.specs.Looked.{grid_looked}
 use Rattle.rst_tables.specs.declared.places.Place.{Place}
 use Rattle.rst_tables.specs.declared.places.Place.TheVariants.{Character, Second}
 

@@ -3,7 +3,8 @@ use Rattle.std.proofs.Common.{◌⊎◌, inl, inr, ⊎_elim, List, [], ◌∷◌
 use Rattle.std.proofs.lemmas.Bool.{cases_lt}
 use Rattle.rst_tables.specs.declared.drawn.Rectangle.{Rectangle}
 use Rattle.rst_tables.specs.Places.{Grid, width}
-use Rattle.rst_tables.specs.Drawn.{IsEven, IsDrawn, covers, one_if, times, BeginsFrom, AreDrawn, IsTiling, Tiles, Draws, Fills}
+use Rattle.rst_tables.specs.Drawn.{IsEven, IsDrawn, covers, one_if, times, BeginsFrom, AreDrawn, IsTiling, Tiles}
+use Rattle.rst_tables.specs.Search.{Draws, Fills}
 use Rattle.rst_tables.proofs.Rectangles.{frame_within, covers_yes, covers_no, times_before, drawn_same}
 
 -- the rectangles that were found before the unit square (i, j); `depths` says of each column of unit squares how far down they cover it

@@ -4,8 +4,9 @@ use Rattle.std.proofs.lemmas.Bool.{cases_Bool, cases_lt, cases_eq, eqb-true, eqb
 use Rattle.std.proofs.lemmas.List.{get_or-drop, get_or_past, length-drop}
 use Rattle.rst_tables.specs.Places.{Row, Grid, no_row, row_at, mark_at}
 use Rattle.rst_text.specs.Places.{first_from}
-use Rattle.rst_tables.specs.GridTable.{is_grid_border_row, is_edge, has_ends, is_drawn_row, scanned, through_last, one_more, two_more, height, grid_looked}
-use Rattle.rst_tables.specs.SimpleTable.{is_lower_border_row, is_empty, next_border, scan_end, looked_to, simple_looked, end_at_first, end_at_second, simple_end}
+use Rattle.rst_tables.specs.GridTable.{is_grid_border_row, is_edge, has_ends, is_drawn_row, scanned, through_last, one_more, two_more, height}
+use Rattle.rst_tables.specs.Looked.{grid_looked, scan_end, looked_to, simple_looked}
+use Rattle.rst_tables.specs.SimpleTable.{is_lower_border_row, is_empty, next_border, end_at_first, end_at_second, simple_end}
 use Rattle.rst_tables.specs.Laws.{place_behind, grid_end, end_with}
 use Rattle.rst_tables.specs.declared.places.Place.{Place}
 use Rattle.rst_tables.proofs.SimpleLemmas.{end-mismatch, end-first, end-second, second-mismatch, second-ends, looked-scan, first_above}

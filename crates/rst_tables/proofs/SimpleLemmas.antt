@@ -1,12 +1,16 @@
 -- Simple tables.
-use Rattle.std.proofs.Common.{⊎_elim, ◌≡◌, ℕ, zero, suc, ◌+◌, ◌-◌, ◌*◌, ◌<◌, ◌≤◌, max, Bool, true, false, cond, eqb, ltb, List, [], ◌∷◌, ◌++◌, get_or, length, drop, take, append_assoc, option_map, refl, sym, ap, ◌∙◌, arith, Option, Some, None}
+use Rattle.std.proofs.Common.{⊎_elim, ◌≡◌, ℕ, zero, suc, ◌+◌, ◌-◌, ◌*◌, ◌<◌, ◌≤◌, max, Bool, true, false, cond, eqb, ltb, List, [], ◌∷◌, ◌++◌, get_or, length, drop, take, append_assoc, option_map, map, filter, refl, sym, ap, ap₂, ◌∙◌, arith, Option, Some, None}
 use Rattle.std.proofs.lemmas.Bool.{cases_Bool, cond_both, eq-eqb, ne_eqb, eqb-true, eqb-false, lt-ltb, ltb-true}
 use Rattle.std.proofs.lemmas.List.Sums.{position_or_len_is}
-use Rattle.std.specs.Prelude.{position, option_and_then}
-use Rattle.std.specs.List.{position_or_len}
+use Rattle.std.specs.Prelude.{position, option_and_then, flat_map}
+use Rattle.std.specs.List.{position_or_len, range_with_len}
+use Rattle.rst_tables.specs.Neighbours.{neighbours}
+use Rattle.rst_tables.specs.declared.simple_rows.RowLines.{RowLines}
+use Rattle.rst_tables.proofs.Lists.{all_from-take, all_from-more, all_from-end}
 use Rattle.rst_tables.specs.Places.{Grid, Row, row_at}
 use Rattle.rst_text.specs.Places.{first_from}
-use Rattle.rst_tables.specs.SimpleTable.{is_lower_border_row, is_empty, next_border, scan_end, looked_to, simple_looked, end_at_first, end_at_second, simple_end, begins_row, row_lines, rows_in, longest_in, last_joined, joining, spread}
+use Rattle.rst_tables.specs.SimpleTable.{is_lower_border_row, is_empty, next_border, end_at_first, end_at_second, simple_end, begins_row, row_lines, row_between, section, longest_in, last_joined, joining, spread}
+use Rattle.rst_tables.specs.Looked.{scan_end, looked_to, simple_looked}
 use Rattle.rst_tables.specs.declared.spans.Span.{Span}
 use Rattle.rst_tables.specs.declared.simple_lines.SimpleEnd.TheVariants.{Ends, Fails}
 use Rattle.rst_tables.specs.declared.results.TableDetail.TheVariants.{BorderMismatch}
@@ -43,11 +47,32 @@ spread_more wide new left s ss last e is =
 
 -- ---- rows
 
-pub rows_in-take : (T : Grid) (from to rule : ℕ) → to < rule → begins_row T to ≡ true → rows_in T from to (rule - to) ≡ row_lines from to 0 ∷ rows_in T to (to + 1) (rule - (to + 1))
-rows_in-take T from to rule h e = ap (rows_in T from to) (left_more to rule h) ∙ rw e refl
+-- the rows from place `from` on, where the lines before place `to` begin no other
+abbrev pub rows_left : Grid → ℕ → ℕ → ℕ → List RowLines
+rows_left T from to rule = map (row_between rule) (neighbours (from ∷ (filter (begins_row T) (range_with_len to (rule - to)) ++ rule ∷ [])))
 
-pub rows_in-more : (T : Grid) (from to rule : ℕ) → to < rule → begins_row T to ≡ false → rows_in T from to (rule - to) ≡ rows_in T from (to + 1) (rule - (to + 1))
-rows_in-more T from to rule h e = ap (rows_in T from to) (left_more to rule h) ∙ rw e refl
+pub rows_left-take : (T : Grid) (from to rule : ℕ) → to < rule → begins_row T to ≡ true → rows_left T from to rule ≡ row_lines from to 0 ∷ rows_left T to (to + 1) rule
+rows_left-take T from to rule h e =
+    ap (λ l. map (row_between rule) (neighbours (from ∷ (l ++ rule ∷ [])))) (all_from-take (begins_row T) to rule h e)
+    ∙ ap (λ b. row_lines from to (cond b rule 0) ∷ rows_left T to (to + 1) rule) (ne_eqb to rule (λ same. absurd (omega (arith, same, h))))
+
+pub rows_left-more : (T : Grid) (from to rule : ℕ) → to < rule → begins_row T to ≡ false → rows_left T from to rule ≡ rows_left T from (to + 1) rule
+rows_left-more T from to rule h e = ap (λ l. map (row_between rule) (neighbours (from ∷ (l ++ rule ∷ [])))) (all_from-more (begins_row T) to rule h e)
+
+pub rows_left-end : (T : Grid) (from to rule : ℕ) → rule ≤ to → rows_left T from to rule ≡ row_lines from rule rule ∷ []
+rows_left-end T from to rule h =
+    ap (λ l. map (row_between rule) (neighbours (from ∷ (l ++ rule ∷ [])))) (all_from-end (begins_row T) to rule h)
+    ∙ ap (λ b. row_lines from rule (cond b rule 0) ∷ []) (eq-eqb rule rule refl)
+
+-- the rows of the lines from `low` on, cut at rules
+abbrev pub sections_left : Grid → ℕ → List ℕ → List RowLines
+sections_left T low rules = flat_map (λ (p : ℕ × ℕ). section T (p.0 + 1) p.1) (neighbours ((low - 1) ∷ rules))
+
+pub sections_left-more : (T : Grid) (low rule : ℕ) (rules : List ℕ) → 1 ≤ low → sections_left T low (rule ∷ rules) ≡ section T low rule ++ sections_left T (rule + 1) rules
+sections_left-more T low rule rules h =
+    let before : low - 1 + 1 ≡ low = omega arith in
+    let behind : rule ≡ rule + 1 - 1 = omega arith in
+    ap₂ (λ n m. section T n rule ++ flat_map (λ (p : ℕ × ℕ). section T (p.0 + 1) p.1) (neighbours (m ∷ rules))) before behind
 
 max_regroup : (a b c : ℕ) → max (max a b) c ≡ max a (max b c)
 max_regroup a b c = grind arith

@@ -4,8 +4,8 @@ use Rattle.rst_text.specs.Block.{Block, front_text}
 use Rattle.rst_markup.specs.TableLines.{is_lower_border}
 use Rattle.rst_markup.specs.TableRows.{grid_size, grid_scan, simple_size, simple_scan}
 use Rattle.rst_tables.specs.Places.{rows_of}
-use Rattle.rst_tables.specs.GridTable.{grid_looked}
-use Rattle.rst_tables.specs.SimpleTable.{simple_end, simple_looked}
+use Rattle.rst_tables.specs.Looked.{grid_looked, simple_looked}
+use Rattle.rst_tables.specs.SimpleTable.{simple_end}
 use Rattle.rst_tables.specs.Laws.{grid_end, place_behind}
 use Rattle.rst_tables.specs.declared.results.TableResult.{TableResult}
 use Rattle.rst_tables.specs.declared.results.TableResult.TheVariants.{Table, Malformed}

@@ -6,6 +6,7 @@ use Rattle.rst_text.specs.Block.{Block, first_number}
 use Rattle.rst_tables.specs.Places.{Row, Grid, no_row, rows_of, row_at, mark_of, mark_at, place, width}
 use Rattle.rst_text.specs.Places.{first_from}
 use Rattle.rst_tables.specs.Counts.{below}
+use Rattle.rst_tables.specs.Neighbours.{neighbours}
 use Rattle.rst_tables.specs.Cells.{cell_block}
 use Rattle.rst_tables.specs.Drawn.{is_upright, Tiles}
 use Rattle.rst_tables.specs.declared.drawn.Rectangle.{Rectangle}
@@ -138,15 +139,9 @@ is_column G rs j = list_any (bounds_column G j) rs
 abbrev pub is_row : Grid → List Rectangle → ℕ → Bool
 is_row G rs i = list_any (bounds_row G i) rs
 
--- how many places lie between neighbouring bounds, the first of which is a
-abbrev pub gaps_from : ℕ → List ℕ → List ℕ
-gaps_from a [] = []
-gaps_from a (b ∷ bs) = (b - a - 1) ∷ gaps_from b bs
-
 -- how many places lie between neighbouring bounds
 abbrev pub gaps : List ℕ → List ℕ
-gaps [] = []
-gaps (a ∷ bs) = gaps_from a bs
+gaps bounds = map (λ (p : ℕ × ℕ). p.1 - p.0 - 1) (neighbours bounds)
 
 -- How many rows, or columns, there are from one bound up to another, less 1. A rank says how many bounds stand before
 -- a place.
@@ -212,9 +207,3 @@ IsOfHeight line i S (suc n) result = IsOfRows line i (take (suc n) S) (row_fault
 -- `Malformed` with the first fault.
 abbrev pub IsGridTable : Block → ℕ → TableResult → Type 0
 IsGridTable B i result = let S = scanned (rows_of (drop i B)) in IsOfHeight (first_number (drop i B)) i S (height S) result
-
--- How many rows are looked at to scan the table: all of them, and the one that stops the scan. No rule of markup: it bounds
--- the time.
-unfoldable pub grid_looked : Grid → ℕ
-grid_looked [] = 0
-grid_looked (r ∷ rs) = if is_drawn_row r.places then suc (grid_looked rs) else 1

@@ -2,8 +2,9 @@
 use Rattle.std.specs.Prelude.{◌≡◌, ℕ, zero, suc, ◌+◌, ◌<◌, ◌≤◌, false, length}
 use Rattle.rst_tables.specs.Places.{Grid, row_at}
 use Rattle.rst_tables.specs.Drawn.{IsEven, OneTiling}
-use Rattle.rst_tables.specs.GridTable.{height, scanned, grid_looked, is_grid_border_row}
-use Rattle.rst_tables.specs.SimpleTable.{simple_end, simple_looked, is_lower_border_row}
+use Rattle.rst_tables.specs.GridTable.{height, scanned, is_grid_border_row}
+use Rattle.rst_tables.specs.Looked.{grid_looked, simple_looked}
+use Rattle.rst_tables.specs.SimpleTable.{simple_end, is_lower_border_row}
 use Rattle.rst_tables.specs.declared.simple_lines.SimpleEnd.{SimpleEnd}
 use Rattle.rst_tables.specs.declared.simple_lines.SimpleEnd.TheVariants.{Ends, Fails}
 

@@ -1,11 +1,14 @@
 pub mod Places
 pub mod Counts
+pub mod Neighbours
 pub mod Results
 pub mod Messages
 pub mod Laws
 pub mod Ends
 pub mod Cells
 pub mod Drawn
+pub mod Search
 pub mod Marks
 pub mod GridTable
 pub mod SimpleTable
+pub mod Looked

@@ -1,11 +1,13 @@
 -- Simple tables: which lines they are, what can be wrong with them, and what stands in them (Markup Specification,
 -- 'Simple Tables').
-use Rattle.std.specs.Prelude.{ℕ, zero, suc, ◌+◌, ◌-◌, max, Bool, true, false, not, ◌&&◌, ◌||◌, ◌==◌, nat_le, List, [], ◌∷◌, ◌++◌, Option, Some, None, is_some, if◌then◌else◌, get_or, length, take, drop, map, count_by, unwrap_or, option_map, option_and_then, filter, position}
+use Rattle.std.specs.Prelude.{ℕ, zero, suc, ◌+◌, ◌-◌, max, Bool, false, not, ◌&&◌, ◌||◌, ◌==◌, nat_le, List, [], ◌∷◌, ◌++◌, Option, Some, None, is_some, if◌then◌else◌, get_or, length, take, drop, map, count_by, unwrap_or, option_map, option_and_then, flat_map, filter, position}
 use Rattle.std.specs.Char.{is_whitespace}
 use Rattle.std.specs.List.{list_all, range_with_len}
+use Rattle.std.specs.Option.{option_or}
 use Rattle.rst_text.specs.Block.{Block, first_number}
 use Rattle.rst_tables.specs.Places.{Grid, rows_of, row_at, mark_of, mark_at}
 use Rattle.rst_text.specs.Places.{first_from}
+use Rattle.rst_tables.specs.Neighbours.{neighbours}
 use Rattle.rst_tables.specs.Cells.{cell_block}
 use Rattle.rst_tables.specs.GridTable.{malformed}
 use Rattle.rst_tables.specs.declared.places.Place.{Place}
@@ -62,24 +64,6 @@ end_at_first R wide (Some first) =
 -- where the table ends whose top border is row i
 abbrev pub simple_end : Grid → ℕ → SimpleEnd
 simple_end R i = end_at_first R (length (row_at R i)) (next_border R (i + 1))
-
--- ---- how far the scan goes. No rule of markup: it bounds the time.
-
--- the place behind the row that stops the scan for a border
-abbrev pub scan_end : Grid → Option ℕ → ℕ
-scan_end R None = length R
-scan_end R (Some k) = k + 1
-
--- the place behind the rows that are looked at to find the end
-abbrev pub looked_to : Grid → ℕ → Option ℕ → ℕ
-looked_to R wide None = length R
-looked_to R wide (Some first) =
-    if length (row_at R first) == wide then (if is_empty (row_at R (first + 1)) then first + 1 else scan_end R (next_border R (first + 1)))
-    else first + 1
-
--- how many rows are looked at from the top border on
-abbrev pub simple_looked : Grid → ℕ → ℕ
-simple_looked R i = looked_to R (length (row_at R i)) (next_border R (i + 1)) - i
 
 -- ---- columns
 
@@ -164,49 +148,40 @@ begins_row T k = let column = get_or (columns_of T) 0 no_span in not (is_clear c
 abbrev pub row_lines : ℕ → ℕ → ℕ → RowLines
 row_lines from to rule = record { from = from; to = to; rule = rule }
 
--- The rows from `start` on. Of the n lines from `low` on each whose first column isn't blank begins another row. The last
--- row ends at the rule that follows and has its columns; a row that ends where the next row begins has those of the top
--- border, row 0.
-abbrev pub rows_in : Grid → ℕ → ℕ → ℕ → List RowLines
-rows_in T start low zero = row_lines start low low ∷ []
-rows_in T start low (suc n) = if begins_row T low then row_lines start low 0 ∷ rows_in T low (low + 1) n else rows_in T start (low + 1) n
+-- Where the rows begin in the lines before a rule, the first of which that isn't blank is line `start`: there, and at each
+-- line behind it whose first column isn't blank.
+abbrev pub row_places : Grid → ℕ → ℕ → List ℕ
+row_places T start rule = start ∷ filter (begins_row T) (range_with_len (start + 1) (rule - (start + 1)))
 
--- the rows before a rule, from the first line that isn't blank, if there is one
+-- The row between two places. One that ends at a rule has its columns; one that ends where the next begins has those of the
+-- top border, line 0.
+abbrev pub row_between : ℕ → ℕ × ℕ → RowLines
+row_between rule p = row_lines p.0 p.1 (if p.1 == rule then rule else 0)
+
+-- the rows before a rule, each from where it begins up to the next, from the first line that isn't blank, if there is one
 abbrev pub rows_from : Grid → ℕ → Option ℕ → List RowLines
 rows_from T rule None = []
-rows_from T rule (Some start) = rows_in T start (start + 1) (rule - (start + 1))
+rows_from T rule (Some start) = map (row_between rule) (neighbours (row_places T start rule ++ rule ∷ []))
 
 -- the rows of the lines from `low` on before a rule, blank lines at their front dropped
 abbrev pub section : Grid → ℕ → ℕ → List RowLines
 section T low rule = rows_from T rule (first_from (λ k. not (is_empty (row_at T k))) low (rule - low))
 
--- the rows of the lines from `low` on, cut at rules
-abbrev pub sections : Grid → ℕ → List ℕ → List RowLines
-sections T low [] = []
-sections T low (rule ∷ rules) = section T low rule ++ sections T (rule + 1) rules
+-- the rows of the lines between the top border, line 0, and the first of some rules, and between each of these and the next
+abbrev pub sections : Grid → List ℕ → List RowLines
+sections T rules = flat_map (λ (p : ℕ × ℕ). section T (p.0 + 1) p.1) (neighbours (0 ∷ rules))
 
 -- the rows of a table: its lines below the top border, cut at its rules
 abbrev pub simple_rows : Grid → List RowLines
-simple_rows T = sections T 1 (rules_of T)
+simple_rows T = sections T (rules_of T)
 
 -- the spans of a row, by the rule that ends it
 abbrev pub row_spans : Grid → RowLines → List Span
 row_spans T r = unwrap_or (rule_spans T r.rule) []
 
--- nothing but white stands between the spans, the one before which ends at `to`
-abbrev pub margins_from : ℕ → List Span → List Place → Bool
-margins_from to [] row = true
-margins_from to (s ∷ ss) row = is_clear to s.from row && margins_from s.to ss row
-
 -- nothing but white stands between neighbouring spans
 abbrev pub are_clear : List Span → List Place → Bool
-are_clear [] row = true
-are_clear (s ∷ ss) row = margins_from s.to ss row
-
--- the first of two, or the second where the first is missing
-abbrev pub or_else : Option ℕ → Option ℕ → Option ℕ
-or_else None other = other
-or_else (Some k) other = Some k
+are_clear spans row = list_all (λ (p : Span × Span). is_clear p.0.to p.1.from row) (neighbours spans)
 
 -- the first line of a row with text between its columns
 abbrev pub text_in_margin : Grid → List Span → ℕ → ℕ → Option ℕ
@@ -215,7 +190,7 @@ text_in_margin T spans from to = first_from (λ k. not (are_clear spans (row_at 
 -- the first such line of all rows
 abbrev pub first_in_margin : Grid → List RowLines → Option ℕ
 first_in_margin T [] = None
-first_in_margin T (r ∷ rs) = or_else (text_in_margin T (row_spans T r) r.from r.to) (first_in_margin T rs)
+first_in_margin T (r ∷ rs) = option_or (text_in_margin T (row_spans T r) r.from r.to) (first_in_margin T rs)
 
 -- ---- widths and cells
 

@@ -1,9 +1,9 @@
 //! The bounds of a grid's columns and rows.
-ghost use Rattle.std.specs.Prelude.{◌≡◌, ◌<◌, ◌||◌, ◌==◌, length, IfOk};
+ghost use Rattle.std.specs.Prelude.{◌≡◌, ◌∷◌, ◌<◌, ◌||◌, ◌==◌, length, IfOk};
 ghost use Rattle.rst_tables.specs.Places.{place, width};
 ghost use Rattle.rst_tables.specs.Marks.{Marks, AreMarked};
 ghost use Rattle.rst_tables.specs.Drawn.{IsEven, IsTiling};
-ghost use Rattle.rst_tables.specs.GridTable.{gaps, gaps_from, is_column, is_row};
+ghost use Rattle.rst_tables.specs.GridTable.{gaps, is_column, is_row};
 
 use super::drawn::Rectangle;
 use super::places::{TableLine, mark, width};
@@ -75,7 +75,7 @@ pub(crate) fn row_marks(
 
 /// How many places lie between neighbouring bounds, `first` standing before the others.
 fn gaps_from(alloc: Global, first: usize, others: &[usize]) -> Result<Vec<usize>, AllocError>
-    ensures { IfOk result (λ found. found.items ≡ gaps_from first others.now) }
+    ensures { IfOk result (λ found. found.items ≡ gaps (first ∷ others.now)) }
 {
     let mut gaps = Vec::new(alloc);
     let mut before = first;

@@ -1,7 +1,8 @@
 //! The rectangles that a grid table draws, and the tiling by them.
 ghost use Rattle.std.specs.Prelude.{◌≡◌, ◌<◌, ◌≤◌, ◌^◌, IfOk, option_map, vec_items, length};
 ghost use Rattle.rst_tables.specs.Places.{Grid, width, place};
-ghost use Rattle.rst_tables.specs.Drawn.{is_across, is_upright, are_upright, lists_of, begin_at, IsEven, IsAcross, IsBottom, Tells, Closes, AreBegins, HasBegins, next_begin, Draws, Fills, Tiles};
+ghost use Rattle.rst_tables.specs.Drawn.{is_across, is_upright, IsEven, IsAcross, Tiles};
+ghost use Rattle.rst_tables.specs.Search.{are_upright, lists_of, begin_at, IsBottom, Tells, Closes, AreBegins, HasBegins, next_begin, Draws, Fills};
 
 use super::places::{Place, TableLine, mark, mark_at, width};
 use std::alloc::{AllocError, Global};
@@ -30,7 +31,7 @@ pub(crate) fn is_upright(c: char) -> bool
 }
 
 // Whether both sides go on in the row.
-#[tactic(auto, unfolding(crate::specs::Drawn::are_upright))]
+#[tactic(auto, unfolding(crate::specs::Search::are_upright))]
 fn are_upright(rows: &[TableLine], row: usize, left: usize, right: usize) -> bool
     ensures { result ≡ are_upright rows.now row left right }
 {
@@ -38,7 +39,7 @@ fn are_upright(rows: &[TableLine], row: usize, left: usize, right: usize) -> boo
 }
 
 // Where the run of `-` and `+` begins that ends behind the column.
-#[tactic(auto, unfolding(crate::specs::Drawn::next_begin))]
+#[tactic(auto, unfolding(crate::specs::Search::next_begin))]
 fn next_begin(c: char, begin: usize, column: usize) -> usize
     requires { column < 2 ^ 63 }
     ensures { result ≡ next_begin c begin column }
@@ -71,7 +72,7 @@ fn all_begins(alloc: Global, rows: &[TableLine]) -> Result<Vec<Vec<usize>>, Allo
 }
 
 // The number at a place of the table of runs.
-#[tactic(auto, unfolding(crate::specs::Drawn::begin_at))]
+#[tactic(auto, unfolding(crate::specs::Search::begin_at))]
 fn begin_at(rows: &[Vec<usize>], row: usize, column: usize) -> usize
     ensures { result ≡ begin_at (lists_of rows.now) row column }
 {

@@ -4,6 +4,7 @@ ghost use Rattle.rst_text.specs.Shown.{block_of};
 ghost use Rattle.std.specs.List.{list_all};
 ghost use Rattle.rst_tables.specs.Places.{rows_of};
 ghost use Rattle.rst_tables.specs.GridTable as spec;
+ghost use Rattle.rst_tables.specs.Looked.{grid_looked};
 
 use super::drawn::is_upright;
 use super::places::{Place, TableLine, mark_at, read_line, width};
@@ -80,7 +81,7 @@ pub(crate) fn scanned(
     requires few { looks.old < 2 ^ 120 }
     ensures fits { IfOk result (λ lines. from + length lines.items < 2 ^ 64) }
     ensures lines { IfOk result (λ lines. lines.items ≡ spec.scanned (rows_of (drop from (block_of view.now)))) }
-    ensures looks { looks.new ≤ looks.old + spec.grid_looked (rows_of (drop from (block_of view.now))) }
+    ensures looks { looks.new ≤ looks.old + grid_looked (rows_of (drop from (block_of view.now))) }
 {
     let mut lines = Vec::new(alloc);
     for k in from..view.len() {

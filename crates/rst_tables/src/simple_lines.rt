@@ -4,6 +4,7 @@ ghost use Rattle.std.specs.List.{list_all};
 ghost use Rattle.rst_text.specs.Shown.{block_of};
 ghost use Rattle.rst_tables.specs.Places.{rows_of, row_at};
 ghost use Rattle.rst_tables.specs.SimpleTable as spec;
+ghost use Rattle.rst_tables.specs.Looked.{scan_end, looked_to, simple_looked};
 
 use super::places::{Place, TableLine, mark_at, read_line};
 use super::results::TableDetail;
@@ -63,7 +64,7 @@ fn next_border(
     requires few { looks.old < 2 ^ 120 + 2 ^ 66 }
     ensures border { IfOk result (λ found. found ≡ spec.next_border (rows_of (block_of view.now)) low) }
     ensures within { IfOk result (λ found. IfSome found (λ k. (low ≤ k) × (k < length (block_of view.now)))) }
-    ensures looks { looks.new + low ≤ looks.old + spec.scan_end (rows_of (block_of view.now)) (spec.next_border (rows_of (block_of view.now)) low) }
+    ensures looks { looks.new + low ≤ looks.old + scan_end (rows_of (block_of view.now)) (spec.next_border (rows_of (block_of view.now)) low) }
 {
     for k in low..view.len() {
         let line = read_line(alloc, view, k, looks)?;
@@ -103,7 +104,7 @@ fn end_below(
     requires there { first < length (block_of view.now) }
     requires few { looks.old < 2 ^ 120 + 2 ^ 65 }
     ensures end { IfOk result (λ end. end ≡ spec.end_at_first (rows_of (block_of view.now)) wide (Some first)) }
-    ensures looks { looks.new + first ≤ looks.old + 2 + spec.looked_to (rows_of (block_of view.now)) wide (Some first) }
+    ensures looks { looks.new + first ≤ looks.old + 2 + looked_to (rows_of (block_of view.now)) wide (Some first) }
 {
     // There are so many lines, so the place behind each fits, too.
     let _lines = view.len();
@@ -152,7 +153,7 @@ pub(crate) fn simple_end(
     requires there { i < length (block_of view.now) }
     requires few { looks.old < 2 ^ 120 }
     ensures end { IfOk result (λ end. end ≡ spec.simple_end (rows_of (block_of view.now)) i) }
-    ensures looks { looks.new ≤ looks.old + 3 * spec.simple_looked (rows_of (block_of view.now)) i }
+    ensures looks { looks.new ≤ looks.old + 3 * simple_looked (rows_of (block_of view.now)) i }
 {
     let size = view.len();
     let wide = line_width(alloc, view, i, looks)?;

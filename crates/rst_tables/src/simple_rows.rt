@@ -1,5 +1,5 @@
 //! The rows of a simple table.
-ghost use Rattle.std.specs.Prelude.{◌≡◌, ◌++◌, ◌+◌, ◌-◌, ◌^◌, ◌<◌, ◌≤◌, ℕ, Bool, not, get_or, length, IfOk, IfSome, option_map, vec_items};
+ghost use Rattle.std.specs.Prelude.{◌≡◌, ◌++◌, ◌∷◌, ◌+◌, ◌-◌, ◌^◌, ◌<◌, ◌≤◌, ℕ, Bool, not, get_or, length, IfOk, IfSome, option_map, vec_items};
 ghost use Rattle.std.specs.List.{list_all};
 ghost use Rattle.rst_tables.specs.Places.{row_at};
 ghost use Rattle.rst_text.specs.Places.{first_from};
@@ -215,7 +215,7 @@ pub(crate) fn simple_rows(
 ) -> Result<Vec<RowLines>, AllocError>
     requires column { column ≡ get_or (spec.columns_of lines.now) 0 spec.no_span }
     requires within { (n : ℕ) → n < length rules.now → get_or rules.now n 0 < length lines.now }
-    ensures { IfOk result (λ rows. rows.items ≡ spec.sections lines.now 1 rules.now) }
+    ensures { IfOk result (λ rows. rows.items ≡ spec.sections lines.now rules.now) }
 {
     let mut rows = Vec::new(alloc);
     let mut low = 1;
@@ -226,16 +226,16 @@ pub(crate) fn simple_rows(
     Ok(rows)
 }
 
-/// Whether nothing but white stands between spans, the one before which ends at `to`.
-fn margins_from(row: &[Place], to: usize, spans: &[Span]) -> bool
-    ensures { result ≡ spec.margins_from to spans.now row.now }
+/// Whether nothing but white stands between neighbouring spans, the first of which stands before the others.
+fn margins_from(row: &[Place], first: Span, others: &[Span]) -> bool
+    ensures { result ≡ spec.are_clear (first ∷ others.now) row.now }
 {
-    let mut before = to;
-    for span in spans {
-        if !is_clear(row, before, span.from) {
+    let mut before = first;
+    for span in others {
+        if !is_clear(row, before.to, span.from) {
             return false;
         }
-        before = span.to;
+        before = *span;
     }
     true
 }
@@ -245,7 +245,7 @@ fn are_clear(row: &[Place], spans: &[Span]) -> bool
 {
     match spans {
         [] => true,
-        [first, others @ ..] => margins_from(row, first.to, others),
+        [first, others @ ..] => margins_from(row, *first, others),
     }
 }
 

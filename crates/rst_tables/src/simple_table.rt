@@ -4,6 +4,7 @@ ghost use Rattle.rst_text.specs.Shown.{block_of};
 ghost use Rattle.rst_tables.specs.Places.{rows_of};
 ghost use Rattle.rst_tables.specs.Ends.{end_of};
 ghost use Rattle.rst_tables.specs.SimpleTable as spec;
+ghost use Rattle.rst_tables.specs.Looked.{simple_looked};
 ghost use Rattle.rst_markup.specs.TableRows.{is_simple_row, simple_size};
 
 use super::places::TableLine;
@@ -88,7 +89,7 @@ pub fn simple(
     requires few { looks.old < 2 ^ 120 }
     ensures table { IfOk result (λ table. table ≡ spec.simple_table (block_of view.now) i) }
     ensures end { IsTrue (is_simple_row (drop i (block_of view.now))) → IfOk result (λ table. end_of table ≡ i + simple_size (drop i (block_of view.now))) }
-    ensures looks { looks.new ≤ looks.old + 4 * spec.simple_looked (rows_of (block_of view.now)) i }
+    ensures looks { looks.new ≤ looks.old + 4 * simple_looked (rows_of (block_of view.now)) i }
 {
     let line = view.number(i);
     match simple_end(alloc, view, i, looks)? {

@@ -4,6 +4,7 @@ ghost use Rattle.rst_text.specs.Shown.{block_of};
 ghost use Rattle.rst_tables.specs.Places.{rows_of};
 ghost use Rattle.rst_tables.specs.Ends.{end_of};
 ghost use Rattle.rst_tables.specs.GridTable as spec;
+ghost use Rattle.rst_tables.specs.Looked.{grid_looked};
 ghost use Rattle.rst_markup.specs.TableRows.{grid_size};
 
 use super::drawn::tiling;
@@ -91,7 +92,7 @@ pub fn grid(
     requires few { looks.old < 2 ^ 120 }
     ensures table { IfOk result (spec.IsGridTable (block_of view.now) i) }
     ensures end { IfOk result (λ table. end_of table ≡ i + grid_size (drop i (block_of view.now))) }
-    ensures looks { looks.new ≤ looks.old + spec.grid_looked (rows_of (drop i (block_of view.now))) }
+    ensures looks { looks.new ≤ looks.old + grid_looked (rows_of (drop i (block_of view.now))) }
 {
     let lines = scanned(alloc, view, i, looks)?;
     let table = grid_of(alloc, view.number(i), i, lines)?;

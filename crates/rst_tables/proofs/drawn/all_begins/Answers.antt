@@ -1,7 +1,7 @@
 use Rattle.std.proofs.Common.{◌≡◌, [], ◌∷◌, ◌++◌, get_or, arith, ap, subst, ◌∙◌, vec_items}
 use Rattle.std.proofs.lemmas.List.{get_or_read, map-append}
 use Rattle.rst_tables.specs.Places.{row_at, no_row}
-use Rattle.rst_tables.specs.Drawn.{AreBegins, lists_of}
+use Rattle.rst_tables.specs.Search.{AreBegins, lists_of}
 use Rattle.rst_tables.proofs.Begins.{pushed, pushed_size}
 use Rattle.rst_tables.proofs.drawn.all_begins.Goals as goal
 

@@ -1,5 +1,5 @@
 use Rattle.std.proofs.Common.{◌≡◌, ℕ, ◌<◌, length, get_or, []}
-use Rattle.rst_tables.specs.Drawn.{AreBegins, lists_of}
+use Rattle.rst_tables.specs.Search.{AreBegins, lists_of}
 use Rattle.rst_tables.specs.Places.{row_at}
 use Rattle.rst_tables.proofs.drawn.all_begins.Given as goal
 

@@ -1,6 +1,6 @@
 use Rattle.std.proofs.Common.{◌≡◌, ◌+◌, arith, sym, ap, subst, ◌∙◌}
 use Rattle.rst_tables.specs.Places.{mark_at}
-use Rattle.rst_tables.specs.Drawn.{Begins, next_begin}
+use Rattle.rst_tables.specs.Search.{Begins, next_begin}
 use Rattle.rst_tables.proofs.Begins.{begins_next, pushed, pushed_size}
 use Rattle.rst_tables.proofs.drawn.begins_of.Goals as goal
 

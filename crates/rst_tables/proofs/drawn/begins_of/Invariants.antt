@@ -1,5 +1,5 @@
 use Rattle.std.proofs.Common.{◌≡◌, ℕ, ◌+◌, ◌<◌, length, get_or}
-use Rattle.rst_tables.specs.Drawn.{Begins}
+use Rattle.rst_tables.specs.Search.{Begins}
 use Rattle.rst_tables.proofs.drawn.begins_of.Given as goal
 
 abbrev pub invariant-loop-column : goal.invariant-loop-column

@@ -1,5 +1,5 @@
 use Rattle.std.proofs.Common.{◌≡◌, ◌<◌, true, length, arith, subst}
-use Rattle.rst_tables.specs.Drawn.{are_upright}
+use Rattle.rst_tables.specs.Search.{are_upright}
 use Rattle.rst_tables.proofs.Rectangles.{place_within}
 use Rattle.rst_tables.proofs.Frames.{corners_upright, not_closed, closed_now, least_now, closed_within}
 use Rattle.rst_tables.proofs.drawn.bottom.Goals as goal

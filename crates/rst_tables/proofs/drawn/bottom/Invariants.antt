@@ -1,5 +1,5 @@
 use Rattle.std.proofs.Common.{◌≡◌, ℕ, ◌<◌, ◌≤◌, true}
-use Rattle.rst_tables.specs.Drawn.{are_upright, IsClosed}
+use Rattle.rst_tables.specs.Search.{are_upright, IsClosed}
 use Rattle.rst_tables.proofs.drawn.bottom.Given as goal
 
 abbrev pub invariant-loop-row : goal.invariant-loop-row

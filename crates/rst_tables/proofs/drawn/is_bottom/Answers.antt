@@ -1,6 +1,6 @@
 use Rattle.std.proofs.Common.{◌≡◌, arith}
 use Rattle.rst_tables.specs.Places.{place}
-use Rattle.rst_tables.specs.Drawn.{lists_of}
+use Rattle.rst_tables.specs.Search.{lists_of}
 use Rattle.rst_tables.proofs.Begins.{bottom_run, no_bottom_run}
 use Rattle.rst_tables.proofs.drawn.is_bottom.Goals as goal
 

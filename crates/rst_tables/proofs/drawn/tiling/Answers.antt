@@ -2,7 +2,7 @@ use Rattle.std.proofs.Common.{◌≡◌, ◌<◌, ◌+◌, true, false, List, �
 use Rattle.std.proofs.lemmas.List.{get_or_read}
 use Rattle.rst_tables.proofs.Lists.{whole}
 use Rattle.rst_tables.specs.Places.{width}
-use Rattle.rst_tables.specs.Drawn.{Fills}
+use Rattle.rst_tables.specs.Search.{Fills}
 use Rattle.rst_tables.proofs.Rectangles.{frame_within}
 use Rattle.rst_tables.proofs.Scan.{Stands, skip, none_drawn, overlap, add, next_row, finish}
 use Rattle.rst_tables.proofs.drawn.tiling.Goals as goal

@@ -2,7 +2,8 @@ use Rattle.std.proofs.Common.{◌≡◌, ◌+◌, ◌∙◌, ◌++◌, ◌∷◌
 use Rattle.rst_text.specs.Shown.{block_of}
 use Rattle.rst_text.specs.Block.{Block}
 use Rattle.rst_tables.specs.Places.{rows_of}
-use Rattle.rst_tables.specs.GridTable.{scanned, grid_looked, is_drawn_row}
+use Rattle.rst_tables.specs.GridTable.{scanned, is_drawn_row}
+use Rattle.rst_tables.specs.Looked.{grid_looked}
 use Rattle.std.proofs.lemmas.List.{length_push}
 use Rattle.rst_tables.proofs.Lists.{onto}
 use Rattle.rst_tables.proofs.GridLemmas.{scanned-row, looked-row, looked-some}

@@ -1,7 +1,8 @@
 use Rattle.std.proofs.Common.{◌≡◌, ◌++◌, ◌+◌, ◌≤◌, drop, length}
 use Rattle.rst_text.specs.Shown.{block_of}
 use Rattle.rst_tables.specs.Places.{rows_of}
-use Rattle.rst_tables.specs.GridTable.{scanned, grid_looked}
+use Rattle.rst_tables.specs.GridTable.{scanned}
+use Rattle.rst_tables.specs.Looked.{grid_looked}
 use Rattle.rst_tables.proofs.grid_lines.scanned.Given as goal
 
 abbrev pub invariant-loop-k : goal.invariant-loop-k
