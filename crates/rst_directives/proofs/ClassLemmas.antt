@@ -1,12 +1,12 @@
 -- Words taken one after the other.
-use Rattle.std.proofs.Common.{◌≡◌, ℕ, suc, ◌<◌, Bool, true, false, if◌then◌else◌, List, [], ◌∷◌, ◌++◌, take, drop, Option, Some, None, refl, sym, ap, ◌∙◌, inl, inr, arith}
+use Rattle.std.proofs.Common.{◌≡◌, ℕ, suc, ◌<◌, Bool, true, false, if◌then◌else◌, List, [], ◌∷◌, ◌++◌, take, drop, Option, Some, None, option_map, refl, sym, ap, ◌∙◌, inl, inr, arith}
 use Rattle.rst_text.specs.Block.{is_blank}
 use Rattle.rst_text.specs.Characters.{is_white}
 use Rattle.rst_text.specs.Lines.{onto_first}
 use Rattle.rst_text.specs.Names.{begins_word, words_of, skip_while, id_of}
 use Rattle.rst_text.proofs.PlacesLemmas.{cases_bool}
 use Rattle.rst_directives.specs.Characters.{Text}
-use Rattle.rst_directives.specs.Value.{word_len, onto_ids, all_ids, some_ids}
+use Rattle.rst_directives.specs.Value.{word_len, all_ids, some_ids}
 
 -- ids, and those that come behind them if these are right
 abbrev pub behind_ids : List Text → Option (List Text) → Option (List Text)
@@ -102,7 +102,7 @@ word_len-some (c ∷ cs) h some = let e : word_len (c ∷ cs) ≡ suc (word_len 
 ids-first : (t : Text) → IsTrimmed t → is_blank t ≡ false → all_ids (words_of t) ≡ all_ids (take (word_len t) t ∷ words_of (skip_while is_white (drop (word_len t) t)))
 ids-first t h some = ap all_ids (first_word t (trimmed-begins t h some) ∙ ap (λ ws. take (word_len t) t ∷ ws) (sym (words-skip (drop (word_len t) t))))
 
-behind-onto : (ids : List Text) (id : Text) (more : Option (List Text)) → behind_ids ids (onto_ids id more) ≡ behind_ids (ids ++ id ∷ []) more
+behind-onto : (ids : List Text) (id : Text) (more : Option (List Text)) → behind_ids ids (option_map (λ others. id ∷ others) more) ≡ behind_ids (ids ++ id ∷ []) more
 behind-onto ids id None = refl
 behind-onto ids id (Some more) = ap Some (sym (one ids))
   where
@@ -110,7 +110,7 @@ behind-onto ids id (Some more) = ap Some (sym (one ids))
     one [] = refl
     one (x ∷ xs) = ap (λ l. x ∷ l) (one xs)
 
-all_ids-some : (w : Text) (ws : List Text) → is_blank (id_of w) ≡ false → all_ids (w ∷ ws) ≡ onto_ids (id_of w) (all_ids ws)
+all_ids-some : (w : Text) (ws : List Text) → is_blank (id_of w) ≡ false → all_ids (w ∷ ws) ≡ option_map (λ ids. id_of w ∷ ids) (all_ids ws)
 all_ids-some w ws h = rw h refl
 
 all_ids-none : (w : Text) (ws : List Text) → is_blank (id_of w) ≡ true → all_ids (w ∷ ws) ≡ None
@@ -121,7 +121,7 @@ pub ids-more : (t : Text) (ids : List Text) (id : Text) (whole : Option (List Te
     → behind_ids ids (all_ids (words_of t)) ≡ whole → behind_ids (ids ++ id ∷ []) (all_ids (words_of (skip_while is_white (drop (word_len t) t)))) ≡ whole
 ids-more t ids id whole h some e dark e2 =
     sym (behind-onto ids id (all_ids (words_of (skip_while is_white (drop (word_len t) t)))))
-    ∙ ap (λ x. behind_ids ids (onto_ids x (all_ids (words_of (skip_while is_white (drop (word_len t) t)))))) e
+    ∙ ap (λ x. behind_ids ids (option_map (λ others. x ∷ others) (all_ids (words_of (skip_while is_white (drop (word_len t) t)))))) e
     ∙ ap (behind_ids ids) (sym (all_ids-some (take (word_len t) t) (words_of (skip_while is_white (drop (word_len t) t))) (ap is_blank (sym e) ∙ dark)))
     ∙ ap (behind_ids ids) (sym (ids-first t h some)) ∙ e2
 

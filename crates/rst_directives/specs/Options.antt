@@ -1,18 +1,17 @@
 -- The options of a directive's block (Markup Specification, 'Directives', 'Field Lists').
-use Rattle.std.specs.Prelude.{ℕ, suc, min, Bool, true, false, not, ◌||◌, List, [], ◌∷◌, map, take, drop, length, slice_range, Option, Some, None, option_map, Result, Ok, Err, if◌then◌else◌}
-use Rattle.std.specs.List.{join_with_byte}
-use Rattle.std.specs.Option.{option_or}
+use Rattle.std.specs.Prelude.{ℕ, suc, min, Bool, false, not, List, [], ◌∷◌, map, take, drop, length, slice_range, Option, Some, option_map, option_and_then, ok_or, find, Result, Ok, Err, if◌then◌else◌}
+use Rattle.std.specs.List.{join_with_byte, list_any}
+use Rattle.std.specs.Option.{option_or, option_map_or}
 use Rattle.std.specs.declared.vec.Vec.{Vec}
 use Rattle.rst_text.specs.Block.{indentation}
 use Rattle.rst_text.specs.Places.{first_from}
 use Rattle.rst_marks.specs.Field.{field_of}
 use Rattle.rst_marks.specs.Front.{begins_with}
-use Rattle.rst_marks.specs.declared.field.FieldMark.{FieldMark}
 use Rattle.rst_directives.specs.Characters.{Text, is_same_word}
 use Rattle.rst_directives.specs.Name.{has_option}
 use Rattle.rst_directives.specs.OptionName.{option_of}
 use Rattle.rst_directives.specs.Value.{Meaning, meaning_of, value_of}
-use Rattle.rst_directives.specs.Wrong.{Wrong, unless, unknown, duplicate, invalid, wrong_in}
+use Rattle.rst_directives.specs.Wrong.{Wrong, and_then, unless, unknown, duplicate, invalid, wrong_in}
 use Rattle.rst_directives.specs.declared.fault.Detail.{Detail}
 use Rattle.rst_directives.specs.declared.name.Name.{Name}
 use Rattle.rst_directives.specs.declared.option.OptionName.{OptionName}
@@ -46,21 +45,14 @@ joined first ts cut = join_with_byte 10 (with_first first (map (drop cut) ts))
 abbrev pub FieldText : Type 0
 FieldText = Text × Text
 
--- a field: the name between its colons, and the text behind its mark with the lines below, their least indentation
--- taken off
-abbrev pub field_by : Option FieldMark → Text → List Text → Option FieldText
-field_by None t below = None
-field_by (Some mark) t below = Some (slice_range t mark.name.from mark.name.to, joined (drop mark.marker.cut t) below (least_indentation below))
-
--- the field that a line begins, with the indented lines below it
+-- the field that a line begins, with the indented lines below it: the name between its colons, and the text behind its mark
+-- with these lines, their least indentation taken off
 unfoldable pub field_in : Text → List Text → Option FieldText
-field_in t below = field_by (field_of t) t below
+field_in t below = option_map (λ mark. (slice_range t mark.name.from mark.name.to, joined (drop mark.marker.cut t) below (least_indentation below))) (field_of t)
 
 -- a field before others, if it and they are fields
 abbrev pub onto_fields : Option FieldText → Option (List FieldText) → Option (List FieldText)
-onto_fields (Some f) (Some fs) = Some (f ∷ fs)
-onto_fields (Some f) None = None
-onto_fields None fs = None
+onto_fields field fields = option_and_then (λ f. option_map (λ fs. f ∷ fs) fields) field
 
 -- the fields of lines below a field, to which the indented lines at their front belong
 abbrev pub fields_below : List Text → Option (List FieldText)
@@ -74,24 +66,17 @@ fields_in (t ∷ ts) = onto_fields (field_in t (take (deep_len ts) ts)) (fields_
 
 -- ---- what is wrong with them
 
--- the directive doesn't have the option, or there is no such option
-abbrev pub unknown_by : Name → Option OptionName → Bool
-unknown_by directive (Some option) = not (has_option directive option)
-unknown_by directive None = true
-
 -- the directive has no option of this name
 abbrev pub is_unknown : Name → Text → Bool
-is_unknown directive name = unknown_by directive (option_of name)
+is_unknown directive name = not (option_map_or (has_option directive) (option_of name) false)
 
 -- the name of the first field that names no option of the directive
 abbrev pub first_unknown : Name → List FieldText → Option Text
-first_unknown directive [] = None
-first_unknown directive (f ∷ fs) = if is_unknown directive f.0 then Some f.0 else first_unknown directive fs
+first_unknown directive fs = option_map (λ f. f.0) (find (λ f. is_unknown directive f.0) fs)
 
 -- one of the fields has this name
 abbrev pub is_among : Text → List FieldText → Bool
-is_among name [] = false
-is_among name (f ∷ fs) = is_same_word f.0 name || is_among name fs
+is_among name fs = list_any (λ f. is_same_word f.0 name) fs
 
 -- the name of the first of some fields; where there is none it is empty
 abbrev pub front_name : List FieldText → Text
@@ -110,25 +95,13 @@ first_again fs = option_map (λ i. front_name (drop i fs)) (first_from (is_again
 abbrev pub Choice : Type 0
 Choice = OptionName × Meaning
 
--- an option with the meaning of its value, if it can have it
-abbrev pub chosen : OptionName → Option Meaning → Option Choice
-chosen option (Some meaning) = Some (option, meaning)
-chosen option None = None
-
--- what a value chooses for an option, if there is such an option
-abbrev pub choice_by : Name → Option OptionName → Text → Option Choice
-choice_by directive (Some option) value = chosen option (value_of directive option value)
-choice_by directive None value = None
-
--- what a field chooses, if its option can have its value
+-- what a field chooses, if there is such an option, and it can have the value
 abbrev pub choice_of : Name → FieldText → Option Choice
-choice_of directive f = choice_by directive (option_of f.0) f.1
+choice_of directive f = option_and_then (λ option. option_map (λ meaning. (option, meaning)) (value_of directive option f.1)) (option_of f.0)
 
 -- a choice before others; without one the value of the option of this name is invalid
 abbrev pub onto_choices : Option Choice → Text → Result (List Choice) Wrong → Result (List Choice) Wrong
-onto_choices (Some choice) name (Ok choices) = Ok (choice ∷ choices)
-onto_choices (Some choice) name (Err wrong) = Err wrong
-onto_choices None name choices = Err (invalid name)
+onto_choices choice name choices = and_then (λ first. and_then (λ others. Ok (first ∷ others)) choices) (ok_or choice (invalid name))
 
 -- what fields choose, or the first that can't have its value
 abbrev pub choices_of : Name → List FieldText → Result (List Choice) Wrong

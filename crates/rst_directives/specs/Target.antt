@@ -26,8 +26,7 @@ unindented t = drop (indentation t) t
 
 -- the lines that aren't empty
 abbrev pub filled : List Text → List Text
-filled [] = []
-filled (t ∷ ts) = if is_blank t then filled ts else t ∷ filled ts
+filled ts = filter (λ t. not (is_blank t)) ts
 
 -- The lines without their indentation, joined by line feeds, empty ones left out. What `join_with_byte` of the standard
 -- library joins here are lists of characters.

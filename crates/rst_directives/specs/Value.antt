@@ -33,15 +33,10 @@ abbrev pub word_len : Text → ℕ
 word_len [] = 0
 word_len (c ∷ cs) = if is_white c then 0 else suc (word_len cs)
 
--- an id before others, if these are right
-abbrev pub onto_ids : Text → Option (List Text) → Option (List Text)
-onto_ids id (Some ids) = Some (id ∷ ids)
-onto_ids id None = None
-
 -- the ids of all words, where none is empty
 abbrev pub all_ids : List Text → Option (List Text)
 all_ids [] = Some []
-all_ids (w ∷ ws) = if is_blank (id_of w) then None else onto_ids (id_of w) (all_ids ws)
+all_ids (w ∷ ws) = if is_blank (id_of w) then None else option_map (λ ids. id_of w ∷ ids) (all_ids ws)
 
 -- the same, where there are some
 abbrev pub some_ids : List Text → Option (List Text)
@@ -58,11 +53,6 @@ ids_of t = some_ids (words_of t)
 abbrev pub called_by : Text → Meaning
 called_by t = called (name_of t)
 
--- a link to a destination, with the text as it is written, if there is a destination
-abbrev pub linked_if : Option Destination → Text → Option Meaning
-linked_if (Some to) source = Some (linked to source)
-linked_if None source = None
-
 -- the meaning of an option's value, if the option can have it
 abbrev pub value_of : Name → OptionName → Text → Option Meaning
 value_of directive Alt t = Some (plain t)
@@ -70,7 +60,7 @@ value_of directive Height t = option_map measured (measure_of t false false)
 value_of directive Width t = option_map measured (measure_of t true false)
 value_of directive Scale t = option_map numbered (scale_of t)
 value_of directive Align t = option_map placed (alignment_of t (has_vertical directive))
-value_of directive Target t = linked_if (target_value t) t
+value_of directive Target t = option_map (λ to. linked to t) (target_value t)
 value_of directive Class t = option_map classed (ids_of t)
 value_of directive NameOption t = Some (called_by t)
 value_of directive FigureWidth t = option_map measured (measure_of t true true)

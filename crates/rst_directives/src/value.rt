@@ -110,7 +110,7 @@ fn name(alloc: Global, value: &[char]) -> Result<Option<OptionValue>, MarkupFaul
 }
 
 fn link(alloc: Global, value: &[char]) -> Result<Option<OptionValue>, MarkupFault>
-    ensures { Gives (λ shown. option_map spec.meaning_of shown ≡ spec.linked_if (targets.target_value value.now) value.now) result }
+    ensures { Gives (λ shown. option_map spec.meaning_of shown ≡ option_map (λ to. spec.linked to value.now) (targets.target_value value.now)) result }
 {
     let source = text_from(alloc, value)?;
     match target_value(alloc, source.as_str())? {
