@@ -7,10 +7,10 @@ use Rattle.rst_tree.specs.Nodes.{nodes_of}
 use Rattle.rst_pieces.specs.Characters.{Text}
 use Rattle.rst_pieces.specs.Escapes.{unescaped}
 use Rattle.rst_pieces.specs.Pieces.{plain_from}
-use Rattle.rst_pieces.specs.Quiet.{quiet, whole}
+use Rattle.rst_pieces.specs.Quiet.{quiet}
 use Rattle.rst_pieces.specs.declared.piece.Piece.{Piece}
 use Rattle.rst_pieces.proofs.EscapeLemmas.{unescaped-plain}
-use Rattle.rst_pieces.proofs.QuietLemmas.{quiet-pieces, quiet-ascii, quiet-plain}
+use Rattle.rst_pieces.proofs.QuietLemmas.{whole, quiet-pieces, quiet-ascii, quiet-plain}
 use Rattle.rst_inline.specs.declared.nodes.Pieces.{Pieces}
 use Rattle.rst_inline.specs.Elements.{text_children}
 use Rattle.rst_inline.specs.Parts.{source}

@@ -17,9 +17,9 @@ use Rattle.rst_pieces.specs.Footnotes.{label_stop, closes_label, label_piece, la
 use Rattle.rst_pieces.specs.Uri.{in_lower_case, has_letter, begins_at, schemes, behind_first, scheme_end, uri_piece, uri}
 use Rattle.rst_pieces.specs.Pieces.{markup_at, is_free, piece_at, plain_from, IsPieces, nothing, last}
 use Rattle.rst_text.specs.Runs.{IsRun}
-use Rattle.rst_pieces.specs.Quiet.{is_quiet, quiet, whole}
-use Rattle.rst_pieces.specs.declared.piece.Markup.TheVariants.{Strong, Emphasis, Literal, Target, Substitution, Interpreted}
+use Rattle.rst_pieces.specs.Quiet.{is_quiet, quiet}
 use Rattle.rst_pieces.specs.declared.piece.Piece.{Piece}
+use Rattle.rst_pieces.specs.declared.piece.Markup.TheVariants.{Strong, Emphasis, Literal, Target, Substitution, Interpreted}
 use Rattle.rst_pieces.proofs.NameLemmas.{not_reference}
 use Rattle.rst_pieces.proofs.UriLemmas.{uri_end-none}
 use Rattle.rst_pieces.proofs.WordLemmas.{Lacks, differs, no-marked, no-underscore, lower-colon}
@@ -119,10 +119,19 @@ no-piece t from i h = by_case (is_free t from i)
     by_case true = no-markup t i h
     by_case false = refl
 
+-- the whole text as one plain piece, or none where it is empty
+abbrev pub whole : Text → List Piece
+whole [] = []
+whole (c ∷ cs) = plain_from 0 (length (c ∷ cs)) ∷ []
+
 pub quiet-pieces : (t : Text) → quiet t ≡ true → IsPieces t 0 (whole t)
 quiet-pieces [] h = nothing refl
 quiet-pieces (c ∷ cs) h =
     last (plain_from 0 (length (c ∷ cs))) (record { is_plain = refl; some = omega arith; within = omega arith; none = λ i low less. no-piece (c ∷ cs) 0 i h }) refl
+
+pub quiet-one : (t : Text) → quiet t ≡ true → 0 < length t → IsPieces t 0 (plain_from 0 (length t) ∷ [])
+quiet-one [] h some = absurd (omega arith)
+quiet-one (c ∷ cs) h some = quiet-pieces (c ∷ cs) h
 
 -- ---- its characters
 

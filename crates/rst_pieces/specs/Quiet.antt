@@ -1,9 +1,7 @@
 -- Quiet texts. No rule of markup: no markup begins in one, so it isn't scanned.
-use Rattle.std.specs.Prelude.{ℕ, Bool, not, ◌&&◌, nat_lt, List, [], ◌∷◌, length}
+use Rattle.std.specs.Prelude.{ℕ, Bool, not, ◌&&◌, nat_lt, [], ◌∷◌}
 use Rattle.std.specs.List.{list_all}
 use Rattle.rst_pieces.specs.Characters.{Text, is_among}
-use Rattle.rst_pieces.specs.Pieces.{plain_from}
-use Rattle.rst_pieces.specs.declared.piece.Piece.{Piece}
 
 -- an ASCII character, but none of * _ ` | : \
 abbrev pub is_quiet : ℕ → Bool
@@ -12,8 +10,3 @@ is_quiet c = nat_lt c 128 && not (is_among (42 ∷ 95 ∷ 96 ∷ 124 ∷ 58 ∷ 
 -- each character of the text is quiet
 abbrev pub quiet : Text → Bool
 quiet t = list_all is_quiet t
-
--- the whole text as one plain piece, or none where it is empty
-abbrev pub whole : Text → List Piece
-whole [] = []
-whole (c ∷ cs) = plain_from 0 (length (c ∷ cs)) ∷ []

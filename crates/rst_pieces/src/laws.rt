@@ -1,8 +1,8 @@
 //! Laws of the definitions.
-ghost use Rattle.std.specs.Prelude.{◌≡◌, ℕ, true, List};
+ghost use Rattle.std.specs.Prelude.{◌≡◌, ℕ, ◌<◌, true, List, [], ◌∷◌, length};
 ghost use Rattle.rst_pieces.specs.declared.piece.Piece.{Piece};
-ghost use Rattle.rst_pieces.specs.Pieces.{IsPieces};
-ghost use Rattle.rst_pieces.specs.Quiet.{quiet, whole};
+ghost use Rattle.rst_pieces.specs.Pieces.{plain_from, IsPieces};
+ghost use Rattle.rst_pieces.specs.Quiet.{quiet};
 
 /// Exactly one list is that of the pieces of a text.
 pub fn one_list_of_pieces()
@@ -12,5 +12,6 @@ pub fn one_list_of_pieces()
 
 /// The pieces of a quiet text are the one plain piece of all of it, or none where it is empty.
 pub fn quiet_is_one_piece()
-    ensures { (t : List ℕ) → quiet t ≡ true → IsPieces t 0 (whole t) }
+    ensures one { (t : List ℕ) → quiet t ≡ true → 0 < length t → IsPieces t 0 (plain_from 0 (length t) ∷ []) }
+    ensures none { IsPieces [] 0 [] }
 {}

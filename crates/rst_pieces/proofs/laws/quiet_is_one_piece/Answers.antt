@@ -1,5 +1,10 @@
-use Rattle.rst_pieces.proofs.QuietLemmas.{quiet-pieces}
+use Rattle.std.proofs.Common.{refl}
+use Rattle.rst_pieces.specs.Pieces.{nothing}
+use Rattle.rst_pieces.proofs.QuietLemmas.{quiet-one}
 use Rattle.rst_pieces.proofs.laws.quiet_is_one_piece.Goals as goal
 
 pub returns : goal.returns
-returns c t h = quiet-pieces t h
+returns c = record {
+  one = λ t h some. quiet-one t h some;
+  none = nothing refl;
+}
