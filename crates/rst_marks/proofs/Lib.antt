@@ -1,5 +1,6 @@
 pub mod TextLemmas
 pub mod Runs
+pub mod AdornmentLemmas
 pub mod SimpleNames
 pub mod Steps
 pub mod OptionLemmas

@@ -13,5 +13,5 @@ spelled [] = 0
 spelled (c ∷ cs) = digit c * 10 ^ length cs + spelled cs
 
 -- the number that the first n characters of a text spell
-abbrev pub decimal : ℕ → List ℕ → ℕ
-decimal n t = spelled (take n t)
+abbrev pub number_of : ℕ → List ℕ → ℕ
+number_of n t = spelled (take n t)

@@ -3,7 +3,7 @@ use Rattle.std.specs.Prelude.{ℕ, suc, ◌+◌, ◌-◌, Bool, true, false, ◌
 use Rattle.std.specs.Option.{option_and_then, option_map, option_or}
 use Rattle.rst_marks.specs.Front.{first, begins_with}
 use Rattle.rst_marks.specs.Class.{run}
-use Rattle.rst_marks.specs.Decimal.{decimal}
+use Rattle.rst_marks.specs.Decimal.{number_of}
 use Rattle.rst_marks.specs.Roman.{roman}
 use Rattle.rst_marks.specs.declared.class.Class.TheVariants.{Digit, Letter}
 use Rattle.rst_marks.specs.declared.enumerator.Case.{Case}
@@ -34,7 +34,7 @@ place_in_alphabet c =
 unfoldable pub digits : List ℕ → Option Written
 digits t =
     if run Digit t == 0 || nat_lt 9 (run Digit t) then None
-    else Some (record { ordinals = Arabic (decimal (run Digit t) t); len = run Digit t })
+    else Some (record { ordinals = Arabic (number_of (run Digit t) t); len = run Digit t })
 
 -- a Roman numeral of n letters with this value
 abbrev pub as_numeral : Case → ℕ → ℕ → Option Written

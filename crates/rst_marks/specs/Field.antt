@@ -4,6 +4,7 @@ use Rattle.std.specs.Option.{option_and_then}
 use Rattle.rst_marks.specs.Front.{begins_with}
 use Rattle.rst_marks.specs.Closing.{closed}
 use Rattle.rst_marks.specs.Marker.{marker_of}
+use Rattle.rst_marks.specs.Place.{place_of}
 use Rattle.rst_marks.specs.declared.closing.Closing.TheVariants.{Colon}
 use Rattle.rst_marks.specs.declared.marker.Marker.{Marker}
 use Rattle.rst_marks.specs.declared.field.FieldMark.{FieldMark}
@@ -15,7 +16,7 @@ is_no_name n t = n == 0 || (begins_with 32 t || (begins_with 58 t || begins_with
 
 -- a field whose name has n characters, behind the first colon
 abbrev pub named : ℕ → Marker → Option FieldMark
-named n m = Some (record { name = record { from = 1; to = 1 + n }; marker = m })
+named n m = Some (record { name = place_of 1 n; marker = m })
 
 -- the same, if the n characters are a name and spaces or the end are behind its colon
 abbrev pub named_if : List ℕ → ℕ → Option FieldMark

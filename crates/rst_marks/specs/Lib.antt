@@ -1,6 +1,7 @@
 pub mod Front
 pub mod Class
 pub mod Marker
+pub mod Place
 pub mod Adornment
 pub mod Decimal
 pub mod Roman

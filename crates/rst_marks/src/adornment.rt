@@ -22,7 +22,7 @@ pub fn is_punctuation(c: char) -> bool
 }
 
 /// The line as an adornment, if it is one punctuation character, once or more, and nothing else.
-#[tactic(auto, unfolding(crate::specs::Adornment::adornment_of))]
+#[tactic(auto, using(crate::proofs::AdornmentLemmas::adornment_run))]
 pub fn adornment_of(text: &str) -> Option<Adornment>
     ensures { result ≡ spec.adornment_of (chars text.now) }
 {

@@ -20,7 +20,7 @@ pub fn digit(c: char) -> u64
 /// The number that the first `n` characters of a text spell.
 pub fn decimal(n: usize, text: &str) -> u64
     requires { n ≤ 9 }
-    ensures { result ≡ spec.decimal n (chars text.now) }
+    ensures { result ≡ spec.number_of n (chars text.now) }
 {
     let mut rest = text;
     let mut value = 0;

@@ -3,6 +3,7 @@ ghost use Rattle.std.specs.Prelude.{◌≡◌, ◌+◌, ◌^◌, ◌<◌, ◌≤
 ghost use Rattle.std.specs.Str.{chars};
 ghost use Rattle.rst_marks.specs.OptionMarker as markers;
 ghost use Rattle.rst_marks.specs.Options as spec;
+ghost use Rattle.rst_marks.specs.Place as places;
 
 use super::option::{Argument, Delimiter, OptionMark, OptionTail, option_at, option_tail};
 use super::place::Characters;
@@ -29,7 +30,7 @@ pub struct ListedArgument {
 /// The `len` characters behind `from` others.
 fn place_of(from: usize, len: usize) -> Characters
     requires { from + len < 2 ^ 64 }
-    ensures { result ≡ spec.place_of from len }
+    ensures { result ≡ places.place_of from len }
 {
     Characters {
         from,
@@ -40,7 +41,7 @@ fn place_of(from: usize, len: usize) -> Characters
 /// An argument, behind `before` characters and its delimiter.
 fn argument_behind(before: usize, argument: Argument) -> ListedArgument
     requires { before + argument.len + 1 < 2 ^ 64 }
-    ensures { result ≡ spec.argument_behind before argument }
+    ensures { result ≡ spec.argument_in before argument }
 {
     let delimiter = argument.delimiter;
     let from = match delimiter {
