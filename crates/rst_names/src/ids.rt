@@ -1,5 +1,5 @@
 //! Ids.
-ghost use Rattle.std.specs.Prelude.{◌≡◌, ◌<◌, ◌++◌, IfSome, vec_len, decimal};
+ghost use Rattle.std.specs.Prelude.{◌≡◌, ◌<◌, ◌++◌, IfOk, IfSome, vec_len, decimal};
 ghost use Rattle.rst_tree.specs.Faults.{Gives};
 ghost use Rattle.rst_names.specs.Written as spec;
 
@@ -18,7 +18,17 @@ pub struct Ids {
     /// For each text that ids with a number were made of the next number. With each lower one the id is taken.
     next: BTreeMap<String, u64>,
     /// The same for the names of the kinds of which there are such ids, in place of what `next` tells of them.
-    kinds: Vec<(Tag, u64)>,
+    kinds: Vec<Kind>,
+}
+
+/// A kind of elements of whose name ids with a number were made.
+#[derive(Drop)]
+struct Kind {
+    tag: Tag,
+    /// What stands in these ids before the number.
+    front: Text,
+    /// The next number. With each lower one the id is taken.
+    next: u64,
 }
 
 impl Ids {
@@ -69,7 +79,7 @@ impl Ids {
     /// The next number of ids of a text.
     fn next_of(&self, base: &str) -> u64 {
         if let Some(place) = self.kind_named(base) {
-            return self.kinds[place].1;
+            return self.kinds[place].next;
         }
         match self.next.get(base) {
             Some(next) => *next,
@@ -83,82 +93,90 @@ impl Ids {
     {
         self.kinds
             .iter()
-            .position(|(kind, _)| kind.hyphenated() == base)
+            .position(|kind| kind.tag.hyphenated() == base)
     }
 
     /// Takes the first free id of a kind's name, a hyphen and a number.
     fn give_kind(&mut self, alloc: Global, tag: Tag) -> Result<Text, TreeFault> {
-        let number = self.give_number(alloc, tag)?;
-        let front = front_of(alloc, tag.hyphenated())?;
-        numbered(alloc, front.as_str(), number)
+        let place = self.place_of(alloc, tag)?;
+        self.give_known(alloc, place)
     }
 
     /// Takes the first free id of a kind's name, a hyphen and a number, and gives that number.
     ///
     /// The only refusal is want of memory.
     pub fn give_number(&mut self, alloc: Global, tag: Tag) -> Result<u64, TreeFault> {
-        for i in 0..self.kinds.len() {
-            if self.kinds[i].0 == tag {
-                return self.give_known(alloc, i);
+        let place = self.place_of(alloc, tag)?;
+        self.take_number(alloc, place)
+    }
+
+    /// The place of a kind among those of which there are such ids, to which it belongs from now on.
+    fn place_of(&mut self, alloc: Global, tag: Tag) -> Result<usize, TreeFault>
+        ensures { IfOk result (λ place. place < vec_len self.new.kinds) }
+    {
+        for place in 0..self.kinds.len() {
+            if self.kinds[place].tag == tag {
+                return Ok(place);
             }
         }
+        let place = self.kinds.len();
         let base = tag.hyphenated();
-        let number = free(alloc, &self.hindering, base, self.next_of(base))?;
-        self.kinds.push((tag, number.saturating_add(1)))?;
+        let next = self.next_of(base);
+        let front = front_of(alloc, base)?;
+        self.kinds.push(Kind { tag, front, next })?;
+        Ok(place)
+    }
+
+    /// Takes the first free number of the kind at a place among those of which there are such ids.
+    fn take_number(&mut self, alloc: Global, place: usize) -> Result<u64, TreeFault>
+        requires { place < vec_len self.old.kinds }
+    {
+        let kind = &mut self.kinds[place];
+        let number = free(alloc, &self.hindering, kind.front.as_str(), kind.next)?;
+        kind.next = number.saturating_add(1);
         Ok(number)
     }
 
-    /// The same for the kind at a place among those of which there are such ids.
-    fn give_known(&mut self, alloc: Global, place: usize) -> Result<u64, TreeFault>
+    /// Takes the first free id of the kind at a place among those of which there are such ids.
+    fn give_known(&mut self, alloc: Global, place: usize) -> Result<Text, TreeFault>
         requires { place < vec_len self.old.kinds }
     {
-        let (kind, next) = self.kinds[place];
-        let number = free(alloc, &self.hindering, kind.hyphenated(), next)?;
-        self.kinds[place] = (kind, number.saturating_add(1));
-        Ok(number)
+        let front = self.kinds[place].front.copy()?;
+        let number = self.take_number(alloc, place)?;
+        with_number(front, number)
     }
 
     /// Takes the first free id of a text, a hyphen and a number.
     fn give_numbered(&mut self, alloc: Global, base: &str) -> Result<Text, TreeFault> {
-        let number = self.give_number_of(alloc, base)?;
-        let front = front_of(alloc, base)?;
-        numbered(alloc, front.as_str(), number)
-    }
-
-    /// Takes the first free id of a text, a hyphen and a number, and gives that number.
-    fn give_number_of(&mut self, alloc: Global, base: &str) -> Result<u64, TreeFault> {
         if let Some(place) = self.kind_named(base) {
             return self.give_known(alloc, place);
         }
+        let front = front_of(alloc, base)?;
         if let Some(next) = self.next.get_mut(base) {
-            let number = free(alloc, &self.hindering, base, *next)?;
+            let number = free(alloc, &self.hindering, front.as_str(), *next)?;
             *next = number.saturating_add(1);
-            return Ok(number);
+            return with_number(front, number);
         }
-        let number = free(alloc, &self.hindering, base, 1)?;
+        let number = free(alloc, &self.hindering, front.as_str(), 1)?;
         self.next
             .insert(String::from_str(alloc, base)?, number.saturating_add(1))?;
-        Ok(number)
+        with_number(front, number)
     }
 }
 
-/// The least number from `first` on, with each below which the id is taken, that makes an id free behind a text and a hyphen.
+/// The least number from `first` on, with each below which the id is taken, that makes an id free behind a text.
 ///
 /// Each hindering id hinders one number at most, so no more steps than there are of these come before the last. Ids stay
 /// taken, so a number that was passed over need never be looked at again.
 fn free(
     alloc: Global,
     hindering: &BTreeSet<String>,
-    base: &str,
+    front: &str,
     first: u64,
 ) -> Result<u64, TreeFault> {
-    if hindering.is_empty() {
-        return Ok(first);
-    }
-    let front = front_of(alloc, base)?;
     let mut number = first;
     for _ in 0..hindering.len() {
-        let id = numbered(alloc, front.as_str(), number)?;
+        let id = numbered(alloc, front, number)?;
         if !hindering.contains(id.as_str()) {
             return Ok(number);
         }
@@ -203,8 +221,15 @@ fn front_of(alloc: Global, base: &str) -> Result<Text, TreeFault> {
 fn numbered(alloc: Global, front: &str, number: u64) -> Result<Text, TreeFault>
     ensures { Gives (λ id. id ≡ front.now ++ decimal number) result }
 {
+    with_number(Text::from_str(alloc, front)?, number)
+}
+
+/// A text with a number behind it.
+fn with_number(front: Text, number: u64) -> Result<Text, TreeFault>
+    ensures { Gives (λ id. id ≡ front ++ decimal number) result }
+{
     let mut buffer = itoa::Buffer::new();
-    let mut id = Text::from_str(alloc, front)?;
+    let mut id = front;
     id.push_str(buffer.format(number))?;
     Ok(id)
 }
