@@ -3,6 +3,7 @@
 use Rattle.std.specs.Prelude.{◌≡◌, ℕ, zero, suc, ◌≤◌, Bool, true, false, cond, is_some, IsTrue, List, [], ◌∷◌, length, take, drop, refl, Option, None, Some}
 use Rattle.std.proofs.Common.{ap, ap₂, sym, ◌∙◌, arith, leb, ltb, length-drop, ◌+◌}
 use Rattle.std.proofs.lemmas.Bool.{le-leb}
+use Rattle.std.specs.Option.{option_map_or}
 use Rattle.rst_marks.specs.Front.{first}
 use Rattle.rst_marks.specs.Closing.{ends_in_colons}
 use Rattle.rst_marks.specs.Adornment.{adornment_of, is_punctuation}
@@ -22,7 +23,7 @@ use Rattle.rst_markup.specs.declared.lines.LineTest.{LineTest}
 use Rattle.rst_markup.specs.declared.lines.LineTest.TheVariants.{Indented, Filled, Blank, Plain, Begins}
 use Rattle.rst_markup.specs.Lines.{passes, lines_while}
 use Rattle.rst_markup.specs.Conditions.{next_text, after_text, item_enumerator, item_option}
-use Rattle.rst_markup.specs.Sizes.{bullet_size, enumerator_size, item_size_by, enumerator_size_by, hanging_size, run_size, indented_size, doctest_size, least_below, literal_size, quoted_size, quoted_by, literal_if, last_text, paragraph_size, paragraph_len, text_size, form_size}
+use Rattle.rst_markup.specs.Sizes.{bullet_size, enumerator_size, item_size, hanging_size, run_size, indented_size, doctest_size, least_below, literal_size, quoted_size, quoted_by, literal_if, last_text, paragraph_size, paragraph_len, text_size, form_size}
 use Rattle.rst_markup.specs.Rows.{is_blank_row, is_quote_row, is_bullet_row, is_enumerator_row, is_field_row, is_option_row, is_doctest_row, is_bar_row, is_anonymous_row, blank_size, quote_size, bullet_row_size, enumerator_row_size, hanging_row_size, indented_row_size, doctest_row_size, is_text_row, text_row_size}
 
 -- ---- the first lines
@@ -145,7 +146,7 @@ pub quote_within : (titles : Bool) (X : Block) → 1 ≤ length X → IsTrue (is
 quote_within titles X some h = (indented_extent X h, extent_le 1 X)
 
 -- so does an item with a marker
-item_within : (o : Option Marker) (X : Block) → 1 ≤ length X → (1 ≤ item_size_by o X) × (item_size_by o X ≤ length X)
+item_within : (o : Option Marker) (X : Block) → 1 ≤ length X → (1 ≤ option_map_or (λ m. item_size m X) o 1) × (option_map_or (λ m. item_size m X) o 1 ≤ length X)
 item_within None X some = (omega arith, some)
 item_within (Some m) X some = (omega arith, below_le (least_below m) X some)
 
@@ -155,7 +156,7 @@ unfolding bullet_size
 bullet_within titles X some h = item_within (bullet (front_text X)) X some
 
 -- so does an item with an enumerator
-listed_within : (o : Option Enumerator) (X : Block) → 1 ≤ length X → (1 ≤ enumerator_size_by o X) × (enumerator_size_by o X ≤ length X)
+listed_within : (o : Option Enumerator) (X : Block) → 1 ≤ length X → (1 ≤ option_map_or (λ e. item_size e.marker X) o 1) × (option_map_or (λ e. item_size e.marker X) o 1 ≤ length X)
 listed_within None X some = (omega arith, some)
 listed_within (Some e) X some = (omega arith, below_le (least_below e.marker) X some)
 
