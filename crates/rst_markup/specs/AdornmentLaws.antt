@@ -10,7 +10,7 @@ use Rattle.rst_markup.specs.declared.form.Adorned.TheVariants.{Text, ShortOverli
 use Rattle.rst_markup.specs.Conditions.{next_text, after_text}
 use Rattle.rst_markup.specs.Forms.{adorned_form, adorned_below, adorned_alone, adorned_over, overlined, overlined_by, over_title, is_same_adornment, is_whole_title}
 use Rattle.rst_markup.specs.Sizes.{adornment_size, adornment_size_by, fixed_size, size_or, third_text}
-use Rattle.rst_markup.specs.Rows.{is_adornment_row, adornment_row_size}
+use Rattle.rst_markup.specs.Rows.{is_adornment_row}
 use Rattle.rst_markup.specs.RowLaws.{same_front, text_within}
 
 -- Whether a line is of one punctuation character depends on the first three lines alone.
@@ -112,7 +112,7 @@ or_within None X some s = text_within true X some refl
 or_within (Some n) X some s = s
 
 -- The construct that a line of one punctuation character begins has a line or more, and ends within the block.
-pub adornment_within : (titles : Bool) (X : Block) → 1 ≤ length X → IsTrue (is_adornment_row X) → (1 ≤ adornment_row_size titles X) × (adornment_row_size titles X ≤ length X)
+pub adornment_within : (titles : Bool) (X : Block) → 1 ≤ length X → IsTrue (is_adornment_row X) → (1 ≤ adornment_size titles X) × (adornment_size titles X ≤ length X)
 unfolding adornment_size
 adornment_within titles X some h = by (adornment_of (front_text X))
   where
