@@ -1,5 +1,5 @@
 -- The laws of the row of lines of one punctuation character (Markup Specification, 'Sections', 'Transitions').
-use Rattle.std.specs.Prelude.{◌≡◌, ℕ, ◌≤◌, ◌<◌, Bool, true, false, cond, is_some, IsTrue, List, [], ◌∷◌, length, take, refl, Option, None, Some, ◌==◌, ◌&&◌, ◌||◌}
+use Rattle.std.specs.Prelude.{◌≡◌, ℕ, ◌≤◌, Bool, true, false, cond, is_some, IsTrue, List, [], ◌∷◌, length, take, refl, Option, None, Some, ◌==◌, ◌&&◌, ◌||◌}
 use Rattle.std.proofs.Common.{ap, arith, leb, ltb}
 use Rattle.std.proofs.lemmas.Bool.{ltb-true}
 use Rattle.rst_text.specs.Block.{Block, front_text, is_blank}
