@@ -1,6 +1,8 @@
 -- Explicit markup: its parts stand in its block, and it ends where its size says.
 use Rattle.std.proofs.Common.{◌≡◌, ℕ, suc, ◌+◌, ◌-◌, ◌^◌, ◌<◌, ◌≤◌, Bool, true, false, cond, ◌&&◌, ◌||◌, List, [], ◌∷◌, min, length, take, drop, length-drop, Option, None, Some, arith, refl, sym, ap, ◌∙◌, leb, zero}
 use Rattle.std.proofs.lemmas.Bool.{le-leb}
+use Rattle.std.specs.Prelude.{option_map, unwrap_or}
+use Rattle.std.specs.Option.{option_and_then}
 use Rattle.rst_text.specs.Block.{Block, front_text, is_blank, indentation}
 use Rattle.rst_text.proofs.CutLaws.{take_of}
 use Rattle.rst_text.specs.Extent.{extent}
@@ -19,7 +21,7 @@ use Rattle.rst_marks.specs.declared.explicit_marks.TargetMark.TheVariants.{Named
 use Rattle.rst_marks.specs.declared.marker.Marker.{Marker}
 use Rattle.rst_marks.specs.declared.place.Characters.{Characters}
 use Rattle.rst_markup.specs.Explicit.{place_of, target_part, call_of, call_by, held_of, label_with, substitution_with, explicit_by, dots_alone, behind_dots, cut_of, anonymous_of, explicit_with, explicit_of, explicit_size, explicit_end, IsHeld, IsExplicitIn, IsTargetShort}
-use Rattle.rst_markup.specs.ExplicitMarkup.{explicit_form, or_target, or_substitution, or_directive, or_comment, hanging_part, least_of}
+use Rattle.rst_markup.specs.ExplicitMarkup.{explicit_form, substitution_form, comment_cause, hanging_part, least_of}
 use Rattle.rst_markup.specs.Conditions.{next_text}
 use Rattle.rst_markup.specs.Lines.{lines_while}
 use Rattle.rst_markup.specs.Parts.{IsBlock, IsPlace, IsCall}
@@ -46,21 +48,31 @@ FormWithin t (SubstitutionForm len m) = (1 + len ≤ length t) × (m.cut ≤ len
 FormWithin t (DirectiveForm d) = (d.len ≤ length t) × (d.marker.cut ≤ length t)
 FormWithin t (CommentForm cause) = Unit {0}
 
-within_directive : (t : List ℕ) (o : Option DirectiveMark) → directive_of true t ≡ o → FormWithin t (or_comment o t)
+-- the rows from the directive on, from the substitution definition on, and from the target on
+abbrev or_directive : List ℕ → ExplicitForm
+or_directive t = unwrap_or (option_map (λ d. DirectiveForm d) (directive_of true t)) (CommentForm (comment_cause t))
+
+abbrev or_substitution : List ℕ → ExplicitForm
+or_substitution t = unwrap_or (option_and_then substitution_form (substitution_of t)) (or_directive t)
+
+abbrev or_target : List ℕ → ExplicitForm
+or_target t = unwrap_or (option_map (λ m. TargetForm m) (target_of t)) (or_substitution t)
+
+within_directive : (t : List ℕ) (o : Option DirectiveMark) → directive_of true t ≡ o → FormWithin t (unwrap_or (option_map (λ d. DirectiveForm d) o) (CommentForm (comment_cause t)))
 within_directive t None e = tt
 within_directive t (Some d) e = directive_within true t d e
 
-within_substitution : (t : List ℕ) (o : Option SubstitutionMark) → substitution_of t ≡ o → FormWithin t (or_directive o t)
+within_substitution : (t : List ℕ) (o : Option SubstitutionMark) → substitution_of t ≡ o → FormWithin t (unwrap_or (option_and_then substitution_form o) (or_directive t))
 within_substitution t None e = within_directive t (directive_of true t) refl
 within_substitution t (Some (NamedSubstitution n m)) e = substitution_within t n m e
 within_substitution t (Some Unclosed) e = within_directive t (directive_of true t) refl
 within_substitution t (Some Tight) e = within_directive t (directive_of true t) refl
 
-within_target : (t : List ℕ) (o : Option TargetMark) → target_of t ≡ o → FormWithin t (or_substitution o t)
+within_target : (t : List ℕ) (o : Option TargetMark) → target_of t ≡ o → FormWithin t (unwrap_or (option_map (λ m. TargetForm m) o) (or_substitution t))
 within_target t None e = within_substitution t (substitution_of t) refl
 within_target t (Some m) e = target_within t m e
 
-within_label : (t : List ℕ) (o : Option LabelMark) → label_of t ≡ o → FormWithin t (or_target o t)
+within_label : (t : List ℕ) (o : Option LabelMark) → label_of t ≡ o → FormWithin t (unwrap_or (option_map (λ l. Label l) o) (or_target t))
 within_label t None e = within_target t (target_of t) refl
 within_label t (Some l) e = label_within t l e
 

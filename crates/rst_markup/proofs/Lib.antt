@@ -4,5 +4,6 @@ pub mod PartLemmas
 pub mod ExplicitLemmas
 pub mod AttributionLemmas
 pub mod RowLemmas
+pub mod AdornmentLemmas
 pub mod KindRows
 pub mod TableLemmas

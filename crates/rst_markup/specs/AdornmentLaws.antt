@@ -1,7 +1,7 @@
 -- The laws of the row of lines of one punctuation character (Markup Specification, 'Sections', 'Transitions').
-use Rattle.std.specs.Prelude.{◌≡◌, ℕ, ◌≤◌, ◌<◌, Bool, true, false, cond, is_some, IsTrue, List, [], ◌∷◌, length, take, refl, Option, None, Some, ◌==◌, ◌&&◌, ◌||◌}
+use Rattle.std.specs.Prelude.{◌≡◌, ℕ, ◌≤◌, Bool, true, false, cond, is_some, IsTrue, List, [], ◌∷◌, length, take, refl, Option, None, Some, ◌==◌, ◌&&◌, ◌||◌}
 use Rattle.std.proofs.Common.{ap, arith, leb, ltb}
-use Rattle.std.proofs.lemmas.Bool.{ltb-true, lt-ltb}
+use Rattle.std.proofs.lemmas.Bool.{ltb-true}
 use Rattle.rst_text.specs.Block.{Block, front_text, is_blank}
 use Rattle.rst_text.specs.Characters.{columns}
 use Rattle.rst_marks.specs.Adornment.{adornment_of}
@@ -10,7 +10,7 @@ use Rattle.rst_markup.specs.declared.form.Adorned.TheVariants.{Text, ShortOverli
 use Rattle.rst_markup.specs.Conditions.{next_text, after_text}
 use Rattle.rst_markup.specs.Forms.{adorned_form, adorned_below, adorned_alone, adorned_over, overlined, overlined_by, over_title, is_same_adornment, is_whole_title}
 use Rattle.rst_markup.specs.Sizes.{adornment_size, adornment_size_by, fixed_size, size_or, third_text}
-use Rattle.rst_markup.specs.Rows.{is_adornment_row, adornment_row_size}
+use Rattle.rst_markup.specs.Rows.{is_adornment_row}
 use Rattle.rst_markup.specs.RowLaws.{same_front, text_within}
 
 -- Whether a line is of one punctuation character depends on the first three lines alone.
@@ -112,20 +112,10 @@ or_within None X some s = text_within true X some refl
 or_within (Some n) X some s = s
 
 -- The construct that a line of one punctuation character begins has a line or more, and ends within the block.
-pub adornment_within : (titles : Bool) (X : Block) → 1 ≤ length X → IsTrue (is_adornment_row X) → (1 ≤ adornment_row_size titles X) × (adornment_row_size titles X ≤ length X)
+pub adornment_within : (titles : Bool) (X : Block) → 1 ≤ length X → IsTrue (is_adornment_row X) → (1 ≤ adornment_size titles X) × (adornment_size titles X ≤ length X)
 unfolding adornment_size
 adornment_within titles X some h = by (adornment_of (front_text X))
   where
     by : (o : Option Adornment) → (1 ≤ adornment_size_by titles o X) × (adornment_size_by titles o X ≤ length X)
     by None = text_within true X some refl
     by (Some mark) = or_within (fixed_size (adorned_form titles mark (next_text X) (third_text X))) X some (form_sizes titles mark X some)
-
--- in a block of three lines or more the third is there
-pub third_is : (X : Block) → 2 < length X → third_text X ≡ Some (after_text X)
-third_is X h = rw (lt-ltb 2 (length X) h) refl
-
--- at the top level a line of one punctuation character over a line that isn't blank is an overline
-pub form_over : (titles : Bool) (mark : Adornment) (next : List ℕ) (after : Option (List ℕ)) → titles ≡ true → is_blank next ≡ false → adorned_form titles mark next after ≡ adorned_over mark next after
-unfolding adorned_form
-form_over true mark next after t b = rw b refl
-form_over false mark next after t b = cc

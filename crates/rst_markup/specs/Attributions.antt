@@ -1,19 +1,18 @@
 -- Attributions of block quotes (Markup Specification, 'Block Quotes'), on a block whose first line an attribution begins
 -- in; that line stands at place k.
-use Rattle.std.specs.Prelude.{ℕ, suc, ◌+◌, ◌==◌, [], ◌∷◌, drop, if◌then◌else◌, Option, None, Some, option_map}
-use Rattle.rst_text.specs.Block.{Block, front_text, is_blank, indentation}
+use Rattle.std.specs.Prelude.{ℕ, ◌+◌, ◌==◌, drop, take, if◌then◌else◌, Option, None, Some}
+use Rattle.std.specs.List.{list_all}
+use Rattle.rst_text.specs.Block.{Block, front_text, indentation}
 use Rattle.rst_marks.specs.Attribution.{attribution_of}
 use Rattle.rst_markup.specs.Conditions.{next_text}
+use Rattle.rst_markup.specs.Lines.{lines_while}
 use Rattle.rst_markup.specs.declared.attribution.Attribution.{Attribution}
+use Rattle.rst_markup.specs.declared.lines.LineTest.TheVariants.{Filled}
 use Rattle.rst_markup.specs.declared.part.Part.{Part}
 
 -- how many lines there are up to a blank one, if each has this indentation
 unfoldable pub level_lines : ℕ → Block → Option ℕ
-level_lines n [] = Some 0
-level_lines n (l ∷ ls) =
-    if is_blank l.text then Some 0
-    else if indentation l.text == n then option_map (λ m. suc m) (level_lines n ls)
-    else None
+level_lines n X = if list_all (λ l. indentation l.text == n) (take (lines_while Filled X) X) then Some (lines_while Filled X) else None
 
 -- an attribution with n lines below its first, if they share one indentation
 abbrev pub attribution_with : ℕ → ℕ → ℕ → Option ℕ → Option Attribution

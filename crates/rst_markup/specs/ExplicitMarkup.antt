@@ -1,14 +1,12 @@
 -- Explicit markup blocks (Markup Specification, 'Explicit Markup Blocks').
-use Rattle.std.specs.Prelude.{ℕ, ◌+◌, min, Bool, true, List, drop, take, if◌then◌else◌, Option, None, Some}
+use Rattle.std.specs.Prelude.{ℕ, ◌+◌, min, Bool, true, List, [], ◌∷◌, drop, take, if◌then◌else◌, Option, None, Some, option_map, unwrap_or}
+use Rattle.std.specs.Option.{option_and_then}
 use Rattle.rst_text.specs.Block.{Block}
 use Rattle.rst_text.specs.Extent.{extent, least_indent, or_zero}
 use Rattle.rst_marks.specs.Front.{begins_with}
 use Rattle.rst_marks.specs.ExplicitMarks.{label_of, target_of, substitution_of, directive_of}
-use Rattle.rst_marks.specs.declared.explicit_marks.LabelMark.{LabelMark}
-use Rattle.rst_marks.specs.declared.explicit_marks.TargetMark.{TargetMark}
 use Rattle.rst_marks.specs.declared.explicit_marks.SubstitutionMark.{SubstitutionMark}
 use Rattle.rst_marks.specs.declared.explicit_marks.SubstitutionMark.TheVariants.{Named, Unclosed}
-use Rattle.rst_marks.specs.declared.explicit_marks.DirectiveMark.{DirectiveMark}
 use Rattle.rst_markup.specs.declared.forms.CommentCause.{CommentCause}
 use Rattle.rst_markup.specs.declared.forms.CommentCause.TheVariants.{Plain, MalformedTarget, MalformedSubstitution}
 use Rattle.rst_markup.specs.declared.explicit_markup.ExplicitForm.{ExplicitForm}
@@ -27,29 +25,29 @@ cause_by _ = Plain
 unfoldable pub comment_cause : List ℕ → CommentCause
 comment_cause t = if begins_with 95 t then MalformedTarget else cause_by (substitution_of t)
 
--- a directive, or else a comment
-abbrev pub or_comment : Option DirectiveMark → List ℕ → ExplicitForm
-or_comment (Some d) t = Directive d
-or_comment None t = Comment (comment_cause t)
+-- a substitution definition has a name, and a mark behind it
+abbrev pub substitution_form : SubstitutionMark → Option ExplicitForm
+substitution_form (Named len marker) = Some (Substitution len marker)
+substitution_form _ = None
 
--- a substitution definition, or else a directive or a comment
-abbrev pub or_directive : Option SubstitutionMark → List ℕ → ExplicitForm
-or_directive (Some (Named len marker)) t = Substitution len marker
-or_directive _ t = or_comment (directive_of true t) t
+-- the rows of explicit markup in order, each with the form of the text behind the marker, if that fits: a footnote or a citation, a
+-- target, a substitution definition, a directive
+abbrev pub explicit_rows : List ℕ → List (Option ExplicitForm)
+explicit_rows t =
+    option_map (λ l. Label l) (label_of t)
+    ∷ option_map (λ m. Target m) (target_of t)
+    ∷ option_and_then substitution_form (substitution_of t)
+    ∷ option_map (λ d. Directive d) (directive_of true t)
+    ∷ []
 
--- a target, or else a substitution definition, a directive or a comment
-abbrev pub or_substitution : Option TargetMark → List ℕ → ExplicitForm
-or_substitution (Some m) t = Target m
-or_substitution None t = or_directive (substitution_of t) t
+-- the first of some forms that is there, or another form where none is
+abbrev pub first_form : List (Option ExplicitForm) → ExplicitForm → ExplicitForm
+first_form [] other = other
+first_form (row ∷ rows) other = unwrap_or row (first_form rows other)
 
--- a footnote or a citation, or else markup of another form
-abbrev pub or_target : Option LabelMark → List ℕ → ExplicitForm
-or_target (Some l) t = Label l
-or_target None t = or_substitution (target_of t) t
-
--- the first form that fits the text behind the marker
+-- the first form that fits the text behind the marker, or else a comment
 unfoldable pub explicit_form : List ℕ → ExplicitForm
-explicit_form t = or_target (label_of t) t
+explicit_form t = first_form (explicit_rows t) (Comment (comment_cause t))
 
 -- the least indentation of the indented block at the front of lines, 0 where there is none
 abbrev pub least_of : Block → ℕ

@@ -24,10 +24,6 @@ use Rattle.rst_markup.specs.declared.part.Part.{Part}
 abbrev pub is_explicit_row : Block → Bool
 is_explicit_row X = is_some (dots (front_text X))
 
--- explicit markup has the lines of its form
-abbrev pub explicit_row_size : Bool → Block → ℕ
-explicit_row_size titles X = explicit_size X
-
 -- Whether explicit markup begins depends on the first three lines alone.
 pub explicit_on_three : (X Y : Block) → take 3 X ≡ take 3 Y → is_explicit_row X ≡ is_explicit_row Y
 explicit_on_three X Y h = ap (λ t. is_some (dots t)) (same_front X Y h)
@@ -77,7 +73,7 @@ behind_fits m X some = by m.bare (is_blank (next_text X))
     by false b = form_fits (explicit_form (drop m.cut (front_text X))) m X some
 
 -- Explicit markup has a line or more, and ends within the block.
-pub explicit_within : (titles : Bool) (X : Block) → 1 ≤ length X → IsTrue (is_explicit_row X) → (1 ≤ explicit_row_size titles X) × (explicit_row_size titles X ≤ length X)
+pub explicit_within : (titles : Bool) (X : Block) → 1 ≤ length X → IsTrue (is_explicit_row X) → (1 ≤ explicit_size X) × (explicit_size X ≤ length X)
 unfolding explicit_size explicit_of anonymous_of
 explicit_within titles X some h = by (dots (front_text X))
   where

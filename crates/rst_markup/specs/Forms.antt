@@ -1,6 +1,6 @@
 -- What a line of text, or of one punctuation character, begins (Markup Specification, 'Sections', 'Transitions',
 -- 'Definition Lists', 'Paragraphs').
-use Rattle.std.specs.Prelude.{ℕ, Bool, true, false, ◌&&◌, ◌||◌, ◌==◌, nat_le, nat_lt, List, if◌then◌else◌, Option, None, Some, is_some}
+use Rattle.std.specs.Prelude.{ℕ, Bool, true, false, ◌&&◌, ◌||◌, ◌==◌, nat_le, nat_lt, List, if◌then◌else◌, Option, None, Some, is_some, option_map}
 use Rattle.std.specs.Borrow.{Bor}
 use Rattle.std.specs.Str.{chars}
 use Rattle.rst_text.specs.Block.{is_blank}
@@ -33,10 +33,9 @@ text_form t next = if begins_with 32 next then Definition else over_underline (a
 abbrev pub is_same_adornment : Adornment → Adornment → Bool
 is_same_adornment a b = a.character == b.character && a.len == b.len
 
--- the characters of a text that may be missing
-abbrev pub text_of : Option (Bor (List ℕ)) → Option (List ℕ)
-text_of None = None
-text_of (Some t) = Some (chars t.now)
+-- the characters of a line that may be missing
+abbrev pub chars_if_any : Option (Bor (List ℕ)) → Option (List ℕ)
+chars_if_any line = option_map (λ t. chars t.now) line
 
 -- an overline over a title, with this line behind the title
 abbrev pub over_title : Adornment → List ℕ → List ℕ → Option Adornment → Adorned

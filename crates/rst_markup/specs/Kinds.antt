@@ -25,13 +25,13 @@ row_holds Anonymous X = is_anonymous_row X
 row_holds Adornment X = is_adornment_row X
 row_holds Text X = is_text_row X
 
--- the kinds from the doctest block on, in the order of the table; their rows look at the line alone
-abbrev pub later_kinds : List Kind
-later_kinds = Doctest ∷ Line ∷ Grid ∷ Simple ∷ Explicit ∷ Anonymous ∷ Adornment ∷ Text ∷ []
-
 -- all kinds, in the order of the table
 abbrev pub kinds : List Kind
-kinds = Blank ∷ Quote ∷ Bullet ∷ Enumerator ∷ Field ∷ OptionItem ∷ later_kinds
+kinds = Blank ∷ Quote ∷ Bullet ∷ Enumerator ∷ Field ∷ OptionItem ∷ Doctest ∷ Line ∷ Grid ∷ Simple ∷ Explicit ∷ Anonymous ∷ Adornment ∷ Text ∷ []
+
+-- the kinds from the doctest block on, whose rows look at the line alone
+abbrev pub later_kinds : List Kind
+later_kinds = drop 6 kinds
 
 -- the first of some kinds whose row holds, or a text where none does
 unfoldable pub first_kind : List Kind → Block → Kind

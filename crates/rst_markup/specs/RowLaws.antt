@@ -3,6 +3,7 @@
 use Rattle.std.specs.Prelude.{◌≡◌, ℕ, zero, suc, ◌≤◌, Bool, true, false, cond, is_some, IsTrue, List, [], ◌∷◌, length, take, drop, refl, Option, None, Some}
 use Rattle.std.proofs.Common.{ap, ap₂, sym, ◌∙◌, arith, leb, ltb, length-drop, ◌+◌}
 use Rattle.std.proofs.lemmas.Bool.{le-leb}
+use Rattle.std.specs.Option.{option_map_or}
 use Rattle.rst_marks.specs.Front.{first}
 use Rattle.rst_marks.specs.Closing.{ends_in_colons}
 use Rattle.rst_marks.specs.Adornment.{adornment_of, is_punctuation}
@@ -22,8 +23,8 @@ use Rattle.rst_markup.specs.declared.lines.LineTest.{LineTest}
 use Rattle.rst_markup.specs.declared.lines.LineTest.TheVariants.{Indented, Filled, Blank, Plain, Begins}
 use Rattle.rst_markup.specs.Lines.{passes, lines_while}
 use Rattle.rst_markup.specs.Conditions.{next_text, after_text, item_enumerator, item_option}
-use Rattle.rst_markup.specs.Sizes.{bullet_size, enumerator_size, item_size_by, enumerator_size_by, hanging_size, run_size, indented_size, doctest_size, least_below, literal_size, quoted_size, quoted_by, literal_if, last_text, paragraph_size, paragraph_len, text_size, form_size}
-use Rattle.rst_markup.specs.Rows.{is_blank_row, is_quote_row, is_bullet_row, is_enumerator_row, is_field_row, is_option_row, is_doctest_row, is_bar_row, is_anonymous_row, blank_size, quote_size, bullet_row_size, enumerator_row_size, hanging_row_size, indented_row_size, doctest_row_size, is_text_row, text_row_size}
+use Rattle.rst_markup.specs.Sizes.{bullet_size, enumerator_size, item_size, hanging_size, run_size, indented_size, doctest_size, least_below, literal_size, quoted_size, quoted_by, literal_if, last_text, paragraph_size, paragraph_len, text_size, form_size}
+use Rattle.rst_markup.specs.Rows.{is_blank_row, is_quote_row, is_bullet_row, is_enumerator_row, is_field_row, is_option_row, is_doctest_row, is_bar_row, is_anonymous_row, is_text_row, blank_size, quote_size}
 
 -- ---- the first lines
 
@@ -125,7 +126,7 @@ pub below_le : (least : ℕ) (X : Block) → 1 ≤ length X → suc (extent leas
 below_le least X h = omega (arith, extent_le least (drop 1 X), length-drop 1 X)
 
 -- a blank line is one line
-pub blank_within : (titles : Bool) (X : Block) → 1 ≤ length X → IsTrue (is_blank_row X) → (1 ≤ blank_size titles X) × (blank_size titles X ≤ length X)
+pub blank_within : (titles : Bool) (X : Block) → 1 ≤ length X → IsTrue (is_blank_row X) → (1 ≤ blank_size X) × (blank_size X ≤ length X)
 blank_within titles X some h = (omega arith, some)
 
 -- an indented line that is there isn't blank
@@ -141,36 +142,36 @@ indented_extent (l ∷ ls) h = go l.text h
         rw d (omega arith)
 
 -- a block quote has a line or more, and ends within the block
-pub quote_within : (titles : Bool) (X : Block) → 1 ≤ length X → IsTrue (is_quote_row X) → (1 ≤ quote_size titles X) × (quote_size titles X ≤ length X)
+pub quote_within : (titles : Bool) (X : Block) → 1 ≤ length X → IsTrue (is_quote_row X) → (1 ≤ quote_size X) × (quote_size X ≤ length X)
 quote_within titles X some h = (indented_extent X h, extent_le 1 X)
 
 -- so does an item with a marker
-item_within : (o : Option Marker) (X : Block) → 1 ≤ length X → (1 ≤ item_size_by o X) × (item_size_by o X ≤ length X)
+item_within : (o : Option Marker) (X : Block) → 1 ≤ length X → (1 ≤ option_map_or (λ m. item_size m X) o 1) × (option_map_or (λ m. item_size m X) o 1 ≤ length X)
 item_within None X some = (omega arith, some)
 item_within (Some m) X some = (omega arith, below_le (least_below m) X some)
 
 -- so does an item of a bullet list
-pub bullet_within : (titles : Bool) (X : Block) → 1 ≤ length X → IsTrue (is_bullet_row X) → (1 ≤ bullet_row_size titles X) × (bullet_row_size titles X ≤ length X)
+pub bullet_within : (titles : Bool) (X : Block) → 1 ≤ length X → IsTrue (is_bullet_row X) → (1 ≤ bullet_size X) × (bullet_size X ≤ length X)
 unfolding bullet_size
 bullet_within titles X some h = item_within (bullet (front_text X)) X some
 
 -- so does an item with an enumerator
-listed_within : (o : Option Enumerator) (X : Block) → 1 ≤ length X → (1 ≤ enumerator_size_by o X) × (enumerator_size_by o X ≤ length X)
+listed_within : (o : Option Enumerator) (X : Block) → 1 ≤ length X → (1 ≤ option_map_or (λ e. item_size e.marker X) o 1) × (option_map_or (λ e. item_size e.marker X) o 1 ≤ length X)
 listed_within None X some = (omega arith, some)
 listed_within (Some e) X some = (omega arith, below_le (least_below e.marker) X some)
 
 -- so does an item of an enumerated list
-pub enumerator_within : (titles : Bool) (X : Block) → 1 ≤ length X → IsTrue (is_enumerator_row X) → (1 ≤ enumerator_row_size titles X) × (enumerator_row_size titles X ≤ length X)
+pub enumerator_within : (titles : Bool) (X : Block) → 1 ≤ length X → IsTrue (is_enumerator_row X) → (1 ≤ enumerator_size X) × (enumerator_size X ≤ length X)
 unfolding enumerator_size
 enumerator_within titles X some h = listed_within (enumerator_of (front_text X)) X some
 
 -- so does a field, and an item of an option list
-pub hanging_within : (holds : Block → Bool) (titles : Bool) (X : Block) → 1 ≤ length X → IsTrue (holds X) → (1 ≤ hanging_row_size titles X) × (hanging_row_size titles X ≤ length X)
+pub hanging_within : (holds : Block → Bool) (titles : Bool) (X : Block) → 1 ≤ length X → IsTrue (holds X) → (1 ≤ hanging_size X) × (hanging_size X ≤ length X)
 unfolding hanging_size
 hanging_within holds titles X some h = (omega arith, below_le 1 X some)
 
 -- so does a line of a line block, and an anonymous target
-pub indented_within : (holds : Block → Bool) (titles : Bool) (X : Block) → 1 ≤ length X → IsTrue (holds X) → (1 ≤ indented_row_size titles X) × (indented_row_size titles X ≤ length X)
+pub indented_within : (holds : Block → Bool) (titles : Bool) (X : Block) → 1 ≤ length X → IsTrue (holds X) → (1 ≤ indented_size X) × (indented_size X ≤ length X)
 unfolding indented_size run_size
 indented_within holds titles X some h = (omega arith, omega (arith, while_le Indented (drop 1 X), length-drop 1 X))
 
@@ -190,7 +191,7 @@ doctest_some (l ∷ ls) h = go l.text h
     go (c ∷ cs) h = omega arith
 
 -- it ends within the block
-pub doctest_within : (titles : Bool) (X : Block) → 1 ≤ length X → IsTrue (is_doctest_row X) → (1 ≤ doctest_row_size titles X) × (doctest_row_size titles X ≤ length X)
+pub doctest_within : (titles : Bool) (X : Block) → 1 ≤ length X → IsTrue (is_doctest_row X) → (1 ≤ doctest_size X) × (doctest_size X ≤ length X)
 unfolding doctest_size
 doctest_within titles X some h = (doctest_some X h, while_le Filled X)
 
@@ -249,6 +250,6 @@ form_within Definition X some e = (omega arith, below_le 1 X some)
 form_within (Title short) X some e = (omega arith, two_lines X (front_text X) short e)
 
 -- What a text begins has a line or more, and ends within the block.
-pub text_within : (titles : Bool) (X : Block) → 1 ≤ length X → IsTrue (is_text_row X) → (1 ≤ text_row_size titles X) × (text_row_size titles X ≤ length X)
+pub text_within : (titles : Bool) (X : Block) → 1 ≤ length X → IsTrue (is_text_row X) → (1 ≤ text_size X) × (text_size X ≤ length X)
 unfolding text_size
 text_within titles X some h = form_within (text_form (front_text X) (next_text X)) X some refl

@@ -1,5 +1,5 @@
--- The rows of the table of constructs (Markup Specification, 'Body Elements'), each with its condition and its size, on a
--- block whose first line it is about.
+-- The rows of the table of constructs (Markup Specification, 'Body Elements'), each with its condition, on a block
+-- whose first line it is about.
 use Rattle.std.specs.Prelude.{ℕ, Bool, true, is_some}
 use Rattle.rst_text.specs.Block.{Block, front_text, is_blank}
 use Rattle.rst_text.specs.Extent.{extent}
@@ -10,7 +10,6 @@ use Rattle.rst_marks.specs.Field.{field_of}
 use Rattle.rst_marks.specs.ExplicitMarks.{underscores}
 use Rattle.rst_marks.specs.Adornment.{adornment_of}
 use Rattle.rst_markup.specs.Conditions.{next_text, after_text, item_enumerator, item_option}
-use Rattle.rst_markup.specs.Sizes.{bullet_size, enumerator_size, hanging_size, indented_size, doctest_size, text_size, adornment_size}
 
 -- a blank line begins nothing
 abbrev pub is_blank_row : Block → Bool
@@ -52,47 +51,22 @@ is_anonymous_row X = is_some (underscores (front_text X))
 abbrev pub own_reach : (Bool → Block → ℕ) → Bool → Block → ℕ
 own_reach size titles X = reach (size titles X) X
 
--- The sizes, by whether titles may stand in the block. A blank line is alone.
-abbrev pub blank_size : Bool → Block → ℕ
-blank_size titles X = 1
+-- the size of a row whose construct has the same lines whether titles may stand in the block or not
+abbrev pub anywhere : (Block → ℕ) → Bool → Block → ℕ
+anywhere size titles X = size X
+
+-- a blank line is alone
+abbrev pub blank_size : Block → ℕ
+blank_size X = 1
 
 -- a block quote has the lines that are blank or indented, without the blank ones at its end
-abbrev pub quote_size : Bool → Block → ℕ
-quote_size titles X = extent 1 X
-
--- an item of a bullet list has its line and those below that are blank or indented far enough, the blank ones at its
--- end left off
-abbrev pub bullet_row_size : Bool → Block → ℕ
-bullet_row_size titles X = bullet_size X
-
--- so has an item of an enumerated list
-abbrev pub enumerator_row_size : Bool → Block → ℕ
-enumerator_row_size titles X = enumerator_size X
-
--- a field, and an item of an option list, has its line and the indented block below it
-abbrev pub hanging_row_size : Bool → Block → ℕ
-hanging_row_size titles X = hanging_size X
-
--- a line of a line block, and an anonymous target, has its line and the indented ones below it up to a blank one
-abbrev pub indented_row_size : Bool → Block → ℕ
-indented_row_size titles X = indented_size X
-
--- a doctest block ends before a blank line
-abbrev pub doctest_row_size : Bool → Block → ℕ
-doctest_row_size titles X = doctest_size X
+abbrev pub quote_size : Block → ℕ
+quote_size X = extent 1 X
 
 -- any line begins a text, where no row before holds
 abbrev pub is_text_row : Block → Bool
 is_text_row X = true
 
--- a text has the lines of the paragraph, the definition or the title that it begins
-abbrev pub text_row_size : Bool → Block → ℕ
-text_row_size titles X = text_size X
-
 -- a line of one punctuation character, once or more, begins a transition, a title or a text
 abbrev pub is_adornment_row : Block → Bool
 is_adornment_row X = is_some (adornment_of (front_text X))
-
--- it has the lines of what it begins there
-abbrev pub adornment_row_size : Bool → Block → ℕ
-adornment_row_size titles X = adornment_size titles X

@@ -1,6 +1,7 @@
 -- How many lines the construct at the front of a block has (Markup Specification, 'Body Elements',
 -- 'Quoted Literal Blocks', 'Sections', 'Transitions').
 use Rattle.std.specs.Prelude.{ℕ, suc, ◌+◌, ◌-◌, Bool, true, false, nat_lt, min, List, drop, length, if◌then◌else◌, Option, None, Some}
+use Rattle.std.specs.Option.{option_map_or}
 use Rattle.rst_text.specs.Block.{Block, front_text}
 use Rattle.rst_text.specs.Extent.{extent}
 use Rattle.rst_marks.specs.Front.{first}
@@ -10,7 +11,6 @@ use Rattle.rst_marks.specs.Closing.{ends_in_colons}
 use Rattle.rst_marks.specs.Adornment.{adornment_of, is_punctuation}
 use Rattle.rst_marks.specs.declared.marker.Marker.{Marker}
 use Rattle.rst_marks.specs.declared.adornment.Adornment.{Adornment}
-use Rattle.rst_marks.specs.declared.enumerator.Enumerator.{Enumerator}
 use Rattle.rst_markup.specs.declared.lines.LineTest.{LineTest}
 use Rattle.rst_markup.specs.declared.lines.LineTest.TheVariants.{Blank, Filled, Indented, Plain, Begins}
 use Rattle.rst_markup.specs.declared.form.TextForm.{TextForm}
@@ -34,23 +34,13 @@ least_below m = if m.bare then 1 else m.cut
 abbrev pub item_size : Marker → Block → ℕ
 item_size m X = suc (extent (least_below m) (drop 1 X))
 
--- an item, if there is a marker; else the line alone
-abbrev pub item_size_by : Option Marker → Block → ℕ
-item_size_by None X = 1
-item_size_by (Some m) X = item_size m X
-
--- an item of a bullet list
+-- an item of a bullet list, by its marker; a line without one would be alone
 unfoldable pub bullet_size : Block → ℕ
-bullet_size X = item_size_by (bullet (front_text X)) X
+bullet_size X = option_map_or (λ m. item_size m X) (bullet (front_text X)) 1
 
--- an item, if there is an enumerator; else the line alone
-abbrev pub enumerator_size_by : Option Enumerator → Block → ℕ
-enumerator_size_by None X = 1
-enumerator_size_by (Some e) X = item_size e.marker X
-
--- an item of an enumerated list
+-- an item of an enumerated list, by its enumerator's marker; a line without one would be alone
 unfoldable pub enumerator_size : Block → ℕ
-enumerator_size X = enumerator_size_by (enumerator_of (front_text X)) X
+enumerator_size X = option_map_or (λ e. item_size e.marker X) (enumerator_of (front_text X)) 1
 
 -- the line and the lines below it that pass a test
 unfoldable pub run_size : LineTest → Block → ℕ

@@ -62,21 +62,22 @@ fn fixed_size(form: Adorned) -> Option<usize>
 pub struct AdornmentLine;
 
 impl Construct for AdornmentLine {
-    ghost use Rattle.rst_markup.specs.Rows.{is_adornment_row, adornment_row_size, own_reach};
+    ghost use Rattle.rst_markup.specs.Rows.{is_adornment_row, own_reach};
+    ghost use Rattle.rst_markup.specs.Sizes.{adornment_size};
     ghost use Rattle.rst_markup.specs.AdornmentLaws.{adornment_within, adornment_on_three};
     ghost use Rattle.rst_markup.specs.ReachLaws.{own_reaches};
 
     ghost holds = { is_adornment_row };
 
-    ghost size = { adornment_row_size };
+    ghost size = { adornment_size };
 
-    ghost reached = { own_reach adornment_row_size };
+    ghost reached = { own_reach adornment_size };
 
     ghost first_looks = { 1 };
 
     ghost within = { adornment_within };
 
-    ghost reaches = { own_reaches is_adornment_row adornment_row_size adornment_within };
+    ghost reaches = { own_reaches is_adornment_row adornment_size adornment_within };
 
     ghost on_three = { adornment_on_three };
 

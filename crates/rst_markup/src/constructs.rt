@@ -14,21 +14,21 @@ use rst_text::{Looks, View};
 pub struct BlankLine;
 
 impl Construct for BlankLine {
-    ghost use Rattle.rst_markup.specs.Rows.{is_blank_row, blank_size, own_reach};
+    ghost use Rattle.rst_markup.specs.Rows.{is_blank_row, anywhere, blank_size, own_reach};
     ghost use Rattle.rst_markup.specs.RowLaws.{blank_within, blank_on_three};
     ghost use Rattle.rst_markup.specs.ReachLaws.{own_reaches};
 
     ghost holds = { is_blank_row };
 
-    ghost size = { blank_size };
+    ghost size = { anywhere blank_size };
 
-    ghost reached = { own_reach blank_size };
+    ghost reached = { own_reach (anywhere blank_size) };
 
     ghost first_looks = { 1 };
 
     ghost within = { blank_within };
 
-    ghost reaches = { own_reaches is_blank_row blank_size blank_within };
+    ghost reaches = { own_reaches is_blank_row (anywhere blank_size) blank_within };
 
     ghost on_three = { blank_on_three };
 
@@ -46,21 +46,21 @@ impl Construct for BlankLine {
 pub struct BlockQuote;
 
 impl Construct for BlockQuote {
-    ghost use Rattle.rst_markup.specs.Rows.{is_quote_row, quote_size, own_reach};
+    ghost use Rattle.rst_markup.specs.Rows.{is_quote_row, anywhere, quote_size, own_reach};
     ghost use Rattle.rst_markup.specs.RowLaws.{quote_within, quote_on_three};
     ghost use Rattle.rst_markup.specs.ReachLaws.{own_reaches};
 
     ghost holds = { is_quote_row };
 
-    ghost size = { quote_size };
+    ghost size = { anywhere quote_size };
 
-    ghost reached = { own_reach quote_size };
+    ghost reached = { own_reach (anywhere quote_size) };
 
     ghost first_looks = { 1 };
 
     ghost within = { quote_within };
 
-    ghost reaches = { own_reaches is_quote_row quote_size quote_within };
+    ghost reaches = { own_reaches is_quote_row (anywhere quote_size) quote_within };
 
     ghost on_three = { quote_on_three };
 
@@ -77,21 +77,22 @@ impl Construct for BlockQuote {
 pub struct BulletItem;
 
 impl Construct for BulletItem {
-    ghost use Rattle.rst_markup.specs.Rows.{is_bullet_row, bullet_row_size, own_reach};
+    ghost use Rattle.rst_markup.specs.Rows.{is_bullet_row, anywhere, own_reach};
+    ghost use Rattle.rst_markup.specs.Sizes.{bullet_size};
     ghost use Rattle.rst_markup.specs.RowLaws.{bullet_within, bullet_on_three};
     ghost use Rattle.rst_markup.specs.ReachLaws.{own_reaches};
 
     ghost holds = { is_bullet_row };
 
-    ghost size = { bullet_row_size };
+    ghost size = { anywhere bullet_size };
 
-    ghost reached = { own_reach bullet_row_size };
+    ghost reached = { own_reach (anywhere bullet_size) };
 
     ghost first_looks = { 1 };
 
     ghost within = { bullet_within };
 
-    ghost reaches = { own_reaches is_bullet_row bullet_row_size bullet_within };
+    ghost reaches = { own_reaches is_bullet_row (anywhere bullet_size) bullet_within };
 
     ghost on_three = { bullet_on_three };
 
@@ -112,21 +113,22 @@ impl Construct for BulletItem {
 pub struct EnumeratedItem;
 
 impl Construct for EnumeratedItem {
-    ghost use Rattle.rst_markup.specs.Rows.{is_enumerator_row, enumerator_row_size, own_reach};
+    ghost use Rattle.rst_markup.specs.Rows.{is_enumerator_row, anywhere, own_reach};
+    ghost use Rattle.rst_markup.specs.Sizes.{enumerator_size};
     ghost use Rattle.rst_markup.specs.RowLaws.{enumerator_within, enumerator_on_three};
     ghost use Rattle.rst_markup.specs.ReachLaws.{own_reaches};
 
     ghost holds = { is_enumerator_row };
 
-    ghost size = { enumerator_row_size };
+    ghost size = { anywhere enumerator_size };
 
-    ghost reached = { own_reach enumerator_row_size };
+    ghost reached = { own_reach (anywhere enumerator_size) };
 
     ghost first_looks = { 2 };
 
     ghost within = { enumerator_within };
 
-    ghost reaches = { own_reaches is_enumerator_row enumerator_row_size enumerator_within };
+    ghost reaches = { own_reaches is_enumerator_row (anywhere enumerator_size) enumerator_within };
 
     ghost on_three = { enumerator_on_three };
 
@@ -149,21 +151,22 @@ impl Construct for EnumeratedItem {
 pub struct FieldItem;
 
 impl Construct for FieldItem {
-    ghost use Rattle.rst_markup.specs.Rows.{is_field_row, hanging_row_size, own_reach};
+    ghost use Rattle.rst_markup.specs.Rows.{is_field_row, anywhere, own_reach};
+    ghost use Rattle.rst_markup.specs.Sizes.{hanging_size};
     ghost use Rattle.rst_markup.specs.RowLaws.{hanging_within, field_on_three};
     ghost use Rattle.rst_markup.specs.ReachLaws.{own_reaches};
 
     ghost holds = { is_field_row };
 
-    ghost size = { hanging_row_size };
+    ghost size = { anywhere hanging_size };
 
-    ghost reached = { own_reach hanging_row_size };
+    ghost reached = { own_reach (anywhere hanging_size) };
 
     ghost first_looks = { 1 };
 
     ghost within = { hanging_within is_field_row };
 
-    ghost reaches = { own_reaches is_field_row hanging_row_size (hanging_within is_field_row) };
+    ghost reaches = { own_reaches is_field_row (anywhere hanging_size) (hanging_within is_field_row) };
 
     ghost on_three = { field_on_three };
 
@@ -180,21 +183,22 @@ impl Construct for FieldItem {
 pub struct OptionListItem;
 
 impl Construct for OptionListItem {
-    ghost use Rattle.rst_markup.specs.Rows.{is_option_row, hanging_row_size, own_reach};
+    ghost use Rattle.rst_markup.specs.Rows.{is_option_row, anywhere, own_reach};
+    ghost use Rattle.rst_markup.specs.Sizes.{hanging_size};
     ghost use Rattle.rst_markup.specs.RowLaws.{hanging_within, option_on_three};
     ghost use Rattle.rst_markup.specs.ReachLaws.{own_reaches};
 
     ghost holds = { is_option_row };
 
-    ghost size = { hanging_row_size };
+    ghost size = { anywhere hanging_size };
 
-    ghost reached = { own_reach hanging_row_size };
+    ghost reached = { own_reach (anywhere hanging_size) };
 
     ghost first_looks = { 3 };
 
     ghost within = { hanging_within is_option_row };
 
-    ghost reaches = { own_reaches is_option_row hanging_row_size (hanging_within is_option_row) };
+    ghost reaches = { own_reaches is_option_row (anywhere hanging_size) (hanging_within is_option_row) };
 
     ghost on_three = { option_on_three };
 
@@ -214,21 +218,22 @@ impl Construct for OptionListItem {
 pub struct DoctestBlock;
 
 impl Construct for DoctestBlock {
-    ghost use Rattle.rst_markup.specs.Rows.{is_doctest_row, doctest_row_size, own_reach};
+    ghost use Rattle.rst_markup.specs.Rows.{is_doctest_row, anywhere, own_reach};
+    ghost use Rattle.rst_markup.specs.Sizes.{doctest_size};
     ghost use Rattle.rst_markup.specs.RowLaws.{doctest_within, doctest_on_three};
     ghost use Rattle.rst_markup.specs.ReachLaws.{own_reaches};
 
     ghost holds = { is_doctest_row };
 
-    ghost size = { doctest_row_size };
+    ghost size = { anywhere doctest_size };
 
-    ghost reached = { own_reach doctest_row_size };
+    ghost reached = { own_reach (anywhere doctest_size) };
 
     ghost first_looks = { 1 };
 
     ghost within = { doctest_within };
 
-    ghost reaches = { own_reaches is_doctest_row doctest_row_size doctest_within };
+    ghost reaches = { own_reaches is_doctest_row (anywhere doctest_size) doctest_within };
 
     ghost on_three = { doctest_on_three };
 
@@ -246,21 +251,22 @@ impl Construct for DoctestBlock {
 pub struct BarLine;
 
 impl Construct for BarLine {
-    ghost use Rattle.rst_markup.specs.Rows.{is_bar_row, indented_row_size, own_reach};
+    ghost use Rattle.rst_markup.specs.Rows.{is_bar_row, anywhere, own_reach};
+    ghost use Rattle.rst_markup.specs.Sizes.{indented_size};
     ghost use Rattle.rst_markup.specs.RowLaws.{indented_within, bar_on_three};
     ghost use Rattle.rst_markup.specs.ReachLaws.{own_reaches};
 
     ghost holds = { is_bar_row };
 
-    ghost size = { indented_row_size };
+    ghost size = { anywhere indented_size };
 
-    ghost reached = { own_reach indented_row_size };
+    ghost reached = { own_reach (anywhere indented_size) };
 
     ghost first_looks = { 1 };
 
     ghost within = { indented_within is_bar_row };
 
-    ghost reaches = { own_reaches is_bar_row indented_row_size (indented_within is_bar_row) };
+    ghost reaches = { own_reaches is_bar_row (anywhere indented_size) (indented_within is_bar_row) };
 
     ghost on_three = { bar_on_three };
 
@@ -277,21 +283,22 @@ impl Construct for BarLine {
 pub struct AnonymousTarget;
 
 impl Construct for AnonymousTarget {
-    ghost use Rattle.rst_markup.specs.Rows.{is_anonymous_row, indented_row_size, own_reach};
+    ghost use Rattle.rst_markup.specs.Rows.{is_anonymous_row, anywhere, own_reach};
+    ghost use Rattle.rst_markup.specs.Sizes.{indented_size};
     ghost use Rattle.rst_markup.specs.RowLaws.{indented_within, anonymous_on_three};
     ghost use Rattle.rst_markup.specs.ReachLaws.{own_reaches};
 
     ghost holds = { is_anonymous_row };
 
-    ghost size = { indented_row_size };
+    ghost size = { anywhere indented_size };
 
-    ghost reached = { own_reach indented_row_size };
+    ghost reached = { own_reach (anywhere indented_size) };
 
     ghost first_looks = { 1 };
 
     ghost within = { indented_within is_anonymous_row };
 
-    ghost reaches = { own_reaches is_anonymous_row indented_row_size (indented_within is_anonymous_row) };
+    ghost reaches = { own_reaches is_anonymous_row (anywhere indented_size) (indented_within is_anonymous_row) };
 
     ghost on_three = { anonymous_on_three };
 
@@ -308,21 +315,22 @@ impl Construct for AnonymousTarget {
 pub struct TextLine;
 
 impl Construct for TextLine {
-    ghost use Rattle.rst_markup.specs.Rows.{is_text_row, text_row_size, own_reach};
+    ghost use Rattle.rst_markup.specs.Rows.{is_text_row, anywhere, own_reach};
+    ghost use Rattle.rst_markup.specs.Sizes.{text_size};
     ghost use Rattle.rst_markup.specs.RowLaws.{text_within, text_on_three};
     ghost use Rattle.rst_markup.specs.ReachLaws.{own_reaches};
 
     ghost holds = { is_text_row };
 
-    ghost size = { text_row_size };
+    ghost size = { anywhere text_size };
 
-    ghost reached = { own_reach text_row_size };
+    ghost reached = { own_reach (anywhere text_size) };
 
     ghost first_looks = { 1 };
 
     ghost within = { text_within };
 
-    ghost reaches = { own_reaches is_text_row text_row_size text_within };
+    ghost reaches = { own_reaches is_text_row (anywhere text_size) text_within };
 
     ghost on_three = { text_on_three };
 

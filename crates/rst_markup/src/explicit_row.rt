@@ -10,21 +10,22 @@ use rst_text::{Looks, View};
 pub struct ExplicitMarkup;
 
 impl Construct for ExplicitMarkup {
-    ghost use Rattle.rst_markup.specs.ExplicitRow.{is_explicit_row, explicit_row_size, explicit_within, explicit_on_three};
-    ghost use Rattle.rst_markup.specs.Rows.{own_reach};
+    ghost use Rattle.rst_markup.specs.Explicit.{explicit_size};
+    ghost use Rattle.rst_markup.specs.ExplicitRow.{is_explicit_row, explicit_within, explicit_on_three};
+    ghost use Rattle.rst_markup.specs.Rows.{anywhere, own_reach};
     ghost use Rattle.rst_markup.specs.ReachLaws.{own_reaches};
 
     ghost holds = { is_explicit_row };
 
-    ghost size = { explicit_row_size };
+    ghost size = { anywhere explicit_size };
 
-    ghost reached = { own_reach explicit_row_size };
+    ghost reached = { own_reach (anywhere explicit_size) };
 
     ghost first_looks = { 1 };
 
     ghost within = { explicit_within };
 
-    ghost reaches = { own_reaches is_explicit_row explicit_row_size explicit_within };
+    ghost reaches = { own_reaches is_explicit_row (anywhere explicit_size) explicit_within };
 
     ghost on_three = { explicit_on_three };
 

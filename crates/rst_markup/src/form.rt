@@ -82,7 +82,7 @@ fn is_same_adornment(a: Adornment, b: Adornment) -> bool
 /// The form of an overline over a title that isn't blank, if it is long enough, where this is the line after the title.
 #[tactic(auto, unfolding(crate::specs::Forms::overlined))]
 fn overlined(mark: Adornment, next: &str, after: Option<&str>) -> Adorned
-    ensures { result ≡ spec.overlined mark (chars next.now) (spec.text_of after.entry) }
+    ensures { result ≡ spec.overlined mark (chars next.now) (spec.chars_if_any after.entry) }
 {
     if adornment_of(next).is_some() {
         return Adorned::InvalidMarker;
@@ -128,7 +128,7 @@ pub fn adorned_alone(mark: Adornment) -> Adorned
 /// The form of a line of one punctuation character over a line that isn't blank, where titles may stand.
 #[tactic(auto, unfolding(crate::specs::Forms::adorned_over))]
 pub fn adorned_over(mark: Adornment, next: &str, after: Option<&str>) -> Adorned
-    ensures { result ≡ spec.adorned_over mark (chars next.now) (spec.text_of after.entry) }
+    ensures { result ≡ spec.adorned_over mark (chars next.now) (spec.chars_if_any after.entry) }
 {
     let form = overlined(mark, next, after);
     if mark.len >= 4 || is_whole_title(form) {

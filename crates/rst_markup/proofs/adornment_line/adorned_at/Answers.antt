@@ -6,7 +6,7 @@ use Rattle.rst_text.specs.Shown.{block_of}
 use Rattle.rst_markup.specs.Conditions.{next_text, after_text}
 use Rattle.rst_markup.specs.Forms.{adorned_over}
 use Rattle.rst_markup.specs.Sizes.{third_text}
-use Rattle.rst_markup.specs.AdornmentLaws.{third_is, form_over}
+use Rattle.rst_markup.proofs.AdornmentLemmas.{third_is, form_over}
 use Rattle.rst_markup.proofs.LineLemmas.{drop_far}
 use Rattle.rst_markup.proofs.adornment_line.adorned_at.Goals as goal
 
