@@ -1,6 +1,6 @@
 -- The attribute that a list holds, however it is held, and what is seen of it there. No rule of markup: the standard speaks of
 -- attributes as they read.
-use Rattle.std.specs.Prelude.{List, ◌∷◌, []}
+use Rattle.std.specs.Prelude.{◌∷◌, []}
 use Rattle.rst_tree.specs.declared.attrs.Attr.{Attr}
 use Rattle.rst_tree.specs.declared.attrs.Value.{Value}
 use Rattle.rst_tree.specs.declared.attrs.Value.TheVariants.{Text, Number, List as Listed}
