@@ -46,11 +46,15 @@ fn is_escaped(byte: u8) -> bool
     byte == b'\\' || byte == b' '
 }
 
-/// Whether a member of a list has such a byte.
+/// Whether a member of a list has such a byte. None is looked at by itself, so that many are at once.
 fn has_escaped(text: &[u8]) -> bool
     ensures { result ≡ list_any is_escaped text.now }
 {
-    text.iter().any(|byte| is_escaped(*byte))
+    let mut found = false;
+    for byte in text {
+        found |= is_escaped(*byte);
+    }
+    found
 }
 
 /// Writes a member of a list, with its spaces and backslashes escaped. Mostly it has none, and is written at once.
