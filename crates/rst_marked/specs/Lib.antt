@@ -1,2 +1,3 @@
 pub mod Registered
 pub mod Marks
+pub mod Linked

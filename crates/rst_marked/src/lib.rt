@@ -1,6 +1,8 @@
-//! Nodes with the places of the elements that registration needs.
+//! Nodes with the places of the elements that registration needs, and with the kinds of elements that the transforms need.
 #![tactic(auto)]
 
+mod kinds;
 mod marks;
 
+pub use kinds::{Kinds, is_internal, is_linked};
 pub use marks::{Element, Marked, Path};

@@ -5,6 +5,7 @@ ghost use Rattle.rst_tree.specs.Walk.{item, node_items, after, scanned, walked_n
 ghost use Rattle.rst_marked.specs.Marks.{marks_of, own_mark, from_on, wanted, with_one, heeded_next, heeded_out, touched_node, stepped_node};
 ghost use Rattle.rst_marked.specs.Registered.{is_registered_kind, is_registered_key, has_registered_key, is_registered, item_of};
 
+use crate::kinds::Kinds;
 use rst_tree::{Attrs, Children, Entry, Key, Node, Tag, Text, TreeFault, Visitor};
 use smallvec::SmallVec;
 use std::alloc::Global;
@@ -14,8 +15,8 @@ use std::marker::Model;
 #[derive(Debug, Drop)]
 pub struct Path {
     /// The innermost place comes first, so that a path grows at its end as the tree grows round it. Few paths are longer than
-    /// those that need no allocation.
-    steps: SmallVec<usize, 6>,
+    /// those that need no allocation. A document has many, so each place takes four bytes.
+    steps: SmallVec<u32, 6>,
 }
 
 impl Model for Path {
@@ -36,16 +37,20 @@ impl Path {
         }
     }
 
-    /// Lets the path begin at the parent of the node, in which that is at a place.
+    /// Lets the path begin at the parent of the node, in which that is at a place. For a place that doesn't fit in 32 bits there is no
+    /// memory.
     pub fn begin_above(&mut self, place: usize) -> Result<(), TreeFault>
         ensures { Becomes self.old self.new (place ∷ self.old) result }
     {
-        self.steps.push(place)?;
+        match u32::try_from(place) {
+            Ok(place) => self.steps.push(place)?,
+            Err(_) => return Err(TreeFault::NoMemory),
+        }
         Ok(())
     }
 
     /// The places, the innermost first.
-    pub fn steps(&self) -> &[usize]
+    pub fn steps(&self) -> &[u32]
         ensures { self.now ≡ reverse result.now }
     {
         self.steps.as_slice()
@@ -103,7 +108,7 @@ pub struct Element<'a> {
 /// Adds the element at a path, given from its end on, if there is one.
 fn add_element<'a>(
     node: &'a Node,
-    steps: &[usize],
+    steps: &[u32],
     list: &mut Vec<Element<'a>>,
 ) -> Result<(), TreeFault>
     ensures { Gives (λ _. map item_of list.new.items ≡ stepped_node with_one (map item_of list.old.items) (reverse steps.now) node.now) result }
@@ -123,8 +128,9 @@ fn add_element<'a>(
             })?,
             Some((place, rest)) => {
                 let nodes = children.as_slice();
-                if *place < nodes.len() {
-                    add_element(&nodes[*place], rest, list)?;
+                let place = *place as usize;
+                if place < nodes.len() {
+                    add_element(&nodes[place], rest, list)?;
                 }
             }
         }
@@ -133,7 +139,7 @@ fn add_element<'a>(
 }
 
 /// Visits the element at a path, given from its end on, if there is one.
-fn visit_at<V: Visitor>(node: &mut Node, steps: &[usize], visitor: &mut V) -> Result<(), TreeFault>
+fn visit_at<V: Visitor>(node: &mut Node, steps: &[u32], visitor: &mut V) -> Result<(), TreeFault>
     ensures node { Gives (λ _. node.new ≡ touched_node (V.out visitor.old) (reverse steps.now) node.old) result }
     ensures state { Gives (λ _. visitor.new ≡ stepped_node V.next visitor.old (reverse steps.now) node.old) result }
 {
@@ -147,8 +153,9 @@ fn visit_at<V: Visitor>(node: &mut Node, steps: &[usize], visitor: &mut V) -> Re
         match steps.split_last() {
             None => visitor.visit(tag, attrs, line)?,
             Some((place, rest)) => {
-                if *place < children.len() {
-                    let child = children.get_mut(*place);
+                let place = *place as usize;
+                if place < children.len() {
+                    let child = children.get_mut(place);
                     visit_at(child, rest, visitor)?;
                 }
             }
@@ -230,8 +237,13 @@ fn add_own(
     Ok(())
 }
 
-/// Adds the marks of a node, by a pass over it.
-fn add_marks(alloc: Global, node: &Node, marks: &mut Vec<Path>) -> Result<(), TreeFault>
+/// Adds the marks of a node and its kinds, by a pass over it.
+fn add_marks(
+    alloc: Global,
+    node: &Node,
+    marks: &mut Vec<Path>,
+    kinds: &mut Kinds,
+) -> Result<(), TreeFault>
     ensures { Gives (λ _. marks.new.items ≡ marks.old.items ++ marks_of is_registered node.now) result }
 {
     if let Node::Element {
@@ -241,6 +253,7 @@ fn add_marks(alloc: Global, node: &Node, marks: &mut Vec<Path>) -> Result<(), Tr
         line,
     } = node
     {
+        kinds.note(*tag, attrs);
         add_own(alloc, *tag, attrs, *line, marks)?;
         let nodes = children.as_slice();
         for place in 0..nodes.len() {
@@ -249,18 +262,19 @@ fn add_marks(alloc: Global, node: &Node, marks: &mut Vec<Path>) -> Result<(), Tr
                 continue;
             }
             let from = marks.len();
-            add_marks(alloc, child, marks)?;
+            add_marks(alloc, child, marks, kinds)?;
             begin_above(marks, from, place)?;
         }
     }
     Ok(())
 }
 
-/// A node, and the paths of those of its elements that registration needs, in preorder.
+/// A node, and the paths of those of its elements that registration needs, in preorder; and which kinds of elements it holds.
 #[derive(Debug, Drop)]
 pub struct Marked {
     root: Node,
     marks: Vec<Path>,
+    kinds: Kinds,
 }
 
 impl Model for Marked {
@@ -294,6 +308,7 @@ impl Marked {
         Marked {
             root: Node::Text(text),
             marks: Vec::new(alloc),
+            kinds: Kinds::none(),
         }
     }
 
@@ -302,8 +317,9 @@ impl Marked {
         ensures { Gives (λ m. m ≡ root) result }
     {
         let mut marks = Vec::new(alloc);
-        add_marks(alloc, &root, &mut marks)?;
-        Ok(Marked { root, marks })
+        let mut kinds = Kinds::none();
+        add_marks(alloc, &root, &mut marks, &mut kinds)?;
+        Ok(Marked { root, marks, kinds })
     }
 
     /// An element with nothing in it.
@@ -312,13 +328,15 @@ impl Marked {
     {
         let mut marks = Vec::new(alloc);
         add_own(alloc, tag, &attrs, line, &mut marks)?;
+        let mut kinds = Kinds::none();
+        kinds.note(tag, &attrs);
         let root = Node::Element {
             tag,
             attrs,
             children: Children::of(Vec::new(alloc)),
             line,
         };
-        Ok(Marked { root, marks })
+        Ok(Marked { root, marks, kinds })
     }
 
     /// The element with one more last child.
@@ -329,10 +347,12 @@ impl Marked {
         let Marked {
             mut root,
             mut marks,
+            kinds,
         } = self;
         let Marked {
             root: node,
             marks: inner,
+            kinds: more,
         } = child;
         match &mut root {
             Node::Element { children, .. } => {
@@ -342,7 +362,13 @@ impl Marked {
             }
             Node::Text(_) => unreachable!(),
         }
-        Ok(Marked { root, marks })
+        let kinds = kinds.or(more);
+        Ok(Marked { root, marks, kinds })
+    }
+
+    /// Which kinds of elements that transforms act on the node holds.
+    pub fn kinds(&self) -> Kinds {
+        self.kinds
     }
 
     /// The node's marks.
@@ -373,7 +399,7 @@ impl Marked {
         ensures elements { Gives (λ n. node_items n ≡ scanned (heeded_next is_registered V.next) (heeded_out is_registered V.out) visitor.old (node_items self)) result }
         ensures shape { Gives (λ n. node_shape n ≡ node_shape self) result }
     {
-        let Marked { root, marks } = self;
+        let Marked { root, marks, .. } = self;
         visit_all(root, &marks, visitor)
     }
 }

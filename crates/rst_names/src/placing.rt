@@ -28,7 +28,7 @@ impl Notices {
     }
 
     /// Whether no message is left.
-    fn is_empty(&self) -> bool {
+    pub fn is_empty(&self) -> bool {
         self.queue.is_empty()
     }
 

@@ -20,6 +20,8 @@ pub struct Registered {
     pub names: Names,
     /// How many of the registered elements may have names; their numbers (`Key::Serial`) are those below it.
     pub serials: u64,
+    /// Whether there are messages on equal names, which stand in the document.
+    pub noticed: bool,
 }
 
 /// Registers a document's elements in preorder: each gets a number, unless it is a message or a problematic, which have no names, those of 'ids'
@@ -55,6 +57,7 @@ pub fn register(alloc: Global, document: Marked, messages: u64) -> Result<Regist
     } = registry_of(alloc, &elements, messages)?;
     drop(elements);
     let serials = standings.len() as u64;
+    let noticed = !notices.is_empty();
     let mut writing = Writing::of(alloc, standings, links);
     let written = document.visit(&mut writing)?;
     Ok(Registered {
@@ -62,5 +65,6 @@ pub fn register(alloc: Global, document: Marked, messages: u64) -> Result<Regist
         ids,
         names,
         serials,
+        noticed,
     })
 }

@@ -1,4 +1,3 @@
-pub mod LinkKinds
 pub mod Links
 pub mod Messages
 pub mod Reading

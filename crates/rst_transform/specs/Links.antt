@@ -7,13 +7,19 @@ use Rattle.rst_tree.specs.declared.rewriting.Rewrite.{Rewrite}
 use Rattle.rst_tree.specs.declared.rewriting.Rewrite.TheVariants.{Keep, Replace}
 use Rattle.rst_tree.specs.declared.tag.Tag.{Tag}
 use Rattle.rst_tree.specs.declared.tag.Tag.TheVariants.{Problematic}
+use Rattle.rst_tree.specs.Attributes.{with_attr}
 use Rattle.rst_tree.specs.Forest.{Forest, bare, words}
 use Rattle.rst_tree.specs.Nodes.{forest_of}
 use Rattle.rst_tree.specs.Rewritten.{kept, rewritten}
+use Rattle.rst_marked.specs.Linked.{is_linked}
 use Rattle.rst_transform.specs.declared.links.Change.{Change}
 use Rattle.rst_transform.specs.declared.links.Change.TheVariants.{Stays, Fails}
-use Rattle.rst_transform.specs.LinkKinds.{is_linked, with_more}
 use Rattle.rst_transform.specs.Reading.{source_said}
+
+-- the attributes, and one more if there is one
+abbrev pub with_more : Option Attr → List Attr → List Attr
+with_more None attrs = attrs
+with_more (Some more) attrs = with_attr more.key more.value attrs
 
 -- an element that stays, or shows a text in place of what stood in it
 abbrev pub shown_as : Option (List ℕ) → Tag → List Attr → ℕ → Rewrite

@@ -10,7 +10,6 @@ use crate::fault::TransformFault;
 use crate::filter::filter;
 use crate::footnotes::footnotes;
 use crate::indirect::indirect;
-use crate::kinds::Kinds;
 use crate::last_section::last_section;
 use crate::messages::Messages;
 use crate::resolve::resolve;
@@ -18,7 +17,7 @@ use crate::targets::targets;
 use crate::title::title;
 use crate::transitions::transitions;
 use crate::work::Work;
-use rst_marked::Marked;
+use rst_marked::{Kinds, Marked};
 use rst_names::{Registered, register};
 use rst_settings::Settings;
 use rst_tree::{Note, Tree, TreeFault};
@@ -50,9 +49,12 @@ pub fn finish(
     ensures highest { IfOk result (λ done. done.highest ≡ highest_level done.notes.items) }
     ensures few { IfOk result (λ done. done.highest ≤ 4) }
 {
-    let work = registered(alloc, document, messages)?;
-    let mut list = Messages::new(alloc, settings.halt, settings.report);
-    let kinds = Kinds::of(alloc, &work.root, &mut list)?;
+    let kinds = document.kinds();
+    let (work, noticed) = registered(alloc, document, messages)?;
+    let mut list = Messages::with_room(alloc, messages, settings.halt, settings.report)?;
+    if kinds.messages || noticed {
+        list.add_those_in(alloc, &work.root)?;
+    }
     let work = transformed(alloc, work, kinds, settings)?;
     let Work { root, reports, .. } = last_section(alloc, work, settings.report)?;
     list.add_reports(reports)?;
@@ -68,22 +70,24 @@ pub fn finish(
     }
 }
 
-/// A document with names and ids, before the transforms.
-fn registered(alloc: Global, document: Marked, messages: u64) -> Result<Work, TreeFault> {
+/// A document with names and ids, before the transforms, and whether messages on equal names stand in it now.
+fn registered(alloc: Global, document: Marked, messages: u64) -> Result<(Work, bool), TreeFault> {
     let Registered {
         root,
         ids,
         names,
         serials,
+        noticed,
     } = register(alloc, document, messages)?;
-    Ok(Work {
+    let work = Work {
         root,
         ids,
         names,
         reports: Vec::new(alloc),
         first_number: messages,
         serials,
-    })
+    };
+    Ok((work, noticed))
 }
 
 /// A document with elements of some kinds after all transforms.

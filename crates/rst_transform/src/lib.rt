@@ -14,7 +14,6 @@ mod finishing;
 pub mod footnotes;
 mod holders;
 pub mod indirect;
-mod kinds;
 mod last_section;
 mod links;
 mod lists;

@@ -1,11 +1,11 @@
 //! The elements that references join, and what the transforms of references make of them.
 ghost use Rattle.std.specs.Prelude.{◌≡◌};
 ghost use Rattle.rst_tree.specs.Faults.{Gives};
-ghost use Rattle.rst_transform.specs.LinkKinds.{is_linked, with_more};
-ghost use Rattle.rst_transform.specs.Links.{Shows, changed_root};
+ghost use Rattle.rst_transform.specs.Links.{Shows, changed_root, with_more};
 
 use crate::texts::take_source;
 use crate::work::Work;
+use rst_marked::is_linked;
 use rst_tree::{Attrs, Children, Entry, Node, Rewriter, Tag, Text, TreeFault, rewrite_in};
 use std::alloc::Global;
 use std::collections::VecDeque;
@@ -71,22 +71,6 @@ pub(crate) enum Change {
     Stays(Addition),
     /// It becomes a problematic with these attributes.
     Fails(Attrs),
-}
-
-/// Whether elements of this kind refer to others, or are what others refer to; a label stands for its footnote.
-pub(crate) fn is_linked(tag: Tag) -> bool
-    ensures { result ≡ is_linked tag }
-{
-    matches!(
-        tag,
-        Tag::Citation
-            | Tag::CitationReference
-            | Tag::Footnote
-            | Tag::FootnoteReference
-            | Tag::Label
-            | Tag::Reference
-            | Tag::Target
-    )
 }
 
 /// The root of a document, taken out until it is put back.

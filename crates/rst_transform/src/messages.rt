@@ -2,12 +2,13 @@
 ghost use Rattle.std.specs.Prelude.{◌≡◌, ◌≤◌, min};
 ghost use Rattle.rst_settings.specs.Threshold.{is_reached};
 ghost use Rattle.rst_tree.specs.Attributes.{value_of};
+ghost use Rattle.rst_tree.specs.Faults.{Gives};
 ghost use Rattle.rst_transform.specs.Messages.{has_halt, EndsAtHalt, highest_level, level_said};
 
 use crate::reading::number;
 use crate::work::Report;
 use rst_settings::Threshold;
-use rst_tree::{Attrs, Children, Key, Level, Node, Note, Text, TreeFault};
+use rst_tree::{Attrs, Children, Key, Level, Node, Note, Tag, Text, TreeFault};
 use std::alloc::Global;
 
 /// Whether a level of that number is at or above a threshold; a number above 4 counts as 4.
@@ -45,17 +46,22 @@ pub(crate) struct Messages {
 }
 
 impl Messages {
-    /// No message, of a run that halts at a threshold and shows messages from another one on.
-    pub(crate) fn new(alloc: Global, halt: Threshold, report: Threshold) -> Messages
-        ensures { result.halt ≡ halt }
+    /// No message, in a list with room for so many, of a run that halts at a threshold and shows messages from another one on.
+    pub(crate) fn with_room(
+        alloc: Global,
+        room: u64,
+        halt: Threshold,
+        report: Threshold,
+    ) -> Result<Messages, TreeFault>
+        ensures { Gives (λ messages. messages.halt ≡ halt) result }
     {
-        Messages {
-            notes: Vec::new(alloc),
+        Ok(Messages {
+            notes: Vec::with_capacity(alloc, room as usize)?,
             halt,
             halted: false,
             report,
-            shown: Vec::new(alloc),
-        }
+            shown: Vec::with_capacity(alloc, room as usize)?,
+        })
     }
 
     /// Adds a message with a number, if it has one: to the list only if no earlier one halts the run.
@@ -78,7 +84,7 @@ impl Messages {
     }
 
     /// Adds the message that a `system_message` with these attributes and nodes tells.
-    pub(crate) fn add(
+    fn add(
         &mut self,
         alloc: Global,
         attrs: &Attrs,
@@ -91,10 +97,43 @@ impl Messages {
         self.push(note, number(attrs, Key::Message))
     }
 
+    /// Adds the messages in a document, in preorder.
+    pub(crate) fn add_those_in(&mut self, alloc: Global, root: &Node) -> Result<(), TreeFault>
+        ensures { self.new.halt ≡ self.old.halt }
+    {
+        if let Node::Element { children, .. } = root {
+            self.add_all(alloc, children)?;
+        }
+        Ok(())
+    }
+
+    /// Adds those among nodes and in them. A message holds no other.
+    fn add_all(&mut self, alloc: Global, nodes: &Children) -> Result<(), TreeFault>
+        ensures { self.new.halt ≡ self.old.halt }
+    {
+        for node in nodes.as_slice() {
+            if let Node::Element {
+                tag,
+                attrs,
+                children,
+                line,
+            } = node
+            {
+                if matches!(tag, Tag::SystemMessage) {
+                    self.add(alloc, attrs, children, *line)?;
+                } else {
+                    self.add_all(alloc, children)?;
+                }
+            }
+        }
+        Ok(())
+    }
+
     /// Adds the messages of the transforms, which are the last.
     pub(crate) fn add_reports(&mut self, reports: Vec<Report>) -> Result<(), TreeFault>
         ensures { self.new.halt ≡ self.old.halt }
     {
+        self.notes.reserve(reports.len())?;
         for report in reports {
             self.push(report.note, Some(report.number))?;
         }

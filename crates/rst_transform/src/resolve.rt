@@ -229,6 +229,11 @@ fn notes_meant(
     Ok(notes)
 }
 
+/// Whether a reference whose name means this gets a message, if it still stands.
+fn fails(meaning: &Option<Meaning>) -> bool {
+    matches!(meaning, Some(Meaning::Unknown | Meaning::Duplicate))
+}
+
 /// What becomes of the references by name; the messages of those that fail are made here.
 fn outcomes(
     alloc: Global,
@@ -236,6 +241,8 @@ fn outcomes(
     linked: &[Linked<'_>],
     meanings: Vec<Option<Meaning>>,
 ) -> Result<Vec<Outcome>, TreeFault> {
+    let failing = meanings.iter().filter(|meaning| fails(meaning)).count();
+    work.reports.reserve(failing)?;
     let mut outcomes = Vec::with_capacity(alloc, linked.len())?;
     let mut ended: Vec<bool> = Vec::with_capacity(alloc, linked.len())?;
     for (one, meaning) in linked.iter().zip(meanings) {

@@ -2,6 +2,7 @@
 use crate::lists::{append, take_list};
 use crate::reading::number;
 use crate::work::Work;
+use rst_marked::is_internal;
 use rst_names::{Holder, Names};
 use rst_tree::{Attrs, Children, Key, Node, Tag, Text, TreeFault, Value};
 use std::alloc::Global;
@@ -37,14 +38,6 @@ pub fn targets(alloc: Global, mut work: Work) -> Result<Work, TreeFault> {
         move_in(alloc, children, &mut moving, &mut work.names)?;
     }
     Ok(work)
-}
-
-/// Whether an element is an internal target of the body: one that stands in no text, and tells neither a URI nor a name.
-pub(crate) fn is_internal(tag: Tag, attrs: &Attrs) -> bool {
-    matches!(tag, Tag::Target)
-        && !attrs.has(Key::Inline)
-        && !attrs.has(Key::Refuri)
-        && !attrs.has(Key::Refname)
 }
 
 /// Whether an element of a kind takes the ids and names of a target before it.
