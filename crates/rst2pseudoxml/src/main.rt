@@ -16,16 +16,28 @@ use report::{Stop, report};
 use rst_options::{OptionFault, options};
 use rst_text::Counted;
 use run::run;
-use std::alloc::Global;
+use std::alloc::{AllocError, Global};
 use std::env;
 use std::fs::File;
 use std::io::{ErrorKind, Write};
 use std::process::ExitCode;
 
+/// The size of a large block, below the 32 MiB from which on the C library learns nothing.
+const LARGE: usize = 32_000_000;
+
 fn main(rt: HostRuntime) -> ExitCode {
+    keep_freed_blocks(rt.alloc());
     let mut err = Counted::of(rt.stderr());
     let stop = started(&rt, &mut err);
     ExitCode::from(report(&stop, &mut err))
+}
+
+/// Lets the C library keep the blocks that are given up for those that are taken later. By itself it hands large ones back to the system, and the
+/// pages of the next are made anew, which takes longer than what is done with them; but one that sees a block of some size given up keeps
+/// smaller ones from then on (glibc's manual, `M_MMAP_THRESHOLD`). Where there is no room for the block, nothing is lost.
+fn keep_freed_blocks(alloc: Global) {
+    let block: Result<Vec<u8>, AllocError> = Vec::with_capacity(alloc, LARGE);
+    drop(block);
 }
 
 /// Runs over the file that the argument words name, or over standard input.

@@ -49,6 +49,18 @@ fn exit_line(alloc: Global, level: Option<Level>) -> Result<String, AllocError>
     Ok(line)
 }
 
+/// About how many bytes the messages that are told take, so that they are gathered in a list that needn't grow.
+fn room_for(notes: &[Note], settings: &Settings, source: &str) -> usize {
+    let mut room = 0usize;
+    for note in notes {
+        if is_told(note, settings) {
+            let words = note.text.as_str().len();
+            room = room.saturating_add(words.saturating_add(source.len()).saturating_add(24));
+        }
+    }
+    room
+}
+
 /// What is told on standard error: the messages at or above the report level, the one that halts the run, and that it does.
 ///
 /// The only refusal is [`End::NoMemory`].
@@ -60,7 +72,7 @@ pub fn told(
 ) -> Result<Counted<Vec<u8>>, End>
     ensures { spec.Tells settings.now source.now notes.now result }
 {
-    let mut text = Counted::of(Vec::new(alloc));
+    let mut text = Counted::of(Vec::with_capacity(alloc, room_for(notes, settings, source))?);
     for note in notes {
         if !is_told(note, settings) {
             continue;
