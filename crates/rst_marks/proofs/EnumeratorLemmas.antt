@@ -7,7 +7,7 @@ use Rattle.std.specs.Option.{option_and_then}
 use Rattle.rst_marks.specs.Front.{begins_with}
 use Rattle.rst_marks.specs.Class.{run}
 use Rattle.rst_marks.specs.Roman.{roman}
-use Rattle.rst_marks.specs.Enumerator.{case_of, digits, letters, letters_by, as_numeral, written_at, before_one, enumerator_of, begins_unnumbered}
+use Rattle.rst_marks.specs.Enumerator.{case_of, digits, letters, letters_by, as_numeral, written_at, before_one, enumerator_of, begins_no_enumerator}
 use Rattle.rst_marks.specs.declared.class.Class.TheVariants.{Digit, Letter}
 use Rattle.rst_marks.specs.declared.enumerator.Written.{Written}
 
@@ -53,8 +53,8 @@ written_letters t h d = rw (h, d) refl
 zero_of : (n : ℕ) → (n == 0) ≡ true → n ≡ 0
 zero_of n h = eqb-true n 0 h
 
-pub word_none : (t : List ℕ) → begins_with 40 t ≡ false → begins_unnumbered t ≡ true → None ≡ enumerator_of t
-unfolding enumerator_of begins_unnumbered
+pub word_none : (t : List ℕ) → begins_with 40 t ≡ false → begins_no_enumerator t ≡ true → None ≡ enumerator_of t
+unfolding enumerator_of begins_no_enumerator
 word_none t p h =
     let a = and_true (not (begins_with 35 t)) (run Digit t == 0 && (not (begins_with 41 (drop (run Letter t) t)) && not (begins_with 46 (drop (run Letter t) t)))) h in
     let b = and_true (run Digit t == 0) (not (begins_with 41 (drop (run Letter t) t)) && not (begins_with 46 (drop (run Letter t) t))) a.1 in

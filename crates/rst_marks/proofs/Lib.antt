@@ -1,7 +1,9 @@
 pub mod TextLemmas
 pub mod Runs
+pub mod BorderLemmas
 pub mod AdornmentLemmas
 pub mod SimpleNames
+pub mod LabelLemmas
 pub mod Steps
 pub mod OptionLemmas
 pub mod PlacedLemmas

@@ -56,9 +56,10 @@ letters t = option_and_then (λ c. letters_by c (run Letter t) t) (first t)
 unfoldable pub written_at : List ℕ → Option Written
 written_at t = if begins_with 35 t then Some (record { ordinals = Auto; len = 1 }) else option_or (digits t) (letters t)
 
--- neither `#` nor digits are at the front, and what ends an enumerator isn't behind the letters there
-unfoldable pub begins_unnumbered : List ℕ → Bool
-begins_unnumbered t = not (begins_with 35 t) && (run Digit t == 0 && (not (begins_with 41 (drop (run Letter t) t)) && not (begins_with 46 (drop (run Letter t) t))))
+-- Neither `x)` nor `x.` can stand at the front: neither `#` nor a digit begins the text, and neither `)` nor `.` is behind the
+-- letters there.
+unfoldable pub begins_no_enumerator : List ℕ → Bool
+begins_no_enumerator t = not (begins_with 35 t) && (run Digit t == 0 && (not (begins_with 41 (drop (run Letter t) t)) && not (begins_with 46 (drop (run Letter t) t))))
 
 -- an enumerator of this format with an ordinal that stands behind `from` characters and before one more, if spaces or the
 -- end are behind it
