@@ -3,9 +3,8 @@ use Rattle.std.specs.Prelude.{◌-◌, Bool, not, ◌&&◌, ◌==◌, nat_lt, na
 use Rattle.std.specs.List.{join_with_byte}
 use Rattle.rst_text.specs.Block.{indentation, is_blank}
 use Rattle.rst_text.specs.Lines.{onto_first}
-use Rattle.rst_text.specs.Characters.{is_white}
 use Rattle.rst_text.specs.Text.{chars_of}
-use Rattle.rst_pieces.specs.Characters.{has, is_dark}
+use Rattle.rst_pieces.specs.Characters.{has, without_white, is_dark}
 use Rattle.rst_pieces.specs.Escapes.{unescaped}
 use Rattle.rst_pieces.specs.Names.{is_simple_name}
 use Rattle.rst_directives.specs.Characters.{Text}
@@ -59,10 +58,6 @@ is_phrase_reference t =
 pub data Destination : Type 0 where
   named : Text → Destination
   located : Text → Destination
-
--- the text without its white characters
-abbrev pub without_white : Text → Text
-without_white t = filter (λ c. not (is_white c)) t
 
 -- a URI, unless nothing is left of it
 abbrev pub located_if : Text → Option Destination
