@@ -1,5 +1,5 @@
 -- A line that begins with a word has no enumerator.
-use Rattle.std.proofs.Common.{◌≡◌, ℕ, zero, suc, ◌-◌, sub-one, arith, ◌==◌, ◌&&◌, Bool, true, false, List, [], ◌∷◌, drop, Option, None, Some, refl, sym}
+use Rattle.std.proofs.Common.{◌≡◌, ℕ, zero, suc, ◌-◌, sub-one, arith, ◌==◌, ◌&&◌, Bool, true, false, List, [], ◌∷◌, take, drop, Option, None, Some, refl, sym}
 use Rattle.std.specs.Prelude.{nat_lt, not}
 use Rattle.std.proofs.lemmas.Bool.{eqb-true, ne_eqb, lt-ltb}
 use Rattle.std.proofs.Math.Dec.{eqb-suc-suc}
@@ -34,7 +34,7 @@ letters_by_len c n t = by (n == 0) (n == 1) refl refl
     by : (a b : Bool) → (n == 0) ≡ a → (n == 1) ≡ b → has_len n (letters_by c n t)
     by true b e f = rw e tt
     by false true e f = rw (e, f) refl
-    by false false e f = rw (e, f) (numeral_len c n (roman (case_of c) n t))
+    by false false e f = rw (e, f) (numeral_len c n (roman (case_of c) (take n t)))
 
 letters_len : (t : List ℕ) → has_len (run Letter t) (letters t)
 unfolding letters

@@ -4,6 +4,7 @@ pub mod BorderLemmas
 pub mod AdornmentLemmas
 pub mod SimpleNames
 pub mod LabelLemmas
+pub mod RomanLemmas
 pub mod Steps
 pub mod OptionLemmas
 pub mod PlacedLemmas

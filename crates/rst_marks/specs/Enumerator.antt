@@ -1,5 +1,5 @@
 -- Enumerators (Markup Specification, 'Enumerated Lists').
-use Rattle.std.specs.Prelude.{ℕ, suc, ◌+◌, ◌-◌, Bool, true, false, ◌&&◌, ◌||◌, ◌==◌, nat_le, nat_lt, not, unwrap_or, List, drop, if◌then◌else◌, Option, None, Some}
+use Rattle.std.specs.Prelude.{ℕ, suc, ◌+◌, ◌-◌, Bool, true, false, ◌&&◌, ◌||◌, ◌==◌, nat_le, nat_lt, not, unwrap_or, List, take, drop, if◌then◌else◌, Option, None, Some}
 use Rattle.std.specs.Option.{option_and_then, option_map, option_or}
 use Rattle.rst_marks.specs.Front.{first, begins_with}
 use Rattle.rst_marks.specs.Class.{run}
@@ -45,8 +45,8 @@ as_numeral case n value = Some (record { ordinals = Letters case None (Some valu
 abbrev pub letters_by : ℕ → ℕ → List ℕ → Option Written
 letters_by c n t =
     if n == 0 then None
-    else if n == 1 then Some (record { ordinals = Letters (case_of c) (place_in_alphabet c) (roman (case_of c) n t); len = n })
-    else option_and_then (as_numeral (case_of c) n) (roman (case_of c) n t)
+    else if n == 1 then Some (record { ordinals = Letters (case_of c) (place_in_alphabet c) (roman (case_of c) (take n t)); len = n })
+    else option_and_then (as_numeral (case_of c) n) (roman (case_of c) (take n t))
 
 -- a single letter, which may be a Roman numeral as well, or a Roman numeral
 unfoldable pub letters : List ℕ → Option Written

@@ -100,7 +100,7 @@ substitution_of t =
     if begins_with 124 t then (if is_blank (drop 1 t) || begins_white (drop 1 t) then None else spaced_bar t (closed SpacedBar (drop 1 t)))
     else None
 
--- two colons behind n characters, of which the first are a directive's name
+-- two colons behind n characters, of which the first `len` are a directive's name
 unfoldable pub colons : ℕ → ℕ → List ℕ → Option DirectiveMark
 colons len n t =
     if not (begins_with 58 (drop n t)) || not (begins_with 58 (drop (n + 1) t)) then None
