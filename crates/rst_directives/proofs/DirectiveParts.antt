@@ -19,7 +19,7 @@ use Rattle.rst_directives.specs.Directive.{Read, Outcome, found, wrong, run_in, 
 use Rattle.rst_directives.specs.Field.{begins_field}
 use Rattle.rst_directives.specs.Judgement.{content_fault}
 use Rattle.rst_directives.specs.Layout.{before_field, content_alone, parts_with_argument, parts_without_argument, layout_by, layout_at, layout_of}
-use Rattle.rst_directives.specs.Lines.{first_run, blank_len, past_blank}
+use Rattle.rst_directives.specs.Lines.{first_run, blank_len, behind_blank}
 use Rattle.rst_directives.specs.Name.{takes, holds}
 use Rattle.rst_directives.specs.Options.{Choice}
 use Rattle.rst_directives.specs.Wrong.{Wrong as WrongInside, and_then, unless, many_arguments, fault_in}
@@ -183,7 +183,7 @@ read_in_block : (B : Block) (name : Name) (late : Bool) (block : Part) (H : Bloc
 unfolding read_block read_by
 read_in_block B name late block H b count =
     let run : List Text = run_in name late H in
-    let rest : ℕ = past_blank H (length run) in
+    let rest : ℕ = behind_blank H (length run) in
     let within = layout_within name run (length H) rest (run_in-le name late H) (omega (arith, run_in-le name late H, blank_len-le (drop (length run) H), length-drop (length run) H)) in
     let layout : Layout = layout_of name run H in
     let inside : block.from + length H ≤ block.to = omega (arith, b.ordered, count) in

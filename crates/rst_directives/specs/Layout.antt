@@ -5,7 +5,7 @@ use Rattle.std.specs.List.{prefix_len}
 use Rattle.rst_text.specs.Block.{Block}
 use Rattle.rst_directives.specs.Characters.{Text}
 use Rattle.rst_directives.specs.Field.{begins_field}
-use Rattle.rst_directives.specs.Lines.{past_blank}
+use Rattle.rst_directives.specs.Lines.{behind_blank}
 use Rattle.rst_directives.specs.Name.{takes, holds}
 use Rattle.rst_directives.specs.declared.layout.Layout.{Layout}
 use Rattle.rst_directives.specs.declared.name.Name.{Name}
@@ -48,4 +48,4 @@ layout_at name run all rest = layout_by (holds name) (takes name) run all rest
 -- The parts of a block that begins with this run of lines, which hold the argument and the options: the argument up to the
 -- first option, the options up to the end of the run, and the content behind the blank lines after it.
 abbrev pub layout_of : Name → List Text → Block → Layout
-layout_of name run H = layout_at name run (length H) (past_blank H (length run))
+layout_of name run H = layout_at name run (length H) (behind_blank H (length run))

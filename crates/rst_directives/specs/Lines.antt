@@ -19,5 +19,5 @@ abbrev pub blank_len : Block → ℕ
 blank_len X = lines_while Blank X
 
 -- the place of the first line from this one on that isn't blank
-abbrev pub past_blank : Block → ℕ → ℕ
-past_blank H from = from + blank_len (drop from H)
+abbrev pub behind_blank : Block → ℕ → ℕ
+behind_blank H from = from + blank_len (drop from H)
