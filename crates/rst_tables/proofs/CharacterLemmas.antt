@@ -1,13 +1,13 @@
 -- Rows of places are told by the characters of their lines.
-use Rattle.std.proofs.Common.{⊎_elim, ◌≡◌, ℕ, zero, suc, ◌-◌, ◌<◌, Bool, true, false, cond, ◌&&◌, ◌||◌, ◌==◌, eqb, leb, ltb, List, [], ◌∷◌, map, length, drop, refl, sym, ap, ◌∙◌, arith}
+use Rattle.std.proofs.Common.{⊎_elim, ◌≡◌, ℕ, zero, suc, ◌-◌, Bool, true, false, cond, ◌&&◌, ◌||◌, ◌==◌, eqb, leb, List, [], ◌∷◌, map, length, drop, refl, sym, ap, ◌∙◌, arith}
 use Rattle.std.specs.List.{list_all, list_any}
-use Rattle.std.proofs.lemmas.Bool.{cases_Bool, and_parts, eqb-true, ne_eqb, ltb-true}
+use Rattle.std.proofs.lemmas.Bool.{cases_Bool, and_parts, eqb-true, ne_eqb}
 use Rattle.std.proofs.lemmas.List.{length-map}
 use Rattle.unicode_width.proofs.Computing.{unicode_width}
 use Rattle.rst_text.specs.Block.{Block, front_text, is_blank}
 use Rattle.rst_marks.specs.Front.{begins_with}
 use Rattle.rst_marks.specs.Class.{is_in, run}
-use Rattle.rst_marks.specs.declared.class.Class.TheVariants.{Only, Either}
+use Rattle.rst_marks.specs.declared.class.Class.TheVariants.{Either}
 use Rattle.rst_marks.specs.Border.{is_grid_border, is_simple_border as is_top_border}
 use Rattle.rst_markup.specs.TableLines.{is_drawn, border_len, is_lower_border as is_border_text}
 use Rattle.rst_tables.specs.Places.{is_double, places_of, mark_at, rows_of, row_at}
