@@ -5,10 +5,10 @@ use Rattle.rst_markup.specs.declared.part.Part.{Part}
 use Rattle.rst_directives.specs.Characters.{Text}
 use Rattle.rst_directives.specs.Directive.{run_in, read_by, read_block}
 use Rattle.rst_directives.specs.Layout.{layout_at}
-use Rattle.rst_directives.specs.Lines.{past_blank}
+use Rattle.rst_directives.specs.Lines.{behind_blank}
 use Rattle.rst_directives.specs.declared.name.Name.{Name}
 
-pub read-is : (name : Name) (late : Bool) (block : Part) (H L : Block) (run : List Text) (all n m rest : ℕ) → L ≡ H → length L ≡ all → run ≡ run_in name late L → n ≡ length run → m ≡ length run
-    → rest ≡ past_blank L m → read_by name block all run (layout_at name run n all rest) ≡ read_block name late block H
+pub read-is : (name : Name) (late : Bool) (block : Part) (H L : Block) (run : List Text) (all m rest : ℕ) → L ≡ H → length L ≡ all → run ≡ run_in name late L → m ≡ length run
+    → rest ≡ behind_blank L m → read_by name block all run (layout_at name run all rest) ≡ read_block name late block H
 unfolding read_block
-read-is name late block H L run all n m rest same count texts len len2 place = cc
+read-is name late block H L run all m rest same count texts len place = cc

@@ -1,5 +1,5 @@
 -- Words taken one after the other.
-use Rattle.std.proofs.Common.{◌≡◌, ℕ, suc, ◌<◌, Bool, true, false, if◌then◌else◌, List, [], ◌∷◌, ◌++◌, take, drop, Option, Some, None, option_map, refl, sym, ap, ◌∙◌, inl, inr, arith}
+use Rattle.std.proofs.Common.{◌≡◌, ℕ, suc, ◌+◌, ◌<◌, Bool, true, false, if◌then◌else◌, List, [], ◌∷◌, ◌++◌, take, drop, Option, Some, None, option_map, refl, sym, ap, ◌∙◌, inl, inr, arith}
 use Rattle.rst_text.specs.Block.{is_blank}
 use Rattle.rst_text.specs.Characters.{is_white}
 use Rattle.rst_text.specs.Lines.{onto_first}
@@ -53,7 +53,7 @@ abbrev FirstWord : Text → Type 0
 FirstWord t = words_of t ≡ take (word_len t) t ∷ words_of (drop (word_len t) t)
 
 word_len-dark : (c : ℕ) (cs : Text) → is_white c ≡ false → word_len (c ∷ cs) ≡ suc (word_len cs)
-word_len-dark c cs h = rw h refl
+word_len-dark c cs h = let one : 1 + word_len cs ≡ suc (word_len cs) = omega arith in rw h one
 
 word_len-none : (t : Text) → begins_word t ≡ false → word_len t ≡ 0
 word_len-none [] h = refl

@@ -1,26 +1,28 @@
 -- The parts of a directive are blocks of what its block is a part of.
-use Rattle.std.proofs.Common.{◌≡◌, ℕ, zero, suc, ◌+◌, ◌-◌, ◌≤◌, ◌==◌, Bool, true, false, cond, ◌&&◌, List, [], ◌∷◌, length, take, drop, length-drop, Option, None, Some, Result, Ok, Err, arith, refl, sym, ap, ◌∙◌, subst}
+use Rattle.std.proofs.Common.{◌≡◌, ℕ, zero, suc, ◌+◌, ◌-◌, ◌≤◌, ◌==◌, Bool, true, false, not, cond, ◌&&◌, List, [], ◌∷◌, map, length, take, drop, length-drop, Option, None, Some, option_map, Result, Ok, Err, arith, refl, sym, ap, ◌∙◌, subst}
+use Rattle.std.specs.List.{prefix_len}
 use Rattle.std.proofs.lemmas.List.{drop-drop}
-use Rattle.rst_text.specs.Block.{Block, cut, is_blank}
+use Rattle.rst_text.specs.Block.{Line, Block, cut, is_blank}
 use Rattle.rst_text.specs.MayCut.{is_indented}
 use Rattle.rst_text.specs.Names.{normalized_white}
 use Rattle.rst_text.proofs.CutLaws.{take_of}
 use Rattle.rst_text.proofs.Indented.{is_indented-drop, is_indented-take}
+use Rattle.rst_pieces.specs.Characters.{is_among}
 use Rattle.rst_markup.specs.Parts.{IsBlock}
 use Rattle.rst_markup.specs.declared.part.Part.{Part}
 use Rattle.rst_markup.specs.RowLaws.{while_le}
 use Rattle.rst_markup.specs.declared.lines.LineTest.TheVariants.{Blank}
-use Rattle.rst_directives.specs.Argument.{Given, title, language, text_in, word_of, argument_by, argument_of}
+use Rattle.rst_directives.specs.Argument.{Given, title, language, joined_lines, word_of, argument_by, argument_of}
 use Rattle.rst_directives.specs.Call.{part_of, content_of, is_empty, IsContentIn, IsDirectiveIn}
-use Rattle.rst_directives.specs.Characters.{Text, has_character}
-use Rattle.rst_directives.specs.Directive.{Read, Outcome, found, wrong, run_in, is_code_name, options_of, read_parts, read_by, read_block, found_unless, judged, outcome_of}
+use Rattle.rst_directives.specs.Characters.{Text}
+use Rattle.rst_directives.specs.Directive.{Read, Outcome, found, wrong, run_in, is_code_name, options_of, read_parts, read_by, read_block, outcome_at, of_block, judged, outcome_of}
 use Rattle.rst_directives.specs.Field.{begins_field}
 use Rattle.rst_directives.specs.Judgement.{content_fault}
-use Rattle.rst_directives.specs.Layout.{before_field, undivided, divided_by, layout_by, layout_at, layout_of}
-use Rattle.rst_directives.specs.Lines.{first_run, blank_len, past_blank}
+use Rattle.rst_directives.specs.Layout.{before_field, content_alone, parts_with_argument, parts_without_argument, layout_by, layout_at, layout_of}
+use Rattle.rst_directives.specs.Lines.{first_run, blank_len, behind_blank}
 use Rattle.rst_directives.specs.Name.{takes, holds}
 use Rattle.rst_directives.specs.Options.{Choice}
-use Rattle.rst_directives.specs.Wrong.{Wrong as WrongInside, many_arguments}
+use Rattle.rst_directives.specs.Wrong.{Wrong as WrongInside, and_then, unless, many_arguments, fault_in}
 use Rattle.rst_directives.specs.declared.argument.Argument.TheVariants.{Absent, Title, Uri, Language}
 use Rattle.rst_directives.specs.declared.fault.DirectiveFault.{DirectiveFault}
 use Rattle.rst_directives.specs.declared.found.Content.{Content}
@@ -77,7 +79,7 @@ before_field-le : (run : List Text) → before_field run ≤ length run
 before_field-le [] = omega arith
 before_field-le (t ∷ ts) = by (begins_field t) (before_field-le ts)
   where
-    by : (b : Bool) → before_field ts ≤ length ts → cond b 0 (suc (before_field ts)) ≤ suc (length ts)
+    by : (b : Bool) → before_field ts ≤ length ts → cond (not b) (1 + before_field ts) 0 ≤ suc (length ts)
     by true h = omega arith
     by false h = omega arith
 
@@ -85,9 +87,13 @@ first_run-le : (B : Block) → length (first_run B) ≤ length B
 first_run-le [] = omega arith
 first_run-le (l ∷ ls) = by (is_blank l.text) (first_run-le ls)
   where
-    by : (b : Bool) → length (first_run ls) ≤ length ls → length (cond b [] (l.text ∷ first_run ls)) ≤ suc (length ls)
+    by : (b : Bool) → length (first_run ls) ≤ length ls → length (map (λ (m : Line). m.text) (take (cond (not b) (1 + prefix_len (λ m. not (is_blank m.text)) ls) 0) (l ∷ ls))) ≤ suc (length ls)
     by true h = omega arith
-    by false h = omega arith
+    by false h =
+        let n : ℕ = prefix_len (λ (m : Line). not (is_blank m.text)) ls in
+        let one : suc n ≡ 1 + n = omega arith in
+        let more : suc (length (first_run ls)) ≤ suc (length ls) = omega arith in
+        subst (λ k. length (map (λ (m : Line). m.text) (take k (l ∷ ls))) ≤ suc (length ls)) one more
 
 blank_len-le : (B : Block) → blank_len B ≤ length B
 blank_len-le B = while_le Blank B
@@ -100,25 +106,37 @@ run_in-le name late H = by (late && is_code_name name)
     by true = omega arith
     by false = first_run-le H
 
-divided_within : (t : Takes) (from len all rest : ℕ) → from ≤ len → len ≤ all → rest ≤ all → IsWithin (divided_by t from len all rest) all
-divided_within TakesNothing from len all rest h k l = by (from == len)
-  where
-    by : (b : Bool) → let parted : Layout = record { argument = 0; first = from; options = from; second = rest } in IsWithin (cond b (undivided len all) parted) all
-    by true = record { argument = omega arith; first = omega arith; second = omega arith }
-    by false = record { argument = omega arith; first = omega (arith, h, k); second = omega (arith, l) }
-divided_within TakesTitle from len all rest h k l = record { argument = omega arith; first = omega arith; second = omega arith }
-divided_within TakesUri from len all rest h k l = record { argument = omega arith; first = omega arith; second = omega arith }
-divided_within TakesLanguage from len all rest h k l = record { argument = omega arith; first = omega arith; second = omega arith }
+with_within : (run : List Text) (all rest : ℕ) → length run ≤ all → rest ≤ all → IsWithin (parts_with_argument run rest) all
+with_within run all rest h k = record { argument = omega (arith, before_field-le run); first = omega arith; second = omega arith }
 
-layout_within : (name : Name) (run : List Text) (all rest : ℕ) → length run ≤ all → rest ≤ all → IsWithin (layout_at name run (length run) all rest) all
-unfolding layout_at
-layout_within name run all rest h k = by (holds name)
+without_within : (run : List Text) (all rest : ℕ) → length run ≤ all → rest ≤ all → IsWithin (parts_without_argument run all rest) all
+without_within run all rest h k = by (before_field run == length run)
   where
-    by : (content : Holds) → IsWithin (layout_by content name (before_field run) (length run) all rest) all
-    by Paragraph = record { argument = omega arith; first = omega arith; second = omega arith }
-    by Required = divided_within (takes name) (before_field run) (length run) all rest (before_field-le run) h k
-    by HoldsNothing = divided_within (takes name) (before_field run) (length run) all rest (before_field-le run) h k
-    by Figure = divided_within (takes name) (before_field run) (length run) all rest (before_field-le run) h k
+    by : (b : Bool) → let parted : Layout = record { argument = 0; first = before_field run; options = before_field run; second = rest } in IsWithin (cond b (content_alone run all) parted) all
+    by true = record { argument = omega arith; first = omega arith; second = omega arith }
+    by false = record { argument = omega arith; first = omega (arith, before_field-le run); second = omega arith }
+
+takes_within : (t : Takes) (run : List Text) (all rest : ℕ) → length run ≤ all → rest ≤ all → IsWithin (layout_by Required t run all rest) all
+takes_within TakesNothing run all rest h k = without_within run all rest h k
+takes_within TakesTitle run all rest h k = with_within run all rest h k
+takes_within TakesUri run all rest h k = with_within run all rest h k
+takes_within TakesLanguage run all rest h k = with_within run all rest h k
+
+holds_within : (content : Holds) (t : Takes) (run : List Text) (all rest : ℕ) → length run ≤ all → rest ≤ all → IsWithin (layout_by content t run all rest) all
+holds_within Paragraph t run all rest h k = record { argument = omega arith; first = omega arith; second = omega arith }
+holds_within Required t run all rest h k = takes_within t run all rest h k
+holds_within HoldsNothing TakesNothing run all rest h k = without_within run all rest h k
+holds_within HoldsNothing TakesTitle run all rest h k = with_within run all rest h k
+holds_within HoldsNothing TakesUri run all rest h k = with_within run all rest h k
+holds_within HoldsNothing TakesLanguage run all rest h k = with_within run all rest h k
+holds_within Figure TakesNothing run all rest h k = without_within run all rest h k
+holds_within Figure TakesTitle run all rest h k = with_within run all rest h k
+holds_within Figure TakesUri run all rest h k = with_within run all rest h k
+holds_within Figure TakesLanguage run all rest h k = with_within run all rest h k
+
+layout_within : (name : Name) (run : List Text) (all rest : ℕ) → length run ≤ all → rest ≤ all → IsWithin (layout_at name run all rest) all
+unfolding layout_at
+layout_within name run all rest h k = holds_within (holds name) (takes name) run all rest h k
 
 -- ---- what is read
 
@@ -140,7 +158,7 @@ IsOutcomeIn B (wrong fault source) = Unit {0}
 
 word_in : (B : Block) (words : Text) → MayBeGivenIn B (word_of words)
 unfolding word_of
-word_in B words = by (has_character 32 words)
+word_in B words = by (is_among words 32)
   where
     by : (b : Bool) → MayBeGivenIn B (cond b (Err many_arguments) (Ok (language words)))
     by true = tt
@@ -153,7 +171,7 @@ argument_in B TakesTitle (t ∷ ts) part b = b
 argument_in B TakesUri [] part b = tt
 argument_in B TakesUri (t ∷ ts) part b = tt
 argument_in B TakesLanguage [] part b = tt
-argument_in B TakesLanguage (t ∷ ts) part b = word_in B (normalized_white (text_in (t ∷ ts)))
+argument_in B TakesLanguage (t ∷ ts) part b = word_in B (normalized_white (joined_lines (t ∷ ts)))
 
 parts_in_block : (B : Block) (name : Name) (content : Content) (given : Result Given WrongInside) (choices : Result (List Choice) WrongInside)
     → IsContentIn B content → MayBeGivenIn B given → MayBeReadIn B (read_parts name content given choices)
@@ -165,7 +183,7 @@ read_in_block : (B : Block) (name : Name) (late : Bool) (block : Part) (H : Bloc
 unfolding read_block read_by
 read_in_block B name late block H b count =
     let run : List Text = run_in name late H in
-    let rest : ℕ = past_blank H (length run) in
+    let rest : ℕ = behind_blank H (length run) in
     let within = layout_within name run (length H) rest (run_in-le name late H) (omega (arith, run_in-le name late H, blank_len-le (drop (length run) H), length-drop (length run) H)) in
     let layout : Layout = layout_of name run H in
     let inside : block.from + length H ≤ block.to = omega (arith, b.ordered, count) in
@@ -175,11 +193,11 @@ read_in_block B name late block H b count =
 
 -- ---- what a directive is
 
-judged_in : (B : Block) (place : Place) (paragraph : Bool) (source : Part) (read : Result Read WrongInside) → MayBeReadIn B read → IsOutcomeIn B (judged place paragraph source read)
+judged_in : (B : Block) (place : Place) (paragraph : Bool) (source : Part) (read : Result Read WrongInside) → MayBeReadIn B read → IsOutcomeIn B (outcome_at source (and_then (judged place paragraph) (of_block read)))
 judged_in B place paragraph source (Err w) h = tt
 judged_in B place paragraph source (Ok read) h = by (content_fault read.name (is_empty read.content) place paragraph)
   where
-    by : (fault : Option DirectiveFault) → IsOutcomeIn B (found_unless read source fault)
+    by : (fault : Option DirectiveFault) → IsOutcomeIn B (outcome_at source (unless (option_map fault_in fault) (Ok read)))
     by (Some fault) = tt
     by None = h
 
@@ -192,7 +210,7 @@ kept_in B (Found name (Language text) options content) h = h
 
 -- the parts of a directive whose block was read
 pub directive_in : (B : Block) (name : Name) (late : Bool) (block : Part) (place : Place) (paragraph : Bool) (source : Part) (read : Result Read WrongInside) (directive : Directive) → IsBlock B block
-    → read ≡ read_block name late block (cut B block.from block.to block.first_cut block.rest_cut) → outcome_of directive ≡ judged place paragraph source read → IsDirectiveIn B directive
+    → read ≡ read_block name late block (cut B block.from block.to block.first_cut block.rest_cut) → outcome_of directive ≡ outcome_at source (and_then (judged place paragraph) (of_block read)) → IsDirectiveIn B directive
 directive_in B name late block place paragraph source read directive b same kept =
     let H : Block = cut B block.from block.to block.first_cut block.rest_cut in
     let inside = read_in_block B name late block H b (length-cut B block.from block.to block.first_cut block.rest_cut b.ordered b.within) in

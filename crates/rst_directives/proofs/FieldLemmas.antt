@@ -13,7 +13,7 @@ behind_fields done (Some more) = Some (done ++ more)
 behind_fields done None = None
 
 deep-here : (t : Text) (ts : List Text) → begins_with 32 t ≡ true → deep_len (t ∷ ts) ≡ suc (deep_len ts)
-deep-here t ts h = rw h refl
+deep-here t ts h = let one : 1 + deep_len ts ≡ suc (deep_len ts) = omega arith in rw h one
 
 deep-none : (t : Text) (ts : List Text) → begins_with 32 t ≡ false → deep_len (t ∷ ts) ≡ 0
 deep-none t ts h = rw h refl
@@ -65,9 +65,9 @@ texts-take run zero = refl
 texts-take [] (suc n) = refl
 texts-take (v ∷ vs) (suc n) = ap (λ l. v.items ∷ l) (texts-take vs n)
 
-pub length-texts : {A : Type 0} (run : List (Vec ℕ A)) → length (texts_of run) ≡ length run
-length-texts [] = refl
-length-texts (v ∷ vs) = ap suc (length-texts vs)
+pub length_texts : {A : Type 0} (run : List (Vec ℕ A)) → length (texts_of run) ≡ length run
+length_texts [] = refl
+length_texts (v ∷ vs) = ap suc (length_texts vs)
 
 -- the line at a place, and those behind it
 pub texts-at : {A : Type 0} (run : List (Vec ℕ A)) (i : ℕ) (v : Vec ℕ A) → i < length run → v ≡ get_or run i v → drop i (texts_of run) ≡ v.items ∷ drop (i + 1) (texts_of run)

@@ -1,7 +1,7 @@
 -- Numbers that are read a digit at a time.
 use Rattle.std.proofs.Common.{◌≡◌, ℕ, suc, ◌+◌, ◌*◌, ◌^◌, [], ◌∷◌, length, ◌∙◌, arith}
 use Rattle.std.proofs.Math.Nat.{pow-suc}
-use Rattle.rst_marks.specs.Decimal.{digit, spelled}
+use Rattle.rst_marks.specs.Decimal.{digit, decimal}
 use Rattle.rst_directives.specs.Characters.{Text}
 
 -- the number that digits spell behind another number
@@ -13,12 +13,12 @@ one_on : (v d p q s : ℕ) → q ≡ p * 10 → (v * 10 + d) * p + s ≡ v * q +
 one_on v d p q s e = rw e (omega arith)
 
 -- they write what they do by themselves, and the number stands before them
-behind_number : (v : ℕ) (t : Text) → number_from v t ≡ v * 10 ^ length t + spelled t
-unfolding spelled
+behind_number : (v : ℕ) (t : Text) → number_from v t ≡ v * 10 ^ length t + decimal t
+unfolding decimal
 behind_number v [] = omega arith
 behind_number v (c ∷ cs) =
     behind_number (v * 10 + digit c) cs
-    ∙ one_on v (digit c) (10 ^ length cs) (10 ^ suc (length cs)) (spelled cs) (pow-suc 10 (length cs))
+    ∙ one_on v (digit c) (10 ^ length cs) (10 ^ suc (length cs)) (decimal cs) (pow-suc 10 (length cs))
 
-pub number_is : (t : Text) → number_from 0 t ≡ spelled t
+pub number_is : (t : Text) → number_from 0 t ≡ decimal t
 number_is t = omega (arith, behind_number 0 t)

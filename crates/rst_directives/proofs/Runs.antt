@@ -1,11 +1,12 @@
 -- Lines before the first blank one, and blank lines at the front, at a place of a block.
-use Rattle.std.proofs.Common.{◌≡◌, ℕ, suc, zero, ◌+◌, ◌≤◌, ◌<◌, true, false, List, [], ◌∷◌, ◌++◌, length, drop, refl, sym, ap, ◌∙◌, arith, eqb, inl, inr, map, chars}
+use Rattle.std.proofs.Common.{◌≡◌, ℕ, suc, zero, ◌+◌, ◌≤◌, ◌<◌, true, false, not, List, [], ◌∷◌, ◌++◌, length, take, drop, refl, sym, ap, ◌∙◌, arith, eqb, inl, inr, map, chars}
+use Rattle.std.specs.List.{prefix_len}
 use Rattle.std.specs.Str.{IsUtf8}
 use Rattle.std.proofs.lemmas.Bool.{eqb-true, eqb-false}
 use Rattle.rst_text.proofs.PlacesLemmas.{cases_bool}
 use Rattle.rst_text.proofs.Ends.{blank_is, text_is}
 use Rattle.rst_text.proofs.Indenting.{no_front, some_front}
-use Rattle.rst_text.specs.Block.{Block, front_text, is_blank}
+use Rattle.rst_text.specs.Block.{Line, Block, front_text, is_blank}
 use Rattle.rst_markup.specs.Lines.{lines_while}
 use Rattle.rst_directives.specs.Lines.{first_run, blank_len}
 
@@ -18,7 +19,9 @@ first_run-stop B i h = first_run-here (drop i B) h
 
 pub first_run-more : (B : Block) (i : ℕ) → i < length B → is_blank (front_text (drop i B)) ≡ false → first_run (drop i B) ≡ front_text (drop i B) ∷ first_run (drop (i + 1) B)
 first_run-more [] i below h = absurd (omega arith)
-first_run-more (l ∷ ls) zero below h = rw h refl
+first_run-more (l ∷ ls) zero below h =
+    let one : 1 + prefix_len (λ (m : Line). not (is_blank m.text)) ls ≡ suc (prefix_len (λ (m : Line). not (is_blank m.text)) ls) = omega arith in
+    rw h (ap (λ n. map (λ (m : Line). m.text) (take n (l ∷ ls))) one)
 first_run-more (l ∷ ls) (suc i) below h = let e : suc i + 1 ≡ suc (i + 1) = omega arith in rw e (first_run-more ls i (omega arith) h)
 
 pub first_run-end : (B : Block) (i : ℕ) → length B ≤ i → first_run (drop i B) ≡ []

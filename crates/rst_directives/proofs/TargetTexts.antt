@@ -3,7 +3,8 @@ use Rattle.std.proofs.Common.{◌≡◌, ℕ, Bool, true, false, cond, ◌&&◌,
 use Rattle.std.specs.List.{join_with_byte}
 use Rattle.rst_text.proofs.PlacesLemmas.{cases_bool}
 use Rattle.rst_text.specs.Lines.{onto_first}
-use Rattle.rst_directives.specs.Target.{lines_in, unindented, filled, target_text}
+use Rattle.rst_directives.specs.Characters.{unindented}
+use Rattle.rst_directives.specs.Target.{lines_in, filled, target_text}
 
 -- what the characters that are left give: `begun` says that a character was written, `fresh` that the line has had nothing
 -- but spaces, `due` that a line feed comes before the next character

@@ -2,10 +2,10 @@
 use Rattle.std.specs.Prelude.{List, [], ◌∷◌, Result, Ok, Err, if◌then◌else◌}
 use Rattle.rst_text.specs.Names.{normalized_white}
 use Rattle.rst_text.specs.Text.{chars_of}
-use Rattle.rst_directives.specs.Characters.{Text, has_character}
+use Rattle.rst_pieces.specs.Characters.{is_among, without_white}
+use Rattle.rst_directives.specs.Characters.{Text}
 use Rattle.rst_directives.specs.Name.{takes}
 use Rattle.rst_directives.specs.Options.{joined}
-use Rattle.rst_directives.specs.Target.{without_white}
 use Rattle.rst_directives.specs.Wrong.{Wrong, no_argument, many_arguments, wrong_in}
 use Rattle.rst_directives.specs.declared.argument.Argument.{Argument}
 use Rattle.rst_directives.specs.declared.argument.Argument.TheVariants.{Absent, Title, Uri, Language}
@@ -23,8 +23,8 @@ pub data Given : Type 0 where
   language : Text → Given
 
 -- lines joined by line feeds
-abbrev pub text_in : List Text → Text
-text_in ts = joined [] ts 0
+abbrev pub joined_lines : List Text → Text
+joined_lines ts = joined [] ts 0
 
 -- a title, some lines
 abbrev pub title_of : List Text → Part → Result Given Wrong
@@ -34,16 +34,16 @@ title_of (t ∷ ts) part = Ok (title part)
 -- a URI, without white characters
 abbrev pub uri_of : List Text → Result Given Wrong
 uri_of [] = Err no_argument
-uri_of (t ∷ ts) = Ok (uri (without_white (text_in (t ∷ ts))))
+uri_of (t ∷ ts) = Ok (uri (without_white (joined_lines (t ∷ ts))))
 
 -- one word, of a text whose runs of white are one space each: a space in it parts two words
 unfoldable pub word_of : Text → Result Given Wrong
-word_of words = if has_character 32 words then Err many_arguments else Ok (language words)
+word_of words = if is_among words 32 then Err many_arguments else Ok (language words)
 
 -- a language, one word, or none
 abbrev pub language_of : List Text → Result Given Wrong
 language_of [] = Ok nothing
-language_of (t ∷ ts) = word_of (normalized_white (text_in (t ∷ ts)))
+language_of (t ∷ ts) = word_of (normalized_white (joined_lines (t ∷ ts)))
 
 -- the argument of a directive that takes nothing, a title, a URI or a language
 abbrev pub argument_by : Takes → List Text → Part → Result Given Wrong

@@ -2,7 +2,7 @@
 use Rattle.std.specs.Prelude.{ℕ, ◌+◌, Bool, ◌&&◌, ◌==◌, drop, slice_range, Option, if◌then◌else◌}
 use Rattle.rst_text.specs.Block.{Block, front_text}
 use Rattle.rst_directives.specs.Characters.{Text}
-use Rattle.rst_directives.specs.Name.{name_of}
+use Rattle.rst_directives.specs.Name.{directive_named}
 use Rattle.rst_directives.specs.declared.argument.Argument.{Argument}
 use Rattle.rst_directives.specs.declared.argument.Argument.TheVariants.{Title}
 use Rattle.rst_directives.specs.declared.found.Content.{Content}
@@ -18,9 +18,9 @@ use Rattle.rst_markup.specs.declared.part.Part.{Part}
 abbrev pub name_text : Block → ℕ → Invocation → Text
 name_text B at call = slice_range (front_text (drop at B)) call.name.from call.name.to
 
--- the directive that is called, where those for program code are some or none
+-- the directive that is called; `code` says whether the one for program code is among them
 abbrev pub called_at : Bool → Block → ℕ → Invocation → Option Name
-called_at code B at call = name_of (name_text B at call) code
+called_at code B at call = directive_named (name_text B at call) code
 
 -- how many characters the line at this place of a block loses, which may be another number for the first line
 abbrev pub first_cut : Part → ℕ → ℕ

@@ -1,9 +1,9 @@
 -- Characters and words, the words without regard to case where directives and options are named (Markup Specification,
 -- 'Directives').
-use Rattle.std.specs.Prelude.{ℕ, Bool, ◌==◌, List, map, find, Option, option_map}
+use Rattle.std.specs.Prelude.{ℕ, Bool, List, map, drop, find, Option, option_map}
 use Rattle.std.specs.Char.{to_ascii_lowercase}
-use Rattle.std.specs.List.{list_any}
 use Rattle.std.specs.Str.{bytes_eq}
+use Rattle.rst_text.specs.Block.{indentation}
 -- a text: the list of its characters
 pub use Rattle.rst_pieces.specs.Characters.{Text}
 use Rattle.rst_marks.specs.Class.{run}
@@ -12,6 +12,10 @@ use Rattle.rst_marks.specs.declared.class.Class.TheVariants.{Digit}
 -- how many digits a text begins with
 abbrev pub digits : Text → ℕ
 digits t = run Digit t
+
+-- a text without the spaces that it begins with
+abbrev pub unindented : Text → Text
+unindented t = drop (indentation t) t
 
 -- A text is the word. What `bytes_eq` of the standard library compares here and below are lists of characters.
 unfoldable pub is_exactly : Text → List ℕ → Bool
@@ -24,10 +28,6 @@ is_word t word = bytes_eq (map to_ascii_lowercase t) word
 -- the texts are the same without regard to the case of letters of ASCII
 unfoldable pub is_same_word : Text → Text → Bool
 is_same_word t other = bytes_eq (map to_ascii_lowercase t) (map to_ascii_lowercase other)
-
--- the character is one of the text
-abbrev pub has_character : ℕ → Text → Bool
-has_character c t = list_any (λ d. d == c) t
 
 -- what a table has for the first of its words that passes
 abbrev pub lookup : {A : Type 0} → (Text → Bool) → List (Text × A) → Option A

@@ -1,6 +1,7 @@
 -- What a directive is: its name, argument, options and content, or what is wrong with it (Markup Specification,
 -- 'Directives'; the sections of Directives stand in Name, Judgement and Value).
-use Rattle.std.specs.Prelude.{ℕ, ◌-◌, Bool, true, false, ◌&&◌, nat_lt, List, [], take, drop, length, Option, Some, None, Result, Ok, Err, ok_or, if◌then◌else◌}
+use Rattle.std.specs.Prelude.{ℕ, ◌-◌, Bool, true, false, ◌&&◌, nat_lt, List, [], take, drop, length, option_map, Result, Ok, Err, ok_or, if◌then◌else◌}
+use Rattle.std.specs.Result.{result_map_both}
 use Rattle.rst_text.specs.Block.{Block, cut}
 use Rattle.rst_directives.specs.Argument.{Given, given_in, argument_of}
 use Rattle.rst_directives.specs.Call.{called_at, part_of, content_of, is_empty}
@@ -9,10 +10,9 @@ use Rattle.rst_directives.specs.Judgement.{permitted, content_fault}
 use Rattle.rst_directives.specs.Layout.{layout_of}
 use Rattle.rst_directives.specs.Lines.{first_run}
 use Rattle.rst_directives.specs.Options.{fields_in, Choice, choices_in, settings_in}
-use Rattle.rst_directives.specs.Wrong.{Wrong, Fault, and_then, option_block, inside, wrong_in, fault_in}
+use Rattle.rst_directives.specs.Wrong.{Wrong, Fault, and_then, unless, option_block, inside, wrong_in, fault_in}
 use Rattle.rst_directives.specs.declared.calls.Reading.{Reading}
 use Rattle.rst_directives.specs.declared.fault.Detail.{Detail}
-use Rattle.rst_directives.specs.declared.fault.DirectiveFault.{DirectiveFault}
 use Rattle.rst_directives.specs.declared.found.Content.{Content}
 use Rattle.rst_directives.specs.declared.found.Directive.{Directive}
 use Rattle.rst_directives.specs.declared.found.Directive.TheVariants.{Found as FoundDirective, Wrong as WrongDirective}
@@ -70,35 +70,41 @@ pub data Outcome : Type 0 where
   found : Read → Outcome
   wrong : Fault → Part → Outcome
 
--- a directive, unless its content has a fault
-abbrev pub found_unless : Read → Part → Option DirectiveFault → Outcome
-found_unless read source (Some fault) = wrong (fault_in fault) source
-found_unless read source None = found read
-
--- a directive with its content judged, or what is wrong inside it
-abbrev pub judged : Place → Bool → Part → Result Read Wrong → Outcome
-judged place paragraph source (Ok read) = found_unless read source (content_fault read.name (is_empty read.content) place paragraph)
-judged place paragraph source (Err w) = wrong (inside w) source
+-- what is said of a directive that stands in these lines
+abbrev pub outcome_at : Part → Result Read Fault → Outcome
+outcome_at source (Ok read) = found read
+outcome_at source (Err fault) = wrong fault source
 
 -- the lines that a directive stands in
-abbrev pub source_of : ℕ → Part → Part
-source_of at block = record { from = at; to = block.to; first_cut = 0; rest_cut = 0 }
+abbrev pub lines_at : ℕ → Part → Part
+lines_at at block = record { from = at; to = block.to; first_cut = 0; rest_cut = 0 }
 
 -- a block begins behind the line after the directive's
 abbrev pub is_late : ℕ → Part → Bool
 is_late at block = nat_lt at block.from && nat_lt 1 (block.from - at)
 
--- a directive of a name that may stand there, by its block; or the fault of the name
-abbrev pub directive_by : Block → ℕ → Part → Place → Bool → Result Name DirectiveFault → Outcome
-directive_by B at block place paragraph (Ok name) =
-    judged place paragraph (source_of at block) (read_block name (is_late at block) block (cut B block.from block.to block.first_cut block.rest_cut))
-directive_by B at block place paragraph (Err fault) = wrong (fault_in fault) (source_of at block)
+-- what a block holds; what is wrong with it is wrong inside its directive
+abbrev pub of_block : Result Read Wrong → Result Read Fault
+of_block read = result_map_both (λ read. read) inside read
+
+-- a directive of this name, by its block
+abbrev pub read_at : Block → ℕ → Part → Name → Result Read Fault
+read_at B at block name = of_block (read_block name (is_late at block) block (cut B block.from block.to block.first_cut block.rest_cut))
+
+-- a directive, unless its content has a fault
+abbrev pub judged : Place → Bool → Read → Result Read Fault
+judged place paragraph read = unless (option_map fault_in (content_fault read.name (is_empty read.content) place paragraph)) (Ok read)
+
+-- the name of a directive that may stand there, or the fault of the name
+abbrev pub named_at : Bool → Block → ℕ → Invocation → Place → Result Name Fault
+named_at code B at call place = result_map_both (λ name. name) fault_in (permitted (called_at code B at call) place)
 
 -- What the directive is that is called in the line at a place of a block; `code` tells whether those for program code are
 -- directives, and `paragraph` whether its own block is a single paragraph. The faults are looked for in this order: of its
 -- name, of its options, of its argument, of its content.
 unfoldable pub directive_at : Bool → Block → ℕ → Invocation → Place → Bool → Outcome
-directive_at code B at call place paragraph = directive_by B at call.block place paragraph (permitted (called_at code B at call) place)
+directive_at code B at call place paragraph =
+    outcome_at (lines_at at call.block) (and_then (judged place paragraph) (and_then (read_at B at call.block) (named_at code B at call place)))
 
 -- ---- as it is kept
 

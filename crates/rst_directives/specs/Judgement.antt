@@ -43,9 +43,8 @@ unfoldable pub permitted : Option Name → Place → Result Name DirectiveFault
 permitted name place = permitted_by name (is_substitution place)
 
 -- The fault of a content by what the directive holds: a figure's is judged once its elements are read; where none is
--- permitted it has to be
--- empty, else not; a topic stands at the level of sections alone; a replacement text is a single paragraph and stands
--- in a substitution definition alone.
+-- permitted it has to be empty, else not; a topic stands at the level of sections alone; a replacement text is a single
+-- paragraph and stands in a substitution definition alone.
 abbrev pub fault_by : Holds → Name → Bool → Place → Bool → Option DirectiveFault
 fault_by Figure name empty place paragraph = None
 fault_by Nothing name empty place paragraph = if empty then None else Some (Inside ContentNotPermitted)

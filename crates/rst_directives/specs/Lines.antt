@@ -1,5 +1,5 @@
 -- The lines of a directive's block (Markup Specification, 'Directives').
-use Rattle.std.specs.Prelude.{ℕ, ◌+◌, List, [], ◌∷◌, map, drop, if◌then◌else◌}
+use Rattle.std.specs.Prelude.{ℕ, ◌+◌, not, List, map, drop, take_while}
 use Rattle.std.specs.declared.vec.Vec.{Vec}
 use Rattle.rst_text.specs.Block.{Block, is_blank}
 use Rattle.rst_markup.specs.Lines.{lines_while}
@@ -12,13 +12,12 @@ texts_of vectors = map (λ v. v.items) vectors
 
 -- the texts of the lines before the first blank one
 abbrev pub first_run : Block → List Text
-first_run [] = []
-first_run (l ∷ ls) = if is_blank l.text then [] else l.text ∷ first_run ls
+first_run X = map (λ l. l.text) (take_while (λ l. not (is_blank l.text)) X)
 
 -- how many blank lines a block begins with
 abbrev pub blank_len : Block → ℕ
 blank_len X = lines_while Blank X
 
 -- the place of the first line from this one on that isn't blank
-abbrev pub past_blank : Block → ℕ → ℕ
-past_blank H from = from + blank_len (drop from H)
+abbrev pub behind_blank : Block → ℕ → ℕ
+behind_blank H from = from + blank_len (drop from H)

@@ -4,7 +4,7 @@ use Rattle.std.specs.List.{list_any}
 use Rattle.rst_text.specs.Block.{indentation, is_blank}
 use Rattle.rst_pieces.specs.Characters.{has}
 use Rattle.rst_marks.specs.Decimal.{number_of}
-use Rattle.rst_directives.specs.Characters.{Text, digits, is_exactly, lookup}
+use Rattle.rst_directives.specs.Characters.{Text, digits, unindented, is_exactly, lookup}
 use Rattle.rst_directives.specs.declared.measure.Measure.{Measure}
 use Rattle.rst_directives.specs.declared.measure.Alignment.{Alignment}
 use Rattle.rst_directives.specs.declared.measure.Alignment.TheVariants.{Top, Middle, Bottom, Left, Center, Right}
@@ -57,7 +57,7 @@ measure_of t percent wanted = option_map (λ parts. take parts.number t ++ unit_
 unfoldable pub scale_of : Text → Option ℕ
 scale_of t =
     if digits t == 0 || nat_lt 9 (digits t) then None
-    else if is_blank (drop (digits t) t) || is_exactly (drop (indentation (drop (digits t) t)) (drop (digits t) t)) (codes "%")
+    else if is_blank (drop (digits t) t) || is_exactly (unindented (drop (digits t) t)) (codes "%")
     then Some (number_of (digits t) t)
     else None
 

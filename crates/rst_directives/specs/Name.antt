@@ -40,9 +40,9 @@ admonition_of t = lookup (is_word t) admonitions
 unfoldable pub is_code : Text → Bool
 is_code t = list_any (is_word t) code_names
 
--- the directive that a text names, where the one for program code is some or none
-unfoldable pub name_of : Text → Bool → Option Name
-name_of t code = lookup (is_word t) (directives code)
+-- the directive that a text names; `code` says whether the one for program code is among them
+unfoldable pub directive_named : Text → Bool → Option Name
+directive_named t code = lookup (is_word t) (directives code)
 
 -- what a directive takes as its argument
 abbrev pub takes : Name → Takes

@@ -11,5 +11,5 @@ options =
     ∷ (codes "class", Class) ∷ (codes "name", Name) ∷ (codes "figwidth", FigureWidth) ∷ (codes "figclass", FigureClass) ∷ []
 
 -- the option that a text names
-unfoldable pub option_of : Text → Option OptionName
-option_of t = lookup (is_word t) options
+unfoldable pub option_named : Text → Option OptionName
+option_named t = lookup (is_word t) options

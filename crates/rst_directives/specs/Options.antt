@@ -1,6 +1,6 @@
 -- The options of a directive's block (Markup Specification, 'Directives', 'Field Lists').
-use Rattle.std.specs.Prelude.{ℕ, suc, min, Bool, false, not, List, [], ◌∷◌, map, take, drop, length, slice_range, Option, Some, option_map, option_and_then, ok_or, find, Result, Ok, Err, if◌then◌else◌}
-use Rattle.std.specs.List.{join_with_byte, list_any}
+use Rattle.std.specs.Prelude.{ℕ, min, Bool, false, not, List, [], ◌∷◌, map, take, drop, length, slice_range, Option, Some, option_map, option_and_then, ok_or, find, Result, Ok, Err, if◌then◌else◌}
+use Rattle.std.specs.List.{join_with_byte, list_any, prefix_len}
 use Rattle.std.specs.Option.{option_or, option_map_or}
 use Rattle.std.specs.declared.vec.Vec.{Vec}
 use Rattle.rst_text.specs.Block.{indentation}
@@ -9,7 +9,7 @@ use Rattle.rst_marks.specs.Field.{field_of}
 use Rattle.rst_marks.specs.Front.{begins_with}
 use Rattle.rst_directives.specs.Characters.{Text, is_same_word}
 use Rattle.rst_directives.specs.Name.{has_option}
-use Rattle.rst_directives.specs.OptionName.{option_of}
+use Rattle.rst_directives.specs.OptionName.{option_named}
 use Rattle.rst_directives.specs.Value.{Meaning, meaning_of, value_of}
 use Rattle.rst_directives.specs.Wrong.{Wrong, and_then, unless, unknown, duplicate, invalid, wrong_in}
 use Rattle.rst_directives.specs.declared.fault.Detail.{Detail}
@@ -20,8 +20,7 @@ use Rattle.rst_directives.specs.declared.options.Setting.{Setting}
 
 -- how many lines at the front begin with a space
 abbrev pub deep_len : List Text → ℕ
-deep_len [] = 0
-deep_len (t ∷ ts) = if begins_with 32 t then suc (deep_len ts) else 0
+deep_len ts = prefix_len (begins_with 32) ts
 
 -- the least indentation of lines, 0 where there are none
 abbrev pub least_indentation : List Text → ℕ
@@ -68,15 +67,15 @@ fields_in (t ∷ ts) = onto_fields (field_in t (take (deep_len ts) ts)) (fields_
 
 -- the directive has no option of this name
 abbrev pub is_unknown : Name → Text → Bool
-is_unknown directive name = not (option_map_or (has_option directive) (option_of name) false)
+is_unknown directive name = not (option_map_or (has_option directive) (option_named name) false)
 
 -- the name of the first field that names no option of the directive
 abbrev pub first_unknown : Name → List FieldText → Option Text
 first_unknown directive fs = option_map (λ f. f.0) (find (λ f. is_unknown directive f.0) fs)
 
--- one of the fields has this name
-abbrev pub is_among : Text → List FieldText → Bool
-is_among name fs = list_any (λ f. is_same_word f.0 name) fs
+-- the name is that of one of the fields
+abbrev pub is_field_name : Text → List FieldText → Bool
+is_field_name name fs = list_any (λ f. is_same_word f.0 name) fs
 
 -- the name of the first of some fields; where there is none it is empty
 abbrev pub front_name : List FieldText → Text
@@ -85,7 +84,7 @@ front_name (f ∷ fs) = f.0
 
 -- the field at the place has the name of one before it
 abbrev pub is_again : List FieldText → ℕ → Bool
-is_again fs i = is_among (front_name (drop i fs)) (take i fs)
+is_again fs i = is_field_name (front_name (drop i fs)) (take i fs)
 
 -- the name of the first field that one before it has
 abbrev pub first_again : List FieldText → Option Text
@@ -97,7 +96,7 @@ Choice = OptionName × Meaning
 
 -- what a field chooses, if there is such an option, and it can have the value
 abbrev pub choice_of : Name → FieldText → Option Choice
-choice_of directive f = option_and_then (λ option. option_map (λ meaning. (option, meaning)) (value_of directive option f.1)) (option_of f.0)
+choice_of directive f = option_and_then (λ option. option_map (λ meaning. (option, meaning)) (value_of directive option f.1)) (option_named f.0)
 
 -- a choice before others; without one the value of the option of this name is invalid
 abbrev pub onto_choices : Option Choice → Text → Result (List Choice) Wrong → Result (List Choice) Wrong

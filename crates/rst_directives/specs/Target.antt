@@ -1,14 +1,13 @@
 -- What the text of a target means (Markup Specification, 'Hyperlink Targets').
-use Rattle.std.specs.Prelude.{◌-◌, Bool, not, ◌&&◌, ◌==◌, nat_lt, nat_le, List, [], ◌∷◌, map, filter, take, drop, slice_range, length, Option, Some, None, if◌then◌else◌}
+use Rattle.std.specs.Prelude.{◌-◌, Bool, not, ◌&&◌, ◌==◌, nat_lt, nat_le, List, [], ◌∷◌, map, filter, take, slice_range, length, Option, Some, None, if◌then◌else◌}
 use Rattle.std.specs.List.{join_with_byte}
-use Rattle.rst_text.specs.Block.{indentation, is_blank}
+use Rattle.rst_text.specs.Block.{is_blank}
 use Rattle.rst_text.specs.Lines.{onto_first}
-use Rattle.rst_text.specs.Characters.{is_white}
 use Rattle.rst_text.specs.Text.{chars_of}
-use Rattle.rst_pieces.specs.Characters.{has, is_dark}
+use Rattle.rst_pieces.specs.Characters.{has, without_white, is_dark}
 use Rattle.rst_pieces.specs.Escapes.{unescaped}
 use Rattle.rst_pieces.specs.Names.{is_simple_name}
-use Rattle.rst_directives.specs.Characters.{Text}
+use Rattle.rst_directives.specs.Characters.{Text, unindented}
 use Rattle.rst_directives.specs.Escapes.{ends_escaping, has_bare_backquote}
 use Rattle.rst_directives.specs.declared.target.Target.{Target}
 use Rattle.rst_directives.specs.declared.target.Target.TheVariants.{Name, Uri}
@@ -19,10 +18,6 @@ use Rattle.rst_directives.specs.declared.target.Target.TheVariants.{Name, Uri}
 abbrev pub lines_in : Text → List Text
 lines_in [] = [] ∷ []
 lines_in (c ∷ cs) = if c == 10 then [] ∷ lines_in cs else onto_first c (lines_in cs)
-
--- a line without its indentation
-abbrev pub unindented : Text → Text
-unindented t = drop (indentation t) t
 
 -- the lines that aren't empty
 abbrev pub filled : List Text → List Text
@@ -59,10 +54,6 @@ is_phrase_reference t =
 pub data Destination : Type 0 where
   named : Text → Destination
   located : Text → Destination
-
--- the text without its white characters
-abbrev pub without_white : Text → Text
-without_white t = filter (λ c. not (is_white c)) t
 
 -- a URI, unless nothing is left of it
 abbrev pub located_if : Text → Option Destination

@@ -1,5 +1,6 @@
 -- What the values of options mean (Directives, 'Common Options', 'Image', 'Figure').
-use Rattle.std.specs.Prelude.{ℕ, suc, true, false, List, [], ◌∷◌, map, Option, Some, None, option_map, if◌then◌else◌}
+use Rattle.std.specs.Prelude.{ℕ, true, false, not, List, [], ◌∷◌, map, Option, Some, None, option_map, if◌then◌else◌}
+use Rattle.std.specs.List.{prefix_len}
 use Rattle.std.specs.declared.string.String.{String}
 use Rattle.rst_text.specs.Block.{is_blank}
 use Rattle.rst_text.specs.Characters.{is_white}
@@ -30,8 +31,7 @@ pub data Meaning : Type 0 where
 
 -- how many characters stand before the first white one
 abbrev pub word_len : Text → ℕ
-word_len [] = 0
-word_len (c ∷ cs) = if is_white c then 0 else suc (word_len cs)
+word_len t = prefix_len (λ c. not (is_white c)) t
 
 -- the ids of all words, where none is empty
 abbrev pub all_ids : List Text → Option (List Text)

@@ -19,12 +19,12 @@ pub data Wrong : Type 0 where
   not_one_paragraph : Wrong
 
 -- what the next step makes of a value, where nothing was wrong before it
-abbrev pub and_then : {A B : Type 0} → (A → Result B Wrong) → Result A Wrong → Result B Wrong
+abbrev pub and_then : {A B E : Type 0} → (A → Result B E) → Result A E → Result B E
 and_then next (Ok value) = next value
 and_then next (Err wrong) = Err wrong
 
 -- a value, unless something is wrong
-abbrev pub unless : {A : Type 0} → Option Wrong → Result A Wrong → Result A Wrong
+abbrev pub unless : {A E : Type 0} → Option E → Result A E → Result A E
 unless (Some wrong) value = Err wrong
 unless None value = value
 

@@ -7,10 +7,10 @@ ghost use Rattle.rst_directives.specs.Argument as arguments;
 ghost use Rattle.rst_directives.specs.Faults.{Gives};
 ghost use Rattle.rst_directives.specs.Call as spec;
 ghost use Rattle.rst_directives.specs.Directive as directives;
-ghost use Rattle.rst_directives.specs.Judgement as judgement;
 ghost use Rattle.rst_directives.specs.Layout as layouts;
 ghost use Rattle.rst_directives.specs.Lines.{texts_of};
 ghost use Rattle.rst_directives.specs.Options as choices;
+ghost use Rattle.rst_directives.specs.Wrong.{and_then};
 
 use super::argument::{Argument, argument_of};
 use super::fault::{Detail, DirectiveFault, MarkupFault};
@@ -79,7 +79,7 @@ pub fn directive(
 
 /// The lines that a directive at line `at` stands in.
 fn source_of(at: usize, block: Part) -> Part
-    ensures { result ≡ directives.source_of at block }
+    ensures { result ≡ directives.lines_at at block }
 {
     Part {
         from: at,
@@ -173,7 +173,7 @@ fn read_run(
     requires ordered { block.from ≤ block.to }
     requires run { length run.now ≤ block.to - block.from }
     requires rest { rest ≤ block.to - block.from }
-    ensures { Gives (λ reading. directives.reading_in reading ≡ directives.read_by name block (block.to - block.from) (texts_of run.now) (layouts.layout_at name (texts_of run.now) (length run.now) (block.to - block.from) rest)) result }
+    ensures { Gives (λ reading. directives.reading_in reading ≡ directives.read_by name block (block.to - block.from) (texts_of run.now) (layouts.layout_at name (texts_of run.now) (block.to - block.from) rest)) result }
 {
     let all = block.to - block.from;
     let layout = layout_of(name, run, all, rest);
@@ -290,7 +290,7 @@ fn judged(
     paragraph: bool,
     source: Part,
 ) -> Directive
-    ensures { directives.outcome_of result ≡ directives.judged place paragraph source (directives.reading_in reading) }
+    ensures { directives.outcome_of result ≡ directives.outcome_at source (and_then (directives.judged place paragraph) (directives.of_block (directives.reading_in reading))) }
 {
     match reading {
         Ok(reading) => by_content(reading, place, paragraph, source),
@@ -303,7 +303,7 @@ fn judged(
 
 /// A directive whose options and argument are right, judged by its content.
 fn by_content(reading: Reading, place: Place, paragraph: bool, source: Part) -> Directive
-    ensures { directives.outcome_of result ≡ directives.found_unless (directives.read_in reading) source (judgement.content_fault reading.name (spec.is_empty reading.content) place paragraph) }
+    ensures { directives.outcome_of result ≡ directives.outcome_at source (directives.judged place paragraph (directives.read_in reading)) }
 {
     match content_fault(reading.name, is_empty(reading.content), place, paragraph) {
         Some(fault) => Directive::Wrong { fault, source },

@@ -3,6 +3,7 @@ ghost use Rattle.std.specs.Prelude.{◌≡◌, ◌≤◌, IfOk, drop, length};
 ghost use Rattle.std.specs.Str.{chars};
 ghost use Rattle.rst_text.specs.Block.{indentation, is_blank};
 ghost use Rattle.rst_text.specs.Text.{chars_of};
+ghost use Rattle.rst_pieces.specs.Characters.{is_among};
 ghost use Rattle.rst_marks.specs.Class.{is_in};
 ghost use Rattle.rst_marks.specs.declared.class.Class.TheVariants.{Digit};
 ghost use Rattle.rst_directives.specs.Characters as spec;
@@ -107,10 +108,10 @@ pub(crate) fn text_from(alloc: Global, characters: &[char]) -> Result<String, Al
 
 /// Whether a text has a character.
 pub(crate) fn has_character(text: &[char], character: char) -> bool
-    ensures { result ≡ spec.has_character character text.now }
+    ensures { result ≡ is_among text.now character }
 {
     for c in text {
-        if *c == character {
+        if character == *c {
             return true;
         }
     }

@@ -30,61 +30,67 @@ fn before_field(run: &[Vec<char>]) -> usize
     run.len()
 }
 
-/// The parts of a block of `all` lines: those of its first run, up to a blank line, and `rest`, the place of the first
-/// line behind it that isn't blank.
+/// The parts of a block of `all` lines that begins with this run, up to a blank line; `rest` is the place of the first line
+/// behind the run that isn't blank.
 #[tactic(auto, unfolding(crate::specs::Layout::layout_at))]
 pub(crate) fn layout_of(name: Name, run: &[Vec<char>], all: usize, rest: usize) -> Layout
-    ensures value { result ≡ spec.layout_at name (texts_of run.now) (length run.now) all rest }
+    ensures value { result ≡ spec.layout_at name (texts_of run.now) all rest }
     ensures argument { result.argument ≤ length run.now }
     ensures options { result.options ≤ length run.now }
     ensures first { length run.now ≤ all → result.first ≤ all }
     ensures second { rest ≤ all → result.second ≤ all }
 {
-    match name.holds() {
-        Holds::Paragraph => undivided(run.len(), all),
-        _ => divided(name, before_field(run), run.len(), all, rest),
+    match (name.holds(), name.takes()) {
+        (Holds::Paragraph, _) => content_alone(run, all),
+        (_, Takes::Nothing) => parts_without_argument(run, all, rest),
+        _ => parts_with_argument(run, rest),
     }
 }
 
-/// The parts of a block of `all` lines with a run of `len` lines, of which `from` stand before the first field.
-fn divided(name: Name, from: usize, len: usize, all: usize, rest: usize) -> Layout
-    requires { from ≤ len }
-    ensures value { result ≡ spec.divided name from len all rest }
-    ensures argument { result.argument ≤ len }
-    ensures options { result.options ≤ len }
-    ensures first { len ≤ all → result.first ≤ all }
-    ensures second { rest ≤ all → result.second ≤ all }
-{
-    match name.takes() {
-        Takes::Nothing => {
-            if from == len {
-                undivided(len, all)
-            } else {
-                Layout {
-                    argument: 0,
-                    first: from,
-                    options: from,
-                    second: rest,
-                }
-            }
-        }
-        _ => Layout {
-            argument: from,
-            first: 0,
-            options: from,
-            second: rest,
-        },
-    }
-}
-
-/// A block that is all content.
-fn undivided(len: usize, all: usize) -> Layout
-    ensures { result ≡ spec.undivided len all }
+/// A block that is content alone.
+#[tactic(auto, using(crate::proofs::FieldLemmas::length_texts))]
+fn content_alone(run: &[Vec<char>], all: usize) -> Layout
+    ensures value { result ≡ spec.content_alone (texts_of run.now) all }
+    ensures options { result.options ≡ length run.now }
 {
     Layout {
         argument: 0,
         first: all,
-        options: len,
+        options: run.len(),
         second: all,
+    }
+}
+
+/// A block whose argument ends where the options begin.
+fn parts_with_argument(run: &[Vec<char>], rest: usize) -> Layout
+    ensures value { result ≡ spec.parts_with_argument (texts_of run.now) rest }
+    ensures argument { result.argument ≤ length run.now }
+{
+    let from = before_field(run);
+    Layout {
+        argument: from,
+        first: 0,
+        options: from,
+        second: rest,
+    }
+}
+
+/// A block without an argument, whose lines before the options are content.
+#[tactic(auto, using(crate::proofs::FieldLemmas::length_texts))]
+fn parts_without_argument(run: &[Vec<char>], all: usize, rest: usize) -> Layout
+    ensures value { result ≡ spec.parts_without_argument (texts_of run.now) all rest }
+    ensures options { result.options ≤ length run.now }
+    ensures first { length run.now ≤ all → result.first ≤ all }
+    ensures second { rest ≤ all → result.second ≤ all }
+{
+    let from = before_field(run);
+    if from == run.len() {
+        return content_alone(run, all);
+    }
+    Layout {
+        argument: 0,
+        first: from,
+        options: from,
+        second: rest,
     }
 }

@@ -60,7 +60,7 @@ pub(crate) fn run_of(
 pub(crate) fn past_blank(lines: &View<'_>, from: usize, looks: &mut Looks) -> usize
     requires inside { from ≤ length (block_of lines.now) }
     requires few { looks.old + length (block_of lines.now) < 2 ^ 121 }
-    ensures value { result ≡ spec.past_blank (block_of lines.now) from }
+    ensures value { result ≡ spec.behind_blank (block_of lines.now) from }
     ensures within { result ≤ length (block_of lines.now) }
     ensures looks { looks.new ≤ looks.old + length (block_of lines.now) }
 {

@@ -1,6 +1,6 @@
 //! Measures, scales and alignments.
 ghost use Rattle.std.specs.Prelude.{◌≡◌, ◌+◌, ◌*◌, ◌<◌, ◌≤◌, ◌^◌, length, IfSome, IfOk, option_map};
-ghost use Rattle.rst_marks.specs.Decimal.{spelled};
+ghost use Rattle.rst_marks.specs.Decimal.{decimal};
 ghost use Rattle.rst_directives.specs.Measure as spec;
 
 use super::characters::{digits, is_exactly, spaces};
@@ -105,7 +105,7 @@ pub(crate) fn measure_of(
 #[tactic(auto, using(crate::proofs::Numbers::number_is))]
 fn number_of(text: &[char]) -> u64
     requires { length text.now ≤ 9 }
-    ensures { result ≡ spelled text.now }
+    ensures { result ≡ decimal text.now }
 {
     let mut number = 0;
     for c in text {

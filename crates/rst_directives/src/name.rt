@@ -50,9 +50,9 @@ pub(crate) enum Holds {
 impl Name {
     /// The directive that a text names, without regard to the case of letters of ASCII. Where `code` is false, those
     /// for program code are none.
-    #[tactic(auto, using(crate::proofs::Tables::code_or_admonition), unfolding(crate::specs::Name::name_of))]
+    #[tactic(auto, using(crate::proofs::Tables::code_or_admonition), unfolding(crate::specs::Name::directive_named))]
     pub fn of(text: &[char], code: bool) -> Option<Name>
-        ensures { result ≡ spec.name_of text.now code }
+        ensures { result ≡ spec.directive_named text.now code }
     {
         if is_word(text, "admonition") {
             Some(Name::Admonition)

@@ -21,9 +21,9 @@ pub enum OptionName {
 
 impl OptionName {
     /// The option that a text names, without regard to the case of letters of ASCII.
-    #[tactic(auto, unfolding(crate::specs::OptionName::option_of))]
+    #[tactic(auto, unfolding(crate::specs::OptionName::option_named))]
     pub fn of(text: &[char]) -> Option<OptionName>
-        ensures { result ≡ spec.option_of text.now }
+        ensures { result ≡ spec.option_named text.now }
     {
         if is_word(text, "alt") {
             Some(OptionName::Alt)

@@ -131,9 +131,9 @@ fn is_unknown(directive: Name, field: &Field) -> bool
     }
 }
 
-/// Whether one of some fields has a name.
-fn is_among(name: &[char], fields: &[Field]) -> bool
-    ensures { result ≡ spec.is_among name.now (spec.field_texts fields.now) }
+/// Whether a name is that of one of some fields.
+fn is_field_name(name: &[char], fields: &[Field]) -> bool
+    ensures { result ≡ spec.is_field_name name.now (spec.field_texts fields.now) }
 {
     for field in fields {
         if is_same_word(&field.name, name) {
@@ -160,7 +160,7 @@ fn first_again(fields: &[Field]) -> Option<&[char]>
     ensures { option_map (λ name. name.now) result ≡ spec.first_again (spec.field_texts fields.now) }
 {
     for i in 0..fields.len() {
-        if is_among(&fields[i].name, &fields[..i]) {
+        if is_field_name(&fields[i].name, &fields[..i]) {
             return Some(fields[i].name.as_slice());
         }
     }

@@ -2,6 +2,7 @@
 ghost use Rattle.std.specs.Prelude.{◌≡◌, ◌+◌, ◌<◌, ◌≤◌, ◌&&◌, ◌==◌, not, IfOk, IsTrue, Some, option_map, length};
 ghost use Rattle.std.specs.Str.{chars};
 ghost use Rattle.rst_directives.specs.Faults.{Gives};
+ghost use Rattle.rst_pieces.specs.Characters.{without_white};
 ghost use Rattle.rst_pieces.specs.Escapes.{unescaped};
 ghost use Rattle.rst_directives.specs.Escapes as escapes;
 ghost use Rattle.rst_directives.specs.Target as spec;
@@ -63,7 +64,7 @@ fn named_by_phrase(alloc: Global, phrase: &[char]) -> Result<Option<Target>, Mar
 }
 
 fn located(alloc: Global, text: &[char]) -> Result<Option<Target>, MarkupFault>
-    ensures { Gives (λ target. option_map spec.destination_of target ≡ spec.located_if (spec.without_white (unescaped text.now))) result }
+    ensures { Gives (λ target. option_map spec.destination_of target ≡ spec.located_if (without_white (unescaped text.now))) result }
 {
     let bare = unescaped(alloc, text)?;
     let uri = without_white(alloc, &bare)?;
@@ -175,7 +176,7 @@ fn has_bare_backquote(text: &[char]) -> bool
 
 /// A text without its white characters.
 pub(crate) fn without_white(alloc: Global, text: &[char]) -> Result<Vec<char>, AllocError>
-    ensures { IfOk result (λ dark. dark.items ≡ spec.without_white text.now) }
+    ensures { IfOk result (λ dark. dark.items ≡ without_white text.now) }
 {
     let mut dark = Vec::new(alloc);
     for c in text {

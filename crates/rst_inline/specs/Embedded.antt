@@ -1,8 +1,8 @@
 -- Embedded URIs and aliases (Markup Specification, 'Embedded URIs and Aliases').
-use Rattle.std.specs.Prelude.{ℕ, ◌+◌, ◌-◌, Bool, not, ◌&&◌, ◌||◌, ◌==◌, nat_lt, Option, None, Some, slice_index, length, filter, unwrap_or, if◌then◌else◌}
+use Rattle.std.specs.Prelude.{ℕ, ◌+◌, ◌-◌, Bool, not, ◌&&◌, ◌||◌, ◌==◌, nat_lt, Option, None, Some, slice_index, length, unwrap_or, if◌then◌else◌}
 use Rattle.rst_text.specs.Characters.{is_white}
 use Rattle.rst_text.specs.Places.{last_from}
-use Rattle.rst_pieces.specs.Characters.{Text, has, is_dark}
+use Rattle.rst_pieces.specs.Characters.{Text, has, without_white, is_dark}
 use Rattle.rst_pieces.specs.Escapes.{is_escaped, unescaped}
 use Rattle.rst_inline.specs.Parts.{part}
 
@@ -46,13 +46,9 @@ enclosed t k = part t (k + 1) (length t - 1)
 unfoldable pub is_alias : Text → Bool
 is_alias u = nat_lt 1 (length u) && ends_with u 95
 
--- a character that is not white
-abbrev pub is_black : ℕ → Bool
-is_black c = not (is_white c)
-
 -- what an embedded URI or alias refers to: the alias without its underscore, or the URI without white; both without escapes
 abbrev pub meant : Text → Text
-meant u = if is_alias u then unescaped (part u 0 (length u - 1)) else filter is_black (unescaped u)
+meant u = if is_alias u then unescaped (part u 0 (length u - 1)) else without_white (unescaped u)
 
 -- what is shown of the phrase: without white before the `<` and without escapes, or, where nothing stands before it, what it
 -- refers to

@@ -1,18 +1,13 @@
 //! Embedded URIs and aliases.
-ghost use Rattle.std.specs.Prelude.{◌≡◌, ◌<◌, ◌≤◌, length, filter, IfOk, IfSome, ◌&&◌, ◌==◌, not};
-ghost use Rattle.rst_inline.specs.Embedded.{ends_with, last_angle, fits_angle, embedded_at, dark_end, enclosed, is_alias, is_black, meant, shown_by};
+ghost use Rattle.std.specs.Prelude.{◌≡◌, ◌<◌, ◌≤◌, length, IfOk, IfSome, ◌&&◌, ◌==◌, not};
+ghost use Rattle.rst_pieces.specs.Characters.{without_white};
+ghost use Rattle.rst_inline.specs.Embedded.{ends_with, last_angle, fits_angle, embedded_at, dark_end, enclosed, is_alias, meant, shown_by};
 
 use super::fault::InlineFault;
 use super::texts::part;
 use rst_pieces::{escapes, has, is_dark, unescaped};
 use rst_text::is_white;
 use std::alloc::{AllocError, Global};
-
-fn is_black(c: char) -> bool
-    ensures { result ≡ is_black c }
-{
-    !is_white(c)
-}
 
 /// Whether the last character is this one, and not escaped.
 fn ends_with(text: &[char], c: char) -> bool
@@ -110,11 +105,11 @@ pub(crate) fn meant(alloc: Global, held: &[char]) -> Result<Vec<char>, AllocErro
 }
 
 fn without_white(alloc: Global, text: &[char]) -> Result<Vec<char>, AllocError>
-    ensures { IfOk result (λ black. black.items ≡ filter is_black text.now) }
+    ensures { IfOk result (λ black. black.items ≡ without_white text.now) }
 {
     let mut black = Vec::new(alloc);
     for c in text {
-        if is_black(*c) {
+        if !is_white(*c) {
             black.push(*c)?;
         }
     }

@@ -1,32 +1,14 @@
 -- An adornment is the run of its first character, if that is the whole line.
-use Rattle.std.proofs.Common.{◌≡◌, ℕ, suc, ◌==◌, ◌&&◌, Bool, true, false, cond, List, [], ◌∷◌, length, drop, Option, None, Some, refl, ap, ◌∙◌}
+use Rattle.std.proofs.Common.{◌≡◌, ℕ, suc, ◌==◌, ◌&&◌, Bool, true, false, cond, List, [], ◌∷◌, length, drop, Option, None, Some, refl, ◌∙◌}
 use Rattle.std.specs.List.{list_all}
-use Rattle.std.proofs.lemmas.Bool.{and_parts, eq-eqb}
+use Rattle.std.proofs.lemmas.Bool.{eq-eqb}
 use Rattle.rst_text.specs.Block.{is_blank}
 use Rattle.rst_marks.specs.Adornment.{is_punctuation, adornment_of}
 use Rattle.rst_marks.specs.Class.{is_in, run}
 use Rattle.rst_marks.specs.Front.{first}
 use Rattle.rst_marks.specs.declared.class.Class.TheVariants.{Only}
 use Rattle.rst_marks.specs.declared.adornment.Adornment.{Adornment}
-
--- the run of a character is the whole text just where each character of it is that one
-whole_run : (c : ℕ) (t : List ℕ) → is_blank (drop (run (Only c) t) t) ≡ list_all (λ d. d == c) t
-unfolding run is_in
-whole_run c [] = refl
-whole_run c (d ∷ ds) = by (d == c) (whole_run c ds)
-  where
-    by : (b : Bool) → is_blank (drop (run (Only c) ds) ds) ≡ list_all (λ d. d == c) ds
-        → is_blank (drop (cond b (suc (run (Only c) ds)) 0) (d ∷ ds)) ≡ (b && list_all (λ d. d == c) ds)
-    by true h = h
-    by false h = refl
-
-run_whole : (c : ℕ) (t : List ℕ) → list_all (λ d. d == c) t ≡ true → run (Only c) t ≡ length t
-unfolding run is_in
-run_whole c [] h = refl
-run_whole c (d ∷ ds) h =
-    let parts = and_parts (d == c) (list_all (λ e. e == c) ds) h in
-    let one : (d == c) ≡ true = parts.0 in
-    rw one (ap suc (run_whole c ds parts.1))
+use Rattle.rst_marks.proofs.Runs.{whole_run, run_whole}
 
 run_first : (c : ℕ) (cs : List ℕ) → run (Only c) (c ∷ cs) ≡ suc (run (Only c) cs)
 unfolding run is_in
@@ -42,7 +24,7 @@ run_adornment None t = None
 run_adornment (Some c) t = cond (is_punctuation c) (cond (is_blank (drop (run (Only c) t) t)) (adorned c (run (Only c) t)) None) None
 
 pub adornment_run : (t : List ℕ) → adornment_of t ≡ run_adornment (first t) t
-unfolding adornment_of
+unfolding adornment_of is_in
 adornment_run [] = refl
 adornment_run (c ∷ cs) = rw (run_first c cs) (by (is_punctuation c) (list_all (λ d. d == c) cs) refl)
   where
@@ -51,8 +33,8 @@ adornment_run (c ∷ cs) = rw (run_first c cs) (by (is_punctuation c) (list_all 
         ≡ cond p (cond (is_blank (drop (run (Only c) cs) cs)) (adorned c (suc (run (Only c) cs))) None) None
     by false q e = refl
     by true true e =
-        let blank : is_blank (drop (run (Only c) cs) cs) ≡ true = whole_run c cs ∙ e in
-        rw (blank, run_whole c cs e) refl
+        let blank : is_blank (drop (run (Only c) cs) cs) ≡ true = whole_run (Only c) cs ∙ e in
+        rw (blank, run_whole (Only c) cs e) refl
     by true false e =
-        let some : is_blank (drop (run (Only c) cs) cs) ≡ false = whole_run c cs ∙ e in
+        let some : is_blank (drop (run (Only c) cs) cs) ≡ false = whole_run (Only c) cs ∙ e in
         rw some refl

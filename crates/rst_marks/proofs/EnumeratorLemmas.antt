@@ -1,5 +1,5 @@
 -- A line that begins with a word has no enumerator.
-use Rattle.std.proofs.Common.{◌≡◌, ℕ, zero, suc, ◌-◌, sub-one, arith, ◌==◌, ◌&&◌, Bool, true, false, List, [], ◌∷◌, drop, Option, None, Some, refl, sym}
+use Rattle.std.proofs.Common.{◌≡◌, ℕ, zero, suc, ◌-◌, sub-one, arith, ◌==◌, ◌&&◌, Bool, true, false, List, [], ◌∷◌, take, drop, Option, None, Some, refl, sym}
 use Rattle.std.specs.Prelude.{nat_lt, not}
 use Rattle.std.proofs.lemmas.Bool.{eqb-true, ne_eqb, lt-ltb}
 use Rattle.std.proofs.Math.Dec.{eqb-suc-suc}
@@ -7,7 +7,7 @@ use Rattle.std.specs.Option.{option_and_then}
 use Rattle.rst_marks.specs.Front.{begins_with}
 use Rattle.rst_marks.specs.Class.{run}
 use Rattle.rst_marks.specs.Roman.{roman}
-use Rattle.rst_marks.specs.Enumerator.{case_of, digits, letters, letters_by, as_numeral, written_at, before_one, enumerator_of, begins_unnumbered}
+use Rattle.rst_marks.specs.Enumerator.{case_of, digits, letters, letters_by, as_numeral, written_at, before_one, enumerator_of, begins_no_enumerator}
 use Rattle.rst_marks.specs.declared.class.Class.TheVariants.{Digit, Letter}
 use Rattle.rst_marks.specs.declared.enumerator.Written.{Written}
 
@@ -34,7 +34,7 @@ letters_by_len c n t = by (n == 0) (n == 1) refl refl
     by : (a b : Bool) → (n == 0) ≡ a → (n == 1) ≡ b → has_len n (letters_by c n t)
     by true b e f = rw e tt
     by false true e f = rw (e, f) refl
-    by false false e f = rw (e, f) (numeral_len c n (roman (case_of c) n t))
+    by false false e f = rw (e, f) (numeral_len c n (roman (case_of c) (take n t)))
 
 letters_len : (t : List ℕ) → has_len (run Letter t) (letters t)
 unfolding letters
@@ -53,8 +53,8 @@ written_letters t h d = rw (h, d) refl
 zero_of : (n : ℕ) → (n == 0) ≡ true → n ≡ 0
 zero_of n h = eqb-true n 0 h
 
-pub word_none : (t : List ℕ) → begins_with 40 t ≡ false → begins_unnumbered t ≡ true → None ≡ enumerator_of t
-unfolding enumerator_of begins_unnumbered
+pub word_none : (t : List ℕ) → begins_with 40 t ≡ false → begins_no_enumerator t ≡ true → None ≡ enumerator_of t
+unfolding enumerator_of begins_no_enumerator
 word_none t p h =
     let a = and_true (not (begins_with 35 t)) (run Digit t == 0 && (not (begins_with 41 (drop (run Letter t) t)) && not (begins_with 46 (drop (run Letter t) t)))) h in
     let b = and_true (run Digit t == 0) (not (begins_with 41 (drop (run Letter t) t)) && not (begins_with 46 (drop (run Letter t) t))) a.1 in

@@ -1,7 +1,10 @@
 pub mod TextLemmas
 pub mod Runs
+pub mod BorderLemmas
 pub mod AdornmentLemmas
 pub mod SimpleNames
+pub mod LabelLemmas
+pub mod RomanLemmas
 pub mod Steps
 pub mod OptionLemmas
 pub mod PlacedLemmas

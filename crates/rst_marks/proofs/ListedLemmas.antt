@@ -6,7 +6,7 @@ use Rattle.std.specs.List.{filter}
 use Rattle.std.proofs.lemmas.List.{append-nil, append_assoc}
 use Rattle.std.proofs.lemmas.List.Elements.{All-nil, All-cons, All-head, All-tail, All-filter}
 use Rattle.rst_marks.specs.OptionMarker.{option_at, option_tail, argument_width, width_with, PlacedOption, moved, options_from}
-use Rattle.rst_marks.specs.Options.{options_in, is_right, listed, option_in, argument_in, IsOptionIn, AreOptionsIn}
+use Rattle.rst_marks.specs.Options.{options_in, may_follow_option, listed, option_in, argument_in, IsOptionIn, AreOptionsIn}
 use Rattle.rst_marks.specs.Place.{IsIn}
 use Rattle.rst_marks.specs.declared.marker.Marker.{Marker}
 use Rattle.rst_marks.specs.declared.option.Argument.{Argument}
@@ -56,7 +56,7 @@ option_within : (n before : ℕ) (o : OptionMark) → before + (o.string + argum
 option_within n before o h = ((omega arith, omega arith), argument_within n (before + o.string) o.argument (omega arith))
 
 listed_within : (n : ℕ) (os : List PlacedOption) → All (Fits n) os → All (λ o. IsOptionIn n o) (listed os)
-listed_within n os h = within_of n (filter (λ o. is_right o.tail) os) (All-filter (λ o. is_right o.tail) (Fits n) os h)
+listed_within n os h = within_of n (filter (λ o. may_follow_option o.tail) os) (All-filter (λ o. may_follow_option o.tail) (Fits n) os h)
   where
     within_of : (n : ℕ) (os : List PlacedOption) → All (Fits n) os → All (λ o. IsOptionIn n o) (map (λ o. option_in o.from o.mark) os)
     within_of n [] h = All-nil (λ o. IsOptionIn n o)

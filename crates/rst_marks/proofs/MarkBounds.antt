@@ -1,5 +1,5 @@
 -- Marks of explicit markup stand within their lines.
-use Rattle.std.proofs.Common.{◌≡◌, ℕ, ◌+◌, ◌≤◌, ◌==◌, Bool, true, false, not, cond, ◌&&◌, ◌||◌, List, length, drop, length-drop, Option, None, Some, arith, refl, ap}
+use Rattle.std.proofs.Common.{◌≡◌, ℕ, ◌+◌, ◌≤◌, ◌==◌, Bool, true, false, not, cond, ◌&&◌, ◌||◌, List, length, take, drop, length-drop, Option, None, Some, arith, refl, ap}
 use Rattle.std.specs.Option.{option_and_then}
 use Rattle.rst_text.specs.Block.{is_blank}
 use Rattle.rst_pieces.specs.Names.{simple_name}
@@ -64,7 +64,7 @@ unfolding label_of
 label_within t l h = by (begins_with 91 t) h
   where
     by : (b : Bool) → cond b (label_by (run Unbracketed (drop 1 t)) t) None ≡ Some l → (1 + l.len ≤ length t) × (l.marker.cut ≤ length t)
-    by true h = labelled_within (run Unbracketed (drop 1 t)) t (label_kind (run Unbracketed (drop 1 t)) (drop 1 t)) l (begins_with 93 (drop (run Unbracketed (drop 1 t)) (drop 1 t))) refl h
+    by true h = labelled_within (run Unbracketed (drop 1 t)) t (label_kind (take (run Unbracketed (drop 1 t)) (drop 1 t))) l (begins_with 93 (drop (run Unbracketed (drop 1 t)) (drop 1 t))) refl h
     by false h = cc
 
 -- ---- targets

@@ -2,7 +2,7 @@
 use Rattle.std.proofs.Common.{◌≡◌, ℕ, zero, suc, ◌+◌, ◌-◌, ◌*◌, ◌^◌, ◌<◌, ◌≤◌, List, [], ◌∷◌, drop, take, length, None, Some, arith, refl, sym, ap, ◌∙◌}
 use Rattle.std.proofs.Math.Nat.{pow-suc}
 use Rattle.rst_marks.specs.Front.{first}
-use Rattle.rst_marks.specs.Decimal.{digit, spelled}
+use Rattle.rst_marks.specs.Decimal.{digit, decimal}
 
 -- digits read behind a value
 unfoldable pub decimal_from : ℕ → ℕ → List ℕ → ℕ
@@ -14,15 +14,15 @@ one_on : (v d p q s : ℕ) → q ≡ p * 10 → (v * 10 + d) * p + s ≡ v * q +
 one_on v d p q s e = rw e (omega arith)
 
 -- they spell what they do by themselves, and the value stands before them
-behind_value : (v n : ℕ) (t : List ℕ) → decimal_from v n t ≡ v * 10 ^ length (take n t) + spelled (take n t)
-unfolding decimal_from spelled
+behind_value : (v n : ℕ) (t : List ℕ) → decimal_from v n t ≡ v * 10 ^ length (take n t) + decimal (take n t)
+unfolding decimal_from decimal
 behind_value v zero t = omega arith
 behind_value v (suc n) [] = omega arith
 behind_value v (suc n) (c ∷ cs) =
     behind_value (v * 10 + digit c) n cs
-    ∙ one_on v (digit c) (10 ^ length (take n cs)) (10 ^ suc (length (take n cs))) (spelled (take n cs)) (pow-suc 10 (length (take n cs)))
+    ∙ one_on v (digit c) (10 ^ length (take n cs)) (10 ^ suc (length (take n cs))) (decimal (take n cs)) (pow-suc 10 (length (take n cs)))
 
-pub decimal_is : (n : ℕ) (t : List ℕ) → decimal_from 0 n t ≡ spelled (take n t)
+pub decimal_is : (n : ℕ) (t : List ℕ) → decimal_from 0 n t ≡ decimal (take n t)
 decimal_is n t = omega (arith, behind_value 0 n t)
 
 step : (v m k : ℕ) (cs : List ℕ) (c total : ℕ) → first cs ≡ Some c → m ≡ suc k → decimal_from v m cs ≡ total → decimal_from (v * 10 + digit c) k (drop 1 cs) ≡ total

@@ -7,11 +7,11 @@ use Rattle.rst_marks.specs.declared.class.Class.TheVariants.{Digit}
 abbrev pub digit : ℕ → ℕ
 digit c = if is_in Digit c then c - 48 else 0
 
--- the number that digits spell: each counts ten times as much as it would one place further on
-unfoldable pub spelled : List ℕ → ℕ
-spelled [] = 0
-spelled (c ∷ cs) = digit c * 10 ^ length cs + spelled cs
+-- the number that digits are in decimal: each counts ten times as much as it would one place further on
+unfoldable pub decimal : List ℕ → ℕ
+decimal [] = 0
+decimal (c ∷ cs) = digit c * 10 ^ length cs + decimal cs
 
--- the number that the first n characters of a text spell
+-- the number that the first n characters of a text are
 abbrev pub number_of : ℕ → List ℕ → ℕ
-number_of n t = spelled (take n t)
+number_of n t = decimal (take n t)

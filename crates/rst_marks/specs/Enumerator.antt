@@ -1,5 +1,5 @@
 -- Enumerators (Markup Specification, 'Enumerated Lists').
-use Rattle.std.specs.Prelude.{ℕ, suc, ◌+◌, ◌-◌, Bool, true, false, ◌&&◌, ◌||◌, ◌==◌, nat_le, nat_lt, not, unwrap_or, List, drop, if◌then◌else◌, Option, None, Some}
+use Rattle.std.specs.Prelude.{ℕ, suc, ◌+◌, ◌-◌, Bool, true, false, ◌&&◌, ◌||◌, ◌==◌, nat_le, nat_lt, not, unwrap_or, List, take, drop, if◌then◌else◌, Option, None, Some}
 use Rattle.std.specs.Option.{option_and_then, option_map, option_or}
 use Rattle.rst_marks.specs.Front.{first, begins_with}
 use Rattle.rst_marks.specs.Class.{run}
@@ -45,8 +45,8 @@ as_numeral case n value = Some (record { ordinals = Letters case None (Some valu
 abbrev pub letters_by : ℕ → ℕ → List ℕ → Option Written
 letters_by c n t =
     if n == 0 then None
-    else if n == 1 then Some (record { ordinals = Letters (case_of c) (place_in_alphabet c) (roman (case_of c) n t); len = n })
-    else option_and_then (as_numeral (case_of c) n) (roman (case_of c) n t)
+    else if n == 1 then Some (record { ordinals = Letters (case_of c) (place_in_alphabet c) (roman (case_of c) (take n t)); len = n })
+    else option_and_then (as_numeral (case_of c) n) (roman (case_of c) (take n t))
 
 -- a single letter, which may be a Roman numeral as well, or a Roman numeral
 unfoldable pub letters : List ℕ → Option Written
@@ -56,9 +56,10 @@ letters t = option_and_then (λ c. letters_by c (run Letter t) t) (first t)
 unfoldable pub written_at : List ℕ → Option Written
 written_at t = if begins_with 35 t then Some (record { ordinals = Auto; len = 1 }) else option_or (digits t) (letters t)
 
--- neither `#` nor digits are at the front, and what ends an enumerator isn't behind the letters there
-unfoldable pub begins_unnumbered : List ℕ → Bool
-begins_unnumbered t = not (begins_with 35 t) && (run Digit t == 0 && (not (begins_with 41 (drop (run Letter t) t)) && not (begins_with 46 (drop (run Letter t) t))))
+-- Neither `x)` nor `x.` can stand at the front: neither `#` nor a digit begins the text, and neither `)` nor `.` is behind the
+-- letters there.
+unfoldable pub begins_no_enumerator : List ℕ → Bool
+begins_no_enumerator t = not (begins_with 35 t) && (run Digit t == 0 && (not (begins_with 41 (drop (run Letter t) t)) && not (begins_with 46 (drop (run Letter t) t))))
 
 -- an enumerator of this format with an ordinal that stands behind `from` characters and before one more, if spaces or the
 -- end are behind it

@@ -1,12 +1,13 @@
 -- Marks of explicit markup (Markup Specification, 'Explicit Markup Blocks', 'Footnotes', 'Citations', 'Hyperlink
 -- Targets', 'Directives', 'Substitution Definitions').
-use Rattle.std.specs.Prelude.{ℕ, ◌+◌, ◌-◌, Bool, false, not, ◌&&◌, ◌||◌, ◌==◌, List, [], ◌∷◌, drop, if◌then◌else◌, Option, None, Some}
+use Rattle.std.specs.Prelude.{ℕ, ◌+◌, Bool, false, not, ◌&&◌, ◌||◌, ◌==◌, List, [], ◌∷◌, take, drop, if◌then◌else◌, Option, None, Some}
+use Rattle.std.specs.List.{list_all}
 use Rattle.std.specs.Option.{option_and_then}
 use Rattle.rst_text.specs.Block.{is_blank}
 use Rattle.rst_text.specs.Characters.{is_white}
-use Rattle.rst_pieces.specs.Names.{simple_name}
+use Rattle.rst_pieces.specs.Names.{simple_name, is_simple_name}
 use Rattle.rst_marks.specs.Front.{begins_with}
-use Rattle.rst_marks.specs.Class.{run}
+use Rattle.rst_marks.specs.Class.{is_in, run}
 use Rattle.rst_marks.specs.Closing.{closed}
 use Rattle.rst_marks.specs.Marker.{marker_of}
 use Rattle.rst_marks.specs.declared.class.Class.TheVariants.{Digit, Unbracketed}
@@ -29,23 +30,23 @@ dots t = if begins_with 46 t && begins_with 46 (drop 1 t) then marker_of 2 t els
 unfoldable pub underscores : List ℕ → Option Marker
 underscores t = if begins_with 95 t && begins_with 95 (drop 1 t) then marker_of 2 t else None
 
--- what the first n characters label: digits, `*`, `#`, and `#` before a simple name a footnote, another simple name a citation
-unfoldable pub label_kind : ℕ → List ℕ → Option LabelKind
-label_kind n t =
-    if n == 0 then None
-    else if run Digit t == n then Some Footnote
-    else if begins_with 42 t && n == 1 then Some Footnote
-    else if begins_with 35 t && simple_name (drop 1 t) == n - 1 then Some Footnote
-    else if simple_name t == n then Some Citation
+-- what a label labels: digits, `*`, `#`, and `#` before a simple name a footnote, another simple name a citation
+unfoldable pub label_kind : List ℕ → Option LabelKind
+label_kind label =
+    if is_blank label then None
+    else if list_all (is_in Digit) label then Some Footnote
+    else if begins_with 42 label && is_blank (drop 1 label) then Some Footnote
+    else if begins_with 35 label && (is_blank (drop 1 label) || is_simple_name (drop 1 label)) then Some Footnote
+    else if is_simple_name label then Some Citation
     else None
 
 -- a label of this kind, of n characters between brackets, if spaces or the end are behind them
 abbrev pub labelled : ℕ → List ℕ → LabelKind → Option LabelMark
 labelled n t k = option_and_then (λ m. Some (record { kind = k; len = n; marker = m })) (marker_of (n + 2) t)
 
--- a label between brackets
+-- the label of n characters between brackets
 abbrev pub label_by : ℕ → List ℕ → Option LabelMark
-label_by n t = if begins_with 93 (drop n (drop 1 t)) then option_and_then (labelled n t) (label_kind n (drop 1 t)) else None
+label_by n t = if begins_with 93 (drop n (drop 1 t)) then option_and_then (labelled n t) (label_kind (take n (drop 1 t))) else None
 
 -- the label of a footnote or a citation: what stands between `[` and the first `]`
 unfoldable pub label_of : List ℕ → Option LabelMark
@@ -99,7 +100,7 @@ substitution_of t =
     if begins_with 124 t then (if is_blank (drop 1 t) || begins_white (drop 1 t) then None else spaced_bar t (closed SpacedBar (drop 1 t)))
     else None
 
--- two colons behind n characters, of which the first are a directive's name
+-- two colons behind n characters, of which the first `len` are a directive's name
 unfoldable pub colons : ℕ → ℕ → List ℕ → Option DirectiveMark
 colons len n t =
     if not (begins_with 58 (drop n t)) || not (begins_with 58 (drop (n + 1) t)) then None

@@ -19,14 +19,14 @@ argument_in before a = record { delimiter = a.delimiter; text = place_of (width_
 abbrev pub option_in : ℕ → OptionMark → ListedOption
 option_in before o = record { string = place_of before o.string; argument = option_map (argument_in (before + o.string)) o.argument }
 
--- a comma and a space, two or more spaces or the end follow an option
-abbrev pub is_right : OptionTail → Bool
-is_right Wrong = false
-is_right tail = true
+-- what stands behind an option may follow one: a comma and a space, two or more spaces, or the end
+abbrev pub may_follow_option : OptionTail → Bool
+may_follow_option Wrong = false
+may_follow_option tail = true
 
--- the options with one of these behind them, where they stand
+-- the options with such a thing behind them, by their places
 abbrev pub listed : List PlacedOption → List ListedOption
-listed os = map (λ o. option_in o.from o.mark) (filter (λ o. is_right o.tail) os)
+listed os = map (λ o. option_in o.from o.mark) (filter (λ o. may_follow_option o.tail) os)
 
 -- the options that a line begins with, each followed by a comma and a space, by two or more spaces or by the end
 abbrev pub options_in : List ℕ → List ListedOption

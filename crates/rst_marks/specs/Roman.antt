@@ -1,8 +1,8 @@
--- Roman numerals in their canonical form (Markup Specification, 'Enumerated Lists'): for thousands, hundreds, tens and
--- ones a digit each, written as 0 to 3 ones, as one before five, as five with 0 to 3 ones, or as one before ten. The
--- thousands are 0 to 4 of their letter.
-use Rattle.std.specs.Prelude.{ℕ, ◌+◌, ◌*◌, ◌&&◌, ◌==◌, nat_lt, List, drop, if◌then◌else◌, Option, None, Some}
-use Rattle.std.specs.Option.{option_and_then}
+-- Roman numerals in their canonical form (Markup Specification, 'Enumerated Lists'): a digit each for thousands, hundreds,
+-- tens and ones.
+use Rattle.std.specs.Prelude.{ℕ, ◌+◌, ◌-◌, ◌*◌, ◌/◌, ◌%◌, ◌&&◌, ◌==◌, nat_le, nat_lt, List, [], ◌∷◌, ◌++◌, replicate, drop, if◌then◌else◌, Option, None, Some}
+use Rattle.std.specs.Str.{bytes_eq}
+use Rattle.rst_text.specs.Places.{first_from}
 use Rattle.rst_marks.specs.Front.{begins_with}
 use Rattle.rst_marks.specs.Class.{run}
 use Rattle.rst_marks.specs.declared.class.Class.TheVariants.{Only}
@@ -26,6 +26,26 @@ abbrev pub ones : Case → RomanPlace
 ones Lower = record { one = 105; five = 118; ten = 120 }
 ones Upper = record { one = 73; five = 86; ten = 88 }
 
+-- the letters of a digit: 9 is one before ten and 4 is one before five, else there is a five where it is 5 or more, and ones
+abbrev pub digit_letters : RomanPlace → ℕ → List ℕ
+digit_letters place d =
+    if d == 9 then place.one ∷ place.ten ∷ []
+    else if d == 4 then place.one ∷ place.five ∷ []
+    else if nat_le 5 d then place.five ∷ replicate (d - 5) place.one
+    else replicate d place.one
+
+-- the numeral of a number: as many times the letter for a thousand as it has thousands, and its three last digits
+abbrev pub numeral_of : Case → ℕ → List ℕ
+numeral_of case n =
+    ((replicate (n / 1000) (hundreds case).ten ++ digit_letters (hundreds case) (n / 100 % 10))
+    ++ digit_letters (tens case) (n / 10 % 10)) ++ digit_letters (ones case) (n % 10)
+
+-- the value of letters: the number of which they are the numeral, up to 4999, if there is one
+unfoldable pub roman : Case → List ℕ → Option ℕ
+roman case letters = first_from (λ n. bytes_eq (numeral_of case n) letters) 0 5000
+
+-- ---- a digit at the front of a text
+
 -- a digit of a five or none, and 0 to 3 ones behind it
 abbrev pub with_ones : ℕ → ℕ → Option RomanDigit
 with_ones fives count = if nat_lt 3 count then None else Some (record { value = fives * 5 + count; len = fives + count })
@@ -40,21 +60,3 @@ digit_at place t =
     if begins_with place.one t && begins_with place.ten (drop 1 t) then Some (record { value = 9; len = 2 })
     else if begins_with place.one t && begins_with place.five (drop 1 t) then Some (record { value = 4; len = 2 })
     else with_ones (fives_at place t) (run (Only place.one) (drop (fives_at place t) t))
-
--- the value of a numeral of m thousands and these hundreds, tens and ones, if it has just n characters
-abbrev pub value_of : ℕ → ℕ → RomanDigit → RomanDigit → RomanDigit → Option ℕ
-value_of n m h x i = if m + h.len + x.len + i.len == n then Some (m * 1000 + h.value * 100 + x.value * 10 + i.value) else None
-
--- the same, with the ones that stand behind the tens
-abbrev pub with_ones_behind : Case → ℕ → List ℕ → ℕ → RomanDigit → RomanDigit → Option ℕ
-with_ones_behind case n t m h x = option_and_then (value_of n m h x) (digit_at (ones case) (drop (m + h.len + x.len) t))
-
--- the same, with the tens that stand behind the hundreds
-abbrev pub with_tens_behind : Case → ℕ → List ℕ → ℕ → RomanDigit → Option ℕ
-with_tens_behind case n t m h = option_and_then (with_ones_behind case n t m h) (digit_at (tens case) (drop (m + h.len) t))
-
--- the value of the numeral at the front of a text, if it has just n characters
-unfoldable pub roman : Case → ℕ → List ℕ → Option ℕ
-roman case n t =
-    let m = run (Only (hundreds case).ten) t in
-    if nat_lt 4 m then None else option_and_then (with_tens_behind case n t m) (digit_at (hundreds case) (drop m t))

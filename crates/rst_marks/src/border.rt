@@ -8,7 +8,7 @@ use super::text::{begins_with, is_blank};
 use rst_text::skip;
 
 /// Whether a line begins a grid table: `+-`, one or more of `-` and `+`, `-+`.
-#[tactic(auto, unfolding(crate::specs::Border::is_grid_border))]
+#[tactic(auto, using(crate::proofs::BorderLemmas::grid_run))]
 pub fn is_grid_border(text: &str) -> bool
     ensures { result ≡ spec.is_grid_border (chars text.now) }
 {
@@ -22,7 +22,7 @@ pub fn is_grid_border(text: &str) -> bool
 }
 
 /// Whether a line begins a simple table: two or more runs of `=` parted by spaces.
-#[tactic(auto, unfolding(crate::specs::Border::is_simple_border))]
+#[tactic(auto, using(crate::proofs::BorderLemmas::simple_run))]
 pub fn is_simple_border(text: &str) -> bool
     ensures { result ≡ spec.is_simple_border (chars text.now) }
 {

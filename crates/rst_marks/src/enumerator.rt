@@ -163,9 +163,9 @@ fn framed(format: Format, from: usize, written: Written, text: &str) -> Option<E
 }
 
 /// Whether neither `#` nor digits are at the front of a text, and what ends an enumerator isn't behind the letters there.
-#[tactic(auto, unfolding(crate::specs::Enumerator::begins_unnumbered))]
+#[tactic(auto, unfolding(crate::specs::Enumerator::begins_no_enumerator))]
 fn begins_word(text: &str) -> bool
-    ensures { result ≡ spec.begins_unnumbered (chars text.now) }
+    ensures { result ≡ spec.begins_no_enumerator (chars text.now) }
 {
     if begins_with('#', text) || run(Class::Digit, text) != 0 {
         return false;

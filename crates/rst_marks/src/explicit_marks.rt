@@ -1,10 +1,11 @@
 //! Marks of explicit markup: `..` and `__`, and what stands behind `..`.
-ghost use Rattle.std.specs.Prelude.{◌≡◌, ◌<◌, ◌≤◌, ◌-◌, ◌^◌, ◌&&◌, ◌||◌, length};
+ghost use Rattle.std.specs.Prelude.{◌≡◌, ◌<◌, ◌≤◌, ◌-◌, ◌^◌, ◌&&◌, ◌||◌, true, drop, take, length};
 ghost use Rattle.std.specs.Str.{chars};
 ghost use Rattle.rst_text.specs.Characters as characters;
 ghost use Rattle.rst_pieces.specs.Characters.{is_alnum_at};
 ghost use Rattle.rst_pieces.specs.Names as names;
 ghost use Rattle.rst_marks.specs.ExplicitMarks as spec;
+ghost use Rattle.rst_marks.specs.Front.{begins_with};
 
 use super::class::{Class, run};
 use super::closing::{Closing, closed};
@@ -91,11 +92,12 @@ pub struct LabelMark {
     pub marker: Marker,
 }
 
-/// What the first `len` characters of a text label: digits, `#`, `#` and a simple name, and `*` a footnote, another
-/// simple name a citation, all else nothing.
-#[tactic(auto, unfolding(crate::specs::ExplicitMarks::label_kind))]
+/// What the first `len` characters of a text label, which `]` stands behind: digits, `#`, `#` and a simple name, and `*` a
+/// footnote, another simple name a citation, all else nothing.
+#[tactic(auto, using(crate::proofs::LabelLemmas::kind_before))]
 fn label_kind(len: usize, text: &str) -> Option<LabelKind>
-    ensures { result ≡ spec.label_kind len (chars text.now) }
+    requires { begins_with 93 (drop len (chars text.now)) ≡ true }
+    ensures { result ≡ spec.label_kind (take len (chars text.now)) }
 {
     if len == 0 {
         return None;

@@ -1,6 +1,8 @@
 //! Roman numerals.
-ghost use Rattle.std.specs.Prelude.{◌≡◌, ◌≤◌, IfSome};
+ghost use Rattle.std.specs.Prelude.{◌≡◌, ◌≤◌, take, IfSome};
 ghost use Rattle.std.specs.Str.{chars};
+ghost use Rattle.rst_marks.specs.Class as classes;
+ghost use Rattle.rst_marks.specs.declared.class.Class.TheVariants.{Letter};
 ghost use Rattle.rst_marks.specs.Roman as spec;
 
 use super::class::{Class, run};
@@ -100,11 +102,12 @@ fn digit_at(place: RomanPlace, text: &str) -> Option<RomanDigit>
     })
 }
 
-/// The value of the Roman numeral at the front of a text, in its canonical form and at most 4999, if it has just `len`
-/// characters.
-#[tactic(auto, unfolding(crate::specs::Roman::roman))]
+/// The value of the letters at the front of a text, of which there are `len`, if they are a Roman numeral in its canonical
+/// form; that is at most 4999.
+#[tactic(auto, using(crate::proofs::RomanLemmas::roman_is))]
 pub fn roman(case: Case, len: usize, text: &str) -> Option<u64>
-    ensures { result ≡ spec.roman case len (chars text.now) }
+    requires { len ≡ classes.run Letter (chars text.now) }
+    ensures { result ≡ spec.roman case (take len (chars text.now)) }
 {
     let thousands = run(Class::Only(hundreds(case).ten), text);
     if 4 < thousands {

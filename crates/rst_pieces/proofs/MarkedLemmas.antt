@@ -7,7 +7,7 @@ use Rattle.std.specs.Option.{is_some, option_or}
 use Rattle.rst_pieces.specs.Characters.{Text, has, has_string, is_dark}
 use Rattle.rst_pieces.specs.Tails.{name_tail, role_tail, bare_tail}
 use Rattle.rst_pieces.specs.Names.{role_end}
-use Rattle.rst_pieces.specs.Marked.{start_string, end_string, start_len, end_len, has_start, has_end, has_escapes, start_of, starts, tail_of, ends, end_of, unended_piece, ended_piece, marked_piece, marked_from, marked}
+use Rattle.rst_pieces.specs.Marked.{start_string, end_string, start_len, end_len, has_start, has_end, has_escapes, start_of, starts, tail_of, ends, markup_end, unended_piece, ended_piece, marked_piece, marked_from, marked}
 use Rattle.rst_pieces.specs.Missing.{IsUnended}
 use Rattle.rst_pieces.specs.declared.piece.Markup.{Markup}
 use Rattle.rst_pieces.specs.declared.piece.Markup.TheVariants.{Strong, Emphasis, Literal, Target, Substitution, Interpreted}
@@ -114,9 +114,9 @@ unfolding starts
 starts-mark markup t i q h = (and_parts (has_start markup t q) _ h).0
 
 marked_from-fits : (markup : Markup) (t : Text) (i q : ℕ) → i ≤ q → Fit t i (marked_from markup t i q)
-unfolding end_of
-marked_from-fits markup t i q order = either (starts markup t i q) (Some (marked_piece markup t i q (end_of markup t i q))) None (Fit t i)
-    (λ begins. let low : ℕ = q + start_len markup + 1 in Fit-some t i _ (piece-fits markup t i q (low + (length t - low)) (end_of markup t i q) order
+unfolding markup_end
+marked_from-fits markup t i q order = either (starts markup t i q) (Some (marked_piece markup t i q (markup_end markup t i q))) None (Fit t i)
+    (λ begins. let low : ℕ = q + start_len markup + 1 in Fit-some t i _ (piece-fits markup t i q (low + (length t - low)) (markup_end markup t i q) order
     (start-fits markup t q (starts-mark markup t i q begins)) (first_from-IsFirst (ends markup t i) low (length t - low))))
     (Fit-none t i)
 
@@ -131,8 +131,8 @@ unfolding ends
 ends-agree markup t i q k order less mark = ap (λ escaped. has_end markup t k && (is_dark t (k - 1) && (not (has_escapes markup && escaped) && is_some (tail_of markup t k)))) (is_escaped-agree t i q k order less (start-bare markup t q mark))
 
 -- where a start-string has no end, no later one has
-pub unended : (markup : Markup) (t : Text) (i q : ℕ) → i ≤ q → has_start markup t q ≡ true → end_of markup t i q ≡ None → IsUnended markup t q
-unfolding end_of
+pub unended : (markup : Markup) (t : Text) (i q : ℕ) → i ≤ q → has_start markup t q ≡ true → markup_end markup t i q ≡ None → IsUnended markup t q
+unfolding markup_end
 unended markup t i q order mark none j r after later mark′ =
     let low : ℕ = q + start_len markup + 1 in
     let past : IsFirst (ends markup t i) low (low + (length t - low)) None = subst (IsFirst (ends markup t i) low (low + (length t - low))) none (first_from-IsFirst (ends markup t i) low (length t - low)) in

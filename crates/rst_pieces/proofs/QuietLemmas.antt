@@ -1,6 +1,6 @@
 -- In a quiet text nothing begins.
 use Rattle.std.proofs.Common.{◌≡◌, ⊎_elim, ℕ, ◌+◌, ◌<◌, Bool, true, false, ◌||◌, ◌==◌, cond, List, [], ◌∷◌, Option, Some, None, length, option_and_then, option_map, get_or, true≢false, refl, sym, ap, ◌∙◌, subst, arith}
-use Rattle.std.specs.Prelude.{nat_lt}
+use Rattle.std.specs.Prelude.{nat_lt, find}
 use Rattle.std.specs.List.{list_all, list_any}
 use Rattle.std.specs.Str.{IsAscii}
 use Rattle.std.proofs.lemmas.Bool.{ltb-true, eqb-true, and_parts, cases_lt}
@@ -14,14 +14,14 @@ use Rattle.rst_pieces.specs.Characters.{Text, has}
 use Rattle.rst_pieces.specs.Escapes.{has_backslash}
 use Rattle.rst_pieces.specs.Names.{is_reference, name_end, reference_to, reference}
 use Rattle.rst_pieces.specs.Footnotes.{label_stop, closes_label, label_piece, label}
-use Rattle.rst_pieces.specs.Uri.{in_lower_case, has_letter, begins_at, schemes, behind_first, scheme_end, uri_piece, uri}
+use Rattle.rst_pieces.specs.Uri.{has_any_case, schemes, scheme_end, uri_piece, uri}
 use Rattle.rst_pieces.specs.Pieces.{markup_at, is_free, piece_at, plain_from, IsPieces, nothing, last}
 use Rattle.rst_text.specs.Runs.{IsRun}
 use Rattle.rst_pieces.specs.Quiet.{is_quiet, quiet}
 use Rattle.rst_pieces.specs.declared.piece.Piece.{Piece}
 use Rattle.rst_pieces.specs.declared.piece.Markup.TheVariants.{Strong, Emphasis, Literal, Target, Substitution, Interpreted}
 use Rattle.rst_pieces.proofs.NameLemmas.{not_reference}
-use Rattle.rst_pieces.proofs.UriLemmas.{uri_end-none}
+use Rattle.rst_pieces.proofs.UriLemmas.{letter_at, letter_before, uri_end-none}
 use Rattle.rst_pieces.proofs.WordLemmas.{Lacks, differs, no-marked, no-underscore, lower-colon}
 
 abbrev IsQuiet : Text → Type 0
@@ -69,30 +69,30 @@ no-label t i h = ap (λ r. cond (has t i 91) r None) (no-label_piece t i (label_
 abbrev has_colon : List ℕ → Bool
 has_colon word = list_any (λ c. c == 58) word
 
-no-scheme : (t : Text) (i : ℕ) (word : List ℕ) → IsQuiet t → has_colon word ≡ true → begins_at t i word ≡ true → ⊥
+no-scheme : (t : Text) (i : ℕ) (word : List ℕ) → IsQuiet t → has_colon word ≡ true → has_any_case t i word ≡ true → ⊥
 no-scheme t i [] h colon begins = true≢false (sym colon)
 no-scheme t i (c ∷ cs) h colon begins =
-    let here = and_parts (has_letter t i c) (begins_at t (i + 1) cs) begins in
-    let parts = and_parts (nat_lt i (length t)) (in_lower_case (get_or t i 0) == c) here.0 in
+    let here = letter_before t i c cs begins in
+    let letter = letter_at t i c here.0 in
     ⊎_elim
     (λ is_colon.
-    let stands : get_or t i 0 ≡ 58 = lower-colon (get_or t i 0) (eqb-true (in_lower_case (get_or t i 0)) c parts.1 ∙ eqb-true c 58 is_colon) in
-    true≢false (sym (quiet-at t i h (ltb-true i (length t) parts.0)) ∙ ap is_quiet stands))
+    let stands : get_or t i 0 ≡ 58 = lower-colon (get_or t i 0) (letter.1 ∙ eqb-true c 58 is_colon) in
+    true≢false (sym (quiet-at t i h letter.0) ∙ ap is_quiet stands))
     (λ other. no-scheme t (i + 1) cs h (subst (λ b. (b || has_colon cs) ≡ true) other colon) here.1)
     (cases_bool (c == 58))
 
-no-first : (t : Text) (i : ℕ) (words : List (List ℕ)) → IsQuiet t → list_all has_colon words ≡ true → behind_first t i words ≡ None
+no-first : (t : Text) (i : ℕ) (words : List (List ℕ)) → IsQuiet t → list_all has_colon words ≡ true → find (has_any_case t i) words ≡ None
 no-first t i [] h all = refl
 no-first t i (word ∷ words) h all =
     let parts = and_parts (has_colon word) (list_all has_colon words) all in
     ⊎_elim
     (λ yes. absurd (no-scheme t i word h parts.0 yes))
-    (λ no. ap (λ b. cond b (Some (i + length word)) (behind_first t i words)) no ∙ no-first t i words h parts.1)
-    (cases_bool (begins_at t i word))
+    (λ no. ap (λ b. cond b (Some word) (find (has_any_case t i) words)) no ∙ no-first t i words h parts.1)
+    (cases_bool (has_any_case t i word))
 
 no-uri : (t : Text) (i : ℕ) → IsQuiet t → uri t i ≡ None
 unfolding uri scheme_end
-no-uri t i h = ap (option_map (uri_piece i)) (uri_end-none t i (no-first t i schemes h refl))
+no-uri t i h = ap (option_map (uri_piece i)) (uri_end-none t i (ap (option_map (λ scheme. i + length scheme)) (no-first t i schemes h refl)))
 
 -- ---- one plain piece
 

@@ -1,28 +1,46 @@
 -- Standalone URIs.
 use Rattle.std.proofs.Common.{◌≡◌, ◌↔◌, ⊎_elim, ℕ, zero, suc, ◌+◌, ◌-◌, ◌<◌, ◌≤◌, Bool, true, false, not, ◌&&◌, ◌||◌, ◌==◌, cond, List, [], ◌∷◌, ◌++◌, Option, Some, None, length, option_and_then, option_map, get_or, unwrap_or, true≢false, refl, sym, ap, ap₂, ◌∙◌, subst, arith}
-use Rattle.std.specs.Prelude.{nat_lt}
+use Rattle.std.specs.Prelude.{nat_lt, map, find}
 use Rattle.std.specs.List.{list_all}
-use Rattle.std.specs.Char.{is_ascii_alphanumeric}
+use Rattle.std.specs.Char.{is_ascii_alphanumeric, to_ascii_lowercase}
 use Rattle.std.specs.Str.{chars, IsUtf8}
 use Rattle.std.proofs.Math.Utf8.{encodes}
 use Rattle.std.proofs.lemmas.Str.{encode_ascii, encodes-chars, chars_from_encodes}
 use Rattle.std.proofs.lemmas.Bool.{ltb-true, lt-ltb, eqb-true, and_parts, cases_lt}
 use Rattle.std.proofs.lemmas.Bool.Decides.{nat_tests}
+use Rattle.std.proofs.lemmas.List.{length-map}
 use Rattle.rst_text.specs.Places.{first_from, last_from, NoneFrom, IsFirst, IsLast}
 use Rattle.rst_text.proofs.PlacesLemmas.{cases_bool, lt_eq_gt, first_from-is, first_from-IsFirst, last_from-is, last_from-last, NoneFrom-within}
-use Rattle.rst_pieces.specs.Characters.{Text, is_among, is_free_behind}
-use Rattle.rst_pieces.specs.Uri.{in_lower_case, has_letter, begins_at, schemes, behind_first, scheme_end, is_uri_char, is_uri_trail, uri_stop, uri_close, uri_behind, if_free, uri_end, uri_piece, uri, IsUri}
+use Rattle.rst_pieces.specs.Characters.{Text, has, is_among, is_free_behind}
+use Rattle.rst_pieces.specs.Uri.{has_any_case, schemes, scheme_end, is_uri_char, is_uri_trail, uri_stop, uri_close, uri_behind, if_free, uri_end, uri_piece, uri, IsUri}
 use Rattle.rst_pieces.proofs.FitLemmas.{Fit, Fit-none, Fit-some, Some-same, Some-None, chosen}
 
 -- ---- the scheme
+
+lower-at : (t : Text) (i : ℕ) → get_or (map to_ascii_lowercase t) i 0 ≡ to_ascii_lowercase (get_or t i 0)
+lower-at [] i = refl
+lower-at (c ∷ cs) zero = refl
+lower-at (c ∷ cs) (suc i) = lower-at cs i
+
+-- a character stands in the text that is in lower case where it is the one in the text, in lower case
+pub lower_has : (t : Text) (i c : ℕ) → has (map to_ascii_lowercase t) i c ≡ (nat_lt i (length t) && to_ascii_lowercase (get_or t i 0) == c)
+lower_has t i c = rw (length-map t to_ascii_lowercase, lower-at t i) refl
+
+-- so the character is within the text, and in lower case it is the one
+pub letter_at : (t : Text) (i c : ℕ) → has (map to_ascii_lowercase t) i c ≡ true → (i < length t) × (to_ascii_lowercase (get_or t i 0) ≡ c)
+letter_at t i c h =
+    let parts = and_parts (nat_lt i (length t)) (to_ascii_lowercase (get_or t i 0) == c) (sym (lower_has t i c) ∙ h) in
+    (ltb-true i (length t) parts.0, eqb-true _ _ parts.1)
+
+pub letter_before : (t : Text) (i c : ℕ) (cs : List ℕ) → has_any_case t i (c ∷ cs) ≡ true → (has (map to_ascii_lowercase t) i c ≡ true) × (has_any_case t (i + 1) cs ≡ true)
+letter_before t i c cs h = and_parts (has (map to_ascii_lowercase t) i c) (has_any_case t (i + 1) cs) h
 
 upper-uri : (c : ℕ) → nat_lt c 65 ≡ false → nat_lt c 91 ≡ true → is_uri_char c ≡ true
 unfolding is_uri_char
 upper-uri c high upper = grind (arith, nat_tests)
 
 -- a character is one of a URI, if it is in lower case
-lower-uri : (c : ℕ) → is_uri_char (in_lower_case c) ≡ true → is_uri_char c ≡ true
-unfolding in_lower_case
+lower-uri : (c : ℕ) → is_uri_char (to_ascii_lowercase c) ≡ true → is_uri_char c ≡ true
 lower-uri c h = ⊎_elim
     (λ low. subst (λ b. is_uri_char (cond b c (cond (nat_lt c 91) (c + 32) c)) ≡ true) low h)
     (λ high. ⊎_elim
@@ -37,25 +55,27 @@ AllUri word = list_all is_uri_char word ≡ true
 same-uri : (a b : ℕ) → a ≡ b → is_uri_char b ≡ true → is_uri_char a ≡ true
 same-uri a b e h = ap is_uri_char e ∙ h
 
-begins_at-uri : (t : Text) (i : ℕ) (word : List ℕ) → begins_at t i word ≡ true → AllUri word → (k : ℕ) → i ≤ k → k < i + length word → is_uri_char (get_or t k 0) ≡ true
-begins_at-uri t i [] h all k above below = absurd (omega arith)
-begins_at-uri t i (c ∷ cs) h all k above below =
-    let here = and_parts (has_letter t i c) (begins_at t (i + 1) cs) h in
+scheme-uri : (t : Text) (i : ℕ) (word : List ℕ) → has_any_case t i word ≡ true → AllUri word → (k : ℕ) → i ≤ k → k < i + length word → is_uri_char (get_or t k 0) ≡ true
+scheme-uri t i [] h all k above below = absurd (omega arith)
+scheme-uri t i (c ∷ cs) h all k above below =
+    let here = letter_before t i c cs h in
+    let letter = letter_at t i c here.0 in
     let fits = and_parts (is_uri_char c) (list_all is_uri_char cs) all in
     ⊎_elim
     (λ less. absurd (omega arith))
     (λ rest. ⊎_elim
-    (λ same. subst (λ k. is_uri_char (get_or t k 0) ≡ true) (sym same) (lower-uri (get_or t i 0) (same-uri (in_lower_case (get_or t i 0)) c (eqb-true _ _ (and_parts _ _ here.0).1) fits.0)))
-    (λ more. begins_at-uri t (i + 1) cs here.1 fits.1 k (omega arith) (omega arith))
+    (λ same. subst (λ k. is_uri_char (get_or t k 0) ≡ true) (sym same) (lower-uri (get_or t i 0) (same-uri (to_ascii_lowercase (get_or t i 0)) c letter.1 fits.0)))
+    (λ more. scheme-uri t (i + 1) cs here.1 fits.1 k (omega arith) (omega arith))
     rest)
     (lt_eq_gt k i)
 
-begins_at-fits : (t : Text) (i : ℕ) (word : List ℕ) → begins_at t i word ≡ true → i ≤ length t → i + length word ≤ length t
-begins_at-fits t i [] h within = omega arith
-begins_at-fits t i (c ∷ cs) h within =
-    let here = and_parts (has_letter t i c) (begins_at t (i + 1) cs) h in
-    let less : i < length t = ltb-true i (length t) (and_parts _ _ here.0).0 in
-    let rest : i + 1 + length cs ≤ length t = begins_at-fits t (i + 1) cs here.1 (omega arith) in
+scheme-fits : (t : Text) (i : ℕ) (word : List ℕ) → has_any_case t i word ≡ true → i ≤ length t → i + length word ≤ length t
+scheme-fits t i [] h within = omega arith
+scheme-fits t i (c ∷ cs) h within =
+    let here = letter_before t i c cs h in
+    let letter = letter_at t i c here.0 in
+    let less : i < length t = letter.0 in
+    let rest : i + 1 + length cs ≤ length t = scheme-fits t (i + 1) cs here.1 (omega arith) in
     omega arith
 
 -- the characters of a scheme are some of a URI
@@ -64,14 +84,18 @@ pub record Begins (t : Text) (i behind : ℕ) : Type 0 where
   pub within : i ≤ length t → behind ≤ length t
   pub chars : (k : ℕ) → i ≤ k → k < behind → is_uri_char (get_or t k 0) ≡ true
 
-behind_first-begins : (t : Text) (i : ℕ) (words : List (List ℕ)) (behind : ℕ) → list_all (λ word. list_all is_uri_char word) words ≡ true → behind_first t i words ≡ Some behind → Begins t i behind
-behind_first-begins t i [] behind all h = absurd (Some-None (sym h))
-behind_first-begins t i (word ∷ words) behind all h =
+-- the place behind the first of the words that stands at the place
+abbrev scheme_of : Text → ℕ → List Text → Option ℕ
+scheme_of t i words = option_map (λ scheme. i + length scheme) (find (has_any_case t i) words)
+
+first-begins : (t : Text) (i : ℕ) (words : List Text) (behind : ℕ) → list_all (λ word. list_all is_uri_char word) words ≡ true → scheme_of t i words ≡ Some behind → Begins t i behind
+first-begins t i [] behind all h = absurd (Some-None (sym h))
+first-begins t i (word ∷ words) behind all h =
     let fits = and_parts (list_all is_uri_char word) (list_all (λ word. list_all is_uri_char word) words) all in
-    found (begins_at t i word) refl fits.0 (λ rest. behind_first-begins t i words behind fits.1 rest) h
+    found (has_any_case t i word) refl fits.0 (λ rest. first-begins t i words behind fits.1 rest) h
   where
-    found : (b : Bool) → begins_at t i word ≡ b → AllUri word → (behind_first t i words ≡ Some behind → Begins t i behind) → cond b (Some (i + length word)) (behind_first t i words) ≡ Some behind → Begins t i behind
-    found true e here rest h = subst (Begins t i) (Some-same h) (record { above = omega arith; within = λ within. begins_at-fits t i word e within; chars = begins_at-uri t i word e here })
+    found : (b : Bool) → has_any_case t i word ≡ b → AllUri word → (scheme_of t i words ≡ Some behind → Begins t i behind) → option_map (λ scheme. i + length scheme) (cond b (Some word) (find (has_any_case t i) words)) ≡ Some behind → Begins t i behind
+    found true e here rest h = subst (Begins t i) (Some-same h) (record { above = omega arith; within = λ within. scheme-fits t i word e within; chars = scheme-uri t i word e here })
     found false e here rest h = rest h
 
 schemes-uri : list_all (λ word. list_all is_uri_char word) schemes ≡ true
@@ -80,7 +104,7 @@ schemes-uri = refl
 
 pub scheme_end-begins : (t : Text) (i behind : ℕ) → scheme_end t i ≡ Some behind → Begins t i behind
 unfolding scheme_end
-scheme_end-begins t i behind h = behind_first-begins t i schemes behind schemes-uri h
+scheme_end-begins t i behind h = first-begins t i schemes behind schemes-uri h
 
 -- ---- the run behind it
 

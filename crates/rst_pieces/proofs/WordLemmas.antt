@@ -1,9 +1,9 @@
 -- Inside words nothing begins.
 use Rattle.std.proofs.Common.{◌≡◌, ⊎_elim, ℕ, ◌+◌, ◌-◌, ◌<◌, ◌≤◌, Bool, true, false, not, ◌&&◌, ◌||◌, ◌==◌, cond, List, [], ◌∷◌, Some, None, length, option_and_then, option_map, get_or, true≢false, refl, sym, ap, ◌∙◌, subst, arith}
-use Rattle.std.specs.Prelude.{nat_lt}
+use Rattle.std.specs.Prelude.{nat_lt, find}
 use Rattle.std.specs.List.{list_all}
-use Rattle.std.specs.Char.{is_ascii_alphanumeric}
-use Rattle.std.proofs.lemmas.Bool.{ltb-true, lt-ltb, eqb-true, and_parts, cases_lt}
+use Rattle.std.specs.Char.{is_ascii_alphanumeric, to_ascii_lowercase}
+use Rattle.std.proofs.lemmas.Bool.{lt-ltb, eqb-true, and_parts, cases_lt}
 use Rattle.std.proofs.lemmas.Bool.Decides.{nat_tests}
 use Rattle.rst_text.specs.Characters.{is_white}
 use Rattle.rst_text.specs.Places.{all_from}
@@ -15,14 +15,14 @@ use Rattle.rst_pieces.specs.Tails.{name_tail}
 use Rattle.rst_pieces.specs.Names.{is_joint, is_name_at, role_end, ends_name, is_reference, name_end, reference_to, reference}
 use Rattle.rst_pieces.specs.Marked.{has_start, start_of, starts, marked_from, marked}
 use Rattle.rst_pieces.specs.Footnotes.{label}
-use Rattle.rst_pieces.specs.Uri.{in_lower_case, has_letter, begins_at, schemes, behind_first, scheme_end, uri_piece, uri}
+use Rattle.rst_pieces.specs.Uri.{has_any_case, schemes, scheme_end, uri_piece, uri}
 use Rattle.rst_pieces.specs.Words.{IsWord, goes_on}
 use Rattle.rst_pieces.specs.Pieces.{markup_at, is_free, piece_at, HasNoStart}
 use Rattle.rst_pieces.specs.declared.piece.Markup.{Markup}
 use Rattle.rst_pieces.specs.declared.piece.Markup.TheVariants.{Strong, Emphasis, Literal, Target, Substitution, Interpreted}
 use Rattle.rst_pieces.proofs.EscapeLemmas.{IsBare, other-bare, is_escaped-bare}
 use Rattle.rst_pieces.proofs.NameLemmas.{not_reference, is_reference-past}
-use Rattle.rst_pieces.proofs.UriLemmas.{uri_end-none}
+use Rattle.rst_pieces.proofs.UriLemmas.{letter_at, letter_before, uri_end-none}
 
 -- ---- letters and digits
 
@@ -120,53 +120,51 @@ abbrev named : List ℕ → Bool
 named [] = false
 named (c ∷ cs) = c == 58 || (is_ascii_alphanumeric c && named cs)
 
-pub lower-colon : (c : ℕ) → in_lower_case c ≡ 58 → c ≡ 58
-unfolding in_lower_case
+pub lower-colon : (c : ℕ) → to_ascii_lowercase c ≡ 58 → c ≡ 58
 lower-colon c h = grind (arith, nat_tests)
 
-lower-letter : (c : ℕ) → IsLetter (in_lower_case c) → IsLetter c
-unfolding in_lower_case
+lower-letter : (c : ℕ) → IsLetter (to_ascii_lowercase c) → IsLetter c
 lower-letter c h = grind (arith, nat_tests)
 
-no-scheme : (t : Text) (i to : ℕ) (word : List ℕ) → IsWord t i to → has t to 58 ≡ false → named word ≡ true → begins_at t i word ≡ true → ⊥
+no-scheme : (t : Text) (i to : ℕ) (word : List ℕ) → IsWord t i to → has t to 58 ≡ false → named word ≡ true → has_any_case t i word ≡ true → ⊥
 no-scheme t i to [] run colon n h = true≢false (sym n)
 no-scheme t i to (c ∷ cs) run colon n h =
-    let here = and_parts (has_letter t i c) (begins_at t (i + 1) cs) h in
-    let parts = and_parts (nat_lt i (length t)) (in_lower_case (get_or t i 0) == c) here.0 in
-    let within : i < length t = ltb-true i (length t) parts.0 in
-    let same : in_lower_case (get_or t i 0) ≡ c = eqb-true _ _ parts.1 in
+    let here = letter_before t i c cs h in
+    let letter = letter_at t i c here.0 in
+    let within : i < length t = letter.0 in
+    let same : to_ascii_lowercase (get_or t i 0) ≡ c = letter.1 in
     let order : i ≤ to = run.above in
     ⊎_elim
     (λ inside. ⊎_elim
-    (λ is_colon. true≢false (sym (run.letters i (omega arith) inside) ∙ ap is_ascii_alphanumeric (lower-colon _ (same ∙ eqb-true c 58 is_colon))))
+    (λ is_colon. true≢false (sym (run.letters i (omega arith) inside) ∙ ap is_ascii_alphanumeric (lower-colon (get_or t i 0) (same ∙ eqb-true c 58 is_colon))))
     (λ other. no-scheme t (i + 1) to cs
     (record { above = omega arith; within = run.within; letters = λ k above less. run.letters k (omega arith) less; stops = run.stops })
     colon (and_parts (is_ascii_alphanumeric c) (named cs) (subst (λ b. (b || (is_ascii_alphanumeric c && named cs)) ≡ true) other n)).1 here.1)
     (cases_bool (c == 58)))
     (λ past. let last : i ≡ to = omega arith in ⊎_elim
     (λ is_colon.
-    let stands : get_or t i 0 ≡ 58 = lower-colon _ (same ∙ eqb-true c 58 is_colon) in
-    let shown : has t i 58 ≡ true = rw (stands, parts.0) refl in
+    let stands : get_or t i 0 ≡ 58 = lower-colon (get_or t i 0) (same ∙ eqb-true c 58 is_colon) in
+    let shown : has t i 58 ≡ true = rw (stands, lt-ltb i (length t) within) refl in
     true≢false (sym shown ∙ ap (λ n. has t n 58) last ∙ colon))
     (λ other.
     let letter : is_ascii_alphanumeric c ≡ true = (and_parts (is_ascii_alphanumeric c) (named cs) (subst (λ b. (b || (is_ascii_alphanumeric c && named cs)) ≡ true) other n)).0 in
-    let mine : IsLetter (get_or t i 0) = lower-letter _ (ap is_ascii_alphanumeric same ∙ letter) in
+    let mine : IsLetter (get_or t i 0) = lower-letter (get_or t i 0) (ap is_ascii_alphanumeric same ∙ letter) in
     true≢false (sym mine ∙ ap (λ n. is_ascii_alphanumeric (get_or t n 0)) last ∙ run.stops (omega arith)))
     (cases_bool (c == 58)))
     (cases_lt i to)
 
-no-first : (t : Text) (i to : ℕ) (words : List (List ℕ)) → IsWord t i to → has t to 58 ≡ false → list_all named words ≡ true → behind_first t i words ≡ None
+no-first : (t : Text) (i to : ℕ) (words : List (List ℕ)) → IsWord t i to → has t to 58 ≡ false → list_all named words ≡ true → find (has_any_case t i) words ≡ None
 no-first t i to [] run colon all = refl
 no-first t i to (word ∷ words) run colon all =
     let parts = and_parts (named word) (list_all named words) all in
     ⊎_elim
     (λ yes. absurd (no-scheme t i to word run colon parts.0 yes))
-    (λ no. ap (λ b. cond b (Some (i + length word)) (behind_first t i words)) no ∙ no-first t i to words run colon parts.1)
-    (cases_bool (begins_at t i word))
+    (λ no. ap (λ b. cond b (Some word) (find (has_any_case t i) words)) no ∙ no-first t i to words run colon parts.1)
+    (cases_bool (has_any_case t i word))
 
 no-uri : (t : Text) (i to : ℕ) → IsWord t i to → has t to 58 ≡ false → uri t i ≡ None
 unfolding uri scheme_end
-no-uri t i to run colon = ap (option_map (uri_piece i)) (uri_end-none t i (no-first t i to schemes run colon refl))
+no-uri t i to run colon = ap (option_map (uri_piece i)) (uri_end-none t i (ap (option_map (λ scheme. i + length scheme)) (no-first t i to schemes run colon refl)))
 
 -- ---- other markup
 

@@ -1,5 +1,5 @@
 -- The characters that decide where inline markup may stand (Markup Specification, 'Inline markup recognition rules').
-use Rattle.std.specs.Prelude.{ℕ, ◌+◌, Bool, true, false, not, ◌&&◌, ◌||◌, ◌==◌, nat_lt, List, [], ◌∷◌, slice_index, length}
+use Rattle.std.specs.Prelude.{ℕ, ◌+◌, Bool, true, false, not, ◌&&◌, ◌||◌, ◌==◌, nat_lt, List, [], ◌∷◌, filter, slice_index, length}
 use Rattle.std.specs.List.{list_any}
 use Rattle.unicode.specs.GeneralCategory.{general_category}
 use Rattle.ucd_category.specs.declared.GeneralCategory.{GeneralCategory}
@@ -54,6 +54,10 @@ has t i c = nat_lt i (length t) && slice_index t i == c
 abbrev pub has_string : Text → ℕ → Text → Bool
 has_string t i [] = true
 has_string t i (c ∷ cs) = has t i c && has_string t (i + 1) cs
+
+-- the text without its white characters
+abbrev pub without_white : Text → Text
+without_white t = filter (λ c. not (is_white c)) t
 
 -- a character that is not white stands at the place
 abbrev pub is_dark : Text → ℕ → Bool

@@ -4,7 +4,7 @@ use Rattle.std.specs.List.{list_any}
 use Rattle.rst_text.specs.Characters.{is_white}
 use Rattle.rst_pieces.specs.Characters.{Text}
 
--- the character behind c is escaped, where c is itself escaped or not
+-- the character c escapes the one behind it: it is a backslash, and `escaped` says that it isn't escaped itself
 abbrev pub escapes : ℕ → Bool → Bool
 escapes c escaped = c == 92 && not escaped
 

@@ -81,8 +81,8 @@ unfoldable pub ends : Markup → Text → ℕ → ℕ → Bool
 ends markup t i k = has_end markup t k && (is_dark t (k - 1) && (not (has_escapes markup && is_escaped t i k) && is_some (tail_of markup t k)))
 
 -- the least end, with a character at least between it and the start-string at q
-unfoldable pub end_of : Markup → Text → ℕ → ℕ → Option ℕ
-end_of markup t i q = first_from (ends markup t i) (q + start_len markup + 1) (length t - (q + start_len markup + 1))
+unfoldable pub markup_end : Markup → Text → ℕ → ℕ → Option ℕ
+markup_end markup t i q = first_from (ends markup t i) (q + start_len markup + 1) (length t - (q + start_len markup + 1))
 
 -- ---- the piece
 
@@ -104,7 +104,7 @@ marked_piece markup t i q end = unwrap_or (option_and_then (ended markup t i q) 
 
 -- the piece of markup that begins at i with its start-string at q, if it may begin so
 abbrev pub marked_from : Markup → Text → ℕ → ℕ → Option Piece
-marked_from markup t i q = if starts markup t i q then Some (marked_piece markup t i q (end_of markup t i q)) else None
+marked_from markup t i q = if starts markup t i q then Some (marked_piece markup t i q (markup_end markup t i q)) else None
 
 -- the piece of markup that begins at the place, if such markup does
 unfoldable pub marked : Markup → Text → ℕ → Option Piece

@@ -1,7 +1,7 @@
 -- What searches before a place have shown to be absent behind it. No rule of markup: it keeps the scanner's time linear.
 use Rattle.std.specs.Prelude.{◌≡◌, ℕ, ◌<◌, ◌≤◌, true, None}
 use Rattle.rst_pieces.specs.Characters.{Text}
-use Rattle.rst_pieces.specs.Marked.{has_start, end_of}
+use Rattle.rst_pieces.specs.Marked.{has_start, markup_end}
 use Rattle.rst_pieces.specs.Names.{name_end}
 use Rattle.rst_pieces.specs.Uri.{uri_end}
 use Rattle.rst_pieces.specs.declared.piece.Markup.{Markup}
@@ -28,7 +28,7 @@ with_unended missing Interpreted q = record missing { interpreted = q }
 
 -- no start-string of the markup at or past `low` has an end
 abbrev pub IsUnended : Markup → Text → ℕ → Type 0
-IsUnended markup t low = (i q : ℕ) → i ≤ q → low ≤ q → has_start markup t q ≡ true → end_of markup t i q ≡ None
+IsUnended markup t low = (i q : ℕ) → i ≤ q → low ≤ q → has_start markup t q ≡ true → markup_end markup t i q ≡ None
 
 -- what is remembered is true at and past the place
 pub record IsMissing (t : Text) (missing : Missing) (place : ℕ) : Type 0 where

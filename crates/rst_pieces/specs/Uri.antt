@@ -1,36 +1,22 @@
 -- Standalone hyperlinks (Markup Specification, 'Standalone Hyperlinks').
-use Rattle.std.specs.Prelude.{◌≡◌, ℕ, ◌+◌, ◌-◌, Bool, true, not, ◌&&◌, ◌||◌, ◌==◌, nat_lt, List, [], ◌∷◌, Option, None, Some, slice_index, length, unwrap_or, option_map, option_and_then, codes, if◌then◌else◌}
+use Rattle.std.specs.Prelude.{◌≡◌, ℕ, ◌+◌, ◌-◌, Bool, not, ◌||◌, List, [], ◌∷◌, Option, None, Some, slice_index, length, map, find, unwrap_or, option_map, option_and_then, codes, if◌then◌else◌}
 use Rattle.std.specs.Char.{to_ascii_lowercase, is_ascii_alphanumeric}
-use Rattle.rst_pieces.specs.Characters.{Text, is_among, is_free_behind}
+use Rattle.rst_pieces.specs.Characters.{Text, has_string, is_among, is_free_behind}
 use Rattle.rst_text.specs.Places.{first_from, last_from}
 use Rattle.rst_pieces.specs.declared.piece.Kind.TheVariants.{Uri}
 use Rattle.rst_pieces.specs.declared.piece.Piece.{Piece}
 
--- the character in lower case, where it is an ASCII letter
-unfoldable pub in_lower_case : ℕ → ℕ
-in_lower_case c = to_ascii_lowercase c
-
--- the character stands at the place, a letter in lower case or as a capital
-abbrev pub has_letter : Text → ℕ → ℕ → Bool
-has_letter t i c = nat_lt i (length t) && in_lower_case (slice_index t i) == c
-
--- the word, which is in lower case, stands at the place in any case
-abbrev pub begins_at : Text → ℕ → List ℕ → Bool
-begins_at t i [] = true
-begins_at t i (c ∷ cs) = has_letter t i c && begins_at t (i + 1) cs
+-- the string, which is in lower case, stands at the place without regard to the case of letters of ASCII
+abbrev pub has_any_case : Text → ℕ → Text → Bool
+has_any_case t i string = has_string (map to_ascii_lowercase t) i string
 
 -- the schemes, with what stands between them and what they name
-abbrev pub schemes : List (List ℕ)
+abbrev pub schemes : List Text
 schemes = codes "file://" ∷ codes "ftp://" ∷ codes "http://" ∷ codes "https://" ∷ codes "irc://" ∷ codes "mailto:" ∷ codes "news:" ∷ []
-
--- the place behind the first of the words that stands at the place
-abbrev pub behind_first : Text → ℕ → List (List ℕ) → Option ℕ
-behind_first t i [] = None
-behind_first t i (word ∷ words) = if begins_at t i word then Some (i + length word) else behind_first t i words
 
 -- the place behind the scheme that begins at the place
 unfoldable pub scheme_end : Text → ℕ → Option ℕ
-scheme_end t i = behind_first t i schemes
+scheme_end t i = option_map (λ scheme. i + length scheme) (find (has_any_case t i) schemes)
 
 -- an ASCII letter or digit, or one of -_.~!*'();/?:@&=$+,%#[]
 unfoldable pub is_uri_char : ℕ → Bool

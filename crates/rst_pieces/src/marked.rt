@@ -1,7 +1,7 @@
 //! Inline markup between a start-string and an end-string.
 ghost use Rattle.std.specs.Prelude.{◌≡◌, ℕ, ◌+◌, ◌<◌, ◌≤◌, true, length, unwrap_or, option_map, IfSome};
 ghost use Rattle.std.specs.Option.{option_or};
-ghost use Rattle.rst_pieces.specs.Marked.{start_len, end_len, has_start, has_end, has_escapes, start_of, starts, tail_of, ends, end_of, unended_piece, ended_piece, marked};
+ghost use Rattle.rst_pieces.specs.Marked.{start_len, end_len, has_start, has_end, has_escapes, start_of, starts, tail_of, ends, markup_end, unended_piece, ended_piece, marked};
 ghost use Rattle.rst_pieces.specs.Escapes.{is_escaped};
 ghost use Rattle.rst_pieces.specs.Tails.{name_tail, role_tail, bare_tail};
 ghost use Rattle.rst_pieces.specs.Names.{role_end};
@@ -134,7 +134,7 @@ impl Markup {
         requires mark { has_start self text.now start ≡ true }
         requires order { place ≤ start }
         requires below { start ≤ length text.now }
-        ensures exact { result ≡ end_of self text.now place start }
+        ensures exact { result ≡ markup_end self text.now place start }
         ensures within { IfSome result (λ end. end < length text.now) }
     {
         let mut escaped = false;

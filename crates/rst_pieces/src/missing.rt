@@ -1,6 +1,6 @@
 //! What searches before a place have shown to be absent behind it, so that no text is searched twice in vain.
 ghost use Rattle.std.specs.Prelude.{◌≡◌, ◌<◌, ◌≤◌, true, length, IfSome};
-ghost use Rattle.rst_pieces.specs.Marked.{has_start, end_of};
+ghost use Rattle.rst_pieces.specs.Marked.{has_start, markup_end};
 ghost use Rattle.rst_pieces.specs.Names.{name_end};
 ghost use Rattle.rst_pieces.specs.Uri.{uri_end};
 ghost use Rattle.rst_pieces.specs.Missing.{unended_from, with_unended, IsMissing};
@@ -80,7 +80,7 @@ impl Missing {
         requires order { place ≤ start }
         requires below { start ≤ length text.now }
         requires known { IsMissing text.now self.old place }
-        ensures exact { result ≡ end_of markup text.now place start }
+        ensures exact { result ≡ markup_end markup text.now place start }
         ensures within { IfSome result (λ end. end < length text.now) }
         ensures known { IsMissing text.now self.new place }
     {

@@ -1,26 +1,23 @@
 //! Standalone URIs.
-ghost use Rattle.std.specs.Prelude.{◌≡◌, ◌<◌, ◌≤◌, ◌↔◌, ℕ, length, IsTrue};
+ghost use Rattle.std.specs.Prelude.{◌≡◌, ◌<◌, ◌≤◌, ◌↔◌, ℕ, length, map, IsTrue};
+ghost use Rattle.std.specs.Char.{to_ascii_lowercase};
 ghost use Rattle.std.specs.Str.{chars, IsUtf8};
 ghost use Rattle.std.specs.List.{list_all};
-ghost use Rattle.rst_pieces.specs.Uri.{in_lower_case, has_letter, begins_at, scheme_end, is_uri_char, is_uri_trail, uri_stop, uri_close, uri_end, uri, IsUri};
+ghost use Rattle.rst_pieces.specs.Characters.{has};
+ghost use Rattle.rst_pieces.specs.Uri.{has_any_case, scheme_end, is_uri_char, is_uri_trail, uri_stop, uri_close, uri_end, uri, IsUri};
 ghost use Rattle.rst_pieces.specs.Missing.{IsMissing};
 
 use super::characters::is_free_behind;
 use super::missing::Missing;
 use super::piece::{Kind, Piece};
 
-#[tactic(auto, unfolding(crate::specs::Uri::in_lower_case))]
-fn in_lower_case(c: char) -> char
-    ensures { result ≡ in_lower_case c }
-{
-    c.to_ascii_lowercase()
-}
-
+/// Whether the character, which is in lower case, stands at the place in any case.
+#[tactic(auto, using(crate::proofs::UriLemmas::lower_has))]
 fn has_letter(text: &[char], place: usize, c: u8) -> bool
-    ensures { result ≡ has_letter text.now place c }
+    ensures { result ≡ has (map to_ascii_lowercase text.now) place c }
 {
     match text.get(place) {
-        Some(letter) => in_lower_case(*letter) == char::from(c),
+        Some(letter) => letter.to_ascii_lowercase() == char::from(c),
         None => false,
     }
 }
@@ -28,7 +25,7 @@ fn has_letter(text: &[char], place: usize, c: u8) -> bool
 /// Whether the word, which is in lower case, stands at the place in any case.
 fn begins_at(text: &[char], place: usize, word: &[u8]) -> bool
     requires { place ≤ length text.now }
-    ensures { result ≡ begins_at text.now place word.now }
+    ensures { result ≡ has_any_case text.now place word.now }
 {
     let mut at = place;
     for c in word {
@@ -238,7 +235,7 @@ fn ascii_scheme_end(bytes: &[u8]) -> Option<usize>
 
 /// Whether the bytes begin with the word, which is in lower case, in any case.
 fn begins_with(bytes: &[u8], word: &[u8]) -> bool
-    ensures { result ≡ begins_at bytes.now 0 word.now }
+    ensures { result ≡ has_any_case bytes.now 0 word.now }
 {
     let mut at = 0;
     for c in word {
@@ -250,9 +247,10 @@ fn begins_with(bytes: &[u8], word: &[u8]) -> bool
     true
 }
 
-#[tactic(auto, unfolding(crate::specs::Uri::in_lower_case))]
+/// The same for bytes.
+#[tactic(auto, using(crate::proofs::UriLemmas::lower_has))]
 fn has_byte(bytes: &[u8], place: usize, c: u8) -> bool
-    ensures { result ≡ has_letter bytes.now place c }
+    ensures { result ≡ has (map to_ascii_lowercase bytes.now) place c }
 {
     match bytes.get(place) {
         Some(byte) => byte.to_ascii_lowercase() == c,

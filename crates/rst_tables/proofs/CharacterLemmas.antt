@@ -1,13 +1,13 @@
 -- Rows of places are told by the characters of their lines.
-use Rattle.std.proofs.Common.{⊎_elim, ◌≡◌, ℕ, zero, suc, ◌-◌, ◌<◌, Bool, true, false, cond, ◌&&◌, ◌||◌, ◌==◌, eqb, leb, ltb, List, [], ◌∷◌, map, length, drop, refl, sym, ap, ◌∙◌, arith}
-use Rattle.std.specs.List.{list_all}
-use Rattle.std.proofs.lemmas.Bool.{cases_Bool, and_parts, eqb-true, ne_eqb, ltb-true}
+use Rattle.std.proofs.Common.{⊎_elim, ◌≡◌, ℕ, zero, suc, ◌-◌, Bool, true, false, cond, ◌&&◌, ◌||◌, ◌==◌, eqb, leb, List, [], ◌∷◌, map, length, drop, refl, sym, ap, ◌∙◌, arith}
+use Rattle.std.specs.List.{list_all, list_any}
+use Rattle.std.proofs.lemmas.Bool.{cases_Bool, and_parts, eqb-true, ne_eqb}
 use Rattle.std.proofs.lemmas.List.{length-map}
 use Rattle.unicode_width.proofs.Computing.{unicode_width}
 use Rattle.rst_text.specs.Block.{Block, front_text, is_blank}
 use Rattle.rst_marks.specs.Front.{begins_with}
 use Rattle.rst_marks.specs.Class.{is_in, run}
-use Rattle.rst_marks.specs.declared.class.Class.TheVariants.{Only, Either}
+use Rattle.rst_marks.specs.declared.class.Class.TheVariants.{Either}
 use Rattle.rst_marks.specs.Border.{is_grid_border, is_simple_border as is_top_border}
 use Rattle.rst_markup.specs.TableLines.{is_drawn, border_len, is_lower_border as is_border_text}
 use Rattle.rst_tables.specs.Places.{is_double, places_of, mark_at, rows_of, row_at}
@@ -110,18 +110,17 @@ unfolding is_part
 part_places t = all_places (is_part 45) 45 43 (λ c. refl) narrow_dash narrow_plus t
 
 pub border_row : (t : List ℕ) → is_grid_border_row (places_of t) ≡ is_grid_border t
-unfolding is_edge is_grid_border
+unfolding is_edge is_grid_border is_in
 border_row t = ⊎_elim
     (λ all.
     let places : places_of t ≡ map Character t = places_narrow 45 43 narrow_dash narrow_plus t all in
-    let size : run (Either 45 43) t ≡ length t = run_whole 45 43 t all in
-    let blank : is_blank (drop (length t) t) ≡ true = ap (λ n. is_blank (drop n t)) (sym size) ∙ whole_run 45 43 t ∙ all in
+    let whole : list_all (is_in (Either 45 43)) t ≡ true = all in
     let parts : list_all (is_part 45) (map Character t) ≡ true = ap (list_all (is_part 45)) (sym places) ∙ part_places t ∙ all in
-    rw (places, size) (rw (length-map t Character, parts, blank, ends_row t) (ap (λ b. leb 5 (length t) && b) (and_true (begins_with 43 t && (begins_with 45 (drop 1 t) && (begins_with 45 (drop (length t - 2) t) && begins_with 43 (drop (length t - 1) t))))))))
+    rw places (rw (length-map t Character, parts, whole, ends_row t) (ap (λ b. leb 5 (length t) && b) (and_true (begins_with 43 t && (begins_with 45 (drop 1 t) && (begins_with 45 (drop (length t - 2) t) && begins_with 43 (drop (length t - 1) t))))))))
     (λ some.
     let parts : list_all (is_part 45) (places_of t) ≡ false = part_places t ∙ some in
-    let blank : is_blank (drop (run (Either 45 43) t) t) ≡ false = whole_run 45 43 t ∙ some in
-    rw (parts, blank) (ap (λ b. leb 5 (length (places_of t)) && b) (and_false (has_ends 45 (places_of t))) ∙ and_false (leb 5 (length (places_of t))) ∙ sym (and_false (leb 5 (run (Either 45 43) t)))))
+    let whole : list_all (is_in (Either 45 43)) t ≡ false = some in
+    rw (parts, whole) (ap (λ b. leb 5 (length (places_of t)) && b) (and_false (has_ends 45 (places_of t))) ∙ and_false (leb 5 (length (places_of t))) ∙ sym (and_false (leb 5 (length t)))))
     (cases_Bool (list_all (is_either 45 43) t))
 
 -- ---- simple tables
@@ -145,24 +144,13 @@ border_places t h =
     let all : list_all (is_either 61 32) t ≡ true = sym (whole_run 61 32 t) ∙ (and_parts (begins_with 61 t) (is_blank (drop (run (Either 61 32) t) t)) h).1 in
     ap length (places_narrow 61 32 narrow_equals narrow_space t all) ∙ length-map t Character ∙ sym (run_whole 61 32 t all)
 
-run_front : (t : List ℕ) → 0 < run (Only 61) t → begins_with 61 t ≡ true
-unfolding run is_in
-run_front [] h = absurd (omega arith)
-run_front (c ∷ cs) h = by (eqb c 61) refl h
-  where
-    by : (x : Bool) → eqb c 61 ≡ x → 0 < cond x (suc (run (Only 61) cs)) 0 → eqb c 61 ≡ true
-    by true e h = e
-    by false e h = absurd (omega arith)
-
 -- a top border is a border
 pub top_border : (t : List ℕ) → is_top_border t ≡ true → is_border_text t ≡ true
-unfolding is_top_border is_border_text border_len
+unfolding is_top_border is_border_text border_len is_in
 top_border t h =
-    let a = and_parts (ltb 0 (run (Only 61) t)) (ltb (run (Only 61) t) (run (Either 61 32) t) && (is_blank (drop (run (Either 61 32) t) t) && begins_with 61 (drop (run (Either 61 32) t - 1) t))) h in
-    let b = and_parts (ltb (run (Only 61) t) (run (Either 61 32) t)) (is_blank (drop (run (Either 61 32) t) t) && begins_with 61 (drop (run (Either 61 32) t - 1) t)) a.1 in
-    let d = and_parts (is_blank (drop (run (Either 61 32) t) t)) (begins_with 61 (drop (run (Either 61 32) t - 1) t)) b.1 in
-    let blank : is_blank (drop (run (Either 61 32) t) t) ≡ true = d.0 in
-    let equals : begins_with 61 t ≡ true = run_front t (ltb-true 0 (run (Only 61) t) a.0) in
+    let parts = and_parts (list_all (is_in (Either 61 32)) t) (begins_with 61 t && (list_any (λ c. c == 32) t && begins_with 61 (drop (length t - 1) t))) h in
+    let equals : begins_with 61 t ≡ true = (and_parts (begins_with 61 t) (list_any (λ c. c == 32) t && begins_with 61 (drop (length t - 1) t)) parts.1).0 in
+    let blank : is_blank (drop (run (Either 61 32) t) t) ≡ true = whole_run 61 32 t ∙ parts.0 in
     rw (equals, blank) refl
 
 pub empty_row : (t : List ℕ) → is_empty (places_of t) ≡ is_blank t

@@ -1,6 +1,6 @@
 use Rattle.std.proofs.Common.{◌≡◌, drop}
-use Rattle.rst_directives.specs.Characters.{has_character}
+use Rattle.rst_pieces.specs.Characters.{is_among}
 use Rattle.rst_directives.proofs.characters.has_character.Given as goal
 
 abbrev pub invariant-loop-c : goal.invariant-loop-c
-invariant-loop-c l = has_character l.character (drop l.c-index l.text) ≡ has_character l.character l.text
+invariant-loop-c l = is_among (drop l.c-index l.text) l.character ≡ is_among l.text l.character

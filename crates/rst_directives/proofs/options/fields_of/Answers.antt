@@ -2,7 +2,7 @@ use Rattle.std.proofs.Common.{◌≡◌, ◌+◌, ◌++◌, [], ◌∷◌, drop,
 use Rattle.rst_directives.specs.Lines.{texts_of}
 use Rattle.rst_directives.specs.Options.{deep_len, field_in, field_text, field_texts, fields_in}
 use Rattle.rst_directives.proofs.Runs.{map-one}
-use Rattle.rst_directives.proofs.FieldLemmas.{behind_fields, fields-more, fields-stop, fields-end, texts-at, length-texts, drop-behind}
+use Rattle.rst_directives.proofs.FieldLemmas.{behind_fields, fields-more, fields-stop, fields-end, texts-at, length_texts, drop-behind}
 use Rattle.rst_directives.proofs.options.fields_of.Goals as goal
 
 pub returns-in_default : goal.returns-in_default
@@ -25,4 +25,4 @@ loop-i-preserved c =
     (ap (option_map field_text) (sym c.in-Some.is) ∙ given) c.loop-i.invariant
 
 pub returns : goal.returns
-returns c = fields-end (texts_of c.args.run.now) c.loop-i.i (field_texts c.loop-i.fields.items) _ (omega (arith, length-texts c.args.run.now)) c.loop-i.invariant
+returns c = fields-end (texts_of c.args.run.now) c.loop-i.i (field_texts c.loop-i.fields.items) _ (omega (arith, length_texts c.args.run.now)) c.loop-i.invariant

@@ -2,7 +2,7 @@ use Rattle.std.proofs.Common.{◌≡◌, ◌+◌, ◌≤◌, false, sym, ◌∙�
 use Rattle.std.proofs.lemmas.List.{get_or_read}
 use Rattle.rst_text.proofs.PlacesLemmas.{first_from-is}
 use Rattle.rst_pieces.specs.Escapes.{escapes}
-use Rattle.rst_pieces.specs.Marked.{start_len, ends, end_of}
+use Rattle.rst_pieces.specs.Marked.{start_len, ends, markup_end}
 use Rattle.rst_pieces.proofs.EscapeLemmas.{is_escaped-bare, is_escaped-more}
 use Rattle.rst_pieces.proofs.MarkedLemmas.{start-bare}
 use Rattle.rst_pieces.proofs.piece.Markup.end.Goals as goal
@@ -15,7 +15,7 @@ loop-at-init c = record {
 }
 
 pub returns-then-ends : goal.returns-then-ends
-unfolding end_of
+unfolding markup_end
 returns-then-ends c =
     let here = c.ends.ensures c.args.place c.loop-at.invariant.escaped in
     record {
@@ -24,7 +24,7 @@ returns-then-ends c =
     }
 
 pub returns-clause-exact : goal.returns-clause-exact
-unfolding end_of
+unfolding markup_end
 returns-clause-exact c =
     first_from-is (ends c.args.self c.args.text.now c.args.place) _ (length c.args.text.now) None (λ k low high. c.loop-at.invariant.none k low (omega arith))
 
