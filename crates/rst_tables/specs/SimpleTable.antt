@@ -1,5 +1,5 @@
--- Simple tables: which lines they are, what can be wrong with them, and what stands in them (Markup Specification,
--- 'Simple Tables').
+-- Simple tables: what can be wrong with their lines, and what stands in them (Markup Specification, 'Simple Tables'). Which
+-- lines they are is told by the row of the table of constructs.
 use Rattle.std.specs.Prelude.{ℕ, zero, suc, ◌+◌, ◌-◌, max, Bool, false, not, ◌&&◌, ◌||◌, ◌==◌, nat_le, List, [], ◌∷◌, ◌++◌, Option, Some, None, is_some, if◌then◌else◌, get_or, length, take, drop, map, count_by, unwrap_or, option_map, option_and_then, flat_map, filter, position}
 use Rattle.std.specs.Char.{is_whitespace}
 use Rattle.std.specs.List.{list_all, range_with_len}
@@ -7,16 +7,16 @@ use Rattle.std.specs.Option.{option_or}
 use Rattle.rst_text.specs.Block.{Block, first_number}
 use Rattle.rst_tables.specs.Places.{Grid, rows_of, row_at, mark_of, mark_at}
 use Rattle.rst_text.specs.Places.{first_from}
+use Rattle.rst_markup.specs.TableRows.{is_as_long, head_border, simple_bottom, simple_size}
 use Rattle.rst_tables.specs.Neighbours.{neighbours}
 use Rattle.rst_tables.specs.Cells.{cell_block}
 use Rattle.rst_tables.specs.GridTable.{malformed}
 use Rattle.rst_tables.specs.declared.places.Place.{Place}
 use Rattle.rst_tables.specs.declared.places.Place.TheVariants.{Character, Second}
 use Rattle.rst_tables.specs.declared.spans.Span.{Span}
-use Rattle.rst_tables.specs.declared.simple_lines.SimpleEnd.{SimpleEnd}
-use Rattle.rst_tables.specs.declared.simple_lines.SimpleEnd.TheVariants.{Ends, Fails}
 use Rattle.rst_tables.specs.declared.simple_rows.RowLines.{RowLines}
 use Rattle.rst_tables.specs.declared.results.Cell.{Cell}
+use Rattle.rst_tables.specs.declared.results.TableDetail.{TableDetail}
 use Rattle.rst_tables.specs.declared.results.TableDetail.TheVariants.{BorderMismatch, BottomMissing, ColumnSpan, Margin}
 use Rattle.rst_tables.specs.declared.results.TableResult.{TableResult}
 use Rattle.rst_tables.specs.declared.results.TableResult.TheVariants.{Table}
@@ -31,39 +31,13 @@ is_stroke mark p = mark_of p == mark || mark_of p == 32
 unfoldable pub is_ruled : ℕ → List Place → Bool
 is_ruled mark row = mark_at row 0 == mark && list_all (is_stroke mark) row
 
--- a border: `=` and spaces, `=` first
-abbrev pub is_lower_border_row : List Place → Bool
-is_lower_border_row row = is_ruled 61 row
-
--- a border, or a span rule of `-` and spaces
+-- a border of `=` and spaces, or a span rule of `-` and spaces
 unfoldable pub is_rule : List Place → Bool
-is_rule row = is_lower_border_row row || is_ruled 45 row
+is_rule row = is_ruled 61 row || is_ruled 45 row
 
 -- a row has no places: its line is blank, or there is no such line
 abbrev pub is_empty : List Place → Bool
 is_empty row = length row == 0
-
--- ---- where the table ends
-
--- the first border from a place on
-abbrev pub next_border : Grid → ℕ → Option ℕ
-next_border R low = first_from (λ k. is_lower_border_row (row_at R k)) low (length R - low)
-
--- The table ends at its second border below the top. Its first one, at place `first`, closes the head.
-abbrev pub end_at_second : Grid → ℕ → ℕ → Option ℕ → SimpleEnd
-end_at_second R wide first None = Fails (first + 1) BottomMissing
-end_at_second R wide first (Some second) = if length (row_at R second) == wide then Ends (second + 1) (Some first) else Fails (second + 1) BorderMismatch
-
--- It ends at its first border if that is the block's last line or a blank line follows.
-abbrev pub end_at_first : Grid → ℕ → Option ℕ → SimpleEnd
-end_at_first R wide None = Fails (length R) BottomMissing
-end_at_first R wide (Some first) =
-    if length (row_at R first) == wide then (if is_empty (row_at R (first + 1)) then Ends (first + 1) None else end_at_second R wide first (next_border R (first + 1)))
-    else Fails (first + 1) BorderMismatch
-
--- where the table ends whose top border is row i
-abbrev pub simple_end : Grid → ℕ → SimpleEnd
-simple_end R i = end_at_first R (length (row_at R i)) (next_border R (i + 1))
 
 -- ---- columns
 
@@ -255,16 +229,16 @@ or_rows line i head T None = or_table line i head T (first_in_margin T (simple_r
 abbrev pub simple_of : ℕ → ℕ → Option ℕ → Grid → TableResult
 simple_of line i head T = or_rows line i head T (first_unaligned T (rules_of T))
 
--- the place of the border that closes the head, counted from the top border
-abbrev pub above : ℕ → Option ℕ → Option ℕ
-above i None = None
-above i (Some k) = Some (k - i)
+-- the fault of a table's borders: there is no bottom border, or it isn't as long as the top one
+abbrev pub border_fault : Block → Option ℕ → Option TableDetail
+border_fault X None = Some BottomMissing
+border_fault X (Some bottom) = if is_as_long X bottom then None else Some BorderMismatch
 
--- what a table is by where it ends, or the fault of its borders
-abbrev pub simple_to : ℕ → ℕ → Grid → SimpleEnd → TableResult
-simple_to line i R (Fails end detail) = malformed line i (end - i) detail
-simple_to line i R (Ends end head) = simple_of line i (above i head) (take (end - i) (drop i R))
+-- what the rows of a table are, by the fault of its borders, if they have one
+abbrev pub simple_by : ℕ → ℕ → Option ℕ → Grid → Option TableDetail → TableResult
+simple_by line i head T (Some detail) = malformed line i (length T) detail
+simple_by line i head T None = simple_of line i head T
 
 -- the simple table whose top border is at place i of a block
 abbrev pub simple_table : Block → ℕ → TableResult
-simple_table B i = let R = rows_of B in simple_to (first_number (drop i B)) i R (simple_end R i)
+simple_table B i = let X = drop i B in simple_by (first_number X) i (head_border X) (rows_of (take (simple_size X) X)) (border_fault X (simple_bottom X))
