@@ -1,6 +1,5 @@
 -- How many lines are looked at for explicit markup and for tables at most.
-use Rattle.std.proofs.Common.{◌≡◌, ℕ, suc, ◌+◌, ◌-◌, ◌<◌, ◌≤◌, Bool, true, false, cond, eqb, [], ◌∷◌, length, drop, length-drop, Option, None, Some, arith, refl}
-use Rattle.std.proofs.lemmas.List.{length-map}
+use Rattle.std.proofs.Common.{◌≡◌, ℕ, ◌<◌, ◌≤◌, false, length, drop, length-drop, Option, None, Some, arith, refl}
 use Rattle.rst_text.specs.Block.{Block, front_text}
 use Rattle.rst_text.specs.Reach.{reach}
 use Rattle.rst_marks.specs.ExplicitMarks.{dots}

@@ -13,7 +13,7 @@ use Rattle.rst_tables.specs.declared.drawn.Rectangle.{Rectangle}
 use Rattle.rst_tables.specs.declared.results.TableDetail.{TableDetail}
 use Rattle.rst_tables.specs.declared.results.TableResult.{TableResult}
 use Rattle.rst_tables.proofs.RowLemmas.{dashes-length}
-use Rattle.rst_tables.specs.SimpleTable.{rules_of, first_unaligned, simple_rows, first_in_margin, or_table, or_rows, simple_of, border_fault}
+use Rattle.rst_tables.specs.SimpleTable.{simple_by, border_fault}
 use Rattle.rst_tables.proofs.GridLemmas.{drop_rows}
 
 pub rows_end : (line i : ℕ) (T : Grid) (fault : Option TableDetail) (r : TableResult) → IsOfRows line i T fault r → end_of r ≡ i + length T
@@ -24,16 +24,9 @@ rows_end line i T None r h = ap end_of h.2 ∙ by h.0 ∙ ap (λ n. i + n) (dash
     by None = refl
     by (Some rs) = refl
 
-pub simple_of_end : (line i : ℕ) (head : Option ℕ) (T : Grid) → end_of (simple_of line i head T) ≡ i + length T
-simple_of_end line i head T = by (first_unaligned T (rules_of T))
-  where
-    margin : (b : Option ℕ) → end_of (or_table line i head T b) ≡ i + length T
-    margin None = refl
-    margin (Some k) = refl
-
-    by : (a : Option ℕ) → end_of (or_rows line i head T a) ≡ i + length T
-    by (Some k) = refl
-    by None = margin (first_in_margin T (simple_rows T))
+pub simple_by_end : (line i : ℕ) (head : Option ℕ) (T : Grid) (fault : Option TableDetail) → end_of (simple_by line i head T fault) ≡ i + length T
+simple_by_end line i head T (Some detail) = refl
+simple_by_end line i head T None = refl
 
 -- how many rows the first n lines of a block are
 pub rows-size : (n : ℕ) (X : Block) → n ≤ length X → length (rows_of (take n X)) ≡ n

@@ -1,6 +1,6 @@
 -- Grid tables: what can be wrong with their lines, and what stands in them (Markup Specification, 'Grid Tables'). Which
 -- lines they are is told by the row of the table of constructs.
-use Rattle.std.specs.Prelude.{◌≡◌, ℕ, ◌+◌, ◌-◌, Bool, ◌&&◌, ◌||◌, ◌==◌, nat_le, List, Option, Some, None, if◌then◌else◌, get_or, slice_set, length, take, drop, map, filter}
+use Rattle.std.specs.Prelude.{◌≡◌, ℕ, ◌+◌, ◌-◌, Bool, ◌&&◌, ◌||◌, ◌==◌, nat_le, List, Option, Some, None, option_map, option_and_then, if◌then◌else◌, get_or, slice_set, length, take, drop, map, filter}
 use Rattle.std.specs.List.{list_all, list_any, range_with_len}
 use Rattle.rst_text.specs.Block.{Block, first_number}
 use Rattle.rst_tables.specs.Places.{Row, Grid, no_row, rows_of, row_at, mark_of, mark_at, place, width}
@@ -49,19 +49,13 @@ head_from T low = first_from (λ k. is_head_rule (row_at T k)) low (length T - l
 abbrev pub head_of : Grid → Option ℕ
 head_of T = head_from T 0
 
--- two such rules, by the places of their rows, counted from 1
-abbrev pub two_heads : ℕ → Option ℕ → Option TableDetail
-two_heads first None = None
-two_heads first (Some second) = Some (TwoHeadRules (first + 1) (second + 1))
-
--- the fault of a second rule between head and body, where this is the first
-abbrev pub second_head : Grid → Option ℕ → Option TableDetail
-second_head T None = None
-second_head T (Some first) = two_heads first (head_from T (first + 1))
+-- the fault of a second rule between head and body, where this is the first: both by their rows, counted from 1
+abbrev pub second_head : Grid → ℕ → Option TableDetail
+second_head T first = option_map (λ second. TwoHeadRules (first + 1) (second + 1)) (head_from T (first + 1))
 
 -- the first fault of the rows
 abbrev pub row_fault : Grid → Option TableDetail
-row_fault T = if is_square T then second_head T (head_of T) else Some RightEdgeBroken
+row_fault T = if is_square T then option_and_then (second_head T) (head_of T) else Some RightEdgeBroken
 
 -- the rule between head and body counts as one of `-`
 abbrev pub dash : Place → Place

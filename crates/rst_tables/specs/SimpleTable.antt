@@ -1,6 +1,6 @@
 -- Simple tables: what can be wrong with their lines, and what stands in them (Markup Specification, 'Simple Tables'). Which
 -- lines they are is told by the row of the table of constructs.
-use Rattle.std.specs.Prelude.{ℕ, zero, suc, ◌+◌, ◌-◌, max, Bool, false, not, ◌&&◌, ◌||◌, ◌==◌, nat_le, List, [], ◌∷◌, ◌++◌, Option, Some, None, is_some, if◌then◌else◌, get_or, length, take, drop, map, count_by, unwrap_or, option_map, option_and_then, flat_map, filter, position}
+use Rattle.std.specs.Prelude.{ℕ, zero, suc, ◌+◌, ◌-◌, max, Bool, false, not, ◌&&◌, ◌||◌, ◌==◌, nat_le, List, [], ◌∷◌, ◌++◌, Option, Some, None, is_some, if◌then◌else◌, get_or, length, take, drop, map, count_by, unwrap_or, option_map, option_and_then, flat_map, filter, find, position}
 use Rattle.std.specs.Char.{is_whitespace}
 use Rattle.std.specs.List.{list_all, range_with_len}
 use Rattle.std.specs.Option.{option_or}
@@ -94,10 +94,9 @@ rule_spans T k = spread (columns_of T) (spans_of (row_at T k))
 abbrev pub rules_of : Grid → List ℕ
 rules_of T = filter (λ k. is_rule (row_at T k)) (range_with_len 1 (length T - 1))
 
--- the first of the rules whose spans don't cover the columns
-abbrev pub first_unaligned : Grid → List ℕ → Option ℕ
-first_unaligned T [] = None
-first_unaligned T (k ∷ ks) = if is_some (rule_spans T k) then first_unaligned T ks else Some k
+-- the spans of a rule don't cover the columns
+abbrev pub is_unaligned : Grid → ℕ → Bool
+is_unaligned T k = not (is_some (rule_spans T k))
 
 -- ---- rows
 
@@ -212,33 +211,36 @@ abbrev pub simple_head : Option ℕ → List RowLines → ℕ
 simple_head None rows = 0
 simple_head (Some border) rows = count_by (λ r. nat_le r.to border) rows
 
--- ---- the answer
-
--- a table, or the fault of text between its columns, in this line of it, counted from 0
-abbrev pub or_table : ℕ → ℕ → Option ℕ → Grid → Option ℕ → TableResult
-or_table line i head T (Some k) = malformed line i (length T) (Margin (k + 1))
-or_table line i head T None = Table (simple_widths T) (simple_head head (simple_rows T)) (map (row_entries T) (simple_rows T)) (i + length T)
-
--- a table, or the fault of a rule that isn't aligned with its columns, in this line of it, counted from 0
-abbrev pub or_rows : ℕ → ℕ → Option ℕ → Grid → Option ℕ → TableResult
-or_rows line i head T (Some k) = malformed line i (length T) (ColumnSpan (k + 1))
-or_rows line i head T None = or_table line i head T (first_in_margin T (simple_rows T))
-
--- What the rows of a table are, the border that closes its head being one of them: first the faults of its rules are
--- looked for, then text between columns.
-abbrev pub simple_of : ℕ → ℕ → Option ℕ → Grid → TableResult
-simple_of line i head T = or_rows line i head T (first_unaligned T (rules_of T))
+-- ---- what is wrong with it
 
 -- the fault of a table's borders: there is no bottom border, or it isn't as long as the top one
 abbrev pub border_fault : Block → Option ℕ → Option TableDetail
 border_fault X None = Some BottomMissing
 border_fault X (Some bottom) = if is_as_long X bottom then None else Some BorderMismatch
 
--- what the rows of a table are, by the fault of its borders, if they have one
+-- the first rule whose spans don't cover the columns, by its line, counted from 1
+abbrev pub rule_fault : Grid → Option TableDetail
+rule_fault T = option_map (λ k. ColumnSpan (k + 1)) (find (is_unaligned T) (rules_of T))
+
+-- the first line with text between its columns, counted from 1
+abbrev pub margin_fault : Grid → Option TableDetail
+margin_fault T = option_map (λ k. Margin (k + 1)) (first_in_margin T (simple_rows T))
+
+-- the first fault of a table's lines: those of its rules come first
+abbrev pub lines_fault : Grid → Option TableDetail
+lines_fault T = option_or (rule_fault T) (margin_fault T)
+
+-- the first fault of a table
+abbrev pub simple_fault : Block → Grid → Option TableDetail
+simple_fault X T = option_or (border_fault X (simple_bottom X)) (lines_fault T)
+
+-- ---- the answer
+
+-- What the lines of a table are, by their first fault, if they have one. The border that closes its head is one of them.
 abbrev pub simple_by : ℕ → ℕ → Option ℕ → Grid → Option TableDetail → TableResult
 simple_by line i head T (Some detail) = malformed line i (length T) detail
-simple_by line i head T None = simple_of line i head T
+simple_by line i head T None = Table (simple_widths T) (simple_head head (simple_rows T)) (map (row_entries T) (simple_rows T)) (i + length T)
 
 -- the simple table whose top border is at place i of a block
 abbrev pub simple_table : Block → ℕ → TableResult
-simple_table B i = let X = drop i B in simple_by (first_number X) i (head_border X) (rows_of (take (simple_size X) X)) (border_fault X (simple_bottom X))
+simple_table B i = let X = drop i B in let T = rows_of (take (simple_size X) X) in simple_by (first_number X) i (head_border X) T (simple_fault X T)

@@ -40,7 +40,7 @@ fn simple_of(
     lines: &[TableLine],
 ) -> Result<TableResult, AllocError>
     requires { first + length lines.now < 2 ^ 64 }
-    ensures { IfOk result (λ table. table ≡ spec.simple_of line first head lines.now) }
+    ensures { IfOk result (λ table. table ≡ spec.simple_by line first head lines.now (spec.lines_fault lines.now)) }
 {
     let size = lines.len();
     let columns = columns_of(alloc, lines)?;
