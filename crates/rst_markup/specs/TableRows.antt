@@ -1,6 +1,6 @@
 -- The rows of tables, of which the characters of their lines alone tell the end (Markup Specification, 'Grid Tables',
 -- 'Simple Tables'). The lines of a block count from 0, so that the top border is line 0.
-use Rattle.std.specs.Prelude.{ℕ, suc, ◌+◌, ◌-◌, min, max, Bool, not, ◌&&◌, ◌==◌, List, length, drop, if◌then◌else◌, Option, Some, None, unwrap_or}
+use Rattle.std.specs.Prelude.{ℕ, suc, ◌+◌, ◌-◌, min, max, Bool, not, ◌&&◌, ◌==◌, length, if◌then◌else◌, Option, Some, None, unwrap_or}
 use Rattle.std.specs.Option.{option_or, option_and_then}
 use Rattle.rst_text.specs.Block.{Block, front_text, is_blank}
 use Rattle.rst_text.specs.Places.{first_from, last_from}
@@ -9,10 +9,7 @@ use Rattle.rst_marks.specs.Border.{is_grid_border, is_simple_border}
 use Rattle.rst_markup.specs.declared.lines.LineTest.TheVariants.{Drawn}
 use Rattle.rst_markup.specs.TableLines.{border_len, is_lower_border}
 use Rattle.rst_markup.specs.Lines.{lines_while}
-
--- the text of line k; past the end it is empty
-abbrev pub text_at : Block → ℕ → List ℕ
-text_at X k = front_text (drop k X)
+use Rattle.rst_markup.specs.Conditions.{text_at}
 
 -- the lines through this one, or all of them where there is none
 abbrev pub through : ℕ → Option ℕ → ℕ
