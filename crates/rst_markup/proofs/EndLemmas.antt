@@ -9,7 +9,7 @@ use Rattle.rst_marks.specs.Front.{first}
 use Rattle.rst_marks.specs.Adornment.{is_punctuation}
 use Rattle.rst_markup.specs.declared.lines.LineTest.TheVariants.{Blank, Begins, Plain}
 use Rattle.rst_markup.specs.Lines.{passes, lines_while}
-use Rattle.rst_markup.specs.Sizes.{literal_size, quoted_size, paragraph_size, paragraph_len, literal_if, run_size, text_size, hanging_size, filled, bullet_size, enumerator_size, item_size}
+use Rattle.rst_markup.specs.Sizes.{literal_size, quoted_size, paragraph_size, paragraph_len, run_size, text_size, hanging_size, filled, bullet_size, enumerator_size, item_size}
 use Rattle.rst_marks.specs.Marker.{bullet}
 use Rattle.rst_marks.specs.Enumerator.{enumerator_of}
 use Rattle.rst_marks.specs.declared.marker.Marker.{Marker}
@@ -92,7 +92,7 @@ pub paragraph_only : (n : ℕ) (X : Block) → n ≡ run_size Plain X → ends_i
 unfolding paragraph_size paragraph_len
 paragraph_only n X e h =
     let h' : ends_in_colons (front_text (drop (run_size Plain X - 1) X)) ≡ false = ap (λ k. ends_in_colons (front_text (drop (k - 1) X))) (sym e) ∙ h in
-    let z : run_size Plain X + literal_if (ends_in_colons (front_text (drop (run_size Plain X - 1) X))) (drop (run_size Plain X) X) ≡ run_size Plain X + 0 = ap (λ b. run_size Plain X + literal_if b (drop (run_size Plain X) X)) h' in
+    let z : run_size Plain X + cond (ends_in_colons (front_text (drop (run_size Plain X - 1) X))) (literal_size (drop (run_size Plain X) X)) 0 ≡ run_size Plain X + 0 = ap (λ b. run_size Plain X + cond b (literal_size (drop (run_size Plain X) X)) 0) h' in
     z ∙ (let w : run_size Plain X + 0 ≡ n = omega (arith, e) in w)
 
 pub paragraph_len_is : (X : Block) → paragraph_len X ≡ run_size Plain X

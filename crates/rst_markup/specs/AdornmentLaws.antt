@@ -1,5 +1,6 @@
 -- The laws of the row of lines of one punctuation character (Markup Specification, 'Sections', 'Transitions').
-use Rattle.std.specs.Prelude.{◌≡◌, ℕ, ◌≤◌, Bool, true, false, cond, is_some, IsTrue, List, [], ◌∷◌, length, take, refl, Option, None, Some, ◌==◌, ◌&&◌, ◌||◌}
+use Rattle.std.specs.Prelude.{◌≡◌, ℕ, ◌≤◌, Bool, true, false, cond, is_some, IsTrue, List, [], ◌∷◌, length, take, refl, Option, None, Some, unwrap_or, ◌==◌, ◌&&◌, ◌||◌}
+use Rattle.std.specs.Option.{option_map_or}
 use Rattle.std.proofs.Common.{ap, arith, leb, ltb}
 use Rattle.std.proofs.lemmas.Bool.{ltb-true}
 use Rattle.rst_text.specs.Block.{Block, front_text, is_blank}
@@ -9,7 +10,7 @@ use Rattle.rst_marks.specs.declared.adornment.Adornment.{Adornment}
 use Rattle.rst_markup.specs.declared.form.Adorned.TheVariants.{Text, ShortOverline, ShortAdornment, Transition, Title, InvalidMarker, MissingUnderline, Mismatch, Unexpected}
 use Rattle.rst_markup.specs.Conditions.{next_text, after_text}
 use Rattle.rst_markup.specs.Forms.{adorned_form, adorned_below, adorned_alone, adorned_over, overlined, overlined_by, over_title, is_same_adornment, is_whole_title}
-use Rattle.rst_markup.specs.Sizes.{adornment_size, adornment_size_by, fixed_size, size_or, third_text}
+use Rattle.rst_markup.specs.Sizes.{adorned_size, adornment_size, fixed_size, third_text, text_size}
 use Rattle.rst_markup.specs.Rows.{is_adornment_row}
 use Rattle.rst_markup.specs.RowLaws.{same_front, text_within}
 
@@ -102,12 +103,12 @@ form_sizes true mark X some = by (is_blank (next_text X)) refl
     by false e = over_sizes mark (next_text X) (third_text X) (length X) (next_there X e) (third_there X)
 
 -- a line of one punctuation character has the size of its form
-pub adornment_is : (titles : Bool) (X : Block) (mark : Adornment) → adornment_of (front_text X) ≡ Some mark → adornment_size titles X ≡ size_or (fixed_size (adorned_form titles mark (next_text X) (third_text X))) X
+pub adornment_is : (titles : Bool) (X : Block) (mark : Adornment) → adornment_of (front_text X) ≡ Some mark → adornment_size titles X ≡ unwrap_or (fixed_size (adorned_form titles mark (next_text X) (third_text X))) (text_size X)
 unfolding adornment_size
 adornment_is titles X mark e = rw e refl
 
 -- a fixed size, or that of a text, ends within the block
-or_within : (o : Option ℕ) (X : Block) → 1 ≤ length X → SizeWithin (length X) o → (1 ≤ size_or o X) × (size_or o X ≤ length X)
+or_within : (o : Option ℕ) (X : Block) → 1 ≤ length X → SizeWithin (length X) o → (1 ≤ unwrap_or o (text_size X)) × (unwrap_or o (text_size X) ≤ length X)
 or_within None X some s = text_within true X some refl
 or_within (Some n) X some s = s
 
@@ -116,6 +117,7 @@ pub adornment_within : (titles : Bool) (X : Block) → 1 ≤ length X → IsTrue
 unfolding adornment_size
 adornment_within titles X some h = by (adornment_of (front_text X))
   where
-    by : (o : Option Adornment) → (1 ≤ adornment_size_by titles o X) × (adornment_size_by titles o X ≤ length X)
+    by : (o : Option Adornment) → (1 ≤ option_map_or (λ mark. adorned_size (adorned_form titles mark (next_text X) (third_text X)) X) o (text_size X))
+        × (option_map_or (λ mark. adorned_size (adorned_form titles mark (next_text X) (third_text X)) X) o (text_size X) ≤ length X)
     by None = text_within true X some refl
     by (Some mark) = or_within (fixed_size (adorned_form titles mark (next_text X) (third_text X))) X some (form_sizes titles mark X some)

@@ -8,13 +8,17 @@ use Rattle.rst_marks.specs.OptionMarker.{option_marker}
 use Rattle.rst_marks.specs.declared.enumerator.Enumerator.{Enumerator}
 use Rattle.rst_marks.specs.declared.marker.Marker.{Marker}
 
+-- the text of line k, counted from 0; past the end it is empty
+abbrev pub text_at : Block → ℕ → List ℕ
+text_at X k = front_text (drop k X)
+
 -- the text of the line after the first
 abbrev pub next_text : Block → List ℕ
-next_text X = front_text (drop 1 X)
+next_text X = text_at X 1
 
 -- the text of the line after that
 abbrev pub after_text : Block → List ℕ
-after_text X = front_text (drop 2 X)
+after_text X = text_at X 2
 
 -- an enumerator, if the next line is missing, blank, indented, or begins with a next enumerator and a space
 abbrev pub if_listed : Option Enumerator → List ℕ → Option Enumerator

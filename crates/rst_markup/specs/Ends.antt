@@ -4,7 +4,7 @@ use Rattle.rst_text.specs.Block.{Block}
 use Rattle.rst_markup.specs.Explicit.{explicit_size}
 use Rattle.rst_markup.specs.Rows.{blank_size, own_reach, quote_size}
 use Rattle.rst_markup.specs.Sizes.{adornment_size, bullet_size, doctest_size, enumerator_size, hanging_size, indented_size, text_size}
-use Rattle.rst_markup.specs.TableRows.{grid_reach, grid_row_size, simple_reach, simple_row_size}
+use Rattle.rst_markup.specs.TableRows.{grid_reach, grid_size, simple_reach, simple_size}
 use Rattle.rst_markup.specs.declared.kind.Kind.{Kind}
 use Rattle.rst_markup.specs.declared.kind.Kind.TheVariants.{Blank, Quote, Bullet, Enumerator, Field, OptionItem, Doctest, Line, Grid, Simple, Explicit, Anonymous, Adornment, Text}
 
@@ -19,26 +19,15 @@ row_size Field titles X = hanging_size X
 row_size OptionItem titles X = hanging_size X
 row_size Doctest titles X = doctest_size X
 row_size Line titles X = indented_size X
-row_size Grid titles X = grid_row_size titles X
-row_size Simple titles X = simple_row_size titles X
+row_size Grid titles X = grid_size X
+row_size Simple titles X = simple_size X
 row_size Explicit titles X = explicit_size X
 row_size Anonymous titles X = indented_size X
 row_size Adornment titles X = adornment_size titles X
 row_size Text titles X = text_size X
 
--- its reach
+-- its reach: of a table its own, of any other kind no further than through the first line after the construct that isn't blank
 abbrev pub row_reach : Kind → Bool → Block → ℕ
-row_reach Grid titles X = grid_reach titles X
-row_reach Simple titles X = simple_reach titles X
-row_reach Blank titles X = own_reach (row_size Blank) titles X
-row_reach Quote titles X = own_reach (row_size Quote) titles X
-row_reach Bullet titles X = own_reach (row_size Bullet) titles X
-row_reach Enumerator titles X = own_reach (row_size Enumerator) titles X
-row_reach Field titles X = own_reach (row_size Field) titles X
-row_reach OptionItem titles X = own_reach (row_size OptionItem) titles X
-row_reach Doctest titles X = own_reach (row_size Doctest) titles X
-row_reach Line titles X = own_reach (row_size Line) titles X
-row_reach Explicit titles X = own_reach (row_size Explicit) titles X
-row_reach Anonymous titles X = own_reach (row_size Anonymous) titles X
-row_reach Adornment titles X = own_reach (row_size Adornment) titles X
-row_reach Text titles X = own_reach (row_size Text) titles X
+row_reach Grid titles X = grid_reach X
+row_reach Simple titles X = simple_reach X
+row_reach kind titles X = own_reach (row_size kind) titles X

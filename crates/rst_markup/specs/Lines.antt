@@ -1,14 +1,13 @@
--- Lines at the front of a block that pass a test (Markup Specification, 'Indentation', 'Literal Blocks', 'Grid Tables',
--- 'Simple Tables').
+-- Lines at the front of a block that pass a test (Markup Specification, 'Indentation', 'Literal Blocks', 'Grid Tables').
 use Rattle.std.specs.Prelude.{ℕ, suc, Bool, not, List, [], ◌∷◌, if◌then◌else◌}
 use Rattle.rst_text.specs.Block.{Block, is_blank}
 use Rattle.rst_marks.specs.Front.{begins_with, is_loose}
 use Rattle.rst_markup.specs.declared.lines.LineTest.{LineTest}
-use Rattle.rst_markup.specs.declared.lines.LineTest.TheVariants.{Blank, Filled, Indented, Plain, Begins, Drawn, NoBorder}
-use Rattle.rst_markup.specs.TableLines.{is_drawn, is_lower_border}
+use Rattle.rst_markup.specs.declared.lines.LineTest.TheVariants.{Blank, Filled, Indented, Plain, Begins, Drawn}
+use Rattle.rst_markup.specs.TableLines.{is_drawn}
 
 -- a line passes a test: it is blank, or isn't; it is indented, or is neither indented nor blank; it begins with a
--- character; it may belong to a grid table; or it is no border of a simple table
+-- character; or it may belong to a grid table
 abbrev pub passes : LineTest → List ℕ → Bool
 passes Blank t = is_blank t
 passes Filled t = not (is_blank t)
@@ -16,7 +15,6 @@ passes Indented t = begins_with 32 t
 passes Plain t = not (is_loose t)
 passes (Begins c) t = begins_with c t
 passes Drawn t = is_drawn t
-passes NoBorder t = not (is_lower_border t)
 
 -- how many lines at the front pass
 unfoldable pub lines_while : LineTest → Block → ℕ

@@ -23,7 +23,7 @@ use Rattle.rst_markup.specs.declared.lines.LineTest.{LineTest}
 use Rattle.rst_markup.specs.declared.lines.LineTest.TheVariants.{Indented, Filled, Blank, Plain, Begins}
 use Rattle.rst_markup.specs.Lines.{passes, lines_while}
 use Rattle.rst_markup.specs.Conditions.{next_text, after_text, item_enumerator, item_option}
-use Rattle.rst_markup.specs.Sizes.{bullet_size, enumerator_size, item_size, hanging_size, run_size, indented_size, doctest_size, least_below, literal_size, quoted_size, quoted_by, literal_if, last_text, paragraph_size, paragraph_len, text_size, form_size}
+use Rattle.rst_markup.specs.Sizes.{bullet_size, enumerator_size, item_size, hanging_size, run_size, indented_size, doctest_size, least_below, literal_size, quoted_size, quoted_by, last_text, paragraph_size, paragraph_len, text_size, form_size}
 use Rattle.rst_markup.specs.Rows.{is_blank_row, is_quote_row, is_bullet_row, is_enumerator_row, is_field_row, is_option_row, is_doctest_row, is_bar_row, is_anonymous_row, is_text_row, blank_size, quote_size}
 
 -- ---- the first lines
@@ -226,7 +226,7 @@ paragraph_within X some =
     by (ends_in_colons (last_text X)) own
   where
     by : (p : Bool) → suc (lines_while Plain (drop 1 X)) ≤ length X
-        → (1 ≤ suc (lines_while Plain (drop 1 X)) + literal_if p (drop (suc (lines_while Plain (drop 1 X))) X)) × (suc (lines_while Plain (drop 1 X)) + literal_if p (drop (suc (lines_while Plain (drop 1 X))) X) ≤ length X)
+        → (1 ≤ suc (lines_while Plain (drop 1 X)) + cond p (literal_size (drop (suc (lines_while Plain (drop 1 X))) X)) 0) × (suc (lines_while Plain (drop 1 X)) + cond p (literal_size (drop (suc (lines_while Plain (drop 1 X))) X)) 0 ≤ length X)
     by true own = (omega arith, omega (arith, literal_le (drop (suc (lines_while Plain (drop 1 X))) X), length-drop (suc (lines_while Plain (drop 1 X))) X))
     by false own = (omega arith, omega arith)
 

@@ -1,6 +1,6 @@
 -- How many lines the construct at the front of a block has (Markup Specification, 'Body Elements',
 -- 'Quoted Literal Blocks', 'Sections', 'Transitions').
-use Rattle.std.specs.Prelude.{ℕ, suc, ◌+◌, ◌-◌, Bool, true, false, nat_lt, min, List, drop, length, if◌then◌else◌, Option, None, Some}
+use Rattle.std.specs.Prelude.{ℕ, suc, ◌+◌, ◌-◌, Bool, true, false, nat_lt, min, List, drop, length, if◌then◌else◌, Option, None, Some, unwrap_or}
 use Rattle.std.specs.Option.{option_map_or}
 use Rattle.rst_text.specs.Block.{Block, front_text}
 use Rattle.rst_text.specs.Extent.{extent}
@@ -10,7 +10,6 @@ use Rattle.rst_marks.specs.Enumerator.{enumerator_of}
 use Rattle.rst_marks.specs.Closing.{ends_in_colons}
 use Rattle.rst_marks.specs.Adornment.{adornment_of, is_punctuation}
 use Rattle.rst_marks.specs.declared.marker.Marker.{Marker}
-use Rattle.rst_marks.specs.declared.adornment.Adornment.{Adornment}
 use Rattle.rst_markup.specs.declared.lines.LineTest.{LineTest}
 use Rattle.rst_markup.specs.declared.lines.LineTest.TheVariants.{Blank, Filled, Indented, Plain, Begins}
 use Rattle.rst_markup.specs.declared.form.TextForm.{TextForm}
@@ -18,7 +17,7 @@ use Rattle.rst_markup.specs.declared.form.TextForm.TheVariants.{Paragraph, Short
 use Rattle.rst_markup.specs.declared.form.Adorned.{Adorned}
 use Rattle.rst_markup.specs.declared.form.Adorned.TheVariants.{Text, ShortOverline, ShortAdornment, Transition, Title as AdornedTitle, InvalidMarker, Incomplete, MissingUnderline, Mismatch, Unexpected}
 use Rattle.rst_markup.specs.Lines.{lines_while}
-use Rattle.rst_markup.specs.Conditions.{next_text, after_text}
+use Rattle.rst_markup.specs.Conditions.{text_at, next_text, after_text}
 use Rattle.rst_markup.specs.Forms.{text_form, adorned_form}
 
 -- the line and the indented block below it
@@ -71,18 +70,13 @@ quoted_size blanks Y = quoted_by (first (front_text (drop blanks Y))) blanks Y
 unfoldable pub literal_size : Block → ℕ
 literal_size Y = if nat_lt 0 (extent 1 Y) then extent 1 Y else quoted_size (lines_while Blank Y) Y
 
--- a literal block, if one is announced
-abbrev pub literal_if : Bool → Block → ℕ
-literal_if true Y = literal_size Y
-literal_if false Y = 0
-
 -- the last of a paragraph's own lines
 abbrev pub last_text : Block → List ℕ
-last_text X = front_text (drop (paragraph_len X - 1) X)
+last_text X = text_at X (paragraph_len X - 1)
 
 -- a paragraph with the literal block that it announces
 unfoldable pub paragraph_size : Block → ℕ
-paragraph_size X = paragraph_len X + literal_if (ends_in_colons (last_text X)) (drop (paragraph_len X) X)
+paragraph_size X = paragraph_len X + (if ends_in_colons (last_text X) then literal_size (drop (paragraph_len X) X) else 0)
 
 -- 1 for a line that isn't empty, else 0. No rule of markup: a possible overline over such a line costs one look more.
 abbrev pub filled : List ℕ → ℕ
@@ -113,24 +107,14 @@ fixed_size Text = None
 fixed_size ShortOverline = None
 fixed_size ShortAdornment = None
 
--- this number of lines, or that of a text where none is fixed
-abbrev pub size_or : Option ℕ → Block → ℕ
-size_or None X = text_size X
-size_or (Some n) X = n
-
--- what a line of one punctuation character begins, by its form
+-- what a line of one punctuation character begins, by its form: it has those lines, or the ones of a text where none are fixed
 abbrev pub adorned_size : Adorned → Block → ℕ
-adorned_size form X = size_or (fixed_size form) X
+adorned_size form X = unwrap_or (fixed_size form) (text_size X)
 
 -- the text of a block's third line, if there is one
 abbrev pub third_text : Block → Option (List ℕ)
 third_text X = if nat_lt 2 (length X) then Some (after_text X) else None
 
--- what a line of one punctuation character begins, or a text where the line is no such one
-abbrev pub adornment_size_by : Bool → Option Adornment → Block → ℕ
-adornment_size_by titles None X = text_size X
-adornment_size_by titles (Some mark) X = adorned_size (adorned_form titles mark (next_text X) (third_text X)) X
-
--- what a line of one punctuation character begins: a transition, a title or a text
+-- what a line of one punctuation character begins, a transition, a title or a text; a line that is no such one begins a text
 unfoldable pub adornment_size : Bool → Block → ℕ
-adornment_size titles X = adornment_size_by titles (adornment_of (front_text X)) X
+adornment_size titles X = option_map_or (λ mark. adorned_size (adorned_form titles mark (next_text X) (third_text X)) X) (adornment_of (front_text X)) (text_size X)

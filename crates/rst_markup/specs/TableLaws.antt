@@ -1,17 +1,19 @@
 -- The laws of the rows of tables (Markup Specification, 'Grid Tables', 'Simple Tables').
-use Rattle.std.specs.Prelude.{◌≡◌, ℕ, zero, suc, ◌+◌, ◌-◌, ◌≤◌, Bool, true, false, cond, ◌&&◌, IsTrue, List, [], ◌∷◌, length, take, drop, refl}
-use Rattle.std.proofs.Common.{ap, arith, ltb, length-drop, length-take}
-use Rattle.std.proofs.lemmas.Bool.{and_parts, ltb-true}
+use Rattle.std.specs.Prelude.{◌≡◌, ℕ, ◌+◌, ◌-◌, ◌<◌, ◌≤◌, Bool, true, false, cond, IsTrue, List, [], ◌∷◌, length, take, refl, Option, Some, None, IfSome, unwrap_or}
+use Rattle.std.specs.Option.{option_or, option_and_then}
+use Rattle.std.proofs.Common.{ap, arith}
+use Rattle.std.proofs.lemmas.Bool.{and_parts}
 use Rattle.rst_text.specs.Block.{Block, front_text}
+use Rattle.rst_text.specs.Places.{IsFirst, IsLast}
+use Rattle.rst_text.proofs.PlacesLemmas.{first_from-IsFirst, last_from-IsLast}
 use Rattle.rst_marks.specs.Front.{begins_with}
 use Rattle.rst_marks.specs.Border.{is_grid_border, is_simple_border}
 use Rattle.rst_markup.specs.declared.lines.LineTest.{LineTest}
-use Rattle.rst_markup.specs.declared.lines.LineTest.TheVariants.{Drawn, NoBorder}
+use Rattle.rst_markup.specs.declared.lines.LineTest.TheVariants.{Drawn}
 use Rattle.rst_markup.specs.TableLines.{is_drawn}
 use Rattle.rst_markup.specs.Lines.{passes, lines_while}
-use Rattle.rst_markup.specs.Sizes.{run_size}
 use Rattle.rst_markup.specs.RowLaws.{same_front, while_le}
-use Rattle.rst_markup.specs.TableRows.{one_more, through_border, closed_by, grid_size, goes_on, through_end, simple_size, is_grid_row, is_simple_row, grid_row_size, simple_row_size}
+use Rattle.rst_markup.specs.TableRows.{through, is_border_at, grid_bottom, grid_size, is_lower_border_at, border_below, closes_head, head_border, simple_bottom, simple_size, is_grid_row, is_simple_row}
 
 -- Whether a grid table begins depends on the first three lines alone.
 pub grid_on_three : (X Y : Block) → take 3 X ≡ take 3 Y → is_grid_row X ≡ is_grid_row Y
@@ -39,59 +41,79 @@ unfolding lines_while
 while_some test [] some h = absurd (omega arith)
 while_some test (l ∷ ls) some h = rw h (omega arith)
 
--- the last border stands within the block
-pub through_le : (X : Block) → through_border X ≤ length X
-unfolding through_border
-through_le [] = omega arith
-through_le (l ∷ ls) = by (is_grid_border l.text) (through_border ls) (through_le ls)
+-- the bottom border stands from the third line on, among the lines that may belong to the table
+pub grid_bottom_within : (X : Block) → IfSome (grid_bottom X) (λ k. (2 ≤ k) × (k < lines_while Drawn X))
+grid_bottom_within X = found (grid_bottom X) (last_from-IsLast (is_border_at X) 2 (lines_while Drawn X - 2))
   where
-    by : (b : Bool) (n : ℕ) → n ≤ length ls → one_more b n ≤ suc (length ls)
-    by true zero h = omega arith
-    by false zero h = omega arith
-    by b (suc n) h = omega arith
+    found : (o : Option ℕ) → IsLast (is_border_at X) 2 (2 + (lines_while Drawn X - 2)) o → IfSome o (λ k. (2 ≤ k) × (k < lines_while Drawn X))
+    found (Some k) h = (h.0, omega (arith, h.0, h.1))
+    found None h = tt
 
--- the lines that are drawn, and those of them from the third on
-pub drawn_lens : (X : Block) → (lines_while Drawn X ≤ length X) × (length (drop 2 (take (lines_while Drawn X) X)) ≡ lines_while Drawn X - 2)
-drawn_lens X =
-    let le = while_le Drawn X in
-    (le, omega (arith, le, length-drop 2 (take (lines_while Drawn X) X), length-take (lines_while Drawn X) X))
-
--- of the lines of a scan the table has one or more, and no others
-closed_within : (all n : ℕ) → 1 ≤ all → n ≤ all - 2 → (1 ≤ closed_by all n) × (closed_by all n ≤ all)
-closed_within all zero some h = (some, omega arith)
-closed_within all (suc n) some h = (omega arith, omega arith)
+-- a grid table has no more lines than these
+pub grid_size_le : (X : Block) → grid_size X ≤ lines_while Drawn X
+unfolding grid_size
+grid_size_le X = by (grid_bottom X) (grid_bottom_within X)
+  where
+    by : (o : Option ℕ) → IfSome o (λ k. (2 ≤ k) × (k < lines_while Drawn X)) → through (lines_while Drawn X) o ≤ lines_while Drawn X
+    by None inside = omega arith
+    by (Some k) inside = omega (arith, inside.1)
 
 -- A grid table has a line or more, and ends within the block.
-pub grid_within : (titles : Bool) (X : Block) → 1 ≤ length X → IsTrue (is_grid_row X) → (1 ≤ grid_row_size titles X) × (grid_row_size titles X ≤ length X)
+pub grid_within : (titles : Bool) (X : Block) → 1 ≤ length X → IsTrue (is_grid_row X) → (1 ≤ grid_size X) × (grid_size X ≤ length X)
 unfolding grid_size
 grid_within titles X some h =
-    let n : ℕ = lines_while Drawn X in
-    let lens = drawn_lens X in
-    let one : 1 ≤ n = while_some Drawn X some (grid_drawn (front_text X) h) in
-    let w = closed_within n (through_border (drop 2 (take n X))) one (omega (arith, lens.1, through_le (drop 2 (take n X)))) in
-    (w.0, omega (arith, w.1, lens.0))
+    let one : 1 ≤ lines_while Drawn X = while_some Drawn X some (grid_drawn (front_text X) h) in
+    (by (grid_bottom X) one, omega (arith, grid_size_le X, while_le Drawn X))
+  where
+    by : (o : Option ℕ) → 1 ≤ lines_while Drawn X → 1 ≤ through (lines_while Drawn X) o
+    by None one = one
+    by (Some k) one = omega arith
 
 -- ---- simple tables
 
--- the border that ends a table stands within the block
-pub through_end_within : (top : List ℕ) (Y : Block) → 1 ≤ length Y → (1 ≤ through_end top Y) × (through_end top Y ≤ length Y)
-through_end_within top Y some = by (goes_on top Y) (ltb (run_size NoBorder Y) (length Y)) refl
+-- a border below a line stands below it, within the block
+pub border_below_within : (X : Block) (k : ℕ) → IfSome (border_below X k) (λ j. (k < j) × (j < length X))
+border_below_within X k = found (border_below X k) (first_from-IsFirst (is_lower_border_at X) (k + 1) (length X - (k + 1)))
   where
-    by : (a b : Bool) → ltb (run_size NoBorder Y) (length Y) ≡ b → (1 ≤ cond (a && b) (suc (run_size NoBorder Y)) 1) × (cond (a && b) (suc (run_size NoBorder Y)) 1 ≤ length Y)
-    by true true e = (omega arith, omega (arith, ltb-true (run_size NoBorder Y) (length Y) e))
-    by true false e = (omega arith, some)
-    by false b e = (omega arith, some)
+    found : (o : Option ℕ) → IsFirst (is_lower_border_at X) (k + 1) (k + 1 + (length X - (k + 1))) o → IfSome o (λ j. (k < j) × (j < length X))
+    found (Some j) h = (omega (arith, h.0), omega (arith, h.0, h.1))
+    found None h = tt
+
+-- so does the border that closes the head
+pub head_border_within : (X : Block) → IfSome (head_border X) (λ k. (0 < k) × (k < length X))
+head_border_within X = by (border_below X 0) (border_below_within X 0)
+  where
+    kept : (b : Bool) (k : ℕ) → (0 < k) × (k < length X) → IfSome (cond b (Some k) None) (λ k. (0 < k) × (k < length X))
+    kept true k h = h
+    kept false k h = tt
+
+    by : (o : Option ℕ) → IfSome o (λ k. (0 < k) × (k < length X)) → IfSome (option_and_then (λ k. cond (closes_head X k) (Some k) None) o) (λ k. (0 < k) × (k < length X))
+    by None h = tt
+    by (Some k) h = kept (closes_head X k) k h
+
+-- so does the last border of a simple table
+pub simple_border_within : (X : Block) → IfSome (option_or (simple_bottom X) (head_border X)) (λ k. k < length X)
+simple_border_within X = by (simple_bottom X) (head_border X) (border_below_within X (unwrap_or (head_border X) 0)) (head_border_within X)
+  where
+    by : (o p : Option ℕ) → IfSome o (λ k. (unwrap_or (head_border X) 0 < k) × (k < length X)) → IfSome p (λ k. (0 < k) × (k < length X)) → IfSome (option_or o p) (λ k. k < length X)
+    by (Some k) p a b = a.1
+    by None (Some k) a b = b.1
+    by None None a b = tt
+
+-- a simple table ends within the block
+pub simple_size_le : (X : Block) → simple_size X ≤ length X
+unfolding simple_size
+simple_size_le X = by (option_or (simple_bottom X) (head_border X)) (simple_border_within X)
+  where
+    by : (o : Option ℕ) → IfSome o (λ k. k < length X) → through (length X) o ≤ length X
+    by (Some k) h = omega (arith, h)
+    by None h = omega arith
 
 -- A simple table has a line or more, and ends within the block.
-pub simple_within : (titles : Bool) (X : Block) → 1 ≤ length X → IsTrue (is_simple_row X) → (1 ≤ simple_row_size titles X) × (simple_row_size titles X ≤ length X)
+pub simple_within : (titles : Bool) (X : Block) → 1 ≤ length X → IsTrue (is_simple_row X) → (1 ≤ simple_size X) × (simple_size X ≤ length X)
 unfolding simple_size
-simple_within titles X some h = by (ltb (run_size NoBorder X) (length X)) refl
+simple_within titles X some h = (by (option_or (simple_bottom X) (head_border X)), simple_size_le X)
   where
-    by : (b : Bool) → ltb (run_size NoBorder X) (length X) ≡ b
-        → (1 ≤ cond b (run_size NoBorder X + through_end (front_text X) (drop (run_size NoBorder X) X)) (length X)) × (cond b (run_size NoBorder X + through_end (front_text X) (drop (run_size NoBorder X) X)) (length X) ≤ length X)
-    by true e =
-        let less = ltb-true (run_size NoBorder X) (length X) e in
-        let size = length-drop (run_size NoBorder X) X in
-        let w = through_end_within (front_text X) (drop (run_size NoBorder X) X) (omega (arith, less, size)) in
-        (omega (arith, w.0), omega (arith, w.1, less, size))
-    by false e = (some, omega arith)
+    by : (o : Option ℕ) → 1 ≤ through (length X) o
+    by (Some k) = omega arith
+    by None = some

@@ -39,4 +39,5 @@ pub use kind_end::end_of;
 pub use lines::{LineTest, below_end, below_text, lines_end, text_at};
 pub use part::Part;
 pub use rst_marks::Characters;
-pub use table_rows::{GridTable, SimpleTable};
+pub use table_line::is_drawn;
+pub use table_rows::{GridTable, SimpleBorders, SimpleTable, is_as_long, simple_borders};

@@ -7,7 +7,7 @@ ghost use Rattle.rst_text.specs.Reach.{reach, through_text};
 ghost use Rattle.rst_text.specs.Shown.{block_of};
 ghost use Rattle.rst_markup.specs.Lines.{passes, lines_while};
 
-use super::table_line::{is_drawn, is_lower_border};
+use super::table_line::is_drawn;
 use rst_marks::{begins_with, is_blank, is_loose};
 use rst_text::{Looks, View};
 
@@ -26,8 +26,6 @@ pub enum LineTest {
     Begins(char),
     /// It begins with `+` or `|`, as each line of a grid table does.
     Drawn,
-    /// It is no border of a simple table.
-    NoBorder,
 }
 
 /// Whether a line passes a test.
@@ -41,7 +39,6 @@ fn passes(test: LineTest, text: &str) -> bool
         LineTest::Plain => !is_loose(text),
         LineTest::Begins(c) => begins_with(c, text),
         LineTest::Drawn => is_drawn(text),
-        LineTest::NoBorder => !is_lower_border(text),
     }
 }
 

@@ -8,7 +8,7 @@ use rst_text::skip;
 
 /// Whether a line begins with `+` or `|`, as each line of a grid table does.
 #[tactic(auto, unfolding(crate::specs::TableLines::is_drawn))]
-pub(crate) fn is_drawn(text: &str) -> bool
+pub fn is_drawn(text: &str) -> bool
     ensures { result ≡ spec.is_drawn (chars text.now) }
 {
     begins_with('+', text) || begins_with('|', text)

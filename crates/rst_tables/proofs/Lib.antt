@@ -10,5 +10,4 @@ pub mod RowLemmas
 pub mod TableLemmas
 pub mod SimpleLemmas
 pub mod ScanLemmas
-pub mod CharacterLemmas
 pub mod EndLemmas

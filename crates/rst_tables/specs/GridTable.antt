@@ -1,10 +1,11 @@
--- Grid tables: which lines they are, what can be wrong with them, and what stands in them (Markup Specification,
--- 'Grid Tables').
-use Rattle.std.specs.Prelude.{◌≡◌, ℕ, zero, suc, ◌+◌, ◌-◌, Bool, ◌&&◌, ◌||◌, ◌==◌, nat_le, List, [], ◌∷◌, Option, Some, None, if◌then◌else◌, get_or, slice_set, length, take, drop, map, filter}
+-- Grid tables: what can be wrong with their lines, and what stands in them (Markup Specification, 'Grid Tables'). Which
+-- lines they are is told by the row of the table of constructs.
+use Rattle.std.specs.Prelude.{◌≡◌, ℕ, ◌+◌, ◌-◌, Bool, ◌&&◌, ◌||◌, ◌==◌, nat_le, List, Option, Some, None, option_map, option_and_then, if◌then◌else◌, get_or, slice_set, length, take, drop, map, filter}
 use Rattle.std.specs.List.{list_all, list_any, range_with_len}
 use Rattle.rst_text.specs.Block.{Block, first_number}
 use Rattle.rst_tables.specs.Places.{Row, Grid, no_row, rows_of, row_at, mark_of, mark_at, place, width}
 use Rattle.rst_text.specs.Places.{first_from}
+use Rattle.rst_markup.specs.TableRows.{grid_bottom, grid_size}
 use Rattle.rst_tables.specs.Counts.{below}
 use Rattle.rst_tables.specs.Neighbours.{neighbours}
 use Rattle.rst_tables.specs.Cells.{cell_block}
@@ -18,60 +19,19 @@ use Rattle.rst_tables.specs.declared.results.TableDetail.TheVariants.{BottomBord
 use Rattle.rst_tables.specs.declared.results.TableResult.{TableResult}
 use Rattle.rst_tables.specs.declared.results.TableResult.TheVariants.{Table, Malformed}
 
--- ---- lines
-
--- the mark or `+`
-unfoldable pub is_part : ℕ → Place → Bool
-is_part mark p = mark_of p == mark || mark_of p == 43
-
--- `+` and the mark at the beginning, the mark and `+` at the end
-unfoldable pub has_ends : ℕ → List Place → Bool
-has_ends mark row = mark_at row 0 == 43 && (mark_at row 1 == mark && (mark_at row (length row - 2) == mark && mark_at row (length row - 1) == 43))
-
--- `+` and the mark, any number of the mark and `+`, the mark and `+`: `shortest` places or more
-unfoldable pub is_edge : ℕ → ℕ → List Place → Bool
-is_edge mark shortest row = nat_le shortest (length row) && (has_ends mark row && list_all (is_part mark) row)
-
--- `+-`, one or more of `-` and `+`, `-+`
-abbrev pub is_grid_border_row : List Place → Bool
-is_grid_border_row row = is_edge 45 5 row
-
--- `+=`, any number of `=` and `+`, `=+`
-abbrev pub is_head_rule : List Place → Bool
-is_head_rule row = is_edge 61 4 row
-
--- it begins with `+` or `|`
-unfoldable pub is_drawn_row : List Place → Bool
-is_drawn_row row = mark_at row 0 == 43 || mark_at row 0 == 124
-
--- ---- where the table ends
-
--- the rows before the first that begins with neither `+` nor `|`; a blank one is such a row
-abbrev pub scanned : Grid → Grid
-scanned [] = []
-scanned (r ∷ rs) = if is_drawn_row r.places then r ∷ scanned rs else []
-
--- how many rows there are through the last border where one more stands before them, which may be a border itself; none
--- without a border
-abbrev pub one_more : Bool → ℕ → ℕ
-one_more border zero = if border then 1 else 0
-one_more border (suc n) = suc (suc n)
-
--- how many rows there are through the last border, none if there is no border
-abbrev pub through_last : Grid → ℕ
-through_last [] = 0
-through_last (r ∷ rs) = one_more (is_grid_border_row r.places) (through_last rs)
-
--- how many rows there are with the two before them, none where there are none
-abbrev pub two_more : ℕ → ℕ
-two_more zero = 0
-two_more (suc n) = suc (suc (suc n))
-
--- how many rows the table has: it ends with the last border from the third row on, and has none without one
-abbrev pub height : Grid → ℕ
-height S = two_more (through_last (drop 2 S))
-
 -- ---- what its rows are
+
+-- `=` or `+`
+unfoldable pub is_part : Place → Bool
+is_part p = mark_of p == 61 || mark_of p == 43
+
+-- `+=` at the beginning, `=+` at the end
+unfoldable pub has_ends : List Place → Bool
+has_ends row = mark_at row 0 == 43 && (mark_at row 1 == 61 && (mark_at row (length row - 2) == 61 && mark_at row (length row - 1) == 43))
+
+-- a rule between head and body: `+=`, any number of `=` and `+`, `=+`
+unfoldable pub is_head_rule : List Place → Bool
+is_head_rule row = nat_le 4 (length row) && (has_ends row && list_all is_part row)
 
 -- the row has the width and ends in `+` or `|`
 unfoldable pub is_whole : ℕ → List Place → Bool
@@ -89,19 +49,13 @@ head_from T low = first_from (λ k. is_head_rule (row_at T k)) low (length T - l
 abbrev pub head_of : Grid → Option ℕ
 head_of T = head_from T 0
 
--- two such rules, by the places of their rows, counted from 1
-abbrev pub two_heads : ℕ → Option ℕ → Option TableDetail
-two_heads first None = None
-two_heads first (Some second) = Some (TwoHeadRules (first + 1) (second + 1))
-
--- the fault of a second rule between head and body, where this is the first
-abbrev pub second_head : Grid → Option ℕ → Option TableDetail
-second_head T None = None
-second_head T (Some first) = two_heads first (head_from T (first + 1))
+-- the fault of a second rule between head and body, where this is the first: both by their rows, counted from 1
+abbrev pub second_head : Grid → ℕ → Option TableDetail
+second_head T first = option_map (λ second. TwoHeadRules (first + 1) (second + 1)) (head_from T (first + 1))
 
 -- the first fault of the rows
 abbrev pub row_fault : Grid → Option TableDetail
-row_fault T = if is_square T then second_head T (head_of T) else Some RightEdgeBroken
+row_fault T = if is_square T then option_and_then (second_head T) (head_of T) else Some RightEdgeBroken
 
 -- the rule between head and body counts as one of `-`
 abbrev pub dash : Place → Place
@@ -198,12 +152,12 @@ IsOfRows line i T (Some detail) result = result ≡ malformed line i (length T) 
 IsOfRows line i T None result = let G = with_dashes T (head_of T) in
     (found : Option (List Rectangle)) × Tiles G found × (result ≡ tiled line i (head_of T) G found)
 
--- what scanned rows are by how many of them are the table
-abbrev pub IsOfHeight : ℕ → ℕ → Grid → ℕ → TableResult → Type 0
-IsOfHeight line i S zero result = result ≡ malformed line i (length S) BottomBorderMissing
-IsOfHeight line i S (suc n) result = IsOfRows line i (take (suc n) S) (row_fault (take (suc n) S)) result
+-- the first fault of a table's rows: there is no bottom border, or one of theirs
+abbrev pub grid_fault : Option ℕ → Grid → Option TableDetail
+grid_fault None T = Some BottomBorderMissing
+grid_fault (Some bottom) T = row_fault T
 
--- The grid table whose first line is at place i of a block. It is a `Table` with the cells of the tiling, or
--- `Malformed` with the first fault.
+-- The grid table whose first line is at place i of a block. It is a `Table` with the cells of the tiling, or `Malformed` with
+-- the first fault.
 abbrev pub IsGridTable : Block → ℕ → TableResult → Type 0
-IsGridTable B i result = let S = scanned (rows_of (drop i B)) in IsOfHeight (first_number (drop i B)) i S (height S) result
+IsGridTable B i result = let X = drop i B in let T = rows_of (take (grid_size X) X) in IsOfRows (first_number X) i T (grid_fault (grid_bottom X) T) result

@@ -11,4 +11,3 @@ pub mod Search
 pub mod Marks
 pub mod GridTable
 pub mod SimpleTable
-pub mod Looked

@@ -1,22 +1,22 @@
--- Simple tables: which lines they are, what can be wrong with them, and what stands in them (Markup Specification,
--- 'Simple Tables').
-use Rattle.std.specs.Prelude.{ℕ, zero, suc, ◌+◌, ◌-◌, max, Bool, false, not, ◌&&◌, ◌||◌, ◌==◌, nat_le, List, [], ◌∷◌, ◌++◌, Option, Some, None, is_some, if◌then◌else◌, get_or, length, take, drop, map, count_by, unwrap_or, option_map, option_and_then, flat_map, filter, position}
+-- Simple tables: what can be wrong with their lines, and what stands in them (Markup Specification, 'Simple Tables'). Which
+-- lines they are is told by the row of the table of constructs.
+use Rattle.std.specs.Prelude.{ℕ, zero, suc, ◌+◌, ◌-◌, max, Bool, false, not, ◌&&◌, ◌||◌, ◌==◌, nat_le, List, [], ◌∷◌, ◌++◌, Option, Some, None, is_some, if◌then◌else◌, get_or, length, take, drop, map, count_by, unwrap_or, option_map, option_and_then, flat_map, filter, find, position}
 use Rattle.std.specs.Char.{is_whitespace}
 use Rattle.std.specs.List.{list_all, range_with_len}
 use Rattle.std.specs.Option.{option_or}
 use Rattle.rst_text.specs.Block.{Block, first_number}
 use Rattle.rst_tables.specs.Places.{Grid, rows_of, row_at, mark_of, mark_at}
 use Rattle.rst_text.specs.Places.{first_from}
+use Rattle.rst_markup.specs.TableRows.{is_as_long, head_border, simple_bottom, simple_size}
 use Rattle.rst_tables.specs.Neighbours.{neighbours}
 use Rattle.rst_tables.specs.Cells.{cell_block}
 use Rattle.rst_tables.specs.GridTable.{malformed}
 use Rattle.rst_tables.specs.declared.places.Place.{Place}
 use Rattle.rst_tables.specs.declared.places.Place.TheVariants.{Character, Second}
 use Rattle.rst_tables.specs.declared.spans.Span.{Span}
-use Rattle.rst_tables.specs.declared.simple_lines.SimpleEnd.{SimpleEnd}
-use Rattle.rst_tables.specs.declared.simple_lines.SimpleEnd.TheVariants.{Ends, Fails}
 use Rattle.rst_tables.specs.declared.simple_rows.RowLines.{RowLines}
 use Rattle.rst_tables.specs.declared.results.Cell.{Cell}
+use Rattle.rst_tables.specs.declared.results.TableDetail.{TableDetail}
 use Rattle.rst_tables.specs.declared.results.TableDetail.TheVariants.{BorderMismatch, BottomMissing, ColumnSpan, Margin}
 use Rattle.rst_tables.specs.declared.results.TableResult.{TableResult}
 use Rattle.rst_tables.specs.declared.results.TableResult.TheVariants.{Table}
@@ -31,39 +31,13 @@ is_stroke mark p = mark_of p == mark || mark_of p == 32
 unfoldable pub is_ruled : ℕ → List Place → Bool
 is_ruled mark row = mark_at row 0 == mark && list_all (is_stroke mark) row
 
--- a border: `=` and spaces, `=` first
-abbrev pub is_lower_border_row : List Place → Bool
-is_lower_border_row row = is_ruled 61 row
-
--- a border, or a span rule of `-` and spaces
+-- a border of `=` and spaces, or a span rule of `-` and spaces
 unfoldable pub is_rule : List Place → Bool
-is_rule row = is_lower_border_row row || is_ruled 45 row
+is_rule row = is_ruled 61 row || is_ruled 45 row
 
 -- a row has no places: its line is blank, or there is no such line
 abbrev pub is_empty : List Place → Bool
 is_empty row = length row == 0
-
--- ---- where the table ends
-
--- the first border from a place on
-abbrev pub next_border : Grid → ℕ → Option ℕ
-next_border R low = first_from (λ k. is_lower_border_row (row_at R k)) low (length R - low)
-
--- The table ends at its second border below the top. Its first one, at place `first`, closes the head.
-abbrev pub end_at_second : Grid → ℕ → ℕ → Option ℕ → SimpleEnd
-end_at_second R wide first None = Fails (first + 1) BottomMissing
-end_at_second R wide first (Some second) = if length (row_at R second) == wide then Ends (second + 1) (Some first) else Fails (second + 1) BorderMismatch
-
--- It ends at its first border if that is the block's last line or a blank line follows.
-abbrev pub end_at_first : Grid → ℕ → Option ℕ → SimpleEnd
-end_at_first R wide None = Fails (length R) BottomMissing
-end_at_first R wide (Some first) =
-    if length (row_at R first) == wide then (if is_empty (row_at R (first + 1)) then Ends (first + 1) None else end_at_second R wide first (next_border R (first + 1)))
-    else Fails (first + 1) BorderMismatch
-
--- where the table ends whose top border is row i
-abbrev pub simple_end : Grid → ℕ → SimpleEnd
-simple_end R i = end_at_first R (length (row_at R i)) (next_border R (i + 1))
 
 -- ---- columns
 
@@ -120,10 +94,9 @@ rule_spans T k = spread (columns_of T) (spans_of (row_at T k))
 abbrev pub rules_of : Grid → List ℕ
 rules_of T = filter (λ k. is_rule (row_at T k)) (range_with_len 1 (length T - 1))
 
--- the first of the rules whose spans don't cover the columns
-abbrev pub first_unaligned : Grid → List ℕ → Option ℕ
-first_unaligned T [] = None
-first_unaligned T (k ∷ ks) = if is_some (rule_spans T k) then first_unaligned T ks else Some k
+-- the spans of a rule don't cover the columns
+abbrev pub is_unaligned : Grid → ℕ → Bool
+is_unaligned T k = not (is_some (rule_spans T k))
 
 -- ---- rows
 
@@ -238,33 +211,36 @@ abbrev pub simple_head : Option ℕ → List RowLines → ℕ
 simple_head None rows = 0
 simple_head (Some border) rows = count_by (λ r. nat_le r.to border) rows
 
+-- ---- what is wrong with it
+
+-- the fault of a table's borders: there is no bottom border, or it isn't as long as the top one
+abbrev pub border_fault : Block → Option ℕ → Option TableDetail
+border_fault X None = Some BottomMissing
+border_fault X (Some bottom) = if is_as_long X bottom then None else Some BorderMismatch
+
+-- the first rule whose spans don't cover the columns, by its line, counted from 1
+abbrev pub rule_fault : Grid → Option TableDetail
+rule_fault T = option_map (λ k. ColumnSpan (k + 1)) (find (is_unaligned T) (rules_of T))
+
+-- the first line with text between its columns, counted from 1
+abbrev pub margin_fault : Grid → Option TableDetail
+margin_fault T = option_map (λ k. Margin (k + 1)) (first_in_margin T (simple_rows T))
+
+-- the first fault of a table's lines: those of its rules come first
+abbrev pub lines_fault : Grid → Option TableDetail
+lines_fault T = option_or (rule_fault T) (margin_fault T)
+
+-- the first fault of a table
+abbrev pub simple_fault : Block → Grid → Option TableDetail
+simple_fault X T = option_or (border_fault X (simple_bottom X)) (lines_fault T)
+
 -- ---- the answer
 
--- a table, or the fault of text between its columns, in this line of it, counted from 0
-abbrev pub or_table : ℕ → ℕ → Option ℕ → Grid → Option ℕ → TableResult
-or_table line i head T (Some k) = malformed line i (length T) (Margin (k + 1))
-or_table line i head T None = Table (simple_widths T) (simple_head head (simple_rows T)) (map (row_entries T) (simple_rows T)) (i + length T)
-
--- a table, or the fault of a rule that isn't aligned with its columns, in this line of it, counted from 0
-abbrev pub or_rows : ℕ → ℕ → Option ℕ → Grid → Option ℕ → TableResult
-or_rows line i head T (Some k) = malformed line i (length T) (ColumnSpan (k + 1))
-or_rows line i head T None = or_table line i head T (first_in_margin T (simple_rows T))
-
--- What the rows of a table are, the border that closes its head being one of them: first the faults of its rules are
--- looked for, then text between columns.
-abbrev pub simple_of : ℕ → ℕ → Option ℕ → Grid → TableResult
-simple_of line i head T = or_rows line i head T (first_unaligned T (rules_of T))
-
--- the place of the border that closes the head, counted from the top border
-abbrev pub above : ℕ → Option ℕ → Option ℕ
-above i None = None
-above i (Some k) = Some (k - i)
-
--- what a table is by where it ends, or the fault of its borders
-abbrev pub simple_to : ℕ → ℕ → Grid → SimpleEnd → TableResult
-simple_to line i R (Fails end detail) = malformed line i (end - i) detail
-simple_to line i R (Ends end head) = simple_of line i (above i head) (take (end - i) (drop i R))
+-- What the lines of a table are, by their first fault, if they have one. The border that closes its head is one of them.
+abbrev pub simple_by : ℕ → ℕ → Option ℕ → Grid → Option TableDetail → TableResult
+simple_by line i head T (Some detail) = malformed line i (length T) detail
+simple_by line i head T None = Table (simple_widths T) (simple_head head (simple_rows T)) (map (row_entries T) (simple_rows T)) (i + length T)
 
 -- the simple table whose top border is at place i of a block
 abbrev pub simple_table : Block → ℕ → TableResult
-simple_table B i = let R = rows_of B in simple_to (first_number (drop i B)) i R (simple_end R i)
+simple_table B i = let X = drop i B in let T = rows_of (take (simple_size X) X) in simple_by (first_number X) i (head_border X) T (simple_fault X T)

@@ -1,124 +1,131 @@
 //! Grid tables: which lines they are, and what is wrong with them.
-ghost use Rattle.std.specs.Prelude.{◌≡◌, ◌+◌, ◌^◌, ◌<◌, ◌≤◌, length, drop, IfOk, OnOk, IfSome};
-ghost use Rattle.rst_text.specs.Shown.{block_of};
+ghost use Rattle.std.specs.Prelude.{◌≡◌, ◌+◌, ◌-◌, ◌^◌, ◌<◌, ◌≤◌, ◌&&◌, nat_le, length, drop, take, if◌then◌else◌, Some, IfOk, OnOk, IfSome};
 ghost use Rattle.std.specs.List.{list_all};
+ghost use Rattle.std.specs.Str.{chars};
+ghost use Rattle.rst_text.specs.Shown.{block_of};
+ghost use Rattle.rst_marks.specs.Border.{is_grid_border};
+ghost use Rattle.rst_markup.specs.Lines.{lines_while};
+ghost use Rattle.rst_markup.specs.TableRows.{grid_bottom, grid_size, grid_scan};
+ghost use Rattle.rst_markup.specs.declared.lines.LineTest.TheVariants.{Drawn};
 ghost use Rattle.rst_tables.specs.Places.{rows_of};
 ghost use Rattle.rst_tables.specs.GridTable as spec;
-ghost use Rattle.rst_tables.specs.Looked.{grid_looked};
 
 use super::drawn::is_upright;
-use super::places::{Place, TableLine, mark_at, read_line, width};
+use super::places::{Place, TableLine, line_of, mark_at, width};
 use super::results::TableDetail;
+use rst_marks::is_grid_border;
+use rst_markup::is_drawn;
 use rst_text::{Looks, View};
 use std::alloc::{AllocError, Global};
 
-/// Whether a place holds the mark or `+`.
-#[tactic(auto, unfolding(crate::specs::GridTable::is_part))]
-fn is_part(mark: char, place: Place) -> bool
-    ensures { result ≡ spec.is_part mark place }
+/// The bottom border so far, counted from the top one, where line `n` has this text: it may be one from the third line on.
+fn with_border(bottom: Option<usize>, n: usize, text: &str) -> Option<usize>
+    ensures { result ≡ (if nat_le 2 n && is_grid_border (chars text.now) then Some n else bottom) }
 {
-    place.mark() == mark || place.mark() == '+'
+    if n >= 2 && is_grid_border(text) {
+        Some(n)
+    } else {
+        bottom
+    }
 }
 
-/// Whether all places hold the mark or `+`.
-fn are_parts(mark: char, row: &[Place]) -> bool
-    ensures { result ≡ list_all (spec.is_part mark) row.now }
+/// Lines of a grid table, and its bottom border, counted from the top one.
+#[derive(Drop)]
+pub(crate) struct GridLines {
+    pub(crate) lines: Vec<TableLine>,
+    pub(crate) bottom: Option<usize>,
+}
+
+/// The lines from a place on up to the first that doesn't begin with `+` or `|`, and the bottom border among them.
+fn drawn_lines(
+    alloc: Global,
+    view: &View<'_>,
+    i: usize,
+    looks: &mut Looks,
+) -> Result<GridLines, AllocError>
+    requires there { i < length (block_of view.now) }
+    requires few { looks.old < 2 ^ 120 }
+    ensures lines { IfOk result (λ found. found.lines.items ≡ rows_of (take (lines_while Drawn (drop i (block_of view.now))) (drop i (block_of view.now)))) }
+    ensures bottom { IfOk result (λ found. found.bottom ≡ grid_bottom (drop i (block_of view.now))) }
+    ensures looks { looks.new ≤ looks.old + grid_scan (drop i (block_of view.now)) }
+{
+    let mut lines = Vec::new(alloc);
+    let mut bottom = None;
+    for k in i..view.len() {
+        let text = view.line(k, looks);
+        if !is_drawn(text) {
+            return Ok(GridLines { lines, bottom });
+        }
+        bottom = with_border(bottom, k - i, text);
+        let line = line_of(alloc, view, k, text)?;
+        lines.push(line)?;
+    }
+    Ok(GridLines { lines, bottom })
+}
+
+/// The lines of the grid table at place `i`, and its bottom border. It looks once at each line of its scan.
+pub(crate) fn grid_lines(
+    alloc: Global,
+    view: &View<'_>,
+    i: usize,
+    looks: &mut Looks,
+) -> Result<GridLines, AllocError>
+    requires there { i < length (block_of view.now) }
+    requires few { looks.old < 2 ^ 120 }
+    ensures fits { IfOk result (λ found. i + length found.lines.items < 2 ^ 64) }
+    ensures lines { IfOk result (λ found. found.lines.items ≡ rows_of (take (grid_size (drop i (block_of view.now))) (drop i (block_of view.now)))) }
+    ensures bottom { IfOk result (λ found. found.bottom ≡ grid_bottom (drop i (block_of view.now))) }
+    ensures looks { looks.new ≤ looks.old + grid_scan (drop i (block_of view.now)) }
+{
+    prove!(i < view.len());
+    let drawn = drawn_lines(alloc, view, i, looks)?;
+    let Some(k) = drawn.bottom else {
+        return Ok(drawn);
+    };
+    let mut lines = drawn.lines;
+    lines.truncate(k + 1);
+    Ok(GridLines {
+        lines,
+        bottom: Some(k),
+    })
+}
+
+/// Whether a place holds `=` or `+`.
+#[tactic(auto, unfolding(crate::specs::GridTable::is_part))]
+fn is_part(place: Place) -> bool
+    ensures { result ≡ spec.is_part place }
+{
+    place.mark() == '=' || place.mark() == '+'
+}
+
+/// Whether all places hold `=` or `+`.
+fn are_parts(row: &[Place]) -> bool
+    ensures { result ≡ list_all spec.is_part row.now }
 {
     for place in row {
-        if !is_part(mark, *place) {
+        if !is_part(*place) {
             return false;
         }
     }
     true
 }
 
-/// Whether a row begins with `+` and the mark, and ends with the mark and `+`.
+/// Whether a row begins with `+=` and ends with `=+`.
 #[tactic(auto, unfolding(crate::specs::GridTable::has_ends))]
-fn has_ends(mark: char, row: &[Place]) -> bool
-    ensures { result ≡ spec.has_ends mark row.now }
+fn has_ends(row: &[Place]) -> bool
+    ensures { result ≡ spec.has_ends row.now }
 {
     mark_at(row, 0) == '+'
-        && mark_at(row, 1) == mark
-        && mark_at(row, row.len().saturating_sub(2)) == mark
+        && mark_at(row, 1) == '='
+        && mark_at(row, row.len().saturating_sub(2)) == '='
         && mark_at(row, row.len().saturating_sub(1)) == '+'
 }
 
-/// Whether a row of `shortest` places or more is `+`, the mark, any number of the mark and `+`, the mark, `+`.
-#[tactic(auto, unfolding(crate::specs::GridTable::is_edge))]
-fn is_edge(mark: char, shortest: usize, row: &[Place]) -> bool
-    ensures { result ≡ spec.is_edge mark shortest row.now }
-{
-    shortest <= row.len() && has_ends(mark, row) && are_parts(mark, row)
-}
-
-fn is_grid_border_row(row: &[Place]) -> bool
-    ensures { result ≡ spec.is_grid_border_row row.now }
-{
-    is_edge('-', 5, row)
-}
-
+#[tactic(auto, unfolding(crate::specs::GridTable::is_head_rule))]
 fn is_head_rule(row: &[Place]) -> bool
     ensures { result ≡ spec.is_head_rule row.now }
 {
-    is_edge('=', 4, row)
-}
-
-#[tactic(auto, unfolding(crate::specs::GridTable::is_drawn_row))]
-fn is_drawn_row(row: &[Place]) -> bool
-    ensures { result ≡ spec.is_drawn_row row.now }
-{
-    mark_at(row, 0) == '+' || mark_at(row, 0) == '|'
-}
-
-/// The lines from a place on up to the first that doesn't begin with `+` or `|`.
-pub(crate) fn scanned(
-    alloc: Global,
-    view: &View<'_>,
-    from: usize,
-    looks: &mut Looks,
-) -> Result<Vec<TableLine>, AllocError>
-    requires there { from ≤ length (block_of view.now) }
-    requires few { looks.old < 2 ^ 120 }
-    ensures fits { IfOk result (λ lines. from + length lines.items < 2 ^ 64) }
-    ensures lines { IfOk result (λ lines. lines.items ≡ spec.scanned (rows_of (drop from (block_of view.now)))) }
-    ensures looks { looks.new ≤ looks.old + grid_looked (rows_of (drop from (block_of view.now))) }
-{
-    let mut lines = Vec::new(alloc);
-    for k in from..view.len() {
-        let line = read_line(alloc, view, k, looks)?;
-        if !is_drawn_row(line.places()) {
-            return Ok(lines);
-        }
-        lines.push(line)?;
-    }
-    Ok(lines)
-}
-
-/// How many lines there are through the last border, 0 without one.
-fn through_last(lines: &[TableLine]) -> usize
-    ensures value { result ≡ spec.through_last lines.now }
-    ensures within { result ≤ length lines.now }
-{
-    let mut last = 0;
-    for k in 0..lines.len() {
-        if is_grid_border_row(lines[k].places()) {
-            last = k + 1;
-            continue;
-        }
-    }
-    last
-}
-
-/// How many lines the table has, 0 without a border from the third line on.
-pub(crate) fn height(lines: &[TableLine]) -> usize
-    ensures value { result ≡ spec.height lines.now }
-    ensures within { result ≤ length lines.now }
-{
-    if lines.len() < 2 {
-        return 0;
-    }
-    let last = through_last(&lines[2..]);
-    if last == 0 { 0 } else { last + 2 }
+    row.len() >= 4 && has_ends(row) && are_parts(row)
 }
 
 #[tactic(auto, unfolding(crate::specs::GridTable::is_whole))]

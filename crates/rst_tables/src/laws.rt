@@ -1,5 +1,4 @@
 //! Laws on the definitions, each by a function that does nothing and whose contract is the law.
-ghost use Rattle.rst_tables.specs.Ends.{GridByCharacters, SimpleByCharacters};
 ghost use Rattle.rst_tables.specs.Laws.{HaveOneTiling, NoGridBehind, NoSimpleBehind};
 
 /// A grid whose rows are equally wide has at most one tiling by drawn rectangles.
@@ -15,14 +14,4 @@ pub fn no_grid_behind()
 /// No simple table begins at a line that the scan for the last border of one went over behind it.
 pub fn no_simple_behind()
     ensures { NoSimpleBehind }
-{}
-
-/// A grid table ends where the characters of its lines say, and is looked at as far as they say.
-pub fn grid_by_characters()
-    ensures { GridByCharacters }
-{}
-
-/// A simple table ends where the characters of its lines say, and is looked at as far as they say.
-pub fn simple_by_characters()
-    ensures { SimpleByCharacters }
 {}

@@ -18,9 +18,7 @@ mod simple_table;
 mod spans;
 mod table;
 
-pub use laws::{
-    grid_by_characters, no_grid_behind, no_simple_behind, one_tiling, simple_by_characters,
-};
+pub use laws::{no_grid_behind, no_simple_behind, one_tiling};
 pub use messages::malformed_text;
 pub use results::{Cell, CellLines, Rows, TableDetail, TableFault, TableResult, Widths};
 pub use simple_table::simple;

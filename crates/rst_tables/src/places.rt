@@ -1,10 +1,11 @@
 //! Lines of a table as rows of places.
-ghost use Rattle.std.specs.Prelude.{◌≡◌, ◌+◌, ◌^◌, ◌<◌, ◌∷◌, length, drop, IfOk};
+ghost use Rattle.std.specs.Prelude.{◌≡◌, ◌+◌, ◌<◌, ◌∷◌, length, drop, IfOk};
 ghost use Rattle.std.specs.Str.{chars};
 ghost use Rattle.rst_tables.specs.Places.{mark_of, is_double, places_of, mark_at, place, width, rows_of};
+ghost use Rattle.rst_text.specs.Block.{front_text};
 ghost use Rattle.rst_text.specs.Shown.{block_of};
 
-use rst_text::{Looks, View, characters_of};
+use rst_text::{View, characters_of};
 use std::alloc::{AllocError, Global};
 use std::marker::Model;
 use unicode_width::UnicodeWidthChar;
@@ -126,19 +127,17 @@ fn places_from(alloc: Global, characters: &[char]) -> Result<Vec<Place>, AllocEr
     Ok(places)
 }
 
-/// The line at place `k` of a view, at the price of one look.
-pub(crate) fn read_line(
+/// The line at place `k` of a view, by its text.
+pub(crate) fn line_of(
     alloc: Global,
     view: &View<'_>,
     k: usize,
-    looks: &mut Looks,
+    text: &str,
 ) -> Result<TableLine, AllocError>
     requires inside { k < length (block_of view.now) }
-    requires few { looks.old < 2 ^ 121 }
-    ensures line { IfOk result (λ line. rows_of (drop k (block_of view.now)) ≡ line ∷ rows_of (drop (k + 1) (block_of view.now))) }
-    ensures looks { looks.new ≡ looks.old + 1 }
+    requires text { chars text.now ≡ front_text (drop k (block_of view.now)) }
+    ensures { IfOk result (λ line. rows_of (drop k (block_of view.now)) ≡ line ∷ rows_of (drop (k + 1) (block_of view.now))) }
 {
-    let text = view.line(k, looks);
     let line = TableLine::of(alloc, view.number(k), text)?;
     Ok(line)
 }

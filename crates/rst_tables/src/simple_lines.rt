@@ -1,23 +1,15 @@
-//! Which lines are a simple table.
-ghost use Rattle.std.specs.Prelude.{◌≡◌, ◌+◌, ◌-◌, ◌*◌, ◌^◌, ◌<◌, ◌≤◌, length, drop, take, Some, IfOk, IfSome};
+//! The lines of a simple table: which of them are rules, and the fault of its borders.
+ghost use Rattle.std.specs.Prelude.{◌≡◌, ◌+◌, ◌-◌, ◌^◌, ◌<◌, ◌≤◌, length, drop, take, IfOk, IfNone};
 ghost use Rattle.std.specs.List.{list_all};
 ghost use Rattle.rst_text.specs.Shown.{block_of};
-ghost use Rattle.rst_tables.specs.Places.{rows_of, row_at};
+ghost use Rattle.rst_tables.specs.Places.{rows_of};
 ghost use Rattle.rst_tables.specs.SimpleTable as spec;
-ghost use Rattle.rst_tables.specs.Looked.{scan_end, looked_to, simple_looked};
 
-use super::places::{Place, TableLine, mark_at, read_line};
+use super::places::{Place, TableLine, line_of, mark_at};
 use super::results::TableDetail;
+use rst_markup::is_as_long;
 use rst_text::{Looks, View};
 use std::alloc::{AllocError, Global};
-
-/// Where a simple table ends: before place `end`, and maybe a border at place `head` closes its head; or before place
-/// `end` with a fault.
-#[derive(Clone, Copy)]
-pub(crate) enum SimpleEnd {
-    Ends { end: usize, head: Option<usize> },
-    Fails { end: usize, detail: TableDetail },
-}
 
 #[tactic(auto, unfolding(crate::specs::SimpleTable::is_stroke))]
 fn is_stroke(mark: char, place: Place) -> bool
@@ -53,116 +45,28 @@ pub(crate) fn is_rule(row: &[Place]) -> bool
     is_ruled('=', row) || is_ruled('-', row)
 }
 
-/// The first border from place `low` on. It looks at each line through that border.
-fn next_border(
-    alloc: Global,
-    view: &View<'_>,
-    low: usize,
-    looks: &mut Looks,
-) -> Result<Option<usize>, AllocError>
-    requires there { low ≤ length (block_of view.now) }
-    requires few { looks.old < 2 ^ 120 + 2 ^ 66 }
-    ensures border { IfOk result (λ found. found ≡ spec.next_border (rows_of (block_of view.now)) low) }
-    ensures within { IfOk result (λ found. IfSome found (λ k. (low ≤ k) × (k < length (block_of view.now)))) }
-    ensures looks { looks.new + low ≤ looks.old + scan_end (rows_of (block_of view.now)) (spec.next_border (rows_of (block_of view.now)) low) }
-{
-    for k in low..view.len() {
-        let line = read_line(alloc, view, k, looks)?;
-        if is_ruled('=', line.places()) {
-            return Ok(Some(k));
-        }
-    }
-    Ok(None)
-}
-
-/// How many places the line at place `k` has, none past the end.
-fn line_width(
-    alloc: Global,
-    view: &View<'_>,
-    k: usize,
-    looks: &mut Looks,
-) -> Result<usize, AllocError>
-    requires few { looks.old < 2 ^ 120 + 2 ^ 67 }
-    ensures width { IfOk result (λ wide. wide ≡ length (row_at (rows_of (block_of view.now)) k)) }
-    ensures looks { looks.new ≤ looks.old + 1 }
-{
-    if k >= view.len() {
-        return Ok(0);
-    }
-    let line = read_line(alloc, view, k, looks)?;
-    Ok(line.places().len())
-}
-
-/// Where the table ends that is `wide` places wide and whose first border below the top stands at place `first`.
-fn end_below(
-    alloc: Global,
-    view: &View<'_>,
-    wide: usize,
-    first: usize,
-    looks: &mut Looks,
-) -> Result<SimpleEnd, AllocError>
-    requires there { first < length (block_of view.now) }
-    requires few { looks.old < 2 ^ 120 + 2 ^ 65 }
-    ensures end { IfOk result (λ end. end ≡ spec.end_at_first (rows_of (block_of view.now)) wide (Some first)) }
-    ensures looks { looks.new + first ≤ looks.old + 2 + looked_to (rows_of (block_of view.now)) wide (Some first) }
-{
-    // There are so many lines, so the place behind each fits, too.
-    let _lines = view.len();
-    let behind = first + 1;
-    let width = line_width(alloc, view, first, looks)?;
-    if width != wide {
-        let detail = TableDetail::BorderMismatch;
-        return Ok(SimpleEnd::Fails {
-            end: behind,
-            detail,
-        });
-    }
-    let after = line_width(alloc, view, behind, looks)?;
-    if after == 0 {
-        return Ok(SimpleEnd::Ends {
-            end: behind,
-            head: None,
-        });
-    }
-    let Some(second) = next_border(alloc, view, behind, looks)? else {
-        let detail = TableDetail::BottomMissing;
-        return Ok(SimpleEnd::Fails {
-            end: behind,
-            detail,
-        });
-    };
-    let last = line_width(alloc, view, second, looks)?;
-    let end = second + 1;
-    if last != wide {
-        let detail = TableDetail::BorderMismatch;
-        return Ok(SimpleEnd::Fails { end, detail });
-    }
-    Ok(SimpleEnd::Ends {
-        end,
-        head: Some(first),
-    })
-}
-
-/// Where the table ends whose top border is the line at place `i`.
-pub(crate) fn simple_end(
-    alloc: Global,
+/// The fault of the borders of the table at place `i`, by its bottom border, which is counted from there. It makes at most two
+/// looks, and none where there is no such border.
+pub(crate) fn border_fault(
     view: &View<'_>,
     i: usize,
+    bottom: Option<usize>,
     looks: &mut Looks,
-) -> Result<SimpleEnd, AllocError>
+) -> Option<TableDetail>
     requires there { i < length (block_of view.now) }
-    requires few { looks.old < 2 ^ 120 }
-    ensures end { IfOk result (λ end. end ≡ spec.simple_end (rows_of (block_of view.now)) i) }
-    ensures looks { looks.new ≤ looks.old + 3 * simple_looked (rows_of (block_of view.now)) i }
+    requires few { looks.old < 2 ^ 120 + 2 ^ 68 }
+    ensures fault { result ≡ spec.border_fault (drop i (block_of view.now)) bottom }
+    ensures looks { looks.new ≤ looks.old + 2 }
+    ensures none { IfNone bottom (looks.new ≤ looks.old) }
 {
-    let size = view.len();
-    let wide = line_width(alloc, view, i, looks)?;
-    let Some(first) = next_border(alloc, view, i + 1, looks)? else {
-        let detail = TableDetail::BottomMissing;
-        return Ok(SimpleEnd::Fails { end: size, detail });
+    let Some(k) = bottom else {
+        return Some(TableDetail::BottomMissing);
     };
-    let end = end_below(alloc, view, wide, first, looks)?;
-    Ok(end)
+    if is_as_long(view, i, k, looks) {
+        None
+    } else {
+        Some(TableDetail::BorderMismatch)
+    }
 }
 
 /// The lines from place `from` on before place `to`, at the price of one look each.
@@ -175,13 +79,14 @@ pub(crate) fn read_lines(
 ) -> Result<Vec<TableLine>, AllocError>
     requires in_order { from ≤ to }
     requires in_range { to ≤ length (block_of view.now) }
-    requires few { looks.old < 2 ^ 120 + 2 ^ 68 }
+    requires few { looks.old < 2 ^ 120 + 2 ^ 69 }
     ensures lines { IfOk result (λ lines. lines.items ≡ take (to - from) (drop from (rows_of (block_of view.now)))) }
     ensures looks { looks.new + from ≤ looks.old + to }
 {
     let mut lines = Vec::new(alloc);
     for k in from..to {
-        let line = read_line(alloc, view, k, looks)?;
+        let text = view.line(k, looks);
+        let line = line_of(alloc, view, k, text)?;
         lines.push(line)?;
     }
     Ok(lines)

@@ -1,5 +1,5 @@
 //! The rows of a simple table.
-ghost use Rattle.std.specs.Prelude.{◌≡◌, ◌++◌, ◌∷◌, ◌+◌, ◌-◌, ◌^◌, ◌<◌, ◌≤◌, ℕ, Bool, not, get_or, length, IfOk, IfSome, option_map, vec_items};
+ghost use Rattle.std.specs.Prelude.{◌≡◌, ◌++◌, ◌∷◌, ◌+◌, ◌-◌, ◌^◌, ◌<◌, ◌≤◌, ℕ, Bool, not, get_or, length, IfOk, IfSome, option_map, find, vec_items};
 ghost use Rattle.std.specs.List.{list_all};
 ghost use Rattle.rst_tables.specs.Places.{row_at};
 ghost use Rattle.rst_text.specs.Places.{first_from};
@@ -83,7 +83,7 @@ pub(crate) fn first_unaligned(
 ) -> Result<Option<usize>, AllocError>
     requires columns { columns.now ≡ spec.columns_of lines.now }
     requires within { (n : ℕ) → n < length rules.now → get_or rules.now n 0 < length lines.now }
-    ensures value { IfOk result (λ found. found ≡ spec.first_unaligned lines.now rules.now) }
+    ensures value { IfOk result (λ found. found ≡ find (spec.is_unaligned lines.now) rules.now) }
     ensures within { IfOk result (λ found. IfSome found (λ k. k < length lines.now)) }
 {
     for rule in rules {

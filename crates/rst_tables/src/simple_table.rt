@@ -1,19 +1,18 @@
 //! Simple tables.
-ghost use Rattle.std.specs.Prelude.{◌≡◌, ◌+◌, ◌*◌, ◌^◌, ◌<◌, ◌≤◌, drop, get_or, length, IfOk, IsTrue};
+ghost use Rattle.std.specs.Prelude.{◌≡◌, ◌+◌, ◌*◌, ◌^◌, ◌<◌, ◌≤◌, drop, get_or, length, IfOk};
 ghost use Rattle.rst_text.specs.Shown.{block_of};
-ghost use Rattle.rst_tables.specs.Places.{rows_of};
 ghost use Rattle.rst_tables.specs.Ends.{end_of};
 ghost use Rattle.rst_tables.specs.SimpleTable as spec;
-ghost use Rattle.rst_tables.specs.Looked.{simple_looked};
-ghost use Rattle.rst_markup.specs.TableRows.{is_simple_row, simple_size};
+ghost use Rattle.rst_markup.specs.TableRows.{simple_size, simple_scan};
 
 use super::places::TableLine;
 use super::results::{TableDetail, TableResult};
 use super::simple_cells::{all_entries, head_size, widths};
-use super::simple_lines::{SimpleEnd, read_lines, simple_end};
+use super::simple_lines::{border_fault, read_lines};
 use super::simple_rows::{columns_of, first_in_margin, first_unaligned, rules_of, simple_rows};
 use super::spans::Span;
 use super::table::malformed;
+use rst_markup::simple_borders;
 use rst_text::{Looks, View};
 use std::alloc::{AllocError, Global};
 
@@ -31,16 +30,6 @@ fn first_column(columns: &[Span]) -> Span
     }
 }
 
-/// The place of the border that closes the head, counted from the top border at place `first`.
-fn above(first: usize, head: Option<usize>) -> Option<usize>
-    ensures { result ≡ spec.above first head }
-{
-    match head {
-        Some(k) => Some(k.saturating_sub(first)),
-        None => None,
-    }
-}
-
 /// What the lines of a table are. The first has this number and stands at place `first`; the line at place `head` of the
 /// table closes its head.
 fn simple_of(
@@ -51,7 +40,7 @@ fn simple_of(
     lines: &[TableLine],
 ) -> Result<TableResult, AllocError>
     requires { first + length lines.now < 2 ^ 64 }
-    ensures { IfOk result (λ table. table ≡ spec.simple_of line first head lines.now) }
+    ensures { IfOk result (λ table. table ≡ spec.simple_by line first head lines.now (spec.lines_fault lines.now)) }
 {
     let size = lines.len();
     let columns = columns_of(alloc, lines)?;
@@ -74,9 +63,8 @@ fn simple_of(
 }
 
 /// The simple table whose top border is the line at place `i` of a view: a table with its rows, or malformed with its
-/// first fault (Markup Specification, 'Simple Tables'). It ends where the characters of its lines say, if that line is a top
-/// border. It looks at most four times at each line of the table, and of those after it through the one that stops the
-/// scan for a border.
+/// first fault (Markup Specification, 'Simple Tables'). It ends where the row of simple tables says. It looks at most four
+/// times at each line of the table, and of those after it through the one that stops the scan for a border.
 ///
 /// The only error is want of memory, which leaves all but `looks` as it was.
 pub fn simple(
@@ -88,19 +76,17 @@ pub fn simple(
     requires there { i < length (block_of view.now) }
     requires few { looks.old < 2 ^ 120 }
     ensures table { IfOk result (λ table. table ≡ spec.simple_table (block_of view.now) i) }
-    ensures end { IsTrue (is_simple_row (drop i (block_of view.now))) → IfOk result (λ table. end_of table ≡ i + simple_size (drop i (block_of view.now))) }
-    ensures looks { looks.new ≤ looks.old + 4 * simple_looked (rows_of (block_of view.now)) i }
+    ensures end { IfOk result (λ table. end_of table ≡ i + simple_size (drop i (block_of view.now))) }
+    ensures looks { looks.new ≤ looks.old + 4 * simple_scan (drop i (block_of view.now)) }
 {
+    prove!(i < view.len());
     let line = view.number(i);
-    match simple_end(alloc, view, i, looks)? {
-        SimpleEnd::Fails { end, detail } => {
-            let size = end.saturating_sub(i);
-            Ok(malformed(line, i, size, detail))
-        }
-        SimpleEnd::Ends { end, head } => {
-            let lines = read_lines(alloc, view, i, end, looks)?;
-            let table = simple_of(alloc, line, i, above(i, head), &lines)?;
-            Ok(table)
-        }
+    let borders = simple_borders(view, i, looks);
+    let size = borders.size(view.len() - i);
+    if let Some(detail) = border_fault(view, i, borders.bottom, looks) {
+        return Ok(malformed(line, i, size, detail));
     }
+    let lines = read_lines(alloc, view, i, i + size, looks)?;
+    let table = simple_of(alloc, line, i, borders.head, &lines)?;
+    Ok(table)
 }

@@ -1,15 +1,13 @@
 //! Grid tables.
 ghost use Rattle.std.specs.Prelude.{◌≡◌, ◌+◌, ◌^◌, ◌<◌, ◌≤◌, length, drop, IfOk};
 ghost use Rattle.rst_text.specs.Shown.{block_of};
-ghost use Rattle.rst_tables.specs.Places.{rows_of};
 ghost use Rattle.rst_tables.specs.Ends.{end_of};
 ghost use Rattle.rst_tables.specs.GridTable as spec;
-ghost use Rattle.rst_tables.specs.Looked.{grid_looked};
-ghost use Rattle.rst_markup.specs.TableRows.{grid_size};
+ghost use Rattle.rst_markup.specs.TableRows.{grid_size, grid_scan};
 
 use super::drawn::tiling;
 use super::grid_cells::tiled;
-use super::grid_lines::{head_from, height, put_dashes, row_fault, scanned};
+use super::grid_lines::{GridLines, grid_lines, head_from, put_dashes, row_fault};
 use super::places::TableLine;
 use super::results::{TableDetail, TableFault, TableResult};
 use rst_text::{Looks, View};
@@ -56,30 +54,27 @@ fn grid_of_rows(
     Ok(table)
 }
 
-/// What scanned lines are.
+/// What the lines of a table are, by whether its bottom border is there.
 fn grid_of(
     alloc: Global,
     line: usize,
     first: usize,
-    lines: Vec<TableLine>,
+    found: GridLines,
 ) -> Result<TableResult, AllocError>
-    requires { first + length lines.items < 2 ^ 64 }
-    ensures { IfOk result (spec.IsOfHeight line first lines.items (spec.height lines.items)) }
+    requires { first + length found.lines.items < 2 ^ 64 }
+    ensures { IfOk result (spec.IsOfRows line first found.lines.items (spec.grid_fault found.bottom found.lines.items)) }
 {
-    let size = height(&lines);
-    if size == 0 {
-        let all = lines.len();
-        return Ok(malformed(line, first, all, TableDetail::BottomBorderMissing));
+    if found.bottom.is_none() {
+        let size = found.lines.len();
+        return Ok(malformed(line, first, size, TableDetail::BottomBorderMissing));
     }
-    let mut lines = lines;
-    lines.truncate(size);
-    let table = grid_of_rows(alloc, line, first, lines)?;
+    let table = grid_of_rows(alloc, line, first, found.lines)?;
     Ok(table)
 }
 
 /// The grid table whose top border is the line at place `i` of a view: a table with the cells of the tiling by its
-/// drawn rectangles, or malformed with its first fault (Markup Specification, 'Grid Tables'). It ends where the characters
-/// of its lines say. It looks once at each line of the table, and at those after it through the one that stops the scan.
+/// drawn rectangles, or malformed with its first fault (Markup Specification, 'Grid Tables'). It ends where the row of grid
+/// tables says. It looks once at each line of the table, and at those after it through the one that stops the scan.
 ///
 /// The only error is want of memory, which leaves all but `looks` as it was.
 pub fn grid(
@@ -92,9 +87,9 @@ pub fn grid(
     requires few { looks.old < 2 ^ 120 }
     ensures table { IfOk result (spec.IsGridTable (block_of view.now) i) }
     ensures end { IfOk result (λ table. end_of table ≡ i + grid_size (drop i (block_of view.now))) }
-    ensures looks { looks.new ≤ looks.old + grid_looked (rows_of (drop i (block_of view.now))) }
+    ensures looks { looks.new ≤ looks.old + grid_scan (drop i (block_of view.now)) }
 {
-    let lines = scanned(alloc, view, i, looks)?;
-    let table = grid_of(alloc, view.number(i), i, lines)?;
+    let found = grid_lines(alloc, view, i, looks)?;
+    let table = grid_of(alloc, view.number(i), i, found)?;
     Ok(table)
 }

@@ -2,4 +2,4 @@ use Rattle.rst_tables.proofs.ScanLemmas.{no_grid}
 use Rattle.rst_tables.proofs.laws.no_grid_behind.Goals as goal
 
 pub returns : goal.returns
-returns c R k behind inside = no_grid R k behind inside
+returns c X k behind inside = no_grid X k behind inside

@@ -10,8 +10,8 @@ use Rattle.rst_tables.proofs.simple_lines.read_lines.Goals as goal
 pub loop-k-preserved : goal.loop-k-preserved
 loop-k-preserved c =
     let B : Block = block_of c.args.view.now in
-    let step = take-more (rows_of B) c.loop-k.k c.args.to c.in_ok-line.line (omega arith) (rows_here B c.loop-k.k c.in_ok-line.line c.in_ok-line.ensures.line) in
+    let step = take-more (rows_of B) c.loop-k.k c.args.to c.in_ok-line.line (omega arith) (rows_here B c.loop-k.k c.in_ok-line.line c.in_ok-line.ensures) in
     record {
       lines = onto _ _ _ _ c.in_ok-line.line c.in_ok-push.ensures.items (sym (ap (λ l. c.loop-k.lines.items ++ l) step) ∙ c.loop-k.invariant.lines);
-      looks = omega (arith, c.loop-k.invariant.looks, c.read_line.ensures.looks);
+      looks = omega (arith, c.loop-k.invariant.looks, c.line-text.ensures.looks);
     }

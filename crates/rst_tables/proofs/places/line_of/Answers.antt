@@ -4,12 +4,12 @@ use Rattle.rst_text.specs.Shown.{block_of}
 use Rattle.rst_text.proofs.Cuts.{is_line_text-line}
 use Rattle.rst_tables.specs.Places.{Row, row_of}
 use Rattle.rst_tables.proofs.GridLemmas.{rows_more}
-use Rattle.rst_tables.proofs.places.read_line.Goals as goal
+use Rattle.rst_tables.proofs.places.line_of.Goals as goal
 
 pub of-requires : goal.of-requires
-of-requires c = ap is_line_text c.line-text.ensures.text ∙ is_line_text-line c.args.view.now c.args.k
+of-requires c = ap is_line_text c.requires.text ∙ is_line_text-line c.args.view.now c.args.k
 
-pub returns-clause-line : goal.returns-clause-line
-returns-clause-line c =
+pub returns : goal.returns
+returns c =
     let line : ℕ → List ℕ → Row = λ n t. row_of (record { number = n; text = t }) in
-    rows_more (block_of c.args.view.now) c.args.k c.in_ok-line.line c.requires.inside (c.in_ok-line.ensures ∙ ap₂ line c.number.ensures c.line-text.ensures.text)
+    rows_more (block_of c.args.view.now) c.args.k c.in_ok-line.line c.requires.inside (c.in_ok-line.ensures ∙ ap₂ line c.number.ensures c.requires.text)
