@@ -1,23 +1,23 @@
 -- The blocks that wait, and the work that is left in them.
-use Rattle.std.proofs.Common.{◌≡◌, ℕ, ◌+◌, ◌-◌, ◌*◌, ◌<◌, ◌≤◌, ◌++◌, List, [], ◌∷◌, length, length-append, take, drop, map, Option, None, Some, arith, refl, ap, ◌∙◌}
+use Rattle.std.proofs.Common.{◌≡◌, ℕ, ◌+◌, ◌-◌, ◌*◌, ◌<◌, ◌≤◌, ◌++◌, List, [], ◌∷◌, length, length-append, take, drop, map, Option, None, Some, arith, refl, inl, inr, ap, ◌∙◌}
+use Rattle.std.proofs.lemmas.Bool.{cases_lt}
 use Rattle.std.proofs.lemmas.List.{drop-append-le, take-append-le, map-append, length-map}
 use Rattle.rst_text.specs.Block.{Block}
 use Rattle.rst_text.specs.Shown.{portion_block}
 use Rattle.rst_markup.specs.declared.part.Part.{Part}
-use Rattle.rst_block.specs.Frames.{IsFrame, AreFrames, IsBegin, IsNow, HasSecond}
-use Rattle.rst_block.specs.Steps.{IsStep, IsResumed}
+use Rattle.rst_block.specs.Frames.{IsFrame, AreFrames, IsNow, HasSecond}
+use Rattle.rst_block.specs.Steps.{IsStep, IsNext, IsResumed}
 use Rattle.rst_block.specs.declared.frame.Frame.{Frame}
-use Rattle.rst_block.specs.declared.level.Level.{Level}
 use Rattle.rst_block.specs.declared.step.Step.{Step}
 use Rattle.rst_block.specs.declared.step.Step.TheVariants.{Next, Open, Cells, Done}
 use Rattle.rst_block.proofs.Work.{work, less, more, last}
 
--- what is left in a block of n lines, by what comes next
-abbrev pub cost : ℕ → Step → ℕ
-cost n (Next l) = 5 * (n - l.at) + 2
-cost n (Open l w first second) = 5 * (n - l.at) + 5
-cost n (Cells l table) = 5 * (n - l.at) + 1
-cost n (Done l) = 0
+-- what is left in a block of n lines that goes on at a place, by what comes next
+abbrev pub cost : ℕ → ℕ → Step → ℕ
+cost n at Next = 5 * (n - at) + 2
+cost n at (Open w first second) = 5 * (n - at) + 5
+cost n at (Cells table) = 5 * (n - at) + 1
+cost n at Done = 0
 
 -- more is left where another part comes
 abbrev pub parts_left : Option Part → ℕ
@@ -29,80 +29,81 @@ abbrev pub left : Block → Frame → ℕ
 left S f = 5 * (length (portion_block S f.portion) - f.level.at) + parts_left f.second
 
 -- all that is left where a text has n lines, there is room for so many blocks, and these wait
-abbrev pub all_left : ℕ → ℕ → Block → List Frame → ℕ → Step → ℕ
-all_left n room S fs lines now = work (5 * n + 6) room (map (left S) fs) (cost lines now)
+abbrev pub all_left : ℕ → ℕ → Block → List Frame → ℕ → ℕ → Step → ℕ
+all_left n room S fs lines at now = work (5 * n + 6) room (map (left S) fs) (cost lines at now)
 
-pub now_of_step : (B : Block) (at : ℕ) (s : Step) → IsStep B at s → IsNow B s
-now_of_step B at (Next l) h = tt
-now_of_step B at (Open l w first second) h = (h.1, h.2, h.3)
-now_of_step B at (Cells l table) h = omega (arith, h.0, h.1)
-now_of_step B at (Done l) h = tt
+now_of_step : (B : Block) (at to : ℕ) (s : Step) → IsStep B at to s → IsNow B to s
+now_of_step B at to Next h = tt
+now_of_step B at to (Open w first second) h = (h.1, h.2, h.3)
+now_of_step B at to (Cells table) h = omega (arith, h.0, h.1)
+now_of_step B at to Done h = tt
 
-pub now_of_resumed : (B : Block) (at : ℕ) (s : Step) → IsResumed B at s → IsNow B s
-now_of_resumed B at (Next l) h = tt
-now_of_resumed B at (Open l w first second) h = (h.2, h.3, h.4)
-now_of_resumed B at (Cells l table) h = absurd h
-now_of_resumed B at (Done l) h = tt
+pub now_of_next : (B : Block) (at to : ℕ) (s : Step) → IsNext B at to s → IsNow B to s
+now_of_next B at to s h = elim (cases_lt at (length B)) [
+  | inl inside ↦ now_of_step B at to s (h.0 inside)
+  | inr behind ↦ rw (h.1 behind) tt
+]
 
-pub now_of_begin : (B : Block) (s : Step) → IsBegin s → IsNow B s
-now_of_begin B (Next l) h = tt
-now_of_begin B (Open l w first second) h = absurd h
-now_of_begin B (Cells l table) h = absurd h
-now_of_begin B (Done l) h = tt
+pub now_of_resumed : (B : Block) (at to : ℕ) (s : Step) → IsResumed B at to s → IsNow B to s
+now_of_resumed B at to Next h = tt
+now_of_resumed B at to (Open w first second) h = (h.2, h.3, h.4)
+now_of_resumed B at to (Cells table) h = absurd h
+now_of_resumed B at to Done h = tt
 
-cost_of_begin : (n m : ℕ) (s : Step) → IsBegin s → m ≤ n → cost m s < 5 * n + 6
-cost_of_begin n m (Next l) b h = omega arith
-cost_of_begin n m (Open l w first second) b h = absurd b
-cost_of_begin n m (Cells l table) b h = absurd b
-cost_of_begin n m (Done l) b h = absurd b
+pub cost_of_resumed : (B : Block) (at to : ℕ) (s : Step) → IsResumed B at to s → cost (length B) to s < 5 * (length B - at) + 3
+cost_of_resumed B at to Next h = omega (arith, h)
+cost_of_resumed B at to (Open w first second) h = omega (arith, h.0, h.1)
+cost_of_resumed B at to (Cells table) h = absurd h
+cost_of_resumed B at to Done h = absurd h
 
-pub cost_of_resumed : (B : Block) (at : ℕ) (s : Step) → IsResumed B at s → cost (length B) s < 5 * (length B - at) + 3
-cost_of_resumed B at (Next l) h = omega (arith, h)
-cost_of_resumed B at (Open l w first second) h = omega (arith, h.0, h.1)
-cost_of_resumed B at (Cells l table) h = absurd h
-cost_of_resumed B at (Done l) h = absurd h
+cost_of_step : (B : Block) (at to : ℕ) (s : Step) → at < length B → IsStep B at to s → cost (length B) to s < 5 * (length B - at) + 2
+cost_of_step B at to Next i h = omega (arith, h)
+cost_of_step B at to (Open w first second) i h = omega (arith, h.0)
+cost_of_step B at to (Cells table) i h = omega (arith, h.0)
+cost_of_step B at to Done i h = omega arith
 
-cost_of_step : (B : Block) (at : ℕ) (s : Step) → at < length B → IsStep B at s → cost (length B) s < 5 * (length B - at) + 2
-cost_of_step B at (Next l) i h = omega (arith, h)
-cost_of_step B at (Open l w first second) i h = omega (arith, h.0)
-cost_of_step B at (Cells l table) i h = omega (arith, h.0)
-cost_of_step B at (Done l) i h = omega arith
+cost_of_begin : (n m : ℕ) → m ≤ n → cost m 0 Next < 5 * n + 6
+cost_of_begin n m i = omega arith
 
 fewer : (S : Block) (fs : List Frame) → length (map (left S) fs) ≡ length fs
 fewer S fs = length-map fs (left S)
 
 -- less is left in the block that is read
-pub goes_on : (n room : ℕ) (S : Block) (fs : List Frame) (k j : ℕ) (s t : Step) → cost j t < cost k s → all_left n room S fs j t < all_left n room S fs k s
-goes_on n room S fs k j s t h = less (5 * n + 6) room (map (left S) fs) (omega arith) h
+pub goes_on : (n room : ℕ) (S : Block) (fs : List Frame) (k at j to : ℕ) (s t : Step) → cost j to t < cost k at s
+    → all_left n room S fs j to t < all_left n room S fs k at s
+goes_on n room S fs k at j to s t h = less (5 * n + 6) room (map (left S) fs) (omega arith) h
 
--- a step
-pub stepped : (n room : ℕ) (S : Block) (fs : List Frame) (B : Block) (l : Level) (s : Step) → l.at < length B → IsStep B l.at s
-    → all_left n room S fs (length B) s < all_left n room S fs (length B) (Next l)
-stepped n room S fs B l s i h = goes_on n room S fs (length B) (length B) (Next l) s (cost_of_step B l.at s i h)
+-- a step, or the end of a block
+pub stepped : (n room : ℕ) (S : Block) (fs : List Frame) (B : Block) (at to : ℕ) (s : Step) → IsNext B at to s
+    → all_left n room S fs (length B) to s < all_left n room S fs (length B) at Next
+stepped n room S fs B at to s h = goes_on n room S fs (length B) at (length B) to Next s (elim (cases_lt at (length B)) [
+  | inl inside ↦ cost_of_step B at to s inside (h.0 inside)
+  | inr behind ↦ rw (h.1 behind) (omega arith)
+])
 
 -- a block inside is opened
-pub opens : (n room : ℕ) (S : Block) (fs : List Frame) (B : Block) (s t : Step) (f : Frame) (m : ℕ)
-    → length fs < room → portion_block S f.portion ≡ B → left S f < cost (length B) s → m ≤ n → IsBegin t
-    → all_left n room S (fs ++ f ∷ []) m t < all_left n room S fs (length B) s
-opens n room S fs B s t f m r e h i b =
-    rw (map-append (left S) fs (f ∷ [])) (more (5 * n + 6) room (map (left S) fs) (omega (arith, fewer S fs, r)) h (cost_of_begin n m t b i))
+pub opens : (n room : ℕ) (S : Block) (fs : List Frame) (B : Block) (at : ℕ) (s : Step) (f : Frame) (m : ℕ)
+    → length fs < room → portion_block S f.portion ≡ B → left S f < cost (length B) at s → m ≤ n
+    → all_left n room S (fs ++ f ∷ []) m 0 Next < all_left n room S fs (length B) at s
+opens n room S fs B at s f m r e h i =
+    rw (map-append (left S) fs (f ∷ [])) (more (5 * n + 6) room (map (left S) fs) (omega (arith, fewer S fs, r)) h (cost_of_begin n m i))
 
 -- a block that waited goes on
-pub resumes : (n room : ℕ) (S : Block) (fs : List Frame) (f : Frame) (k j : ℕ) (s t : Step)
-    → length fs < room → cost j t < left S f → all_left n room S fs j t < all_left n room S (fs ++ f ∷ []) k s
-resumes n room S fs f k j s t r h =
+pub resumes : (n room : ℕ) (S : Block) (fs : List Frame) (f : Frame) (k at j to : ℕ) (s t : Step)
+    → length fs < room → cost j to t < left S f → all_left n room S fs j to t < all_left n room S (fs ++ f ∷ []) k at s
+resumes n room S fs f k at j to s t r h =
     rw (map-append (left S) fs (f ∷ [])) (
     let a = less (5 * n + 6) room (map (left S) fs) (omega arith) h in
-    let b = last (5 * n + 6) room (map (left S) fs) (left S f) (cost k s) (omega (arith, fewer S fs, r)) in
+    let b = last (5 * n + 6) room (map (left S) fs) (left S f) (cost k at s) (omega (arith, fewer S fs, r)) in
     omega (arith, a, b))
 
 -- a block that waited waits for another part
-pub waits_again : (n room : ℕ) (S : Block) (fs : List Frame) (f g : Frame) (k m : ℕ) (s t : Step)
-    → length fs < room → left S g < left S f → m ≤ n → IsBegin t → all_left n room S (fs ++ g ∷ []) m t < all_left n room S (fs ++ f ∷ []) k s
-waits_again n room S fs f g k m s t r h i b =
+pub waits_again : (n room : ℕ) (S : Block) (fs : List Frame) (f g : Frame) (k at m : ℕ) (s : Step)
+    → length fs < room → left S g < left S f → m ≤ n → all_left n room S (fs ++ g ∷ []) m 0 Next < all_left n room S (fs ++ f ∷ []) k at s
+waits_again n room S fs f g k at m s r h i =
     rw (map-append (left S) fs (f ∷ [])) (rw (map-append (left S) fs (g ∷ [])) (
-    let a = more (5 * n + 6) room (map (left S) fs) (omega (arith, fewer S fs, r)) h (cost_of_begin n m t b i) in
-    let b = last (5 * n + 6) room (map (left S) fs) (left S f) (cost k s) (omega (arith, fewer S fs, r)) in
+    let a = more (5 * n + 6) room (map (left S) fs) (omega (arith, fewer S fs, r)) h (cost_of_begin n m i) in
+    let b = last (5 * n + 6) room (map (left S) fs) (left S f) (cost k at s) (omega (arith, fewer S fs, r)) in
     omega (arith, a, b)))
 
 pub second_left : (p : Option Part) → HasSecond p → parts_left p ≡ 4

@@ -1,5 +1,5 @@
 -- Blocks that wait for one inside them, and the block that is being read.
-use Rattle.std.specs.Prelude.{◌≡◌, ◌^◌, ◌<◌, ◌≤◌, List, [], ◌∷◌, length, Option, None, Some}
+use Rattle.std.specs.Prelude.{◌≡◌, ℕ, ◌^◌, ◌<◌, ◌≤◌, List, [], ◌∷◌, length, Option, None, Some}
 use Rattle.rst_text.specs.Block.{Block}
 use Rattle.rst_text.specs.Shown.{block_of, source_of, IsPortion, portion_block}
 use Rattle.rst_markup.specs.Parts.{IsBlock}
@@ -20,26 +20,22 @@ abbrev pub AreFrames : Block → List Frame → Type 0
 AreFrames S [] = Unit {0}
 AreFrames S (f ∷ fs) = IsFrame S f × AreFrames S fs
 
--- nothing of a block was read
-abbrev pub IsBegin : Step → Type 0
-IsBegin (Next l) = l.at ≡ 0
-IsBegin s = ⊥
-
--- what may come next in a block
-abbrev pub IsNow : Block → Step → Type 0
-IsNow B (Next l) = Unit {0}
-IsNow B (Open l w first second) = IsBlock B first × IsBlockIf B second × IsWaiting B l.at w
-IsNow B (Cells l table) = l.at < length B
-IsNow B (Done l) = Unit {0}
+-- what may come next in a block that goes on at a place
+abbrev pub IsNow : Block → ℕ → Step → Type 0
+IsNow B at Next = Unit {0}
+IsNow B at (Open w first second) = IsBlock B first × IsBlockIf B second × IsWaiting B at w
+IsNow B at (Cells table) = at < length B
+IsNow B at Done = Unit {0}
 
 -- there is a part that is read behind another
 abbrev pub HasSecond : Option Part → Type 0
 HasSecond (Some p) = Unit {0}
 HasSecond None = ⊥
 
--- a block inside one that waits was read: the next part is read, of a block that is the same but for that, or it goes on
-abbrev pub IsEnded : Block → Frame → Ended → Type 0
-IsEnded S f (Waiting g r) =
+-- a block inside one that waits was read: the next part is read from its begin, of a block that is the same but for that, or it
+-- goes on
+abbrev pub IsEnded : Block → Frame → ℕ → Ended → Type 0
+IsEnded S f to (Waiting g part) =
     IsFrame S g × (g.portion ≡ f.portion) × (g.level.at ≡ f.level.at) × (g.second ≡ None) × HasSecond f.second
-    × (source_of r.view ≡ S) × (length (block_of r.view) ≤ length (portion_block S f.portion)) × IsBegin r.now
-IsEnded S f (GoesOn r) = (source_of r.view ≡ S) × (block_of r.view ≡ portion_block S f.portion) × IsResumed (block_of r.view) f.level.at r.now
+    × (source_of part ≡ S) × (length (block_of part) ≤ length (portion_block S f.portion)) × (to ≡ 0)
+IsEnded S f to (GoesOn view s) = (source_of view ≡ S) × (block_of view ≡ portion_block S f.portion) × IsResumed (block_of view) f.level.at to s

@@ -22,18 +22,22 @@ abbrev pub IsWaiting : Block → ℕ → Waits → Type 0
 IsWaiting B at (Quote line attribution rest end) = IsRest B at rest
 IsWaiting B at w = Unit {0}
 
--- a step at a place
-abbrev pub IsStep : Block → ℕ → Step → Type 0
-IsStep B at (Next l) = at < l.at
-IsStep B at (Open l w first second) = (at < l.at) × IsBlock B first × IsBlockIf B second × IsWaiting B l.at w
-IsStep B at (Cells l table) = (l.at ≡ at) × (at < length B)
-IsStep B at (Done l) = Unit {0}
+-- a step from one place to another
+abbrev pub IsStep : Block → ℕ → ℕ → Step → Type 0
+IsStep B at to Next = at < to
+IsStep B at to (Open w first second) = (at < to) × IsBlock B first × IsBlockIf B second × IsWaiting B to w
+IsStep B at to (Cells table) = (to ≡ at) × (at < length B)
+IsStep B at to Done = Unit {0}
+
+-- what comes next in a block that goes on at a place: a step, or its end
+abbrev pub IsNext : Block → ℕ → ℕ → Step → Type 0
+IsNext B at to s = (at < length B → IsStep B at to s) × (length B ≤ at → s ≡ Done)
 
 -- what follows a block inside
-abbrev pub IsResumed : Block → ℕ → Step → Type 0
-IsResumed B at (Next l) = l.at ≡ at
-IsResumed B at (Open l w first second) = (at < length B) × (at < l.at) × IsBlock B first × IsBlockIf B second × IsWaiting B l.at w
-IsResumed B at s = ⊥
+abbrev pub IsResumed : Block → ℕ → ℕ → Step → Type 0
+IsResumed B at to Next = to ≡ at
+IsResumed B at to (Open w first second) = (at < length B) × (at < to) × IsBlock B first × IsBlockIf B second × IsWaiting B to w
+IsResumed B at to s = ⊥
 
 -- what is left of a quote behind its first lines
 abbrev pub rest_of : Part → ℕ → Option Part

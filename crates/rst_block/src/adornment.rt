@@ -6,7 +6,7 @@ ghost use Rattle.rst_markup.specs.Parts.{IsBlock, IsCall};
 ghost use Rattle.rst_block.specs.Steps as spec;
 
 use super::fault::BlockFault;
-use super::heading::{Heading, Style, with_heading};
+use super::heading::{Heading, Style};
 use super::level::Level;
 use super::step::Step;
 use super::text::text_line;
@@ -22,14 +22,14 @@ use std::alloc::Global;
 pub(crate) fn adornment(
     alloc: Global,
     view: &View<'_>,
-    level: Level,
+    level: &mut Level,
     mark: Adornment,
     pass: &mut Pass,
 ) -> Result<Step, BlockFault>
-    requires inside { level.at < length (block_of view.now) }
+    requires inside { level.old.at < length (block_of view.now) }
     requires short { length (block_of view.now) < 2 ^ 64 }
     requires few { pass.old.looks < 2 ^ 119 + 2 ^ 111 }
-    ensures step { IfOk result (λ s. spec.IsStep (block_of view.now) level.at s) }
+    ensures step { IfOk result (λ s. spec.IsStep (block_of view.now) level.old.at level.new.at s) }
     ensures looks { IfOk result (λ _. pass.new.looks ≤ pass.old.looks + 2 ^ 79) }
 {
     let at = level.at;
@@ -38,9 +38,18 @@ pub(crate) fn adornment(
         Adorned::Text => text_line(alloc, view, level, Vec::new(alloc), pass),
         Adorned::ShortOverline => short(alloc, view, level, SHORT_OVERLINE, pass),
         Adorned::ShortAdornment => short(alloc, view, level, SHORT_ADORNMENT, pass),
-        Adorned::Transition => transition(alloc, view, level, pass),
-        Adorned::Title { short } => overlined(alloc, view, level, mark, short, pass),
-        form => wrong(alloc, view, level, wrong_form(form), pass),
+        Adorned::Transition => {
+            transition(alloc, view, level, pass)?;
+            Ok(Step::Next)
+        }
+        Adorned::Title { short } => {
+            overlined(alloc, view, level, mark, short, pass)?;
+            Ok(Step::Next)
+        }
+        form => {
+            wrong(alloc, view, level, wrong_form(form), pass)?;
+            Ok(Step::Next)
+        }
     }
 }
 
@@ -90,33 +99,34 @@ fn wrong_form(form: Adorned) -> WrongForm {
 fn transition(
     alloc: Global,
     view: &View<'_>,
-    level: Level,
+    level: &mut Level,
     pass: &mut Pass,
-) -> Result<Step, BlockFault>
-    requires inside { level.at < length (block_of view.now) }
+) -> Result<(), BlockFault>
+    requires inside { level.old.at < length (block_of view.now) }
     requires short { length (block_of view.now) < 2 ^ 64 }
     requires few { pass.old.looks < 2 ^ 119 + 2 ^ 112 }
-    ensures step { IfOk result (λ s. spec.IsStep (block_of view.now) level.at s) }
+    ensures later { IfOk result (λ _. level.old.at < level.new.at) }
     ensures looks { IfOk result (λ _. pass.new.looks ≤ pass.old.looks + 2 ^ 78) }
 {
-    let level = level.closed(alloc, view, pass)?;
+    level.close(alloc, view, pass)?;
     let at = level.at;
     let node = Node::element(alloc, Tag::Transition, number_at(view, at));
-    Ok(Step::Next(level.past(at.saturating_add(1)).with(node)?))
+    level.go_to(at.saturating_add(1));
+    level.push(node)
 }
 
 /// A short line that is taken as text, behind a message that says so.
 fn short(
     alloc: Global,
     view: &View<'_>,
-    level: Level,
+    level: &mut Level,
     text: &str,
     pass: &mut Pass,
 ) -> Result<Step, BlockFault>
-    requires inside { level.at < length (block_of view.now) }
+    requires inside { level.old.at < length (block_of view.now) }
     requires short { length (block_of view.now) < 2 ^ 64 }
     requires few { pass.old.looks < 2 ^ 119 + 2 ^ 112 }
-    ensures step { IfOk result (λ s. spec.IsStep (block_of view.now) level.at s) }
+    ensures step { IfOk result (λ s. spec.IsStep (block_of view.now) level.old.at level.new.at s) }
     ensures looks { IfOk result (λ _. pass.new.looks ≤ pass.old.looks + 2 ^ 78) }
 {
     let info = message(alloc, Gravity::Info, number_at(view, level.at), text, None)?;
@@ -127,41 +137,42 @@ fn short(
 fn wrong(
     alloc: Global,
     view: &View<'_>,
-    level: Level,
+    level: &mut Level,
     form: WrongForm,
     pass: &mut Pass,
-) -> Result<Step, BlockFault>
-    requires inside { level.at < length (block_of view.now) }
+) -> Result<(), BlockFault>
+    requires inside { level.old.at < length (block_of view.now) }
     requires short { length (block_of view.now) < 2 ^ 64 }
     requires few { pass.old.looks < 2 ^ 119 + 2 ^ 112 }
-    ensures step { IfOk result (λ s. spec.IsStep (block_of view.now) level.at s) }
+    ensures later { IfOk result (λ _. level.old.at < level.new.at) }
     ensures looks { IfOk result (λ _. pass.new.looks ≤ pass.old.looks + 2 ^ 78) }
 {
-    let level = level.closed(alloc, view, pass)?;
+    level.close(alloc, view, pass)?;
     let at = level.at;
     let end = at.saturating_add(form.lines);
     let block = source(alloc, view, at, end, pass)?;
     let line = number_at(view, at);
     let node = message(alloc, form.gravity, line, form.text, Some(block.as_str()))?;
-    Ok(Step::Next(level.past(end).with(node)?))
+    level.go_to(end);
+    level.push(node)
 }
 
 /// A title between its overline and its underline.
 fn overlined(
     alloc: Global,
     view: &View<'_>,
-    level: Level,
+    level: &mut Level,
     mark: Adornment,
     short: bool,
     pass: &mut Pass,
-) -> Result<Step, BlockFault>
-    requires inside { level.at < length (block_of view.now) }
+) -> Result<(), BlockFault>
+    requires inside { level.old.at < length (block_of view.now) }
     requires short { length (block_of view.now) < 2 ^ 64 }
     requires few { pass.old.looks < 2 ^ 119 + 2 ^ 112 }
-    ensures step { IfOk result (λ s. spec.IsStep (block_of view.now) level.at s) }
+    ensures later { IfOk result (λ _. level.old.at < level.new.at) }
     ensures looks { IfOk result (λ _. pass.new.looks ≤ pass.old.looks + 2 ^ 78) }
 {
-    let level = level.closed(alloc, view, pass)?;
+    level.close(alloc, view, pass)?;
     let at = level.at;
     let end = at.saturating_add(3);
     let lines = source(alloc, view, at, end, pass)?;
@@ -185,5 +196,6 @@ fn overlined(
     };
     let text = skip(text, indentation(text));
     let heading = Heading::of(alloc, style, text, line, warning, lines, pass)?;
-    Ok(Step::Next(with_heading(level.past(end), heading)?))
+    level.go_to(end);
+    level.push_heading(heading)
 }

@@ -5,7 +5,7 @@ ghost use Rattle.rst_markup.specs.Parts.{IsBlock, IsCall};
 ghost use Rattle.rst_block.specs.Steps as spec;
 
 use super::fault::BlockFault;
-use super::field::joined_list;
+use super::field::join_list;
 use super::level::Level;
 use super::part::indented;
 use super::resume::Waits;
@@ -21,14 +21,14 @@ use std::alloc::Global;
 pub(crate) fn definition(
     alloc: Global,
     view: &View<'_>,
-    level: Level,
+    level: &mut Level,
     infos: Vec<Node>,
     pass: &mut Pass,
 ) -> Result<Step, BlockFault>
-    requires inside { level.at < length (block_of view.now) }
+    requires inside { level.old.at < length (block_of view.now) }
     requires short { length (block_of view.now) < 2 ^ 64 }
     requires few { pass.old.looks < 2 ^ 119 + 2 ^ 114 }
-    ensures step { IfOk result (λ s. spec.IsStep (block_of view.now) level.at s) }
+    ensures step { IfOk result (λ s. spec.IsStep (block_of view.now) level.old.at level.new.at s) }
     ensures looks { IfOk result (λ _. pass.new.looks ≤ pass.old.looks + 2 ^ 76) }
 {
     let at = level.at;
@@ -37,14 +37,14 @@ pub(crate) fn definition(
     let heads = term_and_classifiers(alloc, term, line, &mut pass.numbers)?;
     let body = indented(view, at + 1, &mut pass.looks);
     let kind = ListKind::Definition;
-    let mut level = joined_list(alloc, view, level, kind, Tag::DefinitionList, body.to, pass)?;
+    join_list(alloc, view, level, kind, Tag::DefinitionList, body.to, pass)?;
     if let Run::List(open) = &mut level.run {
         for info in infos {
             open.before.push(info)?;
         }
     }
+    level.go_to(body.to);
     Ok(Step::Open {
-        level: level.past(body.to),
         waits: Waits::ListedBody {
             line,
             item: Tag::DefinitionListItem,

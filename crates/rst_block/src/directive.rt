@@ -13,7 +13,7 @@ use super::paragraph::is_single_paragraph;
 use super::part::inside;
 use super::resume::Waits;
 use super::step::Step;
-use super::texts::{Pass, alone, appended, excerpt, filled, joined, number_at, source};
+use super::texts::{Pass, alone, append, excerpt, filled, joined, number_at, source};
 use rst_directives::{
     Argument, Content, Directive, DirectiveFault, Name, Place, Setting, called, directive,
     message as fault_text,
@@ -61,15 +61,15 @@ pub(crate) fn directive_at(
 pub(crate) fn directive_block(
     alloc: Global,
     view: &View<'_>,
-    level: Level,
+    level: &mut Level,
     invocation: &Invocation,
     pass: &mut Pass,
 ) -> Result<Step, BlockFault>
-    requires call { IsCall (block_of view.now) level.at invocation.now }
-    requires inside { level.at < length (block_of view.now) }
+    requires call { IsCall (block_of view.now) level.old.at invocation.now }
+    requires inside { level.old.at < length (block_of view.now) }
     requires short { length (block_of view.now) < 2 ^ 64 }
     requires few { pass.old.looks < 2 ^ 119 + 2 ^ 113 }
-    ensures step { IfOk result (λ s. spec.IsStep (block_of view.now) level.at s) }
+    ensures step { IfOk result (λ s. spec.IsStep (block_of view.now) level.old.at level.new.at s) }
     ensures looks { IfOk result (λ _. pass.new.looks ≤ pass.old.looks + 2 ^ 77) }
 {
     let at = level.at;
@@ -83,7 +83,9 @@ pub(crate) fn directive_block(
         Directive::Wrong { fault, .. } => {
             let name = excerpt(alloc, view.line(at, &mut pass.looks), invocation.name)?;
             let error = wrong_directive(alloc, view, at, end, &fault, name.as_str(), pass)?;
-            Ok(Step::Next(level.past(end).with(error)?))
+            level.go_to(end);
+            level.push(error)?;
+            Ok(Step::Next)
         }
         Directive::Found {
             name,
@@ -142,16 +144,16 @@ pub(crate) fn wrong_directive(
 fn directive_nodes(
     alloc: Global,
     view: &View<'_>,
-    level: Level,
+    level: &mut Level,
     found: Found,
     pass: &mut Pass,
 ) -> Result<Step, BlockFault>
     requires content { IsContentIn (block_of view.now) found.content }
     requires argument { IsArgumentIn (block_of view.now) found.argument }
-    requires inside { level.at < length (block_of view.now) }
+    requires inside { level.old.at < length (block_of view.now) }
     requires short { length (block_of view.now) < 2 ^ 64 }
     requires few { pass.old.looks < 2 ^ 119 + 2 ^ 114 }
-    ensures step { IfOk result (λ s. spec.IsStep (block_of view.now) level.at s) }
+    ensures step { IfOk result (λ s. spec.IsStep (block_of view.now) level.old.at level.new.at s) }
     ensures looks { IfOk result (λ _. pass.new.looks ≤ pass.old.looks + 2 ^ 76) }
 {
     let line = number_at(view, level.at);
@@ -159,14 +161,19 @@ fn directive_nodes(
     match (found.name, &found.argument) {
         (Name::Image, Argument::Uri(uri)) => {
             let node = image(alloc, uri.as_str(), options, line, false, None)?;
-            Ok(Step::Next(level.past(found.end).with(node)?))
+            level.go_to(found.end);
+            level.push(node)?;
+            Ok(Step::Next)
         }
         (Name::Figure, Argument::Uri(uri)) => {
             let shown = image(alloc, uri.as_str(), options, line, true, None)?;
             let node = filled(figure(alloc, options, line)?, alone(alloc, shown)?)?;
             figure_block(alloc, view, level, node, &found, pass)
         }
-        (Name::Code, _) => code_nodes(alloc, view, level, &found, pass),
+        (Name::Code, _) => {
+            code_nodes(alloc, view, level, &found, pass)?;
+            Ok(Step::Next)
+        }
         (Name::Admonition | Name::Topic, Argument::Title(title)) => {
             let node = titled(alloc, view, &found, *title, line, pass)?;
             Ok(opened(level, node, &found))
@@ -178,33 +185,33 @@ fn directive_nodes(
     }
 }
 
-/// The level with the content of a directive opened, which stands in its element.
-fn opened(level: Level, element: Node, found: &Found) -> Step
-    requires { level.at < 2 ^ 64 - 1 }
-    ensures { (B : Block) → IsContentIn B found.now.content → spec.IsStep B level.at result }
+/// Opens the content of a directive, which stands in its element.
+fn opened(level: &mut Level, element: Node, found: &Found) -> Step
+    requires { level.old.at < 2 ^ 64 - 1 }
+    ensures { (B : Block) → IsContentIn B found.now.content → spec.IsStep B level.old.at level.new.at result }
 {
+    level.go_to(found.end);
     Step::Open {
-        level: level.past(found.end),
         waits: Waits::Element(element),
         first: found.content.first,
         second: Some(found.content.second),
     }
 }
 
-/// The level with the content of a figure opened.
+/// Opens the content of a figure.
 fn figure_block(
     alloc: Global,
     view: &View<'_>,
-    level: Level,
+    level: &mut Level,
     node: Node,
     found: &Found,
     pass: &mut Pass,
 ) -> Result<Step, BlockFault>
     requires content { IsContentIn (block_of view.now) found.now.content }
-    requires inside { level.at < length (block_of view.now) }
+    requires inside { level.old.at < length (block_of view.now) }
     requires short { length (block_of view.now) < 2 ^ 64 }
     requires few { pass.old.looks < 2 ^ 119 + 2 ^ 115 }
-    ensures step { IfOk result (λ s. spec.IsStep (block_of view.now) level.at s) }
+    ensures step { IfOk result (λ s. spec.IsStep (block_of view.now) level.old.at level.new.at s) }
     ensures looks { IfOk result (λ _. pass.new.looks ≤ pass.old.looks + 2 ^ 75) }
 {
     let at = level.at;
@@ -214,8 +221,8 @@ fn figure_block(
         source: source(alloc, view, at, found.end, pass)?,
     };
     let waits = Waits::Figure(Box::new(alloc, figure)?);
+    level.go_to(found.end);
     Ok(Step::Open {
-        level: level.past(found.end),
         waits,
         first: found.content.first,
         second: Some(found.content.second),
@@ -226,15 +233,15 @@ fn figure_block(
 fn code_nodes(
     alloc: Global,
     view: &View<'_>,
-    level: Level,
+    level: &mut Level,
     found: &Found,
     pass: &mut Pass,
-) -> Result<Step, BlockFault>
+) -> Result<(), BlockFault>
     requires content { IsContentIn (block_of view.now) found.now.content }
-    requires inside { level.at < length (block_of view.now) }
+    requires inside { level.old.at < length (block_of view.now) }
     requires short { length (block_of view.now) < 2 ^ 64 }
     requires few { pass.old.looks < 2 ^ 119 + 2 ^ 115 }
-    ensures step { IfOk result (λ s. spec.IsStep (block_of view.now) level.at s) }
+    ensures later { IfOk result (λ _. level.old.at < level.new.at) }
     ensures looks { IfOk result (λ _. pass.new.looks ≤ pass.old.looks + 2 ^ 75) }
 {
     let line = number_at(view, level.at);
@@ -250,7 +257,8 @@ fn code_nodes(
         text.as_str(),
         line,
     )?;
-    Ok(Step::Next(level.past(found.end).with(node)?))
+    level.go_to(found.end);
+    level.push(node)
 }
 
 /// An admonition or a topic with its title and the messages of that.
@@ -286,5 +294,7 @@ fn titled(
     if matches!(found.name, Name::Admonition) {
         node = with_title_class(alloc, node, &title.element)?;
     }
-    filled(node, appended(alone(alloc, title.element)?, title.notes)?)
+    let mut nodes = alone(alloc, title.element)?;
+    append(&mut nodes, title.notes)?;
+    filled(node, nodes)
 }

@@ -28,22 +28,21 @@ use std::alloc::Global;
 pub(crate) fn explicit_markup(
     alloc: Global,
     view: &View<'_>,
-    level: Level,
+    level: &mut Level,
     pass: &mut Pass,
 ) -> Result<Step, BlockFault>
-    requires inside { level.at < length (block_of view.now) }
-    requires kind { IsTrue (is_explicit_kind (kind_of (block_of view.now) level.at)) }
+    requires inside { level.old.at < length (block_of view.now) }
+    requires kind { IsTrue (is_explicit_kind (kind_of (block_of view.now) level.old.at)) }
     requires short { length (block_of view.now) < 2 ^ 64 }
     requires few { pass.old.looks < 2 ^ 119 + 2 ^ 111 }
-    ensures step { IfOk result (λ s. spec.IsStep (block_of view.now) level.at s) }
+    ensures step { IfOk result (λ s. spec.IsStep (block_of view.now) level.old.at level.new.at s) }
     ensures looks { IfOk result (λ _. pass.new.looks ≤ pass.old.looks + 2 ^ 79) }
 {
     let at = level.at;
     let found = explicit(view, at, &mut pass.looks);
-    let mut level = match level.run {
-        Run::Explicit { .. } => level,
-        _ => level.closed(alloc, view, pass)?,
-    };
+    if !matches!(level.run, Run::Explicit { .. }) {
+        level.close(alloc, view, pass)?;
+    }
     let end = found.end(at);
     level.run = Run::Explicit { end };
     markup_of(alloc, view, level, found, end, pass)
@@ -53,28 +52,39 @@ pub(crate) fn explicit_markup(
 fn markup_of(
     alloc: Global,
     view: &View<'_>,
-    level: Level,
+    level: &mut Level,
     found: Explicit,
     end: usize,
     pass: &mut Pass,
 ) -> Result<Step, BlockFault>
-    requires markup { IsExplicitIn (block_of view.now) level.at found }
-    requires inside { level.at < length (block_of view.now) }
+    requires markup { IsExplicitIn (block_of view.now) level.old.at found }
+    requires inside { level.old.at < length (block_of view.now) }
     requires short { length (block_of view.now) < 2 ^ 64 }
     requires few { pass.old.looks < 2 ^ 119 + 2 ^ 112 }
-    ensures step { IfOk result (λ s. spec.IsStep (block_of view.now) level.at s) }
+    ensures step { IfOk result (λ s. spec.IsStep (block_of view.now) level.old.at level.new.at s) }
     ensures looks { IfOk result (λ _. pass.new.looks ≤ pass.old.looks + 2 ^ 78) }
 {
     match found {
         Explicit::Footnote { label, body } => footnote_block(alloc, view, level, label, body, pass),
         Explicit::Citation { label, body } => citation_block(alloc, view, level, label, body, pass),
-        Explicit::Target { name, text } => target_block(alloc, view, level, Some(name), text, pass),
-        Explicit::Anonymous { text } => target_block(alloc, view, level, None, text, pass),
-        Explicit::Comment { text, cause } => comment(alloc, view, level, text, cause, pass),
+        Explicit::Target { name, text } => {
+            target_block(alloc, view, level, Some(name), text, pass)?;
+            Ok(Step::Next)
+        }
+        Explicit::Anonymous { text } => {
+            target_block(alloc, view, level, None, text, pass)?;
+            Ok(Step::Next)
+        }
+        Explicit::Comment { text, cause } => {
+            comment(alloc, view, level, text, cause, pass)?;
+            Ok(Step::Next)
+        }
         Explicit::EmptyComment => {
             let line = number_at(view, level.at);
             let node = preserved(alloc, Tag::Comment, line, "")?;
-            Ok(Step::Next(level.past(end).with(node)?))
+            level.go_to(end);
+            level.push(node)?;
+            Ok(Step::Next)
         }
         Explicit::Directive(invocation) => directive_block(alloc, view, level, &invocation, pass),
         Explicit::Substitution { name, held, .. } => {
@@ -88,16 +98,16 @@ fn markup_of(
 fn footnote_block(
     alloc: Global,
     view: &View<'_>,
-    level: Level,
+    level: &mut Level,
     label: Characters,
     body: Part,
     pass: &mut Pass,
 ) -> Result<Step, BlockFault>
     requires body { IsBlock (block_of view.now) body }
-    requires inside { level.at < length (block_of view.now) }
+    requires inside { level.old.at < length (block_of view.now) }
     requires short { length (block_of view.now) < 2 ^ 64 }
     requires few { pass.old.looks < 2 ^ 119 + 2 ^ 113 }
-    ensures step { IfOk result (λ s. spec.IsStep (block_of view.now) level.at s) }
+    ensures step { IfOk result (λ s. spec.IsStep (block_of view.now) level.old.at level.new.at s) }
     ensures looks { IfOk result (λ _. pass.new.looks ≤ pass.old.looks + 2 ^ 70) }
 {
     let line = number_at(view, level.at);
@@ -110,16 +120,16 @@ fn footnote_block(
 fn citation_block(
     alloc: Global,
     view: &View<'_>,
-    level: Level,
+    level: &mut Level,
     label: Characters,
     body: Part,
     pass: &mut Pass,
 ) -> Result<Step, BlockFault>
     requires body { IsBlock (block_of view.now) body }
-    requires inside { level.at < length (block_of view.now) }
+    requires inside { level.old.at < length (block_of view.now) }
     requires short { length (block_of view.now) < 2 ^ 64 }
     requires few { pass.old.looks < 2 ^ 119 + 2 ^ 113 }
-    ensures step { IfOk result (λ s. spec.IsStep (block_of view.now) level.at s) }
+    ensures step { IfOk result (λ s. spec.IsStep (block_of view.now) level.old.at level.new.at s) }
     ensures looks { IfOk result (λ _. pass.new.looks ≤ pass.old.looks + 2 ^ 70) }
 {
     let line = number_at(view, level.at);
@@ -132,16 +142,16 @@ fn citation_block(
 fn target_block(
     alloc: Global,
     view: &View<'_>,
-    level: Level,
+    level: &mut Level,
     name: Option<Characters>,
     text: Part,
     pass: &mut Pass,
-) -> Result<Step, BlockFault>
+) -> Result<(), BlockFault>
     requires text { IsBlock (block_of view.now) text }
-    requires inside { level.at < length (block_of view.now) }
+    requires inside { level.old.at < length (block_of view.now) }
     requires short { length (block_of view.now) < 2 ^ 64 }
     requires few { pass.old.looks < 2 ^ 119 + 2 ^ 113 }
-    ensures step { IfOk result (λ s. spec.IsStep (block_of view.now) level.at s) }
+    ensures later { IfOk result (λ _. level.old.at < level.new.at) }
     ensures looks { IfOk result (λ _. pass.new.looks ≤ pass.old.looks + 2 ^ 70) }
 {
     let line = number_at(view, level.at);
@@ -153,30 +163,32 @@ fn target_block(
         }
         None => target(alloc, None, lines.as_str(), line)?,
     };
-    Ok(Step::Next(level.past(text.to).with(element)?))
+    level.go_to(text.to);
+    level.push(element)
 }
 
 /// A comment, with the message on one that isn't meant as such.
 fn comment(
     alloc: Global,
     view: &View<'_>,
-    level: Level,
+    level: &mut Level,
     text: Part,
     cause: CommentCause,
     pass: &mut Pass,
-) -> Result<Step, BlockFault>
+) -> Result<(), BlockFault>
     requires text { IsBlock (block_of view.now) text }
-    requires inside { level.at < length (block_of view.now) }
+    requires inside { level.old.at < length (block_of view.now) }
     requires short { length (block_of view.now) < 2 ^ 64 }
     requires few { pass.old.looks < 2 ^ 119 + 2 ^ 113 }
-    ensures step { IfOk result (λ s. spec.IsStep (block_of view.now) level.at s) }
+    ensures later { IfOk result (λ _. level.old.at < level.new.at) }
     ensures looks { IfOk result (λ _. pass.new.looks ≤ pass.old.looks + 2 ^ 70) }
 {
     let line = number_at(view, level.at);
     let lines = joined(alloc, &inside(view, text), pass)?;
     let node = preserved(alloc, Tag::Comment, line, lines.as_str())?;
-    let level = level.past(text.to).with(node)?;
-    Ok(Step::Next(with_cause(alloc, level, cause, line)?))
+    level.go_to(text.to);
+    level.push(node)?;
+    put_cause(alloc, level, cause, line)
 }
 
 /// The characters of a label or name in the first line of explicit markup.
@@ -195,32 +207,32 @@ fn label_text(
     Ok(excerpt(alloc, view.line(at, &mut pass.looks), place)?)
 }
 
-/// The level with the block of a footnote or citation opened.
-fn noted(level: Level, element: Node, body: Part) -> Step
-    requires { level.at < 2 ^ 64 - 1 }
-    ensures { (B : Block) → IsBlock B body → spec.IsStep B level.at result }
+/// Opens the block of a footnote or citation.
+fn noted(level: &mut Level, element: Node, body: Part) -> Step
+    requires { level.old.at < 2 ^ 64 - 1 }
+    ensures { (B : Block) → IsBlock B body → spec.IsStep B level.old.at level.new.at result }
 {
+    level.go_to(body.to);
     Step::Open {
-        level: level.past(body.to),
         waits: Waits::Element(element),
         first: body,
         second: None,
     }
 }
 
-/// The level with the message on a comment that isn't meant as one.
-fn with_cause(
+/// Puts the message on a comment that isn't meant as one behind the last node.
+fn put_cause(
     alloc: Global,
-    level: Level,
+    level: &mut Level,
     cause: CommentCause,
     line: usize,
-) -> Result<Level, BlockFault>
-    ensures { IfOk result (λ l. l.at ≡ level.at) }
+) -> Result<(), BlockFault>
+    ensures { level.new.at ≡ level.old.at }
 {
     let text = match cause {
-        CommentCause::Plain => return Ok(level),
+        CommentCause::Plain => return Ok(()),
         CommentCause::MalformedTarget => "malformed hyperlink target.",
         CommentCause::MalformedSubstitution => "malformed substitution definition.",
     };
-    level.with(message(alloc, Gravity::Warning, line, text, None)?)
+    level.push(message(alloc, Gravity::Warning, line, text, None)?)
 }

@@ -21,14 +21,14 @@ use std::alloc::Global;
 pub(crate) fn field(
     alloc: Global,
     view: &View<'_>,
-    level: Level,
+    level: &mut Level,
     mark: FieldMark,
     pass: &mut Pass,
 ) -> Result<Step, BlockFault>
-    requires inside { level.at < length (block_of view.now) }
+    requires inside { level.old.at < length (block_of view.now) }
     requires short { length (block_of view.now) < 2 ^ 64 }
     requires few { pass.old.looks < 2 ^ 119 + 2 ^ 111 }
-    ensures step { IfOk result (λ s. spec.IsStep (block_of view.now) level.at s) }
+    ensures step { IfOk result (λ s. spec.IsStep (block_of view.now) level.old.at level.new.at s) }
     ensures looks { IfOk result (λ _. pass.new.looks ≤ pass.old.looks + 2 ^ 79) }
 {
     let at = level.at;
@@ -43,7 +43,7 @@ pub(crate) fn field(
         &mut pass.numbers,
     )?;
     let body = hanging(view, at, mark.marker, &mut pass.looks);
-    let level = joined_list(
+    join_list(
         alloc,
         view,
         level,
@@ -54,8 +54,8 @@ pub(crate) fn field(
     )?;
     let mut heads = Vec::with_capacity(alloc, 2)?;
     heads.push(name.element)?;
+    level.go_to(body.to);
     Ok(Step::Open {
-        level: level.past(body.to),
         waits: Waits::ListedBody {
             line,
             item: Tag::Field,
@@ -68,24 +68,25 @@ pub(crate) fn field(
     })
 }
 
-/// The level with a list of this kind open: that before the next line, or a new one, whose element has this tag. The
-/// item that joins it ends at `end`.
-pub(crate) fn joined_list(
+/// Has a list of this kind open: that before the next line, or a new one, whose element has this tag. The item that joins it
+/// ends at `end`.
+pub(crate) fn join_list(
     alloc: Global,
     view: &View<'_>,
-    level: Level,
+    level: &mut Level,
     kind: ListKind,
     tag: Tag,
     end: usize,
     pass: &mut Pass,
-) -> Result<Level, BlockFault>
-    ensures at { IfOk result (λ l. l.at ≡ level.at) }
+) -> Result<(), BlockFault>
+    ensures at { level.new.at ≡ level.old.at }
     ensures looks { pass.new.looks ≡ pass.old.looks }
 {
     if level.run.list_kind() == Some(kind) {
-        return Ok(level.joined(kind, end));
+        level.join(kind, end);
+        return Ok(());
     }
     let line = number_at(view, level.at);
-    let level = level.closed(alloc, view, pass)?;
-    level.begun(alloc, kind, Node::element(alloc, tag, line), end)
+    level.close(alloc, view, pass)?;
+    level.begin(alloc, kind, Node::element(alloc, tag, line), end)
 }

@@ -1,6 +1,6 @@
 //! Figures (Directives, 'Figure').
 use super::fault::BlockFault;
-use super::texts::{alone, appended, filled};
+use super::texts::{alone, append, element_of, filled, push};
 use rst_elements::message;
 use rst_tree::{Attrs, Children, Key, Level as Gravity, Node, Said, Tag};
 use std::alloc::Global;
@@ -58,7 +58,9 @@ pub(crate) fn finished_figure(
         Front::Wrong => {
             let text = "Figure caption must be a paragraph or empty comment.";
             let error = message(alloc, Gravity::Error, line, text, Some(source.as_str()))?;
-            appended(alone(alloc, figure)?, alone(alloc, error)?)
+            let mut nodes = alone(alloc, figure)?;
+            push(&mut nodes, error)?;
+            Ok(nodes)
         }
     }
 }
@@ -81,7 +83,9 @@ fn captioned(
         }
     }
     let figure = with_legend(alloc, figure, legend)?;
-    appended(alone(alloc, figure)?, notes)
+    let mut nodes = alone(alloc, figure)?;
+    append(&mut nodes, notes)?;
+    Ok(nodes)
 }
 
 /// What the first node of a figure's content is.
@@ -126,6 +130,6 @@ fn with_legend(alloc: Global, figure: Node, nodes: Vec<Node>) -> Result<Node, Bl
     if nodes.is_empty() {
         return Ok(figure);
     }
-    let legend = filled(Node::element(alloc, Tag::Legend, 0), nodes)?;
+    let legend = element_of(alloc, Tag::Legend, 0, nodes);
     filled(figure, alone(alloc, legend)?)
 }

@@ -10,12 +10,13 @@ use super::level::Level;
 use super::part::inside;
 use super::resume::{Waits, resume};
 use super::step::Step;
-use super::texts::{Pass, appended};
+use super::texts::{Pass, append};
 use rst_markup::Part;
 use rst_text::{Portion, View};
 use rst_tree::Node;
 use std::alloc::Global;
 use std::default::MadeWith;
+use std::mem;
 
 /// A block that waits for one inside it.
 #[derive(Drop)]
@@ -30,20 +31,13 @@ pub(crate) struct Frame {
     pub nodes: Vec<Node>,
 }
 
-/// The block that is being read, and what comes next in it.
-#[derive(Drop)]
-pub(crate) struct Reader<'a> {
-    pub view: View<'a>,
-    pub now: Step,
-}
-
 /// What follows the end of a block inside another.
 #[derive(Drop)]
 pub(crate) enum Ended<'a> {
-    /// The other waits for one more block inside it, which is read next.
-    Waiting(Frame, Reader<'a>),
-    /// The other goes on.
-    GoesOn(Reader<'a>),
+    /// The other waits for one more block inside it, which is read next: these lines.
+    Waiting(Frame, View<'a>),
+    /// The other goes on: in these lines, with this.
+    GoesOn(View<'a>, Step),
 }
 
 impl MadeWith<Global> for Frame {
@@ -58,88 +52,73 @@ impl MadeWith<Global> for Frame {
     }
 }
 
-/// The reader of a block inside one that is being read, of which nothing was read; it stands in as many blocks as `depth` says.
-fn begun<'a>(alloc: Global, view: &View<'a>, part: Part, depth: usize) -> Reader<'a>
-    requires { IsBlock (block_of view.now) part }
-    ensures text { source_of result.view ≡ source_of view.now }
-    ensures lines { length (block_of result.view) ≤ length (block_of view.now) }
-    ensures now { frames.IsBegin result.now }
-{
-    Reader {
-        view: inside(view, part),
-        now: Step::Next(Level::new(alloc, depth)),
-    }
-}
-
-/// A block that waits for its parts, and the reader of the first of them, which stands in as many blocks as `depth` says.
-pub(crate) fn opened<'a>(
+/// The block that is being read as one that waits for its parts, of which `second` is read behind another. In its place a level
+/// begins that stands in as many blocks as `depth` says.
+pub(crate) fn opened(
     alloc: Global,
-    view: &View<'a>,
-    level: Level,
+    view: &View<'_>,
+    level: &mut Level,
     waits: Waits,
-    first: Part,
     second: Option<Part>,
     depth: usize,
-) -> (Frame, Reader<'a>)
-    requires first { IsBlock (block_of view.now) first }
+) -> Frame
     requires second { spec.IsBlockIf (block_of view.now) second }
-    requires waits { spec.IsWaiting (block_of view.now) level.at waits }
+    requires waits { spec.IsWaiting (block_of view.now) level.old.at waits }
     requires short { length (block_of view.now) < 2 ^ 64 }
-    ensures frame { frames.IsFrame (source_of view.now) result.0 }
-    ensures block { portion_block (source_of view.now) result.0.portion ≡ block_of view.now }
-    ensures at { result.0.level.at ≡ level.at }
-    ensures text { source_of result.1.view ≡ source_of view.now }
-    ensures lines { length (block_of result.1.view) ≤ length (block_of view.now) }
-    ensures now { frames.IsBegin result.1.now }
+    ensures frame { frames.IsFrame (source_of view.now) result }
+    ensures block { portion_block (source_of view.now) result.portion ≡ block_of view.now }
+    ensures at { result.level.at ≡ level.old.at }
+    ensures begin { level.new.at ≡ 0 }
 {
-    let frame = Frame {
+    Frame {
         portion: view.portion(),
-        level,
+        level: mem::replace(level, Level::new(alloc, depth)),
         waits,
         second,
         nodes: Vec::new(alloc),
-    };
-    (frame, begun(alloc, view, first, depth))
+    }
 }
 
-/// What follows the end of a block inside the one that waits, where `done` is what was read of it, and `whole` shows all lines
-/// of the text. A part that comes next stands in as many blocks as `depth` says.
+/// What follows the end of a block inside the one that waits, where `level` is what was read of it, and `whole` shows all lines
+/// of the text. A part that comes next stands in as many blocks as `depth` says. The level becomes that of what follows.
 pub(crate) fn closed<'a>(
     alloc: Global,
     whole: &View<'a>,
     frame: Frame,
-    done: Level,
+    level: &mut Level,
     depth: usize,
     pass: &mut Pass,
 ) -> Result<Ended<'a>, BlockFault>
     requires frame { frames.IsFrame (source_of whole.now) frame }
     requires few { pass.old.looks < 2 ^ 119 + 2 ^ 109 }
-    ensures ended { IfOk result (frames.IsEnded (source_of whole.now) frame) }
+    ensures ended { IfOk result (frames.IsEnded (source_of whole.now) frame level.new.at) }
     ensures looks { IfOk result (λ _. pass.new.looks ≤ pass.old.looks + 2 ^ 90) }
 {
     let Frame {
         portion,
-        level,
+        level: outer,
         waits,
         second,
-        nodes,
+        mut nodes,
     } = frame;
     let view = whole.at(portion);
-    let nodes = appended(nodes, done.nodes)?;
+    let done = mem::replace(level, outer);
+    append(&mut nodes, done.nodes)?;
     match second {
-        Some(second) => Ok(Ended::Waiting(
-            Frame {
+        Some(second) => {
+            let part = inside(&view, second);
+            let frame = Frame {
                 portion,
-                level,
+                level: mem::replace(level, Level::new(alloc, depth)),
                 waits,
                 second: None,
                 nodes,
-            },
-            begun(alloc, &view, second, depth),
-        )),
+            };
+            Ok(Ended::Waiting(frame, part))
+        }
         None => {
-            let now = resume(alloc, &view, level, waits, nodes, pass)?;
-            Ok(Ended::GoesOn(Reader { view, now }))
+            let next = resume(alloc, &view, level, waits, nodes, pass)?;
+            Ok(Ended::GoesOn(view, next))
         }
     }
 }

@@ -2,7 +2,6 @@
 ghost use Rattle.std.specs.Prelude.{◌≡◌, IfOk};
 
 use super::fault::BlockFault;
-use super::level::Level;
 use super::texts::Pass;
 use rst_elements::{Texted, with_text};
 use rst_tree::{Node, Tag};
@@ -54,13 +53,4 @@ impl Heading {
             source,
         })
     }
-}
-
-/// The level with a title behind its nodes.
-pub(crate) fn with_heading(mut level: Level, mut heading: Heading) -> Result<Level, BlockFault>
-    ensures { IfOk result (λ l. l.at ≡ level.at) }
-{
-    heading.before = level.nodes.len();
-    level.headings.push(heading)?;
-    Ok(level)
 }

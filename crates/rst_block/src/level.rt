@@ -7,10 +7,11 @@ ghost use Rattle.rst_block.specs.Steps as spec;
 use super::fault::BlockFault;
 use super::heading::Heading;
 use super::run::{ListKind, OpenList, Run};
-use super::texts::{Pass, appended, pushed, unindent};
+use super::texts::{Pass, append, push, unindent};
 use rst_text::View;
 use rst_tree::Node;
 use std::alloc::Global;
+use std::mem;
 
 /// What was read of a block so far.
 #[derive(Drop)]
@@ -46,88 +47,82 @@ impl Level {
         self.depth == 0
     }
 
-    /// The level at a later line: behind the next one at least.
-    pub fn past(mut self, end: usize) -> Level
-        requires { self.at < 2 ^ 64 - 1 }
-        ensures later { self.at < result.at }
-        ensures within { (n : ℕ) → self.at < n → end ≤ n → result.at ≤ n }
+    /// Goes to a later line: behind the next one at least.
+    pub fn go_to(&mut self, end: usize)
+        requires { self.old.at < 2 ^ 64 - 1 }
+        ensures later { self.old.at < self.new.at }
+        ensures within { (n : ℕ) → self.old.at < n → end ≤ n → self.new.at ≤ n }
     {
         self.at = end.max(self.at + 1);
-        self
     }
 
-    /// The level with one more node.
-    pub fn with(mut self, node: Node) -> Result<Level, BlockFault>
-        ensures { IfOk result (λ l. l.at ≡ self.at) }
+    /// Puts a node behind the last.
+    pub fn push(&mut self, node: Node) -> Result<(), BlockFault>
+        ensures { self.new.at ≡ self.old.at }
     {
-        self.nodes = pushed(self.nodes, node)?;
-        Ok(self)
+        push(&mut self.nodes, node)
     }
 
-    /// The level with some more nodes.
-    pub fn with_all(mut self, more: Vec<Node>) -> Result<Level, BlockFault>
-        ensures { IfOk result (λ l. l.at ≡ self.at) }
+    /// Puts more nodes behind the last.
+    pub fn append(&mut self, more: Vec<Node>) -> Result<(), BlockFault>
+        ensures { self.new.at ≡ self.old.at }
     {
-        self.nodes = appended(self.nodes, more)?;
-        Ok(self)
+        append(&mut self.nodes, more)
     }
 
-    /// The level with its open run ended before the next line, with the message on an end without a blank line.
-    pub fn closed(
-        self,
+    /// Puts a title behind the last node.
+    pub fn push_heading(&mut self, mut heading: Heading) -> Result<(), BlockFault>
+        ensures { self.new.at ≡ self.old.at }
+    {
+        heading.before = self.nodes.len();
+        self.headings.push(heading)?;
+        Ok(())
+    }
+
+    /// Ends the open run before the next line, with the message on an end without a blank line.
+    pub fn close(
+        &mut self,
         alloc: Global,
         view: &View<'_>,
         pass: &mut Pass,
-    ) -> Result<Level, BlockFault>
-        ensures at { IfOk result (λ l. l.at ≡ self.at) }
+    ) -> Result<(), BlockFault>
+        ensures at { self.new.at ≡ self.old.at }
         ensures looks { pass.new.looks ≡ pass.old.looks }
     {
         if matches!(self.run, Run::None) {
-            return Ok(self);
+            return Ok(());
         }
-        let Level {
-            depth,
-            at,
-            nodes,
-            run,
-            headings,
-        } = self;
+        let run = mem::replace(&mut self.run, Run::None);
         let ending = run.ending();
-        let mut nodes = run.onto(alloc, nodes, depth, pass)?;
+        run.put(alloc, &mut self.nodes, self.depth, pass)?;
         if let Some((end, text)) = ending {
-            if end == at && at < view.len() {
-                nodes.push(unindent(alloc, view.number(at), text)?)?;
+            if end == self.at && self.at < view.len() {
+                self.nodes
+                    .push(unindent(alloc, view.number(self.at), text)?)?;
             }
         }
-        Ok(Level {
-            depth,
-            at,
-            nodes,
-            run: Run::None,
-            headings,
-        })
+        Ok(())
     }
 
-    /// The level with an item that ends at `end` announced: it joins the list that is open, which goes on as `kind`.
-    pub fn joined(mut self, kind: ListKind, end: usize) -> Level
-        ensures { result.at ≡ self.at }
+    /// Announces an item that ends at `end`: it joins the list that is open, which goes on as `kind`.
+    pub fn join(&mut self, kind: ListKind, end: usize)
+        ensures { self.new.at ≡ self.old.at }
     {
         if let Run::List(open) = &mut self.run {
             open.kind = kind;
             open.end = end;
         }
-        self
     }
 
-    /// The level with a list begun.
-    pub fn begun(
-        mut self,
+    /// Begins a list.
+    pub fn begin(
+        &mut self,
         alloc: Global,
         kind: ListKind,
         list: Node,
         end: usize,
-    ) -> Result<Level, BlockFault>
-        ensures { IfOk result (λ l. l.at ≡ self.at) }
+    ) -> Result<(), BlockFault>
+        ensures { self.new.at ≡ self.old.at }
     {
         let open = OpenList {
             kind,
@@ -138,42 +133,36 @@ impl Level {
             behind: Vec::new(alloc),
         };
         self.run = Run::List(Box::new(alloc, open)?);
-        Ok(self)
+        Ok(())
     }
 
-    /// The level with an item of the open list; without one it is a node of its own.
-    pub fn with_item(mut self, item: Node) -> Result<Level, BlockFault>
-        ensures { IfOk result (λ l. l.at ≡ self.at) }
+    /// Puts an item into the open list; without one it is a node of its own.
+    pub fn push_item(&mut self, item: Node) -> Result<(), BlockFault>
+        ensures { self.new.at ≡ self.old.at }
     {
         match &mut self.run {
-            Run::List(open) => {
-                if open.items.is_empty() {
-                    open.items.reserve_exact(1)?;
-                }
-                open.items.push(item)?;
-                Ok(self)
-            }
-            _ => self.with(item),
+            Run::List(open) => push(&mut open.items, item),
+            _ => push(&mut self.nodes, item),
         }
     }
 
-    /// The level with a warning where the line at place `end`, after a construct, isn't blank.
-    pub fn warned(
-        self,
+    /// Puts a warning behind the last node where the line at place `end`, after a construct, isn't blank.
+    pub fn warn(
+        &mut self,
         alloc: Global,
         view: &View<'_>,
         end: usize,
         text: &str,
         pass: &mut Pass,
-    ) -> Result<Level, BlockFault>
+    ) -> Result<(), BlockFault>
         requires short { length (block_of view.now) < 2 ^ 64 }
         requires few { pass.old.looks < 2 ^ 120 }
-        ensures at { IfOk result (λ l. l.at ≡ self.at) }
+        ensures at { self.new.at ≡ self.old.at }
         ensures looks { pass.new.looks ≤ pass.old.looks + 1 }
     {
         if end < view.len() && !view.line(end, &mut pass.looks).is_empty() {
-            return self.with(unindent(alloc, view.number(end), text)?);
+            return self.push(unindent(alloc, view.number(end), text)?);
         }
-        Ok(self)
+        Ok(())
     }
 }

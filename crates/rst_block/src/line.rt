@@ -8,7 +8,6 @@ use super::fault::BlockFault;
 use super::level::Level;
 use super::part::{indented, inside};
 use super::run::Run;
-use super::step::Step;
 use super::texts::{Pass, joined, lines_between, number_at};
 use rst_elements::BarText;
 use rst_marks::Marker;
@@ -20,35 +19,33 @@ use std::alloc::Global;
 pub(crate) fn bar_line(
     alloc: Global,
     view: &View<'_>,
-    level: Level,
+    level: &mut Level,
     marker: Marker,
     pass: &mut Pass,
-) -> Result<Step, BlockFault>
-    requires inside { level.at < length (block_of view.now) }
+) -> Result<(), BlockFault>
+    requires inside { level.old.at < length (block_of view.now) }
     requires short { length (block_of view.now) < 2 ^ 64 }
     requires few { pass.old.looks < 2 ^ 119 + 2 ^ 111 }
-    ensures step { IfOk result (λ s. spec.IsStep (block_of view.now) level.at s) }
+    ensures later { IfOk result (λ _. level.old.at < level.new.at) }
     ensures looks { IfOk result (λ _. pass.new.looks ≤ pass.old.looks + 2 ^ 79) }
 {
     let at = level.at;
     let end = indented_end(view, at, &mut pass.looks);
     let text = bar_text(alloc, view, at, end, marker, pass)?;
-    let mut level = match &level.run {
-        Run::Lines { end, .. } if *end == at => level,
-        _ => {
-            let mut level = level.closed(alloc, view, pass)?;
-            level.run = Run::Lines {
-                lines: Vec::new(alloc),
-                end: at,
-            };
-            level
-        }
-    };
+    let joins = matches!(&level.run, Run::Lines { end, .. } if *end == at);
+    if !joins {
+        level.close(alloc, view, pass)?;
+        level.run = Run::Lines {
+            lines: Vec::new(alloc),
+            end: at,
+        };
+    }
     if let Run::Lines { lines, end: last } = &mut level.run {
         lines.push(text)?;
         *last = end;
     }
-    Ok(Step::Next(level.past(end)))
+    level.go_to(end);
+    Ok(())
 }
 
 /// The text behind a bar and in the indented lines below it. A bar that stands alone has no indentation of its own, and

@@ -18,13 +18,13 @@ use rst_markup::Part;
 use rst_text::View;
 use std::alloc::Global;
 
-/// The level with the block of an item opened.
-fn opened(level: Level, line: usize, body: Part) -> Step
-    requires { level.at < 2 ^ 64 - 1 }
-    ensures { (B : Block) → IsBlock B body → spec.IsStep B level.at result }
+/// Opens the block of an item.
+fn opened(level: &mut Level, line: usize, body: Part) -> Step
+    requires { level.old.at < 2 ^ 64 - 1 }
+    ensures { (B : Block) → IsBlock B body → spec.IsStep B level.old.at level.new.at result }
 {
+    level.go_to(body.to);
     Step::Open {
-        level: level.past(body.to),
         waits: Waits::ListItem { line },
         first: body,
         second: None,
@@ -35,15 +35,15 @@ fn opened(level: Level, line: usize, body: Part) -> Step
 pub(crate) fn bullet_item(
     alloc: Global,
     view: &View<'_>,
-    level: Level,
+    level: &mut Level,
     mark: char,
     marker: Marker,
     pass: &mut Pass,
 ) -> Result<Step, BlockFault>
-    requires inside { level.at < length (block_of view.now) }
+    requires inside { level.old.at < length (block_of view.now) }
     requires short { length (block_of view.now) < 2 ^ 64 }
     requires few { pass.old.looks < 2 ^ 119 + 2 ^ 111 }
-    ensures step { IfOk result (λ s. spec.IsStep (block_of view.now) level.at s) }
+    ensures step { IfOk result (λ s. spec.IsStep (block_of view.now) level.old.at level.new.at s) }
     ensures looks { IfOk result (λ _. pass.new.looks ≤ pass.old.looks + 2 ^ 79) }
 {
     let at = level.at;
@@ -51,25 +51,26 @@ pub(crate) fn bullet_item(
     let body = item_part(view, at, marker, &mut pass.looks);
     let kind = ListKind::Bullet(mark);
     if level.run.list_kind() == Some(kind) {
-        return Ok(opened(level.joined(kind, body.to), line, body));
+        level.join(kind, body.to);
+        return Ok(opened(level, line, body));
     }
-    let level = level.closed(alloc, view, pass)?;
-    let list = bullet_list(alloc, mark, line)?;
-    Ok(opened(level.begun(alloc, kind, list, body.to)?, line, body))
+    level.close(alloc, view, pass)?;
+    level.begin(alloc, kind, bullet_list(alloc, mark, line)?, body.to)?;
+    Ok(opened(level, line, body))
 }
 
 /// An item of an enumerated list.
 pub(crate) fn enumerated_item(
     alloc: Global,
     view: &View<'_>,
-    level: Level,
+    level: &mut Level,
     enumerator: Enumerator,
     pass: &mut Pass,
 ) -> Result<Step, BlockFault>
-    requires inside { level.at < length (block_of view.now) }
+    requires inside { level.old.at < length (block_of view.now) }
     requires short { length (block_of view.now) < 2 ^ 64 }
     requires few { pass.old.looks < 2 ^ 119 + 2 ^ 111 }
-    ensures step { IfOk result (λ s. spec.IsStep (block_of view.now) level.at s) }
+    ensures step { IfOk result (λ s. spec.IsStep (block_of view.now) level.old.at level.new.at s) }
     ensures looks { IfOk result (λ _. pass.new.looks ≤ pass.old.looks + 2 ^ 79) }
 {
     let at = level.at;
@@ -78,27 +79,28 @@ pub(crate) fn enumerated_item(
     if let Some(ListKind::Enumerated(sequel)) = level.run.list_kind() {
         if let Some(next) = sequel.after(enumerator) {
             let kind = ListKind::Enumerated(next);
-            return Ok(opened(level.joined(kind, body.to), line, body));
+            level.join(kind, body.to);
+            return Ok(opened(level, line, body));
         }
     }
-    let level = level.closed(alloc, view, pass)?;
-    let level = with_enumerated_list(alloc, view, level, enumerator, body.to, pass)?;
+    level.close(alloc, view, pass)?;
+    begin_enumerated_list(alloc, view, level, enumerator, body.to, pass)?;
     Ok(opened(level, line, body))
 }
 
-/// The level with an enumerated list begun, and the message on one that doesn't begin with the first ordinal.
-fn with_enumerated_list(
+/// Begins an enumerated list, with the message on one that doesn't begin with the first ordinal.
+fn begin_enumerated_list(
     alloc: Global,
     view: &View<'_>,
-    level: Level,
+    level: &mut Level,
     enumerator: Enumerator,
     end: usize,
     pass: &mut Pass,
-) -> Result<Level, BlockFault>
-    requires inside { level.at < length (block_of view.now) }
+) -> Result<(), BlockFault>
+    requires inside { level.old.at < length (block_of view.now) }
     requires short { length (block_of view.now) < 2 ^ 64 }
     requires few { pass.old.looks < 2 ^ 120 }
-    ensures at { IfOk result (λ l. l.at ≡ level.at) }
+    ensures at { level.new.at ≡ level.old.at }
     ensures looks { pass.new.looks ≤ pass.old.looks + 1 }
 {
     let at = level.at;
@@ -112,7 +114,7 @@ fn with_enumerated_list(
         auto: matches!(ordinals, Ordinals::Auto),
     });
     let list = enumerated_list(alloc, enumerator, line)?;
-    let mut level = level.begun(alloc, kind, list, end)?;
+    level.begin(alloc, kind, list, end)?;
     if reading.ordinal != 1 {
         let written = written_place(enumerator);
         let written = excerpt(alloc, view.line(at, &mut pass.looks), written)?;
@@ -121,7 +123,7 @@ fn with_enumerated_list(
             open.behind.push(note)?;
         }
     }
-    Ok(level)
+    Ok(())
 }
 
 /// The characters of an enumerator's ordinal in its line.

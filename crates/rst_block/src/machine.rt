@@ -1,8 +1,9 @@
 //! The machine: the constructs of a block one after the other, and the blocks inside them.
-ghost use Rattle.std.specs.Prelude.{◌≡◌, ◌+◌, ◌-◌, ◌*◌, ◌^◌, ◌<◌, ◌≤◌, length, drop, IfOk, IfSome};
+ghost use Rattle.std.specs.Prelude.{◌≡◌, ◌+◌, ◌-◌, ◌*◌, ◌^◌, ◌<◌, ◌≤◌, ◌++◌, ◌∷◌, [], length, drop, IfOk, IfSome, IfNone};
 ghost use Rattle.rst_text.specs.Shown.{block_of};
 ghost use Rattle.rst_markup.specs.Parts.{IsBlock, IsCall};
 ghost use Rattle.rst_block.specs.Steps as spec;
+ghost use Rattle.rst_block.specs.declared.step.Step.TheVariants.{Next};
 
 use super::fault::BlockFault;
 use super::frame::{Ended, Frame, closed, opened};
@@ -12,7 +13,7 @@ use super::resume::{Waits, resume};
 use super::run::DEEPEST;
 use super::step::{Step, step_at};
 use super::table::{after_table, entry_of, table_of};
-use super::texts::{Pass, filled};
+use super::texts::{Pass, element_of};
 use arrayvec::ArrayVec;
 use rst_markup::{LineTest, Part, lines_end};
 use rst_tables::{Cell, TableResult};
@@ -53,65 +54,102 @@ pub(crate) fn read(
     ensures few { IfOk result (λ _. pass.new.looks < 2 ^ 119) }
 {
     let whole = View::whole(lines);
-    if whole.len() == 0 || depth > DEEPEST {
-        go_on(pass)?;
-        not_blank(&whole, pass)?;
-        go_on(pass)?;
-        return Ok(Level::new(alloc, depth));
+    if 0 < whole.len() && depth <= DEEPEST {
+        return read_blocks(alloc, whole, depth, frames, pass);
     }
+    go_on(pass)?;
+    not_blank(&whole, pass)?;
+    go_on(pass)?;
+    Ok(Level::new(alloc, depth))
+}
+
+/// The same where there are lines, and not too deep.
+#[cycle(machine)]
+fn read_blocks(
+    alloc: Global,
+    whole: View<'_>,
+    depth: usize,
+    frames: &mut Frames,
+    pass: &mut Pass,
+) -> Result<Level, BlockFault>
+    requires depth { depth ≤ 250 }
+    requires room { length frames.old.items ≤ depth }
+    requires short { length (block_of whole) < 2 ^ 64 }
+    ensures frames { IfOk result (λ _. frames.new.items ≡ frames.old.items) }
+    ensures few { IfOk result (λ _. pass.new.looks < 2 ^ 119) }
+{
     let base = frames.len();
     let mut view = whole;
-    let mut now = Step::Next(Level::new(alloc, depth));
+    let mut level = Level::new(alloc, depth);
+    let mut now = Step::Next;
     loop {
         go_on(pass)?;
         let inner = depth + (frames.len() - base) + 1;
         now = match now {
-            Step::Next(level) => {
-                if level.at < view.len() {
-                    step_at(alloc, &view, level, pass)?
-                } else {
-                    Step::Done(level.closed(alloc, &view, pass)?)
-                }
-            }
-            Step::Cells { level, table } => {
-                Step::Next(with_table(alloc, &view, level, table, inner, frames, pass)?)
-            }
+            Step::Next => next(alloc, &view, &mut level, pass)?,
+            Step::Cells(table) => cells(alloc, &view, &mut level, table, inner, frames, pass)?,
             Step::Open {
-                level,
                 waits,
                 first,
                 second,
             } => {
                 if inner > DEEPEST {
-                    flat(alloc, &view, level, waits, first, second, pass)?
+                    flat(alloc, &view, &mut level, waits, first, second, pass)?
                 } else {
-                    let (frame, reader) = opened(alloc, &view, level, waits, first, second, inner);
-                    frames.push(frame);
-                    view = reader.view;
-                    reader.now
+                    frames.push(opened(alloc, &view, &mut level, waits, second, inner));
+                    view = inside(&view, first);
+                    Step::Next
                 }
             }
-            Step::Done(level) => {
-                if frames.len() == base {
-                    return Ok(level);
-                }
-                let Some(frame) = frames.pop() else {
+            Step::Done => {
+                let Some(frame) = last_of(frames, base) else {
                     return Ok(level);
                 };
-                match closed(alloc, &whole, frame, level, inner - 1, pass)? {
-                    Ended::Waiting(frame, reader) => {
+                match closed(alloc, &whole, frame, &mut level, inner - 1, pass)? {
+                    Ended::Waiting(frame, part) => {
                         frames.push(frame);
-                        view = reader.view;
-                        reader.now
+                        view = part;
+                        Step::Next
                     }
-                    Ended::GoesOn(reader) => {
-                        view = reader.view;
-                        reader.now
+                    Ended::GoesOn(outer, next) => {
+                        view = outer;
+                        next
                     }
                 }
             }
         };
     }
+}
+
+/// What comes next in a block: the construct at the next line, or the block's end.
+fn next(
+    alloc: Global,
+    view: &View<'_>,
+    level: &mut Level,
+    pass: &mut Pass,
+) -> Result<Step, BlockFault>
+    requires short { length (block_of view.now) < 2 ^ 64 }
+    requires few { pass.old.looks < 2 ^ 119 + 2 ^ 110 }
+    ensures next { IfOk result (λ s. spec.IsNext (block_of view.now) level.old.at level.new.at s) }
+    ensures looks { IfOk result (λ _. pass.new.looks ≤ pass.old.looks + 2 ^ 80) }
+{
+    if level.at < view.len() {
+        return step_at(alloc, view, level, pass);
+    }
+    level.close(alloc, view, pass)?;
+    Ok(Step::Done)
+}
+
+/// Takes the last of the blocks that wait, but for the first ones, as many as `base` says.
+fn last_of(frames: &mut Frames, base: usize) -> Option<Frame>
+    requires { base ≤ length frames.old.items }
+    ensures none { IfNone result ((frames.new.items ≡ frames.old.items) × (length frames.old.items ≡ base)) }
+    ensures some { IfSome result (λ f. (frames.old.items ≡ frames.new.items ++ f ∷ []) × (base < length frames.old.items)) }
+{
+    if frames.len() == base {
+        return None;
+    }
+    frames.pop()
 }
 
 /// Refuses lines that are nested too deeply, unless they are blank.
@@ -133,7 +171,7 @@ fn not_blank(view: &View<'_>, pass: &mut Pass) -> Result<(), BlockFault>
 fn flat(
     alloc: Global,
     view: &View<'_>,
-    level: Level,
+    level: &mut Level,
     waits: Waits,
     first: Part,
     second: Option<Part>,
@@ -141,10 +179,10 @@ fn flat(
 ) -> Result<Step, BlockFault>
     requires first { IsBlock (block_of view.now) first }
     requires second { spec.IsBlockIf (block_of view.now) second }
-    requires waits { spec.IsWaiting (block_of view.now) level.at waits }
+    requires waits { spec.IsWaiting (block_of view.now) level.old.at waits }
     requires short { length (block_of view.now) < 2 ^ 64 }
     requires few { pass.old.looks < 2 ^ 119 }
-    ensures step { IfOk result (λ s. spec.IsResumed (block_of view.now) level.at s) }
+    ensures step { IfOk result (λ s. spec.IsResumed (block_of view.now) level.old.at level.new.at s) }
     ensures looks { IfOk result (λ _. pass.new.looks ≤ pass.old.looks + 2 ^ 91) }
 {
     not_blank(&inside(view, first), pass)?;
@@ -154,24 +192,25 @@ fn flat(
     resume(alloc, view, level, waits, Vec::new(alloc), pass)
 }
 
-/// The level with a table behind its nodes, whose cells stand in as many blocks as `depth` says.
+/// Puts a table behind the last node, whose cells stand in as many blocks as `depth` says, and goes on.
 #[cycle(machine)]
-fn with_table(
+fn cells(
     alloc: Global,
     view: &View<'_>,
-    level: Level,
+    level: &mut Level,
     found: TableResult,
     depth: usize,
     frames: &mut Frames,
     pass: &mut Pass,
-) -> Result<Level, BlockFault>
-    requires inside { level.at < length (block_of view.now) }
+) -> Result<Step, BlockFault>
+    requires inside { level.old.at < length (block_of view.now) }
     requires depth { depth ≤ 251 }
     requires room { length frames.old.items ≤ depth }
     requires short { length (block_of view.now) < 2 ^ 64 }
     requires few { pass.old.looks < 2 ^ 119 }
     ensures frames { IfOk result (λ _. frames.new.items ≡ frames.old.items) }
-    ensures later { IfOk result (λ l. level.at < l.at) }
+    ensures next { IfOk result (λ s. s ≡ Next) }
+    ensures later { IfOk result (λ _. level.old.at < level.new.at) }
     ensures looks { IfOk result (λ _. pass.new.looks < 2 ^ 119 + 2 ^ 10) }
 {
     let TableResult::Table {
@@ -181,7 +220,8 @@ fn with_table(
         end,
     } = found
     else {
-        return Ok(level.past(0));
+        level.go_to(0);
+        return Ok(Step::Next);
     };
     let line = view.number(level.at);
     let mut made = Vec::new(alloc);
@@ -189,8 +229,10 @@ fn with_table(
         made.push(row_of(alloc, cells, depth, frames, pass)?)?;
     }
     let table = table_of(alloc, line, cols.as_slice(), head, made)?;
-    let level = level.past(end).with(table)?;
-    after_table(alloc, view, level, pass)
+    level.go_to(end);
+    level.push(table)?;
+    after_table(alloc, view, level, pass)?;
+    Ok(Step::Next)
 }
 
 /// A row of cells that stand in as many blocks as `depth` says.
@@ -214,5 +256,5 @@ fn row_of(
         let nodes = read(alloc, &lines, depth, frames, pass)?.nodes;
         entries.push(entry_of(alloc, cell, nodes)?)?;
     }
-    filled(Node::element(alloc, Tag::Row, 0), entries)
+    Ok(element_of(alloc, Tag::Row, 0, entries))
 }

@@ -5,7 +5,7 @@ ghost use Rattle.rst_markup.specs.Parts.{IsBlock, IsCall};
 ghost use Rattle.rst_block.specs.Steps as spec;
 
 use super::fault::BlockFault;
-use super::field::joined_list;
+use super::field::join_list;
 use super::level::Level;
 use super::part::hanging;
 use super::resume::Waits;
@@ -22,21 +22,21 @@ use std::alloc::Global;
 pub(crate) fn option_item(
     alloc: Global,
     view: &View<'_>,
-    level: Level,
+    level: &mut Level,
     marker: Marker,
     pass: &mut Pass,
 ) -> Result<Step, BlockFault>
-    requires inside { level.at < length (block_of view.now) }
+    requires inside { level.old.at < length (block_of view.now) }
     requires short { length (block_of view.now) < 2 ^ 64 }
     requires few { pass.old.looks < 2 ^ 119 + 2 ^ 111 }
-    ensures step { IfOk result (λ s. spec.IsStep (block_of view.now) level.at s) }
+    ensures step { IfOk result (λ s. spec.IsStep (block_of view.now) level.old.at level.new.at s) }
     ensures looks { IfOk result (λ _. pass.new.looks ≤ pass.old.looks + 2 ^ 79) }
 {
     let at = level.at;
     let line = number_at(view, at);
     let group = option_group(alloc, view.line(at, &mut pass.looks), line)?;
     let body = hanging(view, at, marker, &mut pass.looks);
-    let level = joined_list(
+    join_list(
         alloc,
         view,
         level,
@@ -47,8 +47,8 @@ pub(crate) fn option_item(
     )?;
     let mut heads = Vec::with_capacity(alloc, 2)?;
     heads.push(group)?;
+    level.go_to(body.to);
     Ok(Step::Open {
-        level: level.past(body.to),
         waits: Waits::ListedBody {
             line,
             item: Tag::OptionListItem,

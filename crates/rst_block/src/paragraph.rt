@@ -11,7 +11,6 @@ ghost use Rattle.rst_block.specs.Steps as spec;
 use super::fault::BlockFault;
 use super::level::Level;
 use super::part::{indented, inside};
-use super::step::Step;
 use super::texts::{Pass, joined, number_at, source};
 use rst_elements::{message, preserved, with_text};
 use rst_marks::{begins_with, ends_in_colons, front, is_blank, is_punctuation};
@@ -27,21 +26,22 @@ use std::alloc::{AllocError, Global};
 pub(crate) fn doctest_block(
     alloc: Global,
     view: &View<'_>,
-    level: Level,
+    level: &mut Level,
     pass: &mut Pass,
-) -> Result<Step, BlockFault>
-    requires inside { level.at < length (block_of view.now) }
+) -> Result<(), BlockFault>
+    requires inside { level.old.at < length (block_of view.now) }
     requires short { length (block_of view.now) < 2 ^ 64 }
     requires few { pass.old.looks < 2 ^ 119 + 2 ^ 111 }
-    ensures step { IfOk result (λ s. spec.IsStep (block_of view.now) level.at s) }
+    ensures later { IfOk result (λ _. level.old.at < level.new.at) }
     ensures looks { IfOk result (λ _. pass.new.looks ≤ pass.old.looks + 2 ^ 79) }
 {
-    let level = level.closed(alloc, view, pass)?;
+    level.close(alloc, view, pass)?;
     let at = level.at;
     let end = lines_end(view, at, LineTest::Filled, &mut pass.looks);
     let text = source(alloc, view, at, end, pass)?;
     let node = preserved(alloc, Tag::DoctestBlock, number_at(view, at), text.as_str())?;
-    Ok(Step::Next(level.past(end).with(node)?))
+    level.go_to(end);
+    level.push(node)
 }
 
 /// The text of a paragraph that announces a literal block: without both colons and the white before them, where white or
@@ -61,13 +61,13 @@ fn announcing(alloc: Global, text: &str) -> Result<String, AllocError> {
 pub(crate) fn paragraph(
     alloc: Global,
     view: &View<'_>,
-    level: Level,
+    level: &mut Level,
     pass: &mut Pass,
-) -> Result<Step, BlockFault>
-    requires inside { level.at < length (block_of view.now) }
+) -> Result<(), BlockFault>
+    requires inside { level.old.at < length (block_of view.now) }
     requires short { length (block_of view.now) < 2 ^ 64 }
     requires few { pass.old.looks < 2 ^ 119 + 2 ^ 114 }
-    ensures step { IfOk result (λ s. spec.IsStep (block_of view.now) level.at s) }
+    ensures later { IfOk result (λ _. level.old.at < level.new.at) }
     ensures looks { IfOk result (λ _. pass.new.looks ≤ pass.old.looks + 2 ^ 76) }
 {
     let at = level.at;
@@ -84,45 +84,47 @@ pub(crate) fn paragraph(
 fn paragraph_of(
     alloc: Global,
     view: &View<'_>,
-    level: Level,
+    level: &mut Level,
     text: &str,
     end: usize,
     pass: &mut Pass,
-) -> Result<Step, BlockFault>
+) -> Result<(), BlockFault>
     requires end { end ≤ length (block_of view.now) }
-    requires inside { level.at < length (block_of view.now) }
+    requires inside { level.old.at < length (block_of view.now) }
     requires short { length (block_of view.now) < 2 ^ 64 }
     requires few { pass.old.looks < 2 ^ 119 + 2 ^ 114 + 2 ^ 70 }
-    ensures step { IfOk result (λ s. spec.IsStep (block_of view.now) level.at s) }
+    ensures later { IfOk result (λ _. level.old.at < level.new.at) }
     ensures looks { IfOk result (λ _. pass.new.looks ≤ pass.old.looks + 2 ^ 75 + 2 ^ 70) }
 {
     if !ends_in_colons(text) {
-        let level = with_paragraph(alloc, view, level, text, end, pass)?;
-        return Ok(Step::Next(level.past(end)));
+        put_paragraph(alloc, view, level, text, end, pass)?;
+        level.go_to(end);
+        return Ok(());
     }
     let shown = announcing(alloc, text)?;
-    let level = with_paragraph(alloc, view, level, shown.as_str(), end, pass)?;
+    put_paragraph(alloc, view, level, shown.as_str(), end, pass)?;
     literal(alloc, view, level, end, pass)
 }
 
-/// The level with a paragraph that ends at `end`, unless it is empty, and the message on an indented line behind it.
-fn with_paragraph(
+/// Puts a paragraph that ends at `end` behind the last node, unless it is empty, and the message on an indented line behind it.
+fn put_paragraph(
     alloc: Global,
     view: &View<'_>,
-    mut level: Level,
+    level: &mut Level,
     text: &str,
     end: usize,
     pass: &mut Pass,
-) -> Result<Level, BlockFault>
+) -> Result<(), BlockFault>
     requires short { length (block_of view.now) < 2 ^ 64 }
     requires few { pass.old.looks < 2 ^ 120 }
-    ensures at { IfOk result (λ l. l.at ≡ level.at) }
+    ensures at { level.new.at ≡ level.old.at }
     ensures looks { IfOk result (λ _. pass.new.looks ≤ pass.old.looks + 1) }
 {
     if !text.is_empty() {
         let line = number_at(view, level.at);
         let made = with_text(alloc, Tag::Paragraph, line, text, line, &mut pass.numbers)?;
-        level = level.with(made.element)?.with_all(made.notes)?;
+        level.push(made.element)?;
+        level.append(made.notes)?;
     }
     if end < view.len() && !view.line(end, &mut pass.looks).is_empty() {
         let error = message(
@@ -132,24 +134,24 @@ fn with_paragraph(
             "Unexpected indentation.",
             None,
         )?;
-        return level.with(error);
+        level.push(error)?;
     }
-    Ok(level)
+    Ok(())
 }
 
 /// The literal block that a paragraph announces that ends at `end`.
 fn literal(
     alloc: Global,
     view: &View<'_>,
-    level: Level,
+    level: &mut Level,
     end: usize,
     pass: &mut Pass,
-) -> Result<Step, BlockFault>
+) -> Result<(), BlockFault>
     requires end { end ≤ length (block_of view.now) }
-    requires inside { level.at < length (block_of view.now) }
+    requires inside { level.old.at < length (block_of view.now) }
     requires short { length (block_of view.now) < 2 ^ 64 }
     requires few { pass.old.looks < 2 ^ 119 + 2 ^ 115 }
-    ensures step { IfOk result (λ s. spec.IsStep (block_of view.now) level.at s) }
+    ensures later { IfOk result (λ _. level.old.at < level.new.at) }
     ensures looks { IfOk result (λ _. pass.new.looks ≤ pass.old.looks + 2 ^ 75) }
 {
     let start = lines_end(view, end, LineTest::Blank, &mut pass.looks);
@@ -169,7 +171,8 @@ fn literal(
             };
             let text = "Literal block expected; none found.";
             let warning = message(alloc, Gravity::Warning, number_at(view, place), text, None)?;
-            Ok(Step::Next(level.past(end).with(warning)?))
+            level.go_to(end);
+            level.push(warning)
         }
     }
 }
@@ -178,15 +181,15 @@ fn literal(
 fn indented_literal(
     alloc: Global,
     view: &View<'_>,
-    level: Level,
+    level: &mut Level,
     start: usize,
     pass: &mut Pass,
-) -> Result<Step, BlockFault>
+) -> Result<(), BlockFault>
     requires start { start ≤ length (block_of view.now) }
-    requires inside { level.at < length (block_of view.now) }
+    requires inside { level.old.at < length (block_of view.now) }
     requires short { length (block_of view.now) < 2 ^ 64 }
     requires few { pass.old.looks < 2 ^ 119 + 2 ^ 116 }
-    ensures step { IfOk result (λ s. spec.IsStep (block_of view.now) level.at s) }
+    ensures later { IfOk result (λ _. level.old.at < level.new.at) }
     ensures looks { IfOk result (λ _. pass.new.looks ≤ pass.old.looks + 2 ^ 74) }
 {
     let lines = indented(view, start, &mut pass.looks);
@@ -198,24 +201,25 @@ fn indented_literal(
         text.as_str(),
     )?;
     let warning = "Literal block ends without a blank line; unexpected unindent.";
-    let level = level.past(lines.to).with(node)?;
-    Ok(Step::Next(level.warned(alloc, view, lines.to, warning, pass)?))
+    level.go_to(lines.to);
+    level.push(node)?;
+    level.warn(alloc, view, lines.to, warning, pass)
 }
 
 /// A quoted literal block: lines that begin with one punctuation character.
 fn quoted_literal(
     alloc: Global,
     view: &View<'_>,
-    level: Level,
+    level: &mut Level,
     start: usize,
     quote: char,
     pass: &mut Pass,
-) -> Result<Step, BlockFault>
+) -> Result<(), BlockFault>
     requires start { start ≤ length (block_of view.now) }
-    requires inside { level.at < length (block_of view.now) }
+    requires inside { level.old.at < length (block_of view.now) }
     requires short { length (block_of view.now) < 2 ^ 64 }
     requires few { pass.old.looks < 2 ^ 119 + 2 ^ 116 }
-    ensures step { IfOk result (λ s. spec.IsStep (block_of view.now) level.at s) }
+    ensures later { IfOk result (λ _. level.old.at < level.new.at) }
     ensures looks { IfOk result (λ _. pass.new.looks ≤ pass.old.looks + 2 ^ 74) }
 {
     let end = lines_end(view, start, LineTest::Begins(quote), &mut pass.looks);
@@ -226,10 +230,11 @@ fn quoted_literal(
         number_at(view, start),
         text.as_str(),
     )?;
-    let level = level.past(end).with(node)?;
+    level.go_to(end);
+    level.push(node)?;
     let next = text_at(view, end, &mut pass.looks);
     if next.is_empty() {
-        return Ok(Step::Next(level));
+        return Ok(());
     }
     let text = if begins_with(' ', next) {
         "Unexpected indentation."
@@ -237,7 +242,7 @@ fn quoted_literal(
         "Inconsistent literal block quoting."
     };
     let error = message(alloc, Gravity::Error, number_at(view, end), text, None)?;
-    Ok(Step::Next(level.with(error)?))
+    level.push(error)
 }
 
 /// Whether the lines of a block in a block are one paragraph that doesn't vanish, and nothing else.

@@ -21,16 +21,16 @@ use std::alloc::Global;
 pub(crate) fn block_quote(
     alloc: Global,
     view: &View<'_>,
-    level: Level,
+    level: &mut Level,
     pass: &mut Pass,
 ) -> Result<Step, BlockFault>
-    requires inside { level.at < length (block_of view.now) }
+    requires inside { level.old.at < length (block_of view.now) }
     requires short { length (block_of view.now) < 2 ^ 64 }
     requires few { pass.old.looks < 2 ^ 119 + 2 ^ 111 }
-    ensures step { IfOk result (λ s. spec.IsStep (block_of view.now) level.at s) }
+    ensures step { IfOk result (λ s. spec.IsStep (block_of view.now) level.old.at level.new.at s) }
     ensures looks { IfOk result (λ _. pass.new.looks ≤ pass.old.looks + 2 ^ 79) }
 {
-    let level = level.closed(alloc, view, pass)?;
+    level.close(alloc, view, pass)?;
     let quote = indented(view, level.at, &mut pass.looks);
     quote_part(alloc, view, level, quote, pass)
 }
@@ -40,38 +40,40 @@ pub(crate) fn block_quote(
 pub(crate) fn quote_part(
     alloc: Global,
     view: &View<'_>,
-    level: Level,
+    level: &mut Level,
     quote: Part,
     pass: &mut Pass,
 ) -> Result<Step, BlockFault>
     requires block { IsBlock (block_of view.now) quote }
-    requires at { level.at ≤ quote.from }
-    requires inside { level.at < length (block_of view.now) }
+    requires at { level.old.at ≤ quote.from }
+    requires inside { level.old.at < length (block_of view.now) }
     requires short { length (block_of view.now) < 2 ^ 64 }
     requires few { pass.old.looks < 2 ^ 119 + 2 ^ 112 }
-    ensures step { IfOk result (λ s. spec.IsStep (block_of view.now) level.at s) }
-    ensures resumed { IfOk result (λ s. spec.IsResumed (block_of view.now) level.at s) }
+    ensures step { IfOk result (λ s. spec.IsStep (block_of view.now) level.old.at level.new.at s) }
+    ensures resumed { IfOk result (λ s. spec.IsResumed (block_of view.now) level.old.at level.new.at s) }
     ensures looks { IfOk result (λ _. pass.new.looks ≤ pass.old.looks + 2 ^ 78) }
 {
     let line = number_at(view, quote.from);
     let lines = inside(view, quote);
     match first_attribution(&lines, pass) {
-        None => Ok(Step::Open {
-            level: level.past(quote.to),
-            waits: Waits::Quote {
-                line,
-                attribution: None,
-                rest: None,
-                end: quote.to,
-            },
-            first: quote,
-            second: None,
-        }),
+        None => {
+            level.go_to(quote.to);
+            Ok(Step::Open {
+                waits: Waits::Quote {
+                    line,
+                    attribution: None,
+                    rest: None,
+                    end: quote.to,
+                },
+                first: quote,
+                second: None,
+            })
+        }
         Some((place, found)) => {
             let attribution = attribution_text(alloc, &lines, place, found, pass)?;
             let next = lines_end(&lines, found.end, LineTest::Blank, &mut pass.looks);
+            level.go_to(quote.from + next);
             Ok(Step::Open {
-                level: level.past(quote.from + next),
                 waits: Waits::Quote {
                     line,
                     attribution: Some(attribution),

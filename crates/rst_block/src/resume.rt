@@ -10,7 +10,7 @@ use super::level::Level;
 use super::quote::quote_part;
 use super::step::Step;
 use super::substitution::{OpenReplacement, finished_replacement};
-use super::texts::{Pass, alone, appended, filled, pushed};
+use super::texts::{Pass, append, element_of, filled, push};
 use rst_elements::Texted;
 use rst_markup::Part;
 use rst_text::View;
@@ -51,32 +51,31 @@ pub(crate) enum Waits {
 pub(crate) fn resume(
     alloc: Global,
     view: &View<'_>,
-    level: Level,
+    level: &mut Level,
     waits: Waits,
     nodes: Vec<Node>,
     pass: &mut Pass,
 ) -> Result<Step, BlockFault>
-    requires waits { spec.IsWaiting (block_of view.now) level.at waits }
+    requires waits { spec.IsWaiting (block_of view.now) level.old.at waits }
     requires short { length (block_of view.now) < 2 ^ 64 }
     requires few { pass.old.looks < 2 ^ 119 + 2 ^ 109 }
-    ensures step { IfOk result (λ s. spec.IsResumed (block_of view.now) level.at s) }
+    ensures step { IfOk result (λ s. spec.IsResumed (block_of view.now) level.old.at level.new.at s) }
     ensures looks { IfOk result (λ _. pass.new.looks ≤ pass.old.looks + 2 ^ 90) }
 {
     match waits {
         Waits::ListItem { line } => {
-            let item = filled(Node::element(alloc, Tag::ListItem, line), nodes)?;
-            Ok(Step::Next(level.with_item(item)?))
+            level.push_item(element_of(alloc, Tag::ListItem, line, nodes))?;
         }
         Waits::ListedBody {
             line,
             item,
             body,
-            heads,
-            notes,
+            mut heads,
+            mut notes,
         } => {
-            let body = filled(Node::element(alloc, body, line), appended(notes, nodes)?)?;
-            let item = filled(Node::element(alloc, item, line), pushed(heads, body)?)?;
-            Ok(Step::Next(level.with_item(item)?))
+            append(&mut notes, nodes)?;
+            push(&mut heads, element_of(alloc, body, line, notes))?;
+            level.push_item(element_of(alloc, item, line, heads))?;
         }
         Waits::Quote {
             line,
@@ -84,39 +83,41 @@ pub(crate) fn resume(
             rest,
             end,
         } => {
-            let quote = filled(Node::element(alloc, Tag::BlockQuote, line), nodes)?;
-            let level = attributed(alloc, level, quote, attribution)?;
-            after_quote(alloc, view, level, rest, end, pass)
+            put_quote(alloc, level, line, nodes, attribution)?;
+            return after_quote(alloc, view, level, rest, end, pass);
         }
-        Waits::Element(element) => Ok(Step::Next(level.with(filled(element, nodes)?)?)),
-        Waits::Figure(figure) => Ok(Step::Next(level.with_all(finished_figure(
+        Waits::Element(element) => level.push(filled(element, nodes)?)?,
+        Waits::Figure(figure) => level.append(finished_figure(
             alloc,
             Box::into_inner(figure),
             nodes,
-        )?)?)),
-        Waits::Replacement(definition) => Ok(Step::Next(level.with(finished_replacement(
+        )?)?,
+        Waits::Replacement(definition) => level.push(finished_replacement(
             alloc,
             Box::into_inner(definition),
             nodes,
-        )?)?)),
+        )?)?,
     }
+    Ok(Step::Next)
 }
 
-/// The level with a block quote, its attribution and the messages of that.
-fn attributed(
+/// Puts a block quote behind the last node, with its attribution and the messages of that.
+fn put_quote(
     alloc: Global,
-    level: Level,
-    quote: Node,
+    level: &mut Level,
+    line: usize,
+    mut nodes: Vec<Node>,
     attribution: Option<Box<Texted>>,
-) -> Result<Level, BlockFault>
-    ensures { IfOk result (λ l. l.at ≡ level.at) }
+) -> Result<(), BlockFault>
+    ensures { level.new.at ≡ level.old.at }
 {
     match attribution {
-        None => level.with(quote),
+        None => level.push(element_of(alloc, Tag::BlockQuote, line, nodes)),
         Some(attribution) => {
             let Texted { element, notes } = Box::into_inner(attribution);
-            let quote = filled(quote, alone(alloc, element)?)?;
-            level.with(quote)?.with_all(notes)
+            push(&mut nodes, element)?;
+            level.push(element_of(alloc, Tag::BlockQuote, line, nodes))?;
+            level.append(notes)
         }
     }
 }
@@ -125,22 +126,23 @@ fn attributed(
 fn after_quote(
     alloc: Global,
     view: &View<'_>,
-    level: Level,
+    level: &mut Level,
     rest: Option<Part>,
     end: usize,
     pass: &mut Pass,
 ) -> Result<Step, BlockFault>
-    requires rest { spec.IsRest (block_of view.now) level.at rest }
+    requires rest { spec.IsRest (block_of view.now) level.old.at rest }
     requires short { length (block_of view.now) < 2 ^ 64 }
     requires few { pass.old.looks < 2 ^ 119 + 2 ^ 109 }
-    ensures step { IfOk result (λ s. spec.IsResumed (block_of view.now) level.at s) }
+    ensures step { IfOk result (λ s. spec.IsResumed (block_of view.now) level.old.at level.new.at s) }
     ensures looks { IfOk result (λ _. pass.new.looks ≤ pass.old.looks + 2 ^ 90) }
 {
     match rest {
         Some(rest) => quote_part(alloc, view, level, rest, pass),
         None => {
             let text = "Block quote ends without a blank line; unexpected unindent.";
-            Ok(Step::Next(level.warned(alloc, view, end, text, pass)?))
+            level.warn(alloc, view, end, text, pass)?;
+            Ok(Step::Next)
         }
     }
 }

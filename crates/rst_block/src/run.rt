@@ -5,7 +5,7 @@ ghost use Rattle.rst_markup.specs.Parts.{IsBlock, IsCall};
 ghost use Rattle.rst_block.specs.Steps as spec;
 
 use super::fault::BlockFault;
-use super::texts::{Pass, appended, filled, pushed};
+use super::texts::{Pass, append, filled, push};
 use rst_elements::{BarText, LineBlockFault, line_block};
 use rst_marks::{Enumerator, Format, Ordinals, Sequence, is_same_format, ordinal_in};
 use rst_tree::Node;
@@ -116,26 +116,26 @@ impl Run {
         }
     }
 
-    /// Nodes, and then those of the run, in a block of this depth.
-    pub fn onto(
+    /// Puts the nodes of the run behind others, in a block of this depth.
+    pub fn put(
         self,
         alloc: Global,
-        nodes: Vec<Node>,
+        nodes: &mut Vec<Node>,
         depth: usize,
         pass: &mut Pass,
-    ) -> Result<Vec<Node>, BlockFault>
+    ) -> Result<(), BlockFault>
         ensures { pass.new.looks ≡ pass.old.looks }
     {
         match self {
-            Run::None | Run::Explicit { .. } => Ok(nodes),
-            Run::List(open) => with_list(nodes, Box::into_inner(open)),
-            Run::Lines { lines, .. } => with_lines(alloc, nodes, lines, depth, pass),
+            Run::None | Run::Explicit { .. } => Ok(()),
+            Run::List(open) => put_list(nodes, Box::into_inner(open)),
+            Run::Lines { lines, .. } => put_lines(alloc, nodes, lines, depth, pass),
         }
     }
 }
 
-/// Nodes, and then a list between its messages.
-fn with_list(nodes: Vec<Node>, open: OpenList) -> Result<Vec<Node>, BlockFault> {
+/// Puts a list between its messages behind other nodes.
+fn put_list(nodes: &mut Vec<Node>, open: OpenList) -> Result<(), BlockFault> {
     let OpenList {
         before,
         list,
@@ -143,23 +143,26 @@ fn with_list(nodes: Vec<Node>, open: OpenList) -> Result<Vec<Node>, BlockFault> 
         behind,
         ..
     } = open;
-    let nodes = appended(nodes, before)?;
-    let nodes = pushed(nodes, filled(list, items)?)?;
-    appended(nodes, behind)
+    append(nodes, before)?;
+    push(nodes, filled(list, items)?)?;
+    append(nodes, behind)
 }
 
-/// Nodes, and then a line block and the messages of its texts.
-fn with_lines(
+/// Puts a line block and the messages of its texts behind other nodes.
+fn put_lines(
     alloc: Global,
-    nodes: Vec<Node>,
+    nodes: &mut Vec<Node>,
     lines: Vec<BarText>,
     depth: usize,
     pass: &mut Pass,
-) -> Result<Vec<Node>, BlockFault>
+) -> Result<(), BlockFault>
     ensures { pass.new.looks ≡ pass.old.looks }
 {
     match line_block(alloc, lines, depth, DEEPEST, &mut pass.numbers) {
-        Ok(block) => appended(pushed(nodes, block.element)?, block.notes),
+        Ok(block) => {
+            push(nodes, block.element)?;
+            append(nodes, block.notes)
+        }
         Err(LineBlockFault::TooDeep { line }) => Err(BlockFault::TooDeep { line }),
         Err(LineBlockFault::NoMemory) => Err(BlockFault::NoMemory),
     }

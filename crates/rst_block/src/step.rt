@@ -27,21 +27,17 @@ use std::alloc::Global;
 #[derive(Drop)]
 pub(crate) enum Step {
     /// The block goes on.
-    Next(Level),
+    Next,
     /// A block inside is read first: these two parts of the view, one after the other.
     Open {
-        level: Level,
         waits: Waits,
         first: Part,
         second: Option<Part>,
     },
     /// The cells of a table are read first.
-    Cells {
-        level: Level,
-        table: TableResult,
-    },
+    Cells(TableResult),
     /// The block is read.
-    Done(Level),
+    Done,
 }
 
 /// Reads the construct at the next line.
@@ -49,25 +45,34 @@ pub(crate) enum Step {
 pub(crate) fn step_at(
     alloc: Global,
     view: &View<'_>,
-    level: Level,
+    level: &mut Level,
     pass: &mut Pass,
 ) -> Result<Step, BlockFault>
-    requires inside { level.at < length (block_of view.now) }
+    requires inside { level.old.at < length (block_of view.now) }
     requires short { length (block_of view.now) < 2 ^ 64 }
     requires few { pass.old.looks < 2 ^ 119 + 2 ^ 110 }
-    ensures step { IfOk result (λ s. spec.IsStep (block_of view.now) level.at s) }
+    ensures step { IfOk result (λ s. spec.IsStep (block_of view.now) level.old.at level.new.at s) }
     ensures looks { IfOk result (λ _. pass.new.looks ≤ pass.old.looks + 2 ^ 80) }
 {
     let at = level.at;
     match begun_at(view, at, &mut pass.looks) {
-        Begun::Blank => Ok(Step::Next(level.past(at + 1))),
+        Begun::Blank => {
+            level.go_to(at + 1);
+            Ok(Step::Next)
+        }
         Begun::Quote => block_quote(alloc, view, level, pass),
         Begun::Bullet { mark, marker } => bullet_item(alloc, view, level, mark, marker, pass),
         Begun::Enumerator(enumerator) => enumerated_item(alloc, view, level, enumerator, pass),
         Begun::Field(mark) => field(alloc, view, level, mark, pass),
         Begun::OptionItem(marker) => option_item(alloc, view, level, marker, pass),
-        Begun::Doctest => doctest_block(alloc, view, level, pass),
-        Begun::Line(marker) => bar_line(alloc, view, level, marker, pass),
+        Begun::Doctest => {
+            doctest_block(alloc, view, level, pass)?;
+            Ok(Step::Next)
+        }
+        Begun::Line(marker) => {
+            bar_line(alloc, view, level, marker, pass)?;
+            Ok(Step::Next)
+        }
         Begun::Grid => {
             let found = grid(alloc, view, at, &mut pass.looks)?;
             table(alloc, view, level, found, pass)

@@ -36,17 +36,17 @@ pub(crate) struct OpenReplacement {
 pub(crate) fn substitution_definition(
     alloc: Global,
     view: &View<'_>,
-    level: Level,
+    level: &mut Level,
     written: &str,
     held: Option<Invocation>,
     end: usize,
     pass: &mut Pass,
 ) -> Result<Step, BlockFault>
-    requires call { IfSome held (IsCall (block_of view.now) level.at) }
-    requires inside { level.at < length (block_of view.now) }
+    requires call { IfSome held (IsCall (block_of view.now) level.old.at) }
+    requires inside { level.old.at < length (block_of view.now) }
     requires short { length (block_of view.now) < 2 ^ 64 }
     requires few { pass.old.looks < 2 ^ 119 + 2 ^ 113 }
-    ensures step { IfOk result (λ s. spec.IsStep (block_of view.now) level.at s) }
+    ensures step { IfOk result (λ s. spec.IsStep (block_of view.now) level.old.at level.new.at s) }
     ensures looks { IfOk result (λ _. pass.new.looks ≤ pass.old.looks + 2 ^ 77) }
 {
     let name = substitution_name(alloc, written)?;
@@ -61,7 +61,9 @@ pub(crate) fn substitution_definition(
             text.as_str(),
             Some(lines.as_str()),
         )?;
-        return Ok(Step::Next(level.past(end).with(warning)?));
+        level.go_to(end);
+        level.push(warning)?;
+        return Ok(Step::Next);
     };
     holding(alloc, view, level, name, &invocation, end, pass)
 }
@@ -79,17 +81,17 @@ fn about(alloc: Global, name: &str, what: &str) -> Result<String, BlockFault> {
 fn holding(
     alloc: Global,
     view: &View<'_>,
-    level: Level,
+    level: &mut Level,
     name: String,
     invocation: &Invocation,
     end: usize,
     pass: &mut Pass,
 ) -> Result<Step, BlockFault>
-    requires call { IsCall (block_of view.now) level.at invocation.now }
-    requires inside { level.at < length (block_of view.now) }
+    requires call { IsCall (block_of view.now) level.old.at invocation.now }
+    requires inside { level.old.at < length (block_of view.now) }
     requires short { length (block_of view.now) < 2 ^ 64 }
     requires few { pass.old.looks < 2 ^ 119 + 2 ^ 114 }
-    ensures step { IfOk result (λ s. spec.IsStep (block_of view.now) level.at s) }
+    ensures step { IfOk result (λ s. spec.IsStep (block_of view.now) level.old.at level.new.at s) }
     ensures looks { IfOk result (λ _. pass.new.looks ≤ pass.old.looks + 2 ^ 76) }
 {
     let at = level.at;
@@ -106,7 +108,9 @@ fn holding(
                 invocation,
                 pass,
             )?;
-            Ok(Step::Next(level.past(end).with(error)?))
+            level.go_to(end);
+            level.push(error)?;
+            Ok(Step::Next)
         }
         Directive::Found {
             argument,
@@ -116,7 +120,9 @@ fn holding(
         } => match argument {
             Argument::Uri(uri) => {
                 let shown = image_named(alloc, uri.as_str(), &options, name.as_str(), line)?;
-                Ok(Step::Next(level.past(end).with(shown)?))
+                level.go_to(end);
+                level.push(shown)?;
+                Ok(Step::Next)
             }
             _ => replacement(alloc, view, level, name, content, end, pass),
         },
@@ -135,21 +141,21 @@ fn image_named(
     filled(definition(alloc, name, line)?, alone(alloc, shown)?)
 }
 
-/// The level with a replacement text opened.
+/// Opens a replacement text.
 fn replacement(
     alloc: Global,
     view: &View<'_>,
-    level: Level,
+    level: &mut Level,
     name: String,
     content: Content,
     end: usize,
     pass: &mut Pass,
 ) -> Result<Step, BlockFault>
     requires content { IsContentIn (block_of view.now) content }
-    requires inside { level.at < length (block_of view.now) }
+    requires inside { level.old.at < length (block_of view.now) }
     requires short { length (block_of view.now) < 2 ^ 64 }
     requires few { pass.old.looks < 2 ^ 119 + 2 ^ 115 }
-    ensures step { IfOk result (λ s. spec.IsStep (block_of view.now) level.at s) }
+    ensures step { IfOk result (λ s. spec.IsStep (block_of view.now) level.old.at level.new.at s) }
     ensures looks { IfOk result (λ _. pass.new.looks ≤ pass.old.looks + 2 ^ 75) }
 {
     let at = level.at;
@@ -159,8 +165,8 @@ fn replacement(
         source: source(alloc, view, at, end, pass)?,
     };
     let waits = Waits::Replacement(Box::new(alloc, replacement)?);
+    level.go_to(end);
     Ok(Step::Open {
-        level: level.past(end),
         waits,
         first: content.first,
         second: Some(content.second),

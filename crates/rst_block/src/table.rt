@@ -7,7 +7,7 @@ ghost use Rattle.rst_block.specs.Steps as spec;
 use super::fault::BlockFault;
 use super::level::Level;
 use super::step::Step;
-use super::texts::{Pass, alone, filled, number_at, source};
+use super::texts::{Pass, alone, element_of, filled, number_at, source};
 use rst_elements::{entry, message, tgroup};
 use rst_tables::{Cell, TableFault, TableResult, malformed_text};
 use rst_text::View;
@@ -18,27 +18,26 @@ use std::alloc::Global;
 pub(crate) fn table(
     alloc: Global,
     view: &View<'_>,
-    level: Level,
+    level: &mut Level,
     found: TableResult,
     pass: &mut Pass,
 ) -> Result<Step, BlockFault>
-    requires inside { level.at < length (block_of view.now) }
+    requires inside { level.old.at < length (block_of view.now) }
     requires short { length (block_of view.now) < 2 ^ 64 }
     requires few { pass.old.looks < 2 ^ 119 + 2 ^ 111 }
-    ensures step { IfOk result (λ s. spec.IsStep (block_of view.now) level.at s) }
+    ensures step { IfOk result (λ s. spec.IsStep (block_of view.now) level.old.at level.new.at s) }
     ensures looks { IfOk result (λ _. pass.new.looks ≤ pass.old.looks + 2 ^ 79) }
 {
-    let level = level.closed(alloc, view, pass)?;
+    level.close(alloc, view, pass)?;
     match found {
         TableResult::Malformed { end, note } => {
             let error = malformed(alloc, view, level.at, end, note, pass)?;
-            let level = level.past(end).with(error)?;
-            Ok(Step::Next(after_table(alloc, view, level, pass)?))
+            level.go_to(end);
+            level.push(error)?;
+            after_table(alloc, view, level, pass)?;
+            Ok(Step::Next)
         }
-        found => Ok(Step::Cells {
-            level,
-            table: found,
-        }),
+        found => Ok(Step::Cells(found)),
     }
 }
 
@@ -66,20 +65,20 @@ fn malformed(
     )?)
 }
 
-/// The level behind a table, with the message on one that isn't followed by a blank line.
+/// Puts the message on a table that isn't followed by a blank line behind it.
 pub(crate) fn after_table(
     alloc: Global,
     view: &View<'_>,
-    level: Level,
+    level: &mut Level,
     pass: &mut Pass,
-) -> Result<Level, BlockFault>
+) -> Result<(), BlockFault>
     requires short { length (block_of view.now) < 2 ^ 64 }
     requires few { pass.old.looks < 2 ^ 120 }
-    ensures at { IfOk result (λ l. l.at ≡ level.at) }
+    ensures at { level.new.at ≡ level.old.at }
     ensures looks { pass.new.looks ≤ pass.old.looks + 1 }
 {
     let end = level.at;
-    level.warned(alloc, view, end, "Blank line required after table.", pass)
+    level.warn(alloc, view, end, "Blank line required after table.", pass)
 }
 
 /// A table of its rows' entries, of which the first rows, as many as `head`, are its head.
@@ -101,12 +100,12 @@ pub(crate) fn table_of(
     }
     let mut group = tgroup(alloc, widths, line)?;
     if 0 < head {
-        let head = filled(Node::element(alloc, Tag::Thead, 0), heads)?;
+        let head = element_of(alloc, Tag::Thead, 0, heads);
         group = filled(group, alone(alloc, head)?)?;
     }
-    let body = filled(Node::element(alloc, Tag::Tbody, 0), bodies)?;
+    let body = element_of(alloc, Tag::Tbody, 0, bodies);
     let group = filled(group, alone(alloc, body)?)?;
-    filled(Node::element(alloc, Tag::Table, line), alone(alloc, group)?)
+    Ok(element_of(alloc, Tag::Table, line, alone(alloc, group)?))
 }
 
 /// The entry of a cell with its nodes.

@@ -6,7 +6,7 @@ ghost use Rattle.rst_block.specs.Steps as spec;
 
 use super::definition::definition;
 use super::fault::BlockFault;
-use super::heading::{Heading, Style, with_heading};
+use super::heading::{Heading, Style};
 use super::level::Level;
 use super::paragraph::paragraph;
 use super::step::Step;
@@ -22,43 +22,47 @@ use std::alloc::Global;
 pub(crate) fn text_line(
     alloc: Global,
     view: &View<'_>,
-    level: Level,
+    level: &mut Level,
     infos: Vec<Node>,
     pass: &mut Pass,
 ) -> Result<Step, BlockFault>
-    requires inside { level.at < length (block_of view.now) }
+    requires inside { level.old.at < length (block_of view.now) }
     requires short { length (block_of view.now) < 2 ^ 64 }
     requires few { pass.old.looks < 2 ^ 119 + 2 ^ 113 }
-    ensures step { IfOk result (λ s. spec.IsStep (block_of view.now) level.at s) }
+    ensures step { IfOk result (λ s. spec.IsStep (block_of view.now) level.old.at level.new.at s) }
     ensures looks { IfOk result (λ _. pass.new.looks ≤ pass.old.looks + 2 ^ 77) }
 {
     let at = level.at;
     let text = view.line(at, &mut pass.looks);
     let next = below_text(view, at, 1, &mut pass.looks);
     match text_form(text, next) {
-        TextForm::Definition => definition(alloc, view, level, infos, pass),
+        TextForm::Definition => return definition(alloc, view, level, infos, pass),
         TextForm::Paragraph => {
-            let level = level.closed(alloc, view, pass)?.with_all(infos)?;
-            paragraph(alloc, view, level, pass)
+            level.close(alloc, view, pass)?;
+            level.append(infos)?;
+            paragraph(alloc, view, level, pass)?;
         }
         TextForm::ShortUnderline => {
-            let level = level.closed(alloc, view, pass)?.with_all(infos)?;
-            let level = short_underline(alloc, view, level)?;
-            paragraph(alloc, view, level, pass)
+            level.close(alloc, view, pass)?;
+            level.append(infos)?;
+            put_short_underline(alloc, view, level)?;
+            paragraph(alloc, view, level, pass)?;
         }
         TextForm::Title { short } => {
-            let level = level.closed(alloc, view, pass)?.with_all(infos)?;
-            underlined(alloc, view, level, short, pass)
+            level.close(alloc, view, pass)?;
+            level.append(infos)?;
+            underlined(alloc, view, level, short, pass)?;
         }
     }
+    Ok(Step::Next)
 }
 
-/// The level with the message on a possible underline, where titles may stand.
-fn short_underline(alloc: Global, view: &View<'_>, level: Level) -> Result<Level, BlockFault>
-    ensures { IfOk result (λ l. l.at ≡ level.at) }
+/// Puts the message on a possible underline behind the last node, where titles may stand.
+fn put_short_underline(alloc: Global, view: &View<'_>, level: &mut Level) -> Result<(), BlockFault>
+    ensures { level.new.at ≡ level.old.at }
 {
     if !level.titles() {
-        return Ok(level);
+        return Ok(());
     }
     let text =
         "Possible title underline, too short for the title.\nTreating it as ordinary text because it's so short.";
@@ -69,21 +73,21 @@ fn short_underline(alloc: Global, view: &View<'_>, level: Level) -> Result<Level
         text,
         None,
     )?;
-    level.with(info)
+    level.push(info)
 }
 
 /// A title over its underline, or the messages on one where none may stand.
 fn underlined(
     alloc: Global,
     view: &View<'_>,
-    level: Level,
+    level: &mut Level,
     short: bool,
     pass: &mut Pass,
-) -> Result<Step, BlockFault>
-    requires inside { level.at < length (block_of view.now) }
+) -> Result<(), BlockFault>
+    requires inside { level.old.at < length (block_of view.now) }
     requires short { length (block_of view.now) < 2 ^ 64 }
     requires few { pass.old.looks < 2 ^ 119 + 2 ^ 114 }
-    ensures step { IfOk result (λ s. spec.IsStep (block_of view.now) level.at s) }
+    ensures later { IfOk result (λ _. level.old.at < level.new.at) }
     ensures looks { IfOk result (λ _. pass.new.looks ≤ pass.old.looks + 2 ^ 76) }
 {
     let at = level.at;
@@ -111,13 +115,14 @@ fn underlined(
             lines,
             pass,
         )?;
-        return Ok(Step::Next(with_heading(level.past(end), heading)?));
+        level.go_to(end);
+        return level.push_heading(heading);
     }
-    let level = match warning {
-        Some(warning) => level.with(warning)?,
-        None => level,
-    };
+    if let Some(warning) = warning {
+        level.push(warning)?;
+    }
     let text = "Unexpected section title.";
     let severe = message(alloc, Gravity::Severe, under, text, Some(lines.as_str()))?;
-    Ok(Step::Next(level.past(end).with(severe)?))
+    level.go_to(end);
+    level.push(severe)
 }

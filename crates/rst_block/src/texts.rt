@@ -9,7 +9,7 @@ use super::fault::BlockFault;
 use rst_elements::{Numbers, message};
 use rst_marks::Characters;
 use rst_text::{Looks, View, skip};
-use rst_tree::{Children, Level, Node};
+use rst_tree::{Attrs, Children, Level, Node, Tag};
 use std::alloc::{AllocError, Global};
 
 /// What is counted while a document is read: looks at lines, and messages that have problematics.
@@ -100,24 +100,35 @@ pub(crate) fn alone(alloc: Global, node: Node) -> Result<Vec<Node>, BlockFault> 
     Ok(nodes)
 }
 
-/// Nodes, and then one more. A first one gets room for itself alone: most blocks inside others have one node.
-pub(crate) fn pushed(mut nodes: Vec<Node>, node: Node) -> Result<Vec<Node>, BlockFault> {
+/// Puts a node behind the last. A first one gets room for itself alone: most blocks inside others have one node.
+pub(crate) fn push(nodes: &mut Vec<Node>, node: Node) -> Result<(), BlockFault> {
     if nodes.is_empty() {
         nodes.reserve_exact(1)?;
     }
     nodes.push(node)?;
-    Ok(nodes)
+    Ok(())
 }
 
-/// Nodes, and then more.
-pub(crate) fn appended(mut nodes: Vec<Node>, more: Vec<Node>) -> Result<Vec<Node>, BlockFault> {
+/// Puts more nodes behind the last.
+pub(crate) fn append(nodes: &mut Vec<Node>, mut more: Vec<Node>) -> Result<(), BlockFault> {
     if nodes.is_empty() {
-        return Ok(more);
+        *nodes = more;
+        return Ok(());
     }
-    for node in more {
-        nodes.push(node)?;
+    if !more.is_empty() {
+        nodes.append(&mut more)?;
     }
-    Ok(nodes)
+    Ok(())
+}
+
+/// An element of this tag with these nodes in it, and without attributes.
+pub(crate) fn element_of(alloc: Global, tag: Tag, line: usize, nodes: Vec<Node>) -> Node {
+    Node::Element {
+        tag,
+        attrs: Attrs::new(alloc),
+        children: Children::of(nodes),
+        line,
+    }
 }
 
 /// An element with more nodes in it; a text stays as it is.
@@ -129,7 +140,8 @@ pub(crate) fn filled(element: Node, more: Vec<Node>) -> Result<Node, BlockFault>
             children,
             line,
         } => {
-            let nodes = appended(children.into_list(), more)?;
+            let mut nodes = children.into_list();
+            append(&mut nodes, more)?;
             Ok(Node::Element {
                 tag,
                 attrs,
