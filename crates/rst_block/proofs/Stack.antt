@@ -1,6 +1,5 @@
 -- The blocks that wait, and the work that is left in them.
-use Rattle.std.proofs.Common.{◌≡◌, ℕ, ◌+◌, ◌-◌, ◌*◌, ◌<◌, ◌≤◌, ◌++◌, List, [], ◌∷◌, length, length-append, take, drop, map, Option, None, Some, arith, refl, inl, inr, ap, ◌∙◌}
-use Rattle.std.proofs.lemmas.Bool.{cases_lt}
+use Rattle.std.proofs.Common.{◌≡◌, ℕ, ◌+◌, ◌-◌, ◌*◌, ◌<◌, ◌≤◌, ◌++◌, List, [], ◌∷◌, length, length-append, take, drop, map, Option, None, Some, arith, refl, ap, ◌∙◌}
 use Rattle.std.proofs.lemmas.List.{drop-append-le, take-append-le, map-append, length-map}
 use Rattle.rst_text.specs.Block.{Block}
 use Rattle.rst_text.specs.Shown.{portion_block}
@@ -32,17 +31,18 @@ left S f = 5 * (length (portion_block S f.portion) - f.level.at) + parts_left f.
 abbrev pub all_left : ℕ → ℕ → Block → List Frame → ℕ → ℕ → Step → ℕ
 all_left n room S fs lines at now = work (5 * n + 6) room (map (left S) fs) (cost lines at now)
 
-now_of_step : (B : Block) (at to : ℕ) (s : Step) → IsStep B at to s → IsNow B to s
-now_of_step B at to Next h = tt
-now_of_step B at to (Open w first second) h = (h.1, h.2, h.3)
-now_of_step B at to (Cells table) h = omega (arith, h.0, h.1)
-now_of_step B at to Done h = tt
+-- a step behind others
+pub next_of_step : (B : Block) (at on to : ℕ) (s : Step) → at ≤ on → on < length B → IsStep B on to s → IsNext B at to s
+next_of_step B at on to Next i j h = (omega (arith, i, j), omega (arith, i, h))
+next_of_step B at on to (Open w first second) i j h = (omega (arith, i, j), omega (arith, i, h.0), h.1, h.2, h.3)
+next_of_step B at on to (Cells table) i j h = (omega (arith, i, h.0), omega (arith, h.0, h.1))
+next_of_step B at on to Done i j h = tt
 
 pub now_of_next : (B : Block) (at to : ℕ) (s : Step) → IsNext B at to s → IsNow B to s
-now_of_next B at to s h = elim (cases_lt at (length B)) [
-  | inl inside ↦ now_of_step B at to s (h.0 inside)
-  | inr behind ↦ rw (h.1 behind) tt
-]
+now_of_next B at to Next h = tt
+now_of_next B at to (Open w first second) h = (h.2, h.3, h.4)
+now_of_next B at to (Cells table) h = h.1
+now_of_next B at to Done h = tt
 
 pub now_of_resumed : (B : Block) (at to : ℕ) (s : Step) → IsResumed B at to s → IsNow B to s
 now_of_resumed B at to Next h = tt
@@ -56,11 +56,11 @@ cost_of_resumed B at to (Open w first second) h = omega (arith, h.0, h.1)
 cost_of_resumed B at to (Cells table) h = absurd h
 cost_of_resumed B at to Done h = absurd h
 
-cost_of_step : (B : Block) (at to : ℕ) (s : Step) → at < length B → IsStep B at to s → cost (length B) to s < 5 * (length B - at) + 2
-cost_of_step B at to Next i h = omega (arith, h)
-cost_of_step B at to (Open w first second) i h = omega (arith, h.0)
-cost_of_step B at to (Cells table) i h = omega (arith, h.0)
-cost_of_step B at to Done i h = omega arith
+cost_of_next : (B : Block) (at to : ℕ) (s : Step) → IsNext B at to s → cost (length B) to s < 5 * (length B - at) + 2
+cost_of_next B at to Next h = omega (arith, h.0, h.1)
+cost_of_next B at to (Open w first second) h = omega (arith, h.0, h.1)
+cost_of_next B at to (Cells table) h = omega (arith, h.0, h.1)
+cost_of_next B at to Done h = omega arith
 
 cost_of_begin : (n m : ℕ) → m ≤ n → cost m 0 Next < 5 * n + 6
 cost_of_begin n m i = omega arith
@@ -73,13 +73,10 @@ pub goes_on : (n room : ℕ) (S : Block) (fs : List Frame) (k at j to : ℕ) (s 
     → all_left n room S fs j to t < all_left n room S fs k at s
 goes_on n room S fs k at j to s t h = less (5 * n + 6) room (map (left S) fs) (omega arith) h
 
--- a step, or the end of a block
+-- what comes next
 pub stepped : (n room : ℕ) (S : Block) (fs : List Frame) (B : Block) (at to : ℕ) (s : Step) → IsNext B at to s
     → all_left n room S fs (length B) to s < all_left n room S fs (length B) at Next
-stepped n room S fs B at to s h = goes_on n room S fs (length B) at (length B) to Next s (elim (cases_lt at (length B)) [
-  | inl inside ↦ cost_of_step B at to s inside (h.0 inside)
-  | inr behind ↦ rw (h.1 behind) (omega arith)
-])
+stepped n room S fs B at to s h = goes_on n room S fs (length B) at (length B) to Next s (cost_of_next B at to s h)
 
 -- a block inside is opened
 pub opens : (n room : ℕ) (S : Block) (fs : List Frame) (B : Block) (at : ℕ) (s : Step) (f : Frame) (m : ℕ)

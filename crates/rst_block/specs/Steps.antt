@@ -29,9 +29,12 @@ IsStep B at to (Open w first second) = (at < to) × IsBlock B first × IsBlockIf
 IsStep B at to (Cells table) = (to ≡ at) × (at < length B)
 IsStep B at to Done = Unit {0}
 
--- what comes next in a block that goes on at a place: a step, or its end
+-- what comes next in a block that goes on at a place: a step, behind some that only go on, or the block's end
 abbrev pub IsNext : Block → ℕ → ℕ → Step → Type 0
-IsNext B at to s = (at < length B → IsStep B at to s) × (length B ≤ at → s ≡ Done)
+IsNext B at to Next = (at < length B) × (at < to)
+IsNext B at to (Open w first second) = (at < length B) × (at < to) × IsBlock B first × IsBlockIf B second × IsWaiting B to w
+IsNext B at to (Cells table) = (at ≤ to) × (to < length B)
+IsNext B at to Done = Unit {0}
 
 -- what follows a block inside
 abbrev pub IsResumed : Block → ℕ → ℕ → Step → Type 0

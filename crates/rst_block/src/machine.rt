@@ -101,11 +101,9 @@ fn read_blocks(
                     Step::Next
                 }
             }
-            Step::Done => {
-                let Some(frame) = last_of(frames, base) else {
-                    return Ok(level);
-                };
-                match closed(alloc, &whole, frame, &mut level, inner - 1, pass)? {
+            Step::Done => match last_of(frames, base) {
+                None => return Ok(level),
+                Some(frame) => match closed(alloc, &whole, frame, &mut level, inner - 1, pass)? {
                     Ended::Waiting(frame, part) => {
                         frames.push(frame);
                         view = part;
@@ -115,13 +113,14 @@ fn read_blocks(
                         view = outer;
                         next
                     }
-                }
-            }
+                },
+            },
         };
     }
 }
 
-/// What comes next in a block: the construct at the next line, or the block's end.
+/// What comes in a block behind the constructs that are read at once: one that waits for a block inside, or the block's end.
+#[tactic(auto, using(crate::proofs::Stack::next_of_step))]
 fn next(
     alloc: Global,
     view: &View<'_>,
@@ -131,10 +130,14 @@ fn next(
     requires short { length (block_of view.now) < 2 ^ 64 }
     requires few { pass.old.looks < 2 ^ 119 + 2 ^ 110 }
     ensures next { IfOk result (λ s. spec.IsNext (block_of view.now) level.old.at level.new.at s) }
-    ensures looks { IfOk result (λ _. pass.new.looks ≤ pass.old.looks + 2 ^ 80) }
+    ensures looks { IfOk result (λ _. pass.new.looks ≤ 2 ^ 119 + 2 ^ 110) }
 {
-    if level.at < view.len() {
-        return step_at(alloc, view, level, pass);
+    while level.at < view.len() {
+        go_on(pass)?;
+        match step_at(alloc, view, level, pass)? {
+            Step::Next => {}
+            step => return Ok(step),
+        }
     }
     level.close(alloc, view, pass)?;
     Ok(Step::Done)

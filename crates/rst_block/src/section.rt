@@ -1,10 +1,11 @@
 //! Sections, made of the nodes and the titles of a document (Markup Specification, 'Sections').
 use super::fault::BlockFault;
 use super::heading::{Heading, Style};
-use super::texts::filled;
+use super::texts::{element_of, filled};
 use rst_elements::{message, section};
 use rst_tree::{Level as Gravity, Node, Tag};
 use std::alloc::Global;
+use std::mem;
 
 /// A section that is open, with what stands in it so far; the outermost is the document.
 #[derive(Drop)]
@@ -21,7 +22,7 @@ pub(crate) fn document(
     headings: Vec<Heading>,
 ) -> Result<Node, BlockFault> {
     if headings.is_empty() {
-        return filled(Node::element(alloc, Tag::Document, 0), nodes);
+        return Ok(element_of(alloc, Tag::Document, 0, nodes));
     }
     let mut sections = Sections {
         outer: Vec::new(alloc),
@@ -34,6 +35,8 @@ pub(crate) fn document(
     let mut nodes = nodes.into_iter();
     let mut done = 0;
     for heading in headings {
+        let before = heading.before.saturating_sub(done);
+        sections.current.nodes.reserve(before)?;
         while done < heading.before {
             let Some(node) = nodes.next() else {
                 break;
@@ -41,7 +44,7 @@ pub(crate) fn document(
             sections.current.nodes.push(node)?;
             done += 1;
         }
-        sections = sections.titled(alloc, heading)?;
+        sections.title(alloc, heading)?;
     }
     for node in nodes {
         sections.current.nodes.push(node)?;
@@ -69,8 +72,8 @@ impl Sections {
         self.styles.len() + 1
     }
 
-    /// The sections with a title met: a new section, or the message on a title whose level is inconsistent.
-    fn titled(mut self, alloc: Global, heading: Heading) -> Result<Sections, BlockFault> {
+    /// Meets a title: begins a new section, or puts the message on a title whose level is inconsistent.
+    fn title(&mut self, alloc: Global, heading: Heading) -> Result<(), BlockFault> {
         let level = self.level_of(heading.style);
         // The level of the innermost section is the number of those round it.
         if level > self.outer.len() + 1 {
@@ -78,69 +81,49 @@ impl Sections {
             let block = Some(heading.source.as_str());
             let severe = message(alloc, Gravity::Severe, heading.line, text, block)?;
             self.current.nodes.push(severe)?;
-            return Ok(self);
+            return Ok(());
         }
         if level > self.styles.len() {
             self.styles.push(heading.style)?;
         }
-        let sections = self.ended(level)?;
-        sections.entered(alloc, heading)
+        self.end(level)?;
+        self.enter(alloc, heading)
     }
 
-    /// The sections with those of a level or a deeper one ended: each is put into the one round it.
-    fn ended(self, level: usize) -> Result<Sections, BlockFault> {
-        let Sections {
-            mut outer,
-            mut current,
-            styles,
-        } = self;
-        while level <= outer.len() {
-            let Some(mut round) = outer.pop() else {
+    /// Ends those of a level or a deeper one: each is put into the one round it.
+    fn end(&mut self, level: usize) -> Result<(), BlockFault> {
+        while level <= self.outer.len() {
+            let Some(round) = self.outer.pop() else {
                 break;
             };
-            let OpenSection { element, nodes } = current;
-            round.nodes.push(filled(element, nodes)?)?;
-            current = round;
+            let OpenSection { element, nodes } = mem::replace(&mut self.current, round);
+            self.current.nodes.push(filled(element, nodes)?)?;
         }
-        Ok(Sections {
-            outer,
-            current,
-            styles,
-        })
+        Ok(())
     }
 
-    /// The sections with that of a title begun in the innermost one.
-    fn entered(self, alloc: Global, heading: Heading) -> Result<Sections, BlockFault> {
-        let Sections {
-            mut outer,
-            current,
-            styles,
-        } = self;
+    /// Begins the section of a title in the innermost one.
+    fn enter(&mut self, alloc: Global, heading: Heading) -> Result<(), BlockFault> {
         let Heading {
             title,
             warning,
             line,
             ..
         } = heading;
-        let mut notes = title.notes;
+        let mut nodes = title.notes;
         if let Some(warning) = warning {
-            notes.push(warning)?;
+            nodes.push(warning)?;
         }
-        let element = section(alloc, title.element, notes.len(), line)?;
-        outer.push(current)?;
-        Ok(Sections {
-            outer,
-            current: OpenSection {
-                element,
-                nodes: notes,
-            },
-            styles,
-        })
+        let element = section(alloc, title.element, nodes.len(), line)?;
+        let inner = OpenSection { element, nodes };
+        self.outer.push(mem::replace(&mut self.current, inner))?;
+        Ok(())
     }
 
     /// The document with all sections ended.
-    fn closed(self) -> Result<Node, BlockFault> {
-        let OpenSection { element, nodes } = self.ended(1)?.current;
+    fn closed(mut self) -> Result<Node, BlockFault> {
+        self.end(1)?;
+        let OpenSection { element, nodes } = self.current;
         filled(element, nodes)
     }
 }

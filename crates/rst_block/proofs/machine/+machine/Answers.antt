@@ -65,7 +65,7 @@ read_blocks-loop-now-smaller-in-Waiting t c =
     let g : Frame = c.in-Waiting.frame in
     let some : c.len-base.result < length c.loop-now.frames.items = c.in-Some.ensures.some.1 in
     let off = taken S c.len-base.result c.loop-now.frames.items c.last_of.new.frames.items f c.in-Some.ensures.some.0 some c.loop-now.invariant.waiting in
-    let e = rw c.in-Waiting.is at c.in_ok-frame-in-Done.ensures.ended in
+    let e = rw c.in-Waiting.is at c.in_ok-frame-in-Some.ensures.ended in
     let lines : length (portion_block S g.portion) ≡ length (portion_block S f.portion) = ap (λ p. length (portion_block S p)) e.1 in
     let fewer : left S g < left S f = omega (arith, lines, e.2, ap parts_left e.3, second_left f.second e.4) in
     let few : length (drop c.len-base.result c.last_of.new.frames.items) < 250 - c.args.depth = omega (arith, length-drop c.len-base.result c.last_of.new.frames.items, ap length c.in-Some.ensures.some.0, length-append c.last_of.new.frames.items (f ∷ []), c.loop-now.invariant.room, some) in
@@ -79,7 +79,7 @@ read_blocks-loop-now-preserved-in-Waiting t c =
     let f : Frame = c.in-Some.frame in
     let g : Frame = c.in-Waiting.frame in
     let off = taken S c.len-base.result c.loop-now.frames.items c.last_of.new.frames.items f c.in-Some.ensures.some.0 c.in-Some.ensures.some.1 c.loop-now.invariant.waiting in
-    let e = rw c.in-Waiting.is at c.in_ok-frame-in-Done.ensures.ended in
+    let e = rw c.in-Waiting.is at c.in_ok-frame-in-Some.ensures.ended in
     let on = placed S c.len-base.result c.last_of.new.frames.items g off.0 off.3 e.0 in
     record {
       base = rw c.push-in-Waiting.ensures.items on.0;
@@ -98,7 +98,7 @@ read_blocks-loop-now-smaller t c =
     let f : Frame = c.in-Some.frame in
     let some : c.len-base.result < length c.loop-now.frames.items = c.in-Some.ensures.some.1 in
     let off = taken S c.len-base.result c.loop-now.frames.items c.last_of.new.frames.items f c.in-Some.ensures.some.0 some c.loop-now.invariant.waiting in
-    let e = rw c.in-GoesOn.is at c.in_ok-frame-in-Done.ensures.ended in
+    let e = rw c.in-GoesOn.is at c.in_ok-frame-in-Some.ensures.ended in
     let v = c.in-GoesOn.outer in
     let few : length (drop c.len-base.result c.last_of.new.frames.items) < 250 - c.args.depth = omega (arith, length-drop c.len-base.result c.last_of.new.frames.items, ap length c.in-Some.ensures.some.0, length-append c.last_of.new.frames.items (f ∷ []), c.loop-now.invariant.room, some) in
     rw off.1 (resumes (2 ^ 64) (250 - c.args.depth) S (drop c.len-base.result c.last_of.new.frames.items) f (length (block_of c.loop-now.view)) c.loop-now.level.at (length (block_of v)) c.closed.new.level.at
@@ -110,7 +110,7 @@ read_blocks-loop-now-preserved t c =
     let S : Block = source_of c.args.whole in
     let f : Frame = c.in-Some.frame in
     let off = taken S c.len-base.result c.loop-now.frames.items c.last_of.new.frames.items f c.in-Some.ensures.some.0 c.in-Some.ensures.some.1 c.loop-now.invariant.waiting in
-    let e = rw c.in-GoesOn.is at c.in_ok-frame-in-Done.ensures.ended in
+    let e = rw c.in-GoesOn.is at c.in_ok-frame-in-Some.ensures.ended in
     record {
       base = off.0;
       under = c.loop-now.invariant.under;
