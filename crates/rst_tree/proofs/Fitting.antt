@@ -41,7 +41,7 @@ height-map_at f (suc i) m (n ∷ ns) keeps h =
     let k : height (forest_of ns) ≤ m = omega arith in
     let low = height-map_at f i m ns keeps k in omega arith
 
-height-push : (m : ℕ) (x : Node) (ns : List Node) → height (forest_of ns) ≤ m → node_height x ≤ m → height (forest_of (ns ++ x ∷ [])) ≤ m
+pub height-push : (m : ℕ) (x : Node) (ns : List Node) → height (forest_of ns) ≤ m → node_height x ≤ m → height (forest_of (ns ++ x ∷ [])) ≤ m
 height-push m x [] h k = let a = height-cons x [] in omega arith
 height-push m x (n ∷ ns) h k =
     let a = height-cons n ns in let b = height-cons n (ns ++ x ∷ []) in

@@ -1,5 +1,6 @@
 pub mod Texts
 pub mod TagNames
+pub mod Sources
 pub mod KeyNames
 pub mod LevelNames
 pub mod Attributes

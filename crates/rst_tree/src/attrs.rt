@@ -3,6 +3,7 @@ ghost use Rattle.std.specs.Prelude.{◌≡◌, ◌∷◌, drop, vec_len, [], Mat
 ghost use Rattle.rst_tree.specs.Faults.{Gives, Becomes};
 ghost use Rattle.rst_tree.specs.Attributes.{attr, value_of, with_attr, without_key, without_hidden, place_named, places_below, is_at};
 ghost use Rattle.rst_tree.specs.Entries.{said};
+ghost use Rattle.rst_tree.specs.Tree.{in_order};
 
 use crate::entry::{Entry, Said};
 use crate::fault::TreeFault;
@@ -80,6 +81,19 @@ impl Attrs {
         ensures { result.now ≡ self.now }
     {
         self.list.as_slice()
+    }
+
+    /// Whether the names rise, as they do in a tree.
+    pub fn are_in_order(&self) -> bool
+        ensures { result ≡ in_order self.now }
+    {
+        let attrs = self.as_slice();
+        for i in 1..attrs.len() {
+            if attrs[i - 1].key().code() >= attrs[i].key().code() {
+                return false;
+            }
+        }
+        true
     }
 
     /// What the attribute of a name says, if there is one.

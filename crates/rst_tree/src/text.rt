@@ -1,6 +1,9 @@
 //! Texts and lists of them.
 ghost use Rattle.std.specs.Prelude.{◌≡◌, ◌∷◌, ◌++◌, [], string_bytes};
+ghost use Rattle.std.specs.List.{list_all};
+ghost use Rattle.rst_text.specs.Lines.{is_line_end};
 ghost use Rattle.rst_tree.specs.Faults.{Gives, Becomes};
+ghost use Rattle.rst_tree.specs.Tree.{is_lines, is_plain_byte};
 
 use crate::brief::Brief;
 use crate::fault::TreeFault;
@@ -71,6 +74,13 @@ impl Text {
         self.as_str().as_bytes()
     }
 
+    /// Whether there is no line end but LF, as in a tree.
+    pub fn is_lines(&self) -> bool
+        ensures { result ≡ is_lines self.now }
+    {
+        is_plain(self.as_bytes()) || self.as_str().chars().all(|c| c == '\n' || !is_line_end(c))
+    }
+
     /// An equal text.
     pub fn copy(&self) -> Result<Text, TreeFault>
         ensures { Gives (λ t. t ≡ self.now) result }
@@ -99,6 +109,34 @@ impl Text {
         }
         Ok(())
     }
+}
+
+/// Whether a character ends a line.
+fn is_line_end(c: char) -> bool
+    ensures { result ≡ is_line_end c }
+{
+    matches!(
+        c,
+        '\n' | '\r' | '\u{1C}'..='\u{1E}' | '\u{85}' | '\u{2028}' | '\u{2029}'
+    )
+}
+
+/// Whether a byte is LF, or ASCII from the space on.
+fn is_plain_byte(byte: u8) -> bool
+    ensures { result ≡ is_plain_byte byte }
+{
+    byte == b'\n' || (byte >= b' ' && byte < 128)
+}
+
+/// Whether all bytes are such. None is looked at by itself, so that many are at once.
+fn is_plain(bytes: &[u8]) -> bool
+    ensures { result ≡ list_all is_plain_byte bytes.now }
+{
+    let mut plain = true;
+    for byte in bytes {
+        plain &= is_plain_byte(*byte);
+    }
+    plain
 }
 
 /// Two texts, one behind the other.

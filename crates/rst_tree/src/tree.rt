@@ -1,24 +1,18 @@
 //! Documents as trees, and changes of them.
 ghost use Rattle.std.specs.Prelude.{◌≡◌, ◌<◌, IsTrue, MatchOption, Some, None, is_some, ◌++◌, string_bytes};
-ghost use Rattle.std.specs.List.{list_all};
-ghost use Rattle.rst_text.specs.Lines.{is_line_end};
 ghost use Rattle.rst_tree.specs.Attributes.{with_attr};
 ghost use Rattle.rst_tree.specs.Entries.{said};
 ghost use Rattle.rst_tree.specs.Faults.{Gives, Becomes, GivesBack};
 ghost use Rattle.rst_tree.specs.Paths.{node_at, changed_at, with_child, with_value, value_at};
-ghost use Rattle.rst_tree.specs.Tree.{IsTreeOf, is_tree, is_tree_within, is_lines, is_plain_byte, in_order, fits, is_element, text_in, text_at};
+ghost use Rattle.rst_tree.specs.Tree.{IsTreeOf, is_tree, is_tree_within, fits, is_element, text_in, text_at};
 
 use crate::attrs::Value;
-use crate::entry::{Entry, Said};
+use crate::entry::Said;
 use crate::fault::TreeFault;
 use crate::key::Key;
 use crate::node::Node;
-use crate::text::Text;
 use std::alloc::Global;
 use std::marker::Model;
-
-/// The most that nodes nest, the root included.
-const MOST_LEVELS: usize = 1350;
 
 /// A document: the attributes of each element stand in the order of their names, each name once; no text holds a line end
 /// but LF; and the nodes nest no deeper than 1,350.
@@ -45,11 +39,14 @@ impl Model for Tree {
 }
 
 impl Tree {
+    /// The most that nodes nest, the root included.
+    pub const MOST_LEVELS: usize = 1350;
+
     /// The node as a tree, or the node back where it is none.
     pub fn of(root: Node) -> Result<Tree, Node>
         ensures { IsTreeOf root result }
     {
-        if is_tree_within(&root, MOST_LEVELS) {
+        if is_tree_within(&root, Tree::MOST_LEVELS) {
             Ok(Tree { root })
         } else {
             Err(root)
@@ -110,8 +107,8 @@ impl Tree {
         ensures { result ≡ fits at.now node.now self.now }
     {
         is_element_at(&self.root, at)
-            && at.len() < MOST_LEVELS
-            && is_tree_within(node, MOST_LEVELS - 1 - at.len())
+            && at.len() < Tree::MOST_LEVELS
+            && is_tree_within(node, Tree::MOST_LEVELS - 1 - at.len())
     }
 
     /// Puts a node that `fits` behind the last in the element at a path; it is given back at want of memory.
@@ -194,7 +191,7 @@ fn is_tree_within(node: &Node, levels: usize) -> bool
             children,
             ..
         } => {
-            if !are_in_order(attrs.as_slice()) {
+            if !attrs.are_in_order() {
                 return false;
             }
             for child in children.as_slice() {
@@ -204,53 +201,6 @@ fn is_tree_within(node: &Node, levels: usize) -> bool
             }
             true
         }
-        Node::Text(text) => is_lines(text),
+        Node::Text(text) => text.is_lines(),
     }
-}
-
-/// Whether the names rise.
-fn are_in_order(attrs: &[Entry]) -> bool
-    ensures { result ≡ in_order attrs.now }
-{
-    for i in 1..attrs.len() {
-        if attrs[i - 1].key().code() >= attrs[i].key().code() {
-            return false;
-        }
-    }
-    true
-}
-
-/// Whether a character ends a line.
-fn is_line_end(c: char) -> bool
-    ensures { result ≡ is_line_end c }
-{
-    matches!(
-        c,
-        '\n' | '\r' | '\u{1C}'..='\u{1E}' | '\u{85}' | '\u{2028}' | '\u{2029}'
-    )
-}
-
-/// Whether a byte is LF, or ASCII from the space on.
-fn is_plain_byte(byte: u8) -> bool
-    ensures { result ≡ is_plain_byte byte }
-{
-    byte == b'\n' || (byte >= b' ' && byte < 128)
-}
-
-/// Whether all bytes are such. None is looked at by itself, so that many are at once.
-fn is_plain(bytes: &[u8]) -> bool
-    ensures { result ≡ list_all is_plain_byte bytes.now }
-{
-    let mut plain = true;
-    for byte in bytes {
-        plain &= is_plain_byte(*byte);
-    }
-    plain
-}
-
-/// Whether a text has no line end but LF.
-fn is_lines(text: &Text) -> bool
-    ensures { result ≡ is_lines text.now }
-{
-    is_plain(text.as_bytes()) || text.as_str().chars().all(|c| c == '\n' || !is_line_end(c))
 }
