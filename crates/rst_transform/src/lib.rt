@@ -16,6 +16,7 @@ mod holders;
 pub mod indirect;
 mod kinds;
 mod last_section;
+mod left;
 mod links;
 mod lists;
 mod messages;
