@@ -1,5 +1,5 @@
 -- Lemmas on what is shown of a finished document.
-use Rattle.std.proofs.Common.{◌≡◌, ℕ, List, Ok, Result, ◌∙◌, ap, subst, Vec}
+use Rattle.std.proofs.Common.{◌≡◌, ℕ, List, Ok, Result, ap, subst, Vec}
 use Rattle.rst_settings.specs.declared.Settings.{Settings}
 use Rattle.rst_text.specs.Counted.{Stream, HandsOut, IsReadOut}
 use Rattle.rst_transform.specs.declared.finishing.Finished.{Finished}

@@ -1,6 +1,6 @@
 -- Telling the source at elements keeps a tree a tree.
 use Rattle.std.proofs.Common.{◌≡◌, ℕ, ◌+◌, List, ◌∷◌, [], sym, ap, ◌∙◌, refl, Bool, true, false, nat_le}
-use Rattle.std.specs.Prelude.{◌&&◌, if◌then◌else◌, IsTrue}
+use Rattle.std.specs.Prelude.{◌&&◌, ◌||◌, if◌then◌else◌, IsTrue}
 use Rattle.rst_tree.specs.declared.attrs.Attr.{Attr}
 use Rattle.rst_tree.specs.declared.attrs.Value.TheVariants.{Text as Words}
 use Rattle.rst_tree.specs.declared.key.Key.TheVariants.{Source}
@@ -12,7 +12,10 @@ use Rattle.rst_tree.specs.Tree.{is_sound, in_order, is_lines, is_tree, most_leve
 use Rattle.rst_tree.specs.Walk.{Item, items, after, walked, walked_node}
 use Rattle.rst_tree.proofs.Fitting.{both, and_both}
 use Rattle.rst_tree.proofs.Attributes.{in_order-with_attr}
-use Rattle.rst2pseudoxml.specs.Source.{tells_source, source_attrs, sourced, all_with_source, with_source}
+use Rattle.rst_tree.specs.Paths.{with_value}
+use Rattle.rst_tree.specs.Sources.{tells_source}
+use Rattle.rst_transform.specs.Left.{any_tells_source, tells_source_inside}
+use Rattle.rst2pseudoxml.specs.Source.{tells_source_itself, source_attrs, sourced, all_with_source, with_source}
 
 -- a state that no element changes
 stays : {S : Type 0} (s : S) (out : S → Item → Item) (xs : List Item) → after (λ s x. s) out s xs ≡ s
@@ -68,3 +71,25 @@ root_with_source source_of s n tree root source e same whole =
 pub root_is_tree : (source : List ℕ) (n tree root : Node) → root ≡ with_source source tree → n ≡ tree → IsTrue (is_tree n) → is_tree root ≡ true
 root_is_tree source n tree root e whole h =
     ap is_tree e ∙ tree_with_source source tree (ap is_tree (sym whole) ∙ h)
+
+neither : (a b : Bool) → (a || b) ≡ false → (a ≡ false) × (b ≡ false)
+neither true b h = cc
+neither false b h = (refl, h)
+
+-- nodes of which none tells the source stay as they are
+none_told : (source : List ℕ) (f : Forest) → any_tells_source f ≡ false → all_with_source source f ≡ f
+none_told source bare h = refl
+none_told source (element t a c l r) h =
+    let p = neither (tells_source t || any_tells_source c) (any_tells_source r) h in
+    let q = neither (tells_source t) (any_tells_source c) p.0 in
+    rw (q.0, none_told source c q.1, none_told source r p.1) refl
+none_told source (words t r) h = ap (words t) (none_told source r h)
+
+-- where none in the root tells it, the root alone does, if it is such an element
+pub told_at_root : (source : List ℕ) (n : Node) → tells_source_inside n ≡ false → tells_source_itself n ≡ true → with_value Source (Words source) n ≡ with_source source n
+told_at_root source (Element t a c l) none told = rw (told, none_told source c none) refl
+told_at_root source (Text t) none told = refl
+
+pub told_nowhere : (source : List ℕ) (n : Node) → tells_source_inside n ≡ false → tells_source_itself n ≡ false → n ≡ with_source source n
+told_nowhere source (Element t a c l) none untold = rw (untold, none_told source c none) refl
+told_nowhere source (Text t) none untold = refl

@@ -1,21 +1,20 @@
 -- The source of a document, told at the document and at its messages (Document Tree, `source`).
-use Rattle.std.specs.Prelude.{ℕ, Bool, true, false, if◌then◌else◌, List}
+use Rattle.std.specs.Prelude.{ℕ, Bool, false, if◌then◌else◌, List}
 use Rattle.rst_tree.specs.declared.attrs.Attr.{Attr}
 use Rattle.rst_tree.specs.declared.attrs.Value.TheVariants.{Text as Words}
 use Rattle.rst_tree.specs.declared.key.Key.TheVariants.{Source}
 use Rattle.rst_tree.specs.declared.node.Node.{Node}
 use Rattle.rst_tree.specs.declared.node.Node.TheVariants.{Element, Text}
 use Rattle.rst_tree.specs.declared.tag.Tag.{Tag}
-use Rattle.rst_tree.specs.declared.tag.Tag.TheVariants.{Document, SystemMessage}
 use Rattle.rst_tree.specs.Attributes.{with_attr}
 use Rattle.rst_tree.specs.Forest.{Forest, bare, element, words}
+use Rattle.rst_tree.specs.Sources.{tells_source}
 use Rattle.rst_tree.specs.Walk.{Item, item}
 
--- the kinds of elements that tell the source
-abbrev pub tells_source : Tag → Bool
-tells_source Document = true
-tells_source SystemMessage = true
-tells_source _ = false
+-- a node is an element that tells the source
+abbrev pub tells_source_itself : Node → Bool
+tells_source_itself (Element t a c l) = tells_source t
+tells_source_itself (Text t) = false
 
 -- the attributes of an element that tells its source
 abbrev pub source_attrs : List ℕ → Tag → List Attr → List Attr

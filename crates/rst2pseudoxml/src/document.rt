@@ -43,7 +43,8 @@ pub fn document_of(
         Err(TransformFault::NoMemory | TransformFault::NoTree) => return Err(End::NoMemory),
     };
     Ok(Finished {
-        tree: with_source(alloc, finished.tree, source)?,
+        tree: with_source(alloc, finished.tree, finished.source_inside, source)?,
+        source_inside: finished.source_inside,
         notes: finished.notes,
         highest: finished.highest,
     })

@@ -1,9 +1,11 @@
 -- Nodes that are shown.
-use Rattle.std.proofs.Common.{◌≡◌, ℕ, ◌+◌, ◌<◌, ◌≤◌, zero, suc, unwrap_or, List, [], ◌∷◌, ◌++◌, length, take, get_or, set, Bool, true, false, not, ◌&&◌, refl, ap, sym, ◌∙◌, arith}
+use Rattle.std.proofs.Common.{◌≡◌, ℕ, ◌+◌, ◌<◌, ◌≤◌, zero, suc, unwrap_or, List, [], ◌∷◌, ◌++◌, length, take, get_or, set, Bool, true, false, not, ◌&&◌, refl, ap, sym, subst, ◌∙◌, arith}
 use Rattle.std.proofs.lemmas.List.{take_more_set, take_all}
+use Rattle.std.proofs.lemmas.List.Folds.{list_all-append}
 use Rattle.std.specs.List.{list_all}
 use Rattle.rst_tree.proofs.Changes.{nodes_of-forest_of, forest_of-nodes_of}
-use Rattle.rst_tree.proofs.Fitting.{both}
+use Rattle.rst_tree.proofs.Fitting.{both, height-push}
+use Rattle.rst_tree.proofs.PrintedParts.{node_height-le}
 use Rattle.rst_tree.proofs.Rewrites.{Same, Same-init, Same-more}
 use Rattle.rst_tree.proofs.Walks.{same_item}
 use Rattle.rst_settings.specs.declared.Threshold.{Threshold}
@@ -15,8 +17,11 @@ use Rattle.rst_tree.specs.declared.node.Node.TheVariants.{Element, Text}
 use Rattle.rst_tree.specs.declared.tag.Tag.{Tag}
 use Rattle.rst_tree.specs.Attributes.{value_of, without_hidden}
 use Rattle.rst_tree.specs.KeyNames.{is_hidden, is_same}
-use Rattle.rst_tree.specs.Nodes.{forest_of, nodes_of}
-use Rattle.rst_tree.specs.Forest.{Forest}
+use Rattle.rst_tree.specs.Nodes.{forest_of, nodes_of, node_height}
+use Rattle.rst_tree.specs.Forest.{Forest, height}
+use Rattle.rst_transform.proofs.Leaving.{Told, Told-none}
+use Rattle.rst_transform.specs.declared.left.Left.{Left}
+use Rattle.rst_transform.specs.Left.{are_within, any_tells_source}
 use Rattle.rst_transform.specs.Reading.{number_in}
 use Rattle.rst_transform.specs.Shown.{is_low, is_below, may_stay, has_hidden, are_shown}
 
@@ -106,37 +111,86 @@ all_at f [] i x h fits is = absurd (omega arith)
 all_at f (y ∷ xs) zero x h fits is = ap f is ∙ (both (f y) (list_all f xs) h).0
 all_at f (y ∷ xs) (suc i) x h fits is = all_at f xs i x (both (f y) (list_all f xs) h).1 (omega arith) is
 
+passes : (b : Bool) → false ≡ not b → b ≡ true
+passes true h = refl
+passes false h = cc
+
+one_high : (n : Node) → 1 ≤ node_height n
+one_high (Element t a c l) = omega arith
+one_high (Text t) = omega arith
+
 reached_of : (b : Bool) → not b ≡ true → false ≡ b
 reached_of true h = cc
 reached_of false h = refl
 
--- nodes filtered in place, before place i
-pub record Sifting (report : Threshold) (old now : Forest) (i : ℕ) : Type 0 where
+-- a list that nodes are
+pub listed : (report : Threshold) (f : Forest) (ns : List Node) → f ≡ forest_of ns → list_all (may_stay report) ns ≡ true → list_all (may_stay report) (nodes_of f) ≡ true
+listed report f ns is all = ap (λ g. list_all (may_stay report) (nodes_of g)) is ∙ ap (list_all (may_stay report)) (nodes_of-forest_of ns) ∙ all
+
+-- nodes that stay of others
+pub record Staying (report : Threshold) (nodes : Forest) (kept : List Node) : Type 0 where
+  pub all : list_all (may_stay report) kept ≡ true
+  pub low : height (forest_of kept) ≤ height nodes
+
+Staying-more : (report : Threshold) (nodes : Forest) (kept : List Node) (n : Node) → Staying report nodes kept → may_stay report n ≡ true → node_height n ≤ height nodes → Staying report nodes (kept ++ n ∷ [])
+Staying-more report nodes kept n s stays low =
+    record { all = list_all-append (may_stay report) kept (n ∷ []) ∙ (rw (s.all, stays) refl); low = height-push (height nodes) n kept s.low low }
+
+-- a node of the nodes is no higher than they
+met_low : (nodes : Forest) (ns : List Node) (i : ℕ) (n : Node) → nodes ≡ forest_of ns → n ≡ get_or ns i n → i < length ns → node_height n ≤ height nodes
+met_low nodes ns i n is at fits =
+    let e : node_height n ≡ node_height (get_or ns i n) = ap node_height at in
+    let f : height nodes ≡ height (forest_of ns) = ap height is in
+    omega (arith, e, f, node_height-le ns i n fits)
+
+-- one that stays
+pub Staying-node : (report : Threshold) (nodes : Forest) (ns kept : List Node) (i : ℕ) (n : Node) → Staying report nodes kept → nodes ≡ forest_of ns → n ≡ get_or ns i n → i < length ns → false ≡ not (may_stay report n)
+    → Staying report nodes (kept ++ n ∷ [])
+Staying-node report nodes ns kept i n s is at fits stays = Staying-more report nodes kept n s (passes (may_stay report n) stays) (met_low nodes ns i n is at fits)
+
+-- one that becomes a text
+pub Staying-text : (report : Threshold) (nodes : Forest) (ns kept : List Node) (i : ℕ) (n : Node) (t : List ℕ) → Staying report nodes kept → nodes ≡ forest_of ns → n ≡ get_or ns i n → i < length ns
+    → Staying report nodes (kept ++ Text t ∷ [])
+Staying-text report nodes ns kept i n t s is at fits = Staying-more report nodes kept (Text t) s refl (let h = met_low nodes ns i n is at fits in let k = one_high n in omega arith)
+
+-- nodes filtered in place, before place i, and what is told of those
+pub record Sifting (report : Threshold) (levels : ℕ) (old now : Forest) (left : Left) (i : ℕ) : Type 0 where
   pub same : Same old now i
   pub front : are_shown report (forest_of (take i (nodes_of now))) ≡ true
+  pub told : Told levels (take i (nodes_of now)) left
 
-pub Sifting-init : (report : Threshold) (f : Forest) → Sifting report f f 0
-Sifting-init report f = record { same = Same-init f; front = refl }
+pub Sifting-init : (report : Threshold) (levels : ℕ) (f : Forest) (left : Left) → left.is_tree ≡ true → left.source_inside ≡ false → Sifting report levels f f left 0
+Sifting-init report levels f left tree source = record { same = Same-init f; front = refl; told = Told-none levels left tree source }
 
-pub Sifting-more : (report : Threshold) (old now : Forest) (i : ℕ) (new : Node) → Sifting report old now i → i < length (nodes_of now) → are_shown report (forest_of (new ∷ [])) ≡ true
-    → Sifting report old (forest_of (set (nodes_of now) i new)) (i + 1)
-Sifting-more report old now i new s fits last =
+pub Sifting-more : (report : Threshold) (levels : ℕ) (old now : Forest) (left left' : Left) (i : ℕ) (new : Node) → Sifting report levels old now left i → i < length (nodes_of now)
+    → are_shown report (forest_of (new ∷ [])) ≡ true → Told levels (take i (nodes_of now) ++ new ∷ []) left'
+    → Sifting report levels old (forest_of (set (nodes_of now) i new)) left' (i + 1)
+Sifting-more report levels old now left left' i new s fits last told =
     let ns = nodes_of now in
-    let set_is : nodes_of (forest_of (set ns i new)) ≡ set ns i new = nodes_of-forest_of (set ns i new) in
-    record { same = Same-more old now i new s.same fits; front = rw (set_is, take_more_set ns i new fits) (shown_more report (take i ns) new s.front last) }
+    let front : take (i + 1) (nodes_of (forest_of (set ns i new))) ≡ take i ns ++ new ∷ [] = ap (take (i + 1)) (nodes_of-forest_of (set ns i new)) ∙ take_more_set ns i new fits in
+    record {
+      same = Same-more old now i new s.same fits;
+      front = ap (λ xs. are_shown report (forest_of xs)) front ∙ shown_more report (take i ns) new s.front last;
+      told = subst (λ xs. Told levels xs left') (sym front) told;
+    }
 
-pub Sifting-text : (report : Threshold) (old now : Forest) (i : ℕ) (child : Node) (t : List ℕ) → Sifting report old now i → i < length (nodes_of now) → child ≡ Text t → Sifting report old (forest_of (set (nodes_of now) i child)) (i + 1)
-Sifting-text report old now i child t s fits is = Sifting-more report old now i child s fits (rw is refl)
+pub Sifting-shown : (report : Threshold) (levels : ℕ) (old now : Forest) (left : Left) (i : ℕ) → Sifting report levels old now left i → length (nodes_of now) ≤ i → are_shown report now ≡ true
+Sifting-shown report levels old now left i s all = ap (are_shown report) (sym (forest_of-nodes_of now)) ∙ (rw (take_all i (nodes_of now) all) at s.front)
 
-pub Sifting-end : (report : Threshold) (old now : Forest) (i : ℕ) → Sifting report old now i → length (nodes_of now) ≤ i → are_shown report now ≡ true
-Sifting-end report old now i s all = ap (are_shown report) (sym (forest_of-nodes_of now)) ∙ (rw (take_all i (nodes_of now) all) at s.front)
+whole : (now : Forest) (i : ℕ) → length (nodes_of now) ≤ i → forest_of (take i (nodes_of now)) ≡ now
+whole now i all = ap forest_of (take_all i (nodes_of now) all) ∙ forest_of-nodes_of now
+
+pub Sifting-tree : (report : Threshold) (levels : ℕ) (old now : Forest) (left : Left) (i : ℕ) → Sifting report levels old now left i → length (nodes_of now) ≤ i → left.is_tree ≡ are_within levels now
+Sifting-tree report levels old now left i s all = s.told.tree ∙ ap (are_within levels) (whole now i all)
+
+pub Sifting-source : (report : Threshold) (levels : ℕ) (old now : Forest) (left : Left) (i : ℕ) → Sifting report levels old now left i → length (nodes_of now) ≤ i
+    → left.source_inside ≡ any_tells_source now
+Sifting-source report levels old now left i s all = s.told.source ∙ ap any_tells_source (whole now i all)
 
 -- an element that is met isn't a message below the report level
-pub Sifting-stays : (report : Threshold) (old now : Forest) (i : ℕ) (child : Node) (t : Tag) (a : List Attr) (c : Forest) (l : ℕ) (ns : List Node) → Sifting report old now i → i < length (nodes_of now)
-    → child ≡ get_or (nodes_of now) i child → child ≡ Element t a c l → old ≡ forest_of ns → list_all (may_stay report) ns ≡ true → false ≡ is_below report t a
-Sifting-stays report old now i child t a c l ns s fits is made nodes all =
-    let e : nodes_of old ≡ ns = ap nodes_of nodes ∙ nodes_of-forest_of ns in
-    let n : length (nodes_of now) ≡ length ns = s.same.same_len ∙ ap length e in
-    let at : child ≡ get_or ns i child = is ∙ same_item i (nodes_of now) (nodes_of old) child s.same.rest ∙ ap (λ xs. get_or xs i child) e in
-    let k : may_stay report child ≡ true = all_at (may_stay report) ns i child all (omega (arith, n, fits)) at in
+pub Sifting-stays : (report : Threshold) (levels : ℕ) (old now : Forest) (left : Left) (i : ℕ) (child : Node) (t : Tag) (a : List Attr) (c : Forest) (l : ℕ) → Sifting report levels old now left i
+    → i < length (nodes_of now) → child ≡ get_or (nodes_of now) i child → child ≡ Element t a c l → list_all (may_stay report) (nodes_of old) ≡ true → false ≡ is_below report t a
+Sifting-stays report levels old now left i child t a c l s fits is made all =
+    let at : child ≡ get_or (nodes_of old) i child = is ∙ same_item i (nodes_of now) (nodes_of old) child s.same.rest in
+    let k : may_stay report child ≡ true = all_at (may_stay report) (nodes_of old) i child all (omega (arith, s.same.same_len, fits)) at in
     reached_of (is_below report t a) (rw made at k)

@@ -1,3 +1,4 @@
+pub mod Left
 pub mod Links
 pub mod Messages
 pub mod Reading

@@ -1,19 +1,24 @@
 //! What of a document is shown.
-ghost use Rattle.std.specs.Prelude.{◌≡◌, true, IsTrue};
+ghost use Rattle.std.specs.Prelude.{◌≡◌, ◌≤◌, true, not, IsTrue};
 ghost use Rattle.std.specs.List.{list_all};
 ghost use Rattle.rst_tree.specs.Faults.{Gives};
-ghost use Rattle.rst_transform.specs.Shown.{is_below, is_gone, may_stay, are_shown, is_shown_in};
+ghost use Rattle.rst_tree.specs.Forest.{height};
+ghost use Rattle.rst_tree.specs.Nodes.{nodes_of};
+ghost use Rattle.rst_tree.specs.Tree.{is_tree};
+ghost use Rattle.rst_transform.specs.Left.{are_within, any_tells_source, tells_source_inside};
+ghost use Rattle.rst_transform.specs.Shown.{is_gone, may_stay, are_shown, is_shown_in};
 
+use crate::left::Left;
 use crate::messages::{level_number, reaches};
 use crate::reading::number;
 use rst_settings::Threshold;
-use rst_tree::{Attrs, Children, Key, Node, Tag, Text, TreeFault};
+use rst_tree::{Children, Key, Node, Tag, Tree, TreeFault};
 use std::alloc::Global;
 use std::mem;
 
 /// Takes the messages below the report level out of a document, lets each problematic whose message is gone become its text, and
 /// takes off the attributes that serve the transforms alone (Configuration, `report_level`). `shown` tells of the
-/// number of each message whether that stays.
+/// number of each message whether that stays. What is left is told with it, so that nobody needs to go through it once more.
 ///
 /// Before, where WARNINGs aren't shown:
 ///
@@ -33,8 +38,10 @@ pub(crate) fn filter(
     root: Node,
     report: Threshold,
     shown: &[bool],
-) -> Result<Node, TreeFault>
-    ensures { Gives (λ node. is_shown_in report node ≡ true) result }
+) -> Result<(Node, Left), TreeFault>
+    ensures shown { Gives (λ done. is_shown_in report done.0 ≡ true) result }
+    ensures tree { Gives (λ done. done.1.is_tree ≡ is_tree done.0) result }
+    ensures source { Gives (λ done. done.1.source_inside ≡ tells_source_inside done.0) result }
 {
     match root {
         Node::Element {
@@ -44,19 +51,31 @@ pub(crate) fn filter(
             line,
         } => {
             attrs.remove_hidden();
-            filter_in(alloc, &mut children, report, shown)?;
-            Ok(Node::Element {
+            keep_staying(alloc, &mut children, report, shown)?;
+            let inside = filter_in(alloc, &mut children, Tree::MOST_LEVELS - 1, report, shown)?;
+            let left = Left {
+                is_tree: inside.is_tree && attrs.are_in_order(),
+                source_inside: inside.source_inside,
+            };
+            let root = Node::Element {
                 tag,
                 attrs,
                 children,
                 line,
-            })
+            };
+            Ok((root, left))
         }
-        Node::Text(text) => Ok(Node::Text(text)),
+        Node::Text(text) => {
+            let left = Left {
+                is_tree: text.is_lines(),
+                source_inside: false,
+            };
+            Ok((Node::Text(text), left))
+        }
     }
 }
 
-/// What becomes of an element.
+/// What becomes of a node.
 #[derive(Clone, Copy)]
 enum Fate {
     Stays,
@@ -64,10 +83,13 @@ enum Fate {
     Vanishes,
 }
 
-/// What becomes of an element of a kind with these attributes.
-fn fate_of(tag: Tag, attrs: &Attrs, report: Threshold, shown: &[bool]) -> Fate
-    ensures { is_gone result ≡ is_below report tag attrs.now }
+/// What becomes of a node, whatever becomes of the nodes in it.
+fn fate_of(node: &Node, report: Threshold, shown: &[bool]) -> Fate
+    ensures { is_gone result ≡ not (may_stay report node.now) }
 {
+    let Node::Element { tag, attrs, .. } = node else {
+        return Fate::Stays;
+    };
     match tag {
         Tag::SystemMessage if !reaches(level_number(attrs), report) => Fate::Vanishes,
         Tag::Problematic => match number(attrs, Key::Message) {
@@ -78,107 +100,95 @@ fn fate_of(tag: Tag, attrs: &Attrs, report: Threshold, shown: &[bool]) -> Fate
     }
 }
 
-/// Whether a node stays.
-fn stays(node: &Node, report: Threshold, shown: &[bool]) -> bool
-    ensures { IsTrue result → may_stay report node.now ≡ true }
-{
-    match node {
-        Node::Element { tag, attrs, .. } => !matches!(
-            fate_of(*tag, attrs, report, shown),
-            Fate::BecomesText | Fate::Vanishes
-        ),
-        Node::Text(_) => true,
-    }
-}
-
 /// Whether all nodes stay.
 fn all_stay(nodes: &[Node], report: Threshold, shown: &[bool]) -> bool
     ensures { IsTrue result → list_all (may_stay report) nodes.now ≡ true }
 {
     for node in nodes {
-        if !stays(node, report, shown) {
+        if !matches!(fate_of(node, report, shown), Fate::Stays) {
             return false;
         }
     }
     true
 }
 
-/// Takes what isn't shown out of nodes: in place where all of them stay.
-fn filter_in(
+/// Takes the nodes that don't stay out of a list, or puts their texts in their places. A list whose nodes all stay is left alone.
+fn keep_staying(
     alloc: Global,
     nodes: &mut Children,
     report: Threshold,
     shown: &[bool],
 ) -> Result<(), TreeFault>
-    ensures { Gives (λ _. are_shown report nodes.new ≡ true) result }
+    ensures stay { Gives (λ _. list_all (may_stay report) (nodes_of nodes.new) ≡ true) result }
+    ensures height { Gives (λ _. height nodes.new ≤ height nodes.old) result }
 {
-    if !all_stay(nodes.as_slice(), report, shown) {
-        let all = mem::replace(nodes, Children::new(alloc));
-        *nodes = filtered(alloc, all, report, shown)?;
+    if all_stay(nodes.as_slice(), report, shown) {
         return Ok(());
     }
-    for i in 0..nodes.len() {
-        match nodes.get_mut(i) {
-            Node::Text(_) => continue,
-            Node::Element {
-                attrs,
-                children,
-                ..
-            } => {
-                attrs.remove_hidden();
-                filter_in(alloc, children, report, shown)?;
-            }
-        }
-    }
+    let all = mem::replace(nodes, Children::new(alloc));
+    *nodes = staying(alloc, all, report, shown)?;
     Ok(())
 }
 
-/// Nodes without what isn't shown.
-fn filtered(
+/// The nodes that stay, and the texts of those that become text.
+fn staying(
     alloc: Global,
     nodes: Children,
     report: Threshold,
     shown: &[bool],
 ) -> Result<Children, TreeFault>
-    ensures { Gives (λ nodes. are_shown report nodes ≡ true) result }
+    ensures stay { Gives (λ kept. list_all (may_stay report) (nodes_of kept) ≡ true) result }
+    ensures height { Gives (λ kept. height kept ≤ height nodes) result }
 {
-    let mut done = Vec::with_capacity(alloc, nodes.len())?;
+    let mut kept = Vec::with_capacity(alloc, nodes.len())?;
     for node in nodes.into_list() {
-        match node {
-            Node::Text(text) => done.push(Node::Text(text))?,
-            Node::Element {
-                tag,
-                mut attrs,
-                children,
-                line,
-            } => match fate_of(tag, &attrs, report, shown) {
-                Fate::Vanishes => continue,
-                Fate::BecomesText => {
-                    done.push(Node::Text(text_in(alloc, &children)?))?;
-                    continue;
-                }
-                Fate::Stays => {
-                    attrs.remove_hidden();
-                    let children = filtered(alloc, children, report, shown)?;
-                    done.push(Node::Element {
-                        tag,
-                        attrs,
-                        children,
-                        line,
-                    })?;
-                    continue;
-                }
-            },
+        match fate_of(&node, report, shown) {
+            Fate::Stays => {
+                kept.push(node)?;
+                continue;
+            }
+            Fate::BecomesText => {
+                kept.push(Node::Text(node.text_of(alloc)?))?;
+                continue;
+            }
+            Fate::Vanishes => continue,
         }
     }
-    Ok(Children::of(done))
+    Ok(Children::of(kept))
 }
 
-/// The texts in nodes, joined.
-fn text_in(alloc: Global, nodes: &Children) -> Result<Text, TreeFault> {
-    let mut text = Text::from_str(alloc, "")?;
-    for node in nodes.as_slice() {
-        text.push_str(node.text_of(alloc)?.as_str())?;
+/// Takes what isn't shown out of nodes that stay, at so many levels, and tells what is left.
+fn filter_in(
+    alloc: Global,
+    nodes: &mut Children,
+    levels: usize,
+    report: Threshold,
+    shown: &[bool],
+) -> Result<Left, TreeFault>
+    requires { list_all (may_stay report) (nodes_of nodes.old) ≡ true }
+    ensures shown { Gives (λ _. are_shown report nodes.new ≡ true) result }
+    ensures tree { Gives (λ left. left.is_tree ≡ are_within levels nodes.new) result }
+    ensures source { Gives (λ left. left.source_inside ≡ any_tells_source nodes.new) result }
+{
+    let mut left = Left::nothing();
+    for i in 0..nodes.len() {
+        match nodes.get_mut(i) {
+            Node::Text(text) => {
+                left.add_text(text, levels);
+                continue;
+            }
+            Node::Element {
+                tag,
+                attrs,
+                children,
+                ..
+            } => {
+                attrs.remove_hidden();
+                keep_staying(alloc, children, report, shown)?;
+                let inside = filter_in(alloc, children, levels.saturating_sub(1), report, shown)?;
+                left.add_element(*tag, attrs, inside, levels);
+            }
+        }
     }
-    Ok(text)
+    Ok(left)
 }
