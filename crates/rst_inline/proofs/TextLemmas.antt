@@ -1,14 +1,20 @@
 -- Characters and the texts that they spell.
-use Rattle.std.proofs.Common.{◌≡◌, ℕ, ◌+◌, ◌-◌, ◌≤◌, length, take, drop, min, sym, ap, ◌∙◌, arith}
+use Rattle.std.proofs.Common.{◌≡◌, ℕ, ◌+◌, ◌-◌, ◌≤◌, ◌==◌, true, false, List, [], ◌∷◌, ◌++◌, length, take, drop, min, refl, sym, ap, ◌∙◌, arith}
 use Rattle.std.specs.Prelude.{string_bytes, encode_utf8_all}
 use Rattle.std.specs.declared.string.String.{String}
-use Rattle.std.specs.Str.{chars}
+use Rattle.std.specs.Str.{chars, IsUtf8}
 use Rattle.std.proofs.Math.Nat.{min-le_right}
-use Rattle.std.proofs.lemmas.List.{drop-take, take_min, drop_min, length-take}
+use Rattle.std.proofs.lemmas.Bool.{eqb-true}
+use Rattle.std.proofs.lemmas.List.{append-nil, drop_all, drop-take, take_min, drop_min, length-take}
 use Rattle.std.proofs.lemmas.Str.{chars_from_encodes, encodes-chars, IsUtf8-string_bytes}
 use Rattle.rst_text.specs.Text.{chars_of}
+use Rattle.rst_tree.specs.Forest.{bare, words}
+use Rattle.rst_tree.specs.declared.node.Node.TheVariants.{Text as Words}
 use Rattle.rst_pieces.specs.Characters.{Text}
+use Rattle.rst_inline.specs.declared.reading.Meaning.TheVariants.{Nothing, One}
+use Rattle.rst_inline.specs.Elements.{text_children}
 use Rattle.rst_inline.specs.Parts.{part, spelled}
+use Rattle.rst_inline.specs.Readings.{plain_reading}
 
 -- a part that ends within the text and begins before its end is the same
 pub part-is : (t : Text) (low high h l : ℕ) → h ≡ min high (length t) → l ≡ min low h → take (h - l) (drop l t) ≡ part t low high
@@ -25,3 +31,48 @@ chars-spelled s cs e = sym (chars_from_encodes cs (string_bytes s) (IsUtf8-strin
 -- the bytes of a text with some characters
 pub spelled-chars : {A : Type 0} (s : String A) (cs : Text) → chars_of s ≡ cs → string_bytes s ≡ spelled cs
 spelled-chars s cs e = sym (encodes-chars (string_bytes s) (IsUtf8-string_bytes s)) ∙ ap encode_utf8_all e
+
+-- what is written when no character is left is all
+pub all-written : (out : List ℕ) (cs : Text) (i : ℕ) → length cs ≤ i → out ++ encode_utf8_all (drop i cs) ≡ spelled cs → out ≡ spelled cs
+all-written out cs i past e = sym (append-nil out) ∙ ap (λ t. out ++ encode_utf8_all t) (sym (drop_all i cs past)) ∙ e
+
+-- a star has one character
+pub chars_of_star : chars (42 ∷ []) ≡ 42 ∷ []
+unfolding chars
+chars_of_star = refl
+
+-- the bytes of a text are those that its characters spell
+pub spelled-again : (bs : List ℕ) → IsUtf8 bs → bs ≡ spelled (chars bs)
+spelled-again bs utf8 = sym (encodes-chars bs utf8)
+
+-- ---- an empty text
+
+none-empty : (bs : List ℕ) → bs ≡ [] → (length bs == 0) ≡ true
+none-empty bs e = ap (λ (x : List ℕ). length x == 0) e
+
+nil-of : (bs : List ℕ) → (length bs == 0) ≡ true → bs ≡ []
+nil-of [] h = refl
+nil-of (b ∷ bs) h = absurd (omega (arith, eqb-true (length (b ∷ bs)) 0 h))
+
+-- ---- what stands in an element that holds a text
+
+some-words : (cs : Text) (bs : List ℕ) → bs ≡ spelled cs → (length bs == 0) ≡ false → words bs bare ≡ text_children cs
+some-words [] bs e h = let none = none-empty bs e in absurd (cc)
+some-words (c ∷ cs) bs e h = ap (λ s. words s bare) e
+
+pub some-children : (bs : List ℕ) → IsUtf8 bs → (length bs == 0) ≡ false → words bs bare ≡ text_children (chars bs)
+some-children bs utf8 h = some-words (chars bs) bs (spelled-again bs utf8) h
+
+pub no-children : (bs : List ℕ) → (length bs == 0) ≡ true → bare ≡ text_children (chars bs)
+unfolding chars
+no-children bs h = sym (ap (λ (x : List ℕ). text_children (chars x)) (nil-of bs h))
+
+-- ---- what a plain text means
+
+pub some-plain : (cs : Text) (bs : List ℕ) → bs ≡ spelled cs → (length bs == 0) ≡ false → One (Words bs) ≡ plain_reading cs
+some-plain [] bs e h = let none = none-empty bs e in absurd (cc)
+some-plain (c ∷ cs) bs e h = ap (λ s. One (Words s)) e
+
+pub no-plain : (cs : Text) (bs : List ℕ) → chars bs ≡ cs → (length bs == 0) ≡ true → Nothing ≡ plain_reading cs
+unfolding chars
+no-plain cs bs e h = sym (ap plain_reading (sym e ∙ ap chars (nil-of bs h)))

@@ -1,24 +1,22 @@
 -- Pieces of a text that is ASCII.
 use Rattle.std.proofs.Common.{◌≡◌, ⊎_elim, ℕ, zero, suc, ◌+◌, ◌-◌, ◌<◌, ◌≤◌, ◌==◌, ◌||◌, false, [], ◌∷◌, length, take, drop, get_or, refl, sym, ap, ◌∙◌, subst, arith}
-use Rattle.std.specs.Str.{IsAscii}
+use Rattle.std.specs.Str.{IsAscii, chars}
 use Rattle.std.proofs.lemmas.Bool.{cases_lt}
 use Rattle.std.proofs.lemmas.List.{drop-take, get_or-drop, get_or-take, get_or_past, length-take, length-take-le, length-drop}
-use Rattle.std.proofs.lemmas.Str.{encodes-IsAscii}
+use Rattle.std.proofs.lemmas.Str.{encodes-IsAscii, chars-IsAscii}
 use Rattle.std.proofs.Math.Nat.{min-le_left}
-use Rattle.rst_tree.specs.Forest.{bare, words}
-use Rattle.rst_tree.specs.Nodes.{forest_of}
 use Rattle.rst_tree.specs.declared.node.Node.TheVariants.{Text as Words}
 use Rattle.rst_tree.specs.declared.tag.Tag.TheVariants as tag
 use Rattle.rst_pieces.specs.Characters.{Text}
 use Rattle.rst_pieces.specs.Escapes.{has_backslash, unescaped}
 use Rattle.rst_pieces.specs.Pieces.{IsWithin}
-use Rattle.rst_pieces.specs.declared.piece.Kind.TheVariants.{Plain, Marked}
+use Rattle.rst_pieces.specs.declared.piece.Kind.TheVariants.{Plain, Marked, Reference, Uri}
 use Rattle.rst_pieces.specs.declared.piece.Markup.TheVariants.{Strong, Emphasis, Literal}
 use Rattle.rst_pieces.specs.declared.piece.Suffix.{Suffix}
 use Rattle.rst_pieces.specs.declared.piece.Piece.{Piece}
 use Rattle.rst_pieces.proofs.EscapeLemmas.{either-false, unescaped-plain}
 use Rattle.rst_inline.specs.declared.reading.Meaning.TheVariants.{One}
-use Rattle.rst_inline.specs.Elements.{text_children, text_element}
+use Rattle.rst_inline.specs.Elements.{text_element, reference_node, uri_node}
 use Rattle.rst_inline.specs.Parts.{part, source, content, IsBare}
 use Rattle.rst_inline.specs.Readings.{plain_reading, reading_by, reading}
 
@@ -34,6 +32,10 @@ ascii-part t low high ascii i =
     (λ inside. subst (λ c. c < 128) (sym (get_or-take high t (low + i) 0 inside)) (ascii (low + i)))
     (λ past. let none : get_or (take high t) (low + i) 0 ≡ 0 = get_or_past (take high t) (low + i) 0 (omega arith) in omega arith)
     (cases_lt (low + i) high))
+
+-- the characters of a slice
+pub chars-slice : (t : Text) (low high : ℕ) → IsAscii t → low ≤ high → chars (take (high - low) (drop low t)) ≡ part t low high
+chars-slice t low high ascii order = ap chars (slice-is t low high order) ∙ chars-IsAscii (part t low high) (ascii-part t low high ascii)
 
 some-part : (t : Text) (low high : ℕ) → low < high → high ≤ length t → 0 < length (part t low high)
 some-part t low high some within = omega (arith, length-drop low (take high t), length-take-le high t within)
@@ -79,13 +81,10 @@ pub reading-literal : (t : Text) (line : ℕ) (p : Piece) (suffix : Suffix) → 
 unfolding reading
 reading-literal t line p suffix is = sym (ap (λ kind. reading_by kind t p line) is)
 
--- ---- elements
+pub reading-reference : (t : Text) (line : ℕ) (p : Piece) (suffix : Suffix) → p.kind ≡ Reference suffix → One (reference_node suffix (source t p) (content t p) line) ≡ reading t line p
+unfolding reading
+reading-reference t line p suffix is = sym (ap (λ kind. reading_by kind t p line) is)
 
-pub some-of : (cs : Text) → (length cs == 0) ≡ false → 0 < length cs
-some-of [] h = absurd (cc)
-some-of (c ∷ cs) h = omega arith
-
--- the nodes of a text that is ASCII
-pub text_children-ascii : (cs : Text) → IsAscii cs → 0 < length cs → forest_of (Words cs ∷ []) ≡ text_children cs
-text_children-ascii [] ascii some = absurd (omega arith)
-text_children-ascii (c ∷ cs) ascii some = ap (λ s. words s bare) (sym (encodes-IsAscii (c ∷ cs) ascii))
+pub reading-uri : (t : Text) (line : ℕ) (p : Piece) → p.kind ≡ Uri → One (uri_node (source t p) line) ≡ reading t line p
+unfolding reading
+reading-uri t line p is = sym (ap (λ kind. reading_by kind t p line) is)

@@ -1,5 +1,6 @@
 //! Elements of inline markup.
 ghost use Rattle.std.specs.Prelude.{◌≡◌, []};
+ghost use Rattle.std.specs.Str.{chars};
 ghost use Rattle.rst_tree.specs.Forest.{bare};
 ghost use Rattle.rst_tree.specs.declared.node.Node.TheVariants.{Element};
 ghost use Rattle.rst_inline.specs.Elements.{text_children, text_element, inline_target_node, uri_target_node, problematic_node};
@@ -7,18 +8,18 @@ ghost use Rattle.rst_inline.specs.Faults.{Gives};
 
 use super::attributes::{attr, three, two};
 use super::fault::InlineFault;
-use super::texts::{name_said, said, spelled};
-use rst_tree::{Attrs, Children, Entry, Key, Node, Tag, Value};
+use super::texts::{name_said, said};
+use rst_tree::{Attrs, Children, Entry, Key, Node, Tag, Text, Value};
 use std::alloc::Global;
 
 /// The nodes of a text: none where it is empty.
-pub(crate) fn text_nodes(alloc: Global, shown: &[char]) -> Result<Children, InlineFault>
-    ensures { Gives (λ nodes. nodes ≡ text_children shown.now) result }
+pub(crate) fn text_nodes(alloc: Global, shown: &str) -> Result<Children, InlineFault>
+    ensures { Gives (λ nodes. nodes ≡ text_children (chars shown.now)) result }
 {
     if shown.is_empty() {
         return Ok(Children::new(alloc));
     }
-    let text = spelled(alloc, shown)?;
+    let text = Text::from_str(alloc, shown)?;
     let nodes = Children::lone(alloc, Node::Text(text))?;
     Ok(nodes)
 }
@@ -28,10 +29,10 @@ pub(crate) fn element(
     alloc: Global,
     tag: Tag,
     attrs: Vec<Entry>,
-    shown: &[char],
+    shown: &str,
     line: usize,
 ) -> Result<Node, InlineFault>
-    ensures { Gives (λ node. node ≡ text_element tag attrs.items shown.now line) result }
+    ensures { Gives (λ node. node ≡ text_element tag attrs.items (chars shown.now) line) result }
 {
     let children = text_nodes(alloc, shown)?;
     Ok(Node::Element {
@@ -46,10 +47,10 @@ pub(crate) fn element(
 pub(crate) fn plain_element(
     alloc: Global,
     tag: Tag,
-    shown: &[char],
+    shown: &str,
     line: usize,
 ) -> Result<Node, InlineFault>
-    ensures { Gives (λ node. node ≡ text_element tag [] shown.now line) result }
+    ensures { Gives (λ node. node ≡ text_element tag [] (chars shown.now) line) result }
 {
     element(alloc, tag, Vec::new(alloc), shown, line)
 }
@@ -67,8 +68,8 @@ pub(crate) fn bare_element(alloc: Global, tag: Tag, attrs: Vec<Entry>, line: usi
 }
 
 /// An inline target, named by its text.
-pub(crate) fn target(alloc: Global, shown: &[char], line: usize) -> Result<Node, InlineFault>
-    ensures { Gives (λ node. node ≡ inline_target_node shown.now line) result }
+pub(crate) fn target(alloc: Global, shown: &str, line: usize) -> Result<Node, InlineFault>
+    ensures { Gives (λ node. node ≡ inline_target_node (chars shown.now) line) result }
 {
     let name = name_said(alloc, shown)?;
     let attrs = two(
@@ -82,11 +83,11 @@ pub(crate) fn target(alloc: Global, shown: &[char], line: usize) -> Result<Node,
 /// The target that an embedded URI leaves, named by its phrase.
 pub(crate) fn uri_target(
     alloc: Global,
-    shown: &[char],
-    uri: &[char],
+    shown: &str,
+    uri: &str,
     line: usize,
 ) -> Result<Node, InlineFault>
-    ensures { Gives (λ node. node ≡ uri_target_node shown.now uri.now line) result }
+    ensures { Gives (λ node. node ≡ uri_target_node (chars shown.now) (chars uri.now) line) result }
 {
     let name = name_said(alloc, shown)?;
     let uri = said(alloc, uri)?;
@@ -103,10 +104,10 @@ pub(crate) fn uri_target(
 pub(crate) fn problematic(
     alloc: Global,
     place: usize,
-    source: &[char],
+    source: &str,
     line: usize,
 ) -> Result<Node, InlineFault>
-    ensures { Gives (λ node. node ≡ problematic_node place source.now line) result }
+    ensures { Gives (λ node. node ≡ problematic_node place (chars source.now) line) result }
 {
     // Registration adds two: its id and the id of its message.
     let mut attrs = Vec::with_capacity(alloc, 3)?;

@@ -1,5 +1,6 @@
 //! References to footnotes and citations.
 ghost use Rattle.std.specs.Prelude.{◌≡◌};
+ghost use Rattle.std.specs.Str.{chars};
 ghost use Rattle.std.specs.List.{list_all};
 ghost use Rattle.rst_inline.specs.Elements.{is_digit, label_tag, manual_reference_node, autonumbered_reference_node, autosymbol_reference_node, label_reference_node};
 ghost use Rattle.rst_inline.specs.Faults.{Gives};
@@ -7,7 +8,7 @@ ghost use Rattle.rst_inline.specs.Faults.{Gives};
 use super::attributes::{attr, three, two};
 use super::elements::{bare_element, element};
 use super::fault::InlineFault;
-use super::texts::{name_said, said};
+use super::texts::{name_said, said, spell};
 use rst_tree::{Key, Node, Tag, Value};
 use std::alloc::Global;
 
@@ -39,27 +40,23 @@ fn label_tag(label: &[char]) -> Tag
     }
 }
 
-fn labelled(
-    alloc: Global,
-    source: &[char],
-    label: &[char],
-    line: usize,
-) -> Result<Node, InlineFault>
-    ensures { Gives (λ node. node ≡ manual_reference_node source.now label.now line) result }
+fn labelled(alloc: Global, source: &str, label: &[char], line: usize) -> Result<Node, InlineFault>
+    ensures { Gives (λ node. node ≡ manual_reference_node (chars source.now) label.now line) result }
 {
     let written = said(alloc, source)?;
-    let name = name_said(alloc, label)?;
+    let shown = spell(alloc, label)?;
+    let name = name_said(alloc, shown.as_str())?;
     let attrs = two(
         alloc,
         attr(Key::Rawsource, written),
         attr(Key::Refname, name),
     )?;
-    element(alloc, label_tag(label), attrs, label, line)
+    element(alloc, label_tag(label), attrs, shown.as_str(), line)
 }
 
 /// A footnote that is numbered, alone or with a name.
-fn numbered(alloc: Global, source: &[char], name: &[char], line: usize) -> Result<Node, InlineFault>
-    ensures { Gives (λ node. node ≡ autonumbered_reference_node source.now name.now line) result }
+fn numbered(alloc: Global, source: &str, name: &[char], line: usize) -> Result<Node, InlineFault>
+    ensures { Gives (λ node. node ≡ autonumbered_reference_node (chars source.now) name.now line) result }
 {
     let written = said(alloc, source)?;
     match name {
@@ -72,7 +69,8 @@ fn numbered(alloc: Global, source: &[char], name: &[char], line: usize) -> Resul
             Ok(bare_element(alloc, Tag::FootnoteReference, attrs, line))
         }
         _ => {
-            let refname = name_said(alloc, name)?;
+            let name = spell(alloc, name)?;
+            let refname = name_said(alloc, name.as_str())?;
             let attrs = three(
                 alloc,
                 attr(Key::Auto, Value::Number(1)),
@@ -85,11 +83,12 @@ fn numbered(alloc: Global, source: &[char], name: &[char], line: usize) -> Resul
 }
 
 /// A footnote with a symbol.
-fn symbol(alloc: Global, source: &[char], line: usize) -> Result<Node, InlineFault>
-    ensures { Gives (λ node. node ≡ autosymbol_reference_node source.now line) result }
+#[tactic(auto, using(crate::proofs::TextLemmas::chars_of_star))]
+fn symbol(alloc: Global, source: &str, line: usize) -> Result<Node, InlineFault>
+    ensures { Gives (λ node. node ≡ autosymbol_reference_node (chars source.now) line) result }
 {
     let written = said(alloc, source)?;
-    let auto = said(alloc, &['*'])?;
+    let auto = said(alloc, "*")?;
     let attrs = two(alloc, attr(Key::Auto, auto), attr(Key::Rawsource, written))?;
     Ok(bare_element(alloc, Tag::FootnoteReference, attrs, line))
 }
@@ -97,11 +96,11 @@ fn symbol(alloc: Global, source: &[char], line: usize) -> Result<Node, InlineFau
 /// The reference that a label in brackets makes.
 pub(crate) fn label_reference(
     alloc: Global,
-    source: &[char],
+    source: &str,
     label: &[char],
     line: usize,
 ) -> Result<Node, InlineFault>
-    ensures { Gives (λ node. node ≡ label_reference_node source.now label.now line) result }
+    ensures { Gives (λ node. node ≡ label_reference_node (chars source.now) label.now line) result }
 {
     match label {
         [] => labelled(alloc, source, label, line),

@@ -7,11 +7,11 @@ ghost use Rattle.rst_inline.specs.Faults.{Gives};
 ghost use Rattle.rst_inline.specs.Parts.{IsBare};
 ghost use Rattle.rst_inline.specs.Results.{Reads, IsRead};
 
-use super::elements::problematic;
+use super::elements::{problematic, text_nodes};
 use super::fault::InlineFault;
 use super::reading::Meaning;
-use super::texts::part;
-use super::written::{characters, if_ascii, if_bare, meaning, pieces, words};
+use super::texts::{part, spell};
+use super::written::{characters, if_ascii, if_bare, meaning, pieces};
 use rst_pieces::{Piece, is_quiet};
 use rst_tree::{Node, Note};
 use std::alloc::Global;
@@ -45,7 +45,7 @@ fn quiet(alloc: Global, text: &str) -> Result<Pieces, InlineFault>
     requires { quiet text.now ≡ true }
     ensures { (line : ℕ) → Gives (IsRead (chars text.now) line) result }
 {
-    let children = words(alloc, text)?;
+    let children = text_nodes(alloc, text)?;
     Ok(Pieces {
         nodes: children.into_list(),
         notes: Vec::new(alloc),
@@ -80,8 +80,8 @@ fn read(
                 continue;
             }
             Meaning::Wrong(level, said) => {
-                let source = part(text, piece.from, piece.to);
-                let node = problematic(alloc, notes.len(), source, line)?;
+                let source = spell(alloc, part(text, piece.from, piece.to))?;
+                let node = problematic(alloc, notes.len(), source.as_str(), line)?;
                 nodes.push(node)?;
                 notes.push(Note {
                     level,

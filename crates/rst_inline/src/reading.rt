@@ -1,7 +1,10 @@
 //! What pieces mean.
-ghost use Rattle.std.specs.Prelude.{◌<◌, ◌+◌, true, ◌≡◌};
+ghost use Rattle.std.specs.Prelude.{◌<◌, ◌+◌, true, ◌≡◌, []};
+ghost use Rattle.std.specs.Str.{chars};
 ghost use Rattle.rst_pieces.specs.Escapes.{unescaped};
 ghost use Rattle.rst_pieces.specs.Pieces.{IsWithin};
+ghost use Rattle.rst_inline.specs.declared.reading.Meaning.TheVariants.{One};
+ghost use Rattle.rst_inline.specs.Elements.{text_element};
 ghost use Rattle.rst_inline.specs.Parts.{source, content};
 ghost use Rattle.rst_inline.specs.Readings.{unended_words, unended, unknown_role, two_roles, mismatch, plain_reading, substitution_reading, embedded_reading, phrase_reading, role_reading, has_prefix_role, interpreted_reading, marked_reading, reading};
 ghost use Rattle.rst_inline.specs.Faults.{Gives};
@@ -14,8 +17,8 @@ use super::references::{
     alias_reference, embedded_reference, outer_reference, reference, substitution, uri_reference,
 };
 use super::roles::role_tag;
-use super::texts::{part, spelled};
-use rst_pieces::{Kind, Markup, Piece, Suffix, has_backslash, unescaped};
+use super::texts::{bare, part, spell};
+use rst_pieces::{Kind, Markup, Piece, Suffix};
 use rst_tree::{Level, Node, Tag, Text};
 use std::alloc::Global;
 
@@ -74,38 +77,35 @@ fn mismatch(alloc: Global) -> Result<Meaning, InlineFault>
     Ok(Meaning::Wrong(Level::Warning, Text::from_str(alloc, text)?))
 }
 
-/// Plain text without its escapes. Most has none, and is not copied for them.
+/// Plain text without its escapes.
 fn plain(alloc: Global, source: &[char]) -> Result<Meaning, InlineFault>
     ensures { Gives (λ reading. reading ≡ plain_reading (unescaped source.now)) result }
 {
-    if !has_backslash(source) {
-        return shown_plainly(alloc, source);
+    let shown = bare(alloc, source)?;
+    if shown.as_str().is_empty() {
+        return Ok(Meaning::Nothing);
     }
-    let shown = unescaped(alloc, source)?;
-    shown_plainly(alloc, &shown)
+    Ok(Meaning::One(Node::Text(Text::new(shown))))
 }
 
-fn shown_plainly(alloc: Global, shown: &[char]) -> Result<Meaning, InlineFault>
-    ensures { Gives (λ reading. reading ≡ plain_reading shown.now) result }
+/// An element that holds what markup encloses, without its escapes.
+fn shown_in(alloc: Global, tag: Tag, content: &[char], line: usize) -> Result<Meaning, InlineFault>
+    ensures { Gives (λ reading. reading ≡ One (text_element tag [] (unescaped content.now) line)) result }
 {
-    match shown {
-        [] => Ok(Meaning::Nothing),
-        _ => {
-            let text = spelled(alloc, shown)?;
-            Ok(Meaning::One(Node::Text(text)))
-        }
-    }
+    let shown = bare(alloc, content)?;
+    let node = plain_element(alloc, tag, shown.as_str(), line)?;
+    Ok(Meaning::One(node))
 }
 
 fn substituted(
     alloc: Global,
     suffix: Suffix,
-    inner: &[char],
-    outer: &[char],
-    shown: &[char],
+    inner: &str,
+    outer: &str,
+    shown: &str,
     line: usize,
 ) -> Result<Meaning, InlineFault>
-    ensures { Gives (λ reading. reading ≡ substitution_reading suffix inner.now outer.now shown.now line) result }
+    ensures { Gives (λ reading. reading ≡ substitution_reading suffix (chars inner.now) (chars outer.now) (chars shown.now) line) result }
 {
     let node = substitution(alloc, inner, shown, line)?;
     match suffix {
@@ -121,13 +121,13 @@ fn substituted(
 fn embedded(
     alloc: Global,
     suffix: Suffix,
-    source: &[char],
-    shown: &[char],
-    meaning: &[char],
+    source: &str,
+    shown: &str,
+    meaning: &str,
     is_alias: bool,
     line: usize,
 ) -> Result<Meaning, InlineFault>
-    ensures { Gives (λ reading. reading ≡ embedded_reading suffix source.now shown.now meaning.now is_alias line) result }
+    ensures { Gives (λ reading. reading ≡ embedded_reading suffix (chars source.now) (chars shown.now) (chars meaning.now) is_alias line) result }
 {
     if is_alias {
         let node = alias_reference(alloc, source, shown, meaning, line)?;
@@ -153,24 +153,28 @@ fn phrase(
 ) -> Result<Meaning, InlineFault>
     ensures { Gives (λ reading. reading ≡ phrase_reading suffix source.now phrase.now line) result }
 {
+    let source = spell(alloc, source)?;
+    let source = source.as_str();
     match embedded_at(phrase) {
         Some(place) => {
             let held = enclosed(phrase, place);
             let shown = shown_by(alloc, phrase, place)?;
+            let shown = spell(alloc, &shown)?;
             let meaning = meant(alloc, held)?;
+            let meaning = spell(alloc, &meaning)?;
             embedded(
                 alloc,
                 suffix,
                 source,
-                &shown,
-                &meaning,
+                shown.as_str(),
+                meaning.as_str(),
                 is_alias(held),
                 line,
             )
         }
         None => {
-            let shown = unescaped(alloc, phrase)?;
-            let node = reference(alloc, suffix, source, &shown, line)?;
+            let shown = bare(alloc, phrase)?;
+            let node = reference(alloc, suffix, source, shown.as_str(), line)?;
             Ok(Meaning::One(node))
         }
     }
@@ -180,17 +184,14 @@ fn phrase(
 fn with_role(
     alloc: Global,
     role: &[char],
-    shown: &[char],
+    content: &[char],
     line: usize,
 ) -> Result<Meaning, InlineFault>
-    ensures { Gives (λ reading. reading ≡ role_reading role.now shown.now line) result }
+    ensures { Gives (λ reading. reading ≡ role_reading role.now (unescaped content.now) line) result }
 {
-    let name = spelled(alloc, role)?;
+    let name = spell(alloc, role)?;
     match role_tag(name.as_str()) {
-        Some(tag) => {
-            let node = plain_element(alloc, tag, shown, line)?;
-            Ok(Meaning::One(node))
-        }
+        Some(tag) => shown_in(alloc, tag, content, line),
         None => unknown_role(alloc, name.as_str()),
     }
 }
@@ -211,8 +212,7 @@ fn prefixed(
         Suffix::Bare => {
             let role = part(text, piece.from + 1, piece.content_from - 2);
             let content = part(text, piece.content_from, piece.content_to);
-            let shown = unescaped(alloc, content)?;
-            with_role(alloc, role, &shown, line)
+            with_role(alloc, role, content, line)
         }
         Suffix::Role => two_roles(alloc),
         Suffix::Named | Suffix::Anonymous => mismatch(alloc),
@@ -234,15 +234,11 @@ fn interpreted(
         return prefixed(alloc, suffix, text, piece, line);
     }
     let content = part(text, piece.content_from, piece.content_to);
-    let shown = unescaped(alloc, content)?;
     match suffix {
-        Suffix::Bare => {
-            let node = plain_element(alloc, Tag::TitleReference, &shown, line)?;
-            Ok(Meaning::One(node))
-        }
+        Suffix::Bare => shown_in(alloc, Tag::TitleReference, content, line),
         Suffix::Role => {
             let role = part(text, piece.content_to + 2, piece.to - 1);
-            with_role(alloc, role, &shown, line)
+            with_role(alloc, role, content, line)
         }
         Suffix::Named | Suffix::Anonymous => {
             let source = part(text, piece.from, piece.to);
@@ -264,28 +260,31 @@ fn marked(
     ensures { Gives (λ reading. reading ≡ marked_reading markup suffix text.now piece line) result }
 {
     let content = part(text, piece.content_from, piece.content_to);
-    let shown = unescaped(alloc, content)?;
     match markup {
-        Markup::Strong => {
-            let node = plain_element(alloc, Tag::Strong, &shown, line)?;
-            Ok(Meaning::One(node))
-        }
-        Markup::Emphasis => {
-            let node = plain_element(alloc, Tag::Emphasis, &shown, line)?;
-            Ok(Meaning::One(node))
-        }
+        Markup::Strong => shown_in(alloc, Tag::Strong, content, line),
+        Markup::Emphasis => shown_in(alloc, Tag::Emphasis, content, line),
         Markup::Literal => {
-            let node = plain_element(alloc, Tag::Literal, content, line)?;
+            let shown = spell(alloc, content)?;
+            let node = plain_element(alloc, Tag::Literal, shown.as_str(), line)?;
             Ok(Meaning::One(node))
         }
         Markup::Target => {
-            let node = target(alloc, &shown, line)?;
+            let shown = bare(alloc, content)?;
+            let node = target(alloc, shown.as_str(), line)?;
             Ok(Meaning::One(node))
         }
         Markup::Substitution => {
-            let inner = part(text, piece.from, piece.content_to + 1);
-            let outer = part(text, piece.from, piece.to);
-            substituted(alloc, suffix, inner, outer, &shown, line)
+            let inner = spell(alloc, part(text, piece.from, piece.content_to + 1))?;
+            let outer = spell(alloc, part(text, piece.from, piece.to))?;
+            let shown = bare(alloc, content)?;
+            substituted(
+                alloc,
+                suffix,
+                inner.as_str(),
+                outer.as_str(),
+                shown.as_str(),
+                line,
+            )
         }
         Markup::Interpreted => interpreted(alloc, suffix, text, piece, line),
     }
@@ -309,16 +308,19 @@ pub(crate) fn reading(
         Kind::Unended(markup) => unended(alloc, markup),
         Kind::Label => {
             let label = part(text, piece.content_from, piece.content_to);
-            let node = label_reference(alloc, source, label, line)?;
+            let source = spell(alloc, source)?;
+            let node = label_reference(alloc, source.as_str(), label, line)?;
             Ok(Meaning::One(node))
         }
         Kind::Reference(suffix) => {
-            let shown = part(text, piece.content_from, piece.content_to);
-            let node = reference(alloc, suffix, source, shown, line)?;
+            let shown = spell(alloc, part(text, piece.content_from, piece.content_to))?;
+            let source = spell(alloc, source)?;
+            let node = reference(alloc, suffix, source.as_str(), shown.as_str(), line)?;
             Ok(Meaning::One(node))
         }
         Kind::Uri => {
-            let node = uri_reference(alloc, source, line)?;
+            let source = spell(alloc, source)?;
+            let node = uri_reference(alloc, source.as_str(), line)?;
             Ok(Meaning::One(node))
         }
     }

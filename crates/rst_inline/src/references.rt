@@ -1,5 +1,6 @@
 //! References, and the substitutions that they stand round.
 ghost use Rattle.std.specs.Prelude.{◌≡◌};
+ghost use Rattle.std.specs.Str.{chars};
 ghost use Rattle.rst_inline.specs.Elements.{reference_attrs, reference_node, uri_node, alias_node, embedded_node, substitution_node, outer_attrs, outer_node};
 ghost use Rattle.rst_inline.specs.Faults.{Gives};
 
@@ -14,10 +15,10 @@ use std::alloc::Global;
 fn reference_attrs(
     alloc: Global,
     suffix: Suffix,
-    source: &[char],
-    shown: &[char],
+    source: &str,
+    shown: &str,
 ) -> Result<Vec<Entry>, InlineFault>
-    ensures { Gives (λ attrs. attrs.items ≡ reference_attrs suffix source.now shown.now) result }
+    ensures { Gives (λ attrs. attrs.items ≡ reference_attrs suffix (chars source.now) (chars shown.now)) result }
 {
     let name = normalized_said(alloc, shown)?;
     let written = said(alloc, source)?;
@@ -44,23 +45,19 @@ fn reference_attrs(
 pub(crate) fn reference(
     alloc: Global,
     suffix: Suffix,
-    source: &[char],
-    shown: &[char],
+    source: &str,
+    shown: &str,
     line: usize,
 ) -> Result<Node, InlineFault>
-    ensures { Gives (λ node. node ≡ reference_node suffix source.now shown.now line) result }
+    ensures { Gives (λ node. node ≡ reference_node suffix (chars source.now) (chars shown.now) line) result }
 {
     let attrs = reference_attrs(alloc, suffix, source, shown)?;
     element(alloc, Tag::Reference, attrs, shown, line)
 }
 
 /// A standalone URI.
-pub(crate) fn uri_reference(
-    alloc: Global,
-    source: &[char],
-    line: usize,
-) -> Result<Node, InlineFault>
-    ensures { Gives (λ node. node ≡ uri_node source.now line) result }
+pub(crate) fn uri_reference(alloc: Global, source: &str, line: usize) -> Result<Node, InlineFault>
+    ensures { Gives (λ node. node ≡ uri_node (chars source.now) line) result }
 {
     let written = said(alloc, source)?;
     let uri = said(alloc, source)?;
@@ -71,12 +68,12 @@ pub(crate) fn uri_reference(
 /// A phrase with an embedded alias.
 pub(crate) fn alias_reference(
     alloc: Global,
-    source: &[char],
-    shown: &[char],
-    alias: &[char],
+    source: &str,
+    shown: &str,
+    alias: &str,
     line: usize,
 ) -> Result<Node, InlineFault>
-    ensures { Gives (λ node. node ≡ alias_node source.now shown.now alias.now line) result }
+    ensures { Gives (λ node. node ≡ alias_node (chars source.now) (chars shown.now) (chars alias.now) line) result }
 {
     let name = normalized_said(alloc, shown)?;
     let written = said(alloc, source)?;
@@ -93,12 +90,12 @@ pub(crate) fn alias_reference(
 /// A phrase with an embedded URI.
 pub(crate) fn embedded_reference(
     alloc: Global,
-    source: &[char],
-    shown: &[char],
-    uri: &[char],
+    source: &str,
+    shown: &str,
+    uri: &str,
     line: usize,
 ) -> Result<Node, InlineFault>
-    ensures { Gives (λ node. node ≡ embedded_node source.now shown.now uri.now line) result }
+    ensures { Gives (λ node. node ≡ embedded_node (chars source.now) (chars shown.now) (chars uri.now) line) result }
 {
     let name = normalized_said(alloc, shown)?;
     let written = said(alloc, source)?;
@@ -115,11 +112,11 @@ pub(crate) fn embedded_reference(
 /// A substitution.
 pub(crate) fn substitution(
     alloc: Global,
-    source: &[char],
-    shown: &[char],
+    source: &str,
+    shown: &str,
     line: usize,
 ) -> Result<Node, InlineFault>
-    ensures { Gives (λ node. node ≡ substitution_node source.now shown.now line) result }
+    ensures { Gives (λ node. node ≡ substitution_node (chars source.now) (chars shown.now) line) result }
 {
     let written = said(alloc, source)?;
     let name = normalized_said(alloc, shown)?;
@@ -134,10 +131,10 @@ pub(crate) fn substitution(
 fn outer_attrs(
     alloc: Global,
     suffix: Suffix,
-    source: &[char],
-    shown: &[char],
+    source: &str,
+    shown: &str,
 ) -> Result<Vec<Entry>, InlineFault>
-    ensures { Gives (λ attrs. attrs.items ≡ outer_attrs suffix source.now shown.now) result }
+    ensures { Gives (λ attrs. attrs.items ≡ outer_attrs suffix (chars source.now) (chars shown.now)) result }
 {
     let written = said(alloc, source)?;
     match suffix {
@@ -161,12 +158,12 @@ fn outer_attrs(
 pub(crate) fn outer_reference(
     alloc: Global,
     suffix: Suffix,
-    source: &[char],
-    shown: &[char],
+    source: &str,
+    shown: &str,
     inner: Node,
     line: usize,
 ) -> Result<Node, InlineFault>
-    ensures { Gives (λ node. node ≡ outer_node suffix source.now shown.now inner line) result }
+    ensures { Gives (λ node. node ≡ outer_node suffix (chars source.now) (chars shown.now) inner line) result }
 {
     let attrs = outer_attrs(alloc, suffix, source, shown)?;
     let mut list = Vec::with_capacity(alloc, 1)?;

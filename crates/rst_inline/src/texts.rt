@@ -9,7 +9,7 @@ ghost use Rattle.rst_inline.specs.Elements.{said};
 ghost use Rattle.rst_inline.specs.Faults.{Gives};
 
 use super::fault::InlineFault;
-use rst_pieces::unescaped;
+use rst_pieces::{has_backslash, unescaped};
 use rst_text::{characters_of, name_of, normalized_white};
 use rst_tree::{Text, Value};
 use std::alloc::{AllocError, Global};
@@ -22,14 +22,25 @@ pub fn unescape(alloc: Global, text: &str) -> Result<String, InlineFault>
     ensures { Gives (λ out. chars_of out ≡ unescaped (chars text.now)) result }
 {
     let characters = characters_of(alloc, text)?;
-    let plain = unescaped(alloc, &characters)?;
-    let out = spell(alloc, &plain)?;
+    let out = bare(alloc, &characters)?;
     Ok(out)
 }
 
+/// The text that characters spell, without their escapes. Most have none, and are not copied for them.
+pub(crate) fn bare(alloc: Global, characters: &[char]) -> Result<String, AllocError>
+    ensures { IfOk result (λ out. chars_of out ≡ unescaped characters.now) }
+{
+    if !has_backslash(characters) {
+        return spell(alloc, characters);
+    }
+    let plain = unescaped(alloc, characters)?;
+    spell(alloc, &plain)
+}
+
 /// The text that characters spell.
-fn spell(alloc: Global, characters: &[char]) -> Result<String, AllocError>
-    ensures { IfOk result (λ out. string_bytes out ≡ spelled characters.now) }
+pub(crate) fn spell(alloc: Global, characters: &[char]) -> Result<String, AllocError>
+    ensures bytes { IfOk result (λ out. string_bytes out ≡ spelled characters.now) }
+    ensures same { IfOk result (λ out. chars_of out ≡ characters.now) }
 {
     let mut out = String::with_capacity(alloc, characters.len())?;
     for c in characters {
@@ -38,37 +49,27 @@ fn spell(alloc: Global, characters: &[char]) -> Result<String, AllocError>
     Ok(out)
 }
 
-/// The text that characters spell, as one of the tree.
-pub(crate) fn spelled(alloc: Global, characters: &[char]) -> Result<Text, InlineFault>
-    ensures { Gives (λ text. text ≡ spelled characters.now) result }
+/// A value that says a text.
+pub(crate) fn said(alloc: Global, text: &str) -> Result<Value, InlineFault>
+    ensures { Gives (λ value. value ≡ said (chars text.now)) result }
 {
-    let out = spell(alloc, characters)?;
-    Ok(Text::new(out))
-}
-
-/// A value that says the characters.
-pub(crate) fn said(alloc: Global, characters: &[char]) -> Result<Value, InlineFault>
-    ensures { Gives (λ value. value ≡ said characters.now) result }
-{
-    let text = spelled(alloc, characters)?;
+    let text = Text::from_str(alloc, text)?;
     Ok(Value::Text(text))
 }
 
-/// A value that says the name that the characters give.
-pub(crate) fn name_said(alloc: Global, characters: &[char]) -> Result<Value, InlineFault>
-    ensures { Gives (λ value. value ≡ said (names.name_of characters.now)) result }
+/// A value that says the name that a text gives.
+pub(crate) fn name_said(alloc: Global, text: &str) -> Result<Value, InlineFault>
+    ensures { Gives (λ value. value ≡ said (names.name_of (chars text.now))) result }
 {
-    let text = spell(alloc, characters)?;
-    let name = name_of(alloc, text.as_str())?;
+    let name = name_of(alloc, text)?;
     Ok(Value::Text(Text::new(name)))
 }
 
-/// A value that says the characters with each run of white ones as one space, and none at the ends.
-pub(crate) fn normalized_said(alloc: Global, characters: &[char]) -> Result<Value, InlineFault>
-    ensures { Gives (λ value. value ≡ said (names.normalized_white characters.now)) result }
+/// A value that says a text with each run of white characters as one space, and none at the ends.
+pub(crate) fn normalized_said(alloc: Global, text: &str) -> Result<Value, InlineFault>
+    ensures { Gives (λ value. value ≡ said (names.normalized_white (chars text.now))) result }
 {
-    let text = spell(alloc, characters)?;
-    let name = normalized_white(alloc, text.as_str())?;
+    let name = normalized_white(alloc, text)?;
     Ok(Value::Text(Text::new(name)))
 }
 

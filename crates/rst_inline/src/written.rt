@@ -5,15 +5,17 @@ ghost use Rattle.rst_tree.specs.declared.node.Node.TheVariants.{Text as Words};
 ghost use Rattle.rst_pieces.specs.Pieces.{IsPieces, IsWithin};
 ghost use Rattle.rst_inline.specs.declared.reading.Meaning.TheVariants.{One};
 ghost use Rattle.rst_inline.specs.Faults.{Gives};
-ghost use Rattle.rst_inline.specs.Elements.{text_children, text_element};
+ghost use Rattle.rst_inline.specs.Elements.{text_element, reference_node, uri_node};
 ghost use Rattle.rst_inline.specs.Parts.{source, content, IsBare};
 ghost use Rattle.rst_inline.specs.Readings as spec;
 
+use super::elements::plain_element;
 use super::fault::InlineFault;
 use super::reading::{Meaning, reading};
-use rst_pieces::{Kind, Markup, Piece, pieces_of, pieces_of_ascii};
+use super::references::{reference, uri_reference};
+use rst_pieces::{Kind, Markup, Piece, Suffix, pieces_of, pieces_of_ascii};
 use rst_text::ascii_characters;
-use rst_tree::{Attrs, Children, Node, Tag, Text};
+use rst_tree::{Node, Tag, Text};
 use std::alloc::{AllocError, Global};
 
 /// The text, if it is ASCII.
@@ -77,19 +79,6 @@ fn copied(alloc: Global, written: &str, piece: Piece) -> Result<Meaning, InlineF
     Ok(Meaning::One(Node::Text(text)))
 }
 
-/// The nodes of a text that is ASCII: none where it is empty.
-pub(crate) fn words(alloc: Global, text: &str) -> Result<Children, InlineFault>
-    requires { IsAscii text.now }
-    ensures { Gives (λ nodes. nodes ≡ text_children text.now) result }
-{
-    if text.is_empty() {
-        return Ok(Children::new(alloc));
-    }
-    let text = Text::from_str(alloc, text)?;
-    let nodes = Children::lone(alloc, Node::Text(text))?;
-    Ok(nodes)
-}
-
 /// The element of what the markup of a piece encloses, as it is written.
 fn enclosed(
     alloc: Global,
@@ -102,13 +91,37 @@ fn enclosed(
     requires within { IsWithin written.now piece }
     ensures { Gives (λ read. read ≡ One (text_element tag [] (content written.now piece) line)) result }
 {
-    let children = words(alloc, &written[piece.content_from..piece.content_to])?;
-    Ok(Meaning::One(Node::Element {
-        tag,
-        attrs: Attrs::new(alloc),
-        children,
-        line,
-    }))
+    let shown = &written[piece.content_from..piece.content_to];
+    let node = plain_element(alloc, tag, shown, line)?;
+    Ok(Meaning::One(node))
+}
+
+/// The reference that a piece is, as it is written.
+fn referred(
+    alloc: Global,
+    suffix: Suffix,
+    written: &str,
+    piece: Piece,
+    line: usize,
+) -> Result<Meaning, InlineFault>
+    requires ascii { IsAscii written.now }
+    requires within { IsWithin written.now piece }
+    ensures { Gives (λ read. read ≡ One (reference_node suffix (source written.now piece) (content written.now piece) line)) result }
+{
+    let source = &written[piece.from..piece.to];
+    let shown = &written[piece.content_from..piece.content_to];
+    let node = reference(alloc, suffix, source, shown, line)?;
+    Ok(Meaning::One(node))
+}
+
+/// The URI that a piece is, as it is written.
+fn uri(alloc: Global, written: &str, piece: Piece, line: usize) -> Result<Meaning, InlineFault>
+    requires ascii { IsAscii written.now }
+    requires within { IsWithin written.now piece }
+    ensures { Gives (λ read. read ≡ One (uri_node (source written.now piece) line)) result }
+{
+    let node = uri_reference(alloc, &written[piece.from..piece.to], line)?;
+    Ok(Meaning::One(node))
 }
 
 /// What a piece of a text means; `written` is the text, too, if that is ASCII without a backslash.
@@ -148,6 +161,8 @@ fn bare_meaning(
         Kind::Marked(Markup::Strong, _) => enclosed(alloc, Tag::Strong, written, piece, line),
         Kind::Marked(Markup::Emphasis, _) => enclosed(alloc, Tag::Emphasis, written, piece, line),
         Kind::Marked(Markup::Literal, _) => enclosed(alloc, Tag::Literal, written, piece, line),
+        Kind::Reference(suffix) => referred(alloc, suffix, written, piece, line),
+        Kind::Uri => uri(alloc, written, piece, line),
         _ => reading(alloc, text, line, piece),
     }
 }

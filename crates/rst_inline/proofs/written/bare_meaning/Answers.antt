@@ -7,8 +7,8 @@ use Rattle.rst_pieces.specs.declared.piece.Markup.TheVariants as markups
 use Rattle.rst_inline.specs.declared.reading.Meaning.TheVariants.{One}
 use Rattle.rst_inline.specs.Faults.{Gives}
 use Rattle.rst_inline.specs.Parts.{source, content, IsBare}
-use Rattle.rst_inline.specs.Elements.{text_element}
-use Rattle.rst_inline.proofs.WrittenLemmas.{reading-plain, reading-strong, reading-emphasis, reading-literal}
+use Rattle.rst_inline.specs.Elements.{text_element, reference_node, uri_node}
+use Rattle.rst_inline.proofs.WrittenLemmas.{reading-plain, reading-strong, reading-emphasis, reading-literal, reading-reference, reading-uri}
 use Rattle.rst_inline.proofs.written.bare_meaning.Goals as goal
 
 pub returns-in-Plain : goal.returns-in-Plain
@@ -40,3 +40,16 @@ returns-in-Marked-Literal-default c =
     let is = ap (λ (w : Text). One (text_element Literal [] (content w c.args.piece) c.args.line)) c.requires.same
     ∙ reading-literal c.args.text.now c.args.line c.args.piece c.in-Marked-Literal-default.field-1 kind in
     subst (λ m. Gives (λ read. read ≡ m) c.enclosed-in-Marked-Literal-default.result) is c.enclosed-in-Marked-Literal-default.ensures
+
+pub returns-in-Reference : goal.returns-in-Reference
+returns-in-Reference c =
+    let suffix = c.in-Reference.suffix in
+    let is = ap (λ (w : Text). One (reference_node suffix (source w c.args.piece) (content w c.args.piece) c.args.line)) c.requires.same
+    ∙ reading-reference c.args.text.now c.args.line c.args.piece suffix c.in-Reference.is in
+    subst (λ m. Gives (λ read. read ≡ m) c.referred.result) is c.referred.ensures
+
+pub returns-in-Uri : goal.returns-in-Uri
+returns-in-Uri c =
+    let is = ap (λ (w : Text). One (uri_node (source w c.args.piece) c.args.line)) c.requires.same
+    ∙ reading-uri c.args.text.now c.args.line c.args.piece c.in-Uri.is in
+    subst (λ m. Gives (λ read. read ≡ m) c.uri.result) is c.uri.ensures
