@@ -1,5 +1,5 @@
 -- What the calls of a reader or a writer that keeps whether it failed do. No rule of markup: they bring the bytes in and out.
-use Rattle.std.specs.Prelude.{◌≡◌, ℕ, ◌<◌, ◌≤◌, Bool, true, false, List, length, take, Option, None, Some}
+use Rattle.std.specs.Prelude.{◌≡◌, ◌⊎◌, ℕ, ◌<◌, ◌≤◌, Bool, true, false, List, length, take, Option, None, Some}
 use Rattle.std.specs.Io.KnownBytes.{Keeps, Appends, Consumes, IsAtEnd}
 use Rattle.rst_text.specs.declared.counted.Counted.{Counted}
 
@@ -48,3 +48,8 @@ Reads reader (Some n) buf = (n ≤ length buf) × HandsOut reader (take n buf) �
 abbrev pub Writes : Stream → Option ℕ → List ℕ → Type 0
 Writes writer None bytes = Untouched writer × (writer.failed ≡ true)
 Writes writer (Some n) bytes = (n ≤ length bytes) × (0 < length bytes → 0 < n) × Gains writer (take n bytes) × (writer.failed ≡ writer.had_failed)
+
+-- A write is told as the one call answered it: as failed where the call failed, or took 0 of some bytes; else with its number.
+abbrev pub WriteIsToldBy : (Option ℕ → Type 0) → Option ℕ → List ℕ → Type 0
+WriteIsToldBy Answers None bytes = Answers None ⊎ (Answers (Some 0) × (0 < length bytes))
+WriteIsToldBy Answers (Some n) bytes = Answers (Some n)

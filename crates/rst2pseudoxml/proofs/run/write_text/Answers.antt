@@ -5,4 +5,4 @@ use Rattle.rst2pseudoxml.proofs.run.write_text.Goals as goal
 pub loop-done-preserved : goal.loop-done-preserved
 loop-done-preserved g c =
     let sliced = slice_from c.loop-done.done c.args.text.now in
-    (omega (arith, c.in-Some.ensures.0), Appends-more _ _ _ _ _ _ c.loop-done.invariant.1 (rw sliced at c.in-Some.ensures.2), c.in-Some.ensures.3 ∙ c.loop-done.invariant.2)
+    (omega (arith, c.in-Some.ensures.bytes.0), Appends-more _ _ _ _ _ _ c.loop-done.invariant.1 (rw sliced at c.in-Some.ensures.bytes.2), c.in-Some.ensures.bytes.3 ∙ c.loop-done.invariant.2)

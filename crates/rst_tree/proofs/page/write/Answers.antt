@@ -4,7 +4,7 @@ use Rattle.rst_tree.proofs.page.write.Goals as goal
 
 pub loop-done-preserved : goal.loop-done-preserved
 loop-done-preserved g c =
-    let e = c.in-Some.ensures in
+    let e = c.in-Some.ensures.bytes in
     let s = slice_from c.loop-done.done c.args.bytes.now in
     record {
       within = let h = ap length s in omega (arith, e.0, length-drop c.loop-done.done c.args.bytes.now);
