@@ -2,7 +2,7 @@
 use Rattle.std.specs.Prelude.{ℕ, ◌+◌, min, Bool, true, List, [], ◌∷◌, drop, take, if◌then◌else◌, Option, None, Some, option_map, unwrap_or}
 use Rattle.std.specs.Option.{option_and_then}
 use Rattle.rst_text.specs.Block.{Block}
-use Rattle.rst_text.specs.Extent.{extent, least_indent, or_zero}
+use Rattle.rst_text.specs.Extent.{extent, least_indent}
 use Rattle.rst_marks.specs.Front.{begins_with}
 use Rattle.rst_marks.specs.ExplicitMarks.{label_of, target_of, substitution_of, directive_of}
 use Rattle.rst_marks.specs.declared.explicit_marks.SubstitutionMark.{SubstitutionMark}
@@ -51,7 +51,7 @@ explicit_form t = first_form (explicit_rows t) (Comment (comment_cause t))
 
 -- the least indentation of the indented block at the front of lines, 0 where there is none
 abbrev pub least_of : Block → ℕ
-least_of ls = or_zero (least_indent None (take (extent 1 ls) ls))
+least_of ls = least_indent (take (extent 1 ls) ls)
 
 -- The block of markup whose first line, at place i, X begins with: what stands behind its mark, and the indented block
 -- below. Where nothing stands behind the mark, it is that block alone, from its first line that isn't blank on.

@@ -11,21 +11,21 @@ use Rattle.rst_tables.specs.Cells.{characters, cut_places}
 use Rattle.rst_tables.specs.declared.places.Place.{Place}
 use Rattle.rst_tables.specs.declared.places.Place.TheVariants.{Character, Second}
 use Rattle.rst_text.specs.Block.{Line, Block, indentation, is_blank}
-use Rattle.rst_text.specs.Extent.{least_indent, lower}
+use Rattle.rst_text.proofs.Least.{least_from, lower}
 use Rattle.rst_text.specs.Lines.{is_line_end, is_line_text, are_lines}
 use Rattle.rst_text.proofs.LineTexts.{unended-take, unended-drop}
 
-pub least_indent-blank : (m : Option ℕ) (l : Line) (ls : Block) → is_blank l.text ≡ true → least_indent m (l ∷ ls) ≡ least_indent m ls
-unfolding least_indent
-least_indent-blank m l ls e = rw e refl
+pub least_from-blank : (m : Option ℕ) (l : Line) (ls : Block) → is_blank l.text ≡ true → least_from m (l ∷ ls) ≡ least_from m ls
+unfolding least_from
+least_from-blank m l ls e = rw e refl
 
-pub least_indent-dark : (m : Option ℕ) (l : Line) (ls : Block) → is_blank l.text ≡ false → least_indent m (l ∷ ls) ≡ least_indent (Some (lower m (indentation l.text))) ls
-unfolding least_indent
-least_indent-dark m l ls e = rw e refl
+pub least_from-dark : (m : Option ℕ) (l : Line) (ls : Block) → is_blank l.text ≡ false → least_from m (l ∷ ls) ≡ least_from (Some (lower m (indentation l.text))) ls
+unfolding least_from
+least_from-dark m l ls e = rw e refl
 
-pub least_indent-none : (m : Option ℕ) → least_indent m [] ≡ m
-unfolding least_indent
-least_indent-none m = refl
+pub least_from-none : (m : Option ℕ) → least_from m [] ≡ m
+unfolding least_from
+least_from-none m = refl
 
 -- a white character at the end is dropped, and nothing is behind another one
 dropped-white : (xs : List ℕ) (c : ℕ) → is_whitespace c ≡ true → drop_trailing_whitespace (xs ++ c ∷ []) ≡ drop_trailing_whitespace xs

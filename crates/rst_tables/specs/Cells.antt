@@ -2,7 +2,7 @@
 use Rattle.std.specs.Prelude.{ℕ, ◌-◌, List, [], ◌∷◌, take, drop, map, Option, Some, None}
 use Rattle.std.specs.Str.{drop_trailing_whitespace}
 use Rattle.rst_text.specs.Block.{Line, Block, shorten}
-use Rattle.rst_text.specs.Extent.{least_indent, or_zero}
+use Rattle.rst_text.specs.Extent.{least_indent}
 use Rattle.rst_tables.specs.Places.{Row, Grid}
 use Rattle.rst_tables.specs.declared.places.Place.{Place}
 use Rattle.rst_tables.specs.declared.places.Place.TheVariants.{Character, Second}
@@ -24,7 +24,7 @@ cell_line left right row = record { number = row.number; text = drop_trailing_wh
 
 -- lines without the least indentation of those that aren't blank
 abbrev pub unindented : Block → Block
-unindented B = map (shorten (or_zero (least_indent None B))) B
+unindented B = map (shorten (least_indent B)) B
 
 -- the lines of a cell, without the least indentation of those that aren't blank
 abbrev pub cell_block : ℕ → Option ℕ → Grid → Block

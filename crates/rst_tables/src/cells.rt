@@ -1,8 +1,8 @@
 //! The lines of a cell.
-ghost use Rattle.std.specs.Prelude.{◌≡◌, drop, true, None, IfOk, IsTrue, map};
+ghost use Rattle.std.specs.Prelude.{◌≡◌, drop, true, min, unwrap_or, IfOk, IsTrue, map};
 ghost use Rattle.std.specs.Str.{all_scalars, drop_trailing_whitespace};
 ghost use Rattle.rst_text.specs.Block as spec;
-ghost use Rattle.rst_text.specs.Extent.{least_indent, lower, or_zero};
+ghost use Rattle.rst_text.specs.Extent.{least_indent};
 ghost use Rattle.rst_text.specs.Lines.{is_line_text};
 ghost use Rattle.rst_text.specs.Text.{chars_of};
 ghost use Rattle.rst_tables.specs.Cells.{characters, cut_places, cell_line, cell_block};
@@ -112,7 +112,7 @@ fn indentation(text: &[char]) -> usize
 
 /// The lesser of two indentations, if there is one already.
 fn lower(least: Option<usize>, n: usize) -> usize
-    ensures { result ≡ lower least n }
+    ensures { result ≡ min (unwrap_or least n) n }
 {
     match least {
         Some(m) => m.min(n),
@@ -122,7 +122,7 @@ fn lower(least: Option<usize>, n: usize) -> usize
 
 /// The least indentation of the lines that aren't blank, 0 if there is none.
 fn least_indent(lines: &[CutLine]) -> usize
-    ensures { result ≡ or_zero (least_indent None lines.now) }
+    ensures { result ≡ least_indent lines.now }
 {
     let mut least: Option<usize> = None;
     for line in lines {

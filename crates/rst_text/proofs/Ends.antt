@@ -1,11 +1,13 @@
 -- Where a run of lines ends, one line on.
 use Rattle.std.proofs.Common.{◌≡◌, ℕ, zero, suc, ◌+◌, ◌-◌, ◌<◌, ◌≤◌, List, [], ◌∷◌, length, take, drop, refl, sym, ◌∙◌, ap, arith, cond, Bool, true, false, leb, ltb, Option, Some, None}
+use Rattle.std.specs.Prelude.{unwrap_or}
 use Rattle.std.proofs.lemmas.Bool.{le-leb}
 use Rattle.std.proofs.lemmas.List.{drop_all, drop-drop}
 use Rattle.rst_text.specs.Block.{Line, Block, indentation, is_blank, front_text}
 use Rattle.std.proofs.Common.{inl, inr, length-drop}
 use Rattle.std.proofs.lemmas.Bool.{cases_lt}
-use Rattle.rst_text.specs.Extent.{extent, past_blank, least_indent, lower, or_zero, extent_of}
+use Rattle.rst_text.specs.Extent.{extent, past_blank, least_indent, extent_of}
+use Rattle.rst_text.proofs.Least.{lower, least_from, least_from-all}
 use Rattle.rst_text.specs.Reach.{looked}
 use Rattle.rst_text.specs.declared.view.Extent.{Extent}
 
@@ -39,7 +41,7 @@ next_reached end i (suc n) = omega arith
 -- What has been found before line i, with what is left from there, is what there is from `from` on.
 pub record Finds (B : Block) (from least i end : ℕ) (lowest : Option ℕ) : Type 0 where
   pub place : reached end i (extent least (drop i B)) ≡ from + extent least (drop from B)
-  pub least_is : least_indent lowest (take (extent least (drop i B)) (drop i B)) ≡ least_indent None (take (extent least (drop from B)) (drop from B))
+  pub least_is : least_from lowest (take (extent least (drop i B)) (drop i B)) ≡ least_from None (take (extent least (drop from B)) (drop from B))
   pub looks : (i - from) + looked least (drop i B) ≡ looked least (drop from B)
   pub in_order : end ≤ i
   pub blank : end < i → is_blank (front_text (drop end B)) ≡ true
@@ -57,10 +59,10 @@ Finds-start B from least = record {
     start zero = omega arith
     start (suc n) = refl
 
-blank_lowest : (m : Option ℕ) (n : ℕ) (l : Line) (ls : Block) → is_blank l.text ≡ true → least_indent m (take (past_blank n) (l ∷ ls)) ≡ least_indent m (take n ls)
-unfolding least_indent
+blank_lowest : (m : Option ℕ) (n : ℕ) (l : Line) (ls : Block) → is_blank l.text ≡ true → least_from m (take (past_blank n) (l ∷ ls)) ≡ least_from m (take n ls)
+unfolding least_from
 blank_lowest m zero l ls e = refl
-blank_lowest m (suc n) l ls e = ap (λ b. least_indent (cond b m (Some (lower m (indentation l.text)))) (take (suc n) ls)) e
+blank_lowest m (suc n) l ls e = ap (λ b. least_from (cond b m (Some (lower m (indentation l.text)))) (take (suc n) ls)) e
 
 pub extent_blank : (least : ℕ) (l : Line) (ls : Block) → is_blank l.text ≡ true → extent least (l ∷ ls) ≡ past_blank (extent least ls)
 unfolding extent
@@ -86,9 +88,9 @@ pub looked_over : (least : ℕ) (l : Line) (ls : Block) → is_blank l.text ≡ 
 unfolding looked
 looked_over least l ls e k = rw (e, k) refl
 
-more_lowest : (m : Option ℕ) (n : ℕ) (l : Line) (ls : Block) → is_blank l.text ≡ false → least_indent m (take (suc n) (l ∷ ls)) ≡ least_indent (Some (lower m (indentation l.text))) (take n ls)
-unfolding least_indent
-more_lowest m n l ls e = ap (λ b. least_indent (cond b m (Some (lower m (indentation l.text)))) (take n ls)) e
+more_lowest : (m : Option ℕ) (n : ℕ) (l : Line) (ls : Block) → is_blank l.text ≡ false → least_from m (take (suc n) (l ∷ ls)) ≡ least_from (Some (lower m (indentation l.text))) (take n ls)
+unfolding least_from
+more_lowest m n l ls e = ap (λ b. least_from (cond b m (Some (lower m (indentation l.text)))) (take n ls)) e
 
 blank_at : (end i : ℕ) (B : Block) → end ≤ i → (end < i → is_blank (front_text (drop end B)) ≡ true) → is_blank (front_text (drop i B)) ≡ true → is_blank (front_text (drop end B)) ≡ true
 blank_at end i B h before here = elim (cases_lt end i) [
@@ -111,7 +113,7 @@ Finds-blank B from least i end lowest f after there none =
         let seen : looked least (drop i B) ≡ suc (looked least ls) = ap (looked least) same ∙ looked_blank least l ls b in
         record {
           place = rw rest (sym (past_reached end i (extent least ls)) ∙ sym (ap (reached end i) size) ∙ f.place);
-          least_is = rw rest (sym (blank_lowest lowest (extent least ls) l ls b) ∙ sym (ap (least_indent lowest) (rw (size, same) refl)) ∙ f.least_is);
+          least_is = rw rest (sym (blank_lowest lowest (extent least ls) l ls b) ∙ sym (ap (least_from lowest) (rw (size, same) refl)) ∙ f.least_is);
           looks = rw rest (omega (arith, f.looks));
           in_order = omega (arith, f.in_order);
           blank = λ h. blank_at end i B f.in_order f.blank (ap (λ (Y : Block). is_blank (front_text Y)) same ∙ b);
@@ -133,7 +135,7 @@ Finds-more B from least i end lowest f after there text deep =
         let seen : looked least (drop i B) ≡ suc (looked least ls) = ap (looked least) same ∙ looked_more least l ls b d in
         record {
           place = rw rest (sym (next_reached end i (extent least ls)) ∙ sym (ap (reached end i) size) ∙ f.place);
-          least_is = rw (rest, same) (sym (more_lowest lowest (extent least ls) l ls b) ∙ sym (ap (least_indent lowest) (rw (size, same) refl)) ∙ f.least_is);
+          least_is = rw (rest, same) (sym (more_lowest lowest (extent least ls) l ls b) ∙ sym (ap (least_from lowest) (rw (size, same) refl)) ∙ f.least_is);
           looks = rw rest (omega (arith, f.looks));
           in_order = omega arith;
           blank = λ h. absurd (omega arith);
@@ -142,10 +144,10 @@ Finds-more B from least i end lowest f after there text deep =
 -- What has been found, once nothing more belongs to it.
 pub record Found (B : Block) (from least end : ℕ) (lowest : Option ℕ) : Type 0 where
   pub place : end ≡ from + extent least (drop from B)
-  pub least_is : lowest ≡ least_indent None (take (extent least (drop from B)) (drop from B))
+  pub least_is : lowest ≡ least_from None (take (extent least (drop from B)) (drop from B))
 
-least_none : (m : Option ℕ) (X : Block) (n : ℕ) → n ≡ 0 → least_indent m (take n X) ≡ m
-unfolding least_indent
+least_none : (m : Option ℕ) (X : Block) (n : ℕ) → n ≡ 0 → least_from m (take n X) ≡ m
+unfolding least_from
 least_none m X n e = rw e refl
 
 finished : (B : Block) (from least i end : ℕ) (lowest : Option ℕ) → Finds B from least i end lowest → extent least (drop i B) ≡ 0 → Found B from least end lowest
@@ -180,12 +182,12 @@ same_extent : (a b m n : ℕ) (x y : Bool) → a ≡ b → m ≡ n → x ≡ y
     → let e : Extent = record { end = a; indent = m; blank_finish = x } in let f : Extent = record { end = b; indent = n; blank_finish = y } in e ≡ f
 same_extent a b m n x y p q r = cc
 
-pub extent_is : (B : Block) (from least end : ℕ) (lowest : Option ℕ) (n : ℕ) (finish : Bool) → Found B from least end lowest → n ≡ or_zero lowest
+pub extent_is : (B : Block) (from least end : ℕ) (lowest : Option ℕ) (n : ℕ) (finish : Bool) → Found B from least end lowest → n ≡ unwrap_or lowest 0
     → finish ≡ is_blank (front_text (drop end B)) → let e : Extent = record { end = end; indent = n; blank_finish = finish } in e ≡ extent_of from least (drop from B)
 extent_is B from least end lowest n finish f q s =
-    same_extent end (from + extent least (drop from B)) n (or_zero (least_indent None (take (extent least (drop from B)) (drop from B)))) finish
+    same_extent end (from + extent least (drop from B)) n (least_indent (take (extent least (drop from B)) (drop from B))) finish
     (is_blank (front_text (drop (extent least (drop from B)) (drop from B))))
-    f.place (q ∙ ap or_zero f.least_is)
+    f.place (q ∙ ap (λ o. unwrap_or o 0) f.least_is ∙ least_from-all (take (extent least (drop from B)) (drop from B)))
     (s ∙ ap (λ k. is_blank (front_text (drop k B))) f.place ∙ ap (λ (Y : Block). is_blank (front_text Y)) (sym (drop-drop (extent least (drop from B)) from B)))
 
 -- whether what follows is blank: at a line that ends it, and at the end of the block

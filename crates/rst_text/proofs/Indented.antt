@@ -1,5 +1,6 @@
 -- Lines that are indented enough for two cuts.
 use Rattle.std.proofs.Common.{◌≡◌, ⊎_elim, ℕ, zero, suc, ◌+◌, ◌-◌, ◌<◌, ◌≤◌, ◌==◌, Bool, true, false, cond, ◌&&◌, ◌||◌, List, [], ◌∷◌, length, take, drop, map, refl, sym, ap, ◌∙◌, arith, leb}
+use Rattle.std.specs.Prelude.{unwrap_or}
 use Rattle.std.specs.Char.{is_whitespace}
 use Rattle.std.proofs.Common.{eqb, add-one, min, Some, None}
 use Rattle.std.proofs.Math.Dec.{eqb-suc-zero}
@@ -8,7 +9,8 @@ use Rattle.std.proofs.lemmas.List.{drop-drop}
 use Rattle.rst_text.specs.Block.{Block, is_blank, indentation, shorten, shorten_all, cut}
 use Rattle.rst_text.specs.Lines.{is_line_text, are_lines, ends_white}
 use Rattle.rst_text.specs.MayCut.{is_indented}
-use Rattle.rst_text.specs.Extent.{extent, extent_of, least_indent, or_zero}
+use Rattle.rst_text.specs.Extent.{extent, extent_of, least_indent}
+use Rattle.rst_text.proofs.Least.{least_from, least_from-all}
 use Rattle.rst_text.proofs.TextLemmas.{and_true}
 use Rattle.rst_text.proofs.LineTexts.{is_line_text-parts, are_lines-drop, are_lines-take}
 use Rattle.rst_text.proofs.CutLaws.{drop-cut, take-cut, take_of, shorten_all-same}
@@ -131,29 +133,32 @@ some_behind_spaces cs text some = by (drop (indentation cs) cs) refl
 -- ---- the least indentation
 
 -- no line is indented less than it, and it is no more than what was there before
-least-from : (m : ℕ) (X : Block) → (r : ℕ) × (least_indent (Some m) X ≡ Some r) × (r ≤ m) × (is_indented r X ≡ true)
-unfolding least_indent
+least-from : (m : ℕ) (X : Block) → (r : ℕ) × (least_from (Some m) X ≡ Some r) × (r ≤ m) × (is_indented r X ≡ true)
+unfolding least_from
 least-from m [] = (m, refl, omega arith, refl)
 least-from m (l ∷ ls) = by (is_blank l.text) refl (least-from m ls) (least-from (min m (indentation l.text)) ls)
   where
     by : (b : Bool) → is_blank l.text ≡ b
-        → ((r : ℕ) × (least_indent (Some m) ls ≡ Some r) × (r ≤ m) × (is_indented r ls ≡ true))
-        → ((r : ℕ) × (least_indent (Some (min m (indentation l.text))) ls ≡ Some r) × (r ≤ min m (indentation l.text)) × (is_indented r ls ≡ true))
-        → (r : ℕ) × (least_indent (cond b (Some m) (Some (min m (indentation l.text)))) ls ≡ Some r) × (r ≤ m) × (is_indented r (l ∷ ls) ≡ true)
+        → ((r : ℕ) × (least_from (Some m) ls ≡ Some r) × (r ≤ m) × (is_indented r ls ≡ true))
+        → ((r : ℕ) × (least_from (Some (min m (indentation l.text))) ls ≡ Some r) × (r ≤ min m (indentation l.text)) × (is_indented r ls ≡ true))
+        → (r : ℕ) × (least_from (cond b (Some m) (Some (min m (indentation l.text)))) ls ≡ Some r) × (r ≤ m) × (is_indented r (l ∷ ls) ≡ true)
     by true e f g = (f.0, f.1, f.2, rw (e, f.3) refl)
     by false e f g = (g.0, g.1, omega (arith, g.2), rw (e, le-leb g.0 (indentation l.text) (omega (arith, g.2)), g.3) refl)
 
--- Each line is blank or indented by the least indentation.
-pub is_indented-least : (X : Block) → is_indented (or_zero (least_indent None X)) X ≡ true
-unfolding least_indent
-is_indented-least [] = refl
-is_indented-least (l ∷ ls) = by (is_blank l.text) refl (is_indented-least ls) (least-from (indentation l.text) ls)
+least-none : (X : Block) → is_indented (unwrap_or (least_from None X) 0) X ≡ true
+unfolding least_from
+least-none [] = refl
+least-none (l ∷ ls) = by (is_blank l.text) refl (least-none ls) (least-from (indentation l.text) ls)
   where
-    by : (b : Bool) → is_blank l.text ≡ b → is_indented (or_zero (least_indent None ls)) ls ≡ true
-        → ((r : ℕ) × (least_indent (Some (indentation l.text)) ls ≡ Some r) × (r ≤ indentation l.text) × (is_indented r ls ≡ true))
-        → is_indented (or_zero (least_indent (cond b None (Some (indentation l.text))) ls)) (l ∷ ls) ≡ true
+    by : (b : Bool) → is_blank l.text ≡ b → is_indented (unwrap_or (least_from None ls) 0) ls ≡ true
+        → ((r : ℕ) × (least_from (Some (indentation l.text)) ls ≡ Some r) × (r ≤ indentation l.text) × (is_indented r ls ≡ true))
+        → is_indented (unwrap_or (least_from (cond b None (Some (indentation l.text))) ls) 0) (l ∷ ls) ≡ true
     by true e f g = rw (e, f) refl
-    by false e f g = ap (λ o. is_indented (or_zero o) (l ∷ ls)) g.1 ∙ rw (e, le-leb g.0 (indentation l.text) g.2, g.3) refl
+    by false e f g = ap (λ o. is_indented (unwrap_or o 0) (l ∷ ls)) g.1 ∙ rw (e, le-leb g.0 (indentation l.text) g.2, g.3) refl
+
+-- Each line is blank or indented by the least indentation.
+pub is_indented-least : (X : Block) → is_indented (least_indent X) X ≡ true
+is_indented-least X = ap (λ n. is_indented n X) (sym (least_from-all X)) ∙ least-none X
 
 -- the lines of an extent, for a cut by its least indentation
 pub is_indented-extent : (from least : ℕ) (X : Block) → is_indented (extent_of from least X).indent (take (extent least X) X) ≡ true

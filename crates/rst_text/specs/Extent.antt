@@ -1,6 +1,7 @@
 -- Runs of lines that are blank or indented (Markup Specification, 'Indentation').
-use Rattle.std.specs.Prelude.{ℕ, zero, suc, ◌+◌, min, [], ◌∷◌, take, drop, nat_le, if◌then◌else◌, Option, Some, None, unwrap_or}
-use Rattle.rst_text.specs.Block.{Block, indentation, is_blank, front_text}
+use Rattle.std.specs.Prelude.{ℕ, zero, suc, ◌+◌, not, min, List, [], ◌∷◌, take, drop, map, filter, nat_le, if◌then◌else◌, unwrap_or}
+use Rattle.std.specs.List.{reduce}
+use Rattle.rst_text.specs.Block.{Line, Block, indentation, is_blank, front_text}
 use Rattle.rst_text.specs.declared.view.Extent.{Extent}
 
 -- one line more, unless nothing but blank lines is there
@@ -16,29 +17,19 @@ extent least (l ∷ ls) =
     else if nat_le least (indentation l.text) then suc (extent least ls)
     else 0
 
--- the lesser of two indentations, or the second where there is no first
-abbrev pub lower : Option ℕ → ℕ → ℕ
-lower None n = n
-lower (Some m) n = min m n
+-- the indentations of the lines that aren't blank
+abbrev pub indentations : Block → List ℕ
+indentations ls = map (λ (l : Line). indentation l.text) (filter (λ (l : Line). not (is_blank l.text)) ls)
 
--- the least indentation of the lines that aren't blank, and of `m`
-unfoldable pub least_indent : Option ℕ → Block → Option ℕ
-least_indent m [] = m
-least_indent m (l ∷ ls) = least_indent (if is_blank l.text then m else Some (lower m (indentation l.text))) ls
-
--- the indentation, or 0 where there is none
-abbrev pub or_zero : Option ℕ → ℕ
-or_zero m = unwrap_or m 0
-
--- the indentation that lines need at least: the given one, or one space
-abbrev pub at_least : Option ℕ → ℕ
-at_least least = unwrap_or least 1
+-- the least indentation of the lines that aren't blank, 0 where there is none
+unfoldable pub least_indent : Block → ℕ
+least_indent ls = unwrap_or (reduce min (indentations ls)) 0
 
 -- The extent at the front of a block, which is what follows place `from` of another: the place after the last line
 -- that isn't blank, the least indentation, and whether a blank line or the end of the block comes next.
 abbrev pub extent_of : ℕ → ℕ → Block → Extent
 extent_of from least X = record {
   end = from + extent least X;
-  indent = or_zero (least_indent None (take (extent least X) X));
+  indent = least_indent (take (extent least X) X);
   blank_finish = is_blank (front_text (drop (extent least X) X));
 }

@@ -1,7 +1,6 @@
 //! A part of a text's lines, cut on the left.
-ghost use Rattle.std.specs.Prelude.{◌≡◌, ◌+◌, ◌-◌, ◌^◌, ◌<◌, ◌≤◌, length, drop, take, ◌==◌, if◌then◌else◌, encode_utf8_all, IsTrue};
+ghost use Rattle.std.specs.Prelude.{◌≡◌, ◌+◌, ◌-◌, ◌^◌, ◌<◌, ◌≤◌, length, drop, take, ◌==◌, if◌then◌else◌, encode_utf8_all, IsTrue, min, unwrap_or};
 ghost use Rattle.std.specs.Str.{chars};
-ghost use Rattle.rst_text.specs.Extent as extents;
 ghost use Rattle.rst_text.specs.Lines.{are_lines};
 ghost use Rattle.rst_text.specs.MayCut.{may_cut_at, is_indented, are_texts};
 
@@ -67,7 +66,7 @@ pub struct Extent {
 
 /// The lesser of two indentations, if there is one already.
 fn lower(least: Option<usize>, n: usize) -> usize
-    ensures { result ≡ extents.lower least n }
+    ensures { result ≡ min (unwrap_or least n) n }
 {
     match least {
         Some(m) => m.min(n),
@@ -78,7 +77,7 @@ fn lower(least: Option<usize>, n: usize) -> usize
 impl<'a> View<'a> {
     ghost use Rattle.rst_text.specs.Block.{cut, front_text, first_number};
     ghost use Rattle.rst_text.specs.Shown.{block_of, source_of, IsPortion, portion_block};
-    ghost use Rattle.rst_text.specs.Extent.{at_least, extent_of};
+    ghost use Rattle.rst_text.specs.Extent.{extent_of};
     ghost use Rattle.rst_text.specs.Reach.{looked};
 
     /// All the lines, without a cut.
@@ -201,8 +200,8 @@ impl<'a> View<'a> {
     pub fn block_end(&self, from: usize, least: Option<usize>, looks: &mut Looks) -> Extent
         requires inside { from ≤ length (block_of self.now) }
         requires few { looks.old < 2 ^ 121 }
-        ensures extent { result ≡ extent_of from (at_least least) (drop from (block_of self.now)) }
-        ensures looks { looks.new ≡ looks.old + looked (at_least least) (drop from (block_of self.now)) }
+        ensures extent { result ≡ extent_of from (unwrap_or least 1) (drop from (block_of self.now)) }
+        ensures looks { looks.new ≡ looks.old + looked (unwrap_or least 1) (drop from (block_of self.now)) }
     {
         let enough = least.unwrap_or(1);
         let mut end = from;
