@@ -2,8 +2,9 @@
 use Rattle.std.proofs.Common.{◌≡◌, ℕ, suc, ◌+◌, ◌<◌, Bool, true, false, if◌then◌else◌, List, [], ◌∷◌, ◌++◌, take, drop, Option, Some, None, option_map, refl, sym, ap, ◌∙◌, inl, inr, arith}
 use Rattle.rst_text.specs.Block.{is_blank}
 use Rattle.rst_text.specs.Characters.{is_white}
-use Rattle.rst_text.specs.Lines.{onto_first}
-use Rattle.rst_text.specs.Names.{begins_word, words_of, skip_while, id_of}
+use Rattle.std.specs.List.{onto_first}
+use Rattle.rst_text.specs.Names.{words_of, skip_while, id_of}
+use Rattle.rst_text.proofs.Parts.{begins_part, skip-next, skip-stop, parts-separated, parts-more, parts-new}
 use Rattle.rst_text.proofs.PlacesLemmas.{cases_bool}
 use Rattle.rst_directives.specs.Characters.{Text}
 use Rattle.rst_directives.specs.Value.{word_len, all_ids, some_ids}
@@ -22,13 +23,13 @@ abbrev pub IsTrimmed : Text → Type 0
 IsTrimmed t = is_trimmed t ≡ true
 
 skip-white : (c : ℕ) (cs : Text) → is_white c ≡ true → skip_while is_white (c ∷ cs) ≡ skip_while is_white cs
-skip-white c cs h = rw h refl
+skip-white c cs h = skip-next is_white c cs h
 
 skip-dark : (c : ℕ) (cs : Text) → is_white c ≡ false → skip_while is_white (c ∷ cs) ≡ c ∷ cs
-skip-dark c cs h = rw h refl
+skip-dark c cs h = skip-stop is_white c cs h
 
 words-white : (c : ℕ) (cs : Text) → is_white c ≡ true → words_of (c ∷ cs) ≡ words_of cs
-words-white c cs h = rw h refl
+words-white c cs h = parts-separated is_white c cs h
 
 trimmed-dark : (c : ℕ) (cs : Text) → is_white c ≡ false → is_trimmed (c ∷ cs) ≡ true
 trimmed-dark c cs h = rw h refl
@@ -49,6 +50,10 @@ words-skip (c ∷ cs) = elim (cases_bool (is_white c)) [
 
 -- ---- the first word
 
+-- the text begins with a character that isn't white
+abbrev begins_word : Text → Bool
+begins_word t = begins_part is_white t
+
 abbrev FirstWord : Text → Type 0
 FirstWord t = words_of t ≡ take (word_len t) t ∷ words_of (drop (word_len t) t)
 
@@ -66,10 +71,10 @@ word_len-none (c ∷ cs) h = elim (cases_bool (is_white c)) [
     begins c cs w = rw w refl
 
 words-more : (c : ℕ) (cs : Text) → is_white c ≡ false → begins_word cs ≡ true → words_of (c ∷ cs) ≡ onto_first c (words_of cs)
-words-more c cs h b = rw (h, b) refl
+words-more c cs h b = parts-more is_white c cs h b
 
 words-new : (c : ℕ) (cs : Text) → is_white c ≡ false → begins_word cs ≡ false → words_of (c ∷ cs) ≡ (c ∷ []) ∷ words_of cs
-words-new c cs h b = rw (h, b) refl
+words-new c cs h b = parts-new is_white c cs h b
 
 begins-dark : (c : ℕ) (cs : Text) → begins_word (c ∷ cs) ≡ true → is_white c ≡ false
 begins-dark c cs h = elim (cases_bool (is_white c)) [

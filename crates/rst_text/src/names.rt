@@ -1,5 +1,6 @@
 //! Names and ids of texts.
 ghost use Rattle.std.specs.Prelude.{◌≡◌, ℕ, string_bytes, encode_utf8_all, IfOk, map};
+ghost use Rattle.std.specs.Char.{is_ascii, is_ascii_lowercase};
 ghost use Rattle.std.specs.Str.{chars};
 ghost use Rattle.rst_text.specs.Faults.{Gives};
 ghost use Rattle.rst_text.specs.Names as spec;
@@ -104,16 +105,15 @@ fn spaced<C: Case>(alloc: Global, text: &str) -> Result<String, AllocError>
     Ok(out)
 }
 
-#[tactic(auto, unfolding(crate::specs::Names::is_ascii))]
 fn is_ascii(c: char) -> bool
-    ensures { result ≡ spec.is_ascii c }
+    ensures { result ≡ is_ascii c }
 {
     c.is_ascii()
 }
 
 /// Whether an id may begin with a character.
 fn is_id_letter(c: char) -> bool
-    ensures { result ≡ spec.is_id_letter c }
+    ensures { result ≡ is_ascii_lowercase c }
 {
     c.is_ascii_lowercase()
 }
