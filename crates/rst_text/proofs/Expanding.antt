@@ -1,10 +1,11 @@
 -- A line that is expanded a character at a time.
-use Rattle.std.proofs.Common.{◌≡◌, ℕ, zero, suc, ◌+◌, ◌-◌, ◌%◌, ◌==◌, nat_eq, Bool, true, false, cond, ◌&&◌, ◌||◌, List, [], ◌∷◌, ◌++◌, length, replicate, refl, sym, ap, ◌∙◌, subst, arith, append_assoc, append-nil}
+use Rattle.std.proofs.Common.{◌≡◌, ℕ, zero, suc, ◌+◌, ◌-◌, ◌%◌, ◌<◌, ◌==◌, nat_eq, Bool, true, false, cond, ◌&&◌, ◌||◌, List, [], ◌∷◌, ◌++◌, length, replicate, refl, sym, ap, ◌∙◌, subst, arith, append_assoc, append-nil}
 use Rattle.std.specs.Str.{IsUtf8, chars}
 use Rattle.std.proofs.Math.Utf8.{scalar, scalars, encode, encodes}
 use Rattle.std.proofs.lemmas.Bool.{eqb-true}
 use Rattle.std.proofs.lemmas.Str.{chars_past_char, encodes-append, chars-encodes, scalars-chars, encode_ascii}
-use Rattle.rst_text.specs.Lines.{shown, expanded_from}
+use Rattle.rst_text.specs.Lines.{shown, expanded}
+use Rattle.rst_text.proofs.Tabs.{expanded_from, expanded_from-start}
 use Rattle.rst_text.proofs.TextLemmas.{not_true, and_true}
 use Rattle.rst_text.proofs.Scanning.{past_char}
 
@@ -80,8 +81,9 @@ scalars-expanded tab column (c ∷ cs) s =
 
 -- the line at the end
 pub Expands-end : (tab column : ℕ) (line rest text : List ℕ) → Expands tab column line rest (chars text) → length rest ≡ 0 → IsUtf8 text
-    → chars line ≡ expanded_from tab 0 (chars text)
+    → 0 < tab → chars line ≡ expanded tab (chars text)
 unfolding chars
-Expands-end tab column line [] text x none good =
+Expands-end tab column line [] text x none good wide =
     ap chars (sym (append-nil line) ∙ x.bytes) ∙ chars-encodes (expanded_from tab 0 (chars text)) (scalars-expanded tab 0 (chars text) (scalars-chars text good))
-Expands-end tab column line (b ∷ rest) text x none good = absurd (omega arith)
+    ∙ expanded_from-start tab (chars text) wide
+Expands-end tab column line (b ∷ rest) text x none good wide = absurd (omega arith)

@@ -1,12 +1,14 @@
 -- Texts that can stand in a line.
-use Rattle.std.proofs.Common.{◌≡◌, ℕ, zero, suc, ◌+◌, ◌-◌, ◌%◌, ◌==◌, Bool, true, false, cond, ◌&&◌, ◌||◌, List, [], ◌∷◌, ◌++◌, length, take, drop, map, replicate, refl, sym, ap, ◌∙◌, arith}
+use Rattle.std.proofs.Common.{◌≡◌, ℕ, zero, suc, ◌+◌, ◌-◌, ◌%◌, ◌<◌, ◌==◌, Bool, true, false, cond, ◌&&◌, ◌||◌, List, [], ◌∷◌, ◌++◌, length, take, drop, map, replicate, refl, sym, ap, ◌∙◌, arith}
 use Rattle.std.proofs.Math.Bool.{not}
 use Rattle.std.specs.Char.{is_whitespace}
 use Rattle.std.specs.List.{list_any}
 use Rattle.std.specs.Str.{drop_trailing_whitespace}
 use Rattle.std.proofs.lemmas.List.Folds.{list_any-append}
 use Rattle.rst_text.specs.Block.{Block, front_text, is_blank, cut, shorten, shorten_all}
-use Rattle.rst_text.specs.Lines.{is_line_end, pieces, begins_with, onto_first, shown, expanded_from, tidied, numbered_from, lines_of, ends_white, is_line_text, are_lines}
+use Rattle.std.specs.List.{onto_first}
+use Rattle.rst_text.proofs.Tabs.{expanded_from, expanded_from-start}
+use Rattle.rst_text.specs.Lines.{is_line_end, pieces, begins_with, shown, expanded, tidied, numbered_from, lines_of, ends_white, is_line_text, are_lines}
 use Rattle.std.proofs.lemmas.Bool.{eqb-true}
 use Rattle.rst_text.proofs.TextLemmas.{and_true, not_true}
 
@@ -166,15 +168,15 @@ AreUnended-pieces (c ∷ cs) = by (c == 13 && begins_with 10 cs) (is_line_end c)
     by false true e ps h = (refl, h)
     by false false e ps h = onto e ps h
 
-pub is_line_text-tidied : (tab : ℕ) (piece : List ℕ) → list_any is_line_end piece ≡ false → is_line_text (tidied tab piece) ≡ true
-is_line_text-tidied tab piece h = is_line_text-trimmed (expanded_from tab 0 piece) (unended-expanded tab 0 piece h)
+pub is_line_text-tidied : (tab : ℕ) (piece : List ℕ) → 0 < tab → list_any is_line_end piece ≡ false → is_line_text (tidied tab piece) ≡ true
+is_line_text-tidied tab piece wide h = is_line_text-trimmed (expanded tab piece) (ap (list_any is_line_end) (sym (expanded_from-start tab piece wide)) ∙ unended-expanded tab 0 piece h)
 
-are_lines-numbered : (tab n : ℕ) (ps : List (List ℕ)) → AreUnended ps → are_lines (numbered_from n (map (tidied tab) ps)) ≡ true
-are_lines-numbered tab n [] h = refl
-are_lines-numbered tab n (p ∷ ps) h = both (is_line_text (tidied tab p)) (are_lines (numbered_from (n + 1) (map (tidied tab) ps))) (is_line_text-tidied tab p h.0) (are_lines-numbered tab (n + 1) ps h.1)
+are_lines-numbered : (tab n : ℕ) (ps : List (List ℕ)) → 0 < tab → AreUnended ps → are_lines (numbered_from n (map (tidied tab) ps)) ≡ true
+are_lines-numbered tab n [] wide h = refl
+are_lines-numbered tab n (p ∷ ps) wide h = both (is_line_text (tidied tab p)) (are_lines (numbered_from (n + 1) (map (tidied tab) ps))) (is_line_text-tidied tab p wide h.0) (are_lines-numbered tab (n + 1) ps wide h.1)
 
-pub are_lines-lines_of : (tab : ℕ) (text : List ℕ) → are_lines (lines_of tab text) ≡ true
-are_lines-lines_of tab text = are_lines-numbered tab 1 (pieces text) (AreUnended-pieces text)
+pub are_lines-lines_of : (tab : ℕ) (text : List ℕ) → 0 < tab → are_lines (lines_of tab text) ≡ true
+are_lines-lines_of tab text wide = are_lines-numbered tab 1 (pieces text) wide (AreUnended-pieces text)
 
 -- each line of lines
 pub is_line_text-front : (i : ℕ) (B : Block) → are_lines B ≡ true → is_line_text (front_text (drop i B)) ≡ true

@@ -1,15 +1,17 @@
 -- Lemmas on lines.
-use Rattle.std.proofs.Common.{◌≡◌, ℕ, zero, suc, ◌+◌, ◌-◌, ◌%◌, ◌<◌, ◌≤◌, ◌==◌, nat_eq, nat_lt, Bool, true, false, cond, ◌&&◌, ◌||◌, List, [], ◌∷◌, ◌++◌, length, take, drop, map, replicate, refl, sym, ap, ◌∙◌, subst, arith, append_assoc, append-nil, mod-lt, Option, None, Some, MatchOption, Bor, unwrap_or, Result, Ok, Err, IfOk, String}
+use Rattle.std.proofs.Common.{◌≡◌, ℕ, zero, suc, ◌+◌, ◌-◌, ◌%◌, ◌<◌, ◌≤◌, ◌==◌, nat_eq, nat_lt, Bool, true, false, cond, ◌&&◌, ◌||◌, List, [], ◌∷◌, ◌++◌, length, take, drop, map, replicate, refl, sym, ap, ◌∙◌, subst, arith, append_assoc, append-nil, mod-lt, Option, option_map, None, Some, MatchOption, Bor, unwrap_or, Result, Ok, Err, IfOk, String}
 use Rattle.std.specs.Char.{is_whitespace}
 use Rattle.std.specs.Str.{IsUtf8, chars, NonePass, trim_end, drop_trailing_whitespace}
 use Rattle.std.specs.Str.Pattern.{FindsCharPrefix, StripsPrefix}
 use Rattle.std.proofs.Math.Utf8.{scalar, scalars, encode, encodes}
 use Rattle.std.proofs.lemmas.Bool.{eqb-true, lt-ltb, le-ltb}
 use Rattle.std.proofs.lemmas.Str.{chars_past_char, encodes-chars, chars-encodes, scalars-chars, length-le-encodes}
-use Rattle.rst_text.specs.Block.{Block, front_text, first_number}
+use Rattle.rst_text.specs.Block.{Line, Block, front_text, first_number}
 use Rattle.rst_text.specs.Text.{chars_of}
 use Rattle.rst_text.specs.Kept.{line_of}
-use Rattle.rst_text.specs.Lines.{first_longer, is_line_end, begins_with, onto_first, pieces, shown, expanded_from, tidied, numbered_from}
+use Rattle.rst_text.specs.Lines.{first_longer, is_line_end, begins_with, pieces, shown, expanded, tidied, numbered_from}
+use Rattle.std.specs.List.{find, onto_first}
+use Rattle.rst_text.proofs.Tabs.{expanded_from, expanded_from-start}
 use Rattle.rst_text.proofs.TextLemmas.{not_true, and_true}
 use Rattle.rst_text.proofs.Scanning.{Scans, chars-scanned, take-scanned, length-scanned}
 
@@ -198,13 +200,15 @@ pub chars-trim_end : (text trimmed : List ℕ) → IsUtf8 text → trimmed ≡ t
 unfolding trim_end
 chars-trim_end text trimmed good e = ap chars e ∙ chars-encodes (drop_trailing_whitespace (chars text)) (scalars-trimmed (chars text) (scalars-chars text good))
 
-tidied-trim_end : (tab : ℕ) (piece trimmed : List ℕ) → IsUtf8 piece → trimmed ≡ trim_end piece → 0 < tab → expanded_from tab 0 (chars trimmed) ≡ tidied tab (chars piece)
+tidied-trim_end : (tab : ℕ) (piece trimmed : List ℕ) → IsUtf8 piece → trimmed ≡ trim_end piece → 0 < tab → expanded tab (chars trimmed) ≡ tidied tab (chars piece)
 tidied-trim_end tab piece trimmed good e wide =
-    ap (expanded_from tab 0) (chars-trim_end piece trimmed good e)
+    ap (expanded tab) (chars-trim_end piece trimmed good e)
+    ∙ sym (expanded_from-start tab (drop_trailing_whitespace (chars piece)) wide)
     ∙ sym (trim-expanded tab 0 (chars piece) wide)
+    ∙ ap drop_trailing_whitespace (expanded_from-start tab (chars piece) wide)
 
 pub tidies : {A E : Type 0} (tab : ℕ) (piece trimmed : List ℕ) (r : Result (String A) E) → IsUtf8 piece → trimmed ≡ trim_end piece → 0 < tab
-    → IfOk r (λ line. chars_of line ≡ expanded_from tab 0 (chars trimmed)) → IfOk r (λ line. chars_of line ≡ tidied tab (chars piece))
+    → IfOk r (λ line. chars_of line ≡ expanded tab (chars trimmed)) → IfOk r (λ line. chars_of line ≡ tidied tab (chars piece))
 tidies tab piece trimmed (Ok line) good e wide h = h ∙ tidied-trim_end tab piece trimmed good e wide
 tidies tab piece trimmed (Err x) good e wide h = tt
 
@@ -227,13 +231,13 @@ all_read tab n so_far all (x ∷ rest) e none = absurd (omega arith)
 pub first_longer-here : (limit i n : ℕ) (B : Block) → i < length B → n ≡ length (front_text (drop i B)) → limit < n → first_longer limit (drop i B) ≡ Some (first_number (drop i B))
 first_longer-here limit i n [] within is over = absurd (omega arith)
 first_longer-here limit zero n (l ∷ ls) within is over =
-    let longer : nat_lt limit (length l.text) ≡ true = lt-ltb limit (length l.text) (omega (arith, is)) in ap (λ b. cond b (Some l.number) (first_longer limit ls)) longer
+    let longer : nat_lt limit (length l.text) ≡ true = lt-ltb limit (length l.text) (omega (arith, is)) in ap (λ b. option_map (λ (x : Line). x.number) (cond b (Some l) (find (λ (x : Line). nat_lt limit (length x.text)) ls))) longer
 first_longer-here limit (suc i) n (l ∷ ls) within is over = first_longer-here limit i n ls (omega arith) is over
 
 pub first_longer-next : (limit i n : ℕ) (B : Block) → i < length B → n ≡ length (front_text (drop i B)) → n ≤ limit → first_longer limit (drop i B) ≡ first_longer limit (drop (suc i) B)
 first_longer-next limit i n [] within is under = absurd (omega arith)
 first_longer-next limit zero n (l ∷ ls) within is under =
-    let short : nat_lt limit (length l.text) ≡ false = le-ltb limit (length l.text) (omega (arith, is)) in ap (λ b. cond b (Some l.number) (first_longer limit ls)) short
+    let short : nat_lt limit (length l.text) ≡ false = le-ltb limit (length l.text) (omega (arith, is)) in ap (λ b. option_map (λ (x : Line). x.number) (cond b (Some l) (find (λ (x : Line). nat_lt limit (length x.text)) ls))) short
 first_longer-next limit (suc i) n (l ∷ ls) within is under = first_longer-next limit i n ls (omega arith) is under
 
 -- a character is a byte at least

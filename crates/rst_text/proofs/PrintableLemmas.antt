@@ -1,12 +1,13 @@
 -- Texts of printable ASCII.
-use Rattle.std.proofs.Common.{◌≡◌, ⊎_elim, ℕ, zero, suc, ◌+◌, ◌-◌, ◌<◌, ◌≤◌, ◌==◌, ◌||◌, true, false, List, [], ◌∷◌, ◌++◌, length, take, drop, get_or, length-append, Result, Ok, Err, IfOk, String, string_bytes, refl, sym, ap, ◌∙◌, subst, arith}
+use Rattle.std.proofs.Common.{map, cond, ◌≡◌, ⊎_elim, ℕ, zero, suc, ◌+◌, ◌-◌, ◌<◌, ◌≤◌, ◌==◌, ◌||◌, true, false, List, [], ◌∷◌, ◌++◌, length, take, drop, get_or, length-append, Result, Ok, Err, IfOk, String, string_bytes, refl, sym, ap, ◌∙◌, subst, arith}
 use Rattle.std.specs.Str.{IsUtf8, IsAscii, chars, NonePass, IsCharBoundary, trim_end, drop_trailing_whitespace}
 use Rattle.std.proofs.Math.Utf8.{encode, encodes}
 use Rattle.std.proofs.lemmas.Bool.{cases_lt}
 use Rattle.std.proofs.lemmas.Bool.Decides.{nat_tests}
 use Rattle.std.proofs.lemmas.List.{take_more, drop_more, length-drop, length-take-le, get_or-take, get_or_past}
 use Rattle.std.proofs.lemmas.Str.{encode_ascii, chars-IsAscii}
-use Rattle.rst_text.specs.Lines.{is_line_end, pieces, expanded_from, tidied}
+use Rattle.rst_text.specs.Lines.{is_line_end, is_tab, pieces, shown, with_tabs, expanded, tidied}
+use Rattle.std.specs.List.{onto_first, slice_split}
 use Rattle.rst_text.specs.Text.{chars_of}
 use Rattle.rst_text.specs.Printable.{is_printable, ArePrintable, IsPrintableTo}
 use Rattle.rst_text.proofs.Scanning.{Scans, Scans-start, Scans-step, NonePass-push, IsCharBoundary-scanned, length-scanned}
@@ -74,11 +75,22 @@ pieces-printable text after n good p e =
 
 -- ---- the whole
 
-pub expanded-same : (tab column : ℕ) (cs : List ℕ) → Printable cs (length cs) → expanded_from tab column cs ≡ cs
-expanded-same tab column [] plain = refl
-expanded-same tab column (c ∷ cs) plain =
+-- a character that is no tab, and shown as it is
+split-plain : (c : ℕ) (cs : List ℕ) → (c == 9) ≡ false → (c == 11 || c == 12) ≡ false → slice_split is_tab (map shown cs) ≡ cs ∷ [] → slice_split is_tab (map shown (c ∷ cs)) ≡ (c ∷ cs) ∷ []
+split-plain c cs no_tab plain rest =
+    ap (λ x. slice_split is_tab (x ∷ map shown cs)) (ap (λ b. cond b 32 c) plain)
+    ∙ ap (λ b. cond b ([] ∷ slice_split is_tab (map shown cs)) (onto_first c (slice_split is_tab (map shown cs)))) no_tab
+    ∙ ap (onto_first c) rest
+
+one-part : (cs : List ℕ) → Printable cs (length cs) → slice_split is_tab (map shown cs) ≡ cs ∷ []
+one-part [] plain = refl
+one-part (c ∷ cs) plain =
     let here = plain 0 (omega arith) in
-    rw (no-tab c here, shown-of c here) (ap (λ rest. c ∷ rest) (expanded-same tab (column + 1) cs (λ i less. plain (suc i) (omega arith))))
+    split-plain c cs (no-tab c here) (shown-of c here) (one-part cs (λ i less. plain (suc i) (omega arith)))
+
+pub expanded-same : (tab : ℕ) (cs : List ℕ) → Printable cs (length cs) → expanded tab cs ≡ cs
+unfolding expanded
+expanded-same tab cs plain = ap (with_tabs tab) (one-part cs plain)
 
 ascii-of : (text : List ℕ) → Printable text (length text) → IsAscii text
 ascii-of text plain i = ⊎_elim
@@ -96,14 +108,14 @@ front-printable text n p i inside =
     ap is_printable (get_or-take n text i 0 less) ∙ front-of text n p i less
 
 -- a text of printable ASCII stays as it is
-expanded-line : (tab : ℕ) (text : List ℕ) (n : ℕ) → IsPrintableTo text n → n ≡ length text → expanded_from tab 0 (chars text) ≡ chars text
+expanded-line : (tab : ℕ) (text : List ℕ) (n : ℕ) → IsPrintableTo text n → n ≡ length text → expanded tab (chars text) ≡ chars text
 expanded-line tab text n p whole =
     let plain : Printable text (length text) = subst (Printable text) whole (front-of text n p) in
     let same : chars text ≡ text = chars-IsAscii text (ascii-of text plain) in
-    ap (expanded_from tab 0) same ∙ expanded-same tab 0 text plain ∙ sym same
+    ap (expanded tab) same ∙ expanded-same tab text plain ∙ sym same
 
 -- a copy of a text that stays as it is
-pub copied-line : {A E : Type 0} (tab : ℕ) (text : List ℕ) (n : ℕ) (r : Result (String A) E) → IsPrintableTo text n → n ≡ length text → IfOk r (λ line. string_bytes line ≡ text) → IfOk r (λ line. chars_of line ≡ expanded_from tab 0 (chars text))
+pub copied-line : {A E : Type 0} (tab : ℕ) (text : List ℕ) (n : ℕ) (r : Result (String A) E) → IsPrintableTo text n → n ≡ length text → IfOk r (λ line. string_bytes line ≡ text) → IfOk r (λ line. chars_of line ≡ expanded tab (chars text))
 copied-line tab text n (Ok line) p whole same = ap chars same ∙ sym (expanded-line tab text n p whole)
 copied-line tab text n (Err e) p whole same = tt
 

@@ -1,9 +1,9 @@
 -- The lines of a text (Markup Specification, 'Whitespace'; Configuration, 'tab_width', 'line_length_limit').
-use Rattle.std.specs.Prelude.{ℕ, ◌+◌, ◌-◌, ◌%◌, Bool, true, false, ◌&&◌, ◌||◌, not, nat_lt, ◌==◌, if◌then◌else◌, List, [], ◌∷◌, ◌++◌, map, replicate, length, Option, None, Some}
+use Rattle.std.specs.Prelude.{ℕ, ◌+◌, ◌-◌, ◌%◌, Bool, false, ◌&&◌, ◌||◌, not, nat_lt, ◌==◌, if◌then◌else◌, List, [], ◌∷◌, ◌++◌, map, replicate, length, Option, option_map}
 use Rattle.std.specs.Char.{is_whitespace}
-use Rattle.std.specs.List.{list_any}
+use Rattle.std.specs.List.{find, list_all, list_any, onto_first, slice_split}
 use Rattle.std.specs.Str.{drop_trailing_whitespace}
-use Rattle.rst_text.specs.Block.{Block, is_blank}
+use Rattle.rst_text.specs.Block.{Line, Block, is_blank}
 
 -- the characters that end a line: LF, CR, U+001C to U+001E, U+0085, U+2028, U+2029
 abbrev pub is_line_end : ℕ → Bool
@@ -13,11 +13,6 @@ is_line_end c = (((c == 10 || c == 13) || (nat_lt 27 c && nat_lt c 31)) || c == 
 abbrev pub begins_with : ℕ → List ℕ → Bool
 begins_with c [] = false
 begins_with c (d ∷ ds) = d == c
-
--- the pieces with a character more at the front of the first
-abbrev pub onto_first : ℕ → List (List ℕ) → List (List ℕ)
-onto_first c [] = (c ∷ []) ∷ []
-onto_first c (piece ∷ pieces) = (c ∷ piece) ∷ pieces
 
 -- The text cut at its line ends. CR LF is one end, and an end at the very end begins no further piece.
 abbrev pub pieces : List ℕ → List (List ℕ)
@@ -29,15 +24,27 @@ pieces (c ∷ cs) = if c == 13 && begins_with 10 cs then pieces cs
 abbrev pub shown : ℕ → ℕ
 shown c = if c == 11 || c == 12 then 32 else c
 
--- A tab becomes spaces up to the next multiple of the tab width. The column counts the characters before.
-abbrev pub expanded_from : ℕ → ℕ → List ℕ → List ℕ
-expanded_from tab column [] = []
-expanded_from tab column (c ∷ cs) = if c == 9 then replicate (tab - column % tab) 32 ++ expanded_from tab (column + (tab - column % tab)) cs
-    else (shown c ∷ expanded_from tab (column + 1) cs)
+-- a tab
+abbrev pub is_tab : ℕ → Bool
+is_tab c = c == 9
+
+-- a part with spaces behind it up to the next multiple of the tab width above its length
+abbrev pub padded : ℕ → List ℕ → List ℕ
+padded tab part = part ++ replicate (tab - length part % tab) 32
+
+-- parts with a tab behind each but the last: as each is padded, the next begins at a multiple of the tab width
+abbrev pub with_tabs : ℕ → List (List ℕ) → List ℕ
+with_tabs tab [] = []
+with_tabs tab (part ∷ []) = part
+with_tabs tab (part ∷ next ∷ parts) = padded tab part ++ with_tabs tab (next ∷ parts)
+
+-- a piece with its tabs expanded
+unfoldable pub expanded : ℕ → List ℕ → List ℕ
+expanded tab piece = with_tabs tab (slice_split is_tab (map shown piece))
 
 -- a piece with its tabs expanded, and without white characters at its end
 abbrev pub tidied : ℕ → List ℕ → List ℕ
-tidied tab piece = drop_trailing_whitespace (expanded_from tab 0 piece)
+tidied tab piece = drop_trailing_whitespace (expanded tab piece)
 
 -- texts as lines with numbers, from n on
 abbrev pub numbered_from : ℕ → List (List ℕ) → Block
@@ -59,10 +66,8 @@ is_line_text text = not (list_any is_line_end text) && not (ends_white text)
 
 -- each line's text can stand in a line
 abbrev pub are_lines : Block → Bool
-are_lines [] = true
-are_lines (l ∷ ls) = is_line_text l.text && are_lines ls
+are_lines ls = list_all (λ (l : Line). is_line_text l.text) ls
 
 -- the number of the first line with more than `limit` characters
 abbrev pub first_longer : ℕ → Block → Option ℕ
-first_longer limit [] = None
-first_longer limit (l ∷ ls) = if nat_lt limit (length l.text) then Some l.number else first_longer limit ls
+first_longer limit ls = option_map (λ (l : Line). l.number) (find (λ (l : Line). nat_lt limit (length l.text)) ls)

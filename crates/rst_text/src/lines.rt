@@ -3,7 +3,7 @@ ghost use Rattle.std.specs.Prelude.{◌≡◌, ◌≤◌, ◌<◌, ◌∷◌, �
 ghost use Rattle.std.specs.Str.{chars, IsUtf8};
 ghost use Rattle.rst_text.specs.Block.{front_text};
 ghost use Rattle.rst_text.specs.Faults.{Gives};
-ghost use Rattle.rst_text.specs.Lines.{is_line_end, pieces, shown, expanded_from, tidied, lines_of, are_lines, first_longer};
+ghost use Rattle.rst_text.specs.Lines.{is_line_end, pieces, shown, expanded, tidied, lines_of, are_lines, first_longer};
 ghost use Rattle.rst_text.specs.Printable.{ArePrintable};
 ghost use Rattle.rst_text.specs.Source.{block_with};
 ghost use Rattle.rst_text.specs.Text.{chars_of};
@@ -181,7 +181,7 @@ fn tidy(alloc: Global, piece: &str, tab: usize) -> Result<String, AllocError>
 fn expand(alloc: Global, piece: &str, tab: usize) -> Result<String, AllocError>
     requires from { 1 ≤ tab }
     requires to { tab ≤ 99 }
-    ensures { IfOk result (λ line. chars_of line ≡ expanded_from tab 0 (chars piece.now)) }
+    ensures { IfOk result (λ line. chars_of line ≡ expanded tab (chars piece.now)) }
 {
     if printable_len(piece) == piece.len() {
         String::from_str(alloc, piece)
@@ -194,7 +194,7 @@ fn expand(alloc: Global, piece: &str, tab: usize) -> Result<String, AllocError>
 fn expand_any(alloc: Global, piece: &str, tab: usize) -> Result<String, AllocError>
     requires from { 1 ≤ tab }
     requires to { tab ≤ 99 }
-    ensures { IfOk result (λ line. chars_of line ≡ expanded_from tab 0 (chars piece.now)) }
+    ensures { IfOk result (λ line. chars_of line ≡ expanded tab (chars piece.now)) }
 {
     let mut line = String::with_capacity(alloc, piece.len())?;
     let mut column = 0usize;

@@ -4,7 +4,7 @@ use Rattle.std.specs.Prelude.{All}
 use Rattle.std.specs.List.{flat_map}
 use Rattle.std.proofs.lemmas.Bool.Decides.{eqb_tells}
 use Rattle.rst_tree.specs.Law.{line_if_any, PrintsEachLine}
-use Rattle.rst_text.specs.Lines.{onto_first}
+use Rattle.std.specs.List.{onto_first}
 use Rattle.rst_tree.specs.Print.{text_lines, printed_line}
 use Rattle.rst_tree.proofs.PrintedParts.{printed-text}
 

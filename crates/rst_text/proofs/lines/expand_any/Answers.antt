@@ -36,4 +36,4 @@ loop-c-preserved c =
     (rw (c.in_ok-push-2.ensures.bytes, c.plain.ensures) next, omega (arith, c.in_ok-push-2.ensures.len, length-encode c.plain.result, len_utf8_bounds c.plain.result))
 
 pub returns : goal.returns
-returns c = Expands-end _ _ _ _ _ c.loop-c.invariant.0 c.in-None.ensures.steps.0.0 c.utf8.piece
+returns c = Expands-end _ _ _ _ _ c.loop-c.invariant.0 c.in-None.ensures.steps.0.0 c.utf8.piece (omega arith)
