@@ -1,8 +1,7 @@
 -- The text of a target, read a character at a time.
 use Rattle.std.proofs.Common.{◌≡◌, ℕ, Bool, true, false, cond, ◌&&◌, eqb, if◌then◌else◌, List, [], ◌∷◌, ◌++◌, map, refl, sym, ap, ◌∙◌, inl, inr}
-use Rattle.std.specs.List.{join_with_byte}
+use Rattle.std.specs.List.{join_with_byte, onto_first}
 use Rattle.rst_text.proofs.PlacesLemmas.{cases_bool}
-use Rattle.std.specs.List.{onto_first}
 use Rattle.rst_directives.specs.Characters.{unindented}
 use Rattle.rst_directives.specs.Target.{lines_in, filled, target_text}
 

@@ -1,8 +1,7 @@
 -- What the text of a target means (Markup Specification, 'Hyperlink Targets').
 use Rattle.std.specs.Prelude.{◌-◌, Bool, not, ◌&&◌, ◌==◌, nat_lt, nat_le, List, [], ◌∷◌, map, filter, take, slice_range, length, Option, Some, None, if◌then◌else◌}
-use Rattle.std.specs.List.{join_with_byte}
+use Rattle.std.specs.List.{join_with_byte, onto_first}
 use Rattle.rst_text.specs.Block.{is_blank}
-use Rattle.std.specs.List.{onto_first}
 use Rattle.rst_text.specs.Text.{chars_of}
 use Rattle.rst_pieces.specs.Characters.{has, without_white, is_dark}
 use Rattle.rst_pieces.specs.Escapes.{unescaped}

@@ -1,5 +1,6 @@
 -- Lines as they are kept. No rule of markup: their texts stand one behind another, in UTF-8.
-use Rattle.std.specs.Prelude.{ℕ, ◌≤◌, List, [], ◌∷◌, map, slice_range}
+use Rattle.std.specs.Prelude.{ℕ, ◌≤◌, List, map, slice_range}
+use Rattle.std.specs.List.{AllByRecursion}
 use Rattle.std.specs.Str.{chars, IsCharBoundary}
 use Rattle.rst_text.specs.Block.{Line, Block}
 use Rattle.rst_text.specs.declared.kept.Span.{Span}
@@ -14,8 +15,7 @@ IsSpanOf bytes s = (s.start ≤ s.end) × IsCharBoundary bytes s.start × IsChar
 
 -- each is a span in the bytes
 abbrev pub AreSpansOf : List ℕ → List Span → Type 0
-AreSpansOf bytes [] = Unit {0}
-AreSpansOf bytes (s ∷ ss) = IsSpanOf bytes s × AreSpansOf bytes ss
+AreSpansOf bytes spans = AllByRecursion (IsSpanOf bytes) spans
 
 -- the line whose number and place a span tells
 abbrev pub line_in : List ℕ → Span → Line

@@ -1,12 +1,12 @@
 -- Where lines may be cut. No rule of markup: a cut that is counted in bytes splits no character.
 use Rattle.std.specs.Prelude.{ℕ, ◌^◌, [], ◌∷◌, drop, length, encode_utf8_all, Bool, true, ◌||◌, ◌&&◌, nat_le, nat_lt}
+use Rattle.std.specs.List.{list_all}
 use Rattle.std.specs.Str.{is_utf8}
-use Rattle.rst_text.specs.Block.{Block, indentation, is_blank}
+use Rattle.rst_text.specs.Block.{Line, Block, indentation, is_blank}
 
 -- what is left of each line without its first n bytes is text; a shorter line leaves nothing
 abbrev pub each_may_cut : ℕ → Block → Bool
-each_may_cut n [] = true
-each_may_cut n (l ∷ ls) = is_utf8 (drop n (encode_utf8_all l.text)) && each_may_cut n ls
+each_may_cut n ls = list_all (λ (l : Line). is_utf8 (drop n (encode_utf8_all l.text))) ls
 
 -- the first line may be cut by f bytes, each other by r
 abbrev pub may_cut_at : ℕ → ℕ → Block → Bool
@@ -15,10 +15,8 @@ may_cut_at f r (l ∷ ls) = is_utf8 (drop f (encode_utf8_all l.text)) && each_ma
 
 -- each line has UTF-8, of fewer than 2^63 bytes
 abbrev pub are_texts : Block → Bool
-are_texts [] = true
-are_texts (l ∷ ls) = (is_utf8 (encode_utf8_all l.text) && nat_lt (length (encode_utf8_all l.text)) (2 ^ 63)) && are_texts ls
+are_texts ls = list_all (λ (l : Line). is_utf8 (encode_utf8_all l.text) && nat_lt (length (encode_utf8_all l.text)) (2 ^ 63)) ls
 
 -- each line is blank or indented by n
 abbrev pub is_indented : ℕ → Block → Bool
-is_indented n [] = true
-is_indented n (l ∷ ls) = (is_blank l.text || nat_le n (indentation l.text)) && is_indented n ls
+is_indented n ls = list_all (λ (l : Line). is_blank l.text || nat_le n (indentation l.text)) ls

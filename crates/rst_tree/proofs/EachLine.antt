@@ -1,10 +1,9 @@
 -- The lines of a text that is made of lines.
 use Rattle.std.proofs.Common.{◌≡◌, ◌≢◌, ℕ, List, [], ◌∷◌, ◌++◌, inl, inr, suc, arith, refl, ◌∙◌, ap, append_assoc}
 use Rattle.std.specs.Prelude.{All}
-use Rattle.std.specs.List.{flat_map}
+use Rattle.std.specs.List.{flat_map, onto_first}
 use Rattle.std.proofs.lemmas.Bool.Decides.{eqb_tells}
 use Rattle.rst_tree.specs.Law.{line_if_any, PrintsEachLine}
-use Rattle.std.specs.List.{onto_first}
 use Rattle.rst_tree.specs.Print.{text_lines, printed_line}
 use Rattle.rst_tree.proofs.PrintedParts.{printed-text}
 

@@ -1,9 +1,8 @@
 -- What is printed of a tree, in the pseudo-XML of the examples in Document Tree, 'Element Reference': its lines in preorder, each
 -- behind its indentation and with its end.
 use Rattle.std.specs.Prelude.{ℕ, ◌+◌, ◌*◌, ◌==◌, ◌&&◌, ◌||◌, if◌then◌else◌, Bool, true, false, List, [], ◌∷◌, ◌++◌, map, codes, replicate}
-use Rattle.std.specs.List.{flat_map}
+use Rattle.std.specs.List.{flat_map, onto_first}
 use Rattle.std.specs.Fmt.{decimal}
-use Rattle.std.specs.List.{onto_first}
 use Rattle.rst_tree.specs.declared.attrs.Attr.{Attr}
 use Rattle.rst_tree.specs.declared.attrs.Value.{Value}
 use Rattle.rst_tree.specs.declared.attrs.Value.TheVariants.{Text, Number, List as Listed}
