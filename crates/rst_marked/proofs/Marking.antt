@@ -1,8 +1,8 @@
 -- Changes at each mark, one after another, are a walk.
 use Rattle.std.proofs.Common.{◌≡◌, ℕ, ◌+◌, ◌<◌, ◌≤◌, List, [], ◌∷◌, ◌++◌, length, get_or, set, drop, take, arith, add-one, append_assoc, zero, suc, refl, sym, ◌∙◌, ap, Bool, true, false}
-use Rattle.std.specs.Prelude.{if◌then◌else◌, map, reverse}
+use Rattle.std.specs.Prelude.{if◌then◌else◌, map, reverse, None, option_and_then, slice_get}
 use Rattle.std.proofs.lemmas.List.{append-nil, map-append, reverse-append, drop_all, drop_more, take_all, take_more, length-take-le}
-use Rattle.rst_tree.specs.Paths.{with_child}
+use Rattle.rst_tree.specs.Paths.{node_at, map_at, changed_at, with_child}
 use Rattle.rst_tree.specs.declared.attrs.Attr.{Attr}
 use Rattle.rst_tree.specs.declared.tag.Tag.{Tag}
 use Rattle.rst_tree.specs.declared.node.Node.{Node}
@@ -11,20 +11,21 @@ use Rattle.rst_tree.specs.Forest.{Forest, bare, element, words}
 use Rattle.rst_tree.specs.Nodes.{forest_of, nodes_of}
 use Rattle.rst_tree.specs.Walk.{Item, item, items, node_items, after, walked, walked_node}
 use Rattle.rst_tree.proofs.Walks.{after-append}
-use Rattle.rst_tree.proofs.Changes.{forest_of-nodes_of, nodes_of-forest_of}
-use Rattle.rst_marked.specs.Marks.{Place, path_of, deeper, later, own_place, places, own_mark, marks_of, from_on, heeded_out, heeded_next, wanted, with_one, touched, touched_node, stepped, stepped_node}
+use Rattle.rst_tree.proofs.Changes.{forest_of-nodes_of, nodes_of-forest_of, map_at-set, slice_get-none, slice_get-some}
+use Rattle.rst_marked.specs.Marks.{Place, path_of, deeper, later, own_place, places, own_mark, marks_of, heeded_out, heeded_next, wanted, with_one, retold, after_one}
 
 module _ {S : Type 0} (next : S → Item → S) (out : S → Item → Item) where
   -- a state and the nodes, after the element at a place
   abbrev pub visited : Place → S × Forest → S × Forest
-  visited p w = (stepped next w.0 p.0 p.1 w.1, touched (out w.0) p.0 p.1 w.1)
+  visited p w =
+      (after_one next w.0 (option_and_then (node_at p.1) (slice_get (nodes_of w.1) p.0)), forest_of (map_at (changed_at (retold (out w.0)) p.1) p.0 (nodes_of w.1)))
 
   abbrev pub many : List Place → S × Forest → S × Forest
   many [] w = w
   many (p ∷ ps) w = many ps (visited p w)
 
   abbrev pub visited_node : List ℕ → S × Node → S × Node
-  visited_node p w = (stepped_node next w.0 p w.1, touched_node (out w.0) p w.1)
+  visited_node p w = (after_one next w.0 (node_at p w.1), changed_at (retold (out w.0)) p w.1)
 
   abbrev pub many_node : List (List ℕ) → S × Node → S × Node
   many_node [] w = w
@@ -52,19 +53,21 @@ module _ {S : Type 0} (next : S → Item → S) (out : S → Item → Item) wher
 
   many-deeper : (ps : List Place) (s : S) (t : Tag) (a : List Attr) (c : Forest) (l : ℕ) (r : Forest) → many (map deeper ps) (s, element t a c l r) ≡ inside t a l r (many ps (s, c))
   many-deeper [] s t a c l r = refl
-  many-deeper (p ∷ ps) s t a c l r = many-deeper ps (stepped next s p.0 p.1 c) t a (touched (out s) p.0 p.1 c) l r
+  many-deeper (p ∷ ps) s t a c l r =
+      let w : S × Forest = visited p (s, c) in
+      ap (λ z. many (map deeper ps) (w.0, element t a w.1 l z)) (forest_of-nodes_of r) ∙ many-deeper ps w.0 t a w.1 l r
 
   many-later : (ps : List Place) (s : S) (t : Tag) (a : List Attr) (c : Forest) (l : ℕ) (r : Forest) → many (map later ps) (s, element t a c l r) ≡ beside t a c l (many ps (s, r))
   many-later [] s t a c l r = refl
-  many-later (p ∷ ps) s t a c l r = many-later ps (stepped next s p.0 p.1 r) t a c l (touched (out s) p.0 p.1 r)
+  many-later (p ∷ ps) s t a c l r = let w : S × Forest = visited p (s, r) in many-later ps w.0 t a c l w.1
 
   many-behind : (ps : List Place) (s : S) (t : List ℕ) (r : Forest) → many (map later ps) (s, words t r) ≡ behind t (many ps (s, r))
   many-behind [] s t r = refl
-  many-behind (p ∷ ps) s t r = many-behind ps (stepped next s p.0 p.1 r) t (touched (out s) p.0 p.1 r)
+  many-behind (p ∷ ps) s t r = let w : S × Forest = visited p (s, r) in many-behind ps w.0 t w.1
 
   many_node-paths : (ps : List Place) (s : S) (t : Tag) (a : List Attr) (c : Forest) (l : ℕ) → many_node (map path_of ps) (s, Element t a c l) ≡ within t a l (many ps (s, c))
   many_node-paths [] s t a c l = refl
-  many_node-paths (p ∷ ps) s t a c l = many_node-paths ps (stepped next s p.0 p.1 c) t a (touched (out s) p.0 p.1 c) l
+  many_node-paths (p ∷ ps) s t a c l = let w : S × Forest = visited p (s, c) in many_node-paths ps w.0 t a w.1 l
 
   module _ (needs : Item → Bool) where
     abbrev here : S → Item → Forest → Forest → S × Forest
@@ -76,7 +79,7 @@ module _ {S : Type 0} (next : S → Item → S) (out : S → Item → Item) wher
     own-visited s t a c l r =
         elim (needs (item t a l)) as (λ v. many (if v then (0, []) ∷ [] else []) (s, element t a c l r)
         ≡ (if v then next s (item t a l) else s, (let y : Item = if v then out s (item t a l) else item t a l in element y.tag y.attrs c y.line r)))
-        [ true ↦ refl | false ↦ refl ]
+        [ true ↦ (let y : Item = out s (item t a l) in ap (λ z. (next s (item t a l), element y.tag y.attrs c y.line z)) (forest_of-nodes_of r)) | false ↦ refl ]
 
     -- the changes at all places are a walk that heeds these elements alone
     pub many-places : (s : S) (f : Forest) → many (places needs f) (s, f) ≡ (after (heeded_next needs next) (heeded_out needs out) s (items f), walked (heeded_next needs next) (heeded_out needs out) s f)
@@ -115,100 +118,84 @@ module _ {S : Type 0} (next : S → Item → S) (out : S → Item → Item) wher
         ∙ many_node-paths (places needs c) s1 y.tag y.attrs c y.line
         ∙ ap (within y.tag y.attrs y.line) (many-places s1 c)
 
--- a node among others is changed alone
-pub touched-set : (f : Item → Item) (i : ℕ) (p : List ℕ) (c : Forest) (d : Node) → i < length (nodes_of c) → touched f i p c ≡ forest_of (set (nodes_of c) i (touched_node f p (get_or (nodes_of c) i d)))
-touched-set f i p bare d h = absurd (omega arith)
-touched-set f zero [] (element t a c l r) d h = ap (element (f (item t a l)).tag (f (item t a l)).attrs c (f (item t a l)).line) (sym (forest_of-nodes_of r))
-touched-set f zero (j ∷ q) (element t a c l r) d h = ap (element t a (touched f j q c) l) (sym (forest_of-nodes_of r))
-touched-set f (suc i) p (element t a c l r) d h = let k : i < length (nodes_of r) = omega arith in ap (element t a c l) (touched-set f i p r d k)
-touched-set f zero p (words t r) d h = ap (words t) (sym (forest_of-nodes_of r))
-touched-set f (suc i) p (words t r) d h = let k : i < length (nodes_of r) = omega arith in ap (words t) (touched-set f i p r d k)
-
--- and nothing where no node is
-pub touched-past : (f : Item → Item) (i : ℕ) (p : List ℕ) (c : Forest) → length (nodes_of c) ≤ i → touched f i p c ≡ c
-touched-past f i p bare h = refl
-touched-past f zero p (element t a c l r) h = absurd (omega arith)
-touched-past f (suc i) p (element t a c l r) h = let k : length (nodes_of r) ≤ i = omega arith in ap (element t a c l) (touched-past f i p r k)
-touched-past f zero p (words t r) h = absurd (omega arith)
-touched-past f (suc i) p (words t r) h = let k : length (nodes_of r) ≤ i = omega arith in ap (words t) (touched-past f i p r k)
-
-module _ {S : Type 0} (next : S → Item → S) where
-  pub stepped-get : (s : S) (i : ℕ) (p : List ℕ) (c : Forest) (d : Node) → i < length (nodes_of c) → stepped next s i p c ≡ stepped_node next s p (get_or (nodes_of c) i d)
-  stepped-get s i p bare d h = absurd (omega arith)
-  stepped-get s zero [] (element t a c l r) d h = refl
-  stepped-get s zero (j ∷ q) (element t a c l r) d h = refl
-  stepped-get s (suc i) p (element t a c l r) d h = let k : i < length (nodes_of r) = omega arith in stepped-get s i p r d k
-  stepped-get s zero p (words t r) d h = refl
-  stepped-get s (suc i) p (words t r) d h = let k : i < length (nodes_of r) = omega arith in stepped-get s i p r d k
-
-  pub stepped-past : (s : S) (i : ℕ) (p : List ℕ) (c : Forest) → length (nodes_of c) ≤ i → stepped next s i p c ≡ s
-  stepped-past s i p bare h = refl
-  stepped-past s zero p (element t a c l r) h = absurd (omega arith)
-  stepped-past s (suc i) p (element t a c l r) h = let k : length (nodes_of r) ≤ i = omega arith in stepped-past s i p r k
-  stepped-past s zero p (words t r) h = absurd (omega arith)
-  stepped-past s (suc i) p (words t r) h = let k : length (nodes_of r) ≤ i = omega arith in stepped-past s i p r k
-
--- the change at a path that begins with a node of an element; the path comes from its end on
+-- the path comes from its end on
 at_end : (rest : List ℕ) (place : ℕ) → reverse (rest ++ place ∷ []) ≡ place ∷ reverse rest
 at_end rest place = reverse-append rest (place ∷ [])
 
-pub touched_there : (f : Item → Item) (node : Node) (t : Tag) (a : List Attr) (c : Forest) (l : ℕ) (steps rest : List ℕ) (place : ℕ) (d new : Node) → node ≡ Element t a c l → steps ≡ rest ++ place ∷ []
-    → place < length (nodes_of c) → d ≡ get_or (nodes_of c) place d → new ≡ touched_node f (reverse rest) d → Element t a (forest_of (set (nodes_of c) place new)) l ≡ touched_node f (reverse steps) node
-touched_there f node t a c l steps rest place d new is parts fits at changed =
-    rw (is, parts, at_end rest place, changed) (
-    ap (λ x. Element t a (forest_of (set (nodes_of c) place (touched_node f (reverse rest) x))) l) at ∙ ap (λ x. Element t a x l) (sym (touched-set f place (reverse rest) c d fits)))
+map_at-past : {X : Type 0} (f : X → X) (i : ℕ) (xs : List X) → length xs ≤ i → map_at f i xs ≡ xs
+map_at-past f i [] h = refl
+map_at-past f zero (x ∷ xs) h = absurd (omega arith)
+map_at-past f (suc i) (x ∷ xs) h = let k : length xs ≤ i = omega arith in ap (λ ys. x ∷ ys) (map_at-past f i xs k)
 
-pub touched_none : (f : Item → Item) (node : Node) (t : Tag) (a : List Attr) (c : Forest) (l : ℕ) (steps rest : List ℕ) (place : ℕ) → node ≡ Element t a c l → steps ≡ rest ++ place ∷ []
-    → length (nodes_of c) ≤ place → Element t a c l ≡ touched_node f (reverse steps) node
-touched_none f node t a c l steps rest place is parts past =
-    rw (is, parts, at_end rest place) (ap (λ x. Element t a x l) (sym (touched-past f place (reverse rest) c past)))
+-- the change at a path that begins with a node of an element
+pub changed_there : (f : Node → Node) (node : Node) (t : Tag) (a : List Attr) (c : Forest) (l : ℕ) (steps rest : List ℕ) (place : ℕ) (d new : Node) → node ≡ Element t a c l → steps ≡ rest ++ place ∷ []
+    → place < length (nodes_of c) → d ≡ get_or (nodes_of c) place d → new ≡ changed_at f (reverse rest) d → Element t a (forest_of (set (nodes_of c) place new)) l ≡ changed_at f (reverse steps) node
+changed_there f node t a c l steps rest place d new is parts fits at changed =
+    rw (is, parts, at_end rest place, changed, map_at-set (changed_at f (reverse rest)) place (nodes_of c) d fits) (
+    ap (λ x. Element t a (forest_of (set (nodes_of c) place (changed_at f (reverse rest) x))) l) at)
 
-module _ {S : Type 0} (next : S → Item → S) where
-  pub stepped_there : (s s' : S) (node : Node) (t : Tag) (a : List Attr) (c : Forest) (l : ℕ) (steps rest : List ℕ) (place : ℕ) (d : Node) → node ≡ Element t a c l → steps ≡ rest ++ place ∷ []
-      → place < length (nodes_of c) → d ≡ get_or (nodes_of c) place d → s' ≡ stepped_node next s (reverse rest) d → s' ≡ stepped_node next s (reverse steps) node
-  stepped_there s s' node t a c l steps rest place d is parts fits at moved =
-      rw (is, parts, at_end rest place) (moved ∙ ap (stepped_node next s (reverse rest)) at ∙ sym (stepped-get next s place (reverse rest) c d fits))
+pub changed_none : (f : Node → Node) (node : Node) (t : Tag) (a : List Attr) (c : Forest) (l : ℕ) (steps rest : List ℕ) (place : ℕ) → node ≡ Element t a c l → steps ≡ rest ++ place ∷ []
+    → length (nodes_of c) ≤ place → Element t a c l ≡ changed_at f (reverse steps) node
+changed_none f node t a c l steps rest place is parts past =
+    rw (is, parts, at_end rest place, map_at-past (changed_at f (reverse rest)) place (nodes_of c) past) (ap (λ x. Element t a x l) (sym (forest_of-nodes_of c)))
 
-  pub stepped_none : (s : S) (node : Node) (t : Tag) (a : List Attr) (c : Forest) (l : ℕ) (steps rest : List ℕ) (place : ℕ) → node ≡ Element t a c l → steps ≡ rest ++ place ∷ []
-      → length (nodes_of c) ≤ place → s ≡ stepped_node next s (reverse steps) node
-  stepped_none s node t a c l steps rest place is parts past = rw (is, parts, at_end rest place) (sym (stepped-past next s place (reverse rest) c past))
+-- the node at such a path
+pub node_there : (node : Node) (t : Tag) (a : List Attr) (c : Forest) (l : ℕ) (steps rest : List ℕ) (place : ℕ) (d : Node) → node ≡ Element t a c l → steps ≡ rest ++ place ∷ []
+    → place < length (nodes_of c) → d ≡ get_or (nodes_of c) place d → node_at (reverse steps) node ≡ node_at (reverse rest) d
+node_there node t a c l steps rest place d is parts fits at =
+    rw (is, parts, at_end rest place, slice_get-some (nodes_of c) place d fits) (ap (node_at (reverse rest)) (sym at))
+
+pub node_none : (node : Node) (t : Tag) (a : List Attr) (c : Forest) (l : ℕ) (steps rest : List ℕ) (place : ℕ) → node ≡ Element t a c l → steps ≡ rest ++ place ∷ []
+    → length (nodes_of c) ≤ place → node_at (reverse steps) node ≡ None
+node_none node t a c l steps rest place is parts past = rw (is, parts, at_end rest place, slice_get-none (nodes_of c) place past) refl
+
+-- a text has no element
+pub changed_text : (f : Item → Item) (node : Node) (t : List ℕ) (p : List ℕ) → node ≡ Text t → node ≡ changed_at (retold f) p node
+changed_text f node t [] is = rw is refl
+changed_text f node t (i ∷ p) is = rw is refl
+
+pub after_text : {S : Type 0} (next : S → Item → S) (s : S) (node : Node) (t : List ℕ) (p : List ℕ) → node ≡ Text t → s ≡ after_one next s (node_at p node)
+after_text next s node t [] is = rw is refl
+after_text next s node t (i ∷ p) is = rw is refl
 
 -- the same where the nodes are only read
-module _ {S : Type 0} (next : S → Item → S) where
-  pub stepped_read : (s s' : S) (node : Node) (t : Tag) (a : List Attr) (c : Forest) (l : ℕ) (ns : List Node) (steps rest : List ℕ) (place : ℕ) (d : Node) → node ≡ Element t a c l → c ≡ forest_of ns
-      → steps ≡ rest ++ place ∷ [] → place < length ns → d ≡ get_or ns place d → s' ≡ stepped_node next s (reverse rest) d → s' ≡ stepped_node next s (reverse steps) node
-  stepped_read s s' node t a c l ns steps rest place d is nodes parts fits at moved =
-      let e : nodes_of c ≡ ns = ap nodes_of nodes ∙ nodes_of-forest_of ns in
-      stepped_there next s s' node t a c l steps rest place d is parts (rw e fits) (at ∙ ap (λ z. get_or z place d) (sym e)) moved
+pub node_read : (node : Node) (t : Tag) (a : List Attr) (c : Forest) (l : ℕ) (ns : List Node) (steps rest : List ℕ) (place : ℕ) (d : Node) → node ≡ Element t a c l → c ≡ forest_of ns
+    → steps ≡ rest ++ place ∷ [] → place < length ns → d ≡ get_or ns place d → node_at (reverse steps) node ≡ node_at (reverse rest) d
+node_read node t a c l ns steps rest place d is nodes parts fits at =
+    let e : nodes_of c ≡ ns = ap nodes_of nodes ∙ nodes_of-forest_of ns in
+    node_there node t a c l steps rest place d is parts (rw e fits) (at ∙ ap (λ z. get_or z place d) (sym e))
 
-  pub stepped_unread : (s : S) (node : Node) (t : Tag) (a : List Attr) (c : Forest) (l : ℕ) (ns : List Node) (steps rest : List ℕ) (place : ℕ) → node ≡ Element t a c l → c ≡ forest_of ns
-      → steps ≡ rest ++ place ∷ [] → length ns ≤ place → s ≡ stepped_node next s (reverse steps) node
-  stepped_unread s node t a c l ns steps rest place is nodes parts past =
-      let e : nodes_of c ≡ ns = ap nodes_of nodes ∙ nodes_of-forest_of ns in
-      stepped_none next s node t a c l steps rest place is parts (rw e past)
+pub node_unread : (node : Node) (t : Tag) (a : List Attr) (c : Forest) (l : ℕ) (ns : List Node) (steps rest : List ℕ) (place : ℕ) → node ≡ Element t a c l → c ≡ forest_of ns
+    → steps ≡ rest ++ place ∷ [] → length ns ≤ place → node_at (reverse steps) node ≡ None
+node_unread node t a c l ns steps rest place is nodes parts past =
+    let e : nodes_of c ≡ ns = ap nodes_of nodes ∙ nodes_of-forest_of ns in
+    node_none node t a c l steps rest place is parts (rw e past)
 
 map-two : {A B C : Type 0} (g : B → C) (f : A → B) (xs : List A) → map g (map f xs) ≡ map (λ x. g (f x)) xs
 map-two g f [] = refl
 map-two g f (x ∷ xs) = ap (λ ys. g (f x) ∷ ys) (map-two g f xs)
 
 -- members changed from one on: those behind some others, and one by one
-pub from_on-append : {A : Type 0} (f : A → A) (xs ys : List A) → from_on (length xs) f (xs ++ ys) ≡ xs ++ map f ys
-from_on-append f [] [] = refl
-from_on-append f [] (y ∷ ys) = ap (λ zs. f y ∷ zs) (from_on-append f [] ys)
-from_on-append f (x ∷ xs) ys = ap (λ zs. x ∷ zs) (from_on-append f xs ys)
+pub mapped_from-append : {A : Type 0} (f : A → A) (xs ys : List A) → take (length xs) (xs ++ ys) ++ map f (drop (length xs) (xs ++ ys)) ≡ xs ++ map f ys
+mapped_from-append f [] [] = refl
+mapped_from-append f [] (y ∷ ys) = refl
+mapped_from-append f (x ∷ xs) ys = ap (λ zs. x ∷ zs) (mapped_from-append f xs ys)
 
-from_on-suc : {A : Type 0} (f : A → A) (i : ℕ) (xs : List A) (d new : A) → i < length xs → d ≡ get_or xs i d → new ≡ f d → from_on (suc i) f (set xs i new) ≡ from_on i f xs
-from_on-suc f i [] d new h at is = absurd (omega arith)
-from_on-suc f zero (x ∷ xs) d new h at is = ap (λ z. z ∷ from_on zero f xs) (is ∙ ap f at)
-from_on-suc f (suc i) (x ∷ xs) d new h at is = ap (λ zs. x ∷ zs) (from_on-suc f i xs d new (omega arith) at is)
+mapped_from-suc : {A : Type 0} (f : A → A) (i : ℕ) (xs : List A) (d new : A) → i < length xs → d ≡ get_or xs i d → new ≡ f d
+    → take (suc i) (set xs i new) ++ map f (drop (suc i) (set xs i new)) ≡ take i xs ++ map f (drop i xs)
+mapped_from-suc f i [] d new h at is = absurd (omega arith)
+mapped_from-suc f zero (x ∷ xs) d new h at is = ap (λ z. z ∷ map f xs) (is ∙ ap f at)
+mapped_from-suc f (suc i) (x ∷ xs) d new h at is = ap (λ zs. x ∷ zs) (mapped_from-suc f i xs d new (omega arith) at is)
 
-pub from_on-set : {A : Type 0} (f : A → A) (i : ℕ) (xs : List A) (d new : A) → i < length xs → d ≡ get_or xs i d → new ≡ f d → from_on (i + 1) f (set xs i new) ≡ from_on i f xs
-from_on-set f i xs d new h at is = rw add-one (from_on-suc f i xs d new h at is)
+pub mapped_from-set : {A : Type 0} (f : A → A) (i : ℕ) (xs : List A) (d new : A) → i < length xs → d ≡ get_or xs i d → new ≡ f d
+    → take (i + 1) (set xs i new) ++ map f (drop (i + 1) (set xs i new)) ≡ take i xs ++ map f (drop i xs)
+mapped_from-set f i xs d new h at is = rw add-one (mapped_from-suc f i xs d new h at is)
 
-pub from_on-past : {A : Type 0} (f : A → A) (i : ℕ) (xs : List A) → length xs ≤ i → from_on i f xs ≡ xs
-from_on-past f i [] h = refl
-from_on-past f zero (x ∷ xs) h = absurd (omega arith)
-from_on-past f (suc i) (x ∷ xs) h = ap (λ zs. x ∷ zs) (from_on-past f i xs (omega arith))
+pub mapped_from-past : {A : Type 0} (f : A → A) (i : ℕ) (xs : List A) → length xs ≤ i → take i xs ++ map f (drop i xs) ≡ xs
+mapped_from-past f zero [] h = refl
+mapped_from-past f (suc i) [] h = refl
+mapped_from-past f zero (x ∷ xs) h = absurd (omega arith)
+mapped_from-past f (suc i) (x ∷ xs) h = ap (λ zs. x ∷ zs) (mapped_from-past f i xs (omega arith))
 
 abbrev in_node : ℕ → List ℕ → Place
 in_node i p = (i, p)
@@ -276,11 +263,11 @@ module _ (needs : Item → Bool) where
 
   -- the same, with the marks of the last child begun above it
   pub paths_below : (ns : List Node) (i : ℕ) (child : Node) (own held inner now : List (List ℕ)) (from : ℕ) → i < length ns → child ≡ get_or ns i child
-      → held ≡ own ++ map path_of (places needs (forest_of (take i ns))) → from ≡ length held → inner ≡ held ++ marks_of needs child → now ≡ from_on from (λ p. i ∷ p) inner
+      → held ≡ own ++ map path_of (places needs (forest_of (take i ns))) → from ≡ length held → inner ≡ held ++ marks_of needs child → now ≡ take from inner ++ map (λ p. i ∷ p) (drop from inner)
       → now ≡ own ++ map path_of (places needs (forest_of (take (i + 1) ns)))
   paths_below ns i child own held inner now from fits at before start all begun =
       paths_more ns i child own held now fits at before
-      (begun ∙ ap (λ (z : ℕ). from_on z (λ p. i ∷ p) inner) start ∙ ap (from_on (length held) (λ p. i ∷ p)) all ∙ from_on-append (λ p. i ∷ p) held (marks_of needs child))
+      (begun ∙ ap (λ (z : ℕ). take z inner ++ map (λ p. i ∷ p) (drop z inner)) start ∙ ap (λ z. take (length held) z ++ map (λ p. i ∷ p) (drop (length held) z)) all ∙ mapped_from-append (λ p. i ∷ p) held (marks_of needs child))
 
   pub paths_end : (node : Node) (t : Tag) (a : List Attr) (c : Forest) (l : ℕ) (ns : List Node) (i : ℕ) (old own now : List (List ℕ)) → node ≡ Element t a c l → c ≡ forest_of ns → length ns ≤ i
       → own ≡ old ++ own_mark needs (item t a l) → now ≡ own ++ map path_of (places needs (forest_of (take i ns))) → now ≡ old ++ marks_of needs node
@@ -305,18 +292,20 @@ module _ {S : Type 0} (next : S → Item → S) (out : S → Item → Item) (nee
 abbrev pub read_node : List (List ℕ) → List Item × Node → List Item × Node
 read_node = many_node with_one (λ s x. x)
 
-touched-same : (i : ℕ) (p : List ℕ) (f : Forest) → touched (λ x. x) i p f ≡ f
-touched-same i p bare = refl
-touched-same zero [] (element t a c l r) = refl
-touched-same zero (j ∷ q) (element t a c l r) = ap (λ z. element t a z l r) (touched-same j q c)
-touched-same (suc i) p (element t a c l r) = ap (element t a c l) (touched-same i p r)
-touched-same zero p (words t r) = refl
-touched-same (suc i) p (words t r) = ap (words t) (touched-same i p r)
+map_at-same : {X : Type 0} (f : X → X) (same : (x : X) → f x ≡ x) (i : ℕ) (xs : List X) → map_at f i xs ≡ xs
+map_at-same f same i [] = refl
+map_at-same f same zero (x ∷ xs) = ap (λ z. z ∷ xs) (same x)
+map_at-same f same (suc i) (x ∷ xs) = ap (λ zs. x ∷ zs) (map_at-same f same i xs)
 
-touched_node-same : (p : List ℕ) (n : Node) → touched_node (λ x. x) p n ≡ n
-touched_node-same [] (Element t a c l) = refl
-touched_node-same (j ∷ q) (Element t a c l) = ap (λ z. Element t a z l) (touched-same j q c)
-touched_node-same p (Text t) = refl
+retold-same : (n : Node) → retold (λ x. x) n ≡ n
+retold-same (Element t a c l) = refl
+retold-same (Text t) = refl
+
+changed_at-same : (f : Node → Node) (same : (n : Node) → f n ≡ n) (p : List ℕ) (n : Node) → changed_at f p n ≡ n
+changed_at-same f same [] n = same n
+changed_at-same f same (i ∷ p) (Element t a c l) =
+    ap (λ z. Element t a z l) (ap forest_of (map_at-same (changed_at f p) (changed_at-same f same p) i (nodes_of c)) ∙ forest_of-nodes_of c)
+changed_at-same f same (i ∷ p) (Text t) = refl
 
 -- the elements that are heeded, one after the other, are those that are wanted
 after-wanted : (needs : Item → Bool) (s : List Item) (xs : List Item) → after (heeded_next needs with_one) (heeded_out needs (λ s x. x)) s xs ≡ s ++ wanted needs xs
@@ -328,9 +317,9 @@ after-wanted needs s (x ∷ xs) =
 
 -- one more element read, and all of them
 pub read_more : (marks : List (List ℕ)) (p : List ℕ) (i : ℕ) (node : Node) (old new start : List Item) → i < length marks → p ≡ get_or marks i p
-    → new ≡ stepped_node with_one old p node → (read_node (drop i marks) (old, node)).0 ≡ start → (read_node (drop (i + 1) marks) (new, node)).0 ≡ start
+    → new ≡ after_one with_one old (node_at p node) → (read_node (drop i marks) (old, node)).0 ≡ start → (read_node (drop (i + 1) marks) (new, node)).0 ≡ start
 read_more marks p i node old new start fits at is left =
-    ap (λ z. (read_node (drop (i + 1) marks) z).0) (ap (λ z. (z, node)) is ∙ ap (λ z. (stepped_node with_one old p node, z)) (sym (touched_node-same p node)))
+    ap (λ z. (read_node (drop (i + 1) marks) z).0) (ap (λ z. (z, node)) is ∙ ap (λ z. (after_one with_one old (node_at p node), z)) (sym (changed_at-same (retold (λ x. x)) retold-same p node)))
     ∙ ap (λ z. (read_node (drop (i + 1) marks) (visited_node with_one (λ s x. x) z (old, node))).0) at
     ∙ sym (ap (λ z. (read_node z (old, node)).0) (drop_more marks i p fits))
     ∙ left

@@ -1,8 +1,9 @@
 //! A node with the paths of the elements that registration needs, these elements, and changes at them.
-ghost use Rattle.std.specs.Prelude.{◌≡◌, ◌∷◌, ◌++◌, [], map, reverse};
+ghost use Rattle.std.specs.Prelude.{◌≡◌, ◌∷◌, ◌++◌, [], map, reverse, take, drop};
 ghost use Rattle.rst_tree.specs.Faults.{Gives, Becomes};
+ghost use Rattle.rst_tree.specs.Paths.{node_at, changed_at};
 ghost use Rattle.rst_tree.specs.Walk.{item, node_items, after, scanned, walked_node, node_shape};
-ghost use Rattle.rst_marked.specs.Marks.{marks_of, own_mark, from_on, wanted, with_one, heeded_next, heeded_out, touched_node, stepped_node};
+ghost use Rattle.rst_marked.specs.Marks.{marks_of, own_mark, wanted, with_one, heeded_next, heeded_out, retold, after_one};
 ghost use Rattle.rst_marked.specs.Registered.{is_registered_kind, is_registered_key, has_registered_key, is_registered, item_of};
 
 use crate::kinds::Kinds;
@@ -111,7 +112,7 @@ fn add_element<'a>(
     steps: &[u32],
     list: &mut Vec<Element<'a>>,
 ) -> Result<(), TreeFault>
-    ensures { Gives (λ _. map item_of list.new.items ≡ stepped_node with_one (map item_of list.old.items) (reverse steps.now) node.now) result }
+    ensures { Gives (λ _. map item_of list.new.items ≡ after_one with_one (map item_of list.old.items) (node_at (reverse steps.now) node.now)) result }
 {
     if let Node::Element {
         tag,
@@ -140,8 +141,8 @@ fn add_element<'a>(
 
 /// Visits the element at a path, given from its end on, if there is one.
 fn visit_at<V: Visitor>(node: &mut Node, steps: &[u32], visitor: &mut V) -> Result<(), TreeFault>
-    ensures node { Gives (λ _. node.new ≡ touched_node (V.out visitor.old) (reverse steps.now) node.old) result }
-    ensures state { Gives (λ _. visitor.new ≡ stepped_node V.next visitor.old (reverse steps.now) node.old) result }
+    ensures node { Gives (λ _. node.new ≡ changed_at (retold (V.out visitor.old)) (reverse steps.now) node.old) result }
+    ensures state { Gives (λ _. visitor.new ≡ after_one V.next visitor.old (node_at (reverse steps.now) node.old)) result }
 {
     if let Node::Element {
         tag,
@@ -213,7 +214,7 @@ fn with_marks_below(
 
 /// Lets the marks from one on begin at the parent of the node from which they were seen, in which that is at a place.
 fn begin_above(marks: &mut Vec<Path>, from: usize, place: usize) -> Result<(), TreeFault>
-    ensures { Gives (λ _. marks.new.items ≡ from_on from (λ p. place ∷ p) marks.old.items) result }
+    ensures { Gives (λ _. marks.new.items ≡ take from marks.old.items ++ map (λ p. place ∷ p) (drop from marks.old.items)) result }
 {
     for i in from..marks.len() {
         marks[i].begin_above(place)?;

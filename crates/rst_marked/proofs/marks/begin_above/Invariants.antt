@@ -1,6 +1,8 @@
-use Rattle.std.proofs.Common.{◌≡◌, ◌∷◌, length}
-use Rattle.rst_marked.specs.Marks.{from_on}
+use Rattle.std.proofs.Common.{◌≡◌, ◌∷◌, ◌++◌, length, take, drop}
+use Rattle.std.specs.Prelude.{map}
 use Rattle.rst_marked.proofs.marks.begin_above.Given as goal
 
 abbrev pub invariant-loop-i : goal.invariant-loop-i
-invariant-loop-i l = (from_on l.i (λ p. l.place ∷ p) l.marks.items ≡ from_on l.from (λ p. l.place ∷ p) l.initial.marks.items) × (length l.marks.items ≡ length l.initial.marks.items)
+invariant-loop-i l =
+    (take l.i l.marks.items ++ map (λ p. l.place ∷ p) (drop l.i l.marks.items) ≡ take l.from l.initial.marks.items ++ map (λ p. l.place ∷ p) (drop l.from l.initial.marks.items))
+    × (length l.marks.items ≡ length l.initial.marks.items)
