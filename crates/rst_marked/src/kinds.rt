@@ -1,5 +1,7 @@
 //! Which kinds of elements that transforms act on a node holds.
-ghost use Rattle.std.specs.Prelude.{◌≡◌};
+ghost use Rattle.std.specs.Prelude.{◌≡◌, ◌∷◌, [], true};
+ghost use Rattle.rst_tree.specs.Walk.{item};
+ghost use Rattle.rst_marked.specs.Held.{either, is_internal, kinds_of};
 ghost use Rattle.rst_marked.specs.Linked.{is_linked};
 
 use rst_tree::{Attrs, Key, Tag};
@@ -43,7 +45,9 @@ pub fn is_linked(tag: Tag) -> bool
 }
 
 /// Whether an element is an internal target of the body: one that stands in no text, and tells neither a URI nor a name.
-pub fn is_internal(tag: Tag, attrs: &Attrs) -> bool {
+pub fn is_internal(tag: Tag, attrs: &Attrs) -> bool
+    ensures { result ≡ is_internal (item tag attrs.now 0) }
+{
     matches!(tag, Tag::Target)
         && !attrs.has(Key::Inline)
         && !attrs.has(Key::Refuri)
@@ -52,7 +56,9 @@ pub fn is_internal(tag: Tag, attrs: &Attrs) -> bool {
 
 impl Kinds {
     /// None of them.
-    pub(crate) fn none() -> Kinds {
+    pub(crate) fn none() -> Kinds
+        ensures { result ≡ kinds_of [] }
+    {
         Kinds {
             messages: false,
             substitutions: false,
@@ -65,8 +71,10 @@ impl Kinds {
         }
     }
 
-    /// Takes in an element.
-    pub(crate) fn note(&mut self, tag: Tag, attrs: &Attrs) {
+    /// Takes in an element. Its line says nothing of its kind.
+    pub(crate) fn note(&mut self, tag: Tag, attrs: &Attrs)
+        ensures { self.new ≡ either self.old (kinds_of (item tag attrs.now 0 ∷ [])) }
+    {
         if is_linked(tag) {
             self.note_linked(tag, attrs);
             return;
@@ -80,7 +88,10 @@ impl Kinds {
     }
 
     /// Takes in an element at one of the two ends of a link.
-    fn note_linked(&mut self, tag: Tag, attrs: &Attrs) {
+    fn note_linked(&mut self, tag: Tag, attrs: &Attrs)
+        requires { is_linked tag ≡ true }
+        ensures { self.new ≡ either self.old (kinds_of (item tag attrs.now 0 ∷ [])) }
+    {
         self.links = true;
         self.anonymous = self.anonymous || attrs.has(Key::Anonymous);
         match tag {
@@ -94,7 +105,9 @@ impl Kinds {
     }
 
     /// Those of either.
-    pub(crate) fn or(self, other: Kinds) -> Kinds {
+    pub(crate) fn or(self, other: Kinds) -> Kinds
+        ensures { result ≡ either self other }
+    {
         Kinds {
             messages: self.messages || other.messages,
             substitutions: self.substitutions || other.substitutions,

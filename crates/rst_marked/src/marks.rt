@@ -3,6 +3,7 @@ ghost use Rattle.std.specs.Prelude.{◌≡◌, ◌∷◌, ◌++◌, [], map, rev
 ghost use Rattle.rst_tree.specs.Faults.{Gives, Becomes};
 ghost use Rattle.rst_tree.specs.Paths.{node_at, changed_at};
 ghost use Rattle.rst_tree.specs.Walk.{item, node_items, after, scanned, walked_node, node_shape};
+ghost use Rattle.rst_marked.specs.Held.{either, kinds_of};
 ghost use Rattle.rst_marked.specs.Marks.{marks_of, own_mark, wanted, with_one, heeded_next, heeded_out, retold, after_one};
 ghost use Rattle.rst_marked.specs.Registered.{is_registered_kind, is_registered_key, has_registered_key, is_registered, item_of};
 
@@ -245,7 +246,8 @@ fn add_marks(
     marks: &mut Vec<Path>,
     kinds: &mut Kinds,
 ) -> Result<(), TreeFault>
-    ensures { Gives (λ _. marks.new.items ≡ marks.old.items ++ marks_of is_registered node.now) result }
+    ensures marks { Gives (λ _. marks.new.items ≡ marks.old.items ++ marks_of is_registered node.now) result }
+    ensures kinds { Gives (λ _. kinds.new ≡ either kinds.old (kinds_of (node_items node.now))) result }
 {
     if let Node::Element {
         tag,
@@ -288,12 +290,14 @@ impl Model for Marked {
 
     ghost coded = { Prim.hlevel (codes, node.the_row.coded) };
 
+    ghost use Rattle.rst_tree.specs.Walk.{node_items};
+    ghost use Rattle.rst_marked.specs.Held.{kinds_of};
     ghost use Rattle.rst_marked.specs.Marks.{marks_of};
     ghost use Rattle.rst_marked.specs.Registered.{is_registered};
 
     ghost view = { λ m. m.root };
 
-    ghost invariant = { λ m. m.marks.items ≡ marks_of is_registered m.root };
+    ghost invariant = { λ m. (m.marks.items ≡ marks_of is_registered m.root) × (m.kinds ≡ kinds_of (node_items m.root)) };
 }
 
 impl Marked {
@@ -368,7 +372,9 @@ impl Marked {
     }
 
     /// Which kinds of elements that transforms act on the node holds.
-    pub fn kinds(&self) -> Kinds {
+    pub fn kinds(&self) -> Kinds
+        ensures { result ≡ kinds_of (node_items self.now) }
+    {
         self.kinds
     }
 
