@@ -1,13 +1,14 @@
--- A node fits just where the tree with it pushed is a tree.
-use Rattle.std.proofs.Common.{◌≡◌, ℕ, ◌+◌, ◌-◌, ◌≤◌, ◌<◌, List, [], ◌∷◌, ◌++◌, length, arith, zero, suc, refl, sym, ◌∙◌, Bool, true, false, nat_le, nat_lt}
+-- A node fits just where the levels suffice, and it is sound.
+use Rattle.std.proofs.Common.{◌≡◌, ℕ, ◌+◌, ◌-◌, ◌≤◌, ◌<◌, List, [], ◌∷◌, ◌++◌, length, arith, zero, suc, refl, sym, ◌∙◌, ap, Bool, true, false, nat_le, nat_lt}
+use Rattle.std.proofs.lemmas.Bool.{lt-leb, le-ltb}
 use Rattle.std.specs.Prelude.{◌&&◌, option_and_then, slice_get}
 use Rattle.rst_tree.specs.declared.node.Node.{Node}
 use Rattle.rst_tree.specs.declared.node.Node.TheVariants.{Element, Text}
 use Rattle.rst_tree.specs.Forest.{height}
 use Rattle.rst_tree.specs.Nodes.{forest_of, nodes_of, node_height}
 use Rattle.rst_tree.specs.Paths.{node_at, map_at, changed_at, with_child}
-use Rattle.rst_tree.specs.Tree.{is_sound, is_sound_node, in_order, is_tree, fits, is_element, most_levels}
-use Rattle.rst_tree.specs.Law.{FitsWherePushed}
+use Rattle.rst_tree.specs.Tree.{is_sound, is_sound_node, in_order, is_tree, is_tree_within, fits, is_element, most_levels}
+use Rattle.rst_tree.specs.Law.{FitsWithinLevels}
 use Rattle.rst_tree.proofs.Fitting.{both, and_both, height-cons, sound-cons, pushed_tree}
 
 last_low : (x : Node) (ns : List Node) → node_height x ≤ height (forest_of (ns ++ x ∷ []))
@@ -46,31 +47,47 @@ pushed_sound x (i ∷ at) (Text t) h k = cc
 pushed_sound x (i ∷ at) (Element t a c l) h k =
     sound_at x (changed_at (with_child x) at) at i (nodes_of c) (λ n g j. pushed_sound x at n g j) h (both (in_order a) _ k).1
 
-fits_back : (at : List ℕ) (x root : Node) → is_element (node_at at root) ≡ true → is_tree (changed_at (with_child x) at root) ≡ true → fits at x root ≡ true
-fits_back at x root there h =
-    let new = changed_at (with_child x) at root in
-    let tree = both (nat_le (node_height new) most_levels) (is_sound_node new) h in
-    let within : node_height new ≤ most_levels = grind (arith, tree.0) in
-    let low = deep x at root there in
-    let lt : length at < most_levels = omega arith in
-    let le : node_height x ≤ most_levels - 1 - length at = omega arith in
-    let a : nat_lt (length at) most_levels ≡ true = grind (arith, lt) in
-    let b : nat_le (node_height x) (most_levels - 1 - length at) ≡ true = grind (arith, le) in
-    and_both _ _ (and_both _ _ (and_both _ _ there a) b) (pushed_sound x at root there tree.1)
-
-fits_there : (at : List ℕ) (x root : Node) → fits at x root ≡ true → is_element (node_at at root) ≡ true
-fits_there at x root h =
-    let f = both (is_element (node_at at root) && nat_lt (length at) most_levels && nat_le (node_height x) (most_levels - 1 - length at)) (is_sound_node x) h in
-    let g = both (is_element (node_at at root) && nat_lt (length at) most_levels) (nat_le (node_height x) (most_levels - 1 - length at)) f.0 in
-    (both (is_element (node_at at root)) (nat_lt (length at) most_levels) g.0).0
-
 same_test : (a b : Bool) → (a ≡ true → b ≡ true) → (b ≡ true → a ≡ true) → a ≡ b
 same_test true b to from = sym (to refl)
 same_test false true to from = from refl
 same_test false false to from = refl
 
-pub fits_where_pushed : FitsWherePushed
-fits_where_pushed at node root is =
-    same_test (fits at node root) (is_element (node_at at root) && is_tree (changed_at (with_child node) at root))
-    (λ h. and_both _ _ (fits_there at node root h) (pushed_tree at node root (changed_at (with_child node) at root) is h refl))
-    (λ h. let k = both (is_element (node_at at root)) (is_tree (changed_at (with_child node) at root)) h in fits_back at node root k.0 k.1)
+-- where an element is at the path
+pub fits_within_levels : FitsWithinLevels
+fits_within_levels at node root is there =
+    let new = changed_at (with_child node) at root in
+    same_test (fits at node root) (nat_le (length at + 1 + node_height node) most_levels && is_sound_node node)
+    (λ h.
+    let tree = both (is_element (node_at at root)) (is_tree new) h in
+    let held = both (nat_le (node_height new) most_levels) (is_sound_node new) tree.1 in
+    let within : node_height new ≤ most_levels = grind (arith, held.0) in
+    let low = deep node at root there in
+    let le : length at + 1 + node_height node ≤ most_levels = omega arith in
+    and_both _ _ (grind (arith, le)) (pushed_sound node at root there held.1))
+    (λ h.
+    let room = both (nat_le (length at + 1 + node_height node) most_levels) (is_sound_node node) h in
+    and_both _ _ there (pushed_tree at node root is (grind (arith, room.0)) room.1))
+
+one_high : (n : Node) → 1 ≤ node_height n
+one_high (Element t a c l) = omega arith
+one_high (Text t) = omega arith
+
+-- by the levels that are left at the path
+pub fits_inside : (at : List ℕ) (node root : Node) (b : Bool) → is_tree root ≡ true → is_element (node_at at root) ≡ true → length at < most_levels
+    → b ≡ is_tree_within node (most_levels - 1 - length at) → b ≡ fits at node root
+fits_inside at node root b is there below held =
+    let e : nat_le (node_height node) (most_levels - 1 - length at) ≡ nat_le (length at + 1 + node_height node) most_levels =
+    same_test _ _
+    (λ h. let k : node_height node ≤ most_levels - 1 - length at = grind (arith, h) in let j : length at + 1 + node_height node ≤ most_levels = omega arith in grind (arith, j))
+    (λ h. let k : length at + 1 + node_height node ≤ most_levels = grind (arith, h) in let j : node_height node ≤ most_levels - 1 - length at = omega arith in grind (arith, j)) in
+    held ∙ ap (λ z. z && is_sound_node node) e ∙ sym (fits_within_levels at node root is there)
+
+-- no levels are left
+pub past_levels : (at : List ℕ) → most_levels ≤ length at → nat_lt (length at) most_levels ≡ false
+past_levels at past = le-ltb (length at) most_levels past
+
+pub fits_none : (at : List ℕ) (node root : Node) → is_tree root ≡ true → is_element (node_at at root) ≡ true → most_levels ≤ length at → false ≡ fits at node root
+fits_none at node root is there past =
+    let high = one_high node in
+    let e : nat_le (length at + 1 + node_height node) most_levels ≡ false = lt-leb (length at + 1 + node_height node) most_levels (omega arith) in
+    sym (fits_within_levels at node root is there ∙ ap (λ z. z && is_sound_node node) e)

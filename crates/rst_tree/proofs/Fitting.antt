@@ -1,5 +1,5 @@
 -- Changes that keep a tree a tree.
-use Rattle.std.proofs.Common.{◌≡◌, ℕ, ◌+◌, ◌-◌, ◌≤◌, ◌<◌, List, [], ◌∷◌, ◌++◌, length, arith, zero, suc, refl, sym, ◌∙◌, ap, subst, Bool, true, false, max, nat_le, nat_lt}
+use Rattle.std.proofs.Common.{◌≡◌, ℕ, ◌+◌, ◌-◌, ◌≤◌, ◌<◌, List, [], ◌∷◌, ◌++◌, length, arith, zero, suc, refl, sym, ◌∙◌, ap, subst, Bool, true, false, max, nat_le}
 use Rattle.std.proofs.Common.{drop, get_or, add-one, take}
 use Rattle.std.specs.List.{flat_map}
 use Rattle.std.proofs.lemmas.List.{take_all}
@@ -136,16 +136,15 @@ changed_tree f at root new is changed low keeps =
     let holds : nat_le (node_height (changed_at f at root)) most_levels ≡ true = grind (arith, top) in
     ap is_tree changed ∙ and_both _ _ holds (sound-changed f at root keeps tree.1)
 
--- a tree with a node that fits pushed is a tree
-pub pushed_tree : (at : List ℕ) (x root new : Node) → is_tree root ≡ true → fits at x root ≡ true → new ≡ changed_at (with_child x) at root → is_tree new ≡ true
-pushed_tree at x root new is room changed =
-    let f = both (is_element (node_at at root) && nat_lt (length at) most_levels && nat_le (node_height x) (most_levels - 1 - length at)) (is_sound_node x) room in
-    let g = both (is_element (node_at at root) && nat_lt (length at) most_levels) (nat_le (node_height x) (most_levels - 1 - length at)) f.0 in
-    let h = both (is_element (node_at at root)) (nat_lt (length at) most_levels) g.0 in
-    let deep : length at < most_levels = grind (arith, h.1) in
-    let lower : node_height x ≤ most_levels - 1 - length at = grind (arith, g.1) in
+-- a tree with a node pushed for which the levels suffice is a tree
+pub pushed_tree : (at : List ℕ) (x root : Node) → is_tree root ≡ true → length at + 1 + node_height x ≤ most_levels → is_sound_node x ≡ true → is_tree (changed_at (with_child x) at root) ≡ true
+pushed_tree at x root is room sound =
     let fit : node_height x + 1 ≤ most_levels - length at = omega arith in
-    changed_tree (with_child x) at root new is changed (height-with_child x (most_levels - length at) fit) (sound-with_child x f.1)
+    changed_tree (with_child x) at root (changed_at (with_child x) at root) is refl (height-with_child x (most_levels - length at) fit) (sound-with_child x sound)
+
+-- a tree with a node that fits pushed is a tree
+pub fitted_tree : (at : List ℕ) (x root new : Node) → fits at x root ≡ true → new ≡ changed_at (with_child x) at root → is_tree new ≡ true
+fitted_tree at x root new room changed = ap is_tree changed ∙ (both (is_element (node_at at root)) (is_tree (changed_at (with_child x) at root)) room).1
 
 -- a tree with an attribute set is a tree
 pub set_tree : (at : List ℕ) (k : Key) (v : Value) (root new : Node) → is_tree root ≡ true → new ≡ changed_at (with_value k v) at root → is_tree new ≡ true

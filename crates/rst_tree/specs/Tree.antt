@@ -1,5 +1,5 @@
 -- What is true of each tree, and the texts in it. No rule of markup: the standard bounds no nesting and orders no attributes.
-use Rattle.std.specs.Prelude.{◌≡◌, Result, Ok, Err, ℕ, ◌&&◌, ◌||◌, ◌==◌, ◌-◌, Bool, true, false, not, length, Option, Some, None, nat_le, nat_lt, List, [], ◌∷◌, ◌++◌}
+use Rattle.std.specs.Prelude.{◌≡◌, Result, Ok, Err, ℕ, ◌&&◌, ◌||◌, ◌==◌, Bool, true, false, not, Option, Some, None, nat_le, nat_lt, List, [], ◌∷◌, ◌++◌}
 use Rattle.std.specs.List.{list_all}
 use Rattle.std.specs.Str.{chars}
 use Rattle.rst_text.specs.Lines.{is_line_end}
@@ -9,7 +9,7 @@ use Rattle.rst_tree.specs.declared.node.Node.TheVariants.{Element, Text}
 use Rattle.rst_tree.specs.Forest.{Forest, bare, element, words}
 use Rattle.rst_tree.specs.KeyNames.{key_code}
 use Rattle.rst_tree.specs.Nodes.{node_height}
-use Rattle.rst_tree.specs.Paths.{node_at}
+use Rattle.rst_tree.specs.Paths.{node_at, changed_at, with_child}
 
 -- the names are in order, and no two are the same
 abbrev pub in_order : List Attr → Bool
@@ -59,9 +59,9 @@ is_element None = false
 is_element (Some (Element t a c l)) = true
 is_element (Some (Text t)) = false
 
--- whether an element is at the path, and the node can stand in it: it is sound, and the levels suffice
+-- an element is at the path, and the tree with the node pushed into it is a tree
 abbrev pub fits : List ℕ → Node → Node → Bool
-fits at node root = is_element (node_at at root) && nat_lt (length at) most_levels && nat_le (node_height node) (most_levels - 1 - length at) && is_sound_node node
+fits at node root = is_element (node_at at root) && is_tree (changed_at (with_child node) at root)
 
 -- the texts in the nodes, in order
 abbrev pub text_all : Forest → List ℕ

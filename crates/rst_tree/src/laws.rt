@@ -1,5 +1,5 @@
 //! Laws over the definitions.
-ghost use Rattle.rst_tree.specs.Law.{PrintsEachLine, KeysAreInOrder, FitsWherePushed};
+ghost use Rattle.rst_tree.specs.Law.{PrintsEachLine, KeysAreInOrder, FitsWithinLevels};
 
 /// Each line of a text is printed once, in order, behind one indentation.
 pub fn prints_each_line()
@@ -11,7 +11,7 @@ pub fn keys_are_in_order()
     ensures { KeysAreInOrder }
 {}
 
-/// Where an element is at a path of a tree, a node fits there just where the tree with it pushed is a tree.
-pub fn fits_where_pushed()
-    ensures { FitsWherePushed }
+/// Where an element is at a path of a tree, a node fits there just where the levels below suffice for it, and it is sound.
+pub fn fits_within_levels()
+    ensures { FitsWithinLevels }
 {}

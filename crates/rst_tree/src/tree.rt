@@ -102,13 +102,15 @@ impl Tree {
         is_element_at(&self.root, at)
     }
 
-    /// Whether an element is at the path, and the node can stand in it.
+    /// Whether an element is at the path, and the tree with the node pushed into it is a tree: the levels below suffice, and
+    /// the node is sound.
     pub fn fits(&self, at: &[usize], node: &Node) -> bool
         ensures { result ≡ fits at.now node.now self.now }
     {
-        is_element_at(&self.root, at)
-            && at.len() < Tree::MOST_LEVELS
-            && is_tree_within(node, Tree::MOST_LEVELS - 1 - at.len())
+        if !is_element_at(&self.root, at) {
+            return false;
+        }
+        at.len() < Tree::MOST_LEVELS && is_tree_within(node, Tree::MOST_LEVELS - 1 - at.len())
     }
 
     /// Puts a node that `fits` behind the last in the element at a path; it is given back at want of memory.
