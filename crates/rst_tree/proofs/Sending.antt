@@ -7,7 +7,7 @@ use Rattle.std.specs.List.{flat_map}
 use Rattle.std.specs.Io.KnownBytes.{Appends}
 use Rattle.rst_text.specs.declared.counted.Counted.{Counted}
 use Rattle.rst_tree.specs.declared.page.Page.{Page}
-use Rattle.rst_tree.specs.Sends.{Gets, Sends, Owes, with_page, IsCounted}
+use Rattle.rst_tree.specs.Sends.{Gets, Sends, with_page, IsCounted}
 
 -- one text behind another
 pub Appends-append : (a b c : Option (List ℕ)) (x y : List ℕ) → Appends a b x → Appends b c y → Appends a c (x ++ y)
@@ -68,6 +68,12 @@ Gets-append x y h f p h' f' p' h'' f'' p'' s t = record {
   stays = λ e. let u = s.stays e in let v = t.stays u.1 in (cc (u.0, v.0), v.1);
   whole = λ e. rw length-append (whole_parts s.sent t.sent (length x) (length y) f' f'' s.whole t.whole t.stays e);
 }
+
+-- what has come so far, and what is still to come, is the whole text
+pub record Owes {W : Type 0} {N : ℕ} (contents : W → Option (List ℕ)) (whole rest : List ℕ) (old : Counted W) (page : Page N) (new : Counted W) (page' : Page N) : Type 0 where
+  pub came : List ℕ
+  pub parts : came ++ rest ≡ whole
+  pub sends : Sends contents came old page new page'
 
 -- a step from what is owed to what is owed then
 pub Owes-step : {N : ℕ} {W : Type 0} (contents : W → Option (List ℕ)) (whole x rest : List ℕ) (a : Counted W) (d : Page N) (b : Counted W) (e : Page N) (c : Counted W) (f : Page N)

@@ -39,9 +39,3 @@ Turns contents old page new page' = Sends contents [] old page new page' × (has
 -- the writer took so many bytes: all of them, unless a write failed
 abbrev pub Takes : Stream → List ℕ → ℕ → Type 0
 Takes writer bytes count = (count ≤ length bytes) × Gains writer (take count bytes) × (writer.failed ≡ false → count ≡ length bytes)
-
--- what has come so far, and what is still to come, is the whole text
-pub record Owes {W : Type 0} {N : ℕ} (contents : W → Option (List ℕ)) (whole rest : List ℕ) (old : Counted W) (page : Page N) (new : Counted W) (page' : Page N) : Type 0 where
-  pub came : List ℕ
-  pub parts : came ++ rest ≡ whole
-  pub sends : Sends contents came old page new page'
