@@ -49,5 +49,5 @@ change_next s (Text t) = s
 
 -- the tree of a root, changed
 abbrev pub changed_root : List Change → Node → Node
-changed_root s (Element t a c l) = Element t a (rewritten change_next change_of (λ s n. s) (λ s n. forest_of (n ∷ [])) s c).0 l
+changed_root s (Element t a c l) = Element t a (rewritten change_next change_of s c).0 l
 changed_root s (Text t) = Text t

@@ -20,15 +20,15 @@ nodes_of-join bare g = refl
 nodes_of-join (element t a c l f) g = ap (λ z. Element t a c l ∷ z) (nodes_of-join f g)
 nodes_of-join (words t f) g = ap (λ z. Text t ∷ z) (nodes_of-join f g)
 
-module _ {S : Type 0} (entered : S → Node → S) (becomes : S → Node → Rewrite) (left : S → Node → S) (stands : S → Node → Forest) where
+module _ {S : Type 0} (entered : S → Node → S) (becomes : S → Node → Rewrite) where
   -- nodes rewritten
   abbrev redone : S → Forest → Forest × S
-  redone = rewritten entered becomes left stands
+  redone = rewritten entered becomes
 
   -- what becomes of one element, and the state then
   abbrev pub decided : Rewrite → S → Forest → List Node × S
   decided (Replace f) u c = (nodes_of f, u)
-  decided (Keep t a l) u c = let e : Node = Element t a (redone u c).0 l in (nodes_of (stands (redone u c).1 e), left (redone u c).1 e)
+  decided (Keep t a l) u c = (Element t a (redone u c).0 l ∷ [], (redone u c).1)
 
   -- what becomes of one node
   abbrev pub step : S → Node → List Node × S
@@ -45,12 +45,9 @@ module _ {S : Type 0} (entered : S → Node → S) (becomes : S → Node → Rew
   rewritten-nodes s (Text t ∷ ns) = ap (λ z. Text t ∷ z) (rewritten-nodes s ns)
   rewritten-nodes s (Element t a c l ∷ ns) =
       let u : S = entered s (Element t a c l) in
-      elim (becomes s (Element t a c l)) as (λ v. nodes_of (go_on entered becomes left stands v u (λ w. redone w c) (λ w. redone w (forest_of ns))).0 ≡ (decided v u c).0 ++ (steps (decided v u c).1 ns).0) [
+      elim (becomes s (Element t a c l)) as (λ v. nodes_of (go_on v u (λ w. redone w c) (λ w. redone w (forest_of ns))).0 ≡ (decided v u c).0 ++ (steps (decided v u c).1 ns).0) [
         | Replace f ↦ nodes_of-join f (redone u (forest_of ns)).0 ∙ ap (λ z. nodes_of f ++ z) (rewritten-nodes u ns)
-        | Keep t' a' l' ↦
-            let e : Node = Element t' a' (redone u c).0 l' in
-            let w : S = left (redone u c).1 e in
-            nodes_of-join (stands (redone u c).1 e) (redone w (forest_of ns)).0 ∙ ap (λ z. nodes_of (stands (redone u c).1 e) ++ z) (rewritten-nodes w ns)
+        | Keep t' a' l' ↦ ap (λ z. Element t' a' (redone u c).0 l' ∷ z) (rewritten-nodes (redone u c).1 ns)
       ]
 
   rewritten-state : (s : S) (ns : List Node) → (redone s (forest_of ns)).1 ≡ (steps s ns).1
@@ -58,9 +55,9 @@ module _ {S : Type 0} (entered : S → Node → S) (becomes : S → Node → Rew
   rewritten-state s (Text t ∷ ns) = rewritten-state s ns
   rewritten-state s (Element t a c l ∷ ns) =
       let u : S = entered s (Element t a c l) in
-      elim (becomes s (Element t a c l)) as (λ v. (go_on entered becomes left stands v u (λ w. redone w c) (λ w. redone w (forest_of ns))).1 ≡ (steps (decided v u c).1 ns).1) [
+      elim (becomes s (Element t a c l)) as (λ v. (go_on v u (λ w. redone w c) (λ w. redone w (forest_of ns))).1 ≡ (steps (decided v u c).1 ns).1) [
         | Replace f ↦ rewritten-state u ns
-        | Keep t' a' l' ↦ rewritten-state (left (redone u c).1 (Element t' a' (redone u c).0 l')) ns
+        | Keep t' a' l' ↦ rewritten-state (redone u c).1 ns
       ]
 
   -- all nodes
@@ -98,13 +95,13 @@ Same-child old now i child same fits is =
 module _ {S : Type 0} (entered : S → Node → S) (becomes : S → Node → Rewrite) where
   -- what becomes of nodes, each of which stays or gives way to one
   abbrev pub turns : S → List Node → List Node × S
-  turns = steps entered becomes (λ s n. s) (λ s n. forest_of (n ∷ []))
+  turns = steps entered becomes
 
   abbrev pub turned : S → Forest → Forest × S
-  turned = rewritten entered becomes (λ s n. s) (λ s n. forest_of (n ∷ []))
+  turned = rewritten entered becomes
 
   abbrev pub turn_of : S → Node → List Node × S
-  turn_of = step entered becomes (λ s n. s) (λ s n. forest_of (n ∷ []))
+  turn_of = step entered becomes
 
   -- nodes rewritten before place i
   pub record Turning (children : Forest) (start : S) (now : Forest) (state : S) (i : ℕ) : Type 0 where
@@ -134,11 +131,11 @@ module _ {S : Type 0} (entered : S → Node → S) (becomes : S → Node → Rew
   pub Turning-nodes : (children : Forest) (start : S) (now : Forest) (state : S) (i : ℕ) → Turning children start now state i → length (nodes_of now) ≤ i → now ≡ (turned start children).0
   Turning-nodes children start now state i left all =
       let held : nodes_of now ≡ (turns start (nodes_of children)).0 = sym (append-nil (nodes_of now)) ∙ (rw (take_all i (nodes_of now) all, drop_all i (nodes_of now) all) at left.nodes) in
-      sym (forest_of-nodes_of now) ∙ all_nodes entered becomes (λ s n. s) (λ s n. forest_of (n ∷ [])) start children (nodes_of children) (nodes_of now) (sym (forest_of-nodes_of children)) held
+      sym (forest_of-nodes_of now) ∙ all_nodes entered becomes start children (nodes_of children) (nodes_of now) (sym (forest_of-nodes_of children)) held
 
   pub Turning-state : (children : Forest) (start : S) (now : Forest) (state : S) (i : ℕ) → Turning children start now state i → length (nodes_of now) ≤ i → state ≡ (turned start children).1
   Turning-state children start now state i left all =
-      all_state entered becomes (λ s n. s) (λ s n. forest_of (n ∷ [])) start state children (nodes_of children) (sym (forest_of-nodes_of children)) (rw (drop_all i (nodes_of now) all) at left.done)
+      all_state entered becomes start state children (nodes_of children) (sym (forest_of-nodes_of children)) (rw (drop_all i (nodes_of now) all) at left.done)
 
   -- a text
   pub turn-text : (u : S) (n : Node) (t : List ℕ) → n ≡ Text t → turn_of u n ≡ (n ∷ [], u)
@@ -149,7 +146,7 @@ module _ {S : Type 0} (entered : S → Node → S) (becomes : S → Node → Rew
   turn-away u u' n m t a c l stays is state did gone =
       rw (state, is) (away (becomes u (Element t a c l)) (rw is at did))
     where
-      away : (r : Rewrite) → Turned r (Element t a c l) m stays → decided entered becomes (λ s n. s) (λ s n. forest_of (n ∷ [])) r (entered u (Element t a c l)) c ≡ (m ∷ [], entered u (Element t a c l))
+      away : (r : Rewrite) → Turned r (Element t a c l) m stays → decided entered becomes r (entered u (Element t a c l)) c ≡ (m ∷ [], entered u (Element t a c l))
       away (Replace f) did = rw did.0 (rw (nodes_of-forest_of (m ∷ [])) refl)
       away (Keep t' a' l') did = let z : true ≡ false = rw did.1 at gone in cc
 
@@ -165,7 +162,7 @@ module _ {S : Type 0} (entered : S → Node → S) (becomes : S → Node → Rew
       rw (inside, after, state, is) (stay (becomes u (Element t a c l)) (rw is at did) ∙ ap (λ x. ((remade (entered u (Element t a c l)) x).0 ∷ [], (remade (entered u (Element t a c l)) x).1)) made)
     where
       stay : (r : Rewrite) → Turned r (Element t a c l) m stays
-          → decided entered becomes (λ s n. s) (λ s n. forest_of (n ∷ [])) r (entered u (Element t a c l)) c ≡ ((remade (entered u (Element t a c l)) m).0 ∷ [], (remade (entered u (Element t a c l)) m).1)
+          → decided entered becomes r (entered u (Element t a c l)) c ≡ ((remade (entered u (Element t a c l)) m).0 ∷ [], (remade (entered u (Element t a c l)) m).1)
       stay (Replace f) did = let z : false ≡ true = rw did.1 at there in cc
       stay (Keep t2 a2 l2) did = rw did.0 refl
 

@@ -25,15 +25,13 @@ Turned (Replace f) old new stays = (f ≡ forest_of (new ∷ [])) × (stays ≡ 
 Turned (Keep t a l) (Element t' a' c l') new stays = (new ≡ Element t a c l) × (stays ≡ true)
 Turned (Keep t a l) (Text x) new stays = ⊥
 
-module _ {S : Type 0} (entered : S → Node → S) (becomes : S → Node → Rewrite) (left : S → Node → S) (stands : S → Node → Forest) where
-  -- What becomes of an element and of the nodes behind it, and the state then. Other nodes stand in its place; or it stays,
-  -- what stands in it is gone through, it is left, and then comes what is behind it.
-  abbrev pub go_on : Rewrite → S → (S → Forest × S) → (S → Forest × S) → Forest × S
-  go_on (Replace f) s inside behind = (join f (behind s).0, (behind s).1)
-  go_on (Keep t a l) s inside behind =
-      let e : Node = Element t a (inside s).0 l in
-      (join (stands (inside s).1 e) (behind (left (inside s).1 e)).0, (behind (left (inside s).1 e)).1)
+-- What becomes of an element and of the nodes behind it, and the state then. Other nodes stand in its place; or it stays, what
+-- stands in it is gone through, and then comes what is behind it.
+abbrev pub go_on : {S : Type 0} → Rewrite → S → (S → Forest × S) → (S → Forest × S) → Forest × S
+go_on (Replace f) s inside behind = (join f (behind s).0, (behind s).1)
+go_on (Keep t a l) s inside behind = (element t a (inside s).0 l (behind (inside s).1).0, (behind (inside s).1).1)
 
+module _ {S : Type 0} (entered : S → Node → S) (becomes : S → Node → Rewrite) where
   -- the nodes rewritten, and the state then
   abbrev pub rewritten : S → Forest → Forest × S
   rewritten s bare = (bare, s)

@@ -1,9 +1,8 @@
 //! Elements turned into others, or changed, in preorder and in place.
-ghost use Rattle.std.specs.Prelude.{◌≡◌, ◌∷◌, []};
+ghost use Rattle.std.specs.Prelude.{◌≡◌};
 ghost use Rattle.rst_tree.specs.declared.node.Node.{Node};
 ghost use Rattle.rst_tree.specs.declared.rewriting.Rewrite.{Rewrite};
 ghost use Rattle.rst_tree.specs.Faults.{Gives};
-ghost use Rattle.rst_tree.specs.Nodes.{forest_of};
 ghost use Rattle.rst_tree.specs.Rewritten.{rewritten, Turned};
 
 use crate::attrs::Attrs;
@@ -41,8 +40,8 @@ pub fn rewrite_in<R: Rewriter>(
     nodes: &mut Children,
     rewriter: &mut R,
 ) -> Result<(), TreeFault>
-    ensures nodes { Gives (λ _. nodes.new ≡ (rewritten R.entered R.becomes (λ s n. s) (λ s n. forest_of (n ∷ [])) rewriter.old nodes.old).0) result }
-    ensures state { Gives (λ _. rewriter.new ≡ (rewritten R.entered R.becomes (λ s n. s) (λ s n. forest_of (n ∷ [])) rewriter.old nodes.old).1) result }
+    ensures nodes { Gives (λ _. nodes.new ≡ (rewritten R.entered R.becomes rewriter.old nodes.old).0) result }
+    ensures state { Gives (λ _. rewriter.new ≡ (rewritten R.entered R.becomes rewriter.old nodes.old).1) result }
 {
     for i in 0..nodes.len() {
         let node = nodes.get_mut(i);
