@@ -1,6 +1,7 @@
 -- Lists that are read an item at a time.
-use Rattle.std.proofs.Common.{◌≡◌, ℕ, zero, suc, ◌+◌, ◌-◌, ◌<◌, ◌≤◌, Bool, true, false, cond, List, [], ◌∷◌, ◌++◌, get_or, length, drop, take, map, filter, refl, sym, ap, ◌∙◌, arith, append_assoc, add-one, Some, None}
+use Rattle.std.proofs.Common.{◌≡◌, ℕ, zero, suc, ◌+◌, ◌-◌, ◌<◌, ◌≤◌, Bool, true, false, cond, List, [], ◌∷◌, ◌++◌, get_or, length, drop, take, map, filter, count_by, refl, sym, ap, ap₂, ◌∙◌, arith, append_assoc, add-one, Some, None}
 use Rattle.std.proofs.lemmas.List.{drop_more}
+use Rattle.std.proofs.lemmas.List.Sums.{sum_by_push}
 use Rattle.std.proofs.Math.Seq.{take-append_seam}
 use Rattle.rst_text.specs.Block.{is_blank}
 use Rattle.rst_text.specs.Places.{first_from}
@@ -48,11 +49,18 @@ each_from-more f k high h = ap (λ n. map f (range_with_len k n)) (left_more k h
 pub each_from-end : {X : Type 0} (f : ℕ → X) (k high : ℕ) → high ≤ k → map f (range_with_len k (high - k)) ≡ []
 each_from-end f k high h = let e : high - k ≡ 0 = omega arith in ap (λ n. map f (range_with_len k n)) e
 
-pub below-yes : (p : ℕ → Bool) (k : ℕ) → p k ≡ true → below p (k + 1) ≡ below p k + 1
-below-yes p k e = let f : below p (suc k) ≡ suc (below p k) = rw e refl in ap (below p) (add-one k) ∙ f ∙ sym (add-one (below p k))
+range_more : (a n j : ℕ) → a + n ≡ j → range_with_len a (suc n) ≡ range_with_len a n ++ j ∷ []
+range_more a zero j e = let same : a ≡ j = omega arith in ap (λ k. k ∷ []) same
+range_more a (suc n) j e = ap (λ l. a ∷ l) (range_more (a + 1) n j (omega arith))
 
-pub below-no : (p : ℕ → Bool) (k : ℕ) → p k ≡ false → below p (k + 1) ≡ below p k
-below-no p k e = let f : below p (suc k) ≡ below p k = rw e refl in ap (below p) (add-one k) ∙ f
+pub below_more : (p : ℕ → Bool) (k : ℕ) → below p (suc k) ≡ below p k + cond (p k) 1 0
+below_more p k = ap (count_by p) (range_more 0 k k (omega arith)) ∙ sum_by_push (λ j. cond (p j) 1 0) (range_with_len 0 k) k
+
+pub below_yes : (p : ℕ → Bool) (k : ℕ) → p k ≡ true → below p (k + 1) ≡ below p k + 1
+below_yes p k e = ap (below p) (add-one k) ∙ below_more p k ∙ ap (λ b. below p k + cond b 1 0) e
+
+pub below_no : (p : ℕ → Bool) (k : ℕ) → p k ≡ false → below p (k + 1) ≡ below p k
+below_no p k e = let none : below p k + 0 ≡ below p k = omega arith in ap (below p) (add-one k) ∙ below_more p k ∙ ap (λ b. below p k + cond b 1 0) e ∙ none
 
 -- tests that agree on the numbers that are looked at
 pub all_from-same : (p q : ℕ → Bool) (low n : ℕ) → ((k : ℕ) → low ≤ k → k < low + n → p k ≡ q k) → filter p (range_with_len low n) ≡ filter q (range_with_len low n)
@@ -62,12 +70,12 @@ all_from-same p q low (suc n) same =
     let here : p low ≡ q low = same low (omega arith) (omega arith) in
     ap (λ b. cond b (low ∷ filter p (range_with_len (low + 1) n)) (filter p (range_with_len (low + 1) n))) here ∙ ap (λ l. cond (q low) (low ∷ l) l) rest
 
-pub below-same : (p q : ℕ → Bool) (n : ℕ) → ((k : ℕ) → k < n → p k ≡ q k) → below p n ≡ below q n
-below-same p q zero same = refl
-below-same p q (suc n) same =
-    let rest : below p n ≡ below q n = below-same p q n (λ k under. same k (omega arith)) in
+pub below_same : (p q : ℕ → Bool) (n : ℕ) → ((k : ℕ) → k < n → p k ≡ q k) → below p n ≡ below q n
+below_same p q zero same = refl
+below_same p q (suc n) same =
+    let rest : below p n ≡ below q n = below_same p q n (λ k under. same k (omega arith)) in
     let here : p n ≡ q n = same n (omega arith) in
-    ap (λ b. cond b (suc (below p n)) (below p n)) here ∙ ap (λ l. cond (q n) (suc l) l) rest
+    below_more p n ∙ ap₂ (λ a b. a + cond b 1 0) rest here ∙ sym (below_more q n)
 
 -- pushed onto what stands before
 pub onto : {X : Type 0} (front rest new all : List X) (x : X) → new ≡ front ++ x ∷ [] → front ++ (x ∷ rest) ≡ all → new ++ rest ≡ all

@@ -12,7 +12,7 @@ use Rattle.rst_tables.specs.Drawn.{IsEven, IsFrame, IsDrawn, AreDrawn, IsTiling}
 use Rattle.rst_tables.specs.GridTable.{bounds_row, is_row, is_column, cell_of, row_cells, more_of, is_square, is_whole, dashed, with_dashes, column_widths, gaps}
 use Rattle.rst_tables.specs.declared.drawn.Rectangle.{Rectangle}
 use Rattle.rst_tables.specs.declared.results.Cell.{Cell}
-use Rattle.rst_tables.proofs.Lists.{onto, below-yes, below-same, all_from-same}
+use Rattle.rst_tables.proofs.Lists.{onto, below_more, below_yes, below_same, all_from-same}
 use Rattle.rst_tables.proofs.Rectangles.{frame_within}
 use Rattle.rst_tables.proofs.BoundLemmas.{drawn_at}
 
@@ -67,7 +67,7 @@ each_from-is f d n xs size at = ext_get_or d xs (map f (range_with_len 0 n)) (si
 pub ranks_of : (p : ℕ → Bool) (n : ℕ) (marks : List Bool) (ranks : List ℕ) → AreMarked p n marks → AreRanks (below (λ k. get_or marks k false)) (length marks) ranks → AreRanks (below p) n ranks
 ranks_of p n marks ranks m r = record {
   size = omega (arith, m.size, r.size);
-  at = λ k within. r.at k (omega (arith, m.size)) ∙ below-same (λ j. get_or marks j false) p k (λ j less. m.at j (omega arith));
+  at = λ k within. r.at k (omega (arith, m.size)) ∙ below_same (λ j. get_or marks j false) p k (λ j less. m.at j (omega arith));
 }
 
 pub widths_of : (G : Grid) (rs : List Rectangle) (marks : List Bool) → AreMarked (is_column G rs) (width G) marks → gaps (filter (λ k. get_or marks k false) (range_with_len 0 (length marks))) ≡ column_widths G rs
@@ -77,16 +77,9 @@ widths_of G rs marks m = ap (λ n. gaps (filter (λ k. get_or marks k false) (ra
 below-mono : (p : ℕ → Bool) (a b : ℕ) → a ≤ b → below p a ≤ below p b
 below-mono p a zero h = let e : a ≡ 0 = omega arith in omega (arith, ap (below p) e)
 below-mono p a (suc b) h = ⊎_elim
-    (λ less. omega (arith, below-mono p a b (omega arith), step p b))
+    (λ less. omega (arith, below-mono p a b (omega arith), below_more p b))
     (λ more. let e : a ≡ suc b = omega arith in omega (arith, ap (below p) e))
     (cases_lt a (suc b))
-  where
-    step : (p : ℕ → Bool) (b : ℕ) → below p b ≤ below p (suc b)
-    step p b = by (p b)
-      where
-        by : (t : Bool) → below p b ≤ cond t (suc (below p b)) (below p b)
-        by true = omega arith
-        by false = omega arith
 
 row-top : (G : Grid) (rs : List Rectangle) (k : ℕ) (d : Rectangle) → k < length rs → IsFrame G (get_or rs k d) → is_row G rs (get_or rs k d).top ≡ true
 unfolding bounds_row
@@ -114,8 +107,8 @@ rank-few G rs ranks even t ranked k d inside =
     let within = frame_within G r even drawn.frame in
     let high : r.top < r.bottom = drawn.frame.high in
     let low : r.bottom < length G = within.0 in
-    let top = below-yes p r.top (row-top G rs k d inside drawn.frame) in
-    let bottom = below-yes p r.bottom (row-bottom G rs k d inside drawn.frame) in
+    let top = below_yes p r.top (row-top G rs k d inside drawn.frame) in
+    let bottom = below_yes p r.bottom (row-bottom G rs k d inside drawn.frame) in
     let first = below-mono p (r.top + 1) r.bottom (omega arith) in
     let second = below-mono p (r.bottom + 1) (length G) (omega arith) in
     omega (arith, ranked.at r.top (omega arith), ranked.at (length G) (omega arith))

@@ -1,14 +1,17 @@
 -- Simple tables.
-use Rattle.std.proofs.Common.{◌≡◌, ℕ, suc, ◌+◌, ◌-◌, ◌<◌, ◌≤◌, max, Bool, true, false, cond, ltb, List, [], ◌∷◌, ◌++◌, get_or, length, drop, take, append_assoc, option_map, map, filter, refl, sym, ap, ap₂, ◌∙◌, arith, Option, Some, None}
+use Rattle.std.proofs.Common.{◌≡◌, ℕ, suc, ◌+◌, ◌-◌, ◌<◌, ◌≤◌, max, Bool, true, false, cond, ltb, List, [], ◌∷◌, ◌++◌, get_or, length, drop, take, append_assoc, option_map, map, filter, zero, fold, slice_range, drop_of_length-le, ⊎_elim, refl, sym, ap, ap₂, ◌∙◌, arith, Option, Some, None}
 use Rattle.std.proofs.lemmas.Bool.{eq-eqb, ne_eqb, lt-ltb, ltb-true}
-use Rattle.std.proofs.lemmas.List.Sums.{position_or_len_is}
+use Rattle.std.proofs.lemmas.Bool.{cases_lt}
+use Rattle.std.proofs.lemmas.List.{drop_more, map-append, get_or_past}
+use Rattle.std.proofs.lemmas.List.Sums.{position_or_len_is, fold-append}
 use Rattle.std.specs.Prelude.{position, option_and_then, flat_map}
 use Rattle.std.specs.List.{position_or_len, range_with_len}
 use Rattle.rst_tables.specs.Neighbours.{neighbours}
 use Rattle.rst_tables.specs.declared.simple_rows.RowLines.{RowLines}
 use Rattle.rst_tables.proofs.Lists.{all_from-take, all_from-more, all_from-end}
-use Rattle.rst_tables.specs.Places.{Grid, Row, row_at}
-use Rattle.rst_tables.specs.SimpleTable.{begins_row, row_lines, row_between, section, longest_in, last_joined, joining, spread}
+use Rattle.rst_tables.specs.Places.{Grid, Row, no_row, row_at}
+use Rattle.rst_tables.specs.declared.places.Place.{Place}
+use Rattle.rst_tables.specs.SimpleTable.{begins_row, row_lines, row_between, section, lines_of, longest, last_joined, joining, spread}
 use Rattle.rst_tables.specs.declared.spans.Span.{Span}
 
 left_more : (k high : ℕ) → k < high → high - k ≡ suc (high - (k + 1))
@@ -70,11 +73,56 @@ sections_left-more T low rule rules h =
     let behind : rule ≡ rule + 1 - 1 = omega arith in
     ap₂ (λ n m. section T n rule ++ flat_map (λ (p : ℕ × ℕ). section T (p.0 + 1) p.1) (neighbours (m ∷ rules))) before behind
 
+-- ---- the longest line
+
+-- how many places the longest of some lines has, or n if that is more
+abbrev pub longest_with : ℕ → Grid → ℕ
+longest_with n lines = fold max n (map (λ (line : Row). length line.places) lines)
+
 max_regroup : (a b c : ℕ) → max (max a b) c ≡ max a (max b c)
 max_regroup a b c = grind arith
 
-pub longest-more : (T : Grid) (k to longest : ℕ) → k < to → max (max longest (length (row_at T k))) (longest_in T (k + 1) (to - (k + 1))) ≡ max longest (longest_in T k (to - k))
-longest-more T k to longest h = max_regroup longest (length (row_at T k)) (longest_in T (k + 1) (to - (k + 1))) ∙ sym (ap (λ n. max longest (longest_in T k n)) (left_more k to h))
+longest-is : (n : ℕ) (lines : Grid) → longest_with n lines ≡ max n (longest lines)
+longest-is n [] = omega arith
+longest-is n (r ∷ rs) =
+    longest-is (max n (length r.places)) rs ∙ max_regroup n (length r.places) (longest rs) ∙ ap (max n) (sym (longest-is (length r.places) rs) ∙ ap (λ m. longest_with m rs) (none (length r.places)))
+  where
+    none : (m : ℕ) → m ≡ max 0 m
+    none m = omega arith
+
+-- the lines from a place up to another, read one by one
+slice-some : (T : Grid) (k to : ℕ) → k < to → k < length T → slice_range T k to ≡ get_or T k no_row ∷ slice_range T (k + 1) to
+slice-some T k to h inside = ap (λ n. take n (drop k T)) (left_more k to h) ∙ ap (take (suc (to - (k + 1)))) (drop_more T k no_row inside)
+
+slice-none : (T : Grid) (k to : ℕ) → length T ≤ k → slice_range T k to ≡ []
+slice-none T k to h = ap (take (to - k)) (drop_of_length-le T h) ∙ by (to - k)
+  where
+    none : Grid
+    none = []
+
+    by : (n : ℕ) → take n none ≡ []
+    by zero = refl
+    by (suc n) = refl
+
+pub longest-more : (T : Grid) (k to n : ℕ) → k < to → longest_with (max n (length (row_at T k))) (slice_range T (k + 1) to) ≡ longest_with n (slice_range T k to)
+longest-more T k to n h = ⊎_elim
+    (λ inside. sym (ap (longest_with n) (slice-some T k to h inside)))
+    (λ past. let none : row_at T k ≡ [] = ap (λ (r : Row). r.places) (get_or_past T k no_row past) in
+    ap₂ longest_with (ap (λ (row : List Place). max n (length row)) none ∙ least n) (slice-none T (k + 1) to (omega arith)) ∙ sym (ap (longest_with n) (slice-none T k to past)))
+    (cases_lt k (length T))
+  where
+    least : (m : ℕ) → max m 0 ≡ m
+    least m = omega arith
+
+pub longest-end : (T : Grid) (k to n : ℕ) → to ≤ k → n ≡ longest_with n (slice_range T k to)
+longest-end T k to n h = let none : to - k ≡ 0 = omega arith in sym (ap (λ m. longest_with n (take m (drop k T))) none)
+
+-- the lines of one row more
+pub longest-row : (T : Grid) (n : ℕ) (r : RowLines) (rs : List RowLines) → longest_with (max n (longest (lines_of T r))) (flat_map (lines_of T) rs) ≡ longest_with n (flat_map (lines_of T) (r ∷ rs))
+longest-row T n r rs =
+    let size : Row → ℕ = λ line. length line.places in
+    ap (λ m. longest_with m (flat_map (lines_of T) rs)) (sym (longest-is n (lines_of T r)))
+    ∙ sym (ap (fold max n) (map-append size (lines_of T r) (flat_map (lines_of T) rs)) ∙ fold-append max n (map size (lines_of T r)) (map size (flat_map (lines_of T) rs)))
 
 -- ---- lines that were read
 

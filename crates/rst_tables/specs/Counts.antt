@@ -1,7 +1,7 @@
 -- How many numbers pass a test. No rule of markup: the rows and columns of tables are counted by it.
-use Rattle.std.specs.Prelude.{ℕ, zero, suc, Bool, if◌then◌else◌}
+use Rattle.std.specs.Prelude.{ℕ, Bool, count_by}
+use Rattle.std.specs.List.{range_with_len}
 
 -- how many numbers below n pass
 abbrev pub below : (ℕ → Bool) → ℕ → ℕ
-below p zero = 0
-below p (suc n) = if p n then suc (below p n) else below p n
+below p n = count_by p (range_with_len 0 n)

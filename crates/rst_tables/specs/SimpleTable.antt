@@ -1,6 +1,6 @@
 -- Simple tables: what can be wrong with their lines, and what stands in them (Markup Specification, 'Simple Tables'). Which
 -- lines they are is told by the row of the table of constructs.
-use Rattle.std.specs.Prelude.{ℕ, zero, suc, ◌+◌, ◌-◌, max, Bool, false, not, ◌&&◌, ◌||◌, ◌==◌, nat_le, List, [], ◌∷◌, ◌++◌, Option, Some, None, is_some, if◌then◌else◌, get_or, length, take, drop, map, count_by, unwrap_or, option_map, option_and_then, flat_map, filter, find, position}
+use Rattle.std.specs.Prelude.{ℕ, ◌+◌, ◌-◌, max, Bool, false, not, ◌&&◌, ◌||◌, ◌==◌, nat_le, List, [], ◌∷◌, ◌++◌, Option, Some, None, is_some, if◌then◌else◌, get_or, length, take, drop, slice_range, map, fold, count_by, unwrap_or, option_map, option_and_then, flat_map, filter, find, position}
 use Rattle.std.specs.Char.{is_whitespace}
 use Rattle.std.specs.List.{list_all, range_with_len}
 use Rattle.std.specs.Option.{option_or}
@@ -167,15 +167,17 @@ first_in_margin T (r ∷ rs) = option_or (text_in_margin T (row_spans T r) r.fro
 
 -- ---- widths and cells
 
--- how many places the longest of n lines from `low` on has
-abbrev pub longest_in : Grid → ℕ → ℕ → ℕ
-longest_in T low zero = 0
-longest_in T low (suc n) = max (length (row_at T low)) (longest_in T (low + 1) n)
+-- the lines of a row
+abbrev pub lines_of : Grid → RowLines → Grid
+lines_of T r = slice_range T r.from r.to
+
+-- how many places the longest of some lines has, 0 where there are none
+abbrev pub longest : Grid → ℕ
+longest lines = fold max 0 (map (λ line. length line.places) lines)
 
 -- how many places the longest line of the rows has
 abbrev pub longest_of : Grid → List RowLines → ℕ
-longest_of T [] = 0
-longest_of T (r ∷ rs) = max (longest_in T r.from (r.to - r.from)) (longest_of T rs)
+longest_of T rows = longest (flat_map (lines_of T) rows)
 
 -- the k-th span
 abbrev pub span_of : List Span → ℕ → Span
@@ -183,8 +185,8 @@ span_of spans k = get_or spans k no_span
 
 -- A column is as wide as its part of the top border; the last is as wide as its longest line, if that is wider.
 abbrev pub width_of : List Span → ℕ → ℕ → ℕ
-width_of columns longest k = let c = span_of columns k in
-    if k + 1 == length columns then max (c.to - c.from) (longest - c.from) else c.to - c.from
+width_of columns most k = let c = span_of columns k in
+    if k + 1 == length columns then max (c.to - c.from) (most - c.from) else c.to - c.from
 
 -- the widths of all columns
 abbrev pub simple_widths : Grid → List ℕ
@@ -204,7 +206,7 @@ entries lines spans = map (entry lines spans) (range_with_len 0 (length spans))
 
 -- the cells of a row
 abbrev pub row_entries : Grid → RowLines → List Cell
-row_entries T r = entries (take (r.to - r.from) (drop r.from T)) (row_spans T r)
+row_entries T r = entries (lines_of T r) (row_spans T r)
 
 -- how many rows end above the border that closes the head
 abbrev pub simple_head : Option ℕ → List RowLines → ℕ

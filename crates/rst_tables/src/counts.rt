@@ -21,6 +21,7 @@ pub(crate) fn marked(alloc: Global, marks: &[bool]) -> Result<Vec<usize>, AllocE
 }
 
 /// For each place and the one past the end how many marks before it are set.
+#[tactic(auto, using(crate::proofs::Lists::below_yes, crate::proofs::Lists::below_no))]
 pub(crate) fn ranks(alloc: Global, marks: &[bool]) -> Result<Vec<usize>, AllocError>
     ensures { IfOk result (λ ranks. AreRanks (below (λ j. get_or marks.now j false)) (length marks.now) ranks.items) }
 {
