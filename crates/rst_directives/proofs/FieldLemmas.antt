@@ -1,11 +1,16 @@
 -- Fields that are read one after the other.
 use Rattle.std.proofs.Common.{◌≡◌, ℕ, suc, zero, ◌+◌, ◌-◌, ◌<◌, ◌≤◌, length-drop, true, false, List, [], ◌∷◌, ◌++◌, take, drop, length, get_or, Option, Some, None, refl, sym, ap, ◌∙◌, inl, inr, arith}
+use Rattle.std.specs.List.{prefix_len}
 use Rattle.std.specs.declared.vec.Vec.{Vec}
 use Rattle.rst_text.proofs.PlacesLemmas.{cases_bool}
 use Rattle.rst_marks.specs.Front.{begins_with}
 use Rattle.rst_directives.specs.Characters.{Text}
 use Rattle.rst_directives.specs.Lines.{texts_of}
-use Rattle.rst_directives.specs.Options.{deep_len, FieldText, field_in, onto_fields, fields_below, fields_in}
+use Rattle.rst_directives.specs.Options.{FieldText, field_in, Group, onto_groups, groups, onto_fields, fields_of, fields_in}
+
+-- how many lines at the front begin with a space
+abbrev pub deep_len : List Text → ℕ
+deep_len ts = prefix_len (begins_with 32) ts
 
 -- fields, and those that come behind them if these are right
 abbrev pub behind_fields : List FieldText → Option (List FieldText) → Option (List FieldText)
@@ -18,19 +23,26 @@ deep-here t ts h = let one : 1 + deep_len ts ≡ suc (deep_len ts) = omega arith
 deep-none : (t : Text) (ts : List Text) → begins_with 32 t ≡ false → deep_len (t ∷ ts) ≡ 0
 deep-none t ts h = rw h refl
 
-fields-deep : (t : Text) (ts : List Text) → begins_with 32 t ≡ true → fields_below (t ∷ ts) ≡ fields_below ts
-fields-deep t ts h = rw h refl
+onto-deep : (t : Text) (g : Group) (gs : List Group) → begins_with 32 g.0 ≡ true → onto_groups t (g ∷ gs) ≡ (t, g.0 ∷ g.1) ∷ gs
+onto-deep t g gs h = rw h refl
 
-fields-flat : (t : Text) (ts : List Text) → begins_with 32 t ≡ false → fields_below (t ∷ ts) ≡ fields_in (t ∷ ts)
-fields-flat t ts h = rw h refl
+onto-flat : (t : Text) (g : Group) (gs : List Group) → begins_with 32 g.0 ≡ false → onto_groups t (g ∷ gs) ≡ (t, []) ∷ g ∷ gs
+onto-flat t g gs h = rw h refl
 
--- indented lines below a field are passed over
-pub deep-skip : (ts : List Text) → fields_below ts ≡ fields_in (drop (deep_len ts) ts)
-deep-skip [] = refl
-deep-skip (t ∷ ts) = elim (cases_bool (begins_with 32 t)) [
-  | inl h ↦ fields-deep t ts h ∙ deep-skip ts ∙ sym (ap (λ n. fields_in (drop n (t ∷ ts))) (deep-here t ts h))
-  | inr h ↦ fields-flat t ts h ∙ sym (ap (λ n. fields_in (drop n (t ∷ ts))) (deep-none t ts h))
-]
+-- the first group of lines: the indented lines behind the first belong to it
+first_group : (t : Text) (ts : List Text) → groups (t ∷ ts) ≡ (t, take (deep_len ts) ts) ∷ groups (drop (deep_len ts) ts)
+first_group t [] = refl
+first_group t (u ∷ us) =
+    let rest : groups (u ∷ us) ≡ (u, take (deep_len us) us) ∷ groups (drop (deep_len us) us) = first_group u us in
+    elim (cases_bool (begins_with 32 u)) [
+      | inl h ↦ ap (onto_groups t) rest ∙ onto-deep t (u, take (deep_len us) us) (groups (drop (deep_len us) us)) h
+          ∙ sym (ap (λ n. (t, take n (u ∷ us)) ∷ groups (drop n (u ∷ us))) (deep-here u us h))
+      | inr h ↦ ap (onto_groups t) rest ∙ onto-flat t (u, take (deep_len us) us) (groups (drop (deep_len us) us)) h ∙ ap (λ gs. (t, []) ∷ gs) (sym rest)
+          ∙ sym (ap (λ n. (t, take n (u ∷ us)) ∷ groups (drop n (u ∷ us))) (deep-none u us h))
+    ]
+
+first_field : (t : Text) (ts : List Text) → fields_in (t ∷ ts) ≡ onto_fields (field_in t (take (deep_len ts) ts)) (fields_in (drop (deep_len ts) ts))
+first_field t ts = ap fields_of (first_group t ts)
 
 behind-onto : (done : List FieldText) (f : FieldText) (more : Option (List FieldText)) → behind_fields done (onto_fields (Some f) more) ≡ behind_fields (done ++ f ∷ []) more
 behind-onto done f None = refl
@@ -44,14 +56,14 @@ behind-onto done f (Some more) = ap Some (sym (one done))
 pub fields-more : (X : List Text) (t : Text) (ts : List Text) (done : List FieldText) (f : FieldText) (whole : Option (List FieldText)) → X ≡ t ∷ ts
     → Some f ≡ field_in t (take (deep_len ts) ts) → behind_fields done (fields_in X) ≡ whole → behind_fields (done ++ f ∷ []) (fields_in (drop (deep_len ts) ts)) ≡ whole
 fields-more X t ts done f whole e found h =
-    sym (behind-onto done f (fields_in (drop (deep_len ts) ts))) ∙ ap (λ more. behind_fields done (onto_fields (Some f) more)) (sym (deep-skip ts))
-    ∙ ap (λ field. behind_fields done (onto_fields field (fields_below ts))) found ∙ ap (λ Y. behind_fields done (fields_in Y)) (sym e) ∙ h
+    sym (behind-onto done f (fields_in (drop (deep_len ts) ts))) ∙ ap (λ field. behind_fields done (onto_fields field (fields_in (drop (deep_len ts) ts)))) found
+    ∙ ap (behind_fields done) (sym (ap fields_in e ∙ first_field t ts)) ∙ h
 
 -- a line that begins no field
 pub fields-stop : (X : List Text) (t : Text) (ts : List Text) (done : List FieldText) (whole : Option (List FieldText)) → X ≡ t ∷ ts
     → None ≡ field_in t (take (deep_len ts) ts) → behind_fields done (fields_in X) ≡ whole → None ≡ whole
 fields-stop X t ts done whole e none h =
-    ap (λ field. behind_fields done (onto_fields field (fields_below ts))) none ∙ ap (λ Y. behind_fields done (fields_in Y)) (sym e) ∙ h
+    ap (λ field. behind_fields done (onto_fields field (fields_in (drop (deep_len ts) ts)))) none ∙ ap (behind_fields done) (sym (ap fields_in e ∙ first_field t ts)) ∙ h
 
 -- ---- vectors of characters as texts
 

@@ -2,20 +2,20 @@
 use Rattle.std.specs.Prelude.{ℕ, ◌+◌, Bool, not, ◌&&◌, ◌||◌, ◌==◌, nat_lt, List, [], ◌∷◌, ◌++◌, take, drop, codes, Option, Some, None, option_map, if◌then◌else◌}
 use Rattle.std.specs.List.{list_any}
 use Rattle.rst_text.specs.Block.{indentation, is_blank}
-use Rattle.rst_pieces.specs.Characters.{has}
 use Rattle.rst_marks.specs.Decimal.{number_of}
 use Rattle.rst_directives.specs.Characters.{Text, digits, unindented, is_exactly, lookup}
 use Rattle.rst_directives.specs.declared.measure.Measure.{Measure}
 use Rattle.rst_directives.specs.declared.measure.Alignment.{Alignment}
 use Rattle.rst_directives.specs.declared.measure.Alignment.TheVariants.{Top, Middle, Bottom, Left, Center, Right}
 
--- how many characters a number has with a point and digits behind it; a point without digits is no part of it
-abbrev pub with_part : ℕ → ℕ → ℕ
-with_part whole part = if part == 0 then whole else whole + 1 + part
+-- how many characters of a number stand behind its first digits: a point and digits, or none
+abbrev pub part_len : Text → ℕ
+part_len [] = 0
+part_len (c ∷ cs) = if c == 46 && not (digits cs == 0) then 1 + digits cs else 0
 
--- how many characters the number at the front has: digits, maybe a point and digits
+-- how many characters the number at the front has: digits, and a point and digits where these follow; 0 where there is none
 unfoldable pub number_len : Text → ℕ
-number_len t = if digits t == 0 || not (has t (digits t) 46) then digits t else with_part (digits t) (digits (drop (digits t + 1) t))
+number_len t = if digits t == 0 then 0 else digits t + part_len (drop (digits t) t)
 
 -- the units of lengths
 abbrev pub length_units : List Text
@@ -33,17 +33,16 @@ is_unit t percent = list_any (is_exactly t) (units percent)
 abbrev pub unit_place : Text → ℕ
 unit_place t = number_len t + indentation (drop (number_len t) t)
 
--- what stands where the unit of a measure does, which may be nothing
-abbrev pub unit_in : Text → Text
-unit_in t = drop (unit_place t) t
+-- the text is a unit, or there is none
+abbrev pub may_be_unit : Text → Bool → Bool
+may_be_unit t percent = is_blank t || is_unit t percent
 
--- a measure: a number, maybe spaces, and a unit or nothing
-unfoldable pub is_measure : Text → Bool → Bool
-is_measure t percent = not (number_len t == 0) && (is_blank (unit_in t) || is_unit (unit_in t) percent)
-
--- where the number of a measure ends and its unit begins
+-- where the number of a measure ends and its unit begins: a measure is a number, maybe spaces, and a unit or nothing
 unfoldable pub measure_parts : Text → Bool → Option Measure
-measure_parts t percent = if is_measure t percent then Some (record { number = number_len t; unit = unit_place t }) else None
+measure_parts t percent =
+    if not (number_len t == 0) && may_be_unit (drop (unit_place t) t) percent
+    then Some (record { number = number_len t; unit = unit_place t })
+    else None
 
 -- the unit, or `px` where there is none and one is wanted
 abbrev pub unit_or : Bool → Text → Text

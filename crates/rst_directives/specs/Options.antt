@@ -1,6 +1,6 @@
 -- The options of a directive's block (Markup Specification, 'Directives', 'Field Lists').
-use Rattle.std.specs.Prelude.{ℕ, min, Bool, false, not, List, [], ◌∷◌, map, take, drop, length, slice_range, Option, Some, option_map, option_and_then, ok_or, find, Result, Ok, Err, if◌then◌else◌}
-use Rattle.std.specs.List.{join_with_byte, list_any, prefix_len}
+use Rattle.std.specs.Prelude.{ℕ, min, Bool, false, not, List, [], ◌∷◌, map, take, drop, length, slice_range, Option, Some, option_map, option_and_then, unwrap_or, ok_or, find, Result, Ok, Err, if◌then◌else◌}
+use Rattle.std.specs.List.{join_with_byte, list_any, reduce}
 use Rattle.std.specs.Option.{option_or, option_map_or}
 use Rattle.std.specs.declared.vec.Vec.{Vec}
 use Rattle.rst_text.specs.Block.{indentation}
@@ -18,15 +18,9 @@ use Rattle.rst_directives.specs.declared.option.OptionName.{OptionName}
 use Rattle.rst_directives.specs.declared.options.Field.{Field}
 use Rattle.rst_directives.specs.declared.options.Setting.{Setting}
 
--- how many lines at the front begin with a space
-abbrev pub deep_len : List Text → ℕ
-deep_len ts = prefix_len (begins_with 32) ts
-
 -- the least indentation of lines, 0 where there are none
 abbrev pub least_indentation : List Text → ℕ
-least_indentation [] = 0
-least_indentation (t ∷ []) = indentation t
-least_indentation (t ∷ u ∷ us) = min (indentation t) (least_indentation (u ∷ us))
+least_indentation ts = unwrap_or (reduce min (map indentation ts)) 0
 
 -- a text before lines, unless it is empty
 abbrev pub with_first : Text → List Text → List Text
@@ -49,19 +43,32 @@ FieldText = Text × Text
 unfoldable pub field_in : Text → List Text → Option FieldText
 field_in t below = option_map (λ mark. (slice_range t mark.name.from mark.name.to, joined (drop mark.marker.cut t) below (least_indentation below))) (field_of t)
 
+-- a line, and the indented lines directly below it
+abbrev pub Group : Type 0
+Group = Text × List Text
+
+-- a line before groups: the first of them belongs to it if that begins with an indented line
+abbrev pub onto_groups : Text → List Group → List Group
+onto_groups t [] = (t, []) ∷ []
+onto_groups t (g ∷ gs) = if begins_with 32 g.0 then (t, g.0 ∷ g.1) ∷ gs else (t, []) ∷ g ∷ gs
+
+-- the groups of lines
+abbrev pub groups : List Text → List Group
+groups [] = []
+groups (t ∷ ts) = onto_groups t (groups ts)
+
 -- a field before others, if it and they are fields
 abbrev pub onto_fields : Option FieldText → Option (List FieldText) → Option (List FieldText)
 onto_fields field fields = option_and_then (λ f. option_map (λ fs. f ∷ fs) fields) field
 
--- the fields of lines below a field, to which the indented lines at their front belong
-abbrev pub fields_below : List Text → Option (List FieldText)
-fields_below [] = Some []
-fields_below (t ∷ ts) = if begins_with 32 t then fields_below ts else onto_fields (field_in t (take (deep_len ts) ts)) (fields_below ts)
+-- the fields that groups are, if each is one
+abbrev pub fields_of : List Group → Option (List FieldText)
+fields_of [] = Some []
+fields_of (g ∷ gs) = onto_fields (field_in g.0 g.1) (fields_of gs)
 
--- the fields of lines, if each line begins a field or is indented below one
+-- the fields of lines, if each of their groups is one
 abbrev pub fields_in : List Text → Option (List FieldText)
-fields_in [] = Some []
-fields_in (t ∷ ts) = onto_fields (field_in t (take (deep_len ts) ts)) (fields_below ts)
+fields_in ts = fields_of (groups ts)
 
 -- ---- what is wrong with them
 

@@ -21,7 +21,7 @@ pub enum Alignment {
 
 /// How many characters the number has that a measure begins with: digits, maybe a point and digits; 0 if there is
 /// none.
-#[tactic(auto, unfolding(crate::specs::Measure::number_len))]
+#[tactic(auto, using(crate::proofs::Measures::part_none, crate::proofs::Measures::part_bare, crate::proofs::Measures::part_some), unfolding(crate::specs::Measure::number_len))]
 fn number_len(text: &[char]) -> usize
     ensures value { result ≡ spec.number_len text.now }
     ensures within { result ≤ length text.now }
@@ -58,7 +58,7 @@ struct Measure {
 }
 
 /// The parts of a measure.
-#[tactic(auto, using(crate::proofs::Measures::blank_behind), unfolding(crate::specs::Measure::measure_parts, crate::specs::Measure::is_measure))]
+#[tactic(auto, using(crate::proofs::Measures::blank_behind), unfolding(crate::specs::Measure::measure_parts))]
 fn measure_parts(text: &[char], percent: bool) -> Option<Measure>
     ensures exact { result ≡ spec.measure_parts text.now percent }
     ensures number { IfSome result (λ parts. parts.number ≤ length text.now) }

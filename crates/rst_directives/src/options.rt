@@ -1,5 +1,7 @@
 //! The options of a directive's block.
-ghost use Rattle.std.specs.Prelude.{◌≡◌, ◌+◌, ◌≤◌, ◌<◌, [], length, take, drop, IfOk, option_map};
+ghost use Rattle.std.specs.Prelude.{◌≡◌, ◌+◌, ◌≤◌, ◌<◌, [], length, drop, take_while, IfOk, option_map};
+ghost use Rattle.std.specs.List.{prefix_len};
+ghost use Rattle.rst_marks.specs.Front.{begins_with};
 ghost use Rattle.rst_directives.specs.Faults.{Gives};
 ghost use Rattle.rst_directives.specs.Lines.{texts_of};
 ghost use Rattle.rst_directives.specs.Options as spec;
@@ -28,7 +30,7 @@ pub(crate) struct Field {
 
 /// How many of some lines at the front begin with a space.
 fn deep_len(run: &[Vec<char>]) -> usize
-    ensures value { result ≡ spec.deep_len (texts_of run.now) }
+    ensures value { result ≡ prefix_len (begins_with 32) (texts_of run.now) }
     ensures within { result ≤ length run.now }
 {
     for (i, line) in run.iter().enumerate() {
@@ -95,8 +97,8 @@ pub(crate) fn fields_of(alloc: Global, run: &[Vec<char>]) -> Result<Option<Vec<F
 /// The indented lines directly below a line.
 fn below_of(run: &[Vec<char>], i: usize) -> &[Vec<char>]
     requires { i < length run.now }
-    ensures texts { texts_of result.now ≡ take (spec.deep_len (drop (i + 1) (texts_of run.now))) (drop (i + 1) (texts_of run.now)) }
-    ensures len { length result.now ≡ spec.deep_len (drop (i + 1) (texts_of run.now)) }
+    ensures texts { texts_of result.now ≡ take_while (begins_with 32) (drop (i + 1) (texts_of run.now)) }
+    ensures len { length result.now ≡ prefix_len (begins_with 32) (drop (i + 1) (texts_of run.now)) }
     ensures within { i + 1 + length result.now ≤ length run.now }
 {
     let behind = &run[i + 1..];

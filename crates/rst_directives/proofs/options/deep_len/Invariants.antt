@@ -1,6 +1,6 @@
 use Rattle.std.proofs.Common.{◌≡◌, ◌+◌, drop}
 use Rattle.rst_directives.specs.Lines.{texts_of}
-use Rattle.rst_directives.specs.Options.{deep_len}
+use Rattle.rst_directives.proofs.FieldLemmas.{deep_len}
 use Rattle.rst_directives.proofs.options.deep_len.Given as goal
 
 abbrev pub invariant-loop-i : goal.invariant-loop-i

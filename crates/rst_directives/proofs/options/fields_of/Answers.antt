@@ -1,8 +1,8 @@
 use Rattle.std.proofs.Common.{◌≡◌, ◌+◌, ◌++◌, [], ◌∷◌, drop, take, length, option_map, sym, ap, ◌∙◌, arith}
 use Rattle.rst_directives.specs.Lines.{texts_of}
-use Rattle.rst_directives.specs.Options.{deep_len, field_in, field_text, field_texts, fields_in}
+use Rattle.rst_directives.specs.Options.{field_in, field_text, field_texts, fields_in}
 use Rattle.rst_directives.proofs.Runs.{map-one}
-use Rattle.rst_directives.proofs.FieldLemmas.{behind_fields, fields-more, fields-stop, fields-end, texts-at, length_texts, drop-behind}
+use Rattle.rst_directives.proofs.FieldLemmas.{deep_len, behind_fields, fields-more, fields-stop, fields-end, texts-at, length_texts, drop-behind}
 use Rattle.rst_directives.proofs.options.fields_of.Goals as goal
 
 pub returns-in_default : goal.returns-in_default
