@@ -5,7 +5,7 @@ use Rattle.rst_text.specs.Reach.{reach}
 use Rattle.rst_marks.specs.ExplicitMarks.{dots}
 use Rattle.rst_marks.specs.declared.marker.Marker.{Marker}
 use Rattle.rst_markup.specs.Explicit.{explicit_size}
-use Rattle.rst_markup.specs.ExplicitRow.{explicit_within}
+use Rattle.rst_markup.specs.ExplicitLaws.{explicit_within}
 use Rattle.rst_markup.specs.ReachLaws.{grid_scan_le, simple_scan_le}
 use Rattle.rst_markup.specs.TableRows.{grid_scan, simple_scan}
 use Rattle.rst_markup.proofs.ExplicitLemmas.{indented_le, size_other}

@@ -1,21 +1,18 @@
 -- Characters and words, the words without regard to case where directives and options are named (Markup Specification,
 -- 'Directives').
-use Rattle.std.specs.Prelude.{ℕ, Bool, List, map, drop, find, Option, option_map}
+use Rattle.std.specs.Prelude.{ℕ, Bool, List, map, find, Option, option_map}
 use Rattle.std.specs.Char.{to_ascii_lowercase}
 use Rattle.std.specs.Str.{bytes_eq}
-use Rattle.rst_text.specs.Block.{indentation}
 -- a text: the list of its characters
 pub use Rattle.rst_pieces.specs.Characters.{Text}
+-- a text without the spaces that it begins with
+pub use Rattle.rst_marks.specs.Front.{unindented}
 use Rattle.rst_marks.specs.Class.{run}
 use Rattle.rst_marks.specs.declared.class.Class.TheVariants.{Digit}
 
 -- how many digits a text begins with
 abbrev pub digits : Text → ℕ
 digits t = run Digit t
-
--- a text without the spaces that it begins with
-abbrev pub unindented : Text → Text
-unindented t = drop (indentation t) t
 
 -- A text is the word. What `bytes_eq` of the standard library compares here and below are lists of characters.
 unfoldable pub is_exactly : Text → List ℕ → Bool

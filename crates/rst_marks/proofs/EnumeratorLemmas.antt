@@ -7,7 +7,7 @@ use Rattle.std.specs.Option.{option_and_then}
 use Rattle.rst_marks.specs.Front.{begins_with}
 use Rattle.rst_marks.specs.Class.{run}
 use Rattle.rst_marks.specs.Roman.{roman}
-use Rattle.rst_marks.specs.Enumerator.{case_of, digits, letters, letters_by, as_numeral, written_at, before_one, enumerator_of, begins_no_enumerator}
+use Rattle.rst_marks.specs.Enumerator.{case_of, arabic_at, letters_at, letters_by, as_numeral, written_at, before_one, enumerator_of, begins_no_enumerator}
 use Rattle.rst_marks.specs.declared.class.Class.TheVariants.{Digit, Letter}
 use Rattle.rst_marks.specs.declared.enumerator.Written.{Written}
 
@@ -36,8 +36,8 @@ letters_by_len c n t = by (n == 0) (n == 1) refl refl
     by false true e f = rw (e, f) refl
     by false false e f = rw (e, f) (numeral_len c n (roman (case_of c) (take n t)))
 
-letters_len : (t : List ℕ) → has_len (run Letter t) (letters t)
-unfolding letters
+letters_len : (t : List ℕ) → has_len (run Letter t) (letters_at t)
+unfolding letters_at
 letters_len [] = tt
 letters_len (c ∷ cs) = letters_by_len c (run Letter (c ∷ cs)) (c ∷ cs)
 
@@ -46,8 +46,8 @@ unclosed : (t : List ℕ) (n : ℕ) (o : Option Written) → has_len n o → beg
 unclosed t n None h p q = refl
 unclosed t n (Some w) h p q = rw (h, p, q) refl
 
-written_letters : (t : List ℕ) → begins_with 35 t ≡ false → run Digit t ≡ 0 → written_at t ≡ letters t
-unfolding written_at digits
+written_letters : (t : List ℕ) → begins_with 35 t ≡ false → run Digit t ≡ 0 → written_at t ≡ letters_at t
+unfolding written_at arabic_at
 written_letters t h d = rw (h, d) refl
 
 zero_of : (n : ℕ) → (n == 0) ≡ true → n ≡ 0
@@ -59,8 +59,8 @@ word_none t p h =
     let a = and_true (not (begins_with 35 t)) (run Digit t == 0 && (not (begins_with 41 (drop (run Letter t) t)) && not (begins_with 46 (drop (run Letter t) t)))) h in
     let b = and_true (run Digit t == 0) (not (begins_with 41 (drop (run Letter t) t)) && not (begins_with 46 (drop (run Letter t) t))) a.1 in
     let c = and_true (not (begins_with 41 (drop (run Letter t) t))) (not (begins_with 46 (drop (run Letter t) t))) b.1 in
-    let w : written_at t ≡ letters t = written_letters t (not_true (begins_with 35 t) a.0) (zero_of (run Digit t) b.0) in
-    let u = unclosed t (run Letter t) (letters t) (letters_len t) (not_true (begins_with 41 (drop (run Letter t) t)) c.0) (not_true (begins_with 46 (drop (run Letter t) t)) c.1) in
+    let w : written_at t ≡ letters_at t = written_letters t (not_true (begins_with 35 t) a.0) (zero_of (run Digit t) b.0) in
+    let u = unclosed t (run Letter t) (letters_at t) (letters_len t) (not_true (begins_with 41 (drop (run Letter t) t)) c.0) (not_true (begins_with 46 (drop (run Letter t) t)) c.1) in
     rw (p, w) (sym u)
 
 -- one number is one more than another

@@ -6,7 +6,7 @@ use Rattle.std.specs.List.{filter}
 use Rattle.std.proofs.lemmas.List.{append-nil, append_assoc}
 use Rattle.std.proofs.lemmas.List.Elements.{All-nil, All-cons, All-head, All-tail, All-filter}
 use Rattle.rst_marks.specs.OptionMarker.{option_at, option_tail, argument_width, width_with, PlacedOption, moved, options_from}
-use Rattle.rst_marks.specs.Options.{options_in, may_follow_option, listed, option_in, argument_in, IsOptionIn, AreOptionsIn}
+use Rattle.rst_marks.specs.Options.{options_in, may_follow_option, listed, option_in, argument_at, IsOptionIn, AreOptionsIn}
 use Rattle.rst_marks.specs.Place.{IsIn}
 use Rattle.rst_marks.specs.declared.marker.Marker.{Marker}
 use Rattle.rst_marks.specs.declared.option.Argument.{Argument}
@@ -48,7 +48,7 @@ width_of Nothing before len = refl
 width_of Space before len = omega arith
 width_of Equals before len = omega arith
 
-argument_within : (n before : ℕ) (a : Option Argument) → before + argument_width a ≤ n → IfSome (option_map (argument_in before) a) (λ x. IsIn n x.text)
+argument_within : (n before : ℕ) (a : Option Argument) → before + argument_width a ≤ n → IfSome (option_map (argument_at before) a) (λ x. IsIn n x.text)
 argument_within n before None h = tt
 argument_within n before (Some a) h = (omega arith, omega (arith, width_of a.delimiter before a.len))
 

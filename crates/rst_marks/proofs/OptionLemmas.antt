@@ -10,7 +10,7 @@ use Rattle.rst_marks.specs.declared.option.Argument.{Argument}
 use Rattle.rst_marks.specs.declared.option.OptionMark.{OptionMark}
 use Rattle.rst_marks.specs.declared.option.OptionTail.TheVariants.{Last, Next, Wrong}
 use Rattle.rst_marks.specs.declared.marker.Marker.{Marker}
-use Rattle.rst_marks.specs.OptionMarker.{argument_len, bracketed_len, begins_letter, begins_ascii_alphanumeric, argument_behind, with_delimiter, width_with, argument_width, short_argument, long_argument, long_option, short_option, option_at, option_of, tail_at, option_tail, tail_of, last_if}
+use Rattle.rst_marks.specs.OptionMarker.{argument_len, bracketed_len, begins_letter, begins_ascii_alphanumeric, argument_behind, with_delimiter, width_with, argument_width, short_argument, long_argument, long_option, short_option, option_at, option_of, tail_at, option_tail, tail_behind, last_if}
 use Rattle.rst_marks.specs.Marker.{marker_of}
 use Rattle.rst_text.specs.Block.{is_blank, indentation}
 use Rattle.rst_marks.proofs.TextLemmas.{indent_within}
@@ -163,7 +163,7 @@ pub next_within : (n : ℕ) (t : List ℕ) → option_tail t ≡ Next n → (1 �
 unfolding option_tail
 next_within n t h = by (option_at t) refl h
   where
-    by : (o : Option OptionMark) → option_at t ≡ o → tail_of o t ≡ Next n → (1 ≤ n) × (n ≤ length t)
+    by : (o : Option OptionMark) → option_at t ≡ o → tail_behind o t ≡ Next n → (1 ≤ n) × (n ≤ length t)
     by None e h = cc
     by (Some o) e h = tail_next (o.string + argument_width o.argument) n t (omega (arith, (width_within t o e).0)) h
 
@@ -196,6 +196,6 @@ pub last_within : (t : List ℕ) (m : Marker) → option_tail t ≡ Last m → m
 unfolding option_tail
 last_within t m h = by (option_at t) refl h
   where
-    by : (o : Option OptionMark) → option_at t ≡ o → tail_of o t ≡ Last m → m.cut ≤ length t
+    by : (o : Option OptionMark) → option_at t ≡ o → tail_behind o t ≡ Last m → m.cut ≤ length t
     by None e h = cc
     by (Some o) e h = tail_last (o.string + argument_width o.argument) t m (width_within t o e).1 h

@@ -2,7 +2,7 @@
 use Rattle.std.proofs.Common.{◌≡◌, ℕ, zero, suc, ◌+◌, ◌-◌, ◌≤◌, List, [], ◌∷◌, length, drop, map, Option, None, Some, arith, sub-one, refl, sym, ap, ◌∙◌}
 use Rattle.std.specs.Prelude.{All}
 use Rattle.std.proofs.lemmas.List.Elements.{All-nil, All-cons, All-head, All-tail}
-use Rattle.rst_marks.specs.OptionMarker.{option_at, option_tail, tail_of, argument_width, PlacedOption, moved, with_next, options_from, shifted, marker_of_options}
+use Rattle.rst_marks.specs.OptionMarker.{option_at, option_tail, tail_behind, argument_width, PlacedOption, moved, with_next, options_from, shifted, marker_of_options}
 use Rattle.rst_marks.specs.declared.marker.Marker.{Marker}
 use Rattle.rst_marks.specs.declared.option.OptionMark.{OptionMark}
 use Rattle.rst_marks.specs.declared.option.OptionTail.{OptionTail}
@@ -75,7 +75,7 @@ optioned : (t : List ℕ) (tail : OptionTail) → option_tail t ≡ tail → (ta
 unfolding option_tail
 optioned t tail e right = by (option_at t) refl e
   where
-    by : (o : Option OptionMark) → option_at t ≡ o → tail_of o t ≡ tail → (m : OptionMark) × (option_at t ≡ Some m)
+    by : (o : Option OptionMark) → option_at t ≡ o → tail_behind o t ≡ tail → (m : OptionMark) × (option_at t ≡ Some m)
     by None f e = absurd (right (sym e))
     by (Some m) f e = (m, f)
 

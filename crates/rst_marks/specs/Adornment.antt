@@ -1,11 +1,12 @@
 -- Lines of one punctuation character (Markup Specification, 'Sections', 'Transitions').
-use Rattle.std.specs.Prelude.{ℕ, Bool, ◌&&◌, ◌||◌, ◌==◌, nat_le, List, [], ◌∷◌, length, if◌then◌else◌, Option, None, Some}
+use Rattle.std.specs.Prelude.{ℕ, Bool, ◌&&◌, ◌==◌, List, [], ◌∷◌, length, if◌then◌else◌, Option, None, Some}
+use Rattle.std.specs.Char.{is_ascii_punctuation}
 use Rattle.std.specs.List.{list_all}
 use Rattle.rst_marks.specs.declared.adornment.Adornment.{Adornment}
 
 -- the 32 punctuation characters of ASCII
 abbrev pub is_punctuation : ℕ → Bool
-is_punctuation c = ((nat_le 33 c && nat_le c 47) || (nat_le 58 c && nat_le c 64)) || ((nat_le 91 c && nat_le c 96) || (nat_le 123 c && nat_le c 126))
+is_punctuation c = is_ascii_punctuation c
 
 -- one punctuation character, once or more, and nothing else
 unfoldable pub adornment_of : List ℕ → Option Adornment

@@ -1,7 +1,7 @@
 -- Attributions (Markup Specification, 'Block Quotes').
 use Rattle.std.specs.Prelude.{ℕ, ◌+◌, ◌||◌, ◌==◌, List, drop, if◌then◌else◌, Option, None, Some}
 use Rattle.rst_text.specs.Block.{is_blank, indentation}
-use Rattle.rst_marks.specs.Front.{begins_with}
+use Rattle.rst_marks.specs.Front.{begins_with, unindented}
 use Rattle.rst_marks.specs.Class.{run}
 use Rattle.rst_marks.specs.declared.class.Class.TheVariants.{Only}
 
@@ -17,7 +17,7 @@ dash_len t = if begins_with 0x2014 t then 1 else two_or_three (run (Only 45) t)
 abbrev pub behind_dash : ℕ → List ℕ → Option ℕ
 behind_dash n t =
     if n == 0 then None
-    else if is_blank (drop (indentation (drop n t)) (drop n t)) then None
+    else if is_blank (unindented (drop n t)) then None
     else Some (n + indentation (drop n t))
 
 -- a dash, maybe spaces, and then text: how many characters stand before that

@@ -1,6 +1,7 @@
 -- Classes of characters, and runs of them (Markup Specification, 'Sections', 'Enumerated Lists', 'Option Lists',
 -- 'Block Quotes', 'Grid Tables', 'Simple Tables', 'Footnotes', 'Citations').
-use Rattle.std.specs.Prelude.{ℕ, suc, Bool, not, ◌&&◌, ◌||◌, ◌==◌, nat_le, List, [], ◌∷◌, if◌then◌else◌}
+use Rattle.std.specs.Prelude.{ℕ, suc, Bool, not, ◌||◌, ◌==◌, List, [], ◌∷◌, if◌then◌else◌}
+use Rattle.std.specs.Char.{is_ascii_digit, is_ascii_alphabetic}
 use Rattle.rst_text.specs.Characters.{is_alphanumeric}
 use Rattle.rst_marks.specs.declared.class.Class.{Class}
 use Rattle.rst_marks.specs.declared.class.Class.TheVariants.{Only, Either, Digit, Letter, Option, Bracketed, Unbracketed}
@@ -9,8 +10,8 @@ use Rattle.rst_marks.specs.declared.class.Class.TheVariants.{Only, Either, Digit
 unfoldable pub is_in : Class → ℕ → Bool
 is_in (Only a) c = c == a
 is_in (Either a b) c = c == a || c == b
-is_in Digit c = nat_le 48 c && nat_le c 57
-is_in Letter c = (nat_le 97 c && nat_le c 122) || (nat_le 65 c && nat_le c 90)
+is_in Digit c = is_ascii_digit c
+is_in Letter c = is_ascii_alphabetic c
 is_in Option c = is_alphanumeric c || (c == 95 || c == 45)
 is_in Bracketed c = not (c == 60 || c == 62)
 is_in Unbracketed c = not (c == 93)

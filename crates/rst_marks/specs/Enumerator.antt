@@ -1,5 +1,6 @@
 -- Enumerators (Markup Specification, 'Enumerated Lists').
-use Rattle.std.specs.Prelude.{ℕ, suc, ◌+◌, ◌-◌, Bool, true, false, ◌&&◌, ◌||◌, ◌==◌, nat_le, nat_lt, not, unwrap_or, List, take, drop, if◌then◌else◌, Option, None, Some}
+use Rattle.std.specs.Prelude.{ℕ, suc, ◌+◌, ◌-◌, Bool, true, false, ◌&&◌, ◌||◌, ◌==◌, nat_lt, not, unwrap_or, List, take, drop, if◌then◌else◌, Option, None, Some}
+use Rattle.std.specs.Char.{is_ascii_lowercase, is_ascii_uppercase}
 use Rattle.std.specs.Option.{option_and_then, option_map, option_or}
 use Rattle.rst_marks.specs.Front.{first, begins_with}
 use Rattle.rst_marks.specs.Class.{run}
@@ -21,18 +22,18 @@ use Rattle.rst_marks.specs.Marker.{marker_of}
 
 -- the case of a letter
 abbrev pub case_of : ℕ → Case
-case_of c = if nat_le 97 c && nat_le c 122 then Lower else Upper
+case_of c = if is_ascii_lowercase c then Lower else Upper
 
 -- the place of a letter in the alphabet, from 1
 abbrev pub place_in_alphabet : ℕ → Option ℕ
 place_in_alphabet c =
-    if nat_le 97 c && nat_le c 122 then Some (c - 96)
-    else if nat_le 65 c && nat_le c 90 then Some (c - 64)
+    if is_ascii_lowercase c then Some (c - 96)
+    else if is_ascii_uppercase c then Some (c - 64)
     else None
 
 -- one to nine digits; that more are no ordinal is a limit of the profile
-unfoldable pub digits : List ℕ → Option Written
-digits t =
+unfoldable pub arabic_at : List ℕ → Option Written
+arabic_at t =
     if run Digit t == 0 || nat_lt 9 (run Digit t) then None
     else Some (record { ordinals = Arabic (number_of (run Digit t) t); len = run Digit t })
 
@@ -49,12 +50,12 @@ letters_by c n t =
     else option_and_then (as_numeral (case_of c) n) (roman (case_of c) (take n t))
 
 -- a single letter, which may be a Roman numeral as well, or a Roman numeral
-unfoldable pub letters : List ℕ → Option Written
-letters t = option_and_then (λ c. letters_by c (run Letter t) t) (first t)
+unfoldable pub letters_at : List ℕ → Option Written
+letters_at t = option_and_then (λ c. letters_by c (run Letter t) t) (first t)
 
 -- the ordinal at the front of a text: `#`, digits, a letter or a Roman numeral
 unfoldable pub written_at : List ℕ → Option Written
-written_at t = if begins_with 35 t then Some (record { ordinals = Auto; len = 1 }) else option_or (digits t) (letters t)
+written_at t = if begins_with 35 t then Some (record { ordinals = Auto; len = 1 }) else option_or (arabic_at t) (letters_at t)
 
 -- Neither `x)` nor `x.` can stand at the front: neither `#` nor a digit begins the text, and neither `)` nor `.` is behind the
 -- letters there.

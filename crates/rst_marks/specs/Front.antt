@@ -1,5 +1,6 @@
 -- The front of a text. No rule of markup: by it the marks that begin body elements are told.
-use Rattle.std.specs.Prelude.{ℕ, Bool, true, ◌==◌, List, [], ◌∷◌, Option, None, Some}
+use Rattle.std.specs.Prelude.{ℕ, Bool, true, ◌==◌, List, [], ◌∷◌, drop, Option, None, Some}
+use Rattle.rst_text.specs.Block.{indentation}
 -- a text begins with a character
 pub use Rattle.rst_text.specs.Lines.{begins_with}
 
@@ -12,3 +13,7 @@ first (c ∷ cs) = Some c
 abbrev pub is_loose : List ℕ → Bool
 is_loose [] = true
 is_loose (c ∷ cs) = c == 32
+
+-- a text without the spaces that it begins with
+abbrev pub unindented : List ℕ → List ℕ
+unindented t = drop (indentation t) t

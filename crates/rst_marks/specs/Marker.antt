@@ -1,14 +1,14 @@
 -- Markers (Markup Specification, 'Bullet Lists', 'Doctest Blocks', 'Line Blocks').
 use Rattle.std.specs.Prelude.{ℕ, ◌+◌, Bool, true, ◌&&◌, ◌||◌, ◌==◌, List, drop, if◌then◌else◌, Option, None, Some}
 use Rattle.rst_text.specs.Block.{indentation, is_blank}
-use Rattle.rst_marks.specs.Front.{begins_with, first}
+use Rattle.rst_marks.specs.Front.{begins_with, first, unindented}
 use Rattle.rst_marks.specs.declared.marker.Marker.{Marker}
 
 -- the first n characters of a text with the spaces behind them, if spaces or the end are behind them
 unfoldable pub marker_of : ℕ → List ℕ → Option Marker
 marker_of n t =
     if is_blank (drop n t) then Some (record { cut = n; bare = true })
-    else if begins_with 32 (drop n t) then Some (record { cut = n + indentation (drop n t); bare = is_blank (drop (indentation (drop n t)) (drop n t)) })
+    else if begins_with 32 (drop n t) then Some (record { cut = n + indentation (drop n t); bare = is_blank (unindented (drop n t)) })
     else None
 
 -- `*`, `+`, `-`, U+2022, U+2023, U+2043

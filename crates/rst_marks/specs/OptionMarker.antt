@@ -103,13 +103,13 @@ tail_at n t =
     else last_if (marker_of n t)
 
 -- what stands behind an option at the front of a text; where there is none, the text is wrong
-abbrev pub tail_of : Option OptionMark → List ℕ → OptionTail
-tail_of None t = Wrong
-tail_of (Some o) t = tail_at (o.string + argument_width o.argument) t
+abbrev pub tail_behind : Option OptionMark → List ℕ → OptionTail
+tail_behind None t = Wrong
+tail_behind (Some o) t = tail_at (o.string + argument_width o.argument) t
 
 -- what stands behind the option at the front of a text
 unfoldable pub option_tail : List ℕ → OptionTail
-option_tail t = tail_of (option_at t) t
+option_tail t = tail_behind (option_at t) t
 
 -- an option of a text: how many characters stand before it, the option, and what stands behind it
 pub record PlacedOption : Type 0 where

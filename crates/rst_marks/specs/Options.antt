@@ -12,12 +12,12 @@ use Rattle.rst_marks.specs.declared.options.ListedArgument.{ListedArgument}
 use Rattle.rst_marks.specs.declared.options.ListedOption.{ListedOption}
 
 -- an argument, where this many characters stand before its delimiter
-abbrev pub argument_in : ℕ → Argument → ListedArgument
-argument_in before a = record { delimiter = a.delimiter; text = place_of (width_with a.delimiter before) a.len }
+abbrev pub argument_at : ℕ → Argument → ListedArgument
+argument_at before a = record { delimiter = a.delimiter; text = place_of (width_with a.delimiter before) a.len }
 
 -- an option, where this many characters stand before it
 abbrev pub option_in : ℕ → OptionMark → ListedOption
-option_in before o = record { string = place_of before o.string; argument = option_map (argument_in (before + o.string)) o.argument }
+option_in before o = record { string = place_of before o.string; argument = option_map (argument_at (before + o.string)) o.argument }
 
 -- what stands behind an option may follow one: a comma and a space, two or more spaces, or the end
 abbrev pub may_follow_option : OptionTail → Bool

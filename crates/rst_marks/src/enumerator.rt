@@ -81,9 +81,9 @@ fn place_in_alphabet(c: char) -> Option<u64>
 }
 
 /// The ordinal that the digits at the front of a text spell: at most nine.
-#[tactic(auto, unfolding(crate::specs::Enumerator::digits))]
+#[tactic(auto, unfolding(crate::specs::Enumerator::arabic_at))]
 fn digits(text: &str) -> Option<Written>
-    ensures value { result ≡ spec.digits (chars text.now) }
+    ensures value { result ≡ spec.arabic_at (chars text.now) }
     ensures short { IfSome result (λ written. written.len < 2 ^ 63) }
 {
     let len = run(Class::Digit, text);
@@ -97,9 +97,9 @@ fn digits(text: &str) -> Option<Written>
 }
 
 /// The ordinal that the letters at the front of a text spell: a single letter, or a Roman numeral.
-#[tactic(auto, unfolding(crate::specs::Enumerator::letters))]
+#[tactic(auto, unfolding(crate::specs::Enumerator::letters_at))]
 fn letters(text: &str) -> Option<Written>
-    ensures value { result ≡ spec.letters (chars text.now) }
+    ensures value { result ≡ spec.letters_at (chars text.now) }
     ensures short { IfSome result (λ written. written.len < 2 ^ 63) }
 {
     let first = front(text)?;

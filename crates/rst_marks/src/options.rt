@@ -41,7 +41,7 @@ fn place_of(from: usize, len: usize) -> Characters
 /// An argument, behind `before` characters and its delimiter.
 fn argument_behind(before: usize, argument: Argument) -> ListedArgument
     requires { before + argument.len + 1 < 2 ^ 64 }
-    ensures { result ≡ spec.argument_in before argument }
+    ensures { result ≡ spec.argument_at before argument }
 {
     let delimiter = argument.delimiter;
     let from = match delimiter {

@@ -9,7 +9,7 @@ use Rattle.rst_marks.specs.Front.{first}
 use Rattle.rst_marks.specs.Adornment.{is_punctuation}
 use Rattle.rst_markup.specs.declared.lines.LineTest.TheVariants.{Blank, Begins, Plain}
 use Rattle.rst_markup.specs.Lines.{passes, lines_while}
-use Rattle.rst_markup.specs.Sizes.{literal_size, quoted_size, paragraph_size, paragraph_len, run_size, text_size, hanging_size, filled, bullet_size, enumerator_size, item_size}
+use Rattle.rst_markup.specs.Sizes.{literal_size, quoted_size, paragraph_size, paragraph_len, run_size, text_size, hanging_size, overline_looks, bullet_size, enumerator_size, item_size}
 use Rattle.rst_marks.specs.Marker.{bullet}
 use Rattle.rst_marks.specs.Enumerator.{enumerator_of}
 use Rattle.rst_marks.specs.declared.marker.Marker.{Marker}
@@ -144,18 +144,18 @@ unfolding text_form
 spaced t next e = rw e refl
 
 plain_by : (t : List ℕ) (c : ℕ) (cs : List ℕ) (ms : Block) → (text_form t (c ∷ cs) ≡ Definition → ⊥) → (b : Bool) → (c == 32) ≡ b
-    → filled (c ∷ cs) < suc (cond (passes Plain (c ∷ cs)) (suc (lines_while Plain ms)) 0)
+    → overline_looks (c ∷ cs) < suc (cond (passes Plain (c ∷ cs)) (suc (lines_while Plain ms)) 0)
 plain_by t c cs ms isnt true e = absurd (isnt (spaced t (c ∷ cs) e))
 plain_by t c cs ms isnt false e = let p : passes Plain (c ∷ cs) ≡ true = rw e refl in rw p (omega arith)
 
 -- a paragraph whose next line isn't blank has that line
-pub next_plain : (X : Block) (t : List ℕ) → (text_form t (next_text X) ≡ Definition → ⊥) → filled (next_text X) < run_size Plain X
+pub next_plain : (X : Block) (t : List ℕ) → (text_form t (next_text X) ≡ Definition → ⊥) → overline_looks (next_text X) < run_size Plain X
 unfolding run_size lines_while
 next_plain [] t isnt = omega arith
 next_plain (l ∷ []) t isnt = omega arith
 next_plain (l ∷ m ∷ ms) t isnt = go m.text isnt
   where
-    go : (u : List ℕ) → (text_form t u ≡ Definition → ⊥) → filled u < suc (cond (passes Plain u) (suc (lines_while Plain ms)) 0)
+    go : (u : List ℕ) → (text_form t u ≡ Definition → ⊥) → overline_looks u < suc (cond (passes Plain u) (suc (lines_while Plain ms)) 0)
     go [] isnt = omega arith
     go (c ∷ cs) isnt = plain_by t c cs ms isnt (c == 32) refl
 

@@ -20,7 +20,8 @@ use Rattle.rst_marks.specs.declared.explicit_marks.TargetMark.{TargetMark}
 use Rattle.rst_marks.specs.declared.explicit_marks.TargetMark.TheVariants.{Named, Anonymous as AnonymousMark}
 use Rattle.rst_marks.specs.declared.marker.Marker.{Marker}
 use Rattle.rst_marks.specs.declared.place.Characters.{Characters}
-use Rattle.rst_markup.specs.Explicit.{place_of, target_part, call_of, call_by, held_of, label_with, substitution_with, explicit_by, dots_alone, behind_dots, cut_of, anonymous_of, explicit_with, explicit_of, explicit_size, explicit_end, IsHeld, IsExplicitIn, IsTargetShort}
+use Rattle.rst_marks.specs.Place.{place_of}
+use Rattle.rst_markup.specs.Explicit.{target_part, call_of, call_by, held_of, label_with, substitution_with, explicit_by, dots_alone, behind_dots, cut_of, anonymous_of, explicit_with, explicit_of, explicit_size, explicit_end, IsHeld, IsExplicitIn, IsTargetShort}
 use Rattle.rst_markup.specs.ExplicitMarkup.{explicit_form, substitution_form, comment_cause, hanging_part, least_of}
 use Rattle.rst_markup.specs.Conditions.{next_text}
 use Rattle.rst_markup.specs.Lines.{lines_while}

@@ -3,6 +3,7 @@
 use Rattle.std.specs.Prelude.{ℕ, ◌+◌, ◌<◌, ◌^◌, Bool, true, false, drop, if◌then◌else◌, Option, None, Some}
 use Rattle.rst_text.specs.Block.{Block, front_text, is_blank}
 use Rattle.rst_marks.specs.ExplicitMarks.{dots, underscores, directive_of}
+use Rattle.rst_marks.specs.Place.{place_of}
 use Rattle.rst_marks.specs.declared.explicit_marks.DirectiveMark.{DirectiveMark}
 use Rattle.rst_marks.specs.declared.explicit_marks.LabelKind.{LabelKind}
 use Rattle.rst_marks.specs.declared.explicit_marks.LabelKind.TheVariants.{Footnote as FootnoteLabel, Citation as CitationLabel}
@@ -31,10 +32,6 @@ is_explicit_kind AnonymousKind = true
 is_explicit_kind _ = false
 
 -- ---- what it is
-
--- len characters behind others
-abbrev pub place_of : ℕ → ℕ → Characters
-place_of from len = record { from = from; to = from + len }
 
 -- the text of a target behind n characters: the line and the indented lines below it, with their indentation
 abbrev pub target_part : ℕ → ℕ → Block → Part

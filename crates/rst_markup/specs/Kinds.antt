@@ -2,8 +2,7 @@
 -- Elements').
 use Rattle.std.specs.Prelude.{ℕ, Bool, List, [], ◌∷◌, drop, if◌then◌else◌}
 use Rattle.rst_text.specs.Block.{Block}
-use Rattle.rst_markup.specs.ExplicitRow.{is_explicit_row}
-use Rattle.rst_markup.specs.Rows.{is_adornment_row, is_anonymous_row, is_bar_row, is_blank_row, is_bullet_row, is_doctest_row, is_enumerator_row, is_field_row, is_option_row, is_quote_row, is_text_row}
+use Rattle.rst_markup.specs.Rows.{is_adornment_row, is_anonymous_row, is_bar_row, is_blank_row, is_bullet_row, is_doctest_row, is_enumerator_row, is_explicit_row, is_field_row, is_option_row, is_quote_row, is_text_row}
 use Rattle.rst_markup.specs.TableRows.{is_grid_row, is_simple_row}
 use Rattle.rst_markup.specs.declared.kind.Kind.{Kind}
 use Rattle.rst_markup.specs.declared.kind.Kind.TheVariants.{Blank, Quote, Bullet, Enumerator, Field, OptionItem, Doctest, Line, Grid, Simple, Explicit, Anonymous, Adornment, Text}

@@ -13,7 +13,7 @@ pub mod ExplicitMarkup
 pub mod Parts
 pub mod Explicit
 pub mod Attributions
-pub mod ExplicitRow
+pub mod ExplicitLaws
 pub mod Kinds
 pub mod Begun
 pub mod Ends

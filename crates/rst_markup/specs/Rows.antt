@@ -7,7 +7,7 @@ use Rattle.rst_text.specs.Reach.{reach}
 use Rattle.rst_marks.specs.Front.{begins_with}
 use Rattle.rst_marks.specs.Marker.{bullet, doctest, line_bar}
 use Rattle.rst_marks.specs.Field.{field_of}
-use Rattle.rst_marks.specs.ExplicitMarks.{underscores}
+use Rattle.rst_marks.specs.ExplicitMarks.{dots, underscores}
 use Rattle.rst_marks.specs.Adornment.{adornment_of}
 use Rattle.rst_markup.specs.Conditions.{next_text, after_text, item_enumerator, item_option}
 
@@ -42,6 +42,10 @@ is_doctest_row X = is_some (doctest (front_text X))
 -- a bar begins a line of a line block
 abbrev pub is_bar_row : Block → Bool
 is_bar_row X = is_some (line_bar (front_text X))
+
+-- dots, with spaces or the end behind them, begin explicit markup
+abbrev pub is_explicit_row : Block → Bool
+is_explicit_row X = is_some (dots (front_text X))
 
 -- `__` begins an anonymous target
 abbrev pub is_anonymous_row : Block → Bool

@@ -79,8 +79,8 @@ unfoldable pub paragraph_size : Block → ℕ
 paragraph_size X = paragraph_len X + (if ends_in_colons (last_text X) then literal_size (drop (paragraph_len X) X) else 0)
 
 -- 1 for a line that isn't empty, else 0. No rule of markup: a possible overline over such a line costs one look more.
-abbrev pub filled : List ℕ → ℕ
-filled t = min 1 (length t)
+abbrev pub overline_looks : List ℕ → ℕ
+overline_looks t = min 1 (length t)
 
 -- a paragraph with its literal block, a definition with its indented block, or a title with its underline
 abbrev pub form_size : TextForm → Block → ℕ

@@ -28,7 +28,7 @@ pub fn adorned_at(
     requires next { chars next.now ≡ next_text (drop i (block_of view.now)) }
     requires few { looks.old < 2 ^ 120 + 2 ^ 70 }
     ensures form { result ≡ adorned_form titles mark (next_text (drop i (block_of view.now))) (spec.third_text (drop i (block_of view.now))) }
-    ensures looks { looks.new ≤ looks.old + spec.filled (next_text (drop i (block_of view.now))) }
+    ensures looks { looks.new ≤ looks.old + spec.overline_looks (next_text (drop i (block_of view.now))) }
 {
     if !titles {
         return adorned_below(mark);

@@ -101,7 +101,7 @@ pub fn text_end(view: &View<'_>, i: usize, text: &str, next: &str, looks: &mut L
     requires next { chars next.now ≡ next_text (drop i (block_of view.now)) }
     requires few { looks.old < 2 ^ 120 + 2 ^ 70 }
     ensures end { result ≡ i + spec.text_size (drop i (block_of view.now)) }
-    ensures looks { looks.new + 2 + spec.filled (next_text (drop i (block_of view.now))) ≤ looks.old + 4 * reach (spec.text_size (drop i (block_of view.now))) (drop i (block_of view.now)) }
+    ensures looks { looks.new + 2 + spec.overline_looks (next_text (drop i (block_of view.now))) ≤ looks.old + 4 * reach (spec.text_size (drop i (block_of view.now))) (drop i (block_of view.now)) }
 {
     prove!(i < view.len());
     match text_form(text, next) {

@@ -11,8 +11,8 @@ pub struct ExplicitMarkup;
 
 impl Construct for ExplicitMarkup {
     ghost use Rattle.rst_markup.specs.Explicit.{explicit_size};
-    ghost use Rattle.rst_markup.specs.ExplicitRow.{is_explicit_row, explicit_within, explicit_on_three};
-    ghost use Rattle.rst_markup.specs.Rows.{anywhere, own_reach};
+    ghost use Rattle.rst_markup.specs.ExplicitLaws.{explicit_within, explicit_on_three};
+    ghost use Rattle.rst_markup.specs.Rows.{is_explicit_row, anywhere, own_reach};
     ghost use Rattle.rst_markup.specs.ReachLaws.{own_reaches};
 
     ghost holds = { is_explicit_row };

@@ -5,6 +5,7 @@ ghost use Rattle.rst_text.specs.Block.{front_text};
 ghost use Rattle.rst_text.specs.Reach.{reach};
 ghost use Rattle.rst_text.specs.Shown.{block_of};
 ghost use Rattle.rst_marks.specs.ExplicitMarks as marks;
+ghost use Rattle.rst_marks.specs.Place as places;
 ghost use Rattle.rst_markup.specs.Explicit as spec;
 ghost use Rattle.rst_markup.specs.ExplicitMarkup.{explicit_form, hanging_part};
 ghost use Rattle.rst_markup.specs.Kinds.{kind_of};
@@ -24,7 +25,7 @@ use rst_text::{Looks, View, skip};
 /// The `len` characters behind `from` others.
 fn place_of(from: usize, len: usize) -> Characters
     requires { from + len < 2 ^ 64 }
-    ensures { result ≡ spec.place_of from len }
+    ensures { result ≡ places.place_of from len }
 {
     Characters {
         from,
@@ -75,7 +76,7 @@ fn label_with(view: &View<'_>, i: usize, n: usize, mark: LabelMark, looks: &mut 
     requires label { n + 1 + mark.len < 2 ^ 64 }
     requires marker { n + mark.marker.cut < 2 ^ 64 }
     requires few { looks.old < 2 ^ 120 + 2 }
-    ensures explicit { result ≡ spec.label_with mark.kind (spec.place_of (n + 1) mark.len) (hanging_part i (n + mark.marker.cut) mark.marker.bare (drop i (block_of view.now))) }
+    ensures explicit { result ≡ spec.label_with mark.kind (places.place_of (n + 1) mark.len) (hanging_part i (n + mark.marker.cut) mark.marker.bare (drop i (block_of view.now))) }
     ensures looks { looks.new + 2 ≤ looks.old + 2 * reach (hanging_size (drop i (block_of view.now))) (drop i (block_of view.now)) }
 {
     let label = place_of(n + 1, mark.len);

@@ -11,7 +11,7 @@ use Rattle.rst_tables.specs.declared.simple_rows.RowLines.{RowLines}
 use Rattle.rst_tables.proofs.Lists.{all_from-take, all_from-more, all_from-end}
 use Rattle.rst_tables.specs.Places.{Grid, Row, no_row, row_at}
 use Rattle.rst_tables.specs.declared.places.Place.{Place}
-use Rattle.rst_tables.specs.SimpleTable.{begins_row, row_lines, row_between, section, lines_of, longest, last_joined, joining, spread}
+use Rattle.rst_tables.specs.SimpleTable.{begins_row, row_lines, row_between, section, lines_of_row, longest, last_joined, joining, spread}
 use Rattle.rst_tables.specs.declared.spans.Span.{Span}
 
 left_more : (k high : ℕ) → k < high → high - k ≡ suc (high - (k + 1))
@@ -118,11 +118,11 @@ pub longest-end : (T : Grid) (k to n : ℕ) → to ≤ k → n ≡ longest_with 
 longest-end T k to n h = let none : to - k ≡ 0 = omega arith in sym (ap (λ m. longest_with n (take m (drop k T))) none)
 
 -- the lines of one row more
-pub longest-row : (T : Grid) (n : ℕ) (r : RowLines) (rs : List RowLines) → longest_with (max n (longest (lines_of T r))) (flat_map (lines_of T) rs) ≡ longest_with n (flat_map (lines_of T) (r ∷ rs))
+pub longest-row : (T : Grid) (n : ℕ) (r : RowLines) (rs : List RowLines) → longest_with (max n (longest (lines_of_row T r))) (flat_map (lines_of_row T) rs) ≡ longest_with n (flat_map (lines_of_row T) (r ∷ rs))
 longest-row T n r rs =
     let size : Row → ℕ = λ line. length line.places in
-    ap (λ m. longest_with m (flat_map (lines_of T) rs)) (sym (longest-is n (lines_of T r)))
-    ∙ sym (ap (fold max n) (map-append size (lines_of T r) (flat_map (lines_of T) rs)) ∙ fold-append max n (map size (lines_of T r)) (map size (flat_map (lines_of T) rs)))
+    ap (λ m. longest_with m (flat_map (lines_of_row T) rs)) (sym (longest-is n (lines_of_row T r)))
+    ∙ sym (ap (fold max n) (map-append size (lines_of_row T r) (flat_map (lines_of_row T) rs)) ∙ fold-append max n (map size (lines_of_row T r)) (map size (flat_map (lines_of_row T) rs)))
 
 -- ---- lines that were read
 

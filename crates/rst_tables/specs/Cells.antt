@@ -22,10 +22,6 @@ cut_places left None row = drop left row
 abbrev pub cell_line : ℕ → Option ℕ → Row → Line
 cell_line left right row = record { number = row.number; text = drop_trailing_whitespace (characters (cut_places left right row.places)) }
 
--- lines without the least indentation of those that aren't blank
-abbrev pub unindented : Block → Block
-unindented B = map (shorten (least_indent B)) B
-
 -- the lines of a cell, without the least indentation of those that aren't blank
 abbrev pub cell_block : ℕ → Option ℕ → Grid → Block
-cell_block left right rows = unindented (map (cell_line left right) rows)
+cell_block left right rows = let lines = map (cell_line left right) rows in map (shorten (least_indent lines)) lines

@@ -36,8 +36,8 @@ unfoldable pub is_rule : List Place → Bool
 is_rule row = is_ruled 61 row || is_ruled 45 row
 
 -- a row has no places: its line is blank, or there is no such line
-abbrev pub is_empty : List Place → Bool
-is_empty row = length row == 0
+abbrev pub is_empty_row : List Place → Bool
+is_empty_row row = length row == 0
 
 -- ---- columns
 
@@ -138,7 +138,7 @@ rows_from T rule (Some start) = map (row_between rule) (neighbours (row_places T
 
 -- the rows of the lines from `low` on before a rule, blank lines at their front dropped
 abbrev pub section : Grid → ℕ → ℕ → List RowLines
-section T low rule = rows_from T rule (first_from (λ k. not (is_empty (row_at T k))) low (rule - low))
+section T low rule = rows_from T rule (first_from (λ k. not (is_empty_row (row_at T k))) low (rule - low))
 
 -- the rows of the lines between the top border, line 0, and the first of some rules, and between each of these and the next
 abbrev pub sections : Grid → List ℕ → List RowLines
@@ -168,8 +168,8 @@ first_in_margin T (r ∷ rs) = option_or (text_in_margin T (row_spans T r) r.fro
 -- ---- widths and cells
 
 -- the lines of a row
-abbrev pub lines_of : Grid → RowLines → Grid
-lines_of T r = slice_range T r.from r.to
+abbrev pub lines_of_row : Grid → RowLines → Grid
+lines_of_row T r = slice_range T r.from r.to
 
 -- how many places the longest of some lines has, 0 where there are none
 abbrev pub longest : Grid → ℕ
@@ -177,7 +177,7 @@ longest lines = fold max 0 (map (λ line. length line.places) lines)
 
 -- how many places the longest line of the rows has
 abbrev pub longest_of : Grid → List RowLines → ℕ
-longest_of T rows = longest (flat_map (lines_of T) rows)
+longest_of T rows = longest (flat_map (lines_of_row T) rows)
 
 -- the k-th span
 abbrev pub span_of : List Span → ℕ → Span
@@ -206,7 +206,7 @@ entries lines spans = map (entry lines spans) (range_with_len 0 (length spans))
 
 -- the cells of a row
 abbrev pub row_entries : Grid → RowLines → List Cell
-row_entries T r = entries (lines_of T r) (row_spans T r)
+row_entries T r = entries (lines_of_row T r) (row_spans T r)
 
 -- how many rows end above the border that closes the head
 abbrev pub simple_head : Option ℕ → List RowLines → ℕ

@@ -23,7 +23,7 @@ fn width_at(lines: &[TableLine], k: usize) -> usize
 
 /// How many places the longest line of a row has.
 fn longest_in(lines: &[TableLine], row: RowLines) -> usize
-    ensures { result ≡ spec.longest (spec.lines_of lines.now row) }
+    ensures { result ≡ spec.longest (spec.lines_of_row lines.now row) }
 {
     let mut longest = 0usize;
     for k in row.from..row.to {
@@ -128,7 +128,7 @@ fn entries(alloc: Global, lines: &[TableLine], spans: &[Span]) -> Result<Vec<Cel
 
 /// The lines of a row.
 fn lines_of(lines: &[TableLine], row: RowLines) -> &[TableLine]
-    ensures { result.now ≡ spec.lines_of lines.now row }
+    ensures { result.now ≡ spec.lines_of_row lines.now row }
 {
     let end = row.to.min(lines.len());
     let begin = row.from.min(end);

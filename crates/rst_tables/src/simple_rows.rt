@@ -153,7 +153,7 @@ fn begins_row(lines: &[TableLine], column: Span, k: usize) -> bool
 
 /// Whether a line isn't blank.
 fn has_text(lines: &[TableLine], k: usize) -> bool
-    ensures { result ≡ not (spec.is_empty (row_at lines.now k)) }
+    ensures { result ≡ not (spec.is_empty_row (row_at lines.now k)) }
 {
     match lines.get(k) {
         Some(line) => !line.places().is_empty(),
@@ -163,7 +163,7 @@ fn has_text(lines: &[TableLine], k: usize) -> bool
 
 /// The first line that isn't blank, from place `low` on and before place `end`.
 fn text_start(lines: &[TableLine], low: usize, end: usize) -> Option<usize>
-    ensures value { result ≡ first_from (λ k. not (spec.is_empty (row_at lines.now k))) low (end - low) }
+    ensures value { result ≡ first_from (λ k. not (spec.is_empty_row (row_at lines.now k))) low (end - low) }
     ensures within { IfSome result (λ k. k < end) }
 {
     for k in low..end {

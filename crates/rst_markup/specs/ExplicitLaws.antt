@@ -1,16 +1,19 @@
--- The row of explicit markup that begins with dots, with its laws (Markup Specification, 'Explicit Markup Blocks').
+-- The laws of the row of explicit markup that begins with dots (Markup Specification, 'Explicit Markup Blocks').
+-- A reader of the standard may skip this file: its proofs stand here since the rows' contracts name its laws.
 use Rattle.std.specs.Prelude.{◌≡◌, ℕ, ◌+◌, ◌≤◌, Bool, true, false, cond, is_some, IsTrue, length, take, drop, Option, None, Some}
 use Rattle.std.proofs.Common.{ap, arith, length-drop}
 use Rattle.rst_text.specs.Block.{Block, front_text, is_blank}
 use Rattle.rst_marks.specs.ExplicitMarks.{dots}
+use Rattle.rst_marks.specs.Place.{place_of}
 use Rattle.rst_marks.specs.declared.explicit_marks.LabelKind.{LabelKind}
 use Rattle.rst_marks.specs.declared.explicit_marks.LabelKind.TheVariants.{Footnote, Citation}
 use Rattle.rst_marks.specs.declared.explicit_marks.TargetMark.TheVariants.{Named, Anonymous}
 use Rattle.rst_marks.specs.declared.marker.Marker.{Marker}
 use Rattle.rst_marks.specs.declared.place.Characters.{Characters}
-use Rattle.rst_markup.specs.Explicit.{place_of, label_with, explicit_by, behind_dots, explicit_with, explicit_of, anonymous_of, explicit_end, explicit_size}
+use Rattle.rst_markup.specs.Explicit.{label_with, explicit_by, behind_dots, explicit_with, explicit_of, anonymous_of, explicit_end, explicit_size}
 use Rattle.rst_markup.specs.ExplicitMarkup.{explicit_form, hanging_part}
 use Rattle.rst_markup.specs.Conditions.{next_text}
+use Rattle.rst_markup.specs.Rows.{is_explicit_row}
 use Rattle.rst_markup.specs.RowLaws.{same_front, below_le, while_le}
 use Rattle.rst_markup.specs.Sizes.{hanging_size, indented_size, run_size}
 use Rattle.rst_markup.specs.declared.explicit_markup.ExplicitForm.{ExplicitForm}
@@ -19,10 +22,6 @@ use Rattle.rst_markup.specs.declared.forms.CommentCause.TheVariants.{Plain}
 use Rattle.rst_markup.specs.declared.forms.Explicit.TheVariants.{Comment, EmptyComment}
 use Rattle.rst_markup.specs.declared.lines.LineTest.TheVariants.{Indented}
 use Rattle.rst_markup.specs.declared.part.Part.{Part}
-
--- dots, with spaces or the end behind them, begin explicit markup
-abbrev pub is_explicit_row : Block → Bool
-is_explicit_row X = is_some (dots (front_text X))
 
 -- Whether explicit markup begins depends on the first three lines alone.
 pub explicit_on_three : (X Y : Block) → take 3 X ≡ take 3 Y → is_explicit_row X ≡ is_explicit_row Y
