@@ -1,5 +1,5 @@
 -- The kind of a line, row by row.
-use Rattle.std.proofs.Common.{◌≡◌, ℕ, List, [], refl, ap, ◌∙◌, subst}
+use Rattle.std.proofs.Common.{◌≡◌, ℕ, List, refl, sym, subst}
 use Rattle.std.specs.Prelude.{if◌then◌else◌, is_some}
 use Rattle.rst_text.specs.Block.{Block, front_text, is_blank}
 use Rattle.rst_marks.specs.Front.{begins_with, first}
@@ -10,23 +10,28 @@ use Rattle.rst_marks.specs.ExplicitMarks.{dots, underscores}
 use Rattle.rst_marks.specs.Adornment.{adornment_of}
 use Rattle.rst_markup.specs.Conditions.{next_text, after_text, item_enumerator, item_option}
 use Rattle.rst_markup.specs.Kinds.{later_kinds, first_kind, kind_at}
-use Rattle.rst_markup.specs.Begun.{kind_in, three_lines, IsMarked, IsBegun}
+use Rattle.rst_markup.specs.Begun.{kind_in, IsMarked, IsBegun}
 use Rattle.rst_markup.specs.declared.begun.Begun.{Begun}
+use Rattle.rst_markup.specs.declared.kind.Kind.{Kind}
 use Rattle.rst_markup.specs.declared.kind.Kind.TheVariants.{Blank, Quote, Bullet, Enumerator, Field, OptionItem, Doctest, Line, Grid, Simple, Explicit, Anonymous, Adornment, Text}
 
--- by the first rows of the table, and those from the doctest block on
-pub kind_at_is : (t next after : List ℕ) → kind_at (three_lines t next after) ≡ (
+-- by the first rows of the table, and this kind where none of them holds
+abbrev pub kind_by : List ℕ → List ℕ → List ℕ → Kind → Kind
+kind_by t next after later =
     if is_blank t then Blank
     else if begins_with 32 t then Quote
     else if is_some (bullet t) then Bullet
     else if is_some (item_enumerator t next) then Enumerator
     else if is_some (field_of t) then Field
     else if is_some (item_option t next after) then OptionItem
-    else first_kind later_kinds (three_lines t [] []))
-unfolding kind_at first_kind
-kind_at_is t next after = refl
+    else later
 
-pub later_kind_is : (t : List ℕ) → first_kind later_kinds (three_lines t [] []) ≡ (
+-- the kind of a block's first line, by the first rows of the table and those from the doctest block on
+pub kind_at_is : (X : Block) (t next after : List ℕ) → front_text X ≡ t → next_text X ≡ next → after_text X ≡ after → kind_at X ≡ kind_by t next after (first_kind later_kinds X)
+unfolding kind_at first_kind
+kind_at_is X t next after a b d = rw (sym a, sym b, sym d) refl
+
+pub later_kind_is : (X : Block) (t : List ℕ) → front_text X ≡ t → first_kind later_kinds X ≡ (
     if is_some (doctest t) then Doctest
     else if is_some (line_bar t) then Line
     else if is_grid_border t then Grid
@@ -36,23 +41,14 @@ pub later_kind_is : (t : List ℕ) → first_kind later_kinds (three_lines t [] 
     else if is_some (adornment_of t) then Adornment
     else Text)
 unfolding first_kind
-later_kind_is t = refl
-
--- a block's kind is that of its first three lines
-kind_of_three : (X : Block) → kind_at (three_lines (front_text X) (next_text X) (after_text X)) ≡ kind_at X
-unfolding kind_at first_kind
-kind_of_three X = refl
+later_kind_is X t a = rw (sym a) refl
 
 -- what begins at a line before the next two begins at the front of a block that has these
-pub begun_of : (X : Block) (t next after : List ℕ) (begun : Begun) → t ≡ front_text X → next ≡ next_text X → after ≡ after_text X
-    → kind_in begun ≡ kind_at (three_lines t next after) → IsMarked t next after begun → IsBegun X begun
+pub begun_of : (X : Block) (t next after : List ℕ) (begun : Begun) → front_text X ≡ t → next_text X ≡ next → after_text X ≡ after
+    → kind_in begun ≡ kind_at X → IsMarked t next after begun → IsBegun X begun
 begun_of X t next after begun a b d kind mark = record {
-  kind = kind
-      ∙ ap (λ u. kind_at (three_lines u next after)) a
-      ∙ ap (λ u. kind_at (three_lines (front_text X) u after)) b
-      ∙ ap (λ u. kind_at (three_lines (front_text X) (next_text X) u)) d
-      ∙ kind_of_three X;
-  mark = subst (λ u. IsMarked u (next_text X) (after_text X) begun) a (subst (λ u. IsMarked t u (after_text X) begun) b (subst (λ u. IsMarked t next u begun) d mark));
+  kind = kind;
+  mark = subst (λ u. IsMarked u (next_text X) (after_text X) begun) (sym a) (subst (λ u. IsMarked t u (after_text X) begun) (sym b) (subst (λ u. IsMarked t next u begun) (sym d) mark));
 }
 
 pub bullet_is : (t : List ℕ) → bullet t ≡ bullet_by (first t) t

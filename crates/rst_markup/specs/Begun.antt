@@ -1,5 +1,5 @@
 -- What begins at a line (Markup Specification, 'Body Elements').
-use Rattle.std.specs.Prelude.{◌≡◌, ℕ, List, [], ◌∷◌, Some}
+use Rattle.std.specs.Prelude.{◌≡◌, ℕ, List, Some}
 use Rattle.rst_text.specs.Block.{Block, front_text}
 use Rattle.rst_marks.specs.Adornment.{adornment_of}
 use Rattle.rst_marks.specs.Field.{field_of}
@@ -38,10 +38,6 @@ IsMarked t next after (OptionItem marker) = item_option t next after ≡ Some ma
 IsMarked t next after (Line marker) = line_bar t ≡ Some marker
 IsMarked t next after (Adornment mark) = adornment_of t ≡ Some mark
 IsMarked t next after begun = Unit {0}
-
--- A block of a line and the next two, whose numbers don't matter. No rule of markup: contracts on three texts are said by it.
-abbrev pub three_lines : List ℕ → List ℕ → List ℕ → Block
-three_lines t next after = record { number = 0; text = t } ∷ record { number = 0; text = next } ∷ record { number = 0; text = after } ∷ []
 
 -- what begins at the first line of a block
 pub record IsBegun (X : Block) (begun : Begun) : Type 0 where

@@ -1,7 +1,9 @@
 //! What begins at a line, with what its mark says.
-ghost use Rattle.std.specs.Prelude.{◌≡◌, ℕ, List, [], ◌+◌, ◌^◌, ◌<◌, ◌≤◌, length, drop};
+ghost use Rattle.std.specs.Prelude.{◌≡◌, ℕ, List, ◌+◌, ◌^◌, ◌<◌, ◌≤◌, length, drop};
 ghost use Rattle.std.specs.Str.{chars};
+ghost use Rattle.rst_text.specs.Block.{Block, front_text};
 ghost use Rattle.rst_text.specs.Shown.{block_of};
+ghost use Rattle.rst_markup.specs.Conditions.{next_text, after_text};
 ghost use Rattle.rst_markup.specs.Kinds.{first_kind, kind_at, kind_of, later_kinds};
 ghost use Rattle.rst_markup.specs.Begun as spec;
 
@@ -81,9 +83,9 @@ pub fn begun_at(view: &View<'_>, at: usize, looks: &mut Looks) -> Begun
 }
 
 /// What begins at a line before the next two: the first row of the table of constructs whose condition holds.
-#[tactic(auto, using(crate::proofs::KindRows::kind_at_is, crate::proofs::KindRows::bullet_is))]
+#[tactic(auto, using(crate::proofs::KindRows::bullet_is))]
 fn begun_by(text: &str, next: &str, after: &str) -> Begun
-    ensures kind { spec.kind_in result ≡ kind_at (spec.three_lines (chars text.now) (chars next.now) (chars after.now)) }
+    ensures kind { (X : Block) → front_text X ≡ chars text.now → next_text X ≡ chars next.now → after_text X ≡ chars after.now → spec.kind_in result ≡ kind_at X }
     ensures mark { spec.IsMarked (chars text.now) (chars next.now) (chars after.now) result }
 {
     if is_blank(text) {
@@ -110,7 +112,7 @@ fn begun_by(text: &str, next: &str, after: &str) -> Begun
 /// The same by those rows whose conditions look at the line alone, from the doctest block on.
 #[tactic(auto, using(crate::proofs::KindRows::later_kind_is))]
 fn later_begun(text: &str) -> Begun
-    ensures kind { spec.kind_in result ≡ first_kind later_kinds (spec.three_lines (chars text.now) [] []) }
+    ensures kind { (X : Block) → front_text X ≡ chars text.now → spec.kind_in result ≡ first_kind later_kinds X }
     ensures mark { (next after : List ℕ) → spec.IsMarked (chars text.now) next after result }
 {
     if doctest(text).is_some() {
