@@ -1,8 +1,7 @@
 //! Each change of a tree and each pass over one, on small trees.
-ghost use Rattle.std.specs.Prelude.{◌+◌, ◌-◌, ◌^◌, ◌∷◌, [], min, not, if◌then◌else◌};
+ghost use Rattle.std.specs.Prelude.{◌+◌, ◌-◌, ◌^◌, [], min, not, if◌then◌else◌};
 ghost use Rattle.rst_tree.specs.Walk.{item};
 ghost use Rattle.rst_tree.specs.Rewritten.{kept};
-ghost use Rattle.rst_tree.specs.Nodes.{forest_of};
 ghost use Rattle.rst_tree.specs.Forest.{bare};
 ghost use Rattle.rst_tree.specs.declared.node.Node.TheVariants.{Element};
 ghost use Rattle.rst_tree.specs.declared.rewriting.Rewrite.TheVariants.{Replace};
@@ -177,7 +176,7 @@ struct Thinning {
 impl Rewriter for Thinning {
     ghost entered = { λ s n. record { takes = not s.takes } };
 
-    ghost becomes = { λ s n. if s.takes then Replace (forest_of (Element Transition [] bare 1 ∷ [])) else kept n };
+    ghost becomes = { λ s n. if s.takes then Replace (Element Transition [] bare 1) else kept n };
 
     fn turn(&mut self, alloc: Global, element: &mut Node) -> Result<bool, TreeFault> {
         let takes = self.takes;

@@ -9,7 +9,6 @@ use Rattle.rst_tree.specs.declared.tag.Tag.{Tag}
 use Rattle.rst_tree.specs.declared.tag.Tag.TheVariants.{Problematic}
 use Rattle.rst_tree.specs.Attributes.{with_attr}
 use Rattle.rst_tree.specs.Forest.{Forest, bare, words}
-use Rattle.rst_tree.specs.Nodes.{forest_of}
 use Rattle.rst_tree.specs.Rewritten.{kept, rewritten}
 use Rattle.rst_marked.specs.Linked.{is_linked}
 use Rattle.rst_transform.specs.declared.links.Change.{Change}
@@ -24,7 +23,7 @@ with_more (Some more) attrs = with_attr more.key more.value attrs
 -- an element that stays, or shows a text in place of what stood in it
 abbrev pub shown_as : Option (List ℕ) → Tag → List Attr → ℕ → Rewrite
 shown_as None t a l = Keep t a l
-shown_as (Some text) t a l = Replace (forest_of (Element t a (words text bare) l ∷ []))
+shown_as (Some text) t a l = Replace (Element t a (words text bare) l)
 
 -- what stands in an element that may show a text in its place, and whether that stays
 abbrev pub Shows : Option (List ℕ) → Forest → Forest → Bool → Type 0
@@ -35,7 +34,7 @@ Shows (Some text) old new stays = (new ≡ words text bare) × (stays ≡ false)
 abbrev pub changed_by : List Change → Tag → List Attr → ℕ → Rewrite
 changed_by [] t a l = Keep t a l
 changed_by (Stays x ∷ more) t a l = shown_as x.shown t (with_more x.attr a) l
-changed_by (Fails p ∷ more) t a l = Replace (forest_of (Element Problematic p (words (source_said a) bare) l ∷ []))
+changed_by (Fails p ∷ more) t a l = Replace (Element Problematic p (words (source_said a) bare) l)
 
 -- what becomes of an element
 abbrev pub change_of : List Change → Node → Rewrite

@@ -7,18 +7,17 @@ use Rattle.rst_tree.specs.declared.node.Node.{Node}
 use Rattle.rst_tree.specs.declared.node.Node.TheVariants.{Element, Text}
 use Rattle.rst_tree.specs.declared.rewriting.Rewrite.{Rewrite}
 use Rattle.rst_tree.specs.declared.rewriting.Rewrite.TheVariants.{Keep, Replace}
-use Rattle.rst_tree.specs.Forest.{Forest, bare, element, words, height}
-use Rattle.rst_tree.specs.Nodes.{forest_of, nodes_of, node_height}
-use Rattle.rst_tree.specs.Rewritten.{join, go_on, rewritten, Turned}
+use Rattle.rst_tree.specs.Forest.{Forest, height}
+use Rattle.rst_tree.specs.Nodes.{forest_of, join_node, nodes_of, node_height}
+use Rattle.rst_tree.specs.Rewritten.{go_on, rewritten, Turned}
 use Rattle.rst_tree.proofs.Changes.{forest_of-nodes_of, nodes_of-forest_of}
 use Rattle.rst_tree.proofs.EachNode.{drop_item}
 use Rattle.rst_tree.proofs.Walks.{drop_next, same_item}
 use Rattle.rst_tree.proofs.PrintedParts.{node_height-le}
 
-nodes_of-join : (f g : Forest) → nodes_of (join f g) ≡ nodes_of f ++ nodes_of g
-nodes_of-join bare g = refl
-nodes_of-join (element t a c l f) g = ap (λ z. Element t a c l ∷ z) (nodes_of-join f g)
-nodes_of-join (words t f) g = ap (λ z. Text t ∷ z) (nodes_of-join f g)
+nodes_of-join : (n : Node) (f : Forest) → nodes_of (join_node n f) ≡ n ∷ nodes_of f
+nodes_of-join (Element t a c l) f = refl
+nodes_of-join (Text t) f = refl
 
 module _ {S : Type 0} (entered : S → Node → S) (becomes : S → Node → Rewrite) where
   -- nodes rewritten
@@ -27,7 +26,7 @@ module _ {S : Type 0} (entered : S → Node → S) (becomes : S → Node → Rew
 
   -- what becomes of one element, and the state then
   abbrev pub decided : Rewrite → S → Forest → List Node × S
-  decided (Replace f) u c = (nodes_of f, u)
+  decided (Replace n) u c = (n ∷ [], u)
   decided (Keep t a l) u c = (Element t a (redone u c).0 l ∷ [], (redone u c).1)
 
   -- what becomes of one node
@@ -46,7 +45,7 @@ module _ {S : Type 0} (entered : S → Node → S) (becomes : S → Node → Rew
   rewritten-nodes s (Element t a c l ∷ ns) =
       let u : S = entered s (Element t a c l) in
       elim (becomes s (Element t a c l)) as (λ v. nodes_of (go_on v u (λ w. redone w c) (λ w. redone w (forest_of ns))).0 ≡ (decided v u c).0 ++ (steps (decided v u c).1 ns).0) [
-        | Replace f ↦ nodes_of-join f (redone u (forest_of ns)).0 ∙ ap (λ z. nodes_of f ++ z) (rewritten-nodes u ns)
+        | Replace n ↦ nodes_of-join n (redone u (forest_of ns)).0 ∙ ap (λ z. n ∷ z) (rewritten-nodes u ns)
         | Keep t' a' l' ↦ ap (λ z. Element t' a' (redone u c).0 l' ∷ z) (rewritten-nodes (redone u c).1 ns)
       ]
 
@@ -56,7 +55,7 @@ module _ {S : Type 0} (entered : S → Node → S) (becomes : S → Node → Rew
   rewritten-state s (Element t a c l ∷ ns) =
       let u : S = entered s (Element t a c l) in
       elim (becomes s (Element t a c l)) as (λ v. (go_on v u (λ w. redone w c) (λ w. redone w (forest_of ns))).1 ≡ (steps (decided v u c).1 ns).1) [
-        | Replace f ↦ rewritten-state u ns
+        | Replace n ↦ rewritten-state u ns
         | Keep t' a' l' ↦ rewritten-state (redone u c).1 ns
       ]
 
@@ -147,7 +146,7 @@ module _ {S : Type 0} (entered : S → Node → S) (becomes : S → Node → Rew
       rw (state, is) (away (becomes u (Element t a c l)) (rw is at did))
     where
       away : (r : Rewrite) → Turned r (Element t a c l) m stays → decided entered becomes r (entered u (Element t a c l)) c ≡ (m ∷ [], entered u (Element t a c l))
-      away (Replace f) did = rw did.0 (rw (nodes_of-forest_of (m ∷ [])) refl)
+      away (Replace x) did = ap (λ z. (z ∷ [], entered u (Element t a c l))) (sym did.0)
       away (Keep t' a' l') did = let z : true ≡ false = rw did.1 at gone in cc
 
   -- an element with what stands in it rewritten
@@ -163,7 +162,7 @@ module _ {S : Type 0} (entered : S → Node → S) (becomes : S → Node → Rew
     where
       stay : (r : Rewrite) → Turned r (Element t a c l) m stays
           → decided entered becomes r (entered u (Element t a c l)) c ≡ ((remade (entered u (Element t a c l)) m).0 ∷ [], (remade (entered u (Element t a c l)) m).1)
-      stay (Replace f) did = let z : false ≡ true = rw did.1 at there in cc
+      stay (Replace x) did = let z : false ≡ true = rw did.1 at there in cc
       stay (Keep t2 a2 l2) did = rw did.0 refl
 
   -- it is as high as it was
@@ -172,5 +171,5 @@ module _ {S : Type 0} (entered : S → Node → S) (becomes : S → Node → Rew
       rw is (high (becomes u (Element t a c l)) (rw is at did))
     where
       high : (r : Rewrite) → Turned r (Element t a c l) m stays → node_height m ≡ height c + 1
-      high (Replace f) did = let z : false ≡ true = rw did.1 at there in cc
+      high (Replace x) did = let z : false ≡ true = rw did.1 at there in cc
       high (Keep t2 a2 l2) did = ap node_height did.0

@@ -1,34 +1,28 @@
 -- Elements replaced by nodes, or changed, in preorder, with a state. No rule of markup: transforms are said by it.
-use Rattle.std.specs.Prelude.{◌≡◌, Bool, true, false, [], ◌∷◌}
-use Rattle.rst_tree.specs.Nodes.{forest_of}
+use Rattle.std.specs.Prelude.{◌≡◌, Bool, true, false}
+use Rattle.rst_tree.specs.Nodes.{join_node}
 use Rattle.rst_tree.specs.declared.node.Node.{Node}
 use Rattle.rst_tree.specs.declared.node.Node.TheVariants.{Element, Text}
 use Rattle.rst_tree.specs.declared.rewriting.Rewrite.{Rewrite}
 use Rattle.rst_tree.specs.declared.rewriting.Rewrite.TheVariants.{Keep, Replace}
 use Rattle.rst_tree.specs.Forest.{Forest, bare, element, words}
 
--- some nodes, and then others
-abbrev pub join : Forest → Forest → Forest
-join bare r = r
-join (element t a c l f) r = element t a c l (join f r)
-join (words t f) r = words t (join f r)
-
 -- an element that stays as it is
 abbrev pub kept : Node → Rewrite
 kept (Element t a c l) = Keep t a l
-kept (Text t) = Replace (words t bare)
+kept (Text t) = Replace (Text t)
 
--- The old element became the new node as was told: another node stands in its place; or it stays, with the name, attributes
+-- The old element became the new node as was told: that stands in its place; or it stays, with the name, attributes
 -- and line that were told, and with what stood in it.
 abbrev pub Turned : Rewrite → Node → Node → Bool → Type 0
-Turned (Replace f) old new stays = (f ≡ forest_of (new ∷ [])) × (stays ≡ false)
+Turned (Replace n) old new stays = (new ≡ n) × (stays ≡ false)
 Turned (Keep t a l) (Element t' a' c l') new stays = (new ≡ Element t a c l) × (stays ≡ true)
 Turned (Keep t a l) (Text x) new stays = ⊥
 
--- What becomes of an element and of the nodes behind it, and the state then. Other nodes stand in its place; or it stays, what
+-- What becomes of an element and of the nodes behind it, and the state then. Another node stands in its place; or it stays, what
 -- stands in it is gone through, and then comes what is behind it.
 abbrev pub go_on : {S : Type 0} → Rewrite → S → (S → Forest × S) → (S → Forest × S) → Forest × S
-go_on (Replace f) s inside behind = (join f (behind s).0, (behind s).1)
+go_on (Replace n) s inside behind = (join_node n (behind s).0, (behind s).1)
 go_on (Keep t a l) s inside behind = (element t a (inside s).0 l (behind (inside s).1).0, (behind (inside s).1).1)
 
 module _ {S : Type 0} (entered : S → Node → S) (becomes : S → Node → Rewrite) where

@@ -16,8 +16,8 @@ use std::alloc::Global;
 pub enum Rewrite {
     /// It stays, with this of its own. What stands in it is gone through.
     Keep { tag: Tag, attrs: Attrs, line: usize },
-    /// These nodes stand in its place, and aren't gone through.
-    Replace(Children),
+    /// This node stands in its place, and isn't gone through.
+    Replace(Node),
 }
 
 /// What is done with each element, by a state that it changes.
