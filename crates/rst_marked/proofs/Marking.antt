@@ -1,6 +1,7 @@
 -- Changes at each mark, one after another, are a walk.
 use Rattle.std.proofs.Common.{◌≡◌, ℕ, ◌+◌, ◌<◌, ◌≤◌, List, [], ◌∷◌, ◌++◌, length, get_or, set, drop, take, arith, add-one, append_assoc, zero, suc, refl, sym, ◌∙◌, ap, Bool, true, false}
-use Rattle.std.specs.Prelude.{if◌then◌else◌, map, reverse, None, option_and_then, slice_get}
+use Rattle.std.specs.List.{filter}
+use Rattle.std.specs.Prelude.{cond, if◌then◌else◌, map, reverse, None, option_and_then, slice_get}
 use Rattle.std.proofs.lemmas.List.{append-nil, map-append, reverse-append, drop_all, drop_more, take_all, take_more, length-take-le}
 use Rattle.rst_tree.specs.Paths.{node_at, map_at, changed_at, with_child}
 use Rattle.rst_tree.specs.declared.attrs.Attr.{Attr}
@@ -12,7 +13,7 @@ use Rattle.rst_tree.specs.Nodes.{forest_of, nodes_of}
 use Rattle.rst_tree.specs.Walk.{Item, item, items, node_items, after, walked, walked_node}
 use Rattle.rst_tree.proofs.Walks.{after-append}
 use Rattle.rst_tree.proofs.Changes.{forest_of-nodes_of, nodes_of-forest_of, map_at-set, slice_get-none, slice_get-some}
-use Rattle.rst_marked.specs.Marks.{Place, path_of, deeper, later, own_place, places, own_mark, marks_of, heeded_out, heeded_next, wanted, with_one, retold, after_one}
+use Rattle.rst_marked.specs.Marks.{Place, path_of, deeper, later, own_place, places, own_mark, marks_of, heeded_out, heeded_next, with_one, retold, after_one}
 
 module _ {S : Type 0} (next : S → Item → S) (out : S → Item → Item) where
   -- a state and the nodes, after the element at a place
@@ -308,12 +309,12 @@ changed_at-same f same (i ∷ p) (Element t a c l) =
 changed_at-same f same (i ∷ p) (Text t) = refl
 
 -- the elements that are heeded, one after the other, are those that are wanted
-after-wanted : (needs : Item → Bool) (s : List Item) (xs : List Item) → after (heeded_next needs with_one) (heeded_out needs (λ s x. x)) s xs ≡ s ++ wanted needs xs
-after-wanted needs s [] = sym (append-nil s)
-after-wanted needs s (x ∷ xs) =
-    after-wanted needs (heeded_next needs with_one s x) xs
-    ∙ elim (needs x) as (λ v. (if v then s ++ x ∷ [] else s) ++ wanted needs xs ≡ s ++ (if v then x ∷ wanted needs xs else wanted needs xs))
-    [ true ↦ append_assoc s (x ∷ []) (wanted needs xs) | false ↦ refl ]
+after-filter : (needs : Item → Bool) (s : List Item) (xs : List Item) → after (heeded_next needs with_one) (heeded_out needs (λ s x. x)) s xs ≡ s ++ filter needs xs
+after-filter needs s [] = sym (append-nil s)
+after-filter needs s (x ∷ xs) =
+    after-filter needs (heeded_next needs with_one s x) xs
+    ∙ elim (needs x) as (λ v. (if v then s ++ x ∷ [] else s) ++ filter needs xs ≡ s ++ cond v (x ∷ filter needs xs) (filter needs xs))
+    [ true ↦ append_assoc s (x ∷ []) (filter needs xs) | false ↦ refl ]
 
 -- one more element read, and all of them
 pub read_more : (marks : List (List ℕ)) (p : List ℕ) (i : ℕ) (node : Node) (old new start : List Item) → i < length marks → p ≡ get_or marks i p
@@ -325,7 +326,7 @@ read_more marks p i node old new start fits at is left =
     ∙ left
 
 pub read_whole : (needs : Item → Bool) (marks : List (List ℕ)) (i : ℕ) (node : Node) (found : List Item) → marks ≡ marks_of needs node → length marks ≤ i
-    → (read_node (drop i marks) (found, node)).0 ≡ (read_node marks ([], node)).0 → found ≡ wanted needs (node_items node)
+    → (read_node (drop i marks) (found, node)).0 ≡ (read_node marks ([], node)).0 → found ≡ filter needs (node_items node)
 read_whole needs marks i node found are all left =
     sym (ap (λ z. (read_node z (found, node)).0) (drop_all i marks all)) ∙ left ∙ ap (λ z. (read_node z ([], node)).0) are
-    ∙ ap (λ z. z.0) (many_node-marks with_one (λ s x. x) needs [] node) ∙ after-wanted needs [] (node_items node)
+    ∙ ap (λ z. z.0) (many_node-marks with_one (λ s x. x) needs [] node) ∙ after-filter needs [] (node_items node)

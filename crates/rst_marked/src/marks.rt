@@ -1,10 +1,11 @@
 //! A node with the paths of the elements that registration needs, these elements, and changes at them.
 ghost use Rattle.std.specs.Prelude.{◌≡◌, ◌∷◌, ◌++◌, [], map, reverse, take, drop};
+ghost use Rattle.std.specs.List.{filter};
 ghost use Rattle.rst_tree.specs.Faults.{Gives, Becomes};
 ghost use Rattle.rst_tree.specs.Paths.{node_at, changed_at};
 ghost use Rattle.rst_tree.specs.Walk.{item, node_items, after, scanned, walked_node, node_shape};
 ghost use Rattle.rst_marked.specs.Held.{either, kinds_of};
-ghost use Rattle.rst_marked.specs.Marks.{marks_of, own_mark, wanted, with_one, heeded_next, heeded_out, retold, after_one};
+ghost use Rattle.rst_marked.specs.Marks.{marks_of, own_mark, with_one, heeded_next, heeded_out, retold, after_one};
 ghost use Rattle.rst_marked.specs.Registered.{is_registered_kind, is_registered_key, has_registered_key, is_registered, item_of};
 
 use crate::kinds::Kinds;
@@ -173,7 +174,7 @@ fn elements_at<'a>(
     marks: &[Path],
 ) -> Result<Vec<Element<'a>>, TreeFault>
     requires { marks.now ≡ marks_of is_registered node.now }
-    ensures { Gives (λ list. map item_of list.items ≡ wanted is_registered (node_items node.now)) result }
+    ensures { Gives (λ list. map item_of list.items ≡ filter is_registered (node_items node.now)) result }
 {
     let mut list = Vec::with_capacity(alloc, marks.len())?;
     for path in marks {
@@ -394,7 +395,7 @@ impl Marked {
 
     /// The elements that registration needs, in preorder, found by their paths.
     pub fn elements(&self, alloc: Global) -> Result<Vec<Element<'_>>, TreeFault>
-        ensures { Gives (λ list. map item_of list.items ≡ wanted is_registered (node_items self.now)) result }
+        ensures { Gives (λ list. map item_of list.items ≡ filter is_registered (node_items self.now)) result }
     {
         elements_at(alloc, self.root(), self.marks())
     }

@@ -1,4 +1,4 @@
--- Elements replaced by nodes, or changed, in preorder, with a state. No rule of markup: transforms are said by it.
+-- Elements replaced by other nodes, each by one, or changed, in preorder, with a state. No rule of markup: transforms are said by it.
 use Rattle.std.specs.Prelude.{◌≡◌, Bool, true, false}
 use Rattle.rst_tree.specs.Nodes.{join_node}
 use Rattle.rst_tree.specs.declared.node.Node.{Node}
