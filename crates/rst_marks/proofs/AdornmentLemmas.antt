@@ -1,5 +1,5 @@
 -- An adornment is the run of its first character, if that is the whole line.
-use Rattle.std.proofs.Common.{◌≡◌, ℕ, suc, ◌==◌, ◌&&◌, Bool, true, false, cond, List, [], ◌∷◌, length, drop, Option, None, Some, refl, ◌∙◌}
+use Rattle.std.proofs.Common.{◌≡◌, ℕ, suc, ◌==◌, ◌&&◌, Bool, true, false, cond, List, [], ◌∷◌, length, drop, Option, None, Some, refl, ap, ◌∙◌}
 use Rattle.std.specs.List.{list_all}
 use Rattle.std.proofs.lemmas.Bool.{eq-eqb}
 use Rattle.rst_text.specs.Block.{is_blank}
@@ -8,11 +8,11 @@ use Rattle.rst_marks.specs.Class.{is_in, run}
 use Rattle.rst_marks.specs.Front.{first}
 use Rattle.rst_marks.specs.declared.class.Class.TheVariants.{Only}
 use Rattle.rst_marks.specs.declared.adornment.Adornment.{Adornment}
-use Rattle.rst_marks.proofs.Runs.{whole_run, run_whole}
+use Rattle.rst_marks.proofs.Runs.{run_cons, whole_run, run_whole}
 
 run_first : (c : ℕ) (cs : List ℕ) → run (Only c) (c ∷ cs) ≡ suc (run (Only c) cs)
 unfolding run is_in
-run_first c cs = let same : (c == c) ≡ true = eq-eqb c c refl in rw same refl
+run_first c cs = let same : (c == c) ≡ true = eq-eqb c c refl in run_cons (Only c) c cs ∙ ap (λ b. cond b (suc (run (Only c) cs)) 0) same
 
 -- an adornment of n of this character
 abbrev adorned : ℕ → ℕ → Option Adornment

@@ -9,7 +9,7 @@ use Rattle.rst_marks.specs.Front.{begins_with}
 use Rattle.rst_marks.specs.Class.{is_in, run}
 use Rattle.rst_marks.specs.Border.{is_grid_border, is_simple_border}
 use Rattle.rst_marks.specs.declared.class.Class.TheVariants.{Only, Either}
-use Rattle.rst_marks.proofs.Runs.{whole_run, run_whole}
+use Rattle.rst_marks.proofs.Runs.{run_cons, whole_run, run_whole}
 
 and_false : (a : Bool) → (a && false) ≡ false
 and_false true = refl
@@ -47,7 +47,7 @@ simple_by_run t =
 first_run : (t : List ℕ) → nat_lt 0 (run (Only 61) t) ≡ begins_with 61 t
 unfolding run is_in
 first_run [] = refl
-first_run (c ∷ cs) = by (c == 61)
+first_run (c ∷ cs) = ap (nat_lt 0) (run_cons (Only 61) c cs) ∙ by (c == 61)
   where
     by : (b : Bool) → nat_lt 0 (cond b (suc (run (Only 61) cs)) 0) ≡ b
     by true = grind (arith, nat_tests)
@@ -59,7 +59,7 @@ unfolding run is_in
 spaced_run [] h = refl
 spaced_run (c ∷ cs) h =
     let parts = and_parts (c == 61 || c == 32) (list_all (is_in (Either 61 32)) cs) h in
-    by (c == 61) refl parts.0 (spaced_run cs parts.1)
+    ap (λ n. nat_lt n (suc (length cs))) (run_cons (Only 61) c cs) ∙ by (c == 61) refl parts.0 (spaced_run cs parts.1)
   where
     by : (b : Bool) → (c == 61) ≡ b → (b || c == 32) ≡ true → nat_lt (run (Only 61) cs) (length cs) ≡ list_any (λ d. d == 32) cs
         → nat_lt (cond b (suc (run (Only 61) cs)) 0) (suc (length cs)) ≡ (c == 32 || list_any (λ d. d == 32) cs)

@@ -4,6 +4,7 @@ use Rattle.std.specs.List.{list_all}
 use Rattle.std.proofs.Math.Dec.{eqb-suc-suc}
 use Rattle.std.proofs.lemmas.Bool.{eqb-true, eq-eqb, ne_eqb, lt-ltb, le-ltb, cases_lt}
 use Rattle.std.proofs.lemmas.List.{get_or-take, length-take-le}
+use Rattle.rst_marks.proofs.Runs.{run_cons}
 use Rattle.rst_text.specs.Block.{is_blank}
 use Rattle.rst_text.specs.Characters.{is_alphanumeric}
 use Rattle.rst_text.specs.Places.{first_from, IsFirst}
@@ -137,7 +138,7 @@ unfolding run is_in
 digits_take zero [] h = cc
 digits_take zero (c ∷ cs) h = let bracket : c ≡ 93 = eqb-true c 93 h in rw bracket refl
 digits_take (suc n) [] h = cc
-digits_take (suc n) (c ∷ cs) h = by (is_in Digit c) (digits_take n cs h)
+digits_take (suc n) (c ∷ cs) h = by (is_in Digit c) (digits_take n cs h) ∙ sym (ap (λ m. m == suc n) (run_cons Digit c cs))
   where
     by : (b : Bool) → list_all (is_in Digit) (take n cs) ≡ (run Digit cs == n) → (b && list_all (is_in Digit) (take n cs)) ≡ (cond b (suc (run Digit cs)) 0 == suc n)
     by true h = h ∙ sym (eqb-suc-suc (run Digit cs) n)

@@ -1,5 +1,6 @@
 -- Option markers stand within their lines.
-use Rattle.std.proofs.Common.{◌≡◌, ℕ, suc, ◌+◌, ◌-◌, ◌<◌, ◌≤◌, ◌==◌, Bool, true, false, not, cond, ◌&&◌, ◌||◌, List, [], ◌∷◌, length, drop, length-drop, Option, None, Some, IfSome, arith, refl, ap, ◌∙◌, subst}
+use Rattle.std.proofs.Common.{◌≡◌, ℕ, ◌+◌, ◌-◌, ◌<◌, ◌≤◌, ◌==◌, Bool, true, false, not, cond, ◌&&◌, ◌||◌, List, [], ◌∷◌, length, drop, length-drop, Option, None, Some, IfSome, arith, refl, ap, ◌∙◌, subst}
+use Rattle.std.proofs.lemmas.List.Sums.{prefix_len-le-length}
 use Rattle.rst_marks.specs.Front.{begins_with}
 use Rattle.rst_marks.specs.Class.{run, is_in}
 use Rattle.rst_marks.specs.declared.class.Class.{Class}
@@ -17,12 +18,7 @@ use Rattle.rst_marks.proofs.TextLemmas.{indent_within}
 
 pub run_le : (class : Class) (cs : List ℕ) → run class cs ≤ length cs
 unfolding run
-run_le class [] = omega arith
-run_le class (c ∷ cs) = by (is_in class c) (run_le class cs)
-  where
-    by : (b : Bool) → run class cs ≤ length cs → cond b (suc (run class cs)) 0 ≤ suc (length cs)
-    by true h = omega arith
-    by false h = omega arith
+run_le class cs = prefix_len-le-length (is_in class) cs
 
 pub there : (c n : ℕ) (t : List ℕ) → begins_with c (drop n t) ≡ true → n < length t
 there c n t h = go (drop n t) h (length-drop n t)

@@ -6,6 +6,8 @@ use Rattle.std.specs.Str.{bytes_eq}
 use Rattle.std.proofs.lemmas.Bool.{and_parts, eqb-true, eq-eqb, ne_eqb, le-ltb}
 use Rattle.std.proofs.lemmas.Bool.Decides.{nat_tests}
 use Rattle.std.proofs.lemmas.List.{take-append-drop, length-replicate, length-take-le, drop-drop}
+use Rattle.std.proofs.lemmas.List.Sums.{prefix_len-le-length}
+use Rattle.rst_marks.proofs.Runs.{run_cons}
 use Rattle.rst_text.specs.Places.{IsFirst}
 use Rattle.rst_text.proofs.PlacesLemmas.{cases_bool, first_from-is}
 use Rattle.rst_marks.specs.Front.{begins_with}
@@ -66,7 +68,7 @@ ones_in m h x i a b c = omega arith
 no_letter : (c : ℕ) (t : List ℕ) → is_in Letter c ≡ true → begins_with c (drop (run Letter t) t) ≡ false
 unfolding run
 no_letter c [] h = refl
-no_letter c (d ∷ ds) h = by (is_in Letter d) refl (no_letter c ds h)
+no_letter c (d ∷ ds) h = ap (λ n. begins_with c (drop n (d ∷ ds))) (run_cons Letter d ds) ∙ by (is_in Letter d) refl (no_letter c ds h)
   where
     by : (b : Bool) → is_in Letter d ≡ b → begins_with c (drop (run Letter ds) ds) ≡ false → begins_with c (drop (cond b (suc (run Letter ds)) 0) (d ∷ ds)) ≡ false
     by true e k = k
@@ -93,12 +95,16 @@ runs_on : (c k : ℕ) (r : List ℕ) → begins_with c r ≡ false → run (Only
 unfolding run is_in
 runs_on c zero [] h = refl
 runs_on c zero (d ∷ ds) h = rw h refl
-runs_on c (suc k) r h = let same : (c == c) ≡ true = eq-eqb c c refl in rw same (ap suc (runs_on c k r h))
+runs_on c (suc k) r h =
+    let same : (c == c) ≡ true = eq-eqb c c refl in
+    run_cons (Only c) c (replicate k c ++ r) ∙ ap (λ b. cond b (suc (run (Only c) (replicate k c ++ r))) 0) same ∙ ap suc (runs_on c k r h)
 
 run_takes : (c : ℕ) (t : List ℕ) → take (run (Only c) t) t ≡ replicate (run (Only c) t) c
 unfolding run is_in
 run_takes c [] = refl
-run_takes c (d ∷ ds) = by (d == c) refl (run_takes c ds)
+run_takes c (d ∷ ds) =
+    let e = run_cons (Only c) d ds in
+    ap (λ n. take n (d ∷ ds)) e ∙ by (d == c) refl (run_takes c ds) ∙ sym (ap (λ n. replicate n c) e)
   where
     by : (b : Bool) → (d == c) ≡ b → take (run (Only c) ds) ds ≡ replicate (run (Only c) ds) c
         → take (cond b (suc (run (Only c) ds)) 0) (d ∷ ds) ≡ replicate (cond b (suc (run (Only c) ds)) 0) c
@@ -401,12 +407,7 @@ read_letters case n m h x i r none few a b c size =
 
 run_le : (t : List ℕ) → run Letter t ≤ length t
 unfolding run
-run_le [] = omega arith
-run_le (c ∷ cs) = by (is_in Letter c) (run_le cs)
-  where
-    by : (b : Bool) → run Letter cs ≤ length cs → cond b (suc (run Letter cs)) 0 ≤ suc (length cs)
-    by true h = omega arith
-    by false h = omega arith
+run_le t = prefix_len-le-length (is_in Letter) t
 
 assoc : (a b c : List ℕ) → (a ++ b) ++ c ≡ a ++ (b ++ c)
 assoc [] b c = refl

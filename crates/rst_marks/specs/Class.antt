@@ -1,7 +1,8 @@
 -- Classes of characters, and runs of them (Markup Specification, 'Sections', 'Enumerated Lists', 'Option Lists',
 -- 'Block Quotes', 'Grid Tables', 'Simple Tables', 'Footnotes', 'Citations').
-use Rattle.std.specs.Prelude.{ℕ, suc, Bool, not, ◌||◌, ◌==◌, List, [], ◌∷◌, if◌then◌else◌}
+use Rattle.std.specs.Prelude.{ℕ, Bool, not, ◌||◌, ◌==◌, List}
 use Rattle.std.specs.Char.{is_ascii_digit, is_ascii_alphabetic}
+use Rattle.std.specs.List.{prefix_len}
 use Rattle.rst_text.specs.Characters.{is_alphanumeric}
 use Rattle.rst_marks.specs.declared.class.Class.{Class}
 use Rattle.rst_marks.specs.declared.class.Class.TheVariants.{Only, Either, Digit, Letter, Option, Bracketed, Unbracketed}
@@ -18,5 +19,4 @@ is_in Unbracketed c = not (c == 93)
 
 -- how many characters at the front of a text are in the class
 unfoldable pub run : Class → List ℕ → ℕ
-run class [] = 0
-run class (c ∷ cs) = if is_in class c then suc (run class cs) else 0
+run class t = prefix_len (is_in class) t

@@ -1,12 +1,12 @@
 -- Marks of explicit markup (Markup Specification, 'Explicit Markup Blocks', 'Footnotes', 'Citations', 'Hyperlink
 -- Targets', 'Directives', 'Substitution Definitions').
-use Rattle.std.specs.Prelude.{ℕ, ◌+◌, Bool, false, not, ◌&&◌, ◌||◌, ◌==◌, List, [], ◌∷◌, take, drop, if◌then◌else◌, Option, None, Some}
+use Rattle.std.specs.Prelude.{ℕ, ◌+◌, Bool, not, ◌&&◌, ◌||◌, ◌==◌, List, take, drop, if◌then◌else◌, Option, None, Some}
 use Rattle.std.specs.List.{list_all}
 use Rattle.std.specs.Option.{option_and_then}
 use Rattle.rst_text.specs.Block.{is_blank}
 use Rattle.rst_text.specs.Characters.{is_white}
 use Rattle.rst_pieces.specs.Names.{simple_name, is_simple_name}
-use Rattle.rst_marks.specs.Front.{begins_with}
+use Rattle.rst_marks.specs.Front.{begins_by, begins_with}
 use Rattle.rst_marks.specs.Class.{is_in, run}
 use Rattle.rst_marks.specs.Closing.{closed}
 use Rattle.rst_marks.specs.Marker.{marker_of}
@@ -54,8 +54,7 @@ label_of t = if begins_with 91 t then label_by (run Unbracketed (drop 1 t)) t el
 
 -- a text begins with a white character
 abbrev pub begins_white : List ℕ → Bool
-begins_white [] = false
-begins_white (c ∷ cs) = is_white c
+begins_white t = begins_by is_white t
 
 -- n characters behind `from` others are the name of a target whose mark has `len` characters, if it isn't empty and doesn't
 -- begin wrongly

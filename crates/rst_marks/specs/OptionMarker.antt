@@ -1,10 +1,10 @@
 -- Option markers (Markup Specification, 'Option Lists').
-use Rattle.std.specs.Prelude.{ℕ, zero, suc, ◌+◌, ◌-◌, Bool, false, not, ◌&&◌, ◌||◌, ◌==◌, List, [], ◌∷◌, drop, map, if◌then◌else◌, Option, None, Some}
+use Rattle.std.specs.Prelude.{ℕ, zero, suc, ◌+◌, ◌-◌, Bool, not, ◌&&◌, ◌||◌, ◌==◌, List, [], ◌∷◌, drop, map, if◌then◌else◌, Option, None, Some}
 use Rattle.std.specs.Char.{is_ascii_alphanumeric}
 use Rattle.std.specs.List.{last_or}
 use Rattle.std.specs.Option.{option_and_then}
 use Rattle.rst_text.specs.Characters.{is_letter}
-use Rattle.rst_marks.specs.Front.{begins_with}
+use Rattle.rst_marks.specs.Front.{begins_by, begins_with}
 use Rattle.rst_marks.specs.Class.{run}
 use Rattle.rst_marks.specs.declared.class.Class.TheVariants.{Option as OptionClass, Bracketed}
 use Rattle.rst_marks.specs.declared.option.Delimiter.{Delimiter}
@@ -18,13 +18,11 @@ use Rattle.rst_marks.specs.Marker.{marker_of}
 
 -- a text begins with a digit or a letter of ASCII
 abbrev pub begins_ascii_alphanumeric : List ℕ → Bool
-begins_ascii_alphanumeric [] = false
-begins_ascii_alphanumeric (c ∷ cs) = is_ascii_alphanumeric c
+begins_ascii_alphanumeric t = begins_by is_ascii_alphanumeric t
 
 -- a text begins with a letter
 abbrev pub begins_letter : List ℕ → Bool
-begins_letter [] = false
-begins_letter (c ∷ cs) = is_letter c
+begins_letter t = begins_by is_letter t
 
 -- how many characters `<`, n others than `<` and `>`, and `>` are; 0 where n is 0 or the `>` is missing
 abbrev pub bracketed_len : ℕ → List ℕ → ℕ
