@@ -185,8 +185,8 @@ span_of spans k = get_or spans k no_span
 
 -- A column is as wide as its part of the top border; the last is as wide as its longest line, if that is wider.
 abbrev pub width_of : List Span → ℕ → ℕ → ℕ
-width_of columns most k = let c = span_of columns k in
-    if k + 1 == length columns then max (c.to - c.from) (most - c.from) else c.to - c.from
+width_of columns widest k = let c = span_of columns k in
+    if k + 1 == length columns then max (c.to - c.from) (widest - c.from) else c.to - c.from
 
 -- the widths of all columns
 abbrev pub simple_widths : Grid → List ℕ
