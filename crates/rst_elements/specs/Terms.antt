@@ -1,11 +1,18 @@
 -- Terms and classifiers, and their parts (Markup Specification, 'Definition Lists').
 use Rattle.std.specs.Prelude.{◌≡◌, ℕ, zero, suc, Bool, true, false, ◌&&◌, ◌==◌, not, List, [], ◌∷◌, ◌++◌, take, map, if◌then◌else◌, encode_utf8_all}
 use Rattle.rst_text.specs.Characters.{is_white}
+use Rattle.std.specs.List.{flat_map}
 use Rattle.rst_pieces.specs.Escapes.{escapes}
+use Rattle.rst_pieces.specs.declared.piece.Kind.{Kind}
+use Rattle.rst_pieces.specs.declared.piece.Kind.TheVariants.{Plain}
+use Rattle.rst_pieces.specs.declared.piece.Piece.{Piece}
+use Rattle.rst_inline.specs.Parts.{source}
 use Rattle.rst_tree.specs.declared.node.Node.{Node}
 use Rattle.rst_tree.specs.declared.node.Node.TheVariants.{Element, Text as Words}
 use Rattle.rst_tree.specs.declared.tag.Tag.TheVariants.{Term, Classifier}
 use Rattle.rst_elements.specs.declared.terms.Letter.{Letter}
+use Rattle.rst_elements.specs.declared.terms.Unfinished.{Unfinished}
+use Rattle.rst_elements.specs.Elements.{element_of, text_nodes}
 use Rattle.rst_elements.specs.Texts.{counting}
 
 -- a character, and whether it was escaped
@@ -69,29 +76,58 @@ spelled ls = encode_utf8_all (map (λ l. l.character) ls)
 abbrev pub parts_of : List Letter → List (List ℕ)
 parts_of ls = map spelled (cut false [] ls)
 
+-- the parts of a piece of a kind with some letters, where it is text without markup and has a letter
+abbrev pub parts_by : Kind → List Letter → List (List (List ℕ))
+parts_by Plain (l ∷ ls) = parts_of (l ∷ ls) ∷ []
+parts_by kind ls = []
+
+-- the parts of the texts among the nodes of pieces, text after text
+abbrev pub texts_of : List ℕ → List Piece → List (List (List ℕ))
+texts_of t pieces = flat_map (λ p. parts_by p.kind (letters_from false (source t p))) pieces
+
+-- ---- their nodes
+
+-- nodes in front of groups: they belong to the first
+abbrev pub in_front : List Node → List (List Node) → List (List Node)
+in_front nodes [] = nodes ∷ []
+in_front nodes (group ∷ groups) = (nodes ++ group) ∷ groups
+
+-- groups in front of others: the last of the former and the first of the latter are one
+abbrev pub joined : List (List Node) → List (List Node) → List (List Node)
+joined [] groups = groups
+joined (first ∷ []) groups = in_front first groups
+joined (first ∷ next ∷ others) groups = first ∷ joined (next ∷ others) groups
+
+-- The nodes of a term and of each of its classifiers: a text consists of its parts, of which each but the last ends a group;
+-- an element stays whole.
+abbrev pub groups_of : List (List (List ℕ)) → List Node → List (List Node)
+groups_of texts [] = [] ∷ []
+groups_of [] (node ∷ nodes) = in_front (node ∷ []) (groups_of [] nodes)
+groups_of (parts ∷ texts) (Words t ∷ nodes) = joined (map text_nodes parts) (groups_of texts nodes)
+groups_of (parts ∷ texts) (Element t a c l ∷ nodes) = in_front (Element t a c l ∷ []) (groups_of (parts ∷ texts) nodes)
+
 -- ---- their elements
 
--- a term of a line, which says how many messages there are
-abbrev pub IsTerm : ℕ → ℕ → Node → Type 0
-IsTerm notes line (Element t a c l) = (t ≡ Term) × (a ≡ counting notes) × (l ≡ line)
-IsTerm notes line (Words t) = ⊥
-
 -- a classifier of a line
-abbrev pub IsClassifier : ℕ → Node → Type 0
-IsClassifier line (Element t a c l) = (t ≡ Classifier) × (a ≡ []) × (l ≡ line)
-IsClassifier line (Words t) = ⊥
+abbrev pub classifier_node : ℕ → List Node → Node
+classifier_node line nodes = element_of Classifier [] nodes line
 
--- each node is a classifier of a line
-abbrev pub AreClassifiers : ℕ → List Node → Type 0
-AreClassifiers line [] = Unit {0}
-AreClassifiers line (node ∷ nodes) = IsClassifier line node × AreClassifiers line nodes
+-- The first group is that of the term, which says how many messages there are; the others are those of classifiers.
+abbrev pub heads_of : ℕ → ℕ → List (List Node) → List Node
+heads_of notes line [] = []
+heads_of notes line (group ∷ groups) = element_of Term (counting notes) group line ∷ map (classifier_node line) groups
 
--- a term and then its classifiers
-abbrev pub AreHeads : ℕ → ℕ → List Node → Type 0
-AreHeads notes line [] = ⊥
-AreHeads notes line (term ∷ classifiers) = IsTerm notes line term × AreClassifiers line classifiers
+-- ---- heads that are being made (no rule of markup)
 
--- those, or none yet
-abbrev pub AreBegun : ℕ → ℕ → List Node → Type 0
-AreBegun notes line [] = Unit {0}
-AreBegun notes line (head ∷ heads) = AreHeads notes line (head ∷ heads)
+-- elements that are done, and the heads of further groups
+abbrev pub heads_behind : ℕ → ℕ → List Node → List (List Node) → List Node
+heads_behind notes line [] groups = heads_of notes line groups
+heads_behind notes line (head ∷ heads) groups = head ∷ heads ++ map (classifier_node line) groups
+
+-- the heads that these become where further groups follow
+abbrev pub heads_with : ℕ → ℕ → Unfinished → List (List Node) → List Node
+heads_with notes line heads groups = heads_behind notes line heads.done.items (in_front heads.nodes.items groups)
+
+-- whatever follows, these become what the former become by the parts in front of it
+abbrev pub IsPut : ℕ → ℕ → Unfinished → List (List ℕ) → Unfinished → Type 0
+IsPut notes line heads parts made = (rest : List (List Node)) → heads_with notes line made rest ≡ heads_with notes line heads (joined (map text_nodes parts) rest)

@@ -1,10 +1,11 @@
 //! Terms of definition lists, with their classifiers.
-ghost use Rattle.std.specs.Prelude.{◌≡◌, ◌≤◌, false, length, IfOk};
+ghost use Rattle.std.specs.Prelude.{◌≡◌, ◌≤◌, false, List, [], ◌∷◌, map, length, IfOk};
 ghost use Rattle.std.specs.Str.{chars};
 ghost use Rattle.rst_tree.specs.Faults.{Gives};
+ghost use Rattle.rst_inline.specs.Parts.{part};
 ghost use Rattle.rst_elements.specs.Results.{HeadsText};
 ghost use Rattle.rst_elements.specs.Texts.{counted_on};
-ghost use Rattle.rst_elements.specs.Terms.{AreBegun, AreHeads, letters_from, parts_of, is_bare, is_delimiter, begins_with_space, ends_in_space, dark_len, spelled};
+ghost use Rattle.rst_elements.specs.Terms.{IsPut, groups_of, heads_behind, heads_of, texts_of, letters_from, parts_of, is_bare, is_delimiter, begins_with_space, ends_in_space, dark_len, spelled};
 
 use super::nodes::element_of;
 use super::numbers::Numbers;
@@ -51,11 +52,9 @@ struct Letter {
 }
 
 /// The parts of those pieces without markup of which something is left when escapes are gone, piece after piece.
-fn plain_parts(
-    alloc: Global,
-    text: &[char],
-    pieces: &[Piece],
-) -> Result<Vec<Vec<Text>>, TreeFault> {
+fn plain_parts(alloc: Global, text: &[char], pieces: &[Piece]) -> Result<Vec<Vec<Text>>, TreeFault>
+    ensures { Gives (λ parts. map (λ texts. texts.items) parts.items ≡ texts_of text.now pieces.now) result }
+{
     let mut parts = Vec::new(alloc);
     for piece in pieces {
         if !matches!(piece.kind, Kind::Plain) {
@@ -70,7 +69,9 @@ fn plain_parts(
 }
 
 /// The characters from a place on, up to another place.
-fn part(text: &[char], low: usize, high: usize) -> &[char] {
+fn part(text: &[char], low: usize, high: usize) -> &[char]
+    ensures { result.now ≡ part text.now low high }
+{
     let high = high.min(text.len());
     &text[low.min(high)..high]
 }
@@ -189,7 +190,6 @@ struct Unfinished {
 }
 
 /// The term and the classifiers of nodes, whose texts consist of these parts, text after text.
-#[tactic(auto, using(crate::proofs::HeadLemmas::begun))]
 fn heads_of(
     alloc: Global,
     nodes: Vec<Node>,
@@ -197,7 +197,7 @@ fn heads_of(
     notes: usize,
     line: usize,
 ) -> Result<Vec<Node>, TreeFault>
-    ensures { Gives (λ heads. AreHeads notes line heads.items) result }
+    ensures { Gives (λ heads. heads.items ≡ heads_of notes line (groups_of (map (λ texts. texts.items) parts.items) nodes.items)) result }
 {
     let mut heads = Unfinished {
         done: Vec::new(alloc),
@@ -218,7 +218,6 @@ fn heads_of(
 }
 
 /// The parts of a text put behind the nodes: each but the first begins a classifier.
-#[tactic(auto, using(crate::proofs::HeadLemmas::begun))]
 fn with_parts(
     alloc: Global,
     heads: Unfinished,
@@ -226,8 +225,7 @@ fn with_parts(
     notes: usize,
     line: usize,
 ) -> Result<Unfinished, TreeFault>
-    requires { AreBegun notes line heads.done.items }
-    ensures { Gives (λ unfinished. AreBegun notes line unfinished.done.items) result }
+    ensures { Gives (IsPut notes line heads parts.items) result }
 {
     let mut heads = heads;
     let mut is_first = true;
@@ -251,8 +249,8 @@ fn closed(
     notes: usize,
     line: usize,
 ) -> Result<Unfinished, TreeFault>
-    requires { AreBegun notes line heads.done.items }
-    ensures { Gives (λ unfinished. AreHeads notes line unfinished.done.items) result }
+    ensures done { Gives (λ closed. closed.done.items ≡ heads_behind notes line heads.done.items (heads.nodes.items ∷ [])) result }
+    ensures nodes { Gives (λ closed. closed.nodes.items ≡ []) result }
 {
     let Unfinished { mut done, nodes } = heads;
     if done.is_empty() {
