@@ -1,7 +1,6 @@
 -- Letters of terms.
 use Rattle.std.proofs.Common.{◌≡◌, ◌==◌, ℕ, zero, suc, ◌+◌, ◌<◌, false, List, [], ◌∷◌, ◌++◌, length, get_or, drop, Vec, Global, refl, sym, ap, ◌∙◌}
 use Rattle.std.proofs.lemmas.List.{nil_from_length, at_drop_more}
-use Rattle.rst_pieces.specs.declared.piece.Kind.{Kind}
 use Rattle.rst_pieces.specs.declared.piece.Kind.TheVariants.{Plain}
 use Rattle.rst_pieces.specs.declared.piece.Piece.{Piece}
 use Rattle.rst_inline.specs.Parts.{source}

@@ -1,7 +1,7 @@
-use Rattle.std.proofs.Common.{◌≡◌, rules, ap, sym, ◌∙◌, refl, [], ◌∷◌, length}
+use Rattle.std.proofs.Common.{◌≡◌, rules, ap, sym, ◌∙◌, refl, [], ◌∷◌}
 use Rattle.std.specs.Vec.Iter.{into_iter_items}
 use Rattle.std.proofs.lemmas.List.{nil_from_length}
-use Rattle.rst_elements.specs.Terms.{heads_with, heads_of, groups_of}
+use Rattle.rst_elements.specs.Terms.{heads_of, groups_of}
 use Rattle.rst_elements.proofs.HeadLemmas.{lists_of, started, ended, put_text, put_whole, put_element}
 use Rattle.rst_elements.proofs.terms.heads_of.Goals as goal
 
