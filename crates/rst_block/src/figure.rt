@@ -2,7 +2,7 @@
 use super::fault::BlockFault;
 use super::texts::{alone, append, element_of, filled, push};
 use rst_elements::message;
-use rst_tree::{Attrs, Children, Key, Level as Gravity, Node, Said, Tag};
+use rst_tree::{Attrs, Children, Key, Level as Gravity, Node, Tag};
 use std::alloc::Global;
 use std::vec::IntoIter;
 
@@ -119,10 +119,7 @@ fn front_of(node: Option<Node>) -> Front {
 
 /// How many messages of its text follow a paragraph.
 fn text_messages(attrs: &Attrs) -> u64 {
-    match attrs.get(Key::TextMessages) {
-        Some(Said::Number(count)) => count,
-        _ => 0,
-    }
+    attrs.number(Key::TextMessages).unwrap_or(0)
 }
 
 /// A figure with a legend, if there is something in it.

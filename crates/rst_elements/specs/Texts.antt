@@ -1,10 +1,9 @@
 -- Elements that hold a text with inline markup, and messages (Document Tree, 'Element Reference', 'system_message').
 use Rattle.std.specs.Prelude.{ℕ, ◌+◌, ◌-◌, ◌^◌, ◌==◌, if◌then◌else◌, min, List, [], ◌∷◌, Option, Some, None}
-use Rattle.rst_tree.specs.Attributes.{attr, with_attr, value_of}
+use Rattle.rst_tree.specs.Attributes.{attr, said_number, with_attr, value_of}
 use Rattle.rst_tree.specs.Messages.{note_node}
 use Rattle.rst_tree.specs.Tree.{text_in}
 use Rattle.rst_tree.specs.declared.attrs.Attr.{Attr}
-use Rattle.rst_tree.specs.declared.attrs.Value.{Value}
 use Rattle.rst_tree.specs.declared.attrs.Value.TheVariants.{Text as Said, Number}
 use Rattle.rst_tree.specs.declared.key.Key.TheVariants.{Message, OwnName, TextMessages}
 use Rattle.rst_tree.specs.declared.node.Node.{Node}
@@ -32,14 +31,9 @@ abbrev pub with_message : ℕ → Node → Node
 with_message number (Element t a c l) = Element t (with_attr Message (Number number) a) c l
 with_message number (Words t) = Words t
 
--- the number of a message that an element is of
-abbrev pub number_in : Option Value → Option ℕ
-number_in (Some (Number n)) = Some n
-number_in _ = None
-
 -- the number of the message that a node is of, if it is of one
 abbrev pub message_of : Node → Option ℕ
-message_of (Element t a c l) = number_in (value_of Message a)
+message_of (Element t a c l) = said_number (value_of Message a)
 message_of (Words t) = None
 
 -- a node with the number of its message counted on from the first, if it is of a message

@@ -8,7 +8,7 @@ ghost use Rattle.rst_elements.specs.Results.{HoldsText, IsHolding, ReadsText, Is
 use super::nodes::element_of;
 use super::numbers::Numbers;
 use rst_inline::{Pieces, inline};
-use rst_tree::{Attrs, Key, Node, Note, Said, Tag, TreeFault, Value};
+use rst_tree::{Attrs, Key, Node, Note, Tag, TreeFault, Value};
 use std::alloc::Global;
 
 /// An element with the nodes of its text, and the messages of the text.
@@ -123,9 +123,9 @@ fn number_on(node: &mut Node, first: u64) -> Result<(), TreeFault>
 fn message_of(node: &Node) -> Option<u64>
     ensures { result ≡ message_of node.now }
 {
-    match node.value(Key::Message) {
-        Some(Said::Number(number)) => Some(number),
-        _ => None,
+    match node {
+        Node::Element { attrs, .. } => attrs.number(Key::Message),
+        Node::Text(_) => None,
     }
 }
 

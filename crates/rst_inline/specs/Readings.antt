@@ -3,6 +3,9 @@
 use Rattle.std.specs.Prelude.{ℕ, ◌+◌, ◌-◌, Bool, true, false, nat_lt, List, [], ◌∷◌, ◌++◌, Option, None, Some, codes}
 use Rattle.rst_tree.specs.declared.node.Node.TheVariants.{Text as Words}
 use Rattle.rst_tree.specs.declared.note.Level.TheVariants.{Warning, Error}
+use Rattle.rst_tree.specs.declared.phrase.Phrase.{Phrase}
+use Rattle.rst_tree.specs.declared.phrase.Phrase.TheVariants.{UnendedStrong, UnendedEmphasis, UnendedLiteral, UnendedTarget, UnendedSubstitution, UnendedInterpreted}
+use Rattle.rst_tree.specs.Phrases.{phrase_text}
 use Rattle.rst_tree.specs.declared.tag.Tag.{Tag}
 use Rattle.rst_tree.specs.declared.tag.Tag.TheVariants as tag
 use Rattle.rst_pieces.specs.Characters.{Text}
@@ -23,22 +26,18 @@ use Rattle.rst_inline.specs.Elements.{text_element, reference_node, uri_node, al
 
 -- ---- messages
 
--- what markup is called in the message on a start-string without an end
-abbrev pub markup_name : Markup → List ℕ
-markup_name Strong = codes "strong"
-markup_name Emphasis = codes "emphasis"
-markup_name Literal = codes "literal"
-markup_name Target = codes "target"
-markup_name Substitution = codes "substitution_reference"
-markup_name Interpreted = codes "interpreted text or phrase reference"
-
 -- what is said of a start-string without an end
-abbrev pub unended_words : Markup → List ℕ
-unended_words markup = codes "Inline " ++ markup_name markup ++ codes " start-string without end-string."
+abbrev pub unended_phrase : Markup → Phrase
+unended_phrase Strong = UnendedStrong
+unended_phrase Emphasis = UnendedEmphasis
+unended_phrase Literal = UnendedLiteral
+unended_phrase Target = UnendedTarget
+unended_phrase Substitution = UnendedSubstitution
+unended_phrase Interpreted = UnendedInterpreted
 
 -- a start-string without an end, which gives a warning
 abbrev pub unended : Markup → Meaning
-unended markup = Wrong Warning (unended_words markup)
+unended markup = Wrong Warning (phrase_text (unended_phrase markup))
 
 -- a role that no element belongs to, which gives an error
 abbrev pub unknown_role : List ℕ → Meaning

@@ -6,7 +6,7 @@ ghost use Rattle.rst_pieces.specs.Pieces.{IsWithin};
 ghost use Rattle.rst_inline.specs.declared.reading.Meaning.TheVariants.{One};
 ghost use Rattle.rst_inline.specs.Elements.{text_element};
 ghost use Rattle.rst_inline.specs.Parts.{source, content};
-ghost use Rattle.rst_inline.specs.Readings.{unended_words, unended, unknown_role, two_roles, mismatch, plain_reading, substitution_reading, embedded_reading, phrase_reading, role_reading, has_prefix_role, interpreted_reading, marked_reading, reading};
+ghost use Rattle.rst_inline.specs.Readings.{unended_phrase, unended, unknown_role, two_roles, mismatch, plain_reading, substitution_reading, embedded_reading, phrase_reading, role_reading, has_prefix_role, interpreted_reading, marked_reading, reading};
 ghost use Rattle.rst_inline.specs.Faults.{Gives};
 
 use super::elements::{plain_element, target, uri_target};
@@ -19,7 +19,7 @@ use super::references::{
 use super::roles::role_tag;
 use super::texts::{bare, part, spell};
 use rst_pieces::{Kind, Markup, Piece, Suffix};
-use rst_tree::{Level, Node, Tag, Text};
+use rst_tree::{Level, Node, Phrase, Tag, Text};
 use std::alloc::Global;
 
 /// What a piece means: no node, one or two, or that it is wrong, with the message that says so.
@@ -32,25 +32,26 @@ pub(crate) enum Meaning {
 }
 
 /// What is said of a start-string without an end-string.
-fn unended_words(markup: Markup) -> &'static str
-    ensures { result.now ≡ unended_words markup }
+fn unended_phrase(markup: Markup) -> Phrase
+    ensures { result ≡ unended_phrase markup }
 {
     match markup {
-        Markup::Strong => "Inline strong start-string without end-string.",
-        Markup::Emphasis => "Inline emphasis start-string without end-string.",
-        Markup::Literal => "Inline literal start-string without end-string.",
-        Markup::Target => "Inline target start-string without end-string.",
-        Markup::Substitution => "Inline substitution_reference start-string without end-string.",
-        Markup::Interpreted =>
-            "Inline interpreted text or phrase reference start-string without end-string.",
+        Markup::Strong => Phrase::UnendedStrong,
+        Markup::Emphasis => Phrase::UnendedEmphasis,
+        Markup::Literal => Phrase::UnendedLiteral,
+        Markup::Target => Phrase::UnendedTarget,
+        Markup::Substitution => Phrase::UnendedSubstitution,
+        Markup::Interpreted => Phrase::UnendedInterpreted,
     }
 }
 
-fn unended(alloc: Global, markup: Markup) -> Result<Meaning, InlineFault>
-    ensures { Gives (λ reading. reading ≡ unended markup) result }
+fn unended(alloc: Global, markup: Markup) -> Meaning
+    ensures { result ≡ unended markup }
 {
-    let text = Text::from_str(alloc, unended_words(markup))?;
-    Ok(Meaning::Wrong(Level::Warning, text))
+    Meaning::Wrong(
+        Level::Warning,
+        Text::of_phrase(alloc, unended_phrase(markup)),
+    )
 }
 
 fn unknown_role(alloc: Global, name: &str) -> Result<Meaning, InlineFault>
@@ -305,7 +306,7 @@ pub(crate) fn reading(
     match piece.kind {
         Kind::Plain => plain(alloc, source),
         Kind::Marked(markup, suffix) => marked(alloc, markup, suffix, text, piece, line),
-        Kind::Unended(markup) => unended(alloc, markup),
+        Kind::Unended(markup) => Ok(unended(alloc, markup)),
         Kind::Label => {
             let label = part(text, piece.content_from, piece.content_to);
             let source = spell(alloc, source)?;

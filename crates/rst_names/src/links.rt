@@ -1,7 +1,6 @@
 //! Messages and their problematics.
 
 use super::ids::problematic_id;
-use super::registrants::number_at;
 use rst_marked::Element;
 use rst_tree::{Key, Tag, Texts, TreeFault};
 use std::alloc::Global;
@@ -43,7 +42,7 @@ impl Links {
     /// Adds one more message or problematic, whose id has a number.
     pub fn add(&mut self, alloc: Global, new: Element<'_>, number: u64) -> Result<(), TreeFault> {
         self.numbers.push(number)?;
-        let Some(message) = number_at(new.attrs, Key::Message) else {
+        let Some(message) = new.attrs.number(Key::Message) else {
             return Ok(());
         };
         match self.messages.get_mut(message as usize) {

@@ -1,7 +1,6 @@
 //! The places of the messages on equal names.
 
 use super::dues::{Due, Dues, put};
-use super::registrants::number_at;
 use rst_tree::{Attrs, Children, Key, Node, Tag, Text, TreeFault};
 use std::alloc::Global;
 use std::collections::VecDeque;
@@ -34,7 +33,7 @@ impl Notices {
 
     /// Takes out the message on the name of an element with these attributes.
     fn take(&mut self, attrs: &Attrs) -> Option<Node> {
-        let serial = number_at(attrs, Key::Serial)?;
+        let serial = attrs.number(Key::Serial)?;
         match self.queue.front() {
             Some((first, _)) if *first == serial => {}
             _ => return None,
@@ -252,10 +251,7 @@ fn due_behind(
 
 /// How many messages of its text follow an element; of a section: how many nodes stand between its title and its content.
 fn text_messages(attrs: &Attrs) -> u64 {
-    match number_at(attrs, Key::TextMessages) {
-        Some(count) => count,
-        None => 0,
-    }
+    attrs.number(Key::TextMessages).unwrap_or(0)
 }
 
 /// Puts the messages on names among the nodes of an element and in them.

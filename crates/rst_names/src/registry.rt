@@ -5,7 +5,7 @@ use super::links::{Links, is_linked};
 use super::names::{Held, Holder, Names, Strength};
 use super::notices::{duplicate_definition, duplicate_name};
 use super::placing::Notices;
-use super::registrants::{own_name, text_at};
+use super::registrants::own_name;
 use super::rulings::{Now, Ruling, ruling_for};
 use rst_marked::Element;
 use rst_tree::{Key, Node, Tag, Text, TreeFault};
@@ -212,10 +212,7 @@ fn is_same_refuri(holder: Holder, earlier: &[Element<'_>], new: Element<'_>) -> 
 
 /// Whether both elements refer to one URI.
 fn is_equal_refuri(old: Element<'_>, new: Element<'_>) -> bool {
-    match (
-        text_at(old.attrs, Key::Refuri),
-        text_at(new.attrs, Key::Refuri),
-    ) {
+    match (old.attrs.text(Key::Refuri), new.attrs.text(Key::Refuri)) {
         (Some(old), Some(new)) => old.as_str() == new.as_str(),
         _ => false,
     }

@@ -7,7 +7,6 @@ ghost use Rattle.rst_names.specs.Written.{given, with_id, with_name, with_standi
 
 use super::ids::{message_id, problematic_id};
 use super::links::{Linked, Links};
-use super::registrants::{number_at, text_at};
 use super::registry::Standing;
 use rst_tree::{Attrs, Key, Tag, Text, Texts, TreeFault, Value, Visitor};
 use std::alloc::Global;
@@ -46,7 +45,7 @@ fn write_name(
 fn copied_name(attrs: &Attrs) -> Result<Option<Text>, TreeFault>
     ensures { Gives (λ name. name ≡ text_at OwnName attrs.now) result }
 {
-    match text_at(attrs, Key::OwnName) {
+    match attrs.text(Key::OwnName) {
         Some(name) => Ok(Some(name.copy()?)),
         None => Ok(None),
     }
@@ -74,7 +73,7 @@ fn write(alloc: Global, attrs: &mut Attrs, standing: Standing) -> Result<(), Tre
 fn linked_of<'a>(messages: &'a [Linked], attrs: &Attrs) -> Option<&'a Linked>
     ensures { MatchOption result (linked_of messages.now attrs.now ≡ None) (λ l. linked_of messages.now attrs.now ≡ Some l.now) }
 {
-    match number_at(attrs, Key::Message) {
+    match attrs.number(Key::Message) {
         Some(number) => messages.get(number as usize),
         None => None,
     }

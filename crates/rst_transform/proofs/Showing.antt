@@ -15,14 +15,13 @@ use Rattle.rst_tree.specs.declared.key.Key.TheVariants.{Align, Alt, Anonymous, A
 use Rattle.rst_tree.specs.declared.node.Node.{Node}
 use Rattle.rst_tree.specs.declared.node.Node.TheVariants.{Element, Text}
 use Rattle.rst_tree.specs.declared.tag.Tag.{Tag}
-use Rattle.rst_tree.specs.Attributes.{value_of, without_hidden}
+use Rattle.rst_tree.specs.Attributes.{value_of, said_number, without_hidden}
 use Rattle.rst_tree.specs.KeyNames.{is_hidden, is_same}
 use Rattle.rst_tree.specs.Nodes.{forest_of, nodes_of, node_height}
 use Rattle.rst_tree.specs.Forest.{Forest, height}
 use Rattle.rst_transform.proofs.Leaving.{Told, Told-none}
 use Rattle.rst_transform.specs.declared.left.Left.{Left}
 use Rattle.rst_transform.specs.Left.{are_within, any_tells_source}
-use Rattle.rst_transform.specs.Reading.{number_in}
 use Rattle.rst_transform.specs.Shown.{is_low, is_below, may_stay, has_hidden, are_shown}
 
 and_more : (p q c x y : Bool) → (x ≡ true → y ≡ true) → (p && (q && (c && x))) ≡ true → (p && (q && (c && y))) ≡ true
@@ -94,7 +93,7 @@ level_left [] = refl
 level_left (a ∷ more) = let h = hidden_is_no_level a.key in grind (arith, h, level_left more)
 
 below_left : (report : Threshold) (tag : Tag) (attrs : List Attr) → is_below report tag (without_hidden attrs) ≡ is_below report tag attrs
-below_left report tag attrs = ap (λ value. is_low report tag (unwrap_or (number_in value) 0)) (level_left attrs)
+below_left report tag attrs = ap (λ value. is_low report tag (unwrap_or (said_number value) 0)) (level_left attrs)
 
 -- an element that isn't below the report level, without its hidden attributes, is shown with nodes that are
 pub element_shown : (report : Threshold) (tag : Tag) (attrs shown : List Attr) (inside : Forest) (line : ℕ) →

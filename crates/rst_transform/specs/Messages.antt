@@ -6,9 +6,8 @@ use Rattle.rst_settings.specs.Threshold.{is_reached}
 use Rattle.rst_tree.specs.declared.attrs.Attr.{Attr}
 use Rattle.rst_tree.specs.declared.key.Key.TheVariants.{Level}
 use Rattle.rst_tree.specs.declared.note.Note.{Note}
-use Rattle.rst_tree.specs.Attributes.{value_of}
+use Rattle.rst_tree.specs.Attributes.{value_of, said_number}
 use Rattle.rst_tree.specs.LevelNames.{level_number}
-use Rattle.rst_transform.specs.Reading.{number_in}
 
 -- whether a message halts a run
 abbrev pub halts : Threshold → Note → Bool
@@ -29,4 +28,4 @@ highest_level (note ∷ more) = max (level_number note.level) (highest_level mor
 
 -- the number of the level that a `system_message` with these attributes tells, 0 where it tells none
 abbrev pub level_said : List Attr → ℕ
-level_said attrs = unwrap_or (number_in (value_of Level attrs)) 0
+level_said attrs = unwrap_or (said_number (value_of Level attrs)) 0

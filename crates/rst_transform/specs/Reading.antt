@@ -7,22 +7,8 @@ use Rattle.rst_tree.specs.declared.key.Key.{Key}
 use Rattle.rst_tree.specs.declared.key.Key.TheVariants.{Rawsource}
 use Rattle.rst_tree.specs.declared.node.Node.{Node}
 use Rattle.rst_tree.specs.declared.node.Node.TheVariants.{Element, Text as Words}
-use Rattle.rst_tree.specs.Attributes.{value_of}
+use Rattle.rst_tree.specs.Attributes.{value_of, said_text, said_number}
 use Rattle.rst_tree.specs.Paths.{node_value}
-
--- the text that a value is
-abbrev pub text_in : Option Value → Option (List ℕ)
-text_in None = None
-text_in (Some (Text text)) = Some text
-text_in (Some (Number number)) = None
-text_in (Some (Listed texts)) = None
-
--- the number that a value is
-abbrev pub number_in : Option Value → Option ℕ
-number_in None = None
-number_in (Some (Text text)) = None
-number_in (Some (Number number)) = Some number
-number_in (Some (Listed texts)) = None
 
 -- the members of the list that a value is, or none
 abbrev pub members_in : Option Value → List (List ℕ)
@@ -32,10 +18,10 @@ members_in (Some (Number number)) = []
 members_in (Some (Listed texts)) = texts
 
 abbrev pub text_said : Key → Node → Option (List ℕ)
-text_said k n = text_in (node_value k n)
+text_said k n = said_text (node_value k n)
 
 abbrev pub number_said : Key → Node → Option ℕ
-number_said k n = number_in (node_value k n)
+number_said k n = said_number (node_value k n)
 
 abbrev pub list_said : Key → Node → List (List ℕ)
 list_said k n = members_in (node_value k n)
@@ -47,4 +33,4 @@ line_of (Words t) = 0
 
 -- the source text that the attributes of a reference tell, or the empty text
 abbrev pub source_said : List Attr → List ℕ
-source_said attrs = unwrap_or (text_in (value_of Rawsource attrs)) []
+source_said attrs = unwrap_or (said_text (value_of Rawsource attrs)) []

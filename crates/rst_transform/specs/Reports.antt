@@ -9,12 +9,8 @@ use Rattle.rst_tree.specs.declared.tag.Tag.TheVariants.{SystemMessage}
 use Rattle.rst_tree.specs.Attributes.{with_attr}
 use Rattle.rst_tree.specs.Messages.{note_attrs, note_nodes}
 use Rattle.rst_tree.specs.Nodes.{forest_of}
+use Rattle.rst_names.specs.Written.{with_id}
 use Rattle.rst_transform.specs.declared.work.Report.{Report}
-
--- the attributes with an id, if there is one
-abbrev pub with_id : Option (List ℕ) → List Attr → List Attr
-with_id None attrs = attrs
-with_id (Some id) attrs = with_attr Ids (Listed (id ∷ [])) attrs
 
 -- the attributes with the number of a message, the ids of its problematics and its own
 abbrev pub with_references : Report → List Attr → List Attr

@@ -10,7 +10,6 @@ ghost use Rattle.rst_transform.specs.Shown.{is_gone, may_stay, are_shown, is_sho
 
 use crate::left::Left;
 use crate::messages::{level_number, reaches};
-use crate::reading::number;
 use rst_settings::Threshold;
 use rst_tree::{Children, Key, Node, Tag, Tree, TreeFault};
 use std::alloc::Global;
@@ -92,7 +91,7 @@ fn fate_of(node: &Node, report: Threshold, shown: &[bool]) -> Fate
     };
     match tag {
         Tag::SystemMessage if !reaches(level_number(attrs), report) => Fate::Vanishes,
-        Tag::Problematic => match number(attrs, Key::Message) {
+        Tag::Problematic => match attrs.number(Key::Message) {
             Some(message) if matches!(shown.get(message as usize), Some(true)) => Fate::Stays,
             _ => Fate::BecomesText,
         },

@@ -5,7 +5,6 @@ ghost use Rattle.rst_tree.specs.Attributes.{value_of};
 ghost use Rattle.rst_tree.specs.Faults.{Gives};
 ghost use Rattle.rst_transform.specs.Messages.{has_halt, EndsAtHalt, highest_level, level_said};
 
-use crate::reading::number;
 use crate::work::Report;
 use rst_settings::Threshold;
 use rst_tree::{Attrs, Children, Key, Level, Node, Note, Tag, Text, TreeFault};
@@ -22,10 +21,7 @@ pub(crate) fn reaches(level: u64, threshold: Threshold) -> bool
 pub(crate) fn level_number(attrs: &Attrs) -> u64
     ensures { result ≡ level_said attrs.now }
 {
-    match number(attrs, Key::Level) {
-        Some(level) => level,
-        None => 0,
-    }
+    attrs.number(Key::Level).unwrap_or(0)
 }
 
 /// The messages of a run in order, up to the first that halts it (Configuration, `halt_level`), and which of all are shown
@@ -94,7 +90,7 @@ impl Messages {
         ensures { self.new.halt ≡ self.old.halt }
     {
         let note = note_of(alloc, attrs, children, line)?;
-        self.push(note, number(attrs, Key::Message))
+        self.push(note, attrs.number(Key::Message))
     }
 
     /// Adds the messages in a document, in preorder.

@@ -1,20 +1,20 @@
 //! What the attributes of an element say.
 ghost use Rattle.std.specs.Prelude.{◌≡◌, MatchOption, Some, None, is_some};
-ghost use Rattle.rst_tree.specs.Attributes.{value_of};
+ghost use Rattle.rst_tree.specs.Attributes.{value_of, said_text};
 ghost use Rattle.rst_tree.specs.Faults.{Gives};
 ghost use Rattle.rst_tree.specs.Paths.{node_value};
-ghost use Rattle.rst_transform.specs.Reading.{text_in, number_in, text_said, number_said, list_said, line_of};
+ghost use Rattle.rst_transform.specs.Reading.{text_said, number_said, list_said, line_of};
 
 use rst_tree::{Attrs, Key, Node, Said, Tag, Texts, TreeFault};
 use std::alloc::Global;
 
 /// What the attribute of a name says, where it is a text.
 fn text<'a>(attrs: &'a Attrs, key: Key) -> Option<&'a str>
-    ensures { MatchOption result (text_in (value_of key attrs.now) ≡ None) (λ text. text_in (value_of key attrs.now) ≡ Some text.now) }
+    ensures { MatchOption result (said_text (value_of key attrs.now) ≡ None) (λ text. said_text (value_of key attrs.now) ≡ Some text.now) }
 {
-    match attrs.get(key) {
-        Some(Said::Text(text)) => Some(text.as_str()),
-        _ => None,
+    match attrs.text(key) {
+        Some(text) => Some(text.as_str()),
+        None => None,
     }
 }
 
@@ -33,22 +33,12 @@ pub(crate) fn text_said<'a>(node: &'a Node, key: Key) -> Option<&'a str>
     }
 }
 
-/// What an attribute says, where it is a number.
-pub(crate) fn number(attrs: &Attrs, key: Key) -> Option<u64>
-    ensures { result ≡ number_in (value_of key attrs.now) }
-{
-    match attrs.get(key) {
-        Some(Said::Number(number)) => Some(number),
-        _ => None,
-    }
-}
-
 /// What an attribute of a node says, where it is a number.
 pub(crate) fn number_said(node: &Node, key: Key) -> Option<u64>
     ensures { result ≡ number_said key node.now }
 {
     match node {
-        Node::Element { attrs, .. } => number(attrs, key),
+        Node::Element { attrs, .. } => attrs.number(key),
         Node::Text(_) => None,
     }
 }

@@ -1,6 +1,5 @@
 //! Internal targets.
 use crate::lists::{append, take_list};
-use crate::reading::number;
 use crate::work::Work;
 use rst_marked::is_internal;
 use rst_names::{Holder, Names};
@@ -153,7 +152,7 @@ impl Moving {
         attrs: &mut Attrs,
         names: &mut Names,
     ) -> Result<(), TreeFault> {
-        let holder = match number(attrs, Key::Serial) {
+        let holder = match attrs.number(Key::Serial) {
             Some(serial) => Holder::Element(serial),
             None => Holder::Unregistered,
         };

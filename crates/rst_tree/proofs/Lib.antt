@@ -3,6 +3,7 @@ mod Plain
 pub mod PrintedParts
 pub mod Attributes
 pub mod EachNode
+pub mod EscapedBytes
 pub mod FirstLine
 pub mod Fitting
 pub mod Sending

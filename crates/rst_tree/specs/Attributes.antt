@@ -2,6 +2,7 @@
 use Rattle.std.specs.Prelude.{ℕ, ◌+◌, Bool, false, if◌then◌else◌, nat_lt, List, [], ◌∷◌, Option, Some, None}
 use Rattle.rst_tree.specs.declared.attrs.Attr.{Attr}
 use Rattle.rst_tree.specs.declared.attrs.Value.{Value}
+use Rattle.rst_tree.specs.declared.attrs.Value.TheVariants.{Text, Number, List as Listed}
 use Rattle.rst_tree.specs.declared.key.Key.{Key}
 use Rattle.rst_tree.specs.KeyNames.{key_code, is_same, is_hidden}
 
@@ -13,6 +14,20 @@ attr k v = record { key = k; value = v }
 abbrev pub value_of : Key → List Attr → Option Value
 value_of k [] = None
 value_of k (a ∷ more) = if is_same a.key k then Some a.value else value_of k more
+
+-- the text that is said, where it is one
+abbrev pub said_text : Option Value → Option (List ℕ)
+said_text None = None
+said_text (Some (Text text)) = Some text
+said_text (Some (Number number)) = None
+said_text (Some (Listed texts)) = None
+
+-- the number that is said, where it is one
+abbrev pub said_number : Option Value → Option ℕ
+said_number None = None
+said_number (Some (Text text)) = None
+said_number (Some (Number number)) = Some number
+said_number (Some (Listed texts)) = None
 
 -- how many attributes stand before the first whose name isn't before k
 abbrev pub places_below : Key → List Attr → ℕ

@@ -1,3 +1,4 @@
+pub mod Phrases
 pub mod Texts
 pub mod TagNames
 pub mod Sources

@@ -1,7 +1,7 @@
 //! The attributes of elements.
 ghost use Rattle.std.specs.Prelude.{◌≡◌, ◌∷◌, drop, vec_len, [], MatchOption, None, Some, is_some};
 ghost use Rattle.rst_tree.specs.Faults.{Gives, Becomes};
-ghost use Rattle.rst_tree.specs.Attributes.{attr, value_of, with_attr, without_key, without_hidden, place_named, places_below, is_at};
+ghost use Rattle.rst_tree.specs.Attributes.{attr, value_of, said_text, said_number, with_attr, without_key, without_hidden, place_named, places_below, is_at};
 ghost use Rattle.rst_tree.specs.Entries.{said};
 ghost use Rattle.rst_tree.specs.Tree.{in_order};
 
@@ -106,6 +106,26 @@ impl Attrs {
             }
         }
         None
+    }
+
+    /// The text that the attribute of a name says, if it says one.
+    pub fn text(&self, key: Key) -> Option<&Text>
+        ensures { MatchOption result (said_text (value_of key self.now) ≡ None) (λ t. said_text (value_of key self.now) ≡ Some t.now) }
+    {
+        match self.get(key) {
+            Some(Said::Text(text)) => Some(text),
+            _ => None,
+        }
+    }
+
+    /// The number that the attribute of a name says, if it says one.
+    pub fn number(&self, key: Key) -> Option<u64>
+        ensures { result ≡ said_number (value_of key self.now) }
+    {
+        match self.get(key) {
+            Some(Said::Number(number)) => Some(number),
+            _ => None,
+        }
     }
 
     /// Whether there is an attribute of a name.

@@ -3,10 +3,12 @@ ghost use Rattle.std.specs.Prelude.{◌≡◌, ◌∷◌, ◌++◌, [], string_b
 ghost use Rattle.std.specs.List.{list_all};
 ghost use Rattle.rst_text.specs.Lines.{is_line_end};
 ghost use Rattle.rst_tree.specs.Faults.{Gives, Becomes};
+ghost use Rattle.rst_tree.specs.Phrases.{phrase_text};
 ghost use Rattle.rst_tree.specs.Tree.{is_lines, is_plain_byte};
 
 use crate::brief::Brief;
 use crate::fault::TreeFault;
+use crate::phrase::Phrase;
 use std::alloc::Global;
 use std::marker::Model;
 use std::{mem, slice};
@@ -17,10 +19,11 @@ pub struct Text {
     held: Held,
 }
 
-/// What a text is made of. Most are short: those lie in the value itself, and take no memory.
+/// What a text is made of. Most are short: those lie in the value itself, and take no memory. Nor do phrases.
 #[derive(Debug, Drop)]
 enum Held {
     Short(Global, Brief),
+    Phrase(Global, Phrase),
     Long(String),
 }
 
@@ -46,6 +49,15 @@ impl Text {
         Text { held }
     }
 
+    /// The text that a phrase is.
+    pub fn of_phrase(alloc: Global, phrase: Phrase) -> Text
+        ensures { result ≡ phrase_text phrase }
+    {
+        Text {
+            held: Held::Phrase(alloc, phrase),
+        }
+    }
+
     /// A text of its own.
     pub fn from_str(alloc: Global, text: &str) -> Result<Text, TreeFault>
         ensures { Gives (λ t. t ≡ text.now) result }
@@ -63,6 +75,7 @@ impl Text {
     {
         match &self.held {
             Held::Short(_, short) => short.as_str(),
+            Held::Phrase(_, phrase) => phrase.text(),
             Held::Long(string) => string.as_str(),
         }
     }
@@ -89,6 +102,7 @@ impl Text {
             Held::Short(alloc, short) => Ok(Text {
                 held: Held::Short(*alloc, short.copy()),
             }),
+            Held::Phrase(alloc, phrase) => Ok(Text::of_phrase(*alloc, *phrase)),
             Held::Long(string) => Text::from_str(*string.allocator(), string.as_str()),
         }
     }
@@ -104,6 +118,9 @@ impl Text {
                     Some(short) => Held::Short(alloc, short),
                     None => Held::Long(joined(alloc, front.as_str(), text)?),
                 };
+            }
+            Held::Phrase(alloc, phrase) => {
+                self.held = Held::Long(joined(*alloc, phrase.text(), text)?);
             }
             Held::Long(string) => string.push_str(text)?,
         }
