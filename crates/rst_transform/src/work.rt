@@ -1,7 +1,7 @@
 //! The document between two transforms.
-ghost use Rattle.std.specs.Prelude.{◌≡◌, ◌+◌, ◌∷◌, [], vec_len};
+ghost use Rattle.std.specs.Prelude.{◌≡◌, ◌+◌, ◌∷◌, ◌++◌, [], false, string_bytes, vec_len};
 ghost use Rattle.rst_tree.specs.Faults.{Gives};
-ghost use Rattle.rst_transform.specs.Reports.{with_references, report_node, without_ids};
+ghost use Rattle.rst_transform.specs.Reports.{with_references, report_node, without_ids, next_report, KeepsRest};
 
 use rst_names::{Ids, Names};
 use rst_tree::{Attrs, Children, Key, Level, Node, Note, Tag, Text, Texts, TreeFault, Value};
@@ -111,7 +111,9 @@ impl Work {
         line: usize,
         text: String,
         own: bool,
-    ) -> Report {
+    ) -> Report
+        ensures { result ≡ next_report self.now.first_number self.now.reports.items level line (string_bytes text) own }
+    {
         Report {
             note: Note {
                 level,
@@ -153,7 +155,9 @@ impl Work {
         line: usize,
         text: String,
     ) -> Result<Node, TreeFault>
-        ensures { Gives (λ _. vec_len self.new.reports ≡ vec_len self.old.reports + 1) result }
+        ensures node { let next = next_report self.old.first_number self.old.reports.items level line (string_bytes text) false in Gives (λ node. node ≡ report_node next) result }
+        ensures reports { let next = next_report self.old.first_number self.old.reports.items level line (string_bytes text) false in Gives (λ _. self.new.reports.items ≡ self.old.reports.items ++ next ∷ []) result }
+        ensures rest { Gives (λ _. KeepsRest self.old self.new) result }
     {
         let mut report = self.next_report(alloc, level, line, text, false);
         let node = report.node(alloc)?;
