@@ -4,3 +4,4 @@ pub mod Messages
 pub mod Reading
 pub mod Reports
 pub mod Shown
+pub mod Transitions

@@ -1,4 +1,12 @@
 //! The places of transitions.
+ghost use Rattle.std.specs.Prelude.{◌≡◌, ◌++◌, ◌∷◌, [], ◌&&◌, nat_lt, None, Some, MatchOption};
+ghost use Rattle.std.specs.List.{list_all};
+ghost use Rattle.rst_tree.specs.Faults.{Gives};
+ghost use Rattle.rst_tree.specs.Nodes.{forest_of};
+ghost use Rattle.rst_tree.specs.declared.node.Node.TheVariants.{Element};
+ghost use Rattle.rst_transform.specs.Reports.{KeepsRest, report_node};
+ghost use Rattle.rst_transform.specs.Transitions.{behind, ends_in_transition, fault_before, further, is_section, is_title, is_transition, none_yet, place_in, put_last, put_transition, so_far, transition_report, with_fault, with_message, with_places, with_reports};
+
 use crate::work::Work;
 use rst_tree::{Attrs, Children, Level, Node, Tag, TreeFault};
 use std::alloc::Global;
@@ -24,7 +32,11 @@ use std::mem;
 ///     <section>
 ///
 /// One that would move behind the end of the document stays, and a message follows it.
-pub fn transitions(alloc: Global, mut work: Work) -> Result<Work, TreeFault> {
+pub fn transitions(alloc: Global, mut work: Work) -> Result<Work, TreeFault>
+    ensures root { Gives (λ done. done.root ≡ with_places work.first_number work.reports.items work.root) result }
+    ensures reports { Gives (λ done. done.reports.items ≡ with_reports work.first_number work.reports.items work.root) result }
+    ensures rest { Gives (λ done. done ≡ record work { root = done.root; reports = done.reports }) result }
+{
     let root = mem::replace(&mut work.root, Node::element(alloc, Tag::Document, 0));
     match root {
         Node::Element {
@@ -64,22 +76,17 @@ fn place_in(
     nodes: Children,
     escape: bool,
     work: &mut Work,
-) -> Result<Placed, TreeFault> {
-    let mut place = Place::first(alloc, nodes.len(), escape)?;
+) -> Result<Placed, TreeFault>
+    ensures placed { Gives (λ placed. so_far placed work.new ≡ place_in work.old.first_number escape (none_yet work.old.reports.items) nodes) result }
+    ensures rest { Gives (λ _. KeepsRest work.old work.new) result }
+{
+    let mut left = nodes.len();
+    let mut placed = Placed::with_room(alloc, left)?;
     for node in nodes.into_list() {
-        place.left = place.left.saturating_sub(1);
+        left = left.saturating_sub(1);
         match node {
             Node::Text(text) => {
-                place.placed.nodes.push(Node::Text(text))?;
-                continue;
-            }
-            Node::Element {
-                tag: Tag::Transition,
-                attrs,
-                children,
-                line,
-            } => {
-                place.put_transition(alloc, attrs, children, line, work)?;
+                placed.nodes.push(Node::Text(text))?;
                 continue;
             }
             Node::Element {
@@ -88,76 +95,116 @@ fn place_in(
                 children,
                 line,
             } => {
-                let holds = place.holds(tag);
+                if is_transition(tag) {
+                    let transition = Node::Element {
+                        tag,
+                        attrs,
+                        children,
+                        line,
+                    };
+                    placed.put_transition(alloc, transition, line, left == 0, escape, work)?;
+                    continue;
+                }
+                let holds = holds(tag, left);
                 let inner = place_in(alloc, children, holds || escape, work)?;
-                place.put_element(tag, attrs, line, inner, holds)?;
+                placed.put_element(tag, attrs, line, inner, holds)?;
                 continue;
             }
         }
     }
-    Ok(place.placed)
+    Ok(placed)
 }
 
-/// A place among the nodes of an element.
-#[derive(Drop)]
-struct Place {
-    /// How many nodes follow it.
-    left: usize,
-    /// Whether a transition at the end can move further out.
-    escape: bool,
-    /// The nodes before it.
-    placed: Placed,
+/// Whether transitions that move out of an element of a kind, which so many nodes follow, stand behind it: out of a section that
+/// isn't the last node.
+fn holds(tag: Tag, left: usize) -> bool
+    ensures { result ≡ (is_section tag && nat_lt 0 left) }
+{
+    matches!(tag, Tag::Section) && left > 0
 }
 
-impl Place {
-    /// The place before the first of so many nodes.
-    fn first(alloc: Global, left: usize, escape: bool) -> Result<Place, TreeFault> {
-        Ok(Place {
-            left,
-            escape,
-            placed: Placed {
-                nodes: Vec::with_capacity(alloc, left)?,
-                moving: Vec::new(alloc),
-            },
+impl Placed {
+    /// No node, in a list with room for so many.
+    fn with_room(alloc: Global, room: usize) -> Result<Placed, TreeFault>
+        ensures nodes { Gives (λ placed. placed.nodes.items ≡ []) result }
+        ensures moving { Gives (λ placed. placed.moving.items ≡ []) result }
+    {
+        Ok(Placed {
+            nodes: Vec::with_capacity(alloc, room)?,
+            moving: Vec::new(alloc),
         })
     }
 
-    /// Whether transitions that move out of an element of a kind at this place stand behind it: out of a section that isn't the
-    /// last node.
-    fn holds(&self, tag: Tag) -> bool {
-        matches!(tag, Tag::Section) && self.left > 0
+    /// Puts a message on a transition behind the nodes.
+    #[tactic(auto, unfolding(crate::specs::Transitions::with_message))]
+    fn put_message(
+        &mut self,
+        alloc: Global,
+        line: usize,
+        words: &str,
+        work: &mut Work,
+    ) -> Result<(), TreeFault>
+        ensures siblings { Gives (λ _. so_far self.new work.new ≡ with_message work.old.first_number line words.now (so_far self.old work.old)) result }
+        ensures rest { Gives (λ _. KeepsRest work.old work.new) result }
+    {
+        let message = message(alloc, line, words, work)?;
+        self.nodes.push(message)?;
+        Ok(())
     }
 
-    /// Puts a transition to its place, with the messages on it.
+    /// Puts the message on what is wrong with a transition behind the nodes there, if anything is.
+    #[tactic(auto, unfolding(crate::specs::Transitions::with_fault))]
+    fn put_fault(&mut self, alloc: Global, line: usize, work: &mut Work) -> Result<(), TreeFault>
+        ensures siblings { Gives (λ _. so_far self.new work.new ≡ with_fault work.old.first_number line (fault_before self.old.nodes.items) (so_far self.old work.old)) result }
+        ensures rest { Gives (λ _. KeepsRest work.old work.new) result }
+    {
+        match fault_before(self.nodes.as_slice()) {
+            Some(words) => self.put_message(alloc, line, words, work),
+            None => Ok(()),
+        }
+    }
+
+    /// Puts a transition that is the last node to its place: it moves further out if it can escape, and else stays, with a
+    /// message behind it.
+    #[tactic(auto, unfolding(crate::specs::Transitions::put_last))]
+    fn put_last(
+        &mut self,
+        alloc: Global,
+        transition: Node,
+        line: usize,
+        escape: bool,
+        work: &mut Work,
+    ) -> Result<(), TreeFault>
+        ensures siblings { Gives (λ _. so_far self.new work.new ≡ put_last work.old.first_number escape transition line (so_far self.old work.old)) result }
+        ensures rest { Gives (λ _. KeepsRest work.old work.new) result }
+    {
+        if escape {
+            self.moving.push(transition)?;
+            return Ok(());
+        }
+        self.nodes.push(transition)?;
+        self.put_message(alloc, line, AT_END, work)
+    }
+
+    /// Puts a transition, which is the last node or not, to its place, with the messages on it.
+    #[tactic(auto, unfolding(crate::specs::Transitions::put_transition))]
     fn put_transition(
         &mut self,
         alloc: Global,
-        attrs: Attrs,
-        children: Children,
+        transition: Node,
         line: usize,
+        last: bool,
+        escape: bool,
         work: &mut Work,
-    ) -> Result<(), TreeFault> {
-        if let Some(words) = fault_before(self.placed.nodes.as_slice()) {
-            let message = message(alloc, line, words, work)?;
-            self.placed.nodes.push(message)?;
+    ) -> Result<(), TreeFault>
+        ensures siblings { Gives (λ _. so_far self.new work.new ≡ put_transition work.old.first_number last escape transition line (so_far self.old work.old)) result }
+        ensures rest { Gives (λ _. KeepsRest work.old work.new) result }
+    {
+        self.put_fault(alloc, line, work)?;
+        if last {
+            return self.put_last(alloc, transition, line, escape, work);
         }
-        let transition = Node::Element {
-            tag: Tag::Transition,
-            attrs,
-            children,
-            line,
-        };
-        if self.left > 0 {
-            self.placed.nodes.push(transition)?;
-            return Ok(());
-        }
-        if self.escape {
-            self.placed.moving.push(transition)?;
-            return Ok(());
-        }
-        self.placed.nodes.push(transition)?;
-        let message = message(alloc, line, AT_END, work)?;
-        self.placed.nodes.push(message)?;
+        self.nodes.push(transition)?;
         Ok(())
     }
 
@@ -170,22 +217,23 @@ impl Place {
         line: usize,
         inner: Placed,
         holds: bool,
-    ) -> Result<(), TreeFault> {
-        self.placed.nodes.push(Node::Element {
+    ) -> Result<(), TreeFault>
+        ensures nodes { Gives (λ _. self.new.nodes.items ≡ self.old.nodes.items ++ Element tag attrs (forest_of inner.nodes.items) line ∷ behind holds inner.moving.items) result }
+        ensures moving { Gives (λ _. self.new.moving.items ≡ self.old.moving.items ++ further holds inner.moving.items) result }
+    {
+        let Placed { nodes, mut moving } = inner;
+        self.nodes.push(Node::Element {
             tag,
             attrs,
-            children: Children::of(inner.nodes),
+            children: Children::of(nodes),
             line,
         })?;
         if holds {
-            for transition in inner.moving.into_iter().rev() {
-                self.placed.nodes.push(transition)?;
-            }
+            moving.reverse();
+            self.nodes.append(&mut moving)?;
             return Ok(());
         }
-        for transition in inner.moving {
-            self.placed.moving.push(transition)?;
-        }
+        self.moving.append(&mut moving)?;
         Ok(())
     }
 }
@@ -199,34 +247,59 @@ const ADJACENT: &str =
 const AT_END: &str = "Document may not end with a transition.";
 
 /// What is wrong with a transition behind these siblings, if anything is.
-fn fault_before(before: &[Node]) -> Option<&'static str> {
-    if before.iter().all(|node| is_title(node)) {
+#[tactic(auto, unfolding(crate::specs::Transitions::fault_before))]
+fn fault_before(before: &[Node]) -> Option<&'static str>
+    ensures { MatchOption result (fault_before before.now ≡ None) (λ words. fault_before before.now ≡ Some words.now) }
+{
+    if only_titles(before) {
         return Some(AT_BEGINNING);
     }
-    match before.last() {
-        Some(
-            Node::Element {
-                tag: Tag::Transition,
-                ..
-            },
-        ) => Some(ADJACENT),
-        _ => None,
+    if ends_in_transition(before) {
+        return Some(ADJACENT);
     }
+    None
+}
+
+/// Whether the nodes are titles and subtitles.
+fn only_titles(nodes: &[Node]) -> bool
+    ensures { result ≡ list_all is_title nodes.now }
+{
+    nodes.iter().all(|node| is_title(node))
 }
 
 /// Whether a node is a title or a subtitle.
-fn is_title(node: &Node) -> bool {
-    matches!(
-        node,
-        Node::Element {
-            tag: Tag::Title | Tag::Subtitle,
-            ..
-        }
-    )
+fn is_title(node: &Node) -> bool
+    ensures { result ≡ is_title node.now }
+{
+    match node {
+        Node::Element { tag, .. } => matches!(tag, Tag::Title | Tag::Subtitle),
+        Node::Text(_) => false,
+    }
+}
+
+/// Whether the last of these nodes is a transition.
+fn ends_in_transition(nodes: &[Node]) -> bool
+    ensures { result ≡ ends_in_transition nodes.now }
+{
+    match nodes.last() {
+        Some(Node::Element { tag, .. }) => is_transition(*tag),
+        Some(Node::Text(_)) | None => false,
+    }
+}
+
+/// Whether an element of a kind is a transition.
+fn is_transition(tag: Tag) -> bool
+    ensures { result ≡ is_transition tag }
+{
+    matches!(tag, Tag::Transition)
 }
 
 /// An ERROR on a transition, which is noted in the list of messages, too.
-fn message(alloc: Global, line: usize, words: &str, work: &mut Work) -> Result<Node, TreeFault> {
+fn message(alloc: Global, line: usize, words: &str, work: &mut Work) -> Result<Node, TreeFault>
+    ensures node { let next = transition_report work.old.first_number work.old.reports.items line words.now in Gives (λ node. node ≡ report_node next) result }
+    ensures reports { let next = transition_report work.old.first_number work.old.reports.items line words.now in Gives (λ _. work.new.reports.items ≡ work.old.reports.items ++ next ∷ []) result }
+    ensures rest { Gives (λ _. KeepsRest work.old work.new) result }
+{
     let text = String::from_str(alloc, words)?;
     work.report_in_place(alloc, Level::Error, line, text)
 }
