@@ -1,5 +1,6 @@
 pub mod Left
 pub mod Links
+pub mod Lists
 pub mod Messages
 pub mod Reading
 pub mod Reports

@@ -1,12 +1,17 @@
 //! Lists of texts among the attributes, and lists of nodes.
 ghost use Rattle.std.specs.Prelude.{◌≡◌, ◌++◌};
+ghost use Rattle.rst_tree.specs.Attributes.{without_key};
 ghost use Rattle.rst_tree.specs.Faults.{Gives};
+ghost use Rattle.rst_transform.specs.Lists.{listed, with_listed, with_list_of, with_names};
 
 use rst_tree::{Attrs, Key, Node, Said, Text, Texts, TreeFault, Value};
 use std::alloc::Global;
 
 /// Takes out an attribute, and gives the texts that it lists; none where it is missing or no list.
-pub(crate) fn take_list(alloc: Global, attrs: &mut Attrs, key: Key) -> Texts {
+pub(crate) fn take_list(alloc: Global, attrs: &mut Attrs, key: Key) -> Texts
+    ensures texts { result ≡ listed key attrs.old }
+    ensures rest { attrs.new ≡ without_key key attrs.old }
+{
     match attrs.remove(key) {
         Some(Value::List(texts)) => texts,
         _ => Texts::new(alloc),
@@ -19,7 +24,9 @@ pub(crate) fn append(
     attrs: &mut Attrs,
     key: Key,
     more: &[Text],
-) -> Result<(), TreeFault> {
+) -> Result<(), TreeFault>
+    ensures { Gives (λ _. attrs.new ≡ with_listed key more.now attrs.old) result }
+{
     if more.is_empty() {
         return Ok(());
     }
@@ -31,18 +38,18 @@ pub(crate) fn append(
 }
 
 /// Puts the ids, names and lost names that attributes tell behind those that others tell.
-pub(crate) fn append_names(
-    alloc: Global,
-    attrs: &mut Attrs,
-    from: &Attrs,
-) -> Result<(), TreeFault> {
+pub(crate) fn append_names(alloc: Global, attrs: &mut Attrs, from: &Attrs) -> Result<(), TreeFault>
+    ensures { Gives (λ _. attrs.new ≡ with_names from.now attrs.old) result }
+{
     append_from(alloc, attrs, Key::Ids, from)?;
     append_from(alloc, attrs, Key::Names, from)?;
     append_from(alloc, attrs, Key::Dupnames, from)
 }
 
 /// Puts the texts that an attribute lists elsewhere behind those that it lists here.
-fn append_from(alloc: Global, attrs: &mut Attrs, key: Key, from: &Attrs) -> Result<(), TreeFault> {
+fn append_from(alloc: Global, attrs: &mut Attrs, key: Key, from: &Attrs) -> Result<(), TreeFault>
+    ensures { Gives (λ _. attrs.new ≡ with_list_of key from.now attrs.old) result }
+{
     match from.get(key) {
         Some(Said::List(more)) => append(alloc, attrs, key, more),
         _ => Ok(()),
