@@ -1,8 +1,8 @@
 -- The messages of the transforms as elements (Document Tree, 'system_message').
-use Rattle.std.specs.Prelude.{◌≡◌, ℕ, ◌+◌, ◌-◌, ◌^◌, min, Bool, List, [], ◌∷◌, length, Option, Some, None}
+use Rattle.std.specs.Prelude.{◌≡◌, ℕ, ◌+◌, ◌-◌, ◌^◌, min, Bool, List, [], length, None}
 use Rattle.rst_tree.specs.declared.attrs.Attr.{Attr}
 use Rattle.rst_tree.specs.declared.attrs.Value.TheVariants.{Number, List as Listed}
-use Rattle.rst_tree.specs.declared.key.Key.TheVariants.{Backrefs, Ids, Message}
+use Rattle.rst_tree.specs.declared.key.Key.TheVariants.{Backrefs, Message}
 use Rattle.rst_tree.specs.declared.node.Node.{Node}
 use Rattle.rst_tree.specs.declared.node.Node.TheVariants.{Element}
 use Rattle.rst_tree.specs.declared.note.Level.{Level}

@@ -1,4 +1,4 @@
-use Rattle.std.proofs.Common.{◌≡◌, ap, sym, ◌∙◌, Some}
+use Rattle.std.proofs.Common.{ap, sym, ◌∙◌, Some}
 use Rattle.std.specs.Option.{option_copied}
 use Rattle.rst_transform.specs.Transitions.{is_one}
 use Rattle.rst_transform.proofs.transitions.ends_in_transition.Goals as goal
