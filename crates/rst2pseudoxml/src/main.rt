@@ -4,18 +4,9 @@
 ghost use Rattle.std.specs.Prelude.{◌≡◌, false};
 ghost use Rattle.rst_text.specs.Counted.{has_failed};
 
-mod document;
-mod end;
-mod input;
-mod report;
-mod run;
-mod source;
-mod telling;
-
-use report::{Stop, report};
 use rst_options::{OptionFault, options};
+use rst_run::{Stop, report, run};
 use rst_text::Counted;
-use run::run;
 use std::alloc::{AllocError, Global};
 use std::env;
 use std::fs::File;

@@ -1,7 +1,6 @@
 //! Tables of inputs with what the program shows of each.
-use super::report::{Stop, report};
-use super::run::run;
 use rst_options::options;
+use rst_run::{Stop, report, run};
 use rst_text::Counted;
 use std::alloc::Global;
 use std::process::Abort;

@@ -1,10 +1,8 @@
 //! Runs over readers and writers in memory that fail in mid-stream, and what is reported of each end.
 ghost use Rattle.std.specs.Prelude.{Some};
 
-use super::end::End;
-use super::report::{Stop, report};
-use super::run::run;
 use rst_options::OptionFault;
+use rst_run::{End, Stop, report, run};
 use rst_settings::Settings;
 use rst_text::Counted;
 use std::alloc::Global;

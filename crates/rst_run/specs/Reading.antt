@@ -1,0 +1,58 @@
+-- The document that an input is.
+use Rattle.std.specs.Prelude.{◌≡◌, ℕ, ◌≤◌, List, [], ◌∷◌, ◌++◌, Option, None, Some, IsSome, Result, Ok, Err, codes}
+use Rattle.std.specs.Fmt.{decimal}
+use Rattle.std.specs.Str.Lossy.{utf8_valid_len}
+use Rattle.rst_block.specs.declared.parsing.Parsed.{Parsed}
+use Rattle.rst_settings.specs.declared.Settings.{Settings}
+use Rattle.rst_text.specs.Block.{Block}
+use Rattle.rst_text.specs.Lines.{first_longer}
+use Rattle.rst_text.specs.Text.{text_of}
+use Rattle.rst_transform.specs.Messages.{highest_level}
+use Rattle.rst_transform.specs.declared.finishing.Finished.{Finished}
+use Rattle.rst_tree.specs.Messages.{note_node}
+use Rattle.rst_tree.specs.Nodes.{forest_of}
+use Rattle.rst_tree.specs.declared.node.Node.{Node}
+use Rattle.rst_tree.specs.declared.node.Node.TheVariants.{Element}
+use Rattle.rst_tree.specs.declared.note.Level.TheVariants.{Error}
+use Rattle.rst_tree.specs.declared.tag.Tag.TheVariants.{Document}
+use Rattle.rst_run.specs.declared.end.End.{End}
+use Rattle.rst_run.specs.declared.end.End.TheVariants.{NotUtf8, TooDeep, NoMemory}
+use Rattle.rst_run.specs.Source.{with_source}
+use Rattle.rst_run.specs.Shown.{IsFinished, IsShort, HasShortLines}
+
+-- that the line of a number is too long (Configuration, `line_length_limit`)
+abbrev pub long_text : ℕ → List ℕ
+long_text line = codes "Line " ++ decimal line ++ codes " exceeds the line-length-limit."
+
+abbrev pub long_message : ℕ → Node
+long_message line = note_node (record { level = Error; line = line; text = long_text line; block = None })
+
+-- a document with nothing but that message
+abbrev pub long_document : ℕ → Node
+long_document line = Element Document [] (forest_of (long_message line ∷ [])) 0
+
+-- where a line is too long, the document says so and nothing else
+abbrev pub IsReadWith : Option ℕ → Parsed → Type 0
+IsReadWith None parsed = Unit {0}
+IsReadWith (Some line) parsed = (parsed.document ≡ long_document line) × (parsed.messages ≡ 0)
+
+-- a document was read of the lines, or a block nests too deep, which isn't looked for where a line is too long, or memory ran out
+abbrev pub Parses : Settings → Block → Result Parsed End → Type 0
+Parses settings lines (Ok parsed) = IsReadWith (first_longer settings.limit lines) parsed
+Parses settings lines (Err (TooDeep line)) = IsShort settings lines
+Parses settings lines (Err NoMemory) = Unit {0}
+Parses settings lines (Err _) = ⊥
+
+-- the finished document with its source, and its messages with their highest level
+abbrev pub IsMade : Settings → List ℕ → Finished → Type 0
+IsMade settings source finished =
+    (document : Node) × IsFinished settings document finished.notes.items × (finished.tree ≡ with_source source document)
+    × (finished.highest ≡ highest_level finished.notes.items) × (finished.highest ≤ 4)
+
+-- a document was made of the bytes, or they were refused, or memory ran out
+abbrev pub Reads : Settings → List ℕ → List ℕ → Result Finished End → Type 0
+Reads settings source bytes (Ok finished) = IsSome (text_of bytes) × IsMade settings source finished
+Reads settings source bytes (Err (NotUtf8 at)) = (text_of bytes ≡ None) × (at ≡ utf8_valid_len bytes)
+Reads settings source bytes (Err (TooDeep line)) = HasShortLines settings (text_of bytes)
+Reads settings source bytes (Err NoMemory) = Unit {0}
+Reads settings source bytes (Err _) = ⊥

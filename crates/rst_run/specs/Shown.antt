@@ -1,0 +1,101 @@
+-- What the program shows of a finished document: standard output, standard error and the exit status.
+use Rattle.std.specs.Prelude.{◌≡◌, ℕ, ◌+◌, ◌<◌, ◌≤◌, Bool, true, ◌||◌, List, [], ◌∷◌, ◌++◌, length, filter, if◌then◌else◌, Option, None, Some, IsSome, Result, Ok, Err, Vec, codes}
+use Rattle.std.specs.Fmt.{decimal}
+use Rattle.std.specs.List.{flat_map}
+use Rattle.std.specs.Str.Lossy.{utf8_valid_len}
+use Rattle.rst_text.specs.Counted.{inner_of}
+use Rattle.rst_text.specs.Block.{Block}
+use Rattle.rst_text.specs.Lines.{lines_of, first_longer}
+use Rattle.rst_text.specs.Text.{text_of}
+use Rattle.rst_text.specs.declared.counted.Counted.{Counted}
+use Rattle.rst_settings.specs.declared.Settings.{Settings}
+use Rattle.rst_settings.specs.Threshold.{is_reached}
+use Rattle.rst_transform.specs.Messages.{EndsAtHalt, highest_level}
+use Rattle.rst_transform.specs.Shown.{is_shown_in}
+use Rattle.rst_tree.specs.LevelNames.{level_name, level_number}
+use Rattle.rst_tree.specs.Message.{message_of}
+use Rattle.rst_tree.specs.Print.{print_of}
+use Rattle.rst_tree.specs.declared.node.Node.{Node}
+use Rattle.rst_tree.specs.declared.note.Level.{Level}
+use Rattle.rst_tree.specs.declared.note.Note.{Note}
+use Rattle.rst_run.specs.Source.{with_source}
+use Rattle.rst_run.specs.declared.end.End.{End}
+use Rattle.rst_run.specs.declared.end.End.TheVariants.{TooLong, NotUtf8, TooDeep, NoMemory}
+
+-- standard output, standard error and the exit status
+pub record Parts : Type 0 where
+  pub out : List ℕ
+  pub err : List ℕ
+  pub status : ℕ
+
+-- a message that is told: it is at or above the report level or the halt level
+abbrev pub is_told : Settings → Note → Bool
+is_told settings note = is_reached settings.report (level_number note.level) || is_reached settings.halt (level_number note.level)
+
+abbrev pub last_level : List Note → Option Level
+last_level [] = None
+last_level (note ∷ []) = Some note.level
+last_level (note ∷ notes) = last_level notes
+
+abbrev pub if_reached : Settings → Option Level → Option Level
+if_reached settings None = None
+if_reached settings (Some level) = if is_reached settings.halt (level_number level) then Some level else None
+
+-- the level of the message that halts a run, if one does: the last
+abbrev pub halting : Settings → List Note → Option Level
+halting settings notes = if_reached settings (last_level notes)
+
+-- that a message halts the run
+abbrev pub exit_line : Option Level → List ℕ
+exit_line None = []
+exit_line (Some level) = codes "Exiting due to level-" ++ decimal (level_number level) ++ codes " (" ++ level_name level ++ codes ") system message.\n"
+
+abbrev pub told : Settings → List ℕ → List Note → List ℕ
+told settings source notes = flat_map (message_of source) (filter (is_told settings) notes) ++ exit_line (halting settings notes)
+
+abbrev pub status_by : Settings → ℕ → ℕ
+status_by settings highest = if is_reached settings.exit highest then 10 + highest else 0
+
+-- standard output: the document, or nothing where a message halts the run
+abbrev pub shown_by : Node → Option Level → List ℕ
+shown_by document None = print_of document
+shown_by document (Some level) = []
+
+-- the exit status: by the level of the messages, or 1 where one halts the run
+abbrev pub ended_by : Settings → List Note → Option Level → ℕ
+ended_by settings notes None = status_by settings (highest_level notes)
+ended_by settings notes (Some level) = 1
+
+-- what is shown of a document and its messages, or of its messages alone where one halts the run
+abbrev pub parts_of : Settings → List ℕ → Node → List Note → Parts
+parts_of settings source document notes =
+    record { out = shown_by document (halting settings notes); err = told settings source notes; status = ended_by settings notes (halting settings notes) }
+
+-- a document and its messages as they are shown: no message in the document is below the report level, no attribute serves the
+-- transforms alone, and no message but the last one halts the run
+abbrev pub IsFinished : Settings → Node → List Note → Type 0
+IsFinished settings document notes = (is_shown_in settings.report document ≡ true) × EndsAtHalt settings.halt notes
+
+-- no line is longer than the settings say
+abbrev pub IsShort : Settings → Block → Type 0
+IsShort settings lines = first_longer settings.limit lines ≡ None
+
+-- there is a text, and its lines are short
+abbrev pub HasShortLines : Settings → Option (List ℕ) → Type 0
+HasShortLines settings None = ⊥
+HasShortLines settings (Some text) = IsShort settings (lines_of settings.tab text)
+
+-- The answer to some bytes: what is shown of the document that they were read as, with its source, and of its messages; or the
+-- refusal of what is too long, no UTF-8 or nested too deeply.
+abbrev pub Answers : Settings → List ℕ → List ℕ → Result Parts End → Type 0
+Answers settings source bytes (Ok parts) = (length bytes ≤ 16777216) × IsSome (text_of bytes) × (document : Node) × (notes : List Note) × IsFinished settings document notes × (parts ≡ parts_of settings source (with_source source document) notes)
+Answers settings source bytes (Err TooLong) = 16777216 < length bytes
+Answers settings source bytes (Err (NotUtf8 at)) = (length bytes ≤ 16777216) × (text_of bytes ≡ None) × (at ≡ utf8_valid_len bytes)
+Answers settings source bytes (Err (TooDeep line)) = (length bytes ≤ 16777216) × HasShortLines settings (text_of bytes)
+Answers settings source bytes (Err _) = ⊥
+
+-- the text of the messages was made, or memory ran out
+abbrev pub Tells : {A : Type 0} → Settings → List ℕ → List Note → Result (Counted (Vec ℕ A)) End → Type 0
+Tells settings source notes (Ok text) = (inner_of text).items ≡ told settings source notes
+Tells settings source notes (Err NoMemory) = Unit {0}
+Tells settings source notes (Err _) = ⊥

@@ -1,0 +1,14 @@
+//! A run: from a reader to two writers, and the line by which a fault is reported.
+#![tactic(auto)]
+
+mod document;
+mod end;
+mod input;
+mod reporting;
+mod running;
+mod source;
+mod telling;
+
+pub use end::End;
+pub use reporting::{Stop, report};
+pub use running::run;
