@@ -7,3 +7,4 @@ pub mod RowLemmas
 pub mod AdornmentLemmas
 pub mod KindRows
 pub mod TableLemmas
+pub mod PartitionLemmas

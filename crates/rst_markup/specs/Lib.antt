@@ -17,3 +17,4 @@ pub mod ExplicitLaws
 pub mod Kinds
 pub mod Begun
 pub mod Ends
+pub mod Partition

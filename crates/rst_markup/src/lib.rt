@@ -14,6 +14,7 @@ mod form;
 mod forms;
 mod kind;
 mod kind_end;
+pub mod laws;
 mod lines;
 mod part;
 mod row;
