@@ -3,3 +3,4 @@ pub mod HeadLemmas
 pub mod MessageLemmas
 pub mod ReadLemmas
 pub mod TermLemmas
+pub mod LineBlockLemmas

@@ -21,7 +21,7 @@ mod values;
 pub use directives::{code_block, directive_element, with_title_class};
 pub use images::{figure, image};
 pub use labels::{citation, footnote};
-pub use line_blocks::{BarText, LineBlock, LineBlockFault, line_block};
+pub use line_blocks::{BarText, LineBlockFault, line_block};
 pub use lists::{bullet_list, enumerated_list, option, start_message};
 pub use messages::message;
 pub use nodes::{plain, preserved};

@@ -1,13 +1,17 @@
 //! Line blocks.
-ghost use Rattle.std.specs.Prelude.{◌≡◌, ◌≤◌, length};
-ghost use Rattle.rst_tree.specs.Paths.{IsElement};
-ghost use Rattle.rst_elements.specs.LineBlocks.{Makes};
+ghost use Rattle.std.specs.Prelude.{◌≡◌, ◌≤◌, ◌-◌, suc, length, string_bytes};
+ghost use Rattle.std.specs.Str.{chars};
+ghost use Rattle.rst_tree.specs.declared.tag.Tag.TheVariants.{Line};
+ghost use Rattle.rst_tree.specs.Faults.{Gives};
+ghost use Rattle.rst_elements.specs.Results.{HoldsText};
+ghost use Rattle.rst_elements.specs.Texts.{counted_on};
+ghost use Rattle.rst_elements.specs.LineBlocks.{Makes, Blocks, indented, first_line, least_indent, deeper_len};
 ghost use Rattle.rst_elements.specs.declared.line_blocks.LineBlockFault.TheVariants.{NoMemory};
 
 use super::nodes::element_of;
 use super::numbers::Numbers;
-use super::texted::with_text;
-use rst_tree::{Attrs, Node, Tag, TreeFault};
+use super::texted::{Texted, with_text};
+use rst_tree::{Attrs, Tag, TreeFault};
 use std::alloc::{AllocError, AllocFailed, Global};
 use thiserror::Error;
 
@@ -19,13 +23,6 @@ pub struct BarText {
     pub line: usize,
     pub text_line: usize,
     pub text: String,
-}
-
-/// A line block, and the messages of the texts of its lines, in order.
-#[derive(Debug, Drop)]
-pub struct LineBlock {
-    pub element: Node,
-    pub notes: Vec<Node>,
 }
 
 /// Why a line block was not made.
@@ -72,9 +69,9 @@ struct IndentedText {
     text: String,
 }
 
-/// The line block of some lines, of a level of nesting (Markup Specification, 'Line Blocks'). Lines that are deeper than
-/// the least indentation form line blocks of the next level, as many neighbours as there are in each. A line with nothing
-/// behind its bar is as deep as the one before it, the first not at all.
+/// The line block of some lines, of a level of nesting (Markup Specification, 'Line Blocks'), and the messages of their
+/// texts. Lines that are deeper than the least indentation form line blocks of the next level, as many neighbours as there
+/// are in each. A line with nothing behind its bar is as deep as the one before it, the first not at all.
 ///
 /// Refusals: [`LineBlockFault::TooDeep`] where a line block's level is above `deepest`, and
 /// [`LineBlockFault::NoMemory`].
@@ -84,8 +81,9 @@ pub fn line_block(
     level: usize,
     deepest: usize,
     numbers: &mut Numbers,
-) -> Result<LineBlock, LineBlockFault>
-    ensures { Makes (λ block. IsElement block.element) result }
+) -> Result<Texted, LineBlockFault>
+    ensures text { Blocks (suc deepest - level) numbers.old (indented lines.items) result }
+    ensures numbers { Makes (λ block. numbers.new ≡ counted_on numbers.old (length block.notes.items)) result }
 {
     let lines = indented(alloc, lines)?;
     if deepest < level {
@@ -93,13 +91,13 @@ pub fn line_block(
             line: first_line(&lines),
         });
     }
-    let mut notes = Vec::new(alloc);
-    let element = block_of(alloc, &lines, deepest - level, numbers, &mut notes)?;
-    Ok(LineBlock { element, notes })
+    block_of(alloc, &lines, deepest - level, numbers)
 }
 
 /// The lines with their indentations.
-fn indented(alloc: Global, lines: Vec<BarText>) -> Result<Vec<IndentedText>, LineBlockFault> {
+fn indented(alloc: Global, lines: Vec<BarText>) -> Result<Vec<IndentedText>, TreeFault>
+    ensures { Gives (λ texts. texts.items ≡ indented lines.items) result }
+{
     let mut texts = Vec::new(alloc);
     let mut last = 0;
     for bar in lines {
@@ -115,7 +113,9 @@ fn indented(alloc: Global, lines: Vec<BarText>) -> Result<Vec<IndentedText>, Lin
 }
 
 /// The number of the first line, 0 where there is none.
-fn first_line(lines: &[IndentedText]) -> usize {
+fn first_line(lines: &[IndentedText]) -> usize
+    ensures { result ≡ first_line lines.now }
+{
     match lines.first() {
         Some(first) => first.line,
         None => 0,
@@ -123,11 +123,13 @@ fn first_line(lines: &[IndentedText]) -> usize {
 }
 
 /// The least indentation, 0 where there is no line.
-fn least_indent(lines: &[IndentedText]) -> usize {
-    let mut least = match lines.first() {
-        Some(first) => first.indent,
-        None => 0,
+fn least_indent(lines: &[IndentedText]) -> usize
+    ensures { result ≡ least_indent lines.now }
+{
+    let Some(first) = lines.first() else {
+        return 0;
     };
+    let mut least = first.indent;
     for line in lines {
         least = least.min(line.indent);
     }
@@ -136,7 +138,8 @@ fn least_indent(lines: &[IndentedText]) -> usize {
 
 /// How many lines at the front are deeper than `least`.
 fn deeper_len(lines: &[IndentedText], least: usize) -> usize
-    ensures { result ≤ length lines.now }
+    ensures value { result ≡ deeper_len least lines.now }
+    ensures within { result ≤ length lines.now }
 {
     for (i, line) in lines.iter().enumerate() {
         if line.indent <= least {
@@ -148,23 +151,27 @@ fn deeper_len(lines: &[IndentedText], least: usize) -> usize
 
 /// The line block of some lines, inside which `levels` more may nest.
 ///
-/// Each line is looked at once for each line block that it stands in.
+/// Each line is looked at once for each line block that it stands in, and each message is moved once for each.
 fn block_of(
     alloc: Global,
     lines: &[IndentedText],
     levels: usize,
     numbers: &mut Numbers,
-    notes: &mut Vec<Node>,
-) -> Result<Node, LineBlockFault>
-    ensures { Makes IsElement result }
+) -> Result<Texted, LineBlockFault>
+    ensures text { Blocks (suc levels) numbers.old lines.now result }
+    ensures numbers { Makes (λ block. numbers.new ≡ counted_on numbers.old (length block.notes.items)) result }
 {
+    numbers.within_u64();
     let least = least_indent(lines);
     let mut nodes = Vec::new(alloc);
+    let mut notes = Vec::new(alloc);
     let mut place = 0;
     while place < lines.len() {
         let run = deeper_len(&lines[place..], least);
         if run == 0 {
-            nodes.push(line_of(alloc, &lines[place], numbers, notes)?)?;
+            let mut made = line_of(alloc, &lines[place], numbers)?;
+            nodes.push(made.element)?;
+            notes.append(&mut made.notes)?;
             place += 1;
             continue;
         }
@@ -174,24 +181,21 @@ fn block_of(
             });
         }
         let inner = &lines[place..place + run];
-        nodes.push(block_of(alloc, inner, levels - 1, numbers, notes)?)?;
+        let mut made = block_of(alloc, inner, levels - 1, numbers)?;
+        nodes.push(made.element)?;
+        notes.append(&mut made.notes)?;
         place += run;
     }
     let line = first_line(lines);
-    Ok(element_of(Tag::LineBlock, Attrs::new(alloc), nodes, line))
+    let element = element_of(Tag::LineBlock, Attrs::new(alloc), nodes, line);
+    Ok(Texted { element, notes })
 }
 
-/// A line, whose messages are put behind the others.
-fn line_of(
-    alloc: Global,
-    line: &IndentedText,
-    numbers: &mut Numbers,
-    notes: &mut Vec<Node>,
-) -> Result<Node, LineBlockFault> {
+/// A line, and the messages of its text.
+fn line_of(alloc: Global, line: &IndentedText, numbers: &mut Numbers) -> Result<Texted, TreeFault>
+    ensures text { Gives (HoldsText Line line.now.line (chars (string_bytes line.now.text)) line.now.text_line numbers.old) result }
+    ensures numbers { Gives (λ made. numbers.new ≡ counted_on numbers.old (length made.notes.items)) result }
+{
     let text = line.text.as_str();
-    let read = with_text(alloc, Tag::Line, line.line, text, line.text_line, numbers)?;
-    for note in read.notes {
-        notes.push(note)?;
-    }
-    Ok(read.element)
+    with_text(alloc, Tag::Line, line.line, text, line.text_line, numbers)
 }
