@@ -1,3 +1,4 @@
 pub mod Leaving
 pub mod Placing
 pub mod Showing
+pub mod Titles

@@ -5,4 +5,5 @@ pub mod Messages
 pub mod Reading
 pub mod Reports
 pub mod Shown
+pub mod Title
 pub mod Transitions
