@@ -7,12 +7,11 @@ ghost use Rattle.rst_inline.specs.Faults.{Gives};
 ghost use Rattle.rst_inline.specs.Parts.{IsBare};
 ghost use Rattle.rst_inline.specs.Results.{Reads, IsRead};
 
-use super::elements::{problematic, text_nodes};
+use super::elements::text_nodes;
 use super::fault::InlineFault;
 use super::reading::Meaning;
-use super::texts::{part, spell};
-use super::written::{characters, if_ascii, if_bare, meaning, pieces};
-use rst_pieces::{Piece, is_quiet};
+use super::written::{characters, if_ascii, if_bare, meaning, pieces, problem};
+use rst_pieces::{Kind, Piece, is_quiet};
 use rst_tree::{Node, Note};
 use std::alloc::Global;
 
@@ -52,6 +51,12 @@ fn quiet(alloc: Global, text: &str) -> Result<Pieces, InlineFault>
     })
 }
 
+/// How many pieces are start-strings without end-strings. Each has a message, and mostly nothing else has.
+fn unended(pieces: &[Piece]) -> usize {
+    let wrong = |piece: &&Piece| matches!(piece.kind, Kind::Unended(_));
+    pieces.iter().filter(wrong).count()
+}
+
 /// The nodes and the messages of the pieces of a text; `written` is the text, too, if that is ASCII without a backslash.
 fn read(
     alloc: Global,
@@ -66,7 +71,7 @@ fn read(
     ensures { Gives (Reads text.now line pieces.now) result }
 {
     let mut nodes = Vec::with_capacity(alloc, pieces.len())?;
-    let mut notes = Vec::new(alloc);
+    let mut notes = Vec::with_capacity(alloc, unended(pieces))?;
     for piece in pieces {
         match meaning(alloc, written, text, line, *piece)? {
             Meaning::Nothing => continue,
@@ -80,9 +85,7 @@ fn read(
                 continue;
             }
             Meaning::Wrong(level, said) => {
-                let source = spell(alloc, part(text, piece.from, piece.to))?;
-                let node = problematic(alloc, notes.len(), source.as_str(), line)?;
-                nodes.push(node)?;
+                nodes.push(problem(alloc, written, text, *piece, notes.len(), line)?)?;
                 notes.push(Note {
                     level,
                     line,

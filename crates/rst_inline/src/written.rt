@@ -5,14 +5,15 @@ ghost use Rattle.rst_tree.specs.declared.node.Node.TheVariants.{Text as Words};
 ghost use Rattle.rst_pieces.specs.Pieces.{IsPieces, IsWithin};
 ghost use Rattle.rst_inline.specs.declared.reading.Meaning.TheVariants.{One};
 ghost use Rattle.rst_inline.specs.Faults.{Gives};
-ghost use Rattle.rst_inline.specs.Elements.{text_element, reference_node, uri_node};
+ghost use Rattle.rst_inline.specs.Elements.{text_element, reference_node, uri_node, problematic_node};
 ghost use Rattle.rst_inline.specs.Parts.{source, content, IsBare};
 ghost use Rattle.rst_inline.specs.Readings as spec;
 
-use super::elements::plain_element;
+use super::elements::{plain_element, problematic};
 use super::fault::InlineFault;
 use super::reading::{Meaning, reading};
 use super::references::{reference, uri_reference};
+use super::texts::{part, spell};
 use rst_pieces::{Kind, Markup, Piece, Suffix, pieces_of, pieces_of_ascii};
 use rst_text::ascii_characters;
 use rst_tree::{Node, Tag, Text};
@@ -122,6 +123,46 @@ fn uri(alloc: Global, written: &str, piece: Piece, line: usize) -> Result<Meanin
 {
     let node = uri_reference(alloc, &written[piece.from..piece.to], line)?;
     Ok(Meaning::One(node))
+}
+
+/// The problematic that a piece is, as it is written, with the place of its message.
+fn problem_in(
+    alloc: Global,
+    written: &str,
+    piece: Piece,
+    place: usize,
+    line: usize,
+) -> Result<Node, InlineFault>
+    requires ascii { IsAscii written.now }
+    requires within { IsWithin written.now piece }
+    ensures { Gives (λ node. node ≡ problematic_node place (source written.now piece) line) result }
+{
+    let node = problematic(alloc, place, &written[piece.from..piece.to], line)?;
+    Ok(node)
+}
+
+/// The problematic that a piece of a text is, with the place of its message; `written` is the text, too, if that is ASCII without a
+/// backslash.
+pub(crate) fn problem(
+    alloc: Global,
+    written: Option<&str>,
+    text: &[char],
+    piece: Piece,
+    place: usize,
+    line: usize,
+) -> Result<Node, InlineFault>
+    requires bare { IfSome written (λ written. IsBare written.now) }
+    requires same { IfSome written (λ written. written.now ≡ text.now) }
+    requires within { IsWithin text.now piece }
+    ensures { Gives (λ node. node ≡ problematic_node place (source text.now piece) line) result }
+{
+    match written {
+        Some(written) => problem_in(alloc, written, piece, place, line),
+        None => {
+            let source = spell(alloc, part(text, piece.from, piece.to))?;
+            problematic(alloc, place, source.as_str(), line)
+        }
+    }
 }
 
 /// What a piece of a text means; `written` is the text, too, if that is ASCII without a backslash.

@@ -322,7 +322,14 @@ impl Marked {
     pub fn of(alloc: Global, root: Node) -> Result<Marked, TreeFault>
         ensures { Gives (λ m. m ≡ root) result }
     {
-        let mut marks = Vec::new(alloc);
+        Marked::with_room(alloc, root, 0)
+    }
+
+    /// The same, with room for the marks of so many elements, so that their list doesn't grow while they are found.
+    pub fn with_room(alloc: Global, root: Node, elements: usize) -> Result<Marked, TreeFault>
+        ensures { Gives (λ m. m ≡ root) result }
+    {
+        let mut marks = Vec::with_capacity(alloc, elements)?;
         let mut kinds = Kinds::none();
         add_marks(alloc, &root, &mut marks, &mut kinds)?;
         Ok(Marked { root, marks, kinds })

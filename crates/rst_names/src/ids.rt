@@ -130,6 +130,7 @@ impl Ids {
     /// Takes the first free number of the kind at a place among those of which there are such ids.
     fn take_number(&mut self, alloc: Global, place: usize) -> Result<u64, TreeFault>
         requires { place < vec_len self.old.kinds }
+        ensures { vec_len self.new.kinds ≡ vec_len self.old.kinds }
     {
         let kind = &mut self.kinds[place];
         let number = free(alloc, &self.hindering, kind.front.as_str(), kind.next)?;
@@ -141,9 +142,8 @@ impl Ids {
     fn give_known(&mut self, alloc: Global, place: usize) -> Result<Text, TreeFault>
         requires { place < vec_len self.old.kinds }
     {
-        let front = self.kinds[place].front.copy()?;
         let number = self.take_number(alloc, place)?;
-        with_number(front, number)
+        numbered(alloc, self.kinds[place].front.as_str(), number)
     }
 
     /// Takes the first free id of a text, a hyphen and a number.
@@ -155,12 +155,12 @@ impl Ids {
         if let Some(next) = self.next.get_mut(base) {
             let number = free(alloc, &self.hindering, front.as_str(), *next)?;
             *next = number.saturating_add(1);
-            return with_number(front, number);
+            return numbered(alloc, front.as_str(), number);
         }
         let number = free(alloc, &self.hindering, front.as_str(), 1)?;
         self.next
             .insert(String::from_str(alloc, base)?, number.saturating_add(1))?;
-        with_number(front, number)
+        numbered(alloc, front.as_str(), number)
     }
 }
 
@@ -217,21 +217,12 @@ fn front_of(alloc: Global, base: &str) -> Result<Text, TreeFault> {
     Ok(front)
 }
 
-/// A text and a number.
+/// A text with a number behind it.
 fn numbered(alloc: Global, front: &str, number: u64) -> Result<Text, TreeFault>
     ensures { Gives (λ id. id ≡ front.now ++ decimal number) result }
 {
-    with_number(Text::from_str(alloc, front)?, number)
-}
-
-/// A text with a number behind it.
-fn with_number(front: Text, number: u64) -> Result<Text, TreeFault>
-    ensures { Gives (λ id. id ≡ front ++ decimal number) result }
-{
     let mut buffer = itoa::Buffer::new();
-    let mut id = front;
-    id.push_str(buffer.format(number))?;
-    Ok(id)
+    Text::of_two(alloc, front, buffer.format(number))
 }
 
 /// The id of a problematic by its number.

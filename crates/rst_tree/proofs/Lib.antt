@@ -3,7 +3,6 @@ mod Plain
 pub mod PrintedParts
 pub mod Attributes
 pub mod EachNode
-pub mod EscapedBytes
 pub mod FirstLine
 pub mod Fitting
 pub mod Sending

@@ -59,6 +59,13 @@ impl Brief {
         })
     }
 
+    /// Two texts, one behind the other, as one string, unless they are too long.
+    pub fn of_two(front: &str, text: &str) -> Option<Brief>
+        ensures { IfSome result (λ s. s ≡ front.now ++ text.now) }
+    {
+        Brief::of(front)?.with(text)
+    }
+
     /// An equal string.
     pub fn copy(&self) -> Brief
         ensures { result ≡ self.now }

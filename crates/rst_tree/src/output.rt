@@ -15,7 +15,7 @@ use crate::page::{Page, put, put_byte};
 use crate::tag::Tag;
 use crate::text::Text;
 use itoa::Buffer;
-use memchr::{memchr, memchr2};
+use memchr::memchr;
 use rst_text::Counted;
 use std::io::Write;
 
@@ -39,11 +39,22 @@ fn put_escaped_byte<W: Write, const N: usize>(out: &mut Counted<W>, page: &mut P
     }
 }
 
-/// Whether a member of a list has a byte that is escaped.
+/// Whether a byte is escaped in a member of a list.
+fn is_escaped(byte: u8) -> bool
+    ensures { result ≡ is_escaped byte }
+{
+    byte == b'\\' || byte == b' '
+}
+
+/// Whether a member of a list has a byte that is escaped. None is looked at by itself, so that many are at once.
 fn has_escaped(text: &[u8]) -> bool
     ensures { result ≡ list_any is_escaped text.now }
 {
-    memchr2(b'\\', b' ', text).is_some()
+    let mut found = false;
+    for byte in text {
+        found |= is_escaped(*byte);
+    }
+    found
 }
 
 /// Writes a member of a list, with its spaces and backslashes escaped. Mostly it has none, and is written at once.

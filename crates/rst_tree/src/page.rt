@@ -1,5 +1,5 @@
 //! What is written piece by piece to a writer that may fail, gathered in a page: after a failure nothing more is written.
-ghost use Rattle.std.specs.Prelude.{◌≡◌, ◌∷◌, [], false};
+ghost use Rattle.std.specs.Prelude.{◌≡◌, ◌∷◌, ◌≤◌, [], false, length, drop};
 ghost use Rattle.rst_text.specs.Counted.{has_failed, between, Gains};
 ghost use Rattle.rst_tree.specs.Sends.{Sends, Turns, Takes};
 ghost use Rattle.rst_tree.specs.Faults.{IsEnd};
@@ -92,10 +92,21 @@ pub fn turn<W: Write, const N: usize>(out: &mut Counted<W>, page: &mut Page<N>)
     }
     let count = write(out, page.held.as_slice());
     page.taken = page.taken.saturating_add(count);
-    if !out.failed() {
-        page.held.clear();
+    if out.failed() {
+        keep_rest(page, count);
         return;
     }
+    page.held.clear();
+}
+
+/// Lets a page go on holding what of it the writer hasn't taken. It is apart, since it blanks a page, which takes longer than a write.
+#[cold]
+#[inline(never)]
+fn keep_rest<const N: usize>(page: &mut Page<N>, count: usize)
+    requires { count ≤ length page.old.held.items }
+    ensures held { page.new.held.items ≡ drop count page.old.held.items }
+    ensures taken { page.new.taken ≡ page.old.taken }
+{
     let mut rest = ArrayVec::new();
     let _fits = rest.try_extend_from_slice(&page.held.as_slice()[count..]);
     page.held = rest;

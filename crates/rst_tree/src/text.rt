@@ -69,6 +69,17 @@ impl Text {
         Ok(Text { held })
     }
 
+    /// Two texts, one behind the other, as one.
+    pub fn of_two(alloc: Global, front: &str, text: &str) -> Result<Text, TreeFault>
+        ensures { Gives (λ t. t ≡ front.now ++ text.now) result }
+    {
+        let held = match Brief::of_two(front, text) {
+            Some(short) => Held::Short(alloc, short),
+            None => Held::Long(joined(alloc, front, text)?),
+        };
+        Ok(Text { held })
+    }
+
     /// The text as a `str`.
     pub fn as_str(&self) -> &str
         ensures { result.now ≡ self.now }

@@ -9,6 +9,6 @@ loop-piece-init c =
     let line = c.args.line in
     let pieces = c.args.pieces.now in
     record {
-      nodes = ap₂ (λ nodes count. nodes ++ nodes_from t line count pieces) c.in_ok-nodes.ensures.items c.new-notes.ensures.len ∙ nodes-counted t line [] pieces;
-      notes = ap (λ notes. notes ++ notes_of t line pieces) c.new-notes.ensures.items;
+      nodes = ap₂ (λ nodes count. nodes ++ nodes_from t line count pieces) c.in_ok-nodes.ensures.items c.in_ok-notes.ensures.len ∙ nodes-counted t line [] pieces;
+      notes = ap (λ notes. notes ++ notes_of t line pieces) c.in_ok-notes.ensures.items;
     }
