@@ -1,4 +1,5 @@
 pub mod Leaving
 pub mod Placing
+pub mod Retargeting
 pub mod Showing
 pub mod Titles

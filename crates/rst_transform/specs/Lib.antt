@@ -5,5 +5,6 @@ pub mod Messages
 pub mod Reading
 pub mod Reports
 pub mod Shown
+pub mod Targets
 pub mod Title
 pub mod Transitions
