@@ -1,18 +1,21 @@
 -- Sections that are opened and closed one after the other are those of the definition.
-use Rattle.std.proofs.Common.{◌≡◌, ℕ, zero, suc, ◌+◌, ◌-◌, ◌≤◌, Bool, true, false, cond, List, [], ◌∷◌, ◌++◌, length, map, refl, sym, ◌∙◌, ap, ap₂, subst, arith}
-use Rattle.std.proofs.lemmas.List.{append-nil, append_assoc, map-append, length-map}
+use Rattle.std.proofs.Common.{◌≡◌, ℕ, zero, suc, ◌+◌, ◌-◌, ◌≤◌, Bool, true, false, cond, List, [], ◌∷◌, ◌++◌, ◌<◌, length, map, take, drop, get_or, refl, sym, ◌∙◌, ap, ap₂, subst, arith}
+use Rattle.std.proofs.lemmas.List.{append-nil, append_assoc, map-append, length-map, at_drop_more, at_drop_all, take_all}
 use Rattle.std.proofs.lemmas.Bool.{le-leb, lt-leb}
 use Rattle.std.specs.Prelude.{nat_le, nat_lt}
 use Rattle.rst_tree.specs.declared.node.Node.{Node}
+use Rattle.rst_tree.specs.declared.node.Node.TheVariants.{Element}
+use Rattle.rst_tree.specs.declared.tag.Tag.TheVariants.{Document}
+use Rattle.rst_tree.specs.Nodes.{forest_of}
 use Rattle.rst_sections.specs.declared.heading.Heading.{Heading}
 use Rattle.rst_sections.specs.declared.heading.Style.{Style}
 use Rattle.rst_sections.specs.declared.sectioning.OpenSection.{OpenSection}
 use Rattle.rst_sections.specs.declared.sectioning.Sections.{Sections}
 use Rattle.rst_sections.specs.OpenSections.{Open, open_of, put_inside, close, closed_with, goes_on, StopsAt}
 use Rattle.rst_elements.specs.Texts.{section_node}
-use Rattle.rst_sections.specs.Sections.{Item, plain, titled, Entry, alone, under, Member, loose, section_at, node_of, is_outside, inside, behind, filled, section_of, heading_notes, members, judged, level_of, same_style, with_style, inconsistent, items_from, document_of}
+use Rattle.rst_sections.specs.Sections.{Item, plain, titled, Entry, alone, under, Member, loose, section_at, node_of, is_outside, inside, behind, filled, section_of, heading_notes, members, judged, level_of, same_style, with_style, inconsistent, items_from, document_of, sections_of}
 
-opened : Node → List Node → Open
+abbrev pub opened : Node → List Node → Open
 opened element nodes = record { element = element; nodes = nodes }
 
 -- ---- nodes without sections
@@ -36,7 +39,7 @@ members_plain styles current (n ∷ ns) items = ap (λ (ms : List Member). loose
 -- nodes that are put into the innermost section are those that follow
 with_nodes : (level : ℕ) (os : List Open) (element : Node) (nodes ns : List Node) (ms : List Member)
     → close level os (opened element (nodes ++ ns)) ms ≡ close level os (opened element nodes) (map loose ns ++ ms)
-unfolding close opened
+unfolding close
 with_nodes level [] element nodes ns ms =
     ap₂ (λ (xs : List Node) (rest : List Member). (filled element xs, rest))
     (append_assoc nodes ns (inside level ms) ∙ ap (λ (xs : List Node). nodes ++ xs) (sym (inside_loose level ns ms)))
@@ -54,7 +57,7 @@ nodes_put os element nodes ns styles current items =
 
 pub closes : (level : ℕ) (os : List Open) (o c : Open) (ms : List Member) → inside (level + suc (length os)) ms ≡ [] → behind (level + suc (length os)) ms ≡ ms
     → close level (os ++ o ∷ []) c ms ≡ close level os (opened o.element (o.nodes ++ filled c.element c.nodes ∷ [])) ms
-unfolding close opened
+unfolding close
 closes level [] o c ms none stays =
     let e : level + 1 ≡ level + suc 0 = omega arith in
     let all : c.nodes ++ inside (level + 1) ms ≡ c.nodes = ap (λ n. c.nodes ++ inside n ms) e ∙ ap (λ (xs : List Node). c.nodes ++ xs) none ∙ append-nil c.nodes in
@@ -122,22 +125,24 @@ deep_behind : (level : ℕ) (ms : List Member) → AreDeep ms → AreDeep (behin
 unfolding behind AreDeep
 deep_behind level [] h = h
 deep_behind level (loose n ∷ ms) h = deep_behind level ms h
-deep_behind level (section_at own n ∷ ms) h = by (nat_le own level)
+deep_behind level (section_at own n ∷ ms) h = by (nat_le own level) (deep_behind level ms h.1)
   where
-    by : (b : Bool) → AreDeep (cond b (section_at own n ∷ ms) (behind level ms))
-    by true = h
-    by false = deep_behind level ms h.1
+    by : (b : Bool) → AreDeep (behind level ms) → AreDeep (cond b (section_at own n ∷ ms) (behind level ms))
+    by true rest = h
+    by false rest = rest
 
 deep_judged : (items : List Item) (styles : List Style) (current : ℕ) → AreDeep (members (judged styles current items))
 unfolding judged members AreDeep
 deep_judged [] styles current = tt
 deep_judged (plain n ∷ items) styles current = deep_judged items styles current
-deep_judged (titled h ∷ items) styles current = by (nat_lt (current + 1) (level_of h.style styles))
+deep_judged (titled h ∷ items) styles current =
+    by (nat_lt (current + 1) (level_of h.style styles)) (deep_judged items styles current) (deep_judged items (with_style h.style styles) (level_of h.style styles))
   where
-    by : (b : Bool) → AreDeep (members (cond b (alone (inconsistent h) ∷ judged styles current items)
-        (under (level_of h.style styles) h ∷ judged (with_style h.style styles) (level_of h.style styles) items)))
-    by true = deep_judged items styles current
-    by false = (level_positive h.style styles, deep_behind (level_of h.style styles) (members (judged (with_style h.style styles) (level_of h.style styles) items)) (deep_judged items (with_style h.style styles) (level_of h.style styles)))
+    by : (b : Bool) → AreDeep (members (judged styles current items)) → AreDeep (members (judged (with_style h.style styles) (level_of h.style styles) items))
+        → AreDeep (members (cond b (alone (inconsistent h) ∷ judged styles current items)
+            (under (level_of h.style styles) h ∷ judged (with_style h.style styles) (level_of h.style styles) items)))
+    by true same rest = same
+    by false same rest = (level_positive h.style styles, deep_behind (level_of h.style styles) (members (judged (with_style h.style styles) (level_of h.style styles) items)) rest)
 
 pub all_of_document : (items : List Item) (styles : List Style) (current : ℕ)
     → inside 0 (members (judged styles current items)) ≡ map node_of (members (judged styles current items))
@@ -154,7 +159,6 @@ nodes_alone (n ∷ ns) styles current = ap (λ (xs : List Node). n ∷ xs) (node
 -- the innermost section was put into the one round it
 pub ended : (outer : List OpenSection) (o c p : OpenSection) (ms : List Member) → p.element ≡ o.element → p.nodes.items ≡ o.nodes.items ++ filled c.element c.nodes.items ∷ []
     → StopsAt (length outer + 1) ms → close 0 (map open_of outer) (open_of p) ms ≡ close 0 (map open_of (outer ++ o ∷ [])) (open_of c) ms
-unfolding opened
 ended outer o c p ms element nodes stops =
     let e : length outer + 1 ≡ 0 + suc (length (map open_of outer)) = omega (arith, length-map outer open_of) in
     let s : (inside (length outer + 1) ms ≡ []) × (behind (length outer + 1) ms ≡ ms) = stops (length outer + 1) (omega arith) in
@@ -175,14 +179,35 @@ entered outer c new h ms element nodes =
     ∙ ap₂ (λ x xs. close 0 (map open_of outer) (open_of c) (section_at (length outer + 1) (filled x (xs ++ inside (length outer + 1) ms)) ∷ behind (length outer + 1) ms)) element nodes
 
 -- a title whose level is inconsistent gives its message
+judged_refused : (styles : List Style) (current : ℕ) (h : Heading) (items : List Item) → nat_lt (current + 1) (level_of h.style styles) ≡ true
+    → judged styles current (titled h ∷ items) ≡ alone (inconsistent h) ∷ judged styles current items
+unfolding judged
+judged_refused styles current h items high =
+    ap (λ b. cond b (alone (inconsistent h) ∷ judged styles current items) (under (level_of h.style styles) h ∷ judged (with_style h.style styles) (level_of h.style styles) items)) high
+
+judged_accepted : (styles : List Style) (current : ℕ) (h : Heading) (items : List Item) → nat_lt (current + 1) (level_of h.style styles) ≡ false
+    → judged styles current (titled h ∷ items) ≡ under (level_of h.style styles) h ∷ judged (with_style h.style styles) (level_of h.style styles) items
+unfolding judged
+judged_accepted styles current h items low =
+    ap (λ b. cond b (alone (inconsistent h) ∷ judged styles current items) (under (level_of h.style styles) h ∷ judged (with_style h.style styles) (level_of h.style styles) items)) low
+
+members_alone : (n : Node) (es : List Entry) → members (alone n ∷ es) ≡ loose n ∷ members es
+unfolding members
+members_alone n es = refl
+
+members_under : (level : ℕ) (h : Heading) (es : List Entry)
+    → members (under level h ∷ es) ≡ section_at level (section_of h (inside level (members es))) ∷ behind level (members es)
+unfolding members
+members_under level h es = refl
+
 pub refused : (os : List Open) (element n : Node) (nodes : List Node) (styles : List Style) (current : ℕ) (h : Heading) (items : List Item)
     → n ≡ inconsistent h → nat_lt (current + 1) (level_of h.style styles) ≡ true
     → (close 0 os (opened element (nodes ++ n ∷ [])) (members (judged styles current items))).0
     ≡ (close 0 os (opened element nodes) (members (judged styles current (titled h ∷ items)))).0
-unfolding judged
 refused os element n nodes styles current h items is high =
-    nodes_put os element nodes (n ∷ []) styles current items
-    ∙ rw high (ap (λ x. (close 0 os (opened element nodes) (members (alone x ∷ judged styles current items))).0) is)
+    ap (λ r. r.0) (with_nodes 0 os element nodes (n ∷ []) (members (judged styles current items)))
+    ∙ ap (λ x. (close 0 os (opened element nodes) (loose x ∷ members (judged styles current items))).0) is
+    ∙ ap (λ (ms : List Member). (close 0 os (opened element nodes) ms).0) (sym (ap members (judged_refused styles current h items high) ∙ members_alone (inconsistent h) (judged styles current items)))
 
 -- a title that is accepted begins its section, where those of its level or a deeper one have ended
 pub accepted : (s m t : Sections) (h : Heading) (items : List Item) (level : ℕ) → level ≡ level_of h.style s.styles.items
@@ -191,13 +216,105 @@ pub accepted : (s m t : Sections) (h : Heading) (items : List Item) (level : ℕ
     → ((ms : List Member) → closed_with t ms ≡ closed_with m (section_at (length m.outer.items + 1) (section_of h (inside (length m.outer.items + 1) ms)) ∷ behind (length m.outer.items + 1) ms))
     → length t.outer.items ≡ length m.outer.items + 1 → t.styles.items ≡ with_style h.style s.styles.items
     → goes_on t items ≡ goes_on s (titled h ∷ items)
-unfolding judged members
 accepted s m t h items level is low ends len begins more styles =
     let es : List Entry = judged (with_style h.style s.styles.items) level items in
     let e : length t.outer.items ≡ level = more ∙ len in
     let judge : nat_lt (length s.outer.items + 1) (level_of h.style s.styles.items) ≡ false = ap (λ n. nat_lt (length s.outer.items + 1) n) (sym is) ∙ low in
+    let same : under level h ∷ es ≡ judged s.styles.items (length s.outer.items) (titled h ∷ items) =
+        ap (λ n. under n h ∷ judged (with_style h.style s.styles.items) n items) is ∙ sym (judged_accepted s.styles.items (length s.outer.items) h items judge) in
     ap₂ (λ ss n. (closed_with t (members (judged ss n items))).0) styles e
     ∙ ap (λ r. r.0) (begins (members es))
     ∙ ap (λ n. (closed_with m (section_at n (section_of h (inside n (members es))) ∷ behind n (members es))).0) len
     ∙ ap (λ r. r.0) (ends (section_at level (section_of h (inside level (members es))) ∷ behind level (members es)) (stops_at_section level (section_of h (inside level (members es))) (behind level (members es))))
-    ∙ rw judge (ap (λ n. (closed_with s (members (under n h ∷ judged (with_style h.style s.styles.items) n items))).0) is)
+    ∙ ap (λ ms. (closed_with s ms).0) (sym (members_under level h es) ∙ ap members same)
+
+-- ---- the place of a style
+
+level_from : (s : Style) (styles : List Style) (i : ℕ) (d : Style) → i < length styles
+    → level_of s (drop i styles) ≡ cond (same_style (get_or styles i d) s) 1 (suc (level_of s (drop (i + 1) styles)))
+unfolding level_of
+level_from s styles i d here = at_drop_more (level_of s) styles i d here
+
+pub level_here : (s : Style) (styles : List Style) (i : ℕ) (d : Style) (same : Bool) → i < length styles → same ≡ same_style (get_or styles i d) s → same ≡ true
+    → level_of s (drop i styles) ≡ 1
+level_here s styles i d same here is same_true = level_from s styles i d here ∙ ap (λ b. cond b 1 (suc (level_of s (drop (i + 1) styles)))) (sym is ∙ same_true)
+
+pub level_later : (s : Style) (styles : List Style) (i : ℕ) (d : Style) (same : Bool) → i < length styles → same ≡ same_style (get_or styles i d) s → same ≡ false
+    → level_of s (drop i styles) ≡ suc (level_of s (drop (i + 1) styles))
+level_later s styles i d same here is same_false = level_from s styles i d here ∙ ap (λ b. cond b 1 (suc (level_of s (drop (i + 1) styles)))) (sym is ∙ same_false)
+
+pub level_behind : (s : Style) (styles : List Style) (i : ℕ) → length styles ≤ i → level_of s (drop i styles) ≡ 1
+unfolding level_of
+level_behind s styles i h = at_drop_all (level_of s) styles i h
+
+-- ---- the whole document
+
+none_open : (ms : List Member) → (close 0 [] (opened (Element Document [] (forest_of []) 0) []) ms).0 ≡ Element Document [] (forest_of (inside 0 ms)) 0
+unfolding close
+none_open ms = refl
+
+-- a document without nodes
+pub begins : (s : Sections) (items : List Item) → s.outer.items ≡ [] → s.styles.items ≡ [] → s.current.element ≡ Element Document [] (forest_of []) 0 → s.current.nodes.items ≡ []
+    → goes_on s items ≡ document_of items
+begins s items outer styles element nodes =
+    ap₂ (λ (os : List OpenSection) (ss : List Style). (close 0 (map open_of os) (open_of s.current) (members (judged ss (length os) items))).0) outer styles
+    ∙ ap₂ (λ x (xs : List Node). (close 0 [] (opened x xs) (members (judged [] 0 items))).0) element nodes
+    ∙ none_open (members (judged [] 0 items))
+    ∙ ap (λ xs. Element Document [] (forest_of xs) 0) (all_of_document items [] 0)
+
+alone_closed : (os : List OpenSection) (c : OpenSection) → length os + 1 ≤ 1 → (close 0 (map open_of os) (open_of c) []).0 ≡ filled c.element c.nodes.items
+unfolding close inside
+alone_closed [] c h = ap (filled c.element) (append-nil c.nodes.items)
+alone_closed (o ∷ os) c h = absurd (omega arith)
+
+goes_on_none : (s : Sections) → (closed_with s []).0 ≡ goes_on s []
+unfolding judged members
+goes_on_none s = refl
+
+-- all sections have ended
+pub all_closed : (s t : Sections) → ((ms : List Member) → StopsAt 1 ms → closed_with t ms ≡ closed_with s ms) → length t.outer.items + 1 ≤ 1
+    → filled t.current.element t.current.nodes.items ≡ goes_on s []
+all_closed s t ends few = sym (alone_closed t.outer.items t.current few) ∙ ap (λ r. r.0) (ends [] (stops_at_none 1)) ∙ goes_on_none s
+
+-- nodes were put into the innermost section
+pub put : (s m : Sections) (ns : List Node) (items : List Item) → m.outer ≡ s.outer → m.styles ≡ s.styles → m.current.element ≡ s.current.element
+    → m.current.nodes.items ≡ s.current.nodes.items ++ ns → goes_on m items ≡ goes_on s (map plain ns ++ items)
+put s m ns items outer styles element nodes =
+    ap₂ (λ os ss. (close 0 (map open_of os.items) (open_of m.current) (members (judged ss.items (length os.items) items))).0) outer styles
+    ∙ ap₂ (λ x xs. (close 0 (map open_of s.outer.items) (opened x xs) (members (judged s.styles.items (length s.outer.items) items))).0) element nodes
+    ∙ nodes_put (map open_of s.outer.items) s.current.element s.current.nodes.items ns s.styles.items (length s.outer.items) items
+
+items_of_title : (done : ℕ) (nodes : List Node) (h : Heading) (hs : List Heading)
+    → items_from done nodes (h ∷ hs) ≡ map plain (take (h.before - done) nodes) ++ titled h ∷ items_from (done + (h.before - done)) (drop (h.before - done) nodes) hs
+unfolding items_from
+items_of_title done nodes h hs = refl
+
+-- a title was met, with the nodes before it
+pub title_met : (s m t : Sections) (h : Heading) (done more : ℕ) (nodes rest : List Node) (hs : List Heading) → more ≡ h.before - done
+    → m.outer ≡ s.outer → m.styles ≡ s.styles → m.current.element ≡ s.current.element
+    → m.current.nodes.items ≡ s.current.nodes.items ++ take more nodes → rest ≡ drop more nodes
+    → ((items : List Item) → goes_on t items ≡ goes_on m (titled h ∷ items))
+    → goes_on t (items_from (done + more) rest hs) ≡ goes_on s (items_from done nodes (h ∷ hs))
+title_met s m t h done more nodes rest hs so outer styles element here left met =
+    met (items_from (done + more) rest hs)
+    ∙ put s m (take more nodes) (titled h ∷ items_from (done + more) rest hs) outer styles element here
+    ∙ ap (λ xs. goes_on s (map plain (take more nodes) ++ titled h ∷ items_from (done + more) xs hs)) left
+    ∙ ap (λ n. goes_on s (map plain (take n nodes) ++ titled h ∷ items_from (done + n) (drop n nodes) hs)) so
+    ∙ ap (goes_on s) (sym (items_of_title done nodes h hs))
+
+items_without_titles : (done : ℕ) (nodes : List Node) → items_from done nodes [] ≡ map plain nodes
+unfolding items_from
+items_without_titles done nodes = refl
+
+-- no title is left
+pub last_met : (s m : Sections) (done count : ℕ) (nodes : List Node) → count ≡ length nodes → m.outer ≡ s.outer → m.styles ≡ s.styles → m.current.element ≡ s.current.element
+    → m.current.nodes.items ≡ s.current.nodes.items ++ take count nodes → goes_on m [] ≡ goes_on s (items_from done nodes [])
+last_met s m done count nodes all outer styles element here =
+    put s m nodes [] outer styles element (here ∙ ap (λ n. s.current.nodes.items ++ take n nodes) all ∙ ap (λ xs. s.current.nodes.items ++ xs) (take_all (length nodes) nodes (omega arith)))
+    ∙ ap (goes_on s) (append-nil (map plain nodes) ∙ sym (items_without_titles done nodes))
+
+-- a document without titles
+pub untitled : (nodes : List Node) → Element Document [] (forest_of nodes) 0 ≡ sections_of nodes []
+untitled nodes =
+    ap (λ xs. Element Document [] (forest_of xs) 0) (sym (nodes_alone nodes [] 0))
+    ∙ ap document_of (sym (items_without_titles 0 nodes))

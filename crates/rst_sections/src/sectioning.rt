@@ -3,7 +3,7 @@ ghost use Rattle.std.specs.Prelude.{◌≡◌, ◌+◌, ◌-◌, ◌≤◌, List
 ghost use Rattle.std.specs.Vec.Iter.{into_iter_items};
 ghost use Rattle.rst_elements.specs.Texts.{section_node};
 ghost use Rattle.rst_tree.specs.Faults.{Gives};
-ghost use Rattle.rst_sections.specs.Sections.{Item, titled, Member, section_at, inside, behind, section_of, sections_of, document_of, inconsistent, level_of, heading_notes};
+ghost use Rattle.rst_sections.specs.Sections.{Item, titled, Member, section_at, inside, behind, section_of, sections_of, document_of, inconsistent, level_of, with_style, heading_notes};
 ghost use Rattle.rst_sections.specs.OpenSections.{goes_on, closed_with, StopsAt};
 
 use crate::heading::{Heading, Style};
@@ -92,9 +92,7 @@ impl Sections {
             self.current.nodes.push(inconsistent(alloc, &heading)?)?;
             return Ok(());
         }
-        if level > self.styles.len() {
-            self.styles.push(heading.style)?;
-        }
+        remember(&mut self.styles, heading.style, level)?;
         self.end(level)?;
         self.enter(alloc, heading)
     }
@@ -157,6 +155,17 @@ fn level_of(style: Style, styles: &[Style]) -> usize
         }
     }
     styles.len() + 1
+}
+
+/// Puts a style, whose level this is, behind those in use if it is new.
+fn remember(styles: &mut Vec<Style>, style: Style, level: usize) -> Result<(), TreeFault>
+    requires { level ≡ level_of style styles.old.items }
+    ensures { Gives (λ _. styles.new.items ≡ with_style style styles.old.items) result }
+{
+    if level > styles.len() {
+        styles.push(style)?;
+    }
+    Ok(())
 }
 
 /// The message on a title whose level is inconsistent.

@@ -2,6 +2,6 @@ use Rattle.std.proofs.Common.{◌≡◌, ◌++◌, take, drop}
 use Rattle.std.specs.Vec.Iter.{into_iter_items}
 use Rattle.rst_sections.proofs.sectioning.move_front.Given as goal
 
-abbrev pub invariant-loop-_done : goal.invariant-loop-_done
-invariant-loop-_done l =
+abbrev pub invariant-loop-done : goal.invariant-loop-done
+invariant-loop-done l =
     (l.to.items ≡ l.initial.to.items ++ take l._done (into_iter_items l.initial.nodes)) × (into_iter_items l.nodes ≡ drop l._done (into_iter_items l.initial.nodes))
