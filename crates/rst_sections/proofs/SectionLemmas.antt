@@ -1,19 +1,22 @@
 -- Sections that are opened and closed one after the other are those of the definition.
-use Rattle.std.proofs.Common.{◌≡◌, ℕ, zero, suc, ◌+◌, ◌-◌, ◌≤◌, Bool, true, false, cond, List, [], ◌∷◌, ◌++◌, ◌<◌, length, map, take, drop, get_or, refl, sym, ◌∙◌, ap, ap₂, subst, arith}
-use Rattle.std.proofs.lemmas.List.{append-nil, append_assoc, map-append, length-map, at_drop_more, at_drop_all, take_all}
+use Rattle.std.proofs.Common.{◌≡◌, ℕ, suc, ◌+◌, ◌-◌, ◌≤◌, Bool, true, false, cond, List, [], ◌∷◌, ◌++◌, ◌<◌, length, map, take, drop, drop-cons, add-one, length-drop, get_or, Result, Ok, Err, refl, sym, ◌∙◌, ap, ap₂, subst, arith}
+use Rattle.std.proofs.lemmas.List.{append-nil, append_assoc, length_push, map-append, length-map, at_drop_more, at_drop_all, take_all, take_more, drop_all}
 use Rattle.std.proofs.lemmas.Bool.{le-leb, lt-leb}
 use Rattle.std.specs.Prelude.{nat_le, nat_lt}
 use Rattle.rst_tree.specs.declared.node.Node.{Node}
 use Rattle.rst_tree.specs.declared.node.Node.TheVariants.{Element}
 use Rattle.rst_tree.specs.declared.tag.Tag.TheVariants.{Document}
+use Rattle.rst_tree.specs.Faults.{Gives}
 use Rattle.rst_tree.specs.Nodes.{forest_of}
+use Rattle.rst_tree.specs.declared.fault.TreeFault.{TreeFault}
+use Rattle.rst_tree.specs.declared.fault.TreeFault.TheVariants.{NoMemory}
 use Rattle.rst_sections.specs.declared.heading.Heading.{Heading}
 use Rattle.rst_sections.specs.declared.heading.Style.{Style}
 use Rattle.rst_sections.specs.declared.sectioning.OpenSection.{OpenSection}
 use Rattle.rst_sections.specs.declared.sectioning.Sections.{Sections}
 use Rattle.rst_sections.specs.OpenSections.{Open, open_of, put_inside, close, closed_with, goes_on, StopsAt}
 use Rattle.rst_elements.specs.Texts.{section_node}
-use Rattle.rst_sections.specs.Sections.{Item, plain, titled, Entry, alone, under, Member, loose, section_at, node_of, is_outside, inside, behind, filled, section_of, heading_notes, members, judged, level_of, same_style, with_style, inconsistent, items_from, document_of, sections_of}
+use Rattle.rst_sections.specs.Sections.{Item, plain, titled, Entry, alone, under, Member, loose, section_at, node_of, inside, behind, filled, section_of, heading_notes, members, judged, level_of, same_style, with_style, inconsistent, items_from, document_of, sections_of}
 
 abbrev pub opened : Node → List Node → Open
 opened element nodes = record { element = element; nodes = nodes }
@@ -140,7 +143,7 @@ deep_judged (titled h ∷ items) styles current =
   where
     by : (b : Bool) → AreDeep (members (judged styles current items)) → AreDeep (members (judged (with_style h.style styles) (level_of h.style styles) items))
         → AreDeep (members (cond b (alone (inconsistent h) ∷ judged styles current items)
-            (under (level_of h.style styles) h ∷ judged (with_style h.style styles) (level_of h.style styles) items)))
+        (under (level_of h.style styles) h ∷ judged (with_style h.style styles) (level_of h.style styles) items)))
     by true same rest = same
     by false same rest = (level_positive h.style styles, deep_behind (level_of h.style styles) (members (judged (with_style h.style styles) (level_of h.style styles) items)) rest)
 
@@ -157,23 +160,24 @@ nodes_alone (n ∷ ns) styles current = ap (λ (xs : List Node). n ∷ xs) (node
 -- ---- the steps of the sections that are open
 
 -- the innermost section was put into the one round it
-pub ended : (outer : List OpenSection) (o c p : OpenSection) (ms : List Member) → p.element ≡ o.element → p.nodes.items ≡ o.nodes.items ++ filled c.element c.nodes.items ∷ []
-    → StopsAt (length outer + 1) ms → close 0 (map open_of outer) (open_of p) ms ≡ close 0 (map open_of (outer ++ o ∷ [])) (open_of c) ms
-ended outer o c p ms element nodes stops =
-    let e : length outer + 1 ≡ 0 + suc (length (map open_of outer)) = omega (arith, length-map outer open_of) in
-    let s : (inside (length outer + 1) ms ≡ []) × (behind (length outer + 1) ms ≡ ms) = stops (length outer + 1) (omega arith) in
+pub ended : (all outer : List OpenSection) (o c p : OpenSection) (ms : List Member) → all ≡ outer ++ o ∷ [] → p.element ≡ o.element
+    → p.nodes.items ≡ o.nodes.items ++ filled c.element c.nodes.items ∷ [] → StopsAt (length all) ms
+    → close 0 (map open_of outer) (open_of p) ms ≡ close 0 (map open_of all) (open_of c) ms
+ended all outer o c p ms is element nodes stops =
+    let e : length all ≡ 0 + suc (length (map open_of outer)) = omega (arith, ap length is ∙ length_push outer o, length-map outer open_of) in
+    let s : (inside (length all) ms ≡ []) × (behind (length all) ms ≡ ms) = stops (length all) (omega arith) in
     ap₂ (λ x xs. close 0 (map open_of outer) (opened x xs) ms) element nodes
     ∙ sym (closes 0 (map open_of outer) (open_of o) (open_of c) ms (ap (λ n. inside n ms) (sym e) ∙ s.0) (ap (λ n. behind n ms) (sym e) ∙ s.1))
-    ∙ ap (λ os. close 0 os (open_of c) ms) (sym (map-append open_of outer (o ∷ [])))
+    ∙ ap (λ os. close 0 os (open_of c) ms) (sym (ap (map open_of) is ∙ map-append open_of outer (o ∷ [])))
 
 -- the section of a title was begun in the innermost one
-pub entered : (outer : List OpenSection) (c new : OpenSection) (h : Heading) (ms : List Member)
+pub entered : (all outer : List OpenSection) (c new : OpenSection) (h : Heading) (ms : List Member) → all ≡ outer ++ c ∷ []
     → new.element ≡ section_node h.title.element (length (heading_notes h)) h.line → new.nodes.items ≡ heading_notes h
-    → close 0 (map open_of (outer ++ c ∷ [])) (open_of new) ms
+    → close 0 (map open_of all) (open_of new) ms
     ≡ close 0 (map open_of outer) (open_of c) (section_at (length outer + 1) (section_of h (inside (length outer + 1) ms)) ∷ behind (length outer + 1) ms)
-entered outer c new h ms element nodes =
+entered all outer c new h ms is element nodes =
     let e : 0 + suc (length (map open_of outer)) ≡ length outer + 1 = omega (arith, length-map outer open_of) in
-    ap (λ os. close 0 os (open_of new) ms) (map-append open_of outer (c ∷ []))
+    ap (λ os. close 0 os (open_of new) ms) (ap (map open_of) is ∙ map-append open_of outer (c ∷ []))
     ∙ enters 0 (map open_of outer) (open_of c) (open_of new) ms
     ∙ ap (λ n. close 0 (map open_of outer) (open_of c) (section_at n (filled new.element (new.nodes.items ++ inside n ms)) ∷ behind n ms)) e
     ∙ ap₂ (λ x xs. close 0 (map open_of outer) (open_of c) (section_at (length outer + 1) (filled x (xs ++ inside (length outer + 1) ms)) ∷ behind (length outer + 1) ms)) element nodes
@@ -221,12 +225,23 @@ accepted s m t h items level is low ends len begins more styles =
     let e : length t.outer.items ≡ level = more ∙ len in
     let judge : nat_lt (length s.outer.items + 1) (level_of h.style s.styles.items) ≡ false = ap (λ n. nat_lt (length s.outer.items + 1) n) (sym is) ∙ low in
     let same : under level h ∷ es ≡ judged s.styles.items (length s.outer.items) (titled h ∷ items) =
-        ap (λ n. under n h ∷ judged (with_style h.style s.styles.items) n items) is ∙ sym (judged_accepted s.styles.items (length s.outer.items) h items judge) in
+    ap (λ n. under n h ∷ judged (with_style h.style s.styles.items) n items) is ∙ sym (judged_accepted s.styles.items (length s.outer.items) h items judge) in
     ap₂ (λ ss n. (closed_with t (members (judged ss n items))).0) styles e
     ∙ ap (λ r. r.0) (begins (members es))
     ∙ ap (λ n. (closed_with m (section_at n (section_of h (inside n (members es))) ∷ behind n (members es))).0) len
     ∙ ap (λ r. r.0) (ends (section_at level (section_of h (inside level (members es))) ∷ behind level (members es)) (stops_at_section level (section_of h (inside level (members es))) (behind level (members es))))
     ∙ ap (λ ms. (closed_with s ms).0) (sym (members_under level h es) ∙ ap members same)
+
+-- the same where the last call can want memory
+pub accepted_gives : {A : Type 0} (r : Result A TreeFault) (s m t : Sections) (h : Heading) (level : ℕ) → level ≡ level_of h.style s.styles.items
+    → nat_lt (length s.outer.items + 1) level ≡ false
+    → ((ms : List Member) → StopsAt level ms → closed_with m ms ≡ closed_with s ms) → length m.outer.items + 1 ≡ level → m.styles.items ≡ with_style h.style s.styles.items
+    → Gives (λ _. (ms : List Member) → closed_with t ms ≡ closed_with m (section_at (length m.outer.items + 1) (section_of h (inside (length m.outer.items + 1) ms)) ∷ behind (length m.outer.items + 1) ms)) r
+    → Gives (λ _. length t.outer.items ≡ length m.outer.items + 1) r → Gives (λ _. t.styles ≡ m.styles) r
+    → Gives (λ _. (items : List Item) → goes_on t items ≡ goes_on s (titled h ∷ items)) r
+accepted_gives (Ok done) s m t h level is low ends len more begins deeper styles =
+    λ items. accepted s m t h items level is low ends len begins deeper (ap (λ ss. ss.items) styles ∙ more)
+accepted_gives (Err NoMemory) s m t h level is low ends len more begins deeper styles = tt
 
 -- ---- the place of a style
 
@@ -246,6 +261,19 @@ level_later s styles i d same here is same_false = level_from s styles i d here 
 pub level_behind : (s : Style) (styles : List Style) (i : ℕ) → length styles ≤ i → level_of s (drop i styles) ≡ 1
 unfolding level_of
 level_behind s styles i h = at_drop_all (level_of s) styles i h
+
+-- ---- nodes from the front of some
+
+pub one_moved : (all left rest : List Node) (i : ℕ) (n : Node) → left ≡ drop i all → left ≡ n ∷ rest → (take (i + 1) all ≡ take i all ++ n ∷ []) × (rest ≡ drop (i + 1) all)
+one_moved all left rest i n is first =
+    let fits : i < length all = omega (arith, length-drop i all, ap length is, ap length first) in
+    let both : n ∷ rest ≡ get_or all i n ∷ drop (i + 1) all = sym first ∙ is ∙ rw add-one (drop-cons all i n fits) in
+    (take_more all i n fits ∙ ap (λ x. take i all ++ x ∷ []) (cc both), cc both)
+
+pub all_moved : (all left : List Node) (i count : ℕ) → left ≡ drop i all → left ≡ [] → i ≤ count → (take i all ≡ take count all) × (left ≡ drop count all)
+all_moved all left i count is none h =
+    let short : length all ≤ i = omega (arith, length-drop i all, ap length is, ap length none) in
+    (take_all i all short ∙ sym (take_all count all (omega arith)), none ∙ sym (drop_all count all (omega arith)))
 
 -- ---- the whole document
 

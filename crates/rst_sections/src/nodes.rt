@@ -28,10 +28,12 @@ pub fn append(nodes: &mut Vec<Node>, mut more: Vec<Node>) -> Result<(), TreeFaul
 pub fn element_of(alloc: Global, tag: Tag, line: usize, nodes: Vec<Node>) -> Node
     ensures { result ≡ Element tag [] (forest_of nodes.items) line }
 {
+    let attrs = Attrs::new(alloc);
+    let children = Children::of(nodes);
     Node::Element {
         tag,
-        attrs: Attrs::new(alloc),
-        children: Children::of(nodes),
+        attrs,
+        children,
         line,
     }
 }
