@@ -6,7 +6,7 @@ ghost use Rattle.rst_markup.specs.Parts.{IsBlock, IsCall};
 ghost use Rattle.rst_block.specs.Steps as spec;
 
 use super::fault::BlockFault;
-use super::heading::{Heading, Style};
+use super::heading::heading_of;
 use super::level::Level;
 use super::step::Step;
 use super::text::text_line;
@@ -14,6 +14,7 @@ use super::texts::{Pass, alone, number_at, source};
 use rst_elements::message;
 use rst_marks::Adornment;
 use rst_markup::{Adorned, adorned_at, below_text, text_at};
+use rst_sections::Style;
 use rst_text::{View, indentation, skip};
 use rst_tree::{Level as Gravity, Node, Tag};
 use std::alloc::Global;
@@ -195,7 +196,7 @@ fn overlined(
         overlined: true,
     };
     let text = skip(text, indentation(text));
-    let heading = Heading::of(alloc, style, text, line, warning, lines, pass)?;
+    let heading = heading_of(alloc, style, text, line, warning, lines, pass)?;
     level.go_to(end);
     level.push_heading(heading)
 }

@@ -13,7 +13,7 @@ use super::paragraph::is_single_paragraph;
 use super::part::inside;
 use super::resume::Waits;
 use super::step::Step;
-use super::texts::{Pass, alone, append, excerpt, filled, joined, number_at, source};
+use super::texts::{Pass, alone, excerpt, joined, number_at, source};
 use rst_directives::{
     Argument, Content, Directive, DirectiveFault, Name, Place, Setting, called, directive,
     message as fault_text,
@@ -22,6 +22,7 @@ use rst_elements::{
     code_block, directive_element, figure, image, message, with_text, with_title_class,
 };
 use rst_markup::{Invocation, Part};
+use rst_sections::{append, filled};
 use rst_text::View;
 use rst_tree::{Level as Gravity, Node, Tag};
 use std::alloc::Global;
@@ -296,5 +297,5 @@ fn titled(
     }
     let mut nodes = alone(alloc, title.element)?;
     append(&mut nodes, title.notes)?;
-    filled(node, nodes)
+    Ok(filled(node, nodes)?)
 }

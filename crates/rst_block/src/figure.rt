@@ -1,7 +1,8 @@
 //! Figures (Directives, 'Figure').
 use super::fault::BlockFault;
-use super::texts::{alone, append, element_of, filled, push};
+use super::texts::{alone, push};
 use rst_elements::message;
+use rst_sections::{append, element_of, filled};
 use rst_tree::{Attrs, Children, Key, Level as Gravity, Node, Tag};
 use std::alloc::Global;
 use std::vec::IntoIter;
@@ -128,5 +129,5 @@ fn with_legend(alloc: Global, figure: Node, nodes: Vec<Node>) -> Result<Node, Bl
         return Ok(figure);
     }
     let legend = element_of(alloc, Tag::Legend, 0, nodes);
-    filled(figure, alone(alloc, legend)?)
+    Ok(filled(figure, alone(alloc, legend)?)?)
 }

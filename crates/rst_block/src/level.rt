@@ -5,9 +5,9 @@ ghost use Rattle.rst_markup.specs.Parts.{IsBlock, IsCall};
 ghost use Rattle.rst_block.specs.Steps as spec;
 
 use super::fault::BlockFault;
-use super::heading::Heading;
 use super::run::{ListKind, OpenList, Run};
-use super::texts::{Pass, append, push, unindent};
+use super::texts::{Pass, push, unindent};
+use rst_sections::{Heading, append};
 use rst_text::View;
 use rst_tree::Node;
 use std::alloc::Global;
@@ -67,7 +67,7 @@ impl Level {
     pub fn append(&mut self, more: Vec<Node>) -> Result<(), BlockFault>
         ensures { self.new.at ≡ self.old.at }
     {
-        append(&mut self.nodes, more)
+        Ok(append(&mut self.nodes, more)?)
     }
 
     /// Puts a title behind the last node.

@@ -21,7 +21,6 @@ mod part;
 mod quote;
 mod resume;
 mod run;
-mod section;
 mod step;
 mod substitution;
 mod table;

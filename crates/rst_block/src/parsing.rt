@@ -1,11 +1,11 @@
 //! A document's tree.
 use super::fault::BlockFault;
 use super::machine::{Frames, read};
-use super::section::document;
 use super::texts::Pass;
 use arrayvec::ArrayVec;
 use rst_elements::Numbers;
 use rst_marked::Marked;
+use rst_sections::document;
 use rst_text::{Lines, Looks};
 use std::alloc::Global;
 

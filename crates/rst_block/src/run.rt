@@ -5,9 +5,10 @@ ghost use Rattle.rst_markup.specs.Parts.{IsBlock, IsCall};
 ghost use Rattle.rst_block.specs.Steps as spec;
 
 use super::fault::BlockFault;
-use super::texts::{Pass, append, filled, push};
+use super::texts::{Pass, push};
 use rst_elements::{BarText, LineBlockFault, line_block};
 use rst_marks::{Enumerator, Format, Ordinals, Sequence, is_same_format, ordinal_in};
+use rst_sections::{append, filled};
 use rst_tree::Node;
 use std::alloc::Global;
 
@@ -145,7 +146,7 @@ fn put_list(nodes: &mut Vec<Node>, open: OpenList) -> Result<(), BlockFault> {
     } = open;
     append(nodes, before)?;
     push(nodes, filled(list, items)?)?;
-    append(nodes, behind)
+    Ok(append(nodes, behind)?)
 }
 
 /// Puts a line block and the messages of its texts behind other nodes.
@@ -161,7 +162,7 @@ fn put_lines(
     match line_block(alloc, lines, depth, DEEPEST, &mut pass.numbers) {
         Ok(block) => {
             push(nodes, block.element)?;
-            append(nodes, block.notes)
+            Ok(append(nodes, block.notes)?)
         }
         Err(LineBlockFault::TooDeep { line }) => Err(BlockFault::TooDeep { line }),
         Err(LineBlockFault::NoMemory) => Err(BlockFault::NoMemory),

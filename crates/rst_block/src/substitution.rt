@@ -10,12 +10,13 @@ use super::fault::BlockFault;
 use super::level::Level;
 use super::resume::Waits;
 use super::step::Step;
-use super::texts::{Pass, alone, excerpt, filled, number_at, source};
+use super::texts::{Pass, alone, excerpt, number_at, source};
 use rst_directives::{Argument, Content, Directive, DirectiveFault, Place, Setting};
 use rst_elements::{
     image, may_replace, message, substitution_definition as definition, substitution_name,
 };
 use rst_markup::Invocation;
+use rst_sections::filled;
 use rst_text::View;
 use rst_tree::{Children, Level as Gravity, Node, Tag};
 use std::alloc::Global;
@@ -138,7 +139,8 @@ fn image_named(
     line: usize,
 ) -> Result<Node, BlockFault> {
     let shown = image(alloc, uri, options.as_slice(), line, false, Some(name))?;
-    filled(definition(alloc, name, line)?, alone(alloc, shown)?)
+    let definition = definition(alloc, name, line)?;
+    Ok(filled(definition, alone(alloc, shown)?)?)
 }
 
 /// Opens a replacement text.
@@ -215,10 +217,8 @@ pub(crate) fn finished_replacement(
             Some(source.as_str()),
         )?);
     }
-    filled(
-        definition(alloc, name.as_str(), line)?,
-        children.into_list(),
-    )
+    let definition = definition(alloc, name.as_str(), line)?;
+    Ok(filled(definition, children.into_list())?)
 }
 
 /// The nodes of the first paragraph.

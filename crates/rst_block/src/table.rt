@@ -7,8 +7,9 @@ ghost use Rattle.rst_block.specs.Steps as spec;
 use super::fault::BlockFault;
 use super::level::Level;
 use super::step::Step;
-use super::texts::{Pass, alone, element_of, filled, number_at, source};
+use super::texts::{Pass, alone, number_at, source};
 use rst_elements::{entry, message, tgroup};
+use rst_sections::{element_of, filled};
 use rst_tables::{Cell, TableFault, TableResult, malformed_text};
 use rst_text::View;
 use rst_tree::{Level as Gravity, Node, Tag};
@@ -110,5 +111,6 @@ pub(crate) fn table_of(
 
 /// The entry of a cell with its nodes.
 pub(crate) fn entry_of(alloc: Global, cell: &Cell, nodes: Vec<Node>) -> Result<Node, BlockFault> {
-    filled(entry(alloc, cell.morerows, cell.morecols, 0)?, nodes)
+    let entry = entry(alloc, cell.morerows, cell.morecols, 0)?;
+    Ok(filled(entry, nodes)?)
 }

@@ -6,7 +6,7 @@ ghost use Rattle.rst_block.specs.Steps as spec;
 
 use super::definition::definition;
 use super::fault::BlockFault;
-use super::heading::{Heading, Style};
+use super::heading::heading_of;
 use super::level::Level;
 use super::paragraph::paragraph;
 use super::step::Step;
@@ -14,6 +14,7 @@ use super::texts::{Pass, number_at, source};
 use rst_elements::message;
 use rst_marks::front;
 use rst_markup::{TextForm, below_text, text_at, text_form};
+use rst_sections::Style;
 use rst_text::View;
 use rst_tree::{Level as Gravity, Node};
 use std::alloc::Global;
@@ -106,7 +107,7 @@ fn underlined(
             overlined: false,
         };
         let text = view.line(at, &mut pass.looks);
-        let heading = Heading::of(
+        let heading = heading_of(
             alloc,
             style,
             text,

@@ -9,7 +9,7 @@ use super::fault::BlockFault;
 use rst_elements::{Numbers, message};
 use rst_marks::Characters;
 use rst_text::{Looks, View, skip};
-use rst_tree::{Attrs, Children, Level, Node, Tag};
+use rst_tree::{Level, Node};
 use std::alloc::{AllocError, Global};
 
 /// What is counted while a document is read: looks at lines, and messages that have problematics.
@@ -107,48 +107,4 @@ pub(crate) fn push(nodes: &mut Vec<Node>, node: Node) -> Result<(), BlockFault> 
     }
     nodes.push(node)?;
     Ok(())
-}
-
-/// Puts more nodes behind the last.
-pub(crate) fn append(nodes: &mut Vec<Node>, mut more: Vec<Node>) -> Result<(), BlockFault> {
-    if nodes.is_empty() {
-        *nodes = more;
-        return Ok(());
-    }
-    if !more.is_empty() {
-        nodes.append(&mut more)?;
-    }
-    Ok(())
-}
-
-/// An element of this tag with these nodes in it, and without attributes.
-pub(crate) fn element_of(alloc: Global, tag: Tag, line: usize, nodes: Vec<Node>) -> Node {
-    Node::Element {
-        tag,
-        attrs: Attrs::new(alloc),
-        children: Children::of(nodes),
-        line,
-    }
-}
-
-/// An element with more nodes in it; a text stays as it is.
-pub(crate) fn filled(element: Node, more: Vec<Node>) -> Result<Node, BlockFault> {
-    match element {
-        Node::Element {
-            tag,
-            attrs,
-            children,
-            line,
-        } => {
-            let mut nodes = children.into_list();
-            append(&mut nodes, more)?;
-            Ok(Node::Element {
-                tag,
-                attrs,
-                children: Children::of(nodes),
-                line,
-            })
-        }
-        Node::Text(text) => Ok(Node::Text(text)),
-    }
 }

@@ -1,0 +1,10 @@
+//! Sections: the titles of a document, and the tree that they make of its nodes.
+#![tactic(auto)]
+
+mod heading;
+mod nodes;
+mod sectioning;
+
+pub use heading::{Heading, Style};
+pub use nodes::{append, element_of, filled};
+pub use sectioning::document;
