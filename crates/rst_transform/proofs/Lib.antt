@@ -1,3 +1,4 @@
+pub mod Gathering
 pub mod Leaving
 pub mod Placing
 pub mod Retargeting

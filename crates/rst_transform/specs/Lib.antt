@@ -1,3 +1,7 @@
+pub mod Authors
+pub mod Bibliography
+pub mod Docinfo
+pub mod Fields
 pub mod Left
 pub mod Links
 pub mod Lists

@@ -1,9 +1,17 @@
 //! A leading field list becomes the bibliography of the document.
-ghost use Rattle.std.specs.Prelude.{◌≤◌, ◌<◌, IsTrue, length, vec_len};
+ghost use Rattle.std.specs.Prelude.{◌≡◌, ◌≤◌, ◌++◌, take, drop, vec_len, slice_get, is_some};
+ghost use Rattle.std.specs.List.{prefix_len};
+ghost use Rattle.rst_names.specs.Names.{KnowsTheSame};
+ghost use Rattle.rst_tree.specs.Faults.{Gives};
+ghost use Rattle.rst_tree.specs.Nodes.{forest_of, nodes_of};
+ghost use Rattle.rst_transform.specs.Docinfo.{behind_titles, docinfo_nodes, docinfo_reports, first_named, is_field_list, leading_list, list_gathered, list_in, list_place, may_lead, nodes_with, replaced, reports_with, told, with_docinfo, KeepsOthers};
+ghost use Rattle.rst_transform.specs.Reports.{KeepsRest};
+ghost use Rattle.rst_transform.specs.Transitions.{is_title};
 
 use crate::bibliography::Bibliography;
-use crate::field::Field;
 use crate::texts::add_names;
+use crate::title::may_precede;
+use crate::transitions::is_title;
 use crate::work::Work;
 use rst_names::Names;
 use rst_tree::{Attrs, Children, Key, Node, Said, Tag, TreeFault};
@@ -11,36 +19,18 @@ use std::alloc::Global;
 use std::mem;
 
 /// Whether a node may stand before the field list.
-fn may_precede(node: &Node) -> bool {
-    matches!(
-        node,
-        Node::Element {
-            tag: Tag::Title
-                | Tag::Subtitle
-                | Tag::Comment
-                | Tag::Target
-                | Tag::SubstitutionDefinition
-                | Tag::SystemMessage,
-            ..
-        }
-    )
-}
-
-/// Whether a node is the document's title or subtitle.
-fn is_title(node: &Node) -> bool {
-    matches!(
-        node,
-        Node::Element {
-            tag: Tag::Title | Tag::Subtitle,
-            ..
-        }
-    )
+fn may_lead(node: &Node) -> bool
+    ensures { result ≡ may_lead node.now }
+{
+    is_title(node) || may_precede(node)
 }
 
 /// How many nodes stand before the first that may not precede the field list.
-fn list_place(nodes: &[Node]) -> usize {
+fn list_place(nodes: &[Node]) -> usize
+    ensures { result ≡ list_place nodes.now }
+{
     for (i, node) in nodes.iter().enumerate() {
-        if !may_precede(node) {
+        if !may_lead(node) {
             return i;
         }
     }
@@ -49,7 +39,7 @@ fn list_place(nodes: &[Node]) -> usize {
 
 /// How many titles stand first.
 fn title_count(nodes: &[Node]) -> usize
-    ensures { result ≤ length nodes.now }
+    ensures { result ≡ prefix_len is_title nodes.now }
 {
     for (i, node) in nodes.iter().enumerate() {
         if !is_title(node) {
@@ -60,20 +50,26 @@ fn title_count(nodes: &[Node]) -> usize
 }
 
 /// Whether a field list is at a place.
-fn is_field_list(nodes: &[Node], place: usize) -> bool
-    ensures { IsTrue result → place < length nodes.now }
+fn is_list_at(nodes: &[Node], place: usize) -> bool
+    ensures { result ≡ is_some (list_in (slice_get nodes.now place)) }
 {
-    matches!(
-        nodes.get(place),
-        Some(Node::Element {
-            tag: Tag::FieldList,
-            ..
-        })
-    )
+    match nodes.get(place) {
+        Some(Node::Element { tag, .. }) => is_field_list(*tag),
+        _ => false,
+    }
+}
+
+/// Whether an element of a kind is a field list.
+fn is_field_list(tag: Tag) -> bool
+    ensures { result ≡ is_field_list tag }
+{
+    matches!(tag, Tag::FieldList)
 }
 
 /// Keeps where the names of the targets in a node lead that have a URI: a field's name may leave the document.
-fn keep_uris(alloc: Global, node: &Node, names: &mut Names) -> Result<(), TreeFault> {
+fn keep_uris(alloc: Global, node: &Node, names: &mut Names) -> Result<(), TreeFault>
+    ensures { Gives (λ _. KnowsTheSame names.old names.new) result }
+{
     if let Node::Element {
         tag,
         attrs,
@@ -92,7 +88,9 @@ fn keep_uris(alloc: Global, node: &Node, names: &mut Names) -> Result<(), TreeFa
 }
 
 /// Keeps where the names of a target lead, if it has a URI.
-fn keep_uri(alloc: Global, target: &Attrs, names: &mut Names) -> Result<(), TreeFault> {
+fn keep_uri(alloc: Global, target: &Attrs, names: &mut Names) -> Result<(), TreeFault>
+    ensures { Gives (λ _. KnowsTheSame names.old names.new) result }
+{
     if let (Some(Said::Text(uri)), Some(Said::List(list))) = (
         target.get(Key::Refuri),
         target.get(Key::Names),
@@ -104,36 +102,58 @@ fn keep_uri(alloc: Global, target: &Attrs, names: &mut Names) -> Result<(), Tree
     Ok(())
 }
 
+/// Keeps where the names of the targets in the names of fields lead that have a URI.
+fn keep_field_uris(alloc: Global, fields: &[Node], names: &mut Names) -> Result<(), TreeFault>
+    ensures { Gives (λ _. KnowsTheSame names.old names.new) result }
+{
+    for field in fields {
+        if let Node::Element { children, .. } = field {
+            if let Some(name) = children.as_slice().first() {
+                keep_uris(alloc, name, names)?;
+            }
+        }
+    }
+    Ok(())
+}
+
 /// What the fields of a list become.
 fn bibliography(
     alloc: Global,
     fields: Children,
     line: usize,
     work: &mut Work,
-) -> Result<Vec<Node>, TreeFault> {
+) -> Result<Vec<Node>, TreeFault>
+    ensures nodes { let all = list_gathered work.old.first_number work.old.reports.items fields in Gives (λ nodes. nodes.items ≡ docinfo_nodes line all) result }
+    ensures reports { let all = list_gathered work.old.first_number work.old.reports.items fields in Gives (λ _. work.new.reports.items ≡ all.reports) result }
+    ensures rest { Gives (λ _. KeepsRest work.old work.new) result }
+{
     let mut bibliography = Bibliography::new(alloc);
     for node in fields.into_list() {
-        if let Some(field) = Field::of(node) {
-            if let Some(name) = field.children.get(0) {
-                keep_uris(alloc, name, &mut work.names)?;
-            }
-            let name = field.name(alloc)?;
-            bibliography.add(alloc, name.as_str(), field, work)?;
-        }
+        bibliography.add_node(alloc, node, work)?;
     }
     bibliography.into_nodes(alloc, line)
 }
 
 /// The nodes, the first of them with more ids and names.
-fn with_names(alloc: Global, mut nodes: Vec<Node>, attrs: &Attrs) -> Result<Vec<Node>, TreeFault> {
-    if !nodes.is_empty() {
-        add_names(alloc, &mut nodes[0], attrs)?;
+fn with_names(alloc: Global, mut nodes: Vec<Node>, attrs: &Attrs) -> Result<Vec<Node>, TreeFault>
+    ensures { Gives (λ all. all.items ≡ first_named attrs.now nodes.items) result }
+{
+    if nodes.is_empty() {
+        return Ok(nodes);
     }
+    let mut first = nodes.remove(0);
+    add_names(alloc, &mut first, attrs)?;
+    nodes.insert(0, first)?;
     Ok(nodes)
 }
 
 /// What the fields of a field list become, the first of it with the list's ids and names, too.
-fn replaced(alloc: Global, list: Node, work: &mut Work) -> Result<Vec<Node>, TreeFault> {
+fn replaced(alloc: Global, list: Node, work: &mut Work) -> Result<Vec<Node>, TreeFault>
+    ensures nodes { Gives (λ nodes. nodes.items ≡ replaced work.old.first_number work.old.reports.items list) result }
+    ensures reports { Gives (λ _. work.new.reports.items ≡ told work.old.first_number work.old.reports.items list) result }
+    ensures names { Gives (λ _. KnowsTheSame work.old.names work.new.names) result }
+    ensures rest { Gives (λ _. KeepsOthers work.old work.new) result }
+{
     match list {
         Node::Element {
             tag: _tag,
@@ -141,6 +161,7 @@ fn replaced(alloc: Global, list: Node, work: &mut Work) -> Result<Vec<Node>, Tre
             children,
             line,
         } => {
+            keep_field_uris(alloc, children.as_slice(), &mut work.names)?;
             let nodes = bibliography(alloc, children, line, work)?;
             with_names(alloc, nodes, &attrs)
         }
@@ -152,11 +173,12 @@ fn replaced(alloc: Global, list: Node, work: &mut Work) -> Result<Vec<Node>, Tre
 fn with_nodes_at(
     mut nodes: Vec<Node>,
     place: usize,
-    more: Vec<Node>,
+    mut more: Vec<Node>,
 ) -> Result<Vec<Node>, TreeFault>
     requires { place ≤ vec_len nodes }
+    ensures { Gives (λ all. all.items ≡ take place nodes.items ++ (more.items ++ drop place nodes.items)) result }
 {
-    for node in more.into_iter().rev() {
+    while let Some(node) = more.pop() {
         nodes.insert(place, node)?;
     }
     Ok(nodes)
@@ -167,10 +189,15 @@ fn with_bibliography(
     alloc: Global,
     children: Children,
     work: &mut Work,
-) -> Result<Children, TreeFault> {
+) -> Result<Children, TreeFault>
+    ensures nodes { let list = leading_list (nodes_of children) in Gives (λ all. all ≡ forest_of (nodes_with work.old.first_number work.old.reports.items list (nodes_of children))) result }
+    ensures reports { let list = leading_list (nodes_of children) in Gives (λ _. work.new.reports.items ≡ reports_with work.old.first_number work.old.reports.items list) result }
+    ensures names { Gives (λ _. KnowsTheSame work.old.names work.new.names) result }
+    ensures rest { Gives (λ _. KeepsOthers work.old work.new) result }
+{
     let mut nodes = children.into_list();
     let place = list_place(&nodes);
-    if !is_field_list(&nodes, place) {
+    if !is_list_at(&nodes, place) {
         return Ok(Children::of(nodes));
     }
     let made = replaced(alloc, nodes.remove(place), work)?;
@@ -208,7 +235,12 @@ fn with_bibliography(
 /// ```
 ///
 /// The only refusal is [`TreeFault::NoMemory`].
-pub fn docinfo(alloc: Global, mut work: Work) -> Result<Work, TreeFault> {
+pub fn docinfo(alloc: Global, mut work: Work) -> Result<Work, TreeFault>
+    ensures root { Gives (λ done. done.root ≡ with_docinfo work.first_number work.reports.items work.root) result }
+    ensures reports { Gives (λ done. done.reports.items ≡ docinfo_reports work.first_number work.reports.items work.root) result }
+    ensures names { Gives (λ done. KnowsTheSame work.names done.names) result }
+    ensures rest { Gives (λ done. done ≡ record work { root = done.root; names = done.names; reports = done.reports }) result }
+{
     let empty = Node::element(alloc, Tag::Document, 0);
     match mem::replace(&mut work.root, empty) {
         Node::Text(text) => {

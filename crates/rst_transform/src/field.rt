@@ -1,92 +1,164 @@
 //! Fields of a bibliography, and what is taken out of them.
+ghost use Rattle.std.specs.Prelude.{◌≡◌, Some, None, MatchOption, MatchResult, is_some, string_bytes};
+ghost use Rattle.rst_tree.specs.Faults.{Gives};
+ghost use Rattle.rst_transform.specs.Fields.{field_in, field_node, is_bare, is_list, is_paragraph, last_in, lone, name_of, nodes_in, one_list, one_paragraph, paragraph_in};
 
 use crate::texts::folded;
-use rst_tree::{Attrs, Children, Node, Tag, Text, TreeFault};
+use rst_tree::{Attrs, Children, Node, Tag, TreeFault};
 use std::alloc::Global;
 
 /// A field of a field list (Document Tree, 'field'): a name, and behind it a body.
 #[derive(Drop)]
 pub(crate) struct Field {
     pub attrs: Attrs,
-    pub children: Children,
+    pub name: Node,
+    pub body: Node,
     pub line: usize,
 }
 
-/// What a field becomes.
-#[derive(Drop)]
-pub(crate) enum Became {
-    /// This element.
-    Made(Node),
-    /// Nothing, as it isn't in its form: the field as it was.
-    OutOfForm(Field),
-}
-
 impl Field {
-    /// The element as a field; a text has no parts to be one.
-    pub fn of(node: Node) -> Option<Field> {
+    /// An element as a field, or the node back where it is none.
+    #[tactic(auto, using(crate::proofs::Gathering::two_parts, crate::proofs::Gathering::no_parts))]
+    pub fn of(node: Node) -> Result<Field, Node>
+        ensures { MatchResult result (λ field. field_in node ≡ Some field) (λ back. (back ≡ node) × (field_in node ≡ None)) }
+    {
         match node {
             Node::Element {
-                tag: _tag,
+                tag: Tag::Field,
                 attrs,
                 children,
                 line,
-            } => Some(Field {
-                attrs,
-                children,
-                line,
-            }),
-            Node::Text(_text) => None,
+            } => {
+                let mut parts = children.into_list();
+                if parts.len() != 2 {
+                    return Err(Node::Element {
+                        tag: Tag::Field,
+                        attrs,
+                        children: Children::of(parts),
+                        line,
+                    });
+                }
+                let body = parts.remove(1);
+                let name = parts.remove(0);
+                Ok(Field {
+                    attrs,
+                    name,
+                    body,
+                    line,
+                })
+            }
+            node => Err(node),
         }
     }
 
     /// The field's name, by `name_of`.
-    pub fn name(&self, alloc: Global) -> Result<String, TreeFault> {
-        let text = match self.children.as_slice().first() {
-            Some(name) => name.text_of(alloc)?,
-            None => Text::from_str(alloc, "")?,
-        };
+    pub fn name(&self, alloc: Global) -> Result<String, TreeFault>
+        ensures { Gives (λ name. string_bytes name ≡ name_of self.now) result }
+    {
+        let text = self.name.text_of(alloc)?;
         folded(alloc, text.as_str())
     }
 
-    /// The nodes in its body, if it has one.
-    pub fn body(&self) -> Option<&Children> {
-        inside(self.children.as_slice().last())
+    /// Whether its body is one paragraph.
+    pub fn has_paragraph(&self) -> bool
+        ensures { result ≡ is_some (paragraph_in self.now.body) }
+    {
+        paragraph_in(&self.body).is_some()
     }
 
-    /// The nodes in the one paragraph that is its body.
-    pub fn paragraph(&self) -> Option<&Children> {
-        match self.body() {
-            Some(body) => one_paragraph(body),
-            None => None,
+    /// Whether its body is empty.
+    #[tactic(auto, using(crate::proofs::Gathering::bare_by_count))]
+    pub fn is_empty(&self) -> bool
+        ensures { result ≡ is_bare (nodes_in self.now.body) }
+    {
+        match &self.body {
+            Node::Element { children, .. } => children.len() == 0,
+            Node::Text(_) => true,
         }
     }
 
     /// The field as an element.
-    pub fn into_node(self) -> Node {
+    pub fn into_node(self, alloc: Global) -> Result<Node, TreeFault>
+        ensures { Gives (λ node. node ≡ field_node self) result }
+    {
         let Field {
             attrs,
-            children,
+            name,
+            body,
             line,
         } = self;
-        Node::Element {
+        let mut parts = Vec::with_capacity(alloc, 2)?;
+        parts.push(name)?;
+        parts.push(body)?;
+        Ok(Node::Element {
             tag: Tag::Field,
             attrs,
-            children,
+            children: Children::of(parts),
             line,
-        }
+        })
     }
 }
 
-/// The nodes in a node that is an element.
-fn inside(node: Option<&Node>) -> Option<&Children> {
+/// The nodes in the one paragraph that a node holds.
+pub(crate) fn paragraph_in(node: &Node) -> Option<&Children>
+    ensures { MatchOption result (paragraph_in node.now ≡ None) (λ nodes. paragraph_in node.now ≡ Some nodes.now) }
+{
     match node {
-        Some(Node::Element { children, .. }) => Some(children),
+        Node::Element { children, .. } => one_paragraph(children),
+        Node::Text(_) => None,
+    }
+}
+
+/// The only one of the nodes.
+#[tactic(auto, using(crate::proofs::Gathering::lone_one, crate::proofs::Gathering::lone_none))]
+pub(crate) fn lone(nodes: &Children) -> Option<&Node>
+    ensures { MatchOption result (lone nodes.now ≡ None) (λ node. lone nodes.now ≡ Some node.now) }
+{
+    let nodes = nodes.as_slice();
+    if nodes.len() != 1 {
+        return None;
+    }
+    Some(&nodes[0])
+}
+
+/// The nodes in the only one of the nodes, if that is a paragraph.
+pub(crate) fn one_paragraph(nodes: &Children) -> Option<&Children>
+    ensures { MatchOption result (one_paragraph nodes.now ≡ None) (λ inside. one_paragraph nodes.now ≡ Some inside.now) }
+{
+    match lone(nodes) {
+        Some(Node::Element { tag, children, .. }) if is_paragraph(*tag) => Some(children),
         _ => None,
     }
 }
 
+/// The nodes in the only one of the nodes, if that is a bullet list.
+pub(crate) fn one_list(nodes: &Children) -> Option<&Children>
+    ensures { MatchOption result (one_list nodes.now ≡ None) (λ inside. one_list nodes.now ≡ Some inside.now) }
+{
+    match lone(nodes) {
+        Some(Node::Element { tag, children, .. }) if is_list(*tag) => Some(children),
+        _ => None,
+    }
+}
+
+/// Whether an element of a kind is a paragraph.
+fn is_paragraph(tag: Tag) -> bool
+    ensures { result ≡ is_paragraph tag }
+{
+    matches!(tag, Tag::Paragraph)
+}
+
+/// Whether an element of a kind is a bullet list.
+fn is_list(tag: Tag) -> bool
+    ensures { result ≡ is_list tag }
+{
+    matches!(tag, Tag::BulletList)
+}
+
 /// The nodes in a node, taken out of it; none where that is no element.
-pub(crate) fn into_children(alloc: Global, node: Node) -> Children {
+pub(crate) fn into_children(alloc: Global, node: Node) -> Children
+    ensures { result ≡ nodes_in node }
+{
     match node {
         Node::Element {
             tag: _tag,
@@ -99,25 +171,12 @@ pub(crate) fn into_children(alloc: Global, node: Node) -> Children {
 }
 
 /// The nodes in the last of the nodes, taken out of it; none where that is no element.
-pub(crate) fn into_last(alloc: Global, nodes: Children) -> Children {
+#[tactic(auto, using(crate::proofs::Gathering::in_the_last))]
+pub(crate) fn into_last(alloc: Global, nodes: Children) -> Children
+    ensures { result ≡ last_in nodes }
+{
     match nodes.into_list().pop() {
         Some(node) => into_children(alloc, node),
         None => Children::new(alloc),
     }
-}
-
-/// The nodes in the only one of the nodes, if that is an element of this kind.
-pub(crate) fn in_only(nodes: &Children, wanted: Tag) -> Option<&Children> {
-    if nodes.len() != 1 {
-        return None;
-    }
-    match nodes.get(0) {
-        Some(Node::Element { tag, children, .. }) if *tag == wanted => Some(children),
-        _ => None,
-    }
-}
-
-/// The nodes in the only one of the nodes, if that is a paragraph.
-pub(crate) fn one_paragraph(nodes: &Children) -> Option<&Children> {
-    in_only(nodes, Tag::Paragraph)
 }

@@ -1,6 +1,8 @@
 //! What several transforms ask of attributes, names and nodes.
 ghost use Rattle.std.specs.Prelude.{◌≡◌, ◌++◌, string_bytes};
 ghost use Rattle.rst_tree.specs.Faults.{Gives};
+ghost use Rattle.rst_transform.specs.Fields.{identifier, name_in};
+ghost use Rattle.rst_transform.specs.Docinfo.{named};
 ghost use Rattle.rst_transform.specs.Reading.{source_said};
 
 use crate::lists::append_names;
@@ -9,7 +11,10 @@ use rst_tree::{Attrs, Children, Key, Node, Text, TreeFault, Value};
 use std::alloc::Global;
 
 /// The name that a text gives, by `name_of`.
-pub(crate) fn folded(alloc: Global, text: &str) -> Result<String, TreeFault> {
+#[tactic(auto, using(crate::proofs::Gathering::bytes_of_chars))]
+pub(crate) fn folded(alloc: Global, text: &str) -> Result<String, TreeFault>
+    ensures { Gives (λ name. string_bytes name ≡ name_in text.now) result }
+{
     match name_of(alloc, text) {
         Ok(name) => Ok(name),
         // The call has no other refusal than want of memory.
@@ -18,7 +23,10 @@ pub(crate) fn folded(alloc: Global, text: &str) -> Result<String, TreeFault> {
 }
 
 /// The id that a text gives, by `id_of`.
-pub(crate) fn identified(alloc: Global, text: &str) -> Result<String, TreeFault> {
+#[tactic(auto, using(crate::proofs::Gathering::bytes_of_chars))]
+pub(crate) fn identified(alloc: Global, text: &str) -> Result<String, TreeFault>
+    ensures { Gives (λ id. string_bytes id ≡ identifier text.now) result }
+{
     match id_of(alloc, text) {
         Ok(id) => Ok(id),
         // The call has no other refusal than want of memory.
@@ -27,7 +35,9 @@ pub(crate) fn identified(alloc: Global, text: &str) -> Result<String, TreeFault>
 }
 
 /// Equal nodes.
-pub(crate) fn copies(alloc: Global, nodes: &Children) -> Result<Children, TreeFault> {
+pub(crate) fn copies(alloc: Global, nodes: &Children) -> Result<Children, TreeFault>
+    ensures { Gives (λ equal. equal ≡ nodes.now) result }
+{
     let mut copied = Vec::new(alloc);
     for node in nodes.as_slice() {
         copied.push(node.copy(alloc)?)?;
@@ -36,7 +46,9 @@ pub(crate) fn copies(alloc: Global, nodes: &Children) -> Result<Children, TreeFa
 }
 
 /// Puts the ids, names and lost names that attributes tell behind those of a node.
-pub(crate) fn add_names(alloc: Global, node: &mut Node, from: &Attrs) -> Result<(), TreeFault> {
+pub(crate) fn add_names(alloc: Global, node: &mut Node, from: &Attrs) -> Result<(), TreeFault>
+    ensures { Gives (λ _. node.new ≡ named from.now node.old) result }
+{
     match node {
         Node::Element { attrs, .. } => append_names(alloc, attrs, from),
         Node::Text(_) => Ok(()),

@@ -174,7 +174,7 @@ impl Section {
 }
 
 /// Whether a node may stand before the lone section of a document.
-fn may_precede(node: &Node) -> bool
+pub(crate) fn may_precede(node: &Node) -> bool
     ensures { result ≡ may_precede node.now }
 {
     match node {

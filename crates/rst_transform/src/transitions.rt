@@ -268,7 +268,7 @@ fn only_titles(nodes: &[Node]) -> bool
 }
 
 /// Whether a node is a title or a subtitle.
-fn is_title(node: &Node) -> bool
+pub(crate) fn is_title(node: &Node) -> bool
     ensures { result ≡ is_title node.now }
 {
     match node {
