@@ -116,12 +116,7 @@ fn has_semicolon(text: &str) -> bool
 }
 
 /// The texts between these characters as authors, trimmed, without the empty ones.
-fn parted(
-    alloc: Global,
-    text: &str,
-    separator: char,
-    line: usize,
-) -> Result<Vec<Node>, TreeFault>
+fn parted(alloc: Global, text: &str, separator: char, line: usize) -> Result<Vec<Node>, TreeFault>
     requires { separator < 128 }
     ensures { Gives (λ nodes. nodes.items ≡ parted line separator text.now) result }
 {
@@ -133,12 +128,7 @@ fn parted(
 }
 
 /// Puts the author of a name behind others, unless the name is empty.
-fn add_named(
-    alloc: Global,
-    nodes: &mut Vec<Node>,
-    name: &str,
-    line: usize,
-) -> Result<(), TreeFault>
+fn add_named(alloc: Global, nodes: &mut Vec<Node>, name: &str, line: usize) -> Result<(), TreeFault>
     ensures { Gives (λ _. nodes.new.items ≡ nodes.old.items ++ author_named line name.now) result }
 {
     if name.is_empty() {

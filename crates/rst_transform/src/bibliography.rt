@@ -62,12 +62,7 @@ fn row_of(name: &str) -> Row
 }
 
 /// What a field of a row with this name becomes, or the field back where it isn't in its form.
-fn made(
-    alloc: Global,
-    row: Row,
-    name: &str,
-    field: Field,
-) -> Result<Result<Node, Field>, TreeFault>
+fn made(alloc: Global, row: Row, name: &str, field: Field) -> Result<Result<Node, Field>, TreeFault>
     ensures { Gives (λ became. MatchResult became (λ node. made row name.now field ≡ Some node) (λ back. (back ≡ field) × (made row name.now field ≡ None))) result }
 {
     match row {
@@ -88,7 +83,10 @@ fn simple(alloc: Global, tag: Tag, field: Field) -> Result<Node, Field>
         return Err(field);
     }
     let Field {
-        attrs, body, line, ..
+        attrs,
+        body,
+        line,
+        ..
     } = field;
     Ok(element(alloc, tag, attrs, body, line))
 }
@@ -214,12 +212,7 @@ fn set_class(alloc: Global, attrs: &mut Attrs, class: &str) -> Result<(), TreeFa
 }
 
 /// A field of the table that isn't in its form: any other field, whose body ends with a WARNING.
-fn out_of_form(
-    alloc: Global,
-    name: &str,
-    field: Field,
-    work: &mut Work,
-) -> Result<Node, TreeFault>
+fn out_of_form(alloc: Global, name: &str, field: Field, work: &mut Work) -> Result<Node, TreeFault>
     ensures node { let next = fault_report work.old.first_number work.old.reports.items name.now field.line in Gives (λ node. node ≡ fault_node name.now next field) result }
     ensures reports { let next = fault_report work.old.first_number work.old.reports.items name.now field.line in Gives (λ _. work.new.reports.items ≡ work.old.reports.items ++ next ∷ []) result }
     ensures rest { Gives (λ _. KeepsRest work.old work.new) result }

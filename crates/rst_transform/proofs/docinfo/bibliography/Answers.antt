@@ -16,9 +16,9 @@ loop-node-init c = record { taken = c.new-bibliography.ensures c.args.work.now.r
 pub loop-node-preserved : goal.loop-node-preserved
 loop-node-preserved c = record {
   taken =
-    c.in_ok-add_node.ensures.gathered ∙ ap (λ (w : Work). with_node w.first_number c.in-Some.node (so_far c.loop-node.bibliography c.loop-node.work.reports.items)) c.loop-node.invariant.rest
-    ∙ ap (with_node c.args.work.now.first_number c.in-Some.node) c.loop-node.invariant.taken
-    ∙ sym (gathered_more c.args.work.now.first_number (none_yet c.args.work.now.reports.items) c.loop-node.yielded c.in-Some.node);
+      c.in_ok-add_node.ensures.gathered ∙ ap (λ (w : Work). with_node w.first_number c.in-Some.node (so_far c.loop-node.bibliography c.loop-node.work.reports.items)) c.loop-node.invariant.rest
+      ∙ ap (with_node c.args.work.now.first_number c.in-Some.node) c.loop-node.invariant.taken
+      ∙ sym (gathered_more c.args.work.now.first_number (none_yet c.args.work.now.reports.items) c.loop-node.yielded c.in-Some.node);
   rest = c.in_ok-add_node.ensures.rest ∙ ap (λ (w : Work). record w { reports = c.add_node.new.work.reports }) c.loop-node.invariant.rest;
 }
 
