@@ -147,9 +147,7 @@ fn messages_of(alloc: Global, notes: Vec<Note>, first: u64) -> Result<Vec<Node>,
     let mut messages = Vec::with_capacity(alloc, notes.len())?;
     let mut number = first;
     for note in notes {
-        let mut node = note.into_node(alloc)?;
-        set_message(&mut node, number)?;
-        messages.push(node)?;
+        messages.push(note.into_numbered(alloc, number)?)?;
         number = number.saturating_add(1);
     }
     Ok(messages)

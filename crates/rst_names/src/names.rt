@@ -1,6 +1,6 @@
 //! Names and the elements that hold them.
 ghost use Rattle.std.specs.Prelude.{◌≡◌, ℕ, List, MatchOption, Some, None};
-ghost use Rattle.rst_names.specs.Names.{held_by, moved, Knows, KnowsTheSame, Holds};
+ghost use Rattle.rst_names.specs.Names.{held_by, kept_for, moved, Knows, KnowsTheSame, Holds, KeepsUri, SameUris};
 
 use rst_tree::{Text, TreeFault};
 use std::alloc::Global;
@@ -46,7 +46,8 @@ pub struct Names {
 impl Names {
     /// No name.
     pub fn new(alloc: Global) -> Names
-        ensures { (name : List ℕ) → held_by result name ≡ None }
+        ensures held { (name : List ℕ) → held_by result name ≡ None }
+        ensures uris { (name : List ℕ) → kept_for result name ≡ None }
     {
         Names {
             held: BTreeMap::new(alloc),
@@ -63,7 +64,8 @@ impl Names {
 
     /// Lets an element, or none, hold a name that is known; the id stays that of the element that brought it.
     pub fn move_to(&mut self, name: &str, holder: Holder)
-        ensures { Knows name.now (moved holder (held_by self.old name.now)) self.old self.new }
+        ensures held { Knows name.now (moved holder (held_by self.old name.now)) self.old self.new }
+        ensures uris { SameUris self.old self.new }
     {
         if let Some(held) = self.held.get_mut(name) {
             held.holder = holder;
@@ -74,7 +76,8 @@ impl Names {
     ///
     /// The only refusal is want of memory; then what is known is as before.
     pub fn hold(&mut self, alloc: Global, name: &str, held: Held) -> Result<(), TreeFault>
-        ensures { Holds name.now held self.old self.new result }
+        ensures held { Holds name.now held self.old self.new result }
+        ensures uris { SameUris self.old self.new }
     {
         let name = String::from_str(alloc, name)?;
         self.held.insert(name, held)?;
@@ -83,9 +86,10 @@ impl Names {
 
     /// Keeps where a name leads by its holder, a target with this URI, though that leaves the document.
     ///
-    /// The only refusal is want of memory.
+    /// The only refusal is want of memory; then what is kept is as before.
     pub fn keep_uri(&mut self, alloc: Global, name: &str, uri: &str) -> Result<(), TreeFault>
-        ensures { KnowsTheSame self.old self.new }
+        ensures held { KnowsTheSame self.old self.new }
+        ensures uris { KeepsUri name.now uri.now self.old self.new result }
     {
         let uri = String::from_str(alloc, uri)?;
         self.uris.insert(String::from_str(alloc, name)?, uri)?;
@@ -93,7 +97,9 @@ impl Names {
     }
 
     /// The URI that was kept for a name, if one was.
-    pub fn kept_uri(&self, name: &str) -> Option<&str> {
+    pub fn kept_uri(&self, name: &str) -> Option<&str>
+        ensures { MatchOption result (kept_for self.now name.now ≡ None) (λ uri. kept_for self.now name.now ≡ Some uri.now) }
+    {
         match self.uris.get(name) {
             Some(uri) => Some(uri.as_str()),
             None => None,

@@ -23,6 +23,8 @@ struct OpenSection {
 
 /// The document with its sections: the section of a title holds what comes up to the next title of its level or a higher
 /// one.
+///
+/// The only refusal is [`TreeFault::NoMemory`].
 pub fn document(alloc: Global, nodes: Vec<Node>, headings: Vec<Heading>) -> Result<Node, TreeFault>
     ensures { Gives (λ root. root ≡ sections_of nodes.items headings.items) result }
 {

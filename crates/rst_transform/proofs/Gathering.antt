@@ -1,5 +1,5 @@
 -- The fields of a bibliography, taken in one after another.
-use Rattle.std.proofs.Common.{◌≡◌, ◌∙◌, ℕ, suc, ◌<◌, ◌≤◌, List, [], ◌∷◌, ◌++◌, length, get_or, take, drop, Option, Some, None, Bor, refl, ap, sym, subst, append_assoc, drop-cons, arith}
+use Rattle.std.proofs.Common.{◌≡◌, ◌∙◌, ℕ, suc, ◌<◌, ◌≤◌, List, [], ◌∷◌, ◌++◌, length, get_or, take, drop, Option, Some, None, Bor, refl, ap, sym, drop-cons, arith}
 use Rattle.std.specs.Prelude.{slice_index_or, is_some, nat_eq, slice_get, unwrap_or, Bool, true, false, if◌then◌else◌, map, option_map, string_bytes, encode_utf8_all}
 use Rattle.std.specs.declared.string.String.{String}
 use Rattle.std.proofs.lemmas.Str.{encodes-chars, IsUtf8-string_bytes}
@@ -11,9 +11,10 @@ use Rattle.std.proofs.lemmas.List.{append-nil, map-append}
 use Rattle.rst_tree.proofs.Changes.{nodes_of-forest_of}
 use Rattle.rst_transform.specs.declared.bibliography.Row.{Row}
 use Rattle.rst_transform.specs.declared.field.Field.{Field}
-use Rattle.rst_transform.specs.Authors.{all_paragraphs, and_author, author, author_named}
+use Rattle.rst_transform.specs.Authors.{all_paragraphs, and_author, author_named}
 use Rattle.rst_transform.specs.Bibliography.{made, row_of}
-use Rattle.rst_transform.specs.Docinfo.{Gathered, behind_titles, by_form, gathered, is_field_list, is_further, leading_list, list_in, list_place, nodes_with, noted, replaced, with_fault, with_field, with_node, with_row}
+use Rattle.rst_transform.specs.Docinfo.{behind_titles, is_field_list, leading_list, list_in, list_place, nodes_with, replaced}
+use Rattle.rst_transform.specs.Gathered.{Gathered, by_form, gathered, is_further, noted, with_fault, with_field, with_node, with_row}
 use Rattle.rst_transform.specs.Transitions.{is_title}
 use Rattle.rst_transform.specs.declared.work.Report.{Report}
 use Rattle.std.proofs.lemmas.Option.{unwrap_or-slice_get}

@@ -1,5 +1,5 @@
 -- The authors that a field names (reStructuredText Markup Specification, 'Bibliographic Fields').
-use Rattle.std.specs.Prelude.{ℕ, ◌==◌, List, [], ◌∷◌, ◌++◌, Option, Some, None, option_map, if◌then◌else◌}
+use Rattle.std.specs.Prelude.{ℕ, ◌==◌, List, [], ◌∷◌, Option, Some, None, option_map, if◌then◌else◌}
 use Rattle.std.specs.List.{flat_map, list_any, slice_split}
 use Rattle.std.specs.Str.{chars, trim}
 use Rattle.rst_tree.specs.declared.node.Node.{Node}
@@ -8,7 +8,7 @@ use Rattle.rst_tree.specs.declared.tag.Tag.TheVariants.{Author, Authors}
 use Rattle.rst_tree.specs.Forest.{Forest, bare, words}
 use Rattle.rst_tree.specs.Nodes.{forest_of, nodes_of}
 use Rattle.rst_transform.specs.declared.field.Field.{Field}
-use Rattle.rst_transform.specs.Fields.{lone, nodes_in, one_list, one_paragraph, paragraph_in}
+use Rattle.rst_transform.specs.Fields.{lone, nodes_in, one_list, paragraph_in}
 
 -- an author with these nodes as the name
 abbrev pub author : ℕ → Forest → Node

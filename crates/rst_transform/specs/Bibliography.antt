@@ -5,7 +5,7 @@ use Rattle.rst_tree.specs.declared.attrs.Attr.{Attr}
 use Rattle.rst_tree.specs.declared.attrs.Value.TheVariants.{Text as Says, List as Listed}
 use Rattle.rst_tree.specs.declared.key.Key.TheVariants.{Classes, XmlSpace}
 use Rattle.rst_tree.specs.declared.node.Node.{Node}
-use Rattle.rst_tree.specs.declared.node.Node.TheVariants.{Element, Text}
+use Rattle.rst_tree.specs.declared.node.Node.TheVariants.{Element}
 use Rattle.rst_tree.specs.declared.note.Level.TheVariants.{Warning}
 use Rattle.rst_tree.specs.declared.tag.Tag.{Tag}
 use Rattle.rst_tree.specs.declared.tag.Tag.TheVariants.{Author, Organization, Contact, Version, Revision, Status, Date, Copyright, Title, Address as IsAddress, Topic as IsTopic}

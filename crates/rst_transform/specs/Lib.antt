@@ -2,6 +2,7 @@ pub mod Authors
 pub mod Bibliography
 pub mod Docinfo
 pub mod Fields
+pub mod Gathered
 pub mod Left
 pub mod Links
 pub mod Lists

@@ -1,26 +1,26 @@
 -- The messages of the transforms as elements (Document Tree, 'system_message').
 use Rattle.std.specs.Prelude.{◌≡◌, ℕ, ◌+◌, ◌-◌, ◌^◌, min, Bool, List, [], length, None}
 use Rattle.rst_tree.specs.declared.attrs.Attr.{Attr}
-use Rattle.rst_tree.specs.declared.attrs.Value.TheVariants.{Number, List as Listed}
-use Rattle.rst_tree.specs.declared.key.Key.TheVariants.{Backrefs, Message}
+use Rattle.rst_tree.specs.declared.attrs.Value.TheVariants.{List as Listed}
+use Rattle.rst_tree.specs.declared.key.Key.TheVariants.{Backrefs}
 use Rattle.rst_tree.specs.declared.node.Node.{Node}
 use Rattle.rst_tree.specs.declared.node.Node.TheVariants.{Element}
 use Rattle.rst_tree.specs.declared.note.Level.{Level}
 use Rattle.rst_tree.specs.declared.tag.Tag.TheVariants.{SystemMessage}
 use Rattle.rst_tree.specs.Attributes.{with_attr}
-use Rattle.rst_tree.specs.Messages.{note_attrs, note_nodes}
+use Rattle.rst_tree.specs.Messages.{note_nodes, numbered_attrs}
 use Rattle.rst_tree.specs.Nodes.{forest_of}
 use Rattle.rst_names.specs.Written.{with_id}
 use Rattle.rst_transform.specs.declared.work.Report.{Report}
 use Rattle.rst_transform.specs.declared.work.Work.{Work}
 
--- the attributes with the number of a message, the ids of its problematics and its own
+-- the attributes with the ids of a message's problematics and its own
 abbrev pub with_references : Report → List Attr → List Attr
-with_references r attrs = with_id r.id (with_attr Backrefs (Listed r.backrefs) (with_attr Message (Number r.number) attrs))
+with_references r attrs = with_id r.id (with_attr Backrefs (Listed r.backrefs) attrs)
 
--- the message as a `system_message`
+-- the message as a `system_message` with its number
 abbrev pub report_node : Report → Node
-report_node r = Element SystemMessage (with_references r (note_attrs r.note.level r.note.line)) (forest_of (note_nodes r.note.text r.note.block r.note.line)) r.note.line
+report_node r = Element SystemMessage (with_references r (numbered_attrs r.number r.note.level r.note.line)) (forest_of (note_nodes r.note.text r.note.block r.note.line)) r.note.line
 
 -- the message once its id and those of its problematics have moved elsewhere
 abbrev pub without_ids : Report → Report

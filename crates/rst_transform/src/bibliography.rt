@@ -6,7 +6,7 @@ ghost use Rattle.rst_tree.specs.Paths.{with_child};
 ghost use Rattle.rst_tree.specs.declared.node.Node.TheVariants.{Element};
 ghost use Rattle.rst_transform.specs.declared.work.Report.{Report};
 ghost use Rattle.rst_transform.specs.Bibliography.{address_node, fault_node, fault_report, generic, made, row_of, simple_node, title_node, topic_class, topic_node, topic_title, with_class};
-ghost use Rattle.rst_transform.specs.Docinfo.{docinfo_nodes, info_nodes, is_further, none_yet, noted, so_far, with_element, with_fault, with_field, with_node};
+ghost use Rattle.rst_transform.specs.Gathered.{docinfo_nodes, info_nodes, is_further, none_yet, noted, so_far, with_element, with_fault, with_field, with_node};
 ghost use Rattle.rst_transform.specs.Fields.{last_in, nodes_in};
 ghost use Rattle.rst_transform.specs.Reports.{report_node, KeepsRest};
 

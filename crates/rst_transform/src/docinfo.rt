@@ -4,7 +4,8 @@ ghost use Rattle.std.specs.List.{prefix_len};
 ghost use Rattle.rst_names.specs.Names.{KnowsTheSame};
 ghost use Rattle.rst_tree.specs.Faults.{Gives};
 ghost use Rattle.rst_tree.specs.Nodes.{forest_of, nodes_of};
-ghost use Rattle.rst_transform.specs.Docinfo.{behind_titles, docinfo_nodes, docinfo_reports, first_named, is_field_list, leading_list, list_gathered, list_in, list_place, may_lead, nodes_with, replaced, reports_with, told, with_docinfo, KeepsOthers};
+ghost use Rattle.rst_transform.specs.Docinfo.{behind_titles, docinfo_reports, first_named, is_field_list, leading_list, list_gathered, list_in, list_place, may_lead, nodes_with, replaced, reports_with, told, with_docinfo, KeepsOthers};
+ghost use Rattle.rst_transform.specs.Gathered.{docinfo_nodes};
 ghost use Rattle.rst_transform.specs.Reports.{KeepsRest};
 ghost use Rattle.rst_transform.specs.Transitions.{is_title};
 

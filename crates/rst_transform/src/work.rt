@@ -4,7 +4,7 @@ ghost use Rattle.rst_tree.specs.Faults.{Gives};
 ghost use Rattle.rst_transform.specs.Reports.{with_references, report_node, without_ids, next_report, KeepsRest};
 
 use rst_names::{Ids, Names};
-use rst_tree::{Attrs, Children, Key, Level, Node, Note, Tag, Text, Texts, TreeFault, Value};
+use rst_tree::{Attrs, Children, Entry, Key, Level, Node, Note, Tag, Text, Texts, TreeFault, Value};
 use std::alloc::Global;
 use std::mem;
 
@@ -39,7 +39,7 @@ impl Report {
             text: self.note.text.copy()?,
             block,
         };
-        match note.into_node(alloc)? {
+        match note.into_numbered(alloc, self.number)? {
             Node::Element {
                 tag,
                 mut attrs,
@@ -58,14 +58,13 @@ impl Report {
         }
     }
 
-    /// Lets the attributes of the message tell its number, its id and those of its problematics.
+    /// Lets the attributes of the message tell its id and those of its problematics.
     fn hand_references(&mut self, alloc: Global, attrs: &mut Attrs) -> Result<(), TreeFault>
         ensures attrs { Gives (λ _. attrs.new ≡ with_references self.old attrs.old) result }
         ensures left { Gives (λ _. self.new ≡ without_ids self.old) result }
     {
         let backrefs = mem::replace(&mut self.backrefs, Texts::new(alloc));
-        attrs.reserve(3)?;
-        attrs.set(Key::Message, Value::Number(self.number))?;
+        attrs.reserve(2)?;
         attrs.set(Key::Backrefs, Value::List(backrefs))?;
         if let Some(id) = mem::replace(&mut self.id, None) {
             attrs.set(Key::Ids, Value::List(Texts::lone(alloc, id)))?;
@@ -187,14 +186,15 @@ impl Work {
     pub fn problematic_attrs(&mut self, alloc: Global, report: usize) -> Result<Attrs, TreeFault> {
         let id = self.ids.give(alloc, Tag::Problematic, "")?;
         let back = id.copy()?;
-        let mut attrs = Attrs::with_room(alloc, 3)?;
-        attrs.set(Key::Ids, Value::List(Texts::lone(alloc, id)))?;
+        // In the order of their names, as `Attrs::set` would put them.
+        let mut attrs = Vec::with_capacity(alloc, 3)?;
+        attrs.push(Entry::new(Key::Ids, Value::List(Texts::lone(alloc, id))))?;
         if report < self.reports.len() {
             let report = &mut self.reports[report];
             let refid = report.refer_back(alloc, &mut self.ids, back)?;
-            attrs.set(Key::Message, Value::Number(report.number))?;
-            attrs.set(Key::Refid, Value::Text(refid))?;
+            attrs.push(Entry::new(Key::Message, Value::Number(report.number)))?;
+            attrs.push(Entry::new(Key::Refid, Value::Text(refid)))?;
         }
-        Ok(attrs)
+        Ok(Attrs::of(attrs))
     }
 }

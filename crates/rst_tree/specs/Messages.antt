@@ -2,14 +2,14 @@
 use Rattle.std.specs.Prelude.{ℕ, List, [], ◌∷◌, codes, Option, Some, None}
 use Rattle.rst_tree.specs.declared.attrs.Attr.{Attr}
 use Rattle.rst_tree.specs.declared.attrs.Value.TheVariants.{Text, Number}
-use Rattle.rst_tree.specs.declared.key.Key.TheVariants.{Level as LevelKey, Line, Type_, XmlSpace}
+use Rattle.rst_tree.specs.declared.key.Key.TheVariants.{Level as LevelKey, Line, Message, Type_, XmlSpace}
 use Rattle.rst_tree.specs.declared.tag.Tag.{Tag}
 use Rattle.rst_tree.specs.declared.tag.Tag.TheVariants.{SystemMessage, Paragraph, LiteralBlock}
 use Rattle.rst_tree.specs.declared.node.Node.{Node}
 use Rattle.rst_tree.specs.declared.node.Node.TheVariants.{Element}
 use Rattle.rst_tree.specs.declared.note.Level.{Level}
 use Rattle.rst_tree.specs.declared.note.Note.{Note}
-use Rattle.rst_tree.specs.Attributes.{attr}
+use Rattle.rst_tree.specs.Attributes.{attr, with_attr}
 use Rattle.rst_tree.specs.Forest.{bare, words}
 use Rattle.rst_tree.specs.LevelNames.{level_name, level_number}
 use Rattle.rst_tree.specs.Nodes.{forest_of}
@@ -34,3 +34,11 @@ note_attrs level line = attr LevelKey (Number (level_number level)) ∷ attr Lin
 -- the message's element
 abbrev pub note_node : Note → Node
 note_node note = Element SystemMessage (note_attrs note.level note.line) (forest_of (note_nodes note.text note.block note.line)) note.line
+
+-- the same attributes with the number of the message, as it stands among their names
+abbrev pub numbered_attrs : ℕ → Level → ℕ → List Attr
+numbered_attrs number level line = with_attr Message (Number number) (note_attrs level line)
+
+-- the message's element with its number
+abbrev pub numbered_node : ℕ → Note → Node
+numbered_node number note = Element SystemMessage (numbered_attrs number note.level note.line) (forest_of (note_nodes note.text note.block note.line)) note.line

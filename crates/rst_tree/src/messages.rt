@@ -2,7 +2,7 @@
 ghost use Rattle.std.specs.Prelude.{◌≡◌};
 ghost use Rattle.rst_tree.specs.Faults.{Gives};
 ghost use Rattle.rst_tree.specs.Nodes.{forest_of};
-ghost use Rattle.rst_tree.specs.Messages.{holding, literal_of, note_nodes, note_attrs, note_node};
+ghost use Rattle.rst_tree.specs.Messages.{holding, literal_of, note_nodes, note_attrs, note_node, numbered_attrs, numbered_node};
 
 use crate::attrs::{Attrs, Value};
 use crate::entry::Entry;
@@ -29,6 +29,35 @@ impl Note {
             line: self.line,
         })
     }
+
+    /// The same with the number of the message (`Key::Message`).
+    pub fn into_numbered(self, alloc: Global, number: u64) -> Result<Node, TreeFault>
+        ensures { Gives (λ node. node ≡ numbered_node number self) result }
+    {
+        let attrs = numbered_attrs(alloc, self.level, self.line, number)?;
+        let children = note_nodes(alloc, self.text, self.block, self.line)?;
+        Ok(Node::Element {
+            tag: Tag::SystemMessage,
+            attrs,
+            children,
+            line: self.line,
+        })
+    }
+}
+
+/// The level, the line, the number of the message and the level's name, in a list with room for two more: the message's id and the
+/// ids of its problematics.
+fn numbered_attrs(alloc: Global, level: Level, line: usize, number: u64) -> Result<Attrs, TreeFault>
+    ensures { Gives (λ attrs. attrs ≡ numbered_attrs number level line) result }
+{
+    let name = Text::from_str(alloc, level.name())?;
+    let mut attrs = Vec::with_capacity(alloc, 6)?;
+    let grade = Value::Number(u64::from(level.number()));
+    attrs.push_reserved(Entry::new(Key::Level, grade));
+    attrs.push_reserved(Entry::new(Key::Line, Value::Number(line as u64)));
+    attrs.push_reserved(Entry::new(Key::Message, Value::Number(number)));
+    attrs.push_reserved(Entry::new(Key::Type_, Value::Text(name)));
+    Ok(Attrs::of(attrs))
 }
 
 /// The level, the line and the level's name, in a list with room for three more: the number of the message, its id and the

@@ -1,4 +1,3 @@
-use Rattle.std.proofs.Common.{arith}
 use Rattle.rst_transform.proofs.Gathering.{item_refused, items_seen}
 use Rattle.rst_transform.proofs.authors.all_paragraphs.Goals as goal
 

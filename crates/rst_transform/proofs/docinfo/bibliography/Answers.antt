@@ -1,4 +1,4 @@
-use Rattle.std.proofs.Common.{◌≡◌, ◌∙◌, rules, refl, sym, ap, ℕ, List, Vec, Global}
+use Rattle.std.proofs.Common.{◌≡◌, ◌∙◌, rules, refl, sym, ap, List, Vec, Global}
 use Rattle.std.proofs.lemmas.List.{map-id}
 use Rattle.std.proofs.lemmas.Iterator.Consumers.{YieldsList-end}
 use Rattle.std.proofs.lemmas.Iterator.Adapters.{YieldsList-from_vec}
@@ -6,7 +6,8 @@ use Rattle.rst_tree.specs.declared.node.Node.{Node}
 use Rattle.rst_tree.specs.Nodes.{nodes_of}
 use Rattle.rst_transform.specs.declared.work.Report.{Report}
 use Rattle.rst_transform.specs.declared.work.Work.{Work}
-use Rattle.rst_transform.specs.Docinfo.{docinfo_nodes, gathered, list_gathered, none_yet, so_far, with_node}
+use Rattle.rst_transform.specs.Docinfo.{list_gathered}
+use Rattle.rst_transform.specs.Gathered.{docinfo_nodes, gathered, none_yet, so_far, with_node}
 use Rattle.rst_transform.proofs.Gathering.{gathered_more, given}
 use Rattle.rst_transform.proofs.docinfo.bibliography.Goals as goal
 

@@ -1,5 +1,5 @@
 use Rattle.std.proofs.Common.{◌≡◌}
-use Rattle.rst_transform.specs.Docinfo.{gathered, none_yet, so_far}
+use Rattle.rst_transform.specs.Gathered.{gathered, none_yet, so_far}
 use Rattle.rst_transform.specs.Reports.{KeepsRest}
 use Rattle.rst_transform.proofs.docinfo.bibliography.Given as goal
 

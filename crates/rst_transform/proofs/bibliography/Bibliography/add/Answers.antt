@@ -1,7 +1,7 @@
 use Rattle.std.proofs.Common.{◌≡◌, ◌∙◌, ap, sym, subst}
 use Rattle.rst_tree.specs.Faults.{Gives}
 use Rattle.rst_transform.specs.Bibliography.{row_of}
-use Rattle.rst_transform.specs.Docinfo.{Gathered, so_far, with_fault}
+use Rattle.rst_transform.specs.Gathered.{Gathered, so_far, with_fault}
 use Rattle.rst_transform.specs.declared.field.Field.{Field}
 use Rattle.rst_transform.proofs.Gathering.{further_field, refused_field}
 use Rattle.rst_transform.proofs.bibliography.Bibliography.add.Goals as goal
