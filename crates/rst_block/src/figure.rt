@@ -1,8 +1,8 @@
 //! Figures (Directives, 'Figure').
 use super::fault::BlockFault;
 use super::texts::{alone, push};
-use rst_elements::message;
-use rst_sections::{append, element_of, filled};
+use rst_elements::{element_of, message};
+use rst_sections::{append, filled};
 use rst_tree::{Attrs, Children, Key, Level as Gravity, Node, Tag};
 use std::alloc::Global;
 use std::vec::IntoIter;
@@ -128,6 +128,6 @@ fn with_legend(alloc: Global, figure: Node, nodes: Vec<Node>) -> Result<Node, Bl
     if nodes.is_empty() {
         return Ok(figure);
     }
-    let legend = element_of(alloc, Tag::Legend, 0, nodes);
+    let legend = element_of(Tag::Legend, Attrs::new(alloc), nodes, 0);
     Ok(filled(figure, alone(alloc, legend)?)?)
 }

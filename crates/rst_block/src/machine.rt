@@ -15,11 +15,11 @@ use super::step::{Step, step_at};
 use super::table::{after_table, entry_of, table_of};
 use super::texts::Pass;
 use arrayvec::ArrayVec;
+use rst_elements::element_of;
 use rst_markup::{LineTest, Part, lines_end};
-use rst_sections::element_of;
 use rst_tables::{Cell, TableResult};
 use rst_text::{Lines, View};
-use rst_tree::{Node, Tag};
+use rst_tree::{Attrs, Node, Tag};
 use std::alloc::Global;
 
 /// The blocks that wait for one inside them, the outermost first.
@@ -260,5 +260,5 @@ fn row_of(
         let nodes = read(alloc, &lines, depth, frames, pass)?.nodes;
         entries.push(entry_of(alloc, cell, nodes)?)?;
     }
-    Ok(element_of(alloc, Tag::Row, 0, entries))
+    Ok(element_of(Tag::Row, Attrs::new(alloc), entries, 0))
 }

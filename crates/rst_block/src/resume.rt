@@ -11,11 +11,11 @@ use super::quote::quote_part;
 use super::step::Step;
 use super::substitution::{OpenReplacement, finished_replacement};
 use super::texts::{Pass, push};
-use rst_elements::Texted;
+use rst_elements::{Texted, element_of};
 use rst_markup::Part;
-use rst_sections::{append, element_of, filled};
+use rst_sections::{append, filled};
 use rst_text::View;
-use rst_tree::{Node, Tag};
+use rst_tree::{Attrs, Node, Tag};
 use std::alloc::Global;
 
 /// What a block waits for: the nodes of a block inside, and what becomes of them.
@@ -65,7 +65,7 @@ pub(crate) fn resume(
 {
     match waits {
         Waits::ListItem { line } => {
-            level.push_item(element_of(alloc, Tag::ListItem, line, nodes))?;
+            level.push_item(element_of(Tag::ListItem, Attrs::new(alloc), nodes, line))?;
         }
         Waits::ListedBody {
             line,
@@ -75,8 +75,8 @@ pub(crate) fn resume(
             mut notes,
         } => {
             append(&mut notes, nodes)?;
-            push(&mut heads, element_of(alloc, body, line, notes))?;
-            level.push_item(element_of(alloc, item, line, heads))?;
+            push(&mut heads, element_of(body, Attrs::new(alloc), notes, line))?;
+            level.push_item(element_of(item, Attrs::new(alloc), heads, line))?;
         }
         Waits::Quote {
             line,
@@ -113,11 +113,11 @@ fn put_quote(
     ensures { level.new.at ≡ level.old.at }
 {
     match attribution {
-        None => level.push(element_of(alloc, Tag::BlockQuote, line, nodes)),
+        None => level.push(element_of(Tag::BlockQuote, Attrs::new(alloc), nodes, line)),
         Some(attribution) => {
             let Texted { element, notes } = Box::into_inner(attribution);
             push(&mut nodes, element)?;
-            level.push(element_of(alloc, Tag::BlockQuote, line, nodes))?;
+            level.push(element_of(Tag::BlockQuote, Attrs::new(alloc), nodes, line))?;
             level.append(notes)
         }
     }

@@ -8,11 +8,11 @@ use super::fault::BlockFault;
 use super::level::Level;
 use super::step::Step;
 use super::texts::{Pass, alone, number_at, source};
-use rst_elements::{entry, message, tgroup};
-use rst_sections::{element_of, filled};
+use rst_elements::{element_of, entry, message, tgroup};
+use rst_sections::filled;
 use rst_tables::{Cell, TableFault, TableResult, malformed_text};
 use rst_text::View;
-use rst_tree::{Level as Gravity, Node, Tag};
+use rst_tree::{Attrs, Level as Gravity, Node, Tag};
 use std::alloc::Global;
 
 /// A table, or the message on one that is malformed.
@@ -101,12 +101,12 @@ pub(crate) fn table_of(
     }
     let mut group = tgroup(alloc, widths, line)?;
     if 0 < head {
-        let head = element_of(alloc, Tag::Thead, 0, heads);
+        let head = element_of(Tag::Thead, Attrs::new(alloc), heads, 0);
         group = filled(group, alone(alloc, head)?)?;
     }
-    let body = element_of(alloc, Tag::Tbody, 0, bodies);
+    let body = element_of(Tag::Tbody, Attrs::new(alloc), bodies, 0);
     let group = filled(group, alone(alloc, body)?)?;
-    Ok(element_of(alloc, Tag::Table, line, alone(alloc, group)?))
+    Ok(element_of(Tag::Table, Attrs::new(alloc), alone(alloc, group)?, line))
 }
 
 /// The entry of a cell with its nodes.

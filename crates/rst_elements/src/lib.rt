@@ -24,7 +24,7 @@ pub use labels::{citation, footnote};
 pub use line_blocks::{BarText, LineBlockFault, line_block};
 pub use lists::{bullet_list, enumerated_list, option, start_message};
 pub use messages::message;
-pub use nodes::{plain, preserved};
+pub use nodes::{element_of, plain, preserved};
 pub use numbers::Numbers;
 pub use sections::section;
 pub use tables::{entry, tgroup};

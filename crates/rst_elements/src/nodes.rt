@@ -1,4 +1,4 @@
-//! Elements that hold a text without markup.
+//! Elements with their nodes, and those that hold a text without markup.
 ghost use Rattle.std.specs.Prelude.{◌≡◌};
 ghost use Rattle.rst_tree.specs.Faults.{Gives};
 ghost use Rattle.rst_elements.specs.Elements.{element_of, text_nodes, plain_node, preserving, preserved_node};
@@ -7,8 +7,8 @@ use super::values::said;
 use rst_tree::{Attrs, Children, Key, Node, Tag, TreeFault};
 use std::alloc::Global;
 
-/// An element with attributes and nodes.
-pub(crate) fn element_of(tag: Tag, attrs: Attrs, nodes: Vec<Node>, line: usize) -> Node
+/// An element with these attributes, these nodes in it, and the number of its line, or 0 where it tells none.
+pub fn element_of(tag: Tag, attrs: Attrs, nodes: Vec<Node>, line: usize) -> Node
     ensures { result ≡ element_of tag attrs nodes.items line }
 {
     Node::Element {

@@ -1,12 +1,11 @@
 -- Lemmas on what is shown of a finished document.
-use Rattle.std.proofs.Common.{◌≡◌, ℕ, List, Ok, Result, ap, subst, Vec}
+use Rattle.std.proofs.Common.{◌≡◌, ℕ, List, Ok, Result, refl, subst, Vec}
 use Rattle.rst_settings.specs.declared.Settings.{Settings}
 use Rattle.rst_text.specs.Counted.{Stream, HandsOut, IsReadOut}
 use Rattle.rst_transform.specs.declared.finishing.Finished.{Finished}
 use Rattle.rst_run.specs.declared.end.End.{End}
 use Rattle.rst_run.specs.declared.end.End.TheVariants.{Done, Read, TooLong, NotUtf8, NoMemory, WriteErr, WriteOut, TooDeep}
 use Rattle.rst_run.specs.Headline.{Headline, Ends, Shows, Takes}
-use Rattle.rst_run.specs.Source.{with_source}
 use Rattle.rst_run.specs.Reading.{Reads}
 use Rattle.rst_run.specs.Shown.{Parts, Answers, parts_of}
 
@@ -24,10 +23,8 @@ ends_shown Answer parts input out err (TooDeep line) read answer shows = absurd 
 
 -- a run over bytes of which a document was made
 pub ends_read : {A : Type 0} (settings : Settings) (source : List ℕ) (finished : Finished) (input out err : Stream) (taken : Vec ℕ A) (end : End)
-    → ((bytes : List ℕ) × HandsOut input bytes × Takes input bytes (Ok taken)) → Reads settings source taken.items (Ok finished)
+    → ((bytes : List ℕ) × HandsOut input bytes × Takes input bytes (Ok taken)) → Reads settings taken.items (Ok finished)
     → Shows (parts_of settings source finished.tree finished.notes.items) out err end → Headline (Answers settings source) input out err end
 ends_read settings source finished input out err taken end (bytes, handed, (read, same, short)) reads shows =
-    let made : Reads settings source bytes (Ok finished) = subst (λ l. Reads settings source l (Ok finished)) same reads in
-    let parts : parts_of settings source finished.tree finished.notes.items ≡ parts_of settings source (with_source source made.1.0) finished.notes.items =
-    ap (λ document. parts_of settings source document finished.notes.items) made.1.2 in
-    (bytes, handed, ends_shown (Answers settings source bytes) _ input out err end read (short, made.0, made.1.0, finished.notes.items, made.1.1, parts) shows)
+    let made : Reads settings bytes (Ok finished) = subst (λ l. Reads settings l (Ok finished)) same reads in
+    (bytes, handed, ends_shown (Answers settings source bytes) _ input out err end read (short, made.0, finished.tree, finished.notes.items, made.1.0, refl) shows)

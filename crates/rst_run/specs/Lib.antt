@@ -1,4 +1,3 @@
-pub mod Source
 pub mod Shown
 pub mod Reading
 pub mod Headline

@@ -17,7 +17,6 @@ use Rattle.rst_tree.specs.declared.note.Level.TheVariants.{Error}
 use Rattle.rst_tree.specs.declared.tag.Tag.TheVariants.{Document}
 use Rattle.rst_run.specs.declared.end.End.{End}
 use Rattle.rst_run.specs.declared.end.End.TheVariants.{NotUtf8, TooDeep, NoMemory}
-use Rattle.rst_run.specs.Source.{with_source}
 use Rattle.rst_run.specs.Shown.{IsFinished, IsShort, HasShortLines}
 
 -- that the line of a number is too long (Configuration, `line_length_limit`)
@@ -43,16 +42,15 @@ Parses settings lines (Err (TooDeep line)) = IsShort settings lines
 Parses settings lines (Err NoMemory) = Unit {0}
 Parses settings lines (Err _) = ⊥
 
--- the finished document with its source, and its messages with their highest level
-abbrev pub IsMade : Settings → List ℕ → Finished → Type 0
-IsMade settings source finished =
-    (document : Node) × IsFinished settings document finished.notes.items × (finished.tree ≡ with_source source document)
-    × (finished.highest ≡ highest_level finished.notes.items) × (finished.highest ≤ 4)
+-- the finished document, and its messages with their highest level
+abbrev pub IsMade : Settings → Finished → Type 0
+IsMade settings finished =
+    IsFinished settings finished.tree finished.notes.items × (finished.highest ≡ highest_level finished.notes.items) × (finished.highest ≤ 4)
 
 -- a document was made of the bytes, or they were refused, or memory ran out
-abbrev pub Reads : Settings → List ℕ → List ℕ → Result Finished End → Type 0
-Reads settings source bytes (Ok finished) = IsSome (text_of bytes) × IsMade settings source finished
-Reads settings source bytes (Err (NotUtf8 at)) = (text_of bytes ≡ None) × (at ≡ utf8_valid_len bytes)
-Reads settings source bytes (Err (TooDeep line)) = HasShortLines settings (text_of bytes)
-Reads settings source bytes (Err NoMemory) = Unit {0}
-Reads settings source bytes (Err _) = ⊥
+abbrev pub Reads : Settings → List ℕ → Result Finished End → Type 0
+Reads settings bytes (Ok finished) = IsSome (text_of bytes) × IsMade settings finished
+Reads settings bytes (Err (NotUtf8 at)) = (text_of bytes ≡ None) × (at ≡ utf8_valid_len bytes)
+Reads settings bytes (Err (TooDeep line)) = HasShortLines settings (text_of bytes)
+Reads settings bytes (Err NoMemory) = Unit {0}
+Reads settings bytes (Err _) = ⊥

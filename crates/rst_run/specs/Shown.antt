@@ -15,10 +15,10 @@ use Rattle.rst_transform.specs.Shown.{is_shown_in}
 use Rattle.rst_tree.specs.LevelNames.{level_name, level_number}
 use Rattle.rst_tree.specs.Message.{message_of}
 use Rattle.rst_tree.specs.Print.{print_of}
+use Rattle.rst_tree.specs.Sources.{with_source}
 use Rattle.rst_tree.specs.declared.node.Node.{Node}
 use Rattle.rst_tree.specs.declared.note.Level.{Level}
 use Rattle.rst_tree.specs.declared.note.Note.{Note}
-use Rattle.rst_run.specs.Source.{with_source}
 use Rattle.rst_run.specs.declared.end.End.{End}
 use Rattle.rst_run.specs.declared.end.End.TheVariants.{TooLong, NotUtf8, TooDeep, NoMemory}
 
@@ -56,10 +56,10 @@ told settings source notes = flat_map (message_of source) (filter (is_told setti
 abbrev pub status_by : Settings → ℕ → ℕ
 status_by settings highest = if is_reached settings.exit highest then 10 + highest else 0
 
--- standard output: the document, or nothing where a message halts the run
-abbrev pub shown_by : Node → Option Level → List ℕ
-shown_by document None = print_of document
-shown_by document (Some level) = []
+-- standard output: the document with its source, or nothing where a message halts the run
+abbrev pub shown_by : List ℕ → Node → Option Level → List ℕ
+shown_by source document None = print_of (with_source source document)
+shown_by source document (Some level) = []
 
 -- the exit status: by the level of the messages, or 1 where one halts the run
 abbrev pub ended_by : Settings → List Note → Option Level → ℕ
@@ -69,7 +69,7 @@ ended_by settings notes (Some level) = 1
 -- what is shown of a document and its messages, or of its messages alone where one halts the run
 abbrev pub parts_of : Settings → List ℕ → Node → List Note → Parts
 parts_of settings source document notes =
-    record { out = shown_by document (halting settings notes); err = told settings source notes; status = ended_by settings notes (halting settings notes) }
+    record { out = shown_by source document (halting settings notes); err = told settings source notes; status = ended_by settings notes (halting settings notes) }
 
 -- a document and its messages as they are shown: no message in the document is below the report level, no attribute serves the
 -- transforms alone, and no message but the last one halts the run
@@ -85,10 +85,10 @@ abbrev pub HasShortLines : Settings → Option (List ℕ) → Type 0
 HasShortLines settings None = ⊥
 HasShortLines settings (Some text) = IsShort settings (lines_of settings.tab text)
 
--- The answer to some bytes: what is shown of the document that they were read as, with its source, and of its messages; or the
+-- The answer to some bytes: what is shown of the document that they were read as, and of its messages; or the
 -- refusal of what is too long, no UTF-8 or nested too deeply.
 abbrev pub Answers : Settings → List ℕ → List ℕ → Result Parts End → Type 0
-Answers settings source bytes (Ok parts) = (length bytes ≤ 16777216) × IsSome (text_of bytes) × (document : Node) × (notes : List Note) × IsFinished settings document notes × (parts ≡ parts_of settings source (with_source source document) notes)
+Answers settings source bytes (Ok parts) = (length bytes ≤ 16777216) × IsSome (text_of bytes) × (document : Node) × (notes : List Note) × IsFinished settings document notes × (parts ≡ parts_of settings source document notes)
 Answers settings source bytes (Err TooLong) = 16777216 < length bytes
 Answers settings source bytes (Err (NotUtf8 at)) = (length bytes ≤ 16777216) × (text_of bytes ≡ None) × (at ≡ utf8_valid_len bytes)
 Answers settings source bytes (Err (TooDeep line)) = (length bytes ≤ 16777216) × HasShortLines settings (text_of bytes)

@@ -4,7 +4,6 @@ ghost use Rattle.rst_tree.specs.Faults.{Gives};
 ghost use Rattle.rst_run.specs.Reading as spec;
 
 use crate::end::End;
-use crate::source::with_source;
 use itoa::Buffer;
 use rst_block::{BlockFault, Parsed, parse};
 use rst_elements::message;
@@ -19,10 +18,9 @@ use std::alloc::{AllocError, Global};
 pub fn document_of(
     alloc: Global,
     settings: &Settings,
-    source: &str,
     bytes: Vec<u8>,
 ) -> Result<Finished, End>
-    ensures { spec.Reads settings.now source.now bytes.items result }
+    ensures { spec.Reads settings.now bytes.items result }
 {
     let text = match text_in(bytes.as_slice()) {
         Ok(text) => text,
@@ -37,17 +35,11 @@ pub fn document_of(
     drop(bytes);
     let parsed = parsed_of(alloc, settings, &lines)?;
     drop(lines);
-    let finished = match finish(alloc, parsed.document, parsed.messages, settings) {
-        Ok(finished) => finished,
+    match finish(alloc, parsed.document, parsed.messages, settings) {
+        Ok(finished) => Ok(finished),
         // `NoTree` is not expected of a document that was parsed, but that is not proved.
-        Err(TransformFault::NoMemory | TransformFault::NoTree) => return Err(End::NoMemory),
-    };
-    Ok(Finished {
-        tree: with_source(alloc, finished.tree, finished.source_inside, source)?,
-        source_inside: finished.source_inside,
-        notes: finished.notes,
-        highest: finished.highest,
-    })
+        Err(TransformFault::NoMemory | TransformFault::NoTree) => Err(End::NoMemory),
+    }
 }
 
 /// What is read of the lines: a line that is too long is all that is told of a document.

@@ -6,7 +6,6 @@ mod end;
 mod input;
 mod reporting;
 mod running;
-mod source;
 mod telling;
 
 pub use end::End;

@@ -12,7 +12,7 @@ use crate::telling::{halting, status_of, told};
 use rst_settings::Settings;
 use rst_text::Counted;
 use rst_transform::Finished;
-use rst_tree::{PrintFault, print};
+use rst_tree::{PrintFault, print_with_source};
 use std::alloc::Global;
 use std::io::{Read, Write};
 use std::mem;
@@ -42,7 +42,7 @@ pub fn run<R: Read, O: Write, E: Write>(
         Ok(bytes) => bytes,
         Err(end) => return end,
     };
-    let document = document_of(alloc, settings, source, bytes);
+    let document = document_of(alloc, settings, bytes);
     match document {
         Ok(finished) => {
             let end = show(alloc, settings, source, &finished, out, err);
@@ -85,7 +85,7 @@ fn show<O: Write, E: Write>(
     if halting(notes, settings).is_some() {
         return End::Done(1);
     }
-    match print(&finished.tree, out) {
+    match print_with_source(&finished.tree, source, out) {
         Ok(()) => End::Done(status_of(finished.highest, settings)),
         Err(PrintFault::Write { done }) => End::WriteOut { done },
     }

@@ -1,12 +1,9 @@
-//! Lists of nodes, and elements with them.
-ghost use Rattle.std.specs.Prelude.{◌≡◌, ◌++◌, []};
+//! More nodes behind others, in lists and in elements.
+ghost use Rattle.std.specs.Prelude.{◌≡◌, ◌++◌};
 ghost use Rattle.rst_tree.specs.Faults.{Gives};
-ghost use Rattle.rst_tree.specs.Nodes.{forest_of};
-ghost use Rattle.rst_tree.specs.declared.node.Node.TheVariants.{Element};
 ghost use Rattle.rst_sections.specs.Sections.{filled};
 
-use rst_tree::{Attrs, Children, Node, Tag, TreeFault};
-use std::alloc::Global;
+use rst_tree::{Children, Node, TreeFault};
 
 /// Puts more nodes behind the last.
 ///
@@ -22,20 +19,6 @@ pub fn append(nodes: &mut Vec<Node>, mut more: Vec<Node>) -> Result<(), TreeFaul
         nodes.append(&mut more)?;
     }
     Ok(())
-}
-
-/// An element of this tag with these nodes in it, and without attributes.
-pub fn element_of(alloc: Global, tag: Tag, line: usize, nodes: Vec<Node>) -> Node
-    ensures { result ≡ Element tag [] (forest_of nodes.items) line }
-{
-    let attrs = Attrs::new(alloc);
-    let children = Children::of(nodes);
-    Node::Element {
-        tag,
-        attrs,
-        children,
-        line,
-    }
 }
 
 /// An element with more nodes in it; a text stays as it is.

@@ -7,9 +7,9 @@ ghost use Rattle.rst_sections.specs.Sections.{Item, titled, Member, section_at, 
 ghost use Rattle.rst_sections.specs.OpenSections.{goes_on, closed_with, StopsAt};
 
 use crate::heading::{Heading, Style};
-use crate::nodes::{element_of, filled};
-use rst_elements::{message, section};
-use rst_tree::{Level as Gravity, Node, Tag, TreeFault};
+use crate::nodes::filled;
+use rst_elements::{element_of, message, section};
+use rst_tree::{Attrs, Level as Gravity, Node, Tag, TreeFault};
 use std::alloc::Global;
 use std::mem;
 use std::vec::IntoIter;
@@ -29,7 +29,8 @@ pub fn document(alloc: Global, nodes: Vec<Node>, headings: Vec<Heading>) -> Resu
     ensures { Gives (λ root. root ≡ sections_of nodes.items headings.items) result }
 {
     if headings.is_empty() {
-        return Ok(element_of(alloc, Tag::Document, 0, nodes));
+        let attrs = Attrs::new(alloc);
+        return Ok(element_of(Tag::Document, attrs, nodes, 0));
     }
     let mut sections = Sections::none(alloc);
     let mut nodes = nodes.into_iter();

@@ -46,4 +46,6 @@ mod text_tests;
 #[cfg(test)]
 mod tree_change_tests;
 #[cfg(test)]
+mod tree_source_tests;
+#[cfg(test)]
 mod tree_tests;

@@ -1,6 +1,6 @@
--- What is told of nodes, one after another.
+-- Nodes that fit in so many levels, one after another.
 use Rattle.std.proofs.Common.{◌≡◌, ℕ, ◌+◌, ◌-◌, List, [], ◌∷◌, ◌++◌, Bool, true, false, nat_le, nat_lt, refl, ap, sym, ◌∙◌, arith}
-use Rattle.std.specs.Prelude.{◌&&◌, ◌||◌}
+use Rattle.std.specs.Prelude.{◌&&◌}
 use Rattle.rst_tree.proofs.EachNode.{are_within-cons}
 use Rattle.rst_tree.specs.declared.attrs.Attr.{Attr}
 use Rattle.rst_tree.specs.declared.node.Node.{Node}
@@ -8,22 +8,12 @@ use Rattle.rst_tree.specs.declared.node.Node.TheVariants.{Element, Text}
 use Rattle.rst_tree.specs.declared.tag.Tag.{Tag}
 use Rattle.rst_tree.specs.Forest.{Forest, height}
 use Rattle.rst_tree.specs.Nodes.{forest_of}
-use Rattle.rst_tree.specs.Sources.{tells_source}
 use Rattle.rst_tree.specs.Tree.{in_order, is_sound, is_lines, is_tree_within}
-use Rattle.rst_transform.specs.declared.left.Left.{Left}
-use Rattle.rst_transform.specs.Left.{are_within, any_tells_source}
+use Rattle.rst_transform.specs.Shown.{are_within}
 
 and_assoc : (a b c : Bool) → ((a && b) && c) ≡ (a && (b && c))
 and_assoc true b c = refl
 and_assoc false b c = refl
-
-or_assoc : (a b c : Bool) → ((a || b) || c) ≡ (a || (b || c))
-or_assoc true b c = refl
-or_assoc false b c = refl
-
-or_false : (a : Bool) → (a || false) ≡ a
-or_false true = refl
-or_false false = refl
 
 moved : (p q o s : Bool) → ((p && q) && (o && s)) ≡ (p && (o && (q && s)))
 moved true true o s = refl
@@ -53,35 +43,18 @@ within_more levels (m ∷ ns) n =
     ∙ sym (and_assoc (is_tree_within m levels) (are_within levels (forest_of ns)) (is_tree_within n levels))
     ∙ ap (λ b. b && is_tree_within n levels) (sym (are_within-cons levels m ns))
 
-source_more : (ns : List Node) (n : Node) → any_tells_source (forest_of (ns ++ n ∷ [])) ≡ (any_tells_source (forest_of ns) || any_tells_source (forest_of (n ∷ [])))
-source_more [] n = refl
-source_more (Element t a c l ∷ ns) n =
-    ap (λ b. (tells_source t || any_tells_source c) || b) (source_more ns n)
-    ∙ sym (or_assoc (tells_source t || any_tells_source c) (any_tells_source (forest_of ns)) (any_tells_source (forest_of (n ∷ []))))
-source_more (Text t ∷ ns) n = source_more ns n
+-- no nodes fit
+pub within_none : (levels : ℕ) → are_within levels (forest_of []) ≡ true
+within_none levels = no_level levels true
 
--- what is told of some nodes
-pub record Told (levels : ℕ) (ns : List Node) (left : Left) : Type 0 where
-  pub tree : left.is_tree ≡ are_within levels (forest_of ns)
-  pub source : left.source_inside ≡ any_tells_source (forest_of ns)
+-- nodes with a text behind them
+pub within_text : (levels : ℕ) (ns : List Node) (t : List ℕ) (old new : Bool) → old ≡ are_within levels (forest_of ns) → new ≡ (old && (nat_lt 0 levels && is_lines t))
+    → new ≡ are_within levels (forest_of (ns ++ Text t ∷ []))
+within_text levels ns t old new before now =
+    now ∙ ap (λ b. b && (nat_lt 0 levels && is_lines t)) before ∙ ap (λ b. are_within levels (forest_of ns) && (b && is_lines t)) (sym (one_level levels)) ∙ sym (within_more levels ns (Text t))
 
-pub Told-none : (levels : ℕ) (left : Left) → left.is_tree ≡ true → left.source_inside ≡ false → Told levels [] left
-Told-none levels left tree source = record { tree = tree ∙ sym (no_level levels true); source = source }
-
-pub Told-text : (levels : ℕ) (ns : List Node) (t : List ℕ) (old new : Left) → Told levels ns old → new.is_tree ≡ (old.is_tree && (nat_lt 0 levels && is_lines t))
-    → new.source_inside ≡ old.source_inside → Told levels (ns ++ Text t ∷ []) new
-Told-text levels ns t old new told tree source =
-    record {
-      tree = tree ∙ ap (λ b. b && (nat_lt 0 levels && is_lines t)) told.tree ∙ ap (λ b. are_within levels (forest_of ns) && (b && is_lines t)) (sym (one_level levels)) ∙ sym (within_more levels ns (Text t));
-      source = source ∙ told.source ∙ sym (or_false (any_tells_source (forest_of ns))) ∙ sym (source_more ns (Text t));
-    }
-
-pub Told-element : (levels : ℕ) (ns : List Node) (t : Tag) (a : List Attr) (c : Forest) (l : ℕ) (old inside new : Left) → Told levels ns old
-    → inside.is_tree ≡ are_within (levels - 1) c → inside.source_inside ≡ any_tells_source c
-    → new.is_tree ≡ (old.is_tree && (nat_lt 0 levels && (in_order a && inside.is_tree))) → new.source_inside ≡ (old.source_inside || (tells_source t || inside.source_inside))
-    → Told levels (ns ++ Element t a c l ∷ []) new
-Told-element levels ns t a c l old inside new told in_tree in_source tree source =
-    record {
-      tree = tree ∙ (rw (told.tree, in_tree) (ap (λ b. are_within levels (forest_of ns) && b) (sym (element_within levels t a c l)))) ∙ sym (within_more levels ns (Element t a c l));
-      source = source ∙ (rw (told.source, in_source) (ap (λ b. any_tells_source (forest_of ns) || b) (sym (or_false (tells_source t || any_tells_source c))))) ∙ sym (source_more ns (Element t a c l));
-    }
+-- nodes with an element behind them
+pub within_element : (levels : ℕ) (ns : List Node) (t : Tag) (a : List Attr) (c : Forest) (l : ℕ) (old inside new : Bool) → old ≡ are_within levels (forest_of ns)
+    → inside ≡ are_within (levels - 1) c → new ≡ (old && (nat_lt 0 levels && (in_order a && inside))) → new ≡ are_within levels (forest_of (ns ++ Element t a c l ∷ []))
+within_element levels ns t a c l old inside new before within now =
+    now ∙ (rw (before, within) (ap (λ b. are_within levels (forest_of ns) && b) (sym (element_within levels t a c l)))) ∙ sym (within_more levels ns (Element t a c l))

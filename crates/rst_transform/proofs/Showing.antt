@@ -19,10 +19,8 @@ use Rattle.rst_tree.specs.Attributes.{value_of, said_number, without_hidden}
 use Rattle.rst_tree.specs.KeyNames.{is_hidden, is_same}
 use Rattle.rst_tree.specs.Nodes.{forest_of, nodes_of, node_height}
 use Rattle.rst_tree.specs.Forest.{Forest, height}
-use Rattle.rst_transform.proofs.Leaving.{Told, Told-none}
-use Rattle.rst_transform.specs.declared.left.Left.{Left}
-use Rattle.rst_transform.specs.Left.{are_within, any_tells_source}
-use Rattle.rst_transform.specs.Shown.{is_low, is_below, may_stay, has_hidden, are_shown}
+use Rattle.rst_transform.proofs.Leaving.{within_none}
+use Rattle.rst_transform.specs.Shown.{is_low, is_below, may_stay, has_hidden, are_shown, are_within}
 
 and_more : (p q c x y : Bool) → (x ≡ true → y ≡ true) → (p && (q && (c && x))) ≡ true → (p && (q && (c && y))) ≡ true
 and_more true true true x y f h = f h
@@ -152,44 +150,37 @@ pub Staying-text : (report : Threshold) (nodes : Forest) (ns kept : List Node) (
     → Staying report nodes (kept ++ Text t ∷ [])
 Staying-text report nodes ns kept i n t s is at fits = Staying-more report nodes kept (Text t) s refl (let h = met_low nodes ns i n is at fits in let k = one_high n in omega arith)
 
--- nodes filtered in place, before place i, and what is told of those
-pub record Sifting (report : Threshold) (levels : ℕ) (old now : Forest) (left : Left) (i : ℕ) : Type 0 where
+-- nodes filtered in place, before place i, and whether those fit
+pub record Sifting (report : Threshold) (levels : ℕ) (old now : Forest) (fit : Bool) (i : ℕ) : Type 0 where
   pub same : Same old now i
   pub front : are_shown report (forest_of (take i (nodes_of now))) ≡ true
-  pub told : Told levels (take i (nodes_of now)) left
+  pub told : fit ≡ are_within levels (forest_of (take i (nodes_of now)))
 
-pub Sifting-init : (report : Threshold) (levels : ℕ) (f : Forest) (left : Left) → left.is_tree ≡ true → left.source_inside ≡ false → Sifting report levels f f left 0
-Sifting-init report levels f left tree source = record { same = Same-init f; front = refl; told = Told-none levels left tree source }
+pub Sifting-init : (report : Threshold) (levels : ℕ) (f : Forest) → Sifting report levels f f true 0
+Sifting-init report levels f = record { same = Same-init f; front = refl; told = sym (within_none levels) }
 
-pub Sifting-more : (report : Threshold) (levels : ℕ) (old now : Forest) (left left' : Left) (i : ℕ) (new : Node) → Sifting report levels old now left i → i < length (nodes_of now)
-    → are_shown report (forest_of (new ∷ [])) ≡ true → Told levels (take i (nodes_of now) ++ new ∷ []) left'
-    → Sifting report levels old (forest_of (set (nodes_of now) i new)) left' (i + 1)
-Sifting-more report levels old now left left' i new s fits last told =
+pub Sifting-more : (report : Threshold) (levels : ℕ) (old now : Forest) (fit fit' : Bool) (i : ℕ) (new : Node) → Sifting report levels old now fit i → i < length (nodes_of now)
+    → are_shown report (forest_of (new ∷ [])) ≡ true → fit' ≡ are_within levels (forest_of (take i (nodes_of now) ++ new ∷ []))
+    → Sifting report levels old (forest_of (set (nodes_of now) i new)) fit' (i + 1)
+Sifting-more report levels old now fit fit' i new s fits last told =
     let ns = nodes_of now in
     let front : take (i + 1) (nodes_of (forest_of (set ns i new))) ≡ take i ns ++ new ∷ [] = ap (take (i + 1)) (nodes_of-forest_of (set ns i new)) ∙ take_more_set ns i new fits in
     record {
       same = Same-more old now i new s.same fits;
       front = ap (λ xs. are_shown report (forest_of xs)) front ∙ shown_more report (take i ns) new s.front last;
-      told = subst (λ xs. Told levels xs left') (sym front) told;
+      told = told ∙ ap (λ xs. are_within levels (forest_of xs)) (sym front);
     }
 
-pub Sifting-shown : (report : Threshold) (levels : ℕ) (old now : Forest) (left : Left) (i : ℕ) → Sifting report levels old now left i → length (nodes_of now) ≤ i → are_shown report now ≡ true
-Sifting-shown report levels old now left i s all = ap (are_shown report) (sym (forest_of-nodes_of now)) ∙ (rw (take_all i (nodes_of now) all) at s.front)
+pub Sifting-shown : (report : Threshold) (levels : ℕ) (old now : Forest) (fit : Bool) (i : ℕ) → Sifting report levels old now fit i → length (nodes_of now) ≤ i → are_shown report now ≡ true
+Sifting-shown report levels old now fit i s all = ap (are_shown report) (sym (forest_of-nodes_of now)) ∙ (rw (take_all i (nodes_of now) all) at s.front)
 
-whole : (now : Forest) (i : ℕ) → length (nodes_of now) ≤ i → forest_of (take i (nodes_of now)) ≡ now
-whole now i all = ap forest_of (take_all i (nodes_of now) all) ∙ forest_of-nodes_of now
-
-pub Sifting-tree : (report : Threshold) (levels : ℕ) (old now : Forest) (left : Left) (i : ℕ) → Sifting report levels old now left i → length (nodes_of now) ≤ i → left.is_tree ≡ are_within levels now
-Sifting-tree report levels old now left i s all = s.told.tree ∙ ap (are_within levels) (whole now i all)
-
-pub Sifting-source : (report : Threshold) (levels : ℕ) (old now : Forest) (left : Left) (i : ℕ) → Sifting report levels old now left i → length (nodes_of now) ≤ i
-    → left.source_inside ≡ any_tells_source now
-Sifting-source report levels old now left i s all = s.told.source ∙ ap any_tells_source (whole now i all)
+pub Sifting-tree : (report : Threshold) (levels : ℕ) (old now : Forest) (fit : Bool) (i : ℕ) → Sifting report levels old now fit i → length (nodes_of now) ≤ i → fit ≡ are_within levels now
+Sifting-tree report levels old now fit i s all = s.told ∙ ap (are_within levels) (ap forest_of (take_all i (nodes_of now) all) ∙ forest_of-nodes_of now)
 
 -- an element that is met isn't a message below the report level
-pub Sifting-stays : (report : Threshold) (levels : ℕ) (old now : Forest) (left : Left) (i : ℕ) (child : Node) (t : Tag) (a : List Attr) (c : Forest) (l : ℕ) → Sifting report levels old now left i
+pub Sifting-stays : (report : Threshold) (levels : ℕ) (old now : Forest) (fit : Bool) (i : ℕ) (child : Node) (t : Tag) (a : List Attr) (c : Forest) (l : ℕ) → Sifting report levels old now fit i
     → i < length (nodes_of now) → child ≡ get_or (nodes_of now) i child → child ≡ Element t a c l → list_all (may_stay report) (nodes_of old) ≡ true → false ≡ is_below report t a
-Sifting-stays report levels old now left i child t a c l s fits is made all =
+Sifting-stays report levels old now fit i child t a c l s fits is made all =
     let at : child ≡ get_or (nodes_of old) i child = is ∙ same_item i (nodes_of now) (nodes_of old) child s.same.rest in
     let k : may_stay report child ≡ true = all_at (may_stay report) (nodes_of old) i child all (omega (arith, s.same.same_len, fits)) at in
     reached_of (is_below report t a) (rw made at k)

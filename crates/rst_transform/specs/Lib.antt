@@ -3,7 +3,6 @@ pub mod Bibliography
 pub mod Docinfo
 pub mod Fields
 pub mod Gathered
-pub mod Left
 pub mod Links
 pub mod Lists
 pub mod Messages

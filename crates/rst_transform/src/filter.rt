@@ -1,23 +1,22 @@
 //! What of a document is shown.
-ghost use Rattle.std.specs.Prelude.{◌≡◌, ◌≤◌, true, not, IsTrue};
+ghost use Rattle.std.specs.Prelude.{◌≡◌, ◌≤◌, ◌&&◌, true, not, nat_lt, IsTrue};
 ghost use Rattle.std.specs.List.{list_all};
 ghost use Rattle.rst_tree.specs.Faults.{Gives};
 ghost use Rattle.rst_tree.specs.Forest.{height};
 ghost use Rattle.rst_tree.specs.Nodes.{nodes_of};
-ghost use Rattle.rst_tree.specs.Tree.{is_tree};
-ghost use Rattle.rst_transform.specs.Left.{are_within, any_tells_source, tells_source_inside};
-ghost use Rattle.rst_transform.specs.Shown.{is_gone, may_stay, are_shown, is_shown_in};
+ghost use Rattle.rst_tree.specs.Tree.{in_order, is_lines, is_tree};
+ghost use Rattle.rst_transform.specs.Shown.{are_within, is_gone, may_stay, are_shown, is_shown_in};
 
-use crate::left::Left;
 use crate::messages::{level_number, reaches};
 use rst_settings::Threshold;
-use rst_tree::{Children, Key, Node, Tag, Tree, TreeFault};
+use rst_tree::{Attrs, Children, Key, Node, Tag, Text, Tree, TreeFault};
 use std::alloc::Global;
 use std::mem;
 
 /// Takes the messages below the report level out of a document, lets each problematic whose message is gone become its text, and
 /// takes off the attributes that serve the transforms alone (Configuration, `report_level`). `shown` tells of the
-/// number of each message whether that stays. What is left is told with it, so that nobody needs to go through it once more.
+/// number of each message whether that stays. Whether what is left is a tree is told with it, so that nobody needs to go through it
+/// once more.
 ///
 /// Before, where WARNINGs aren't shown:
 ///
@@ -37,10 +36,9 @@ pub(crate) fn filter(
     root: Node,
     report: Threshold,
     shown: &[bool],
-) -> Result<(Node, Left), TreeFault>
+) -> Result<(Node, bool), TreeFault>
     ensures shown { Gives (λ done. is_shown_in report done.0 ≡ true) result }
-    ensures tree { Gives (λ done. done.1.is_tree ≡ is_tree done.0) result }
-    ensures source { Gives (λ done. done.1.source_inside ≡ tells_source_inside done.0) result }
+    ensures tree { Gives (λ done. done.1 ≡ is_tree done.0) result }
 {
     match root {
         Node::Element {
@@ -52,24 +50,18 @@ pub(crate) fn filter(
             attrs.remove_hidden();
             keep_staying(alloc, &mut children, report, shown)?;
             let inside = filter_in(alloc, &mut children, Tree::MOST_LEVELS - 1, report, shown)?;
-            let left = Left {
-                is_tree: inside.is_tree && attrs.are_in_order(),
-                source_inside: inside.source_inside,
-            };
+            let is_tree = inside && attrs.are_in_order();
             let root = Node::Element {
                 tag,
                 attrs,
                 children,
                 line,
             };
-            Ok((root, left))
+            Ok((root, is_tree))
         }
         Node::Text(text) => {
-            let left = Left {
-                is_tree: text.is_lines(),
-                source_inside: false,
-            };
-            Ok((Node::Text(text), left))
+            let is_tree = text.is_lines();
+            Ok((Node::Text(text), is_tree))
         }
     }
 }
@@ -156,38 +148,49 @@ fn staying(
     Ok(Children::of(kept))
 }
 
-/// Takes what isn't shown out of nodes that stay, at so many levels, and tells what is left.
+/// Whether nodes fit with a text behind them, where there are so many levels and `fit` says whether they fit without it.
+fn fits_text(fit: bool, text: &Text, levels: usize) -> bool
+    ensures { result ≡ (fit && (nat_lt 0 levels && is_lines text.now)) }
+{
+    fit && levels > 0 && text.is_lines()
+}
+
+/// The same with an element behind them, where `inside` says whether the nodes in it fit at a level less.
+fn fits_element(fit: bool, attrs: &Attrs, inside: bool, levels: usize) -> bool
+    ensures { result ≡ (fit && (nat_lt 0 levels && (in_order attrs.now && inside))) }
+{
+    fit && levels > 0 && inside && attrs.are_in_order()
+}
+
+/// Takes what isn't shown out of nodes that stay, and tells whether what is left fits in a tree at so many levels: all attributes are
+/// in order, no text holds a line end but LF, and the levels suffice.
 fn filter_in(
     alloc: Global,
     nodes: &mut Children,
     levels: usize,
     report: Threshold,
     shown: &[bool],
-) -> Result<Left, TreeFault>
+) -> Result<bool, TreeFault>
     requires { list_all (may_stay report) (nodes_of nodes.old) ≡ true }
     ensures shown { Gives (λ _. are_shown report nodes.new ≡ true) result }
-    ensures tree { Gives (λ left. left.is_tree ≡ are_within levels nodes.new) result }
-    ensures source { Gives (λ left. left.source_inside ≡ any_tells_source nodes.new) result }
+    ensures tree { Gives (λ fit. fit ≡ are_within levels nodes.new) result }
 {
-    let mut left = Left::nothing();
+    let mut fit = true;
     for i in 0..nodes.len() {
         match nodes.get_mut(i) {
             Node::Text(text) => {
-                left.add_text(text, levels);
+                fit = fits_text(fit, text, levels);
                 continue;
             }
             Node::Element {
-                tag,
-                attrs,
-                children,
-                ..
+                attrs, children, ..
             } => {
                 attrs.remove_hidden();
                 keep_staying(alloc, children, report, shown)?;
                 let inside = filter_in(alloc, children, levels.saturating_sub(1), report, shown)?;
-                left.add_element(*tag, attrs, inside, levels);
+                fit = fits_element(fit, attrs, inside, levels);
             }
         }
     }
-    Ok(left)
+    Ok(fit)
 }

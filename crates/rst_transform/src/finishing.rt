@@ -1,6 +1,5 @@
 //! All transforms, in order.
 ghost use Rattle.std.specs.Prelude.{◌≡◌, ◌≤◌, IfOk, true};
-ghost use Rattle.rst_transform.specs.Left.{tells_source_inside};
 ghost use Rattle.rst_transform.specs.Messages.{EndsAtHalt, highest_level};
 ghost use Rattle.rst_transform.specs.Shown.{is_shown_in};
 
@@ -27,10 +26,8 @@ use std::alloc::Global;
 /// A document as it is printed, and the messages of the run.
 #[derive(Debug, Drop)]
 pub struct Finished {
-    /// The document, without what isn't shown, and without `source`.
+    /// The document, without what isn't shown, and without `source`, which is told where it is printed.
     pub tree: Tree,
-    /// Whether an element that stands in the document tells the source, as a message does.
-    pub source_inside: bool,
     /// The messages in order, up to the first that halts the run.
     pub notes: Vec<Note>,
     /// The number of the highest level among these, 0 where there are none.
@@ -48,7 +45,6 @@ pub fn finish(
     settings: &Settings,
 ) -> Result<Finished, TransformFault>
     ensures shown { IfOk result (λ done. is_shown_in settings.now.report done.tree ≡ true) }
-    ensures source { IfOk result (λ done. done.source_inside ≡ tells_source_inside done.tree) }
     ensures halt { IfOk result (λ done. EndsAtHalt settings.now.halt done.notes.items) }
     ensures highest { IfOk result (λ done. done.highest ≡ highest_level done.notes.items) }
     ensures few { IfOk result (λ done. done.highest ≤ 4) }
@@ -62,14 +58,13 @@ pub fn finish(
     let work = transformed(alloc, work, kinds, settings)?;
     let Work { root, reports, .. } = last_section(alloc, work, settings.report)?;
     list.add_reports(reports)?;
-    let (root, left) = filter(alloc, root, settings.report, list.shown())?;
-    if !left.is_tree {
+    let (root, is_tree) = filter(alloc, root, settings.report, list.shown())?;
+    if !is_tree {
         return Err(TransformFault::NoTree);
     }
     let (notes, highest) = list.end();
     Ok(Finished {
         tree: Tree::sound(root),
-        source_inside: left.source_inside,
         notes,
         highest,
     })

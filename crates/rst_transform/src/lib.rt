@@ -15,7 +15,6 @@ pub mod footnotes;
 mod holders;
 pub mod indirect;
 mod last_section;
-mod left;
 mod links;
 mod lists;
 mod messages;

@@ -12,12 +12,6 @@ use Rattle.rst_tree.specs.Tree.{in_order}
 use Rattle.std.specs.Prelude.{◌&&◌}
 use Rattle.rst_tree.specs.Attributes.{attr, places_below, with_attr, is_at, value_of, place_named, without_key, without_hidden}
 
-pub places_below-le : (k : Key) (xs : List Attr) → places_below k xs ≤ length xs
-places_below-le k [] = omega arith
-places_below-le k (a ∷ xs) =
-    elim (nat_lt (key_code a.key) (key_code k)) as (λ v. (if v then places_below k xs + 1 else 0) ≤ length (a ∷ xs))
-    [ true ↦ omega (arith, places_below-le k xs) | false ↦ omega arith ]
-
 -- a value in place of the one before
 pub set_there : (k : Key) (v : Value) (xs : List Attr) → is_at k (drop (places_below k xs) xs) ≡ true → set xs (places_below k xs) (attr k v) ≡ with_attr k v xs
 set_there k v [] h = cc

@@ -1,6 +1,7 @@
 pub mod Changes
 mod Plain
 pub mod PrintedParts
+mod SourceParts
 pub mod Attributes
 pub mod EachNode
 pub mod FirstLine

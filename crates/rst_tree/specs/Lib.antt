@@ -1,12 +1,12 @@
 pub mod Phrases
 pub mod Texts
 pub mod TagNames
-pub mod Sources
 pub mod KeyNames
 pub mod LevelNames
 pub mod Attributes
 pub mod Entries
 pub mod Forest
+pub mod Sources
 pub mod Nodes
 pub mod Falls
 pub mod Lending

@@ -1,5 +1,5 @@
 //! The attributes of elements.
-ghost use Rattle.std.specs.Prelude.{◌≡◌, ◌∷◌, drop, vec_len, [], MatchOption, None, Some, is_some};
+ghost use Rattle.std.specs.Prelude.{◌≡◌, ◌≤◌, ◌∷◌, drop, length, vec_len, [], MatchOption, None, Some, is_some};
 ghost use Rattle.rst_tree.specs.Faults.{Gives, Becomes};
 ghost use Rattle.rst_tree.specs.Attributes.{attr, value_of, said_text, said_number, with_attr, without_key, without_hidden, place_named, places_below, is_at};
 ghost use Rattle.rst_tree.specs.Entries.{said};
@@ -203,8 +203,9 @@ fn make_room(list: &mut Vec<Entry>) -> Result<(), TreeFault>
 }
 
 /// How many attributes stand before the first whose name isn't before `key`.
-fn place_of(attrs: &[Entry], key: Key) -> usize
-    ensures { result ≡ places_below key attrs.now }
+pub(crate) fn place_of(attrs: &[Entry], key: Key) -> usize
+    ensures place { result ≡ places_below key attrs.now }
+    ensures within { result ≤ length attrs.now }
 {
     for (i, attr) in attrs.iter().enumerate() {
         if attr.key().code() >= key.code() {
@@ -215,7 +216,7 @@ fn place_of(attrs: &[Entry], key: Key) -> usize
 }
 
 /// Whether the attribute at a place has a name.
-fn is_at(attrs: &[Entry], place: usize, key: Key) -> bool
+pub(crate) fn is_at(attrs: &[Entry], place: usize, key: Key) -> bool
     ensures { result ≡ is_at key (drop place attrs.now) }
 {
     place < attrs.len() && attrs[place].key().code() == key.code()

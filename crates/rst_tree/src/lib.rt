@@ -28,7 +28,7 @@ pub use key::Key;
 pub use node::{Children, Node};
 pub use note::{Level, Note};
 pub use phrase::Phrase;
-pub use printing::{message_line, print};
+pub use printing::{message_line, print, print_with_source};
 pub use reading::{Reader, read_elements};
 pub use rewriting::{Rewrite, Rewriter, rewrite_in};
 pub use tag::Tag;

@@ -2,13 +2,19 @@
 ghost use Rattle.std.specs.Prelude.{◌≡◌, ◌≢◌, ◌+◌, ◌*◌, ◌-◌, ◌^◌, ◌<◌, ◌∷◌, ◌++◌, [], length, take, drop, map, replicate};
 ghost use Rattle.rst_tree.specs.Sends.{Sends};
 ghost use Rattle.rst_tree.specs.Print.{is_escaped, escaped_byte, escaped, spaced, value_text, shown_attr, start_tag, line_len, printed_line, printed, text_lines, printed_node};
+ghost use Rattle.rst_tree.specs.Attributes.{attr, with_attr};
 ghost use Rattle.rst_tree.specs.Entries.{said};
 ghost use Rattle.rst_tree.specs.Nodes.{node_height};
+ghost use Rattle.rst_tree.specs.Sources.{given_attrs, with_given};
+ghost use Rattle.rst_tree.specs.declared.attrs.Value.TheVariants.{Text as Words};
+ghost use Rattle.rst_tree.specs.declared.key.Key.TheVariants.{Source};
 ghost use Rattle.rst_tree.specs.Message.{message_head, block_text, message_of};
 ghost use Rattle.std.specs.List.{flat_map, list_any};
 ghost use Rattle.std.specs.Fmt.{decimal};
 
+use crate::attrs::{is_at, place_of};
 use crate::entry::{Entry, Said};
+use crate::key::Key;
 use crate::node::Node;
 use crate::note::Note;
 use crate::page::{Page, put, put_byte};
@@ -46,7 +52,9 @@ fn is_escaped(byte: u8) -> bool
     byte == b'\\' || byte == b' '
 }
 
-/// Whether a member of a list has a byte that is escaped. None is looked at by itself, so that many are at once.
+/// Whether a member of a list has a byte that is escaped. None is looked at by itself, so that many are at once, which the compiler
+/// sees where the loop is a function of its own.
+#[inline(never)]
 fn has_escaped(text: &[u8]) -> bool
     ensures { result ≡ list_any is_escaped text.now }
 {
@@ -113,19 +121,66 @@ fn put_attr<W: Write, const N: usize>(out: &mut Counted<W>, page: &mut Page<N>, 
     put_byte(out, page, b'"');
 }
 
-/// Writes an element's tag with its attributes, and the line's end.
+/// Writes an element's tag with its attributes, the source among them where one is given and such elements tell it, and the line's
+/// end.
 fn put_tag_line<W: Write, const N: usize>(
     out: &mut Counted<W>,
     page: &mut Page<N>,
     tag: Tag,
     attrs: &[Entry],
+    source: Option<&str>,
 )
-    ensures { Sends W.contents (start_tag tag attrs.now ++ 10 ∷ []) out.old page.old out.new page.new }
+    ensures { Sends W.contents (start_tag tag (given_attrs source.entry tag attrs.now) ++ 10 ∷ []) out.old page.old out.new page.new }
 {
     put_byte(out, page, b'<');
     put(out, page, tag.name().as_bytes());
-    put_attrs(out, page, attrs);
+    put_given_attrs(out, page, tag, attrs, source);
     put(out, page, b">\n");
+}
+
+/// Writes the attributes of an element, the source among them where one is given and such elements tell it (Document Tree,
+/// `source`).
+fn put_given_attrs<W: Write, const N: usize>(
+    out: &mut Counted<W>,
+    page: &mut Page<N>,
+    tag: Tag,
+    attrs: &[Entry],
+    source: Option<&str>,
+)
+    ensures { Sends W.contents (flat_map shown_attr (given_attrs source.entry tag attrs.now)) out.old page.old out.new page.new }
+{
+    match source {
+        Some(source) if tag.tells_source() => put_attrs_with_source(out, page, attrs, source),
+        _ => put_attrs(out, page, attrs),
+    }
+}
+
+/// Writes the attributes with the source: in place of one that they tell, or between the names before and behind it.
+fn put_attrs_with_source<W: Write, const N: usize>(
+    out: &mut Counted<W>,
+    page: &mut Page<N>,
+    attrs: &[Entry],
+    source: &str,
+)
+    ensures { Sends W.contents (flat_map shown_attr (with_attr Source (Words source.now) attrs.now)) out.old page.old out.new page.new }
+{
+    let place = place_of(attrs, Key::Source);
+    put_attrs(out, page, &attrs[..place]);
+    put_source(out, page, source);
+    if is_at(attrs, place, Key::Source) {
+        put_attrs(out, page, &attrs[place + 1..]);
+    } else {
+        put_attrs(out, page, &attrs[place..]);
+    }
+}
+
+/// Writes the attribute that tells the source.
+fn put_source<W: Write, const N: usize>(out: &mut Counted<W>, page: &mut Page<N>, source: &str)
+    ensures { Sends W.contents (shown_attr (attr Source (Words source.now))) out.old page.old out.new page.new }
+{
+    put(out, page, Key::Source.opening().as_bytes());
+    put(out, page, source.as_bytes());
+    put_byte(out, page, b'"');
 }
 
 /// Writes the attributes.
@@ -207,15 +262,17 @@ fn put_text<W: Write, const N: usize>(
     }
 }
 
-/// Writes a node at a level: its first line, and the nodes in it one level deeper.
+/// Writes a node at a level: its first line, and the nodes in it one level deeper. Where a source is given, the elements that tell
+/// it do.
 pub fn put_node<W: Write, const N: usize>(
     out: &mut Counted<W>,
     page: &mut Page<N>,
     level: usize,
     node: &Node,
+    source: Option<&str>,
 )
     requires levels { level + node_height node.now < 2 ^ 64 }
-    ensures { Sends W.contents (printed_node level node.now) out.old page.old out.new page.new }
+    ensures { Sends W.contents (printed_node level (with_given source.entry node.now)) out.old page.old out.new page.new }
 {
     match node {
         Node::Element {
@@ -225,9 +282,9 @@ pub fn put_node<W: Write, const N: usize>(
             line: _,
         } => {
             put_indent(out, page, level);
-            put_tag_line(out, page, *tag, attrs.as_slice());
+            put_tag_line(out, page, *tag, attrs.as_slice(), source);
             for child in children.as_slice() {
-                put_node(out, page, level + 1, child);
+                put_node(out, page, level + 1, child, source);
             }
         }
         Node::Text(text) => put_text(out, page, level, text.as_bytes()),

@@ -3,6 +3,7 @@ ghost use Rattle.std.specs.Prelude.{◌≡◌, false};
 ghost use Rattle.rst_text.specs.Counted.{between, has_failed};
 ghost use Rattle.rst_tree.specs.Print.{print_of};
 ghost use Rattle.rst_tree.specs.Message.{message_of};
+ghost use Rattle.rst_tree.specs.Sources.{with_source, with_given};
 ghost use Rattle.rst_tree.specs.Faults.{Prints};
 
 use crate::fault::PrintFault;
@@ -26,8 +27,33 @@ pub fn print<W: Write>(tree: &Tree, out: &mut Counted<W>) -> Result<(), PrintFau
     requires { has_failed out.old ≡ false }
     ensures { Prints (between W.contents out.old out.new) (print_of tree.now) result }
 {
+    print_given(tree, None, out)
+}
+
+/// Prints a tree to a writer that hasn't failed, with the source of its document told at the document and at its messages
+/// (Document Tree, `source`). The tree itself needn't tell it, so that nobody goes through it for that.
+pub fn print_with_source<W: Write>(
+    tree: &Tree,
+    source: &str,
+    out: &mut Counted<W>,
+) -> Result<(), PrintFault>
+    requires { has_failed out.old ≡ false }
+    ensures { Prints (between W.contents out.old out.new) (print_of (with_source source.now tree.now)) result }
+{
+    print_given(tree, Some(source), out)
+}
+
+/// Prints a tree, with the source told where one is given.
+fn print_given<W: Write>(
+    tree: &Tree,
+    source: Option<&str>,
+    out: &mut Counted<W>,
+) -> Result<(), PrintFault>
+    requires { has_failed out.old ≡ false }
+    ensures { Prints (between W.contents out.old out.new) (print_of (with_given source.entry tree.now)) result }
+{
     let mut page: Page<TREE_PAGE> = Page::new();
-    put_node(out, &mut page, 0, tree.root());
+    put_node(out, &mut page, 0, tree.root(), source);
     turn(out, &mut page);
     page.end(out.failed())
 }
