@@ -28,7 +28,7 @@ parts_there k v (a ∷ xs) h =
     elim (nat_lt (key_code a.key) (key_code k)) as (λ b. is_at k (drop (if b then places_below k xs + 1 else 0) (a ∷ xs)) ≡ true
     → take (if b then places_below k xs + 1 else 0) (a ∷ xs) ++ (attr k v ∷ drop ((if b then places_below k xs + 1 else 0) + 1) (a ∷ xs))
     ≡ (if b then a ∷ with_attr k v xs else (if is_same a.key k then attr k v ∷ xs else attr k v ∷ a ∷ xs))) [
-      | true ↦ λ h. rw add-one (ap (λ ys. a ∷ ys) (rw add-one at parts_there k v xs (rw add-one at h)))
+      | true ↦ λ h. rw (add-one, add-one) (ap (λ ys. a ∷ ys) (rw add-one at (parts_there k v xs (rw add-one at h))))
       | false ↦ λ h. rw h refl
     ] h
 
