@@ -15,11 +15,7 @@ use rst_tree::{Attrs, Children, Level, Node, Tag, TreeFault};
 use std::alloc::{AllocError, Global};
 
 /// The finished document of the bytes, or why they are refused.
-pub fn document_of(
-    alloc: Global,
-    settings: &Settings,
-    bytes: Vec<u8>,
-) -> Result<Finished, End>
+pub fn document_of(alloc: Global, settings: &Settings, bytes: Vec<u8>) -> Result<Finished, End>
     ensures { spec.Reads settings.now bytes.items result }
 {
     let text = match text_in(bytes.as_slice()) {

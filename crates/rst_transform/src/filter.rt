@@ -183,7 +183,9 @@ fn filter_in(
                 continue;
             }
             Node::Element {
-                attrs, children, ..
+                attrs,
+                children,
+                ..
             } => {
                 attrs.remove_hidden();
                 keep_staying(alloc, children, report, shown)?;

@@ -4,7 +4,9 @@ ghost use Rattle.rst_tree.specs.Faults.{Gives};
 ghost use Rattle.rst_transform.specs.Reports.{with_references, report_node, without_ids, next_report, KeepsRest};
 
 use rst_names::{Ids, Names};
-use rst_tree::{Attrs, Children, Entry, Key, Level, Node, Note, Tag, Text, Texts, TreeFault, Value};
+use rst_tree::{
+    Attrs, Children, Entry, Key, Level, Node, Note, Tag, Text, Texts, TreeFault, Value,
+};
 use std::alloc::Global;
 use std::mem;
 
