@@ -1,12 +1,14 @@
 #!/usr/bin/env python3
 """Measures the program, and Docutils and pandoc where they are installed, in one run.
 
-    bench/run.py [--n N] [--only WORD] [--limit SECONDS] [--no-others] [PROGRAM]
+    bench/run.py [--n N] [--only WORD] [--limit SECONDS] [--rounds R] [--no-others] [PROGRAM]
 
 It makes its inputs: documents of ordinary prose (1 MB and 10 MB), and families of documents at n, 2n and 4n. For each input and
 each program it prints CPU seconds (user and system, the least of three runs for PROGRAM, one run for the others), megabytes a
 second, and peak memory; for a family also the exponent of its growth from n to 4n, without what an empty document costs: 1
-is linear, 2 quadratic. A run past the limit of CPU seconds is stopped, and larger members of its family aren't tried.
+is linear, 2 quadratic. A run past the limit of CPU seconds is stopped, and larger members of its family aren't tried. On a
+machine whose speed varies from minute to minute more rounds help: each measures everything once more, and what it prints is
+the least of all rounds so far.
 PROGRAM is by itself the one that was built here, or else the one in dist/.
 """
 
@@ -113,16 +115,23 @@ class Bench:
 
     def __init__(self, folder, programs, limit):
         self.path, self.programs, self.limit = os.path.join(folder, "input.rst"), programs, limit
+        self.least = {}
         self.write("")
-        self.start = {name: self.measured(name).seconds for name in programs}
+        self.start = {name: self.measured("", name).seconds for name in programs}
 
     def write(self, text):
         with open(self.path, "w", encoding="utf-8") as file:
             file.write(text)
         return os.path.getsize(self.path)
 
-    def measured(self, name):
-        return best(self.programs[name], self.path, self.limit, 3 if name == "rst2pseudoxml" else 1)
+    def measured(self, title, name):
+        """What a program needs for the input that was written last, with this title: the least of all rounds so far."""
+        done = best(self.programs[name], self.path, self.limit, 3 if name == "rst2pseudoxml" else 1)
+        least = self.least.setdefault((title, name), done)
+        if not done.failed():
+            done = Run(min(done.seconds, least.seconds), max(done.memory, least.memory), done.status)
+            self.least[title, name] = done
+        return done
 
     def exponent(self, name, runs):
         """The exponent of the growth from the first to the last of runs that each have twice the input of the one before."""
@@ -135,7 +144,7 @@ class Bench:
         size = self.write(text)
         print(title)
         for name in self.programs:
-            show(name, size, self.measured(name))
+            show(name, size, self.measured(title, name))
 
     def family(self, title, made, n):
         """Shows what the programs need for the members of a family."""
@@ -146,10 +155,19 @@ class Bench:
             for name, done in runs.items():
                 if done and done[-1].failed():
                     continue
-                done.append(self.measured(name))
+                done.append(self.measured(f"{title}, {count}", name))
                 whole = [one for one in done if not one.failed()]
                 grown = f"  exponent {self.exponent(name, whole):.2f}" if count == 4 * n and len(whole) == 3 else ""
                 show(f"{name}, {count}", size, done[-1], grown)
+
+    def all(self, word, n):
+        """Shows what the programs need for each input whose title holds a word."""
+        for title, size in (("Hello, world", 0), ("prose, 1 MB", 1_000_000), ("prose, 10 MB", 10_000_000)):
+            if word in title:
+                self.document(title, prose(size) if size else "Hello, world\n")
+        for title, made in FAMILIES.items():
+            if word in title:
+                self.family(title, made, n)
 
 
 def show(name, size, measured, note=""):
@@ -168,6 +186,7 @@ def main():
     parser.add_argument("--n", type=int, default=20000, help="the least size of a family")
     parser.add_argument("--only", default="", help="the inputs whose names hold this word")
     parser.add_argument("--limit", type=int, default=60, help="the most CPU seconds of a run")
+    parser.add_argument("--rounds", type=int, default=1, help="how often everything is measured; the least counts")
     parser.add_argument("--no-others", action="store_true", help="no other programs")
     given = parser.parse_args()
     program = given.program or str(next((path for path in PROGRAMS if path.exists()), PROGRAMS[-1]))
@@ -176,12 +195,10 @@ def main():
     print(f"{program}; beside it: {', '.join(list(programs)[1:]) or 'none'}")
     with tempfile.TemporaryDirectory() as folder:
         bench = Bench(folder, programs, given.limit)
-        for title, size in (("Hello, world", 0), ("prose, 1 MB", 1_000_000), ("prose, 10 MB", 10_000_000)):
-            if given.only in title:
-                bench.document(title, prose(size) if size else "Hello, world\n")
-        for title, made in FAMILIES.items():
-            if given.only in title:
-                bench.family(title, made, given.n)
+        for number in range(1, given.rounds + 1):
+            if given.rounds > 1:
+                print(f"round {number} of {given.rounds}")
+            bench.all(given.only, given.n)
     return 0
 
 
