@@ -1,4 +1,5 @@
 pub mod Gathered
+pub mod Ids
 pub mod Names
 pub mod Notices
 pub mod Rulings

@@ -1,7 +1,11 @@
 //! Ids.
-ghost use Rattle.std.specs.Prelude.{◌≡◌, ◌<◌, ◌++◌, IfOk, IfSome, vec_len, decimal};
+ghost use Rattle.std.specs.Prelude.{◌≡◌, ◌++◌, ◌<◌, ◌^◌, Bool, List, ℕ, false, MatchOption, None, Some, decimal, string_bytes, nat_le, slice_index, ◌&&◌};
 ghost use Rattle.rst_tree.specs.Faults.{Gives};
-ghost use Rattle.rst_names.specs.Written as spec;
+ghost use Rattle.rst_tree.specs.TagNames.{hyphenated, tag_name};
+ghost use Rattle.std.specs.BTreeSet.{contains_text};
+ghost use Rattle.rst_names.specs.Ids.{is_taken, last_of, wanted_id, GivesId, GivesNumber, GivesNumbered, IsLeastFree, Tries, UsesUpOrFails};
+ghost use Rattle.rst_names.specs.Ids as spec;
+ghost use Rattle.rst_names.specs.Written as written;
 
 use rst_text::id_of;
 use rst_tree::{Tag, Text, TreeFault};
@@ -11,34 +15,23 @@ use std::collections::{BTreeMap, BTreeSet};
 /// The ids that are taken (Document Tree, 'ids').
 #[derive(Drop)]
 pub struct Ids {
-    /// Those that names gave.
+    /// Those that names gave and that have no number behind a hyphen.
     named: BTreeSet<String>,
-    /// Those of them that are like ids with a number, which alone can hinder such.
+    /// Those that names gave and that have one, which alone can hinder ids with a number.
     hindering: BTreeSet<String>,
-    /// For each text that ids with a number were made of the next number. With each lower one the id is taken.
-    next: BTreeMap<String, u64>,
-    /// The same for the names of the kinds of which there are such ids, in place of what `next` tells of them.
-    kinds: Vec<Kind>,
-}
-
-/// A kind of elements of whose name ids with a number were made.
-#[derive(Drop)]
-struct Kind {
-    tag: Tag,
-    /// What stands in these ids before the number.
-    front: Text,
-    /// The next number. With each lower one the id is taken.
-    next: u64,
+    /// For each text that ids with a number were made of the last number. With each from 1 to it the id is taken.
+    last: BTreeMap<String, u64>,
 }
 
 impl Ids {
     /// No id is taken.
-    pub fn new(alloc: Global) -> Ids {
+    pub fn new(alloc: Global) -> Ids
+        ensures { (id : List ℕ) → is_taken result id ≡ false }
+    {
         Ids {
             named: BTreeSet::new(alloc),
             hindering: BTreeSet::new(alloc),
-            next: BTreeMap::new(alloc),
-            kinds: Vec::new(alloc),
+            last: BTreeMap::new(alloc),
         }
     }
 
@@ -47,14 +40,13 @@ impl Ids {
     /// It is the id that the name gives. If that is taken: it, a hyphen and the least number from 1 that makes it free. If
     /// there is none: the kind's name with hyphens, a hyphen and the least such number.
     ///
-    /// The only refusal is want of memory.
-    pub fn give(&mut self, alloc: Global, tag: Tag, name: &str) -> Result<Text, TreeFault> {
-        if name.is_empty() {
-            return self.give_kind(alloc, tag);
-        }
+    /// The only refusal is want of memory; then the same ids are taken as before.
+    pub fn give(&mut self, alloc: Global, tag: Tag, name: &str) -> Result<Text, TreeFault>
+        ensures { GivesId tag name.now self.old self.new result }
+    {
         let wanted = id_text(alloc, name)?;
         if wanted.is_empty() {
-            return self.give_kind(alloc, tag);
+            return self.give_numbered(alloc, tag.hyphenated());
         }
         let id = Text::from_str(alloc, wanted.as_str())?;
         if self.take(wanted)? {
@@ -63,12 +55,26 @@ impl Ids {
         self.give_numbered(alloc, id.as_str())
     }
 
-    /// Takes an id that a name gave, and tells whether it was free.
-    fn take(&mut self, id: String) -> Result<bool, TreeFault> {
+    /// Takes the first free id of a kind's name, a hyphen and a number from 1, and gives that number.
+    ///
+    /// The only refusal is want of memory; then the same ids are taken as before.
+    pub fn give_number(&mut self, alloc: Global, tag: Tag) -> Result<u64, TreeFault>
+        ensures { GivesNumber (hyphenated (tag_name tag)) self.old self.new result }
+    {
+        let base = tag.hyphenated();
+        let number = self.free_number(alloc, base)?;
+        self.use_up(alloc, base, number)?;
+        Ok(number)
+    }
+
+    /// Takes an id that a name gave, unless it is taken, and tells whether it was free.
+    fn take(&mut self, id: String) -> Result<bool, TreeFault>
+        ensures { Tries (string_bytes id) self.old self.new result }
+    {
         match number_of(id.as_str()) {
             None => Ok(self.named.insert(id)?),
             Some((base, number)) => {
-                if number < self.next_of(base) {
+                if number <= self.last_of(base) {
                     return Ok(false);
                 }
                 Ok(self.hindering.insert(id)?)
@@ -76,133 +82,98 @@ impl Ids {
         }
     }
 
-    /// The next number of ids of a text.
-    fn next_of(&self, base: &str) -> u64 {
-        if let Some(place) = self.kind_named(base) {
-            return self.kinds[place].next;
-        }
-        match self.next.get(base) {
-            Some(next) => *next,
-            None => 1,
-        }
-    }
-
-    /// The place among the kinds of the one with a name.
-    fn kind_named(&self, base: &str) -> Option<usize>
-        ensures { IfSome result (λ place. place < vec_len self.now.kinds) }
+    /// Takes the first free id of a text, a hyphen and a number from 1.
+    fn give_numbered(&mut self, alloc: Global, base: &str) -> Result<Text, TreeFault>
+        ensures { GivesNumbered base.now self.old self.new result }
     {
-        self.kinds
-            .iter()
-            .position(|kind| kind.tag.hyphenated() == base)
+        let number = self.free_number(alloc, base)?;
+        let id = numbered(alloc, base, number)?;
+        self.use_up(alloc, base, number)?;
+        Ok(id)
     }
 
-    /// Takes the first free id of a kind's name, a hyphen and a number.
-    fn give_kind(&mut self, alloc: Global, tag: Tag) -> Result<Text, TreeFault> {
-        let place = self.place_of(alloc, tag)?;
-        self.give_known(alloc, place)
+    /// The last number of ids of a text; 0 where there is none.
+    fn last_of(&self, base: &str) -> u64
+        ensures { result ≡ last_of self.now base.now }
+    {
+        match self.last.get(base) {
+            Some(last) => *last,
+            None => 0,
+        }
     }
 
-    /// Takes the first free id of a kind's name, a hyphen and a number, and gives that number.
+    /// The least number from 1 with which the id of a text is free.
     ///
-    /// The only refusal is want of memory.
-    pub fn give_number(&mut self, alloc: Global, tag: Tag) -> Result<u64, TreeFault> {
-        let place = self.place_of(alloc, tag)?;
-        self.take_number(alloc, place)
-    }
-
-    /// The place of a kind among those of which there are such ids, to which it belongs from now on.
-    fn place_of(&mut self, alloc: Global, tag: Tag) -> Result<usize, TreeFault>
-        ensures { IfOk result (λ place. place < vec_len self.new.kinds) }
+    /// Each hindering id hinders one number at most, so no more steps than there are of these come before the last. Ids stay
+    /// taken, so a number that was passed over need never be looked at again.
+    fn free_number(&self, alloc: Global, base: &str) -> Result<u64, TreeFault>
+        ensures { Gives (λ number. IsLeastFree self.now base.now number) result }
     {
-        for place in 0..self.kinds.len() {
-            if self.kinds[place].tag == tag {
-                return Ok(place);
+        for number in self.last_of(base).saturating_add(1)..u64::MAX {
+            if !self.hinders(alloc, base, number)? {
+                return Ok(number);
             }
         }
-        let place = self.kinds.len();
-        let base = tag.hyphenated();
-        let next = self.next_of(base);
-        let front = front_of(alloc, base)?;
-        self.kinds.push(Kind { tag, front, next })?;
-        Ok(place)
+        Err(TreeFault::NoMemory)
     }
 
-    /// Takes the first free number of the kind at a place among those of which there are such ids.
-    fn take_number(&mut self, alloc: Global, place: usize) -> Result<u64, TreeFault>
-        requires { place < vec_len self.old.kinds }
-        ensures { vec_len self.new.kinds ≡ vec_len self.old.kinds }
+    /// Whether a name gave the id of a text and a number.
+    fn hinders(&self, alloc: Global, base: &str, number: u64) -> Result<bool, TreeFault>
+        ensures { Gives (λ hinders. hinders ≡ contains_text self.now.hindering (spec.numbered base.now number)) result }
     {
-        let kind = &mut self.kinds[place];
-        let number = free(alloc, &self.hindering, kind.front.as_str(), kind.next)?;
-        kind.next = number.saturating_add(1);
-        Ok(number)
+        if self.hindering.is_empty() {
+            return Ok(false);
+        }
+        let id = numbered(alloc, base, number)?;
+        Ok(self.hindering.contains(id.as_str()))
     }
 
-    /// Takes the first free id of the kind at a place among those of which there are such ids.
-    fn give_known(&mut self, alloc: Global, place: usize) -> Result<Text, TreeFault>
-        requires { place < vec_len self.old.kinds }
+    /// Takes the ids of a text with all numbers up to one.
+    fn use_up(&mut self, alloc: Global, base: &str, number: u64) -> Result<(), TreeFault>
+        ensures { UsesUpOrFails base.now number self.old self.new result }
     {
-        let number = self.take_number(alloc, place)?;
-        numbered(alloc, self.kinds[place].front.as_str(), number)
-    }
-
-    /// Takes the first free id of a text, a hyphen and a number.
-    fn give_numbered(&mut self, alloc: Global, base: &str) -> Result<Text, TreeFault> {
-        if let Some(place) = self.kind_named(base) {
-            return self.give_known(alloc, place);
+        if let Some(last) = self.last.get_mut(base) {
+            *last = number;
+            return Ok(());
         }
-        let front = front_of(alloc, base)?;
-        if let Some(next) = self.next.get_mut(base) {
-            let number = free(alloc, &self.hindering, front.as_str(), *next)?;
-            *next = number.saturating_add(1);
-            return numbered(alloc, front.as_str(), number);
-        }
-        let number = free(alloc, &self.hindering, front.as_str(), 1)?;
-        self.next
-            .insert(String::from_str(alloc, base)?, number.saturating_add(1))?;
-        numbered(alloc, front.as_str(), number)
+        self.last.insert(String::from_str(alloc, base)?, number)?;
+        Ok(())
     }
 }
 
-/// The least number from `first` on, with each below which the id is taken, that makes an id free behind a text.
-///
-/// Each hindering id hinders one number at most, so no more steps than there are of these come before the last. Ids stay
-/// taken, so a number that was passed over need never be looked at again.
-fn free(
-    alloc: Global,
-    hindering: &BTreeSet<String>,
-    front: &str,
-    first: u64,
-) -> Result<u64, TreeFault> {
-    let mut number = first;
-    for _ in 0..hindering.len() {
-        let id = numbered(alloc, front, number)?;
-        if !hindering.contains(id.as_str()) {
-            return Ok(number);
-        }
-        number = number.saturating_add(1);
-    }
-    Ok(number)
-}
-
-/// The text and the number of an id that is like those that are made of a text, a hyphen and a number: without a 0 in front.
-fn number_of(id: &str) -> Option<(&str, u64)> {
-    match id.as_bytes().last() {
-        Some(byte) if byte.is_ascii_digit() => {}
-        _ => return None,
-    }
+/// What stands before the last hyphen of an id, and the number behind it, if there is one: from 1, without a 0 in front.
+fn number_of(id: &str) -> Option<(&str, u64)>
+    ensures { MatchOption result (spec.number_of id.now ≡ None) (λ parts. spec.number_of id.now ≡ Some (parts.0.now, parts.1)) }
+{
     let (base, digits) = id.rsplit_once('-')?;
-    if digits.starts_with('0') {
+    Some((base, number_in(digits)?))
+}
+
+/// The number from 1 that decimal digits write without a 0 in front.
+fn number_in(digits: &str) -> Option<u64>
+    ensures { result ≡ spec.number_in digits.now }
+{
+    if !begins_from_one(digits) {
         return None;
     }
     match digits.parse::<u64>() {
-        Ok(number) => Some((base, number)),
+        Ok(number) => Some(number),
         Err(_) => None,
     }
 }
 
+/// Whether a text begins with a digit from 1 to 9.
+fn begins_from_one(digits: &str) -> bool
+    ensures { result ≡ nat_le 49 (slice_index digits.now 0) && nat_le (slice_index digits.now 0) 57 }
+{
+    matches!(digits.as_bytes(), [b'1'..=b'9', ..])
+}
+
 /// The id that a name gives; it may be empty.
-fn id_text(alloc: Global, name: &str) -> Result<String, TreeFault> {
+#[tactic(auto, using(crate::proofs::IdLemmas::bytes_of_chars))]
+fn id_text(alloc: Global, name: &str) -> Result<String, TreeFault>
+    ensures { Gives (λ id. string_bytes id ≡ wanted_id name.now) result }
+{
     match id_of(alloc, name) {
         Ok(id) => Ok(id),
         // The call has no other refusal than want of memory.
@@ -210,15 +181,16 @@ fn id_text(alloc: Global, name: &str) -> Result<String, TreeFault> {
     }
 }
 
-/// What stands in ids of a text before their number.
-fn front_of(alloc: Global, base: &str) -> Result<Text, TreeFault> {
-    let mut front = Text::from_str(alloc, base)?;
-    front.push_str("-")?;
-    Ok(front)
+/// The id of a text and a number.
+fn numbered(alloc: Global, base: &str, number: u64) -> Result<Text, TreeFault>
+    ensures { Gives (λ id. id ≡ spec.numbered base.now number) result }
+{
+    let front = Text::of_two(alloc, base, "-")?;
+    with_number(alloc, front.as_str(), number)
 }
 
 /// A text with a number behind it.
-fn numbered(alloc: Global, front: &str, number: u64) -> Result<Text, TreeFault>
+fn with_number(alloc: Global, front: &str, number: u64) -> Result<Text, TreeFault>
     ensures { Gives (λ id. id ≡ front.now ++ decimal number) result }
 {
     let mut buffer = itoa::Buffer::new();
@@ -227,14 +199,14 @@ fn numbered(alloc: Global, front: &str, number: u64) -> Result<Text, TreeFault>
 
 /// The id of a problematic by its number.
 pub fn problematic_id(alloc: Global, number: u64) -> Result<Text, TreeFault>
-    ensures { Gives (λ id. id ≡ spec.problematic_id number) result }
+    ensures { Gives (λ id. id ≡ written.problematic_id number) result }
 {
-    numbered(alloc, "problematic-", number)
+    with_number(alloc, "problematic-", number)
 }
 
 /// The id of a message by its number.
 pub fn message_id(alloc: Global, number: u64) -> Result<Text, TreeFault>
-    ensures { Gives (λ id. id ≡ spec.message_id number) result }
+    ensures { Gives (λ id. id ≡ written.message_id number) result }
 {
-    numbered(alloc, "system-message-", number)
+    with_number(alloc, "system-message-", number)
 }
