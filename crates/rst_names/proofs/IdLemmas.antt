@@ -261,7 +261,7 @@ module _ (old new : Ids) (id : List ℕ) where
       by (Some p) e = rw (last, hindering other) (both (nat_le p.1 (last_of old p.0)) (bytes_eq other id) (contains_text old.hindering other))
 
 -- nothing is taken with one that was
-pub took_taken : (ids : Ids) (id : List ℕ) → is_taken ids id ≡ true → Takes id ids ids
+took_taken : (ids : Ids) (id : List ℕ) → is_taken ids id ≡ true → Takes id ids ids
 took_taken ids id taken other = ⊎_elim same apart (cases_Bool (bytes_eq other id))
   where
     same : bytes_eq other id ≡ true → is_taken ids other ≡ (if bytes_eq other id then true else is_taken ids other)
@@ -300,7 +300,7 @@ one_more ids base n below here m some less =
     (λ f. let at : m ≡ n = omega (arith, ltb-false m n f) in ap (λ k. is_taken ids (numbered base k)) at ∙ here) (cases_Bool (nat_lt m n))
 
 -- the least free number of a text, when all up to it are used up
-module _ (old new : Ids) (base : List ℕ) (n : ℕ) (free : IsLeastFree old base n) (small : n < 2 ^ 64) (used : UsesUp base n old new) where
+module _ (old new : Ids) (base : List ℕ) (n : ℕ) (free : IsLeastFree (is_taken old) base n) (small : n < 2 ^ 64) (used : UsesUp base n old new) where
   read_id : number_of (numbered base n) ≡ Some (base, n)
   read_id = number_of-numbered base n free.from_one small
 
@@ -362,30 +362,26 @@ module _ (old new : Ids) (base : List ℕ) (n : ℕ) (free : IsLeastFree old bas
 -- ---- ids given
 
 -- ids of which the same are taken have the same free numbers
-pub same_least : (a b : Ids) (base : List ℕ) (n : ℕ) → TakesNone a b → IsLeastFree b base n → IsLeastFree a base n
+same_least : (a b : Ids) (base : List ℕ) (n : ℕ) → TakesNone a b → IsLeastFree (is_taken b) base n → IsLeastFree (is_taken a) base n
 same_least a b base n same free = record { from_one = free.from_one; is_free = sym (same (numbered base n)) ∙ free.is_free; is_least = λ m some less. sym (same (numbered base m)) ∙ free.is_least m some less }
 
 -- an id that was taken is taken, and no other
-pub none_by_taken : (a b : Ids) (id : List ℕ) → is_taken a id ≡ true → Takes id a b → TakesNone a b
+none_by_taken : (a b : Ids) (id : List ℕ) → is_taken a id ≡ true → Takes id a b → TakesNone a b
 none_by_taken a b id taken takes other = takes other ∙ sym (took_taken a id taken other)
 
-pub takes_after : (a b c : Ids) (id : List ℕ) → TakesNone a b → Takes id b c → Takes id a c
+takes_after : (a b c : Ids) (id : List ℕ) → TakesNone a b → Takes id b c → Takes id a c
 takes_after a b c id same takes other = takes other ∙ ap (λ t. if bytes_eq other id then true else t) (same other)
 
--- the wanted id, where it is free, and with a number where it isn't
-pub given_free : (ids : Ids) (tag : Tag) (wanted : List ℕ) → 0 < length wanted → is_taken ids wanted ≡ false → IsIdBy ids tag wanted wanted
-given_free ids tag [] some free = absurd (omega arith)
-given_free ids tag (c ∷ cs) some free = subst (λ t. IsFreed t ids (c ∷ cs) (c ∷ cs)) (sym free) refl
-
-pub given_numbered : (ids : Ids) (tag : Tag) (wanted id : List ℕ) → 0 < length wanted → is_taken ids wanted ≡ true → IsNumbered ids wanted id → IsIdBy ids tag wanted id
-given_numbered ids tag [] id some taken numbered = absurd (omega arith)
-given_numbered ids tag (c ∷ cs) id some taken numbered = subst (λ t. IsFreed t ids (c ∷ cs) id) (sym taken) numbered
+-- the wanted id with a number, where it is taken
+given_numbered : (taken : List ℕ → Bool) (tag : Tag) (wanted id : List ℕ) → 0 < length wanted → taken wanted ≡ true → IsNumbered taken wanted id → IsIdBy taken tag wanted id
+given_numbered taken tag [] id some is numbered = absurd (omega arith)
+given_numbered taken tag (c ∷ cs) id some is numbered = subst (λ t. IsFreed t taken (c ∷ cs) id) (sym is) numbered
 
 -- the id of a name whose own one is taken
 pub given_after : (tag : Tag) (name wanted : List ℕ) (old mid new : Ids) (r : Result (List ℕ) TreeFault) → wanted ≡ wanted_id name → 0 < length wanted
     → is_taken old wanted ≡ true → Takes wanted old mid → GivesNumbered wanted mid new r → GivesId tag name old new r
 given_after tag name wanted old mid new (Ok id) is some taken takes h =
     let same = none_by_taken old mid wanted taken takes in
-    let given = given_numbered old tag wanted id some taken (h.0.0, h.0.1, same_least old mid wanted h.0.0 same h.0.2) in
-    (subst (λ w. IsIdBy old tag w id) is given, takes_after old mid new id same h.1)
+    let given = given_numbered (is_taken old) tag wanted id some taken (h.0.0, h.0.1, same_least old mid wanted h.0.0 same h.0.2) in
+    (subst (λ w. IsIdBy (is_taken old) tag w id) is given, takes_after old mid new id same h.1)
 given_after tag name wanted old mid new (Err NoMemory) is some taken takes h = λ other. h other ∙ none_by_taken old mid wanted taken takes other

@@ -47,31 +47,31 @@ taken_by ids id (Some (base, n)) = nat_le n (last_of ids base) || contains_text 
 abbrev pub is_taken : Ids → List ℕ → Bool
 is_taken ids id = taken_by ids id (number_of id)
 
--- the least number from 1 with which the id of a text is free
-pub record IsLeastFree (ids : Ids) (base : List ℕ) (n : ℕ) : Type 0 where
+-- the least number from 1 with which the id of a text is free, by which ids are taken
+pub record IsLeastFree (taken : List ℕ → Bool) (base : List ℕ) (n : ℕ) : Type 0 where
   pub from_one : 0 < n
-  pub is_free : is_taken ids (numbered base n) ≡ false
-  pub is_least : (m : ℕ) → 0 < m → m < n → is_taken ids (numbered base m) ≡ true
+  pub is_free : taken (numbered base n) ≡ false
+  pub is_least : (m : ℕ) → 0 < m → m < n → taken (numbered base m) ≡ true
 
 -- the id of a text and that number
-abbrev pub IsNumbered : Ids → List ℕ → List ℕ → Type 0
-IsNumbered ids base id = (n : ℕ) × (id ≡ numbered base n) × IsLeastFree ids base n
+abbrev pub IsNumbered : (List ℕ → Bool) → List ℕ → List ℕ → Type 0
+IsNumbered taken base id = (n : ℕ) × (id ≡ numbered base n) × IsLeastFree taken base n
 
--- what a text gives if it is free; else it with a number
-abbrev pub IsFreed : Bool → Ids → List ℕ → List ℕ → Type 0
-IsFreed false ids wanted id = id ≡ wanted
-IsFreed true ids wanted id = IsNumbered ids wanted id
+-- what a text gives, unless that is taken; then it with a number
+abbrev pub IsFreed : Bool → (List ℕ → Bool) → List ℕ → List ℕ → Type 0
+IsFreed false taken wanted id = id ≡ wanted
+IsFreed true taken wanted id = IsNumbered taken wanted id
 
 -- the id of an element of a kind by what its name gives; where that is nothing, the kind's name with a number
-abbrev pub IsIdBy : Ids → Tag → List ℕ → List ℕ → Type 0
-IsIdBy ids tag [] id = IsNumbered ids (hyphenated (tag_name tag)) id
-IsIdBy ids tag (c ∷ cs) id = IsFreed (is_taken ids (c ∷ cs)) ids (c ∷ cs) id
+abbrev pub IsIdBy : (List ℕ → Bool) → Tag → List ℕ → List ℕ → Type 0
+IsIdBy taken tag [] id = IsNumbered taken (hyphenated (tag_name tag)) id
+IsIdBy taken tag (c ∷ cs) id = IsFreed (taken (c ∷ cs)) taken (c ∷ cs) id
 
 abbrev pub wanted_id : List ℕ → List ℕ
 wanted_id name = encode_utf8_all (id_of (chars name))
 
-abbrev pub IsIdFor : Ids → Tag → List ℕ → List ℕ → Type 0
-IsIdFor ids tag name id = IsIdBy ids tag (wanted_id name) id
+abbrev pub IsIdFor : (List ℕ → Bool) → Tag → List ℕ → List ℕ → Type 0
+IsIdFor taken tag name id = IsIdBy taken tag (wanted_id name) id
 
 -- one more id is taken, or none
 abbrev pub Takes : List ℕ → Ids → Ids → Type 0
@@ -87,16 +87,16 @@ Tries id old new (Err NoMemory) = TakesNone old new
 
 -- the element's id is given and taken, or memory ran out and none is
 abbrev pub GivesId : Tag → List ℕ → Ids → Ids → Result (List ℕ) TreeFault → Type 0
-GivesId tag name old new (Ok id) = IsIdFor old tag name id × Takes id old new
+GivesId tag name old new (Ok id) = IsIdFor (is_taken old) tag name id × Takes id old new
 GivesId tag name old new (Err NoMemory) = TakesNone old new
 
 -- the same of the id of a text and a number, and of the number alone
 abbrev pub GivesNumbered : List ℕ → Ids → Ids → Result (List ℕ) TreeFault → Type 0
-GivesNumbered base old new (Ok id) = IsNumbered old base id × Takes id old new
+GivesNumbered base old new (Ok id) = IsNumbered (is_taken old) base id × Takes id old new
 GivesNumbered base old new (Err NoMemory) = TakesNone old new
 
 abbrev pub GivesNumber : List ℕ → Ids → Ids → Result ℕ TreeFault → Type 0
-GivesNumber base old new (Ok n) = IsLeastFree old base n × Takes (numbered base n) old new
+GivesNumber base old new (Ok n) = IsLeastFree (is_taken old) base n × Takes (numbered base n) old new
 GivesNumber base old new (Err NoMemory) = TakesNone old new
 
 -- the ids of a text up to a number are used up, or memory ran out and nothing changed

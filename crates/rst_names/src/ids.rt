@@ -107,7 +107,7 @@ impl Ids {
     /// Each hindering id hinders one number at most, so no more steps than there are of these come before the last. Ids stay
     /// taken, so a number that was passed over need never be looked at again.
     fn free_number(&self, alloc: Global, base: &str) -> Result<u64, TreeFault>
-        ensures { Gives (λ number. IsLeastFree self.now base.now number) result }
+        ensures { Gives (λ number. IsLeastFree (is_taken self.now) base.now number) result }
     {
         for number in self.last_of(base).saturating_add(1)..u64::MAX {
             if !self.hinders(alloc, base, number)? {
@@ -124,8 +124,8 @@ impl Ids {
         if self.hindering.is_empty() {
             return Ok(false);
         }
-        let id = numbered(alloc, base, number)?;
-        Ok(self.hindering.contains(id.as_str()))
+        let wanted = numbered(alloc, base, number)?;
+        Ok(self.hindering.contains(wanted.as_str()))
     }
 
     /// Takes the ids of a text with all numbers up to one.

@@ -1,4 +1,4 @@
-use Rattle.std.proofs.Common.{◌≡◌, true, false, sym, ◌∙◌, arith}
+use Rattle.std.proofs.Common.{sym, ◌∙◌, arith}
 use Rattle.rst_names.proofs.IdLemmas.{taken_up_to, taken_by_name, free_behind, one_more}
 use Rattle.rst_names.proofs.ids.Ids.free_number.Goals as goal
 

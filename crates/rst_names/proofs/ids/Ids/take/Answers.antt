@@ -1,4 +1,4 @@
-use Rattle.std.proofs.Common.{◌≡◌, true, false, if◌then◌else◌, ◌||◌, string_bytes, None, Some, refl, sym, ap, ◌∙◌, arith}
+use Rattle.std.proofs.Common.{◌≡◌, string_bytes, None, Some, refl, sym, ap, ◌∙◌, arith}
 use Rattle.std.proofs.lemmas.Bool.{lt-leb}
 use Rattle.rst_names.specs.Ids.{number_of, last_of, taken_by}
 use Rattle.rst_names.proofs.IdLemmas.{added, was_there, took_named, took_hindering}
