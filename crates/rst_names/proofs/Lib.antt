@@ -1,1 +1,2 @@
 pub mod IdLemmas
+pub mod RegistryLemmas

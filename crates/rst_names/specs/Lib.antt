@@ -2,5 +2,7 @@ pub mod Gathered
 pub mod Ids
 pub mod Names
 pub mod Notices
+pub mod Registering
+pub mod Registry
 pub mod Rulings
 pub mod Written

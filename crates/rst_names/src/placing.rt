@@ -1,4 +1,7 @@
 //! The places of the messages on equal names.
+ghost use Rattle.std.specs.Prelude.{◌≡◌, [], ◌∷◌, ◌++◌};
+ghost use Rattle.std.specs.VecDeque.{deque_items};
+ghost use Rattle.rst_tree.specs.Faults.{Gives};
 
 use super::dues::{Due, Dues, put};
 use rst_tree::{Attrs, Children, Key, Node, Tag, Text, TreeFault};
@@ -14,14 +17,18 @@ pub struct Notices {
 
 impl Notices {
     /// No message.
-    pub fn new(alloc: Global) -> Notices {
+    pub fn new(alloc: Global) -> Notices
+        ensures { deque_items result.queue ≡ [] }
+    {
         Notices {
             queue: VecDeque::new(alloc),
         }
     }
 
     /// One more message, on the name of the element with a number above the earlier ones.
-    pub fn push(&mut self, serial: u64, message: Node) -> Result<(), TreeFault> {
+    pub fn push(&mut self, serial: u64, message: Node) -> Result<(), TreeFault>
+        ensures { Gives (λ _. deque_items self.new.queue ≡ deque_items self.old.queue ++ (serial, message) ∷ []) result }
+    {
         self.queue.push_back((serial, message))?;
         Ok(())
     }
