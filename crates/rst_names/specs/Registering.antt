@@ -1,6 +1,6 @@
 -- The registration of all elements, one after the other, in preorder (Document Tree, attributes `ids`, `names`, `dupnames`,
 -- `refid` and `backrefs`).
-use Rattle.std.specs.Prelude.{◌≡◌, ℕ, Bool, true, false, if◌then◌else◌, List, [], ◌∷◌, ◌++◌, Option, Some, None, replicate}
+use Rattle.std.specs.Prelude.{◌≡◌, ℕ, Bool, true, false, if◌then◌else◌, List, [], ◌∷◌, ◌++◌, Option, Some, None, length, filter, not, ◌==◌, replicate}
 use Rattle.std.specs.BTreeMap.{get_by_text}
 use Rattle.std.specs.VecDeque.{deque_items}
 use Rattle.rst_tree.specs.declared.key.Key.TheVariants.{Message}
@@ -8,15 +8,19 @@ use Rattle.rst_tree.specs.declared.tag.Tag.{Tag}
 use Rattle.rst_tree.specs.declared.tag.Tag.TheVariants.{Problematic, SystemMessage, SubstitutionDefinition}
 use Rattle.rst_tree.specs.Paths.{map_at}
 use Rattle.rst_tree.specs.TagNames.{hyphenated, tag_name}
-use Rattle.rst_tree.specs.Walk.{Item}
+use Rattle.rst_tree.specs.declared.node.Node.{Node}
+use Rattle.rst_tree.specs.Walk.{Item, node_items, walked_node}
+use Rattle.rst_marked.specs.Marks.{heeded_next, heeded_out}
+use Rattle.rst_marked.specs.Registered.{is_registered}
 use Rattle.rst_names.specs.declared.links.Linked.{Linked}
+use Rattle.rst_names.specs.declared.registration.Registered.{Registered}
 use Rattle.rst_names.specs.declared.registry.Registry.{Registry}
 use Rattle.rst_names.specs.declared.registry.Standing.{Standing}
 use Rattle.rst_names.specs.Gathered.{number_at, own_name}
 use Rattle.rst_names.specs.Ids.{is_taken, numbered, IsLeastFree, Takes}
 use Rattle.rst_names.specs.Names.{held_by}
 use Rattle.rst_names.specs.Registry.{held_in, rule_named, IsDefined, IsNamed}
-use Rattle.rst_names.specs.Written.{problematic_id}
+use Rattle.rst_names.specs.Written.{given, left_behind, problematic_id, with_given}
 
 -- what is known of a message once one of its problematics has come, or the message itself, with the number in its id
 abbrev pub linked_by : Tag → ℕ → Linked → Linked
@@ -96,3 +100,19 @@ pub record IsRegistry (messages : ℕ) (elements : List Item) (after : Registry)
   pub first : Registry
   pub knows_nothing : KnowsNothing messages first
   pub all : AllRegistered [] elements first after
+
+-- the document with what its elements got
+abbrev pub written : Registry → Node → Node
+written registry document =
+    walked_node (heeded_next is_registered left_behind) (heeded_out is_registered with_given)
+    (given registry.standings.items registry.links.numbers.items registry.links.messages.items) document
+
+-- a document is registered; where there are messages on equal names they stand in it as well
+pub record IsRegistered (messages : ℕ) (document : Node) (done : Registered) : Type 0 where
+  pub registry : Registry
+  pub is_registry : IsRegistry messages (filter is_registered (node_items document)) registry
+  pub ids : done.ids ≡ registry.ids
+  pub names : done.names ≡ registry.names
+  pub serials : done.serials ≡ length registry.standings.items
+  pub noticed : done.noticed ≡ not (length (deque_items registry.notices.queue) == 0)
+  pub root : done.noticed ≡ false → done.root ≡ written registry document

@@ -1,5 +1,5 @@
 //! The places of the messages on equal names.
-ghost use Rattle.std.specs.Prelude.{◌≡◌, [], ◌∷◌, ◌++◌};
+ghost use Rattle.std.specs.Prelude.{◌≡◌, ◌==◌, [], ◌∷◌, ◌++◌, length};
 ghost use Rattle.std.specs.VecDeque.{deque_items};
 ghost use Rattle.rst_tree.specs.Faults.{Gives};
 
@@ -34,7 +34,9 @@ impl Notices {
     }
 
     /// Whether no message is left.
-    pub fn is_empty(&self) -> bool {
+    pub fn is_empty(&self) -> bool
+        ensures { result ≡ (length (deque_items self.now.queue) == 0) }
+    {
         self.queue.is_empty()
     }
 
@@ -299,11 +301,9 @@ fn place_in(
 /// A message on the name of a section stands behind its title, the title's messages and the warning on its adornment; that
 /// on the name of a target in a text behind the messages of this text; and any other before its element, for an image in a
 /// reference or in a substitution definition before the outermost of these.
-pub fn place_notices(
-    alloc: Global,
-    document: Node,
-    mut notices: Notices,
-) -> Result<Node, TreeFault> {
+pub fn place_notices(alloc: Global, document: Node, mut notices: Notices) -> Result<Node, TreeFault>
+    ensures { length (deque_items notices.queue) ≡ 0 → Gives (λ placed. placed ≡ document) result }
+{
     if notices.is_empty() {
         return Ok(document);
     }

@@ -1,4 +1,6 @@
 //! The registration of a document's elements.
+ghost use Rattle.rst_tree.specs.Faults.{Gives};
+ghost use Rattle.rst_names.specs.Registering.{IsRegistered};
 
 use super::ids::Ids;
 use super::names::Names;
@@ -45,7 +47,9 @@ pub struct Registered {
 /// `messages` numbers were given to its messages, from 0 on.
 ///
 /// The only refusal is want of memory.
-pub fn register(alloc: Global, document: Marked, messages: u64) -> Result<Registered, TreeFault> {
+pub fn register(alloc: Global, document: Marked, messages: u64) -> Result<Registered, TreeFault>
+    ensures { Gives (λ done. IsRegistered messages document done) result }
+{
     let elements = document.elements(alloc)?;
     let Registry {
         ids,

@@ -14,12 +14,16 @@ loop-new-preserved c =
     let h = c.loop-new.invariant in
     let elements = c.args.elements.now in
     let known = map item_of c.loop-new.earlier.items in
-    let cut : drop c.loop-new.new-index elements ≡ c.new-item.result ∷ drop (c.loop-new.new-index + 1) elements = drop_more elements c.loop-new.new-index c.new-item.result (omega arith) ∙ ap (λ x. x ∷ drop (c.loop-new.new-index + 1) elements) (sym c.new-item.is) in
-    (h.0, h.1, λ after rest. h.2 after (
-      subst (λ l. AllRegistered known (map item_of l) c.loop-new.registry after) (sym cut) (
-        c.register.new.self,
-        c.in_ok-register.ensures.registry,
-        subst (λ es. AllRegistered es (map item_of (drop (c.loop-new.new-index + 1) elements)) c.register.new.self after) c.in_ok-register.ensures.earlier rest)))
+    let cut : drop c.loop-new.new-index elements ≡ c.new-item.result ∷ drop (c.loop-new.new-index + 1) elements = drop_more elements c.loop-new.new-index c.new-item.result (omega arith) ∙ ap (λ x. x ∷ drop (c.loop-new.new-index + 1) elements) (sym c.new-item.is) in (
+      h.0,
+      h.1,
+      λ after rest. h.2 after (
+          subst (λ l. AllRegistered known (map item_of l) c.loop-new.registry after) (sym cut) (
+            c.register.new.self,
+            c.in_ok-register.ensures.registry,
+            subst (λ es. AllRegistered es (map item_of (drop (c.loop-new.new-index + 1) elements)) c.register.new.self after) c.in_ok-register.ensures.earlier rest,
+          )),
+    )
 
 pub returns : goal.returns
 returns c =

@@ -25,5 +25,5 @@ returns c =
       notices = c.in_ok-complain_of_definition.ensures ∙ ap₂ (λ b n. deque_items old.notices.queue ++ definition_notices b n new) before number;
       ids = refl;
       names = refl;
-      links = refl
+      links = refl;
     }

@@ -29,6 +29,6 @@ returns c =
       others = put_lost_if old.standings c.lose_if.new.standings rule.old_loses _ (c.lose_if.ensures ∙ ap₂ (λ h l. if rule.old_loses then losing h l else l) held c.deref_mut.ensures.value);
       notices = c.in_ok-complain.ensures ∙ ap (λ n. deque_items old.notices.queue ++ notices_by rule.complaint n new id) number;
       definitions = refl;
-      links = refl
+      links = refl;
     }) in
     done
