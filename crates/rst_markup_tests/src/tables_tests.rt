@@ -1,5 +1,4 @@
 //! Examples whose answers come from outside, and that the calls succeed.
-use super::comparing::compare;
 use rst_tables::{Cell, TableResult, grid, malformed_text, simple};
 use rst_text::{Lines, Looks, View};
 use std::alloc::{AllocError, Global};
@@ -347,7 +346,7 @@ fn grids(rt: HostRuntime) -> Result<(), Fail> {
         let mut looks = Looks::none();
         let table = grid(rt.alloc(), &view, 0, &mut looks)?;
         let shown = show(rt.alloc(), &table)?;
-        compare(&rt, shown.as_str(), want, text);
+        assert_eq!(rt; shown.as_str(), want, "{text}");
     }
     Ok(())
 }
@@ -361,7 +360,7 @@ fn simples(rt: HostRuntime) -> Result<(), Fail> {
         let mut looks = Looks::none();
         let table = simple(rt.alloc(), &view, 0, &mut looks)?;
         let shown = show(rt.alloc(), &table)?;
-        compare(&rt, shown.as_str(), want, text);
+        assert_eq!(rt; shown.as_str(), want, "{text}");
     }
     Ok(())
 }
@@ -393,7 +392,7 @@ fn table_in_a_cell(rt: HostRuntime) -> Result<(), Fail> {
     for row in rows.as_slice() {
         for cell in row {
             let shown = shown_in(rt.alloc(), cell)?;
-            compare(&rt, shown.as_str(), "T3 w3 h0 / [0 0 3:x;]", text);
+            assert_eq!(rt; shown.as_str(), "T3 w3 h0 / [0 0 3:x;]", "{text}");
         }
     }
     Ok(())

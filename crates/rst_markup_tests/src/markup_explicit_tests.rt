@@ -1,5 +1,4 @@
 //! Explicit markup, on examples from outside.
-use super::comparing::compare;
 use super::parts::{line, push_characters, push_part};
 use rst_markup::{Characters, CommentCause, Explicit, Invocation, Part, explicit, kind_of};
 use rst_text::{Lines, Looks, View};
@@ -176,7 +175,7 @@ fn told(alloc: Global, text: &str) -> Result<String, Fail> {
 fn markup(rt: HostRuntime) -> Result<(), Fail> {
     for &(text, want) in EXPLICIT {
         let got = told(rt.alloc(), text)?;
-        compare(&rt, got.as_str(), want, text);
+        assert_eq!(rt; got.as_str(), want, "{text}");
     }
     Ok(())
 }
@@ -185,7 +184,7 @@ fn markup(rt: HostRuntime) -> Result<(), Fail> {
 fn more_markup(rt: HostRuntime) -> Result<(), Fail> {
     for &(text, want) in MORE_EXPLICIT {
         let got = told(rt.alloc(), text)?;
-        compare(&rt, got.as_str(), want, text);
+        assert_eq!(rt; got.as_str(), want, "{text}");
     }
     Ok(())
 }

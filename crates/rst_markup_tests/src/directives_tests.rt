@@ -1,5 +1,4 @@
 //! What targets, values and messages say.
-use super::comparing::compare;
 use rst_directives::{Detail, DirectiveFault, Name, OptionName, Target, message, target_value};
 use rst_text::characters_of;
 use std::alloc::Global;
@@ -53,7 +52,7 @@ fn targets(rt: HostRuntime) -> Result<(), Fail> {
         ("", ""),
     ] {
         let got = shown(rt.alloc(), text)?;
-        compare(&rt, got.as_str(), want, text);
+        assert_eq!(rt; got.as_str(), want, "{text}");
     }
     Ok(())
 }
@@ -77,9 +76,9 @@ fn messages(rt: HostRuntime) -> Result<(), Fail> {
     let fault = DirectiveFault::Inside(Detail::UnknownOption(option));
     let text = message(alloc, &fault, "Image")?;
     let want = "Error in \"Image\" directive:\nunknown option: \"foo\".";
-    compare(&rt, text.as_str(), want, "Image");
+    assert_eq!(rt; text.as_str(), want, "Image");
     let text = message(alloc, &DirectiveFault::NoContent, "tip")?;
     let want = "Content block expected for the \"tip\" directive; none found.";
-    compare(&rt, text.as_str(), want, "tip");
+    assert_eq!(rt; text.as_str(), want, "tip");
     Ok(())
 }

@@ -1,5 +1,4 @@
 //! Attributions and the options of option lists, on examples from outside.
-use super::comparing::compare;
 use super::parts::{push_characters, push_part};
 use rst_marks::{Delimiter, ListedOption, listed_options};
 use rst_markup::{Attribution, Part, attribution_at};
@@ -82,7 +81,7 @@ fn attributions(rt: HostRuntime) -> Result<(), Fail> {
                 (Some(found), Some((end, want))) => {
                     let got = attributed(rt.alloc(), &view, k, &found)?;
                     assert_eq!(rt; found.end, end, "{text}");
-                    compare(&rt, got.as_str(), want, text);
+                    assert_eq!(rt; got.as_str(), want, "{text}");
                 }
                 (found, want) => assert!(rt; found.is_none() && want.is_none(), "{text}"),
             }
@@ -123,7 +122,7 @@ fn options_told(alloc: Global, text: &str) -> Result<String, Fail> {
 fn options(rt: HostRuntime) -> Result<(), Fail> {
     for &(text, want) in OPTIONS {
         let got = options_told(rt.alloc(), text)?;
-        compare(&rt, got.as_str(), want, text);
+        assert_eq!(rt; got.as_str(), want, "{text}");
     }
     Ok(())
 }

@@ -1,5 +1,4 @@
 //! Directives as they are called, on examples from outside.
-use super::comparing::compare;
 use super::directives_call_cases::{DIRECTIVES, MORE_DIRECTIVES};
 use super::directives_tests::push_target;
 use super::parts::{line, push_characters, push_part};
@@ -186,7 +185,7 @@ fn told(alloc: Global, text: &str, place: Place, paragraph: bool) -> Result<Stri
 fn directives(rt: HostRuntime) -> Result<(), Fail> {
     for &(text, place, paragraph, want) in DIRECTIVES {
         let got = told(rt.alloc(), text, place, paragraph)?;
-        compare(&rt, got.as_str(), want, text);
+        assert_eq!(rt; got.as_str(), want, "{text}");
     }
     Ok(())
 }
@@ -195,7 +194,7 @@ fn directives(rt: HostRuntime) -> Result<(), Fail> {
 fn more_directives(rt: HostRuntime) -> Result<(), Fail> {
     for &(text, place, paragraph, want) in MORE_DIRECTIVES {
         let got = told(rt.alloc(), text, place, paragraph)?;
-        compare(&rt, got.as_str(), want, text);
+        assert_eq!(rt; got.as_str(), want, "{text}");
     }
     Ok(())
 }
