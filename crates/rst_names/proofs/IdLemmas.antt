@@ -1,5 +1,5 @@
 -- Ids with numbers, as they are read, given and taken.
-use Rattle.std.proofs.Common.{◌≡◌, ◌≢◌, ℕ, zero, suc, ◌+◌, ◌^◌, ◌<◌, Bool, true, false, not, ◌&&◌, ◌||◌, List, [], ◌∷◌, ◌++◌, length, get_or, drop, Option, Some, None, option_map, option_and_then, unwrap_or, nat_le, nat_lt, decimal, codes, bytes_eq, MatchOption, Result, Ok, Err, ◌≤◌, take, refl, sym, ap, ap₂, subst, ◌∙◌, arith, append_assoc, length-append, string_bytes, string_cmp, nat_cmp, encode_utf8_all, ⊎_elim, lt-ltb, ltb-true, le-leb, leb-true, leb-false, ltb-false, true≢false, ◌==◌, eqb-true, take-append-drop}
+use Rattle.std.proofs.Common.{◌≡◌, ◌≢◌, ℕ, zero, suc, ◌+◌, ◌^◌, ◌<◌, Bool, true, false, not, ◌&&◌, ◌||◌, List, [], ◌∷◌, ◌++◌, length, get_or, drop, Option, Some, None, option_map, option_and_then, unwrap_or, nat_le, nat_lt, decimal, codes, bytes_eq, MatchOption, Result, Ok, Err, ◌≤◌, take, refl, sym, ap, ap₂, subst, ◌∙◌, arith, append_assoc, length-append, string_bytes, string_cmp, nat_cmp, encode_utf8_all, ⊎_elim, lt-ltb, ltb-true, le-leb, leb-true, leb-false, ltb-false, true≢false, ◌==◌, eqb-true, take-append-drop, chars}
 use Rattle.std.specs.Prelude.{if◌then◌else◌}
 use Rattle.std.specs.declared.string.String.{String}
 use Rattle.std.specs.BTreeSet.{BTreeSet, contains_text, UpdatesBy}
@@ -17,6 +17,7 @@ use Rattle.std.proofs.lemmas.Str.{encodes-chars, IsUtf8-string_bytes, digit_valu
 use Rattle.std.proofs.lemmas.Str.Parse.{IsNumeralModel, numerals_by_value, tells_digits, parse_plain, digit_from_value, digits_value-take-le}
 use Rattle.std.specs.Cmp.Lexicographic.{bytes_decides}
 use lib.Seq.{get_or-append_seam}
+use Rattle.rst_text.specs.Names.{id_of}
 use Rattle.rst_text.specs.Text.{chars_of}
 use Rattle.rst_tree.specs.declared.fault.TreeFault.{TreeFault}
 use Rattle.rst_tree.specs.declared.fault.TreeFault.TheVariants.{NoMemory}
@@ -24,9 +25,14 @@ use Rattle.rst_tree.specs.declared.tag.Tag.{Tag}
 use Rattle.rst_names.specs.declared.ids.Ids.{Ids}
 use Rattle.rst_names.specs.Ids.{numbered, number_in, parts_from, parts_of, numbered_part, number_of, last_of, taken_by, is_taken, IsLeastFree, IsNumbered, IsFreed, IsIdBy, Takes, TakesNone, UsesUp, wanted_id, GivesId, GivesNumbered}
 
--- the bytes of a text with some characters
-pub bytes_of_chars : {A : Type 0} (s : String A) (cs : List ℕ) → chars_of s ≡ cs → string_bytes s ≡ encode_utf8_all cs
-bytes_of_chars s cs e = sym (encodes-chars (string_bytes s) (IsUtf8-string_bytes s)) ∙ ap encode_utf8_all e
+-- what the empty name gives, and what another one does
+pub nothing_wanted : (name : List ℕ) → (length name == 0) ≡ true → [] ≡ wanted_id name
+nothing_wanted [] none = refl
+nothing_wanted (c ∷ cs) none = absurd (omega (arith, eqb-true (length (c ∷ cs)) 0 none))
+
+pub something_wanted : {A : Type 0} (s : String A) (name : List ℕ) → (length name == 0) ≡ false → chars_of s ≡ id_of (chars name) → string_bytes s ≡ wanted_id name
+something_wanted s [] some is = absurd (cc)
+something_wanted s (c ∷ cs) some is = sym (encodes-chars (string_bytes s) (IsUtf8-string_bytes s)) ∙ ap encode_utf8_all is
 
 -- ---- an id with a number, and the number in it
 

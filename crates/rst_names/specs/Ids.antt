@@ -67,8 +67,10 @@ abbrev pub IsIdBy : (List ℕ → Bool) → Tag → List ℕ → List ℕ → Ty
 IsIdBy taken tag [] id = IsNumbered taken (hyphenated (tag_name tag)) id
 IsIdBy taken tag (c ∷ cs) id = IsFreed (taken (c ∷ cs)) taken (c ∷ cs) id
 
+-- what a name gives; the empty name is none
 abbrev pub wanted_id : List ℕ → List ℕ
-wanted_id name = encode_utf8_all (id_of (chars name))
+wanted_id [] = []
+wanted_id (c ∷ cs) = encode_utf8_all (id_of (chars (c ∷ cs)))
 
 abbrev pub IsIdFor : (List ℕ → Bool) → Tag → List ℕ → List ℕ → Type 0
 IsIdFor taken tag name id = IsIdBy taken tag (wanted_id name) id

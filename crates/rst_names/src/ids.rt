@@ -46,13 +46,23 @@ impl Ids {
     {
         let wanted = id_text(alloc, name)?;
         if wanted.is_empty() {
-            return self.give_numbered(alloc, tag.hyphenated());
+            return self.give_kind(alloc, tag);
         }
         let id = Text::from_str(alloc, wanted.as_str())?;
         if self.take(wanted)? {
             return Ok(id);
         }
         self.give_numbered(alloc, id.as_str())
+    }
+
+    /// A free id for an element of a kind without a name: the kind's name with hyphens, a hyphen and the least number from 1 that
+    /// makes it free. It is taken from now on.
+    ///
+    /// The only refusal is want of memory; then the same ids are taken as before.
+    pub fn give_kind(&mut self, alloc: Global, tag: Tag) -> Result<Text, TreeFault>
+        ensures { GivesNumbered (hyphenated (tag_name tag)) self.old self.new result }
+    {
+        self.give_numbered(alloc, tag.hyphenated())
     }
 
     /// Takes the first free id of a kind's name, a hyphen and a number from 1, and gives that number.
@@ -169,11 +179,13 @@ fn begins_from_one(digits: &str) -> bool
     matches!(digits.as_bytes(), [b'1'..=b'9', ..])
 }
 
-/// The id that a name gives; it may be empty.
-#[tactic(auto, using(crate::proofs::IdLemmas::bytes_of_chars))]
+/// The id that a name gives; it may be empty, as that of the empty name is.
 fn id_text(alloc: Global, name: &str) -> Result<String, TreeFault>
     ensures { Gives (λ id. string_bytes id ≡ wanted_id name.now) result }
 {
+    if name.is_empty() {
+        return Ok(String::new(alloc));
+    }
     match id_of(alloc, name) {
         Ok(id) => Ok(id),
         // The call has no other refusal than want of memory.

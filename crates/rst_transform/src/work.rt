@@ -80,7 +80,7 @@ impl Report {
         if let Some(own) = &self.id {
             return own.copy();
         }
-        let own = ids.give(alloc, Tag::SystemMessage, "")?;
+        let own = ids.give_kind(alloc, Tag::SystemMessage)?;
         self.id = Some(own.copy()?);
         Ok(own)
     }
@@ -186,7 +186,7 @@ impl Work {
     /// The attributes of the next problematic, as the message at a place among the reports tells. It gets its id before the
     /// message gets one. A place behind the last report gives a problematic without message.
     pub fn problematic_attrs(&mut self, alloc: Global, report: usize) -> Result<Attrs, TreeFault> {
-        let id = self.ids.give(alloc, Tag::Problematic, "")?;
+        let id = self.ids.give_kind(alloc, Tag::Problematic)?;
         let back = id.copy()?;
         // In the order of their names, as `Attrs::set` would put them.
         let mut attrs = Vec::with_capacity(alloc, 3)?;
