@@ -197,28 +197,20 @@ fn id_text(alloc: Global, name: &str) -> Result<String, TreeFault>
 fn numbered(alloc: Global, base: &str, number: u64) -> Result<Text, TreeFault>
     ensures { Gives (λ id. id ≡ spec.numbered base.now number) result }
 {
-    let front = Text::of_two(alloc, base, "-")?;
-    with_number(alloc, front.as_str(), number)
-}
-
-/// A text with a number behind it.
-fn with_number(alloc: Global, front: &str, number: u64) -> Result<Text, TreeFault>
-    ensures { Gives (λ id. id ≡ front.now ++ decimal number) result }
-{
     let mut buffer = itoa::Buffer::new();
-    Text::of_two(alloc, front, buffer.format(number))
+    Text::of_three(alloc, base, "-", buffer.format(number))
 }
 
 /// The id of a problematic by its number.
 pub fn problematic_id(alloc: Global, number: u64) -> Result<Text, TreeFault>
     ensures { Gives (λ id. id ≡ written.problematic_id number) result }
 {
-    with_number(alloc, "problematic-", number)
+    numbered(alloc, "problematic", number)
 }
 
 /// The id of a message by its number.
 pub fn message_id(alloc: Global, number: u64) -> Result<Text, TreeFault>
     ensures { Gives (λ id. id ≡ written.message_id number) result }
 {
-    with_number(alloc, "system-message-", number)
+    numbered(alloc, "system-message", number)
 }

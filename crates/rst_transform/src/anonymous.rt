@@ -4,7 +4,7 @@ use crate::holders::{lead_of, text_attr};
 use crate::links::{Changes, Linked, Outcome, linked_in, put_back, settled, take_root};
 use crate::reading::{first_said, has, is_a, line_of};
 use crate::work::Work;
-use rst_tree::{Key, Level, Node, Tag, TreeFault};
+use rst_tree::{Key, Level, Node, Tag, Text, TreeFault};
 use std::alloc::Global;
 
 /// Lets the n-th anonymous reference refer to the n-th anonymous target (Markup Specification, 'Anonymous Hyperlinks').
@@ -83,7 +83,7 @@ fn outcomes(
         references.len(),
         targets.len()
     )?;
-    let report = work.report(alloc, Level::Error, line, text, true)?;
+    let report = work.report(alloc, Level::Error, line, Text::new(text), true)?;
     mismatched(alloc, linked, report)
 }
 

@@ -12,7 +12,7 @@ ghost use Rattle.rst_transform.specs.Reports.{report_node, KeepsRest};
 
 use crate::authors::authors;
 use crate::field::{Field, into_children, into_last};
-use crate::texts::{identified, said_of};
+use crate::texts::identified;
 use crate::work::Work;
 use rst_tree::{Attrs, Children, Key, Level, Node, Tag, Text, Texts, TreeFault, Value};
 use std::alloc::Global;
@@ -240,7 +240,7 @@ fn message(alloc: Global, line: usize, name: &str, work: &mut Work) -> Result<No
     ensures reports { let next = fault_report work.old.first_number work.old.reports.items name.now line in Gives (λ _. work.new.reports.items ≡ work.old.reports.items ++ next ∷ []) result }
     ensures rest { Gives (λ _. KeepsRest work.old work.new) result }
 {
-    let text = said_of(
+    let text = Text::of_three(
         alloc,
         "Bibliographic field \"",
         name,

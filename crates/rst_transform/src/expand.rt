@@ -6,7 +6,7 @@ use crate::lists::joined;
 use crate::reading::said;
 use crate::texts::take_source;
 use crate::work::Work;
-use rst_tree::{Attrs, Children, Key, Level, Node, Tag, TreeFault};
+use rst_tree::{Attrs, Children, Key, Level, Node, Tag, Text, TreeFault};
 use std::alloc::{AllocError, AllocFailed, Global};
 use std::mem;
 
@@ -234,7 +234,7 @@ fn with_replaced(
         Ok(expanded) => joined(nodes, expanded),
         Err(fault) => {
             let text = message(alloc, name, fault)?;
-            let report = work.report(alloc, Level::Error, line, text, true)?;
+            let report = work.report(alloc, Level::Error, line, Text::new(text), true)?;
             let source = take_source(alloc, &mut attrs)?;
             nodes.push(work.problematic(alloc, report, source, line)?)?;
             Ok(nodes)

@@ -236,7 +236,7 @@ fn leftover(
                 in_order(alloc, linked, order)?.len()
             )?;
             let line = line_of(one.element);
-            return Ok(Some(work.report(alloc, Level::Error, line, text, true)?));
+            return Ok(Some(work.report(alloc, Level::Error, line, Text::new(text), true)?));
         }
     }
     Ok(None)

@@ -219,7 +219,7 @@ fn reports(
         match text {
             Some(text) => {
                 let line = line_of(one.element);
-                let report = work.report(alloc, Level::Error, line, text, true)?;
+                let report = work.report(alloc, Level::Error, line, Text::new(text), true)?;
                 reports.push(Some(report))?;
             }
             None => reports.push(None)?,

@@ -288,12 +288,12 @@ fn add(attrs: &mut Attrs, more: Option<Entry>) -> Result<(), TreeFault>
 }
 
 /// Puts a text in the place of some nodes, if there is one, and tells whether the nodes stay.
-fn show(alloc: Global, nodes: &mut Children, text: Option<Text>) -> Result<bool, TreeFault>
+fn show(nodes: &mut Children, text: Option<Text>) -> Result<bool, TreeFault>
     ensures { Gives (λ stays. Shows text nodes.old nodes.new stays) result }
 {
     match text {
         Some(text) => {
-            *nodes = Children::lone(alloc, Node::Text(text))?;
+            nodes.set_lone(Node::Text(text))?;
             Ok(false)
         }
         None => Ok(true),
@@ -322,13 +322,13 @@ impl Rewriter for Changes {
                 None => return Ok(true),
                 Some(Change::Stays(addition)) => {
                     add(attrs, addition.attr)?;
-                    return show(alloc, children, addition.shown);
+                    return show(children, addition.shown);
                 }
                 Some(Change::Fails(of_problematic)) => {
                     let source = take_source(alloc, attrs)?;
                     *tag = Tag::Problematic;
                     *attrs = of_problematic;
-                    *children = Children::lone(alloc, Node::Text(source))?;
+                    children.set_lone(Node::Text(source))?;
                 }
             }
         }

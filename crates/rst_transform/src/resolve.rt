@@ -4,7 +4,6 @@ use crate::footnotes::{found_by_order, mark_of, spelled_number};
 use crate::holders::{Holders, lead_by_name, text_attr};
 use crate::links::{Addition, Changes, Linked, Outcome, linked_in, put_back, settled, take_root};
 use crate::reading::{first_said, has, is_a, line_of, text_said};
-use crate::texts::said_of;
 use crate::work::Work;
 use rst_names::{Holder, Names};
 use rst_tree::{Entry, Key, Level, Node, Tag, Text, Texts, TreeFault, Value};
@@ -289,7 +288,7 @@ fn outcome(
         Meaning::Duplicate => "Duplicate target name, cannot be used as a unique reference: \"",
     };
     let name = text_said(one.element, Key::Refname).unwrap_or("");
-    let text = said_of(alloc, before, name, "\".")?;
+    let text = Text::of_three(alloc, before, name, "\".")?;
     let report = work.report(alloc, Level::Error, line_of(one.element), text, true)?;
     Ok(Outcome::Fails(report))
 }

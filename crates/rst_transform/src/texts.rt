@@ -1,5 +1,5 @@
 //! What several transforms ask of attributes, names and nodes.
-ghost use Rattle.std.specs.Prelude.{◌≡◌, ◌++◌, string_bytes};
+ghost use Rattle.std.specs.Prelude.{◌≡◌, string_bytes};
 ghost use Rattle.rst_tree.specs.Faults.{Gives};
 ghost use Rattle.rst_transform.specs.Fields.{identifier, name_in};
 ghost use Rattle.rst_transform.specs.Docinfo.{named};
@@ -63,24 +63,4 @@ pub(crate) fn take_source(alloc: Global, attrs: &mut Attrs) -> Result<Text, Tree
         Some(Value::Text(source)) => Ok(source),
         _ => Text::from_str(alloc, ""),
     }
-}
-
-/// A name with what is said of it before and behind, in room for that alone.
-pub(crate) fn said_of(
-    alloc: Global,
-    before: &str,
-    name: &str,
-    behind: &str,
-) -> Result<String, TreeFault>
-    ensures { Gives (λ text. string_bytes text ≡ before.now ++ (name.now ++ behind.now)) result }
-{
-    let room = before
-        .len()
-        .saturating_add(name.len())
-        .saturating_add(behind.len());
-    let mut text = String::with_capacity(alloc, room)?;
-    text.push_str(before)?;
-    text.push_str(name)?;
-    text.push_str(behind)?;
-    Ok(text)
 }

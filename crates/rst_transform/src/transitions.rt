@@ -8,7 +8,7 @@ ghost use Rattle.rst_transform.specs.Reports.{KeepsRest, report_node};
 ghost use Rattle.rst_transform.specs.Transitions.{behind, ends_in_transition, fault_before, further, is_section, is_title, is_transition, none_yet, place_in, put_last, put_transition, so_far, transition_report, with_fault, with_message, with_places, with_reports};
 
 use crate::work::Work;
-use rst_tree::{Attrs, Children, Level, Node, Tag, TreeFault};
+use rst_tree::{Attrs, Children, Level, Node, Tag, Text, TreeFault};
 use std::alloc::Global;
 use std::mem;
 
@@ -300,6 +300,6 @@ fn message(alloc: Global, line: usize, words: &str, work: &mut Work) -> Result<N
     ensures reports { let next = transition_report work.old.first_number work.old.reports.items line words.now in Gives (λ _. work.new.reports.items ≡ work.old.reports.items ++ next ∷ []) result }
     ensures rest { Gives (λ _. KeepsRest work.old work.new) result }
 {
-    let text = String::from_str(alloc, words)?;
+    let text = Text::from_str(alloc, words)?;
     work.report_in_place(alloc, Level::Error, line, text)
 }

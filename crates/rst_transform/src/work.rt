@@ -1,5 +1,5 @@
 //! The document between two transforms.
-ghost use Rattle.std.specs.Prelude.{◌≡◌, ◌+◌, ◌∷◌, ◌++◌, [], false, string_bytes, vec_len};
+ghost use Rattle.std.specs.Prelude.{◌≡◌, ◌+◌, ◌∷◌, ◌++◌, [], false, vec_len};
 ghost use Rattle.rst_tree.specs.Faults.{Gives};
 ghost use Rattle.rst_transform.specs.Reports.{with_references, report_node, without_ids, next_report, KeepsRest};
 
@@ -105,21 +105,14 @@ pub struct Work {
 
 impl Work {
     /// The next message, which has no problematics yet.
-    fn next_report(
-        &self,
-        alloc: Global,
-        level: Level,
-        line: usize,
-        text: String,
-        own: bool,
-    ) -> Report
-        ensures { result ≡ next_report self.now.first_number self.now.reports.items level line (string_bytes text) own }
+    fn next_report(&self, alloc: Global, level: Level, line: usize, text: Text, own: bool) -> Report
+        ensures { result ≡ next_report self.now.first_number self.now.reports.items level line text own }
     {
         Report {
             note: Note {
                 level,
                 line,
-                text: Text::new(text),
+                text,
                 block: None,
             },
             // The sum can't saturate: memory doesn't hold so many messages.
@@ -137,7 +130,7 @@ impl Work {
         alloc: Global,
         level: Level,
         line: usize,
-        text: String,
+        text: Text,
         own: bool,
     ) -> Result<usize, TreeFault>
         ensures { Gives (λ place. (place ≡ vec_len self.old.reports) × (vec_len self.new.reports ≡ place + 1)) result }
@@ -154,10 +147,10 @@ impl Work {
         alloc: Global,
         level: Level,
         line: usize,
-        text: String,
+        text: Text,
     ) -> Result<Node, TreeFault>
-        ensures node { let next = next_report self.old.first_number self.old.reports.items level line (string_bytes text) false in Gives (λ node. node ≡ report_node next) result }
-        ensures reports { let next = next_report self.old.first_number self.old.reports.items level line (string_bytes text) false in Gives (λ _. self.new.reports.items ≡ self.old.reports.items ++ next ∷ []) result }
+        ensures node { let next = next_report self.old.first_number self.old.reports.items level line text false in Gives (λ node. node ≡ report_node next) result }
+        ensures reports { let next = next_report self.old.first_number self.old.reports.items level line text false in Gives (λ _. self.new.reports.items ≡ self.old.reports.items ++ next ∷ []) result }
         ensures rest { Gives (λ _. KeepsRest self.old self.new) result }
     {
         let mut report = self.next_report(alloc, level, line, text, false);

@@ -1,5 +1,5 @@
 //! Short strings that take no memory of their own.
-ghost use Rattle.std.specs.Prelude.{◌≡◌, ◌++◌, ◌≤◌, [], IfSome};
+ghost use Rattle.std.specs.Prelude.{◌≡◌, ◌++◌, ◌≤◌, [], IfSome, if◌then◌else◌};
 
 use std::marker::Model;
 use std::str;
@@ -40,30 +40,41 @@ impl Brief {
     pub fn of(text: &str) -> Option<Brief>
         ensures { IfSome result (λ s. s ≡ text.now) }
     {
-        Brief::empty().with(text)
+        let mut brief = Brief::empty();
+        if !brief.append(text) {
+            return None;
+        }
+        Some(brief)
     }
 
-    /// The string with a text behind it, unless that is too long.
-    pub fn with(&self, text: &str) -> Option<Brief>
-        ensures { IfSome result (λ s. s ≡ self.now ++ text.now) }
+    /// Three texts, one behind the other, as one string, unless they are too long.
+    pub fn of_three(front: &str, middle: &str, back: &str) -> Option<Brief>
+        ensures { IfSome result (λ s. s ≡ front.now ++ (middle.now ++ back.now)) }
+    {
+        let mut brief = Brief::empty();
+        if !brief.append(front) {
+            return None;
+        }
+        if !brief.append(middle) {
+            return None;
+        }
+        if !brief.append(back) {
+            return None;
+        }
+        Some(brief)
+    }
+
+    /// Puts a text behind the string, and tells whether it has room for that. It stays as it is where it has none.
+    pub fn append(&mut self, text: &str) -> bool
+        ensures { self.new ≡ (if result then self.old ++ text.now else self.old) }
     {
         let start = usize::from(self.len);
         if text.len() > ROOM - start {
-            return None;
+            return false;
         }
-        let mut bytes = self.bytes;
-        bytes[start..start + text.len()].copy_from_slice(text.as_bytes());
-        Some(Brief {
-            bytes,
-            len: self.len + text.len() as u8,
-        })
-    }
-
-    /// Two texts, one behind the other, as one string, unless they are too long.
-    pub fn of_two(front: &str, text: &str) -> Option<Brief>
-        ensures { IfSome result (λ s. s ≡ front.now ++ text.now) }
-    {
-        Brief::of(front)?.with(text)
+        self.bytes[start..start + text.len()].copy_from_slice(text.as_bytes());
+        self.len += text.len() as u8;
+        true
     }
 
     /// An equal string.

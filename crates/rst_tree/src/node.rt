@@ -145,6 +145,18 @@ impl Children {
         Ok(())
     }
 
+    /// Lets a node stand in the place of all; it is dropped at want of memory. The list keeps its room.
+    pub fn set_lone(&mut self, node: Node) -> Result<(), TreeFault>
+        ensures { Becomes self.old self.new (forest_of (node ∷ [])) result }
+    {
+        if self.list.is_empty() {
+            return self.push(node);
+        }
+        self.list.truncate(1);
+        self.list[0] = node;
+        Ok(())
+    }
+
     /// Puts a node behind the last, and gives it back at want of memory.
     fn push_or_back(&mut self, node: Node) -> Result<(), (TreeFault, Node)>
         ensures { GivesBack node self.old self.new (forest_of (nodes_of self.old ++ node ∷ [])) result }

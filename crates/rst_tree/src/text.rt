@@ -69,13 +69,13 @@ impl Text {
         Ok(Text { held })
     }
 
-    /// Two texts, one behind the other, as one.
-    pub fn of_two(alloc: Global, front: &str, text: &str) -> Result<Text, TreeFault>
-        ensures { Gives (λ t. t ≡ front.now ++ text.now) result }
+    /// Three texts, one behind the other, as one.
+    pub fn of_three(alloc: Global, front: &str, middle: &str, back: &str) -> Result<Text, TreeFault>
+        ensures { Gives (λ t. t ≡ front.now ++ (middle.now ++ back.now)) result }
     {
-        let held = match Brief::of_two(front, text) {
+        let held = match Brief::of_three(front, middle, back) {
             Some(short) => Held::Short(alloc, short),
-            None => Held::Long(joined(alloc, front, text)?),
+            None => Held::Long(joined(alloc, front, middle, back)?),
         };
         Ok(Text { held })
     }
@@ -125,13 +125,12 @@ impl Text {
         match &mut self.held {
             Held::Short(alloc, front) => {
                 let alloc = *alloc;
-                self.held = match front.with(text) {
-                    Some(short) => Held::Short(alloc, short),
-                    None => Held::Long(joined(alloc, front.as_str(), text)?),
-                };
+                if !front.append(text) {
+                    self.held = Held::Long(joined(alloc, front.as_str(), text, "")?);
+                }
             }
             Held::Phrase(alloc, phrase) => {
-                self.held = Held::Long(joined(*alloc, phrase.text(), text)?);
+                self.held = Held::Long(joined(*alloc, phrase.text(), text, "")?);
             }
             Held::Long(string) => string.push_str(text)?,
         }
@@ -167,12 +166,18 @@ fn is_plain(bytes: &[u8]) -> bool
     plain
 }
 
-/// Two texts, one behind the other.
-fn joined(alloc: Global, front: &str, text: &str) -> Result<String, TreeFault>
-    ensures { Gives (λ s. string_bytes s ≡ front.now ++ text.now) result }
+/// Three texts, one behind the other, in room for them alone.
+fn joined(alloc: Global, front: &str, middle: &str, back: &str) -> Result<String, TreeFault>
+    ensures { Gives (λ s. string_bytes s ≡ front.now ++ (middle.now ++ back.now)) result }
 {
-    let mut string = String::from_str(alloc, front)?;
-    string.push_str(text)?;
+    let room = front
+        .len()
+        .saturating_add(middle.len())
+        .saturating_add(back.len());
+    let mut string = String::with_capacity(alloc, room)?;
+    string.push_str(front)?;
+    string.push_str(middle)?;
+    string.push_str(back)?;
     Ok(string)
 }
 

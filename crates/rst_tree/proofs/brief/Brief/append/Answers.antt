@@ -2,10 +2,10 @@ use Rattle.std.proofs.Common.{rules, arith, ◌≡◌, ◌+◌, ◌-◌, ◌≤�
 use Rattle.std.proofs.lemmas.List.Edits.{length-paste}
 use Rattle.std.proofs.lemmas.Slice.{take-put_mid, put_mid-paste}
 use Rattle.std.proofs.lemmas.Str.{IsUtf8-had, IsUtf8-append}
-use Rattle.rst_tree.proofs.brief.Brief.with.Goals as goal
+use Rattle.rst_tree.proofs.brief.Brief.append.Goals as goal
 
-pub invariant_of-result : goal.invariant_of-result
-invariant_of-result c =
+pub invariant_of-self : goal.invariant_of-self
+invariant_of-self c =
     let copied : c.copy_from_slice.new.self ≡ c.args.text.now = search rules in
     let start : c.from-start.result ≡ c.self.inside.len = search rules in
     let fits : c.self.inside.len + length c.args.text.now ≤ 30 = search rules in
