@@ -1,11 +1,14 @@
+pub mod Anonymous
 pub mod Authors
 pub mod Bibliography
 pub mod Docinfo
 pub mod Fields
 pub mod Gathered
+pub mod Linkings
 pub mod Links
 pub mod Lists
 pub mod Messages
+pub mod Outcomes
 pub mod Reading
 pub mod Reports
 pub mod Shown

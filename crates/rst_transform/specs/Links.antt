@@ -46,6 +46,16 @@ abbrev pub change_next : List Change → Node → List Change
 change_next s (Element t a c l) = if is_linked t then drop 1 s else s
 change_next s (Text t) = s
 
+-- nothing is said, and no text is shown
+abbrev pub is_nothing : Option Attr → Option (List ℕ) → Bool
+is_nothing None None = true
+is_nothing _ _ = false
+
+-- an element with this change stays as it is
+abbrev pub is_idle : Change → Bool
+is_idle (Stays x) = is_nothing x.attr x.shown
+is_idle (Fails p) = false
+
 -- the tree of a root, changed
 abbrev pub changed_root : List Change → Node → Node
 changed_root s (Element t a c l) = Element t a (rewritten change_next change_of s c).0 l

@@ -1,10 +1,14 @@
 //! Anonymous references.
+ghost use Rattle.std.specs.Prelude.{◌≡◌, drop, filter, map};
+ghost use Rattle.rst_tree.specs.Faults.{Gives};
+ghost use Rattle.rst_transform.specs.Anonymous.{agreed, first_lead, is_anonymous_reference, is_anonymous_target, lead_to, taken, with_anonymous, Agrees};
+ghost use Rattle.rst_transform.specs.Linkings.{held};
 
 use crate::holders::{lead_of, text_attr};
 use crate::links::{Changes, Linked, Outcome, linked_in, put_back, settled, take_root};
-use crate::reading::{first_said, has, is_a, line_of};
+use crate::reading::{first_said, has, line_of};
 use crate::work::Work;
-use rst_tree::{Key, Level, Node, Tag, Text, TreeFault};
+use rst_tree::{Entry, Key, Level, Node, Tag, Text, TreeFault};
 use std::alloc::Global;
 
 /// Lets the n-th anonymous reference refer to the n-th anonymous target (Markup Specification, 'Anonymous Hyperlinks').
@@ -29,7 +33,9 @@ use std::alloc::Global;
 ///
 /// One through an indirect target is left to the next transform. If there are more of the ones than of the others, there is
 /// one ERROR, and each reference becomes a problematic.
-pub fn anonymous(alloc: Global, mut work: Work) -> Result<Work, TreeFault> {
+pub fn anonymous(alloc: Global, mut work: Work) -> Result<Work, TreeFault>
+    ensures { Agrees work.root → Gives (λ done. done ≡ with_anonymous work) result }
+{
     let root = take_root(alloc, &mut work);
     let changes = changes_of(alloc, &mut work, &root)?;
     put_back(alloc, &mut work, root, changes)?;
@@ -37,88 +43,149 @@ pub fn anonymous(alloc: Global, mut work: Work) -> Result<Work, TreeFault> {
 }
 
 /// The changes of a tree's linked elements.
-fn changes_of(alloc: Global, work: &mut Work, root: &Node) -> Result<Changes, TreeFault> {
+#[tactic(auto, using(crate::proofs::Linking::taken_stay))]
+fn changes_of(alloc: Global, work: &mut Work, root: &Node) -> Result<Changes, TreeFault>
+    ensures changes { Agrees root.now → Gives (λ changes. changes ≡ agreed root.now) result }
+    ensures work { Agrees root.now → work.new ≡ work.old }
+{
     let linked = linked_in(alloc, root)?;
-    let outcomes = outcomes(alloc, work, linked.as_slice())?;
+    let references = anonymous_references(alloc, linked.as_slice())?;
+    let targets = anonymous_targets(alloc, linked.as_slice())?;
+    if references.len() == targets.len() {
+        let outcomes = taken(alloc, linked.as_slice(), targets.as_slice())?;
+        return settled(alloc, work, linked.as_slice(), outcomes);
+    }
+    let report = complain(alloc, work, references.as_slice(), targets.as_slice())?;
+    let outcomes = mismatched(alloc, linked.as_slice(), report)?;
     settled(alloc, work, linked.as_slice(), outcomes)
 }
 
-/// Whether a node is an anonymous element of a kind.
-pub(crate) fn is_anonymous(node: &Node, tag: Tag) -> bool {
-    is_a(node, tag) && has(node, Key::Anonymous)
+/// Whether a node is an anonymous reference.
+pub(crate) fn is_anonymous_reference(node: &Node) -> bool
+    ensures { result ≡ is_anonymous_reference node.now }
+{
+    match node {
+        Node::Element { tag, attrs, .. } => {
+            matches!(tag, Tag::Reference) && attrs.has(Key::Anonymous)
+        }
+        Node::Text(_) => false,
+    }
 }
 
-/// The places of the anonymous elements of a kind, in order.
-pub(crate) fn anonymous_places(
+/// Whether a node is an anonymous target.
+pub(crate) fn is_anonymous_target(node: &Node) -> bool
+    ensures { result ≡ is_anonymous_target node.now }
+{
+    match node {
+        Node::Element { tag, attrs, .. } => {
+            matches!(tag, Tag::Target) && attrs.has(Key::Anonymous)
+        }
+        Node::Text(_) => false,
+    }
+}
+
+/// The anonymous references among linked elements, in order.
+fn anonymous_references<'a>(
     alloc: Global,
-    linked: &[Linked<'_>],
-    tag: Tag,
-) -> Result<Vec<usize>, TreeFault> {
-    let mut places = Vec::new(alloc);
-    for (place, one) in linked.iter().enumerate() {
-        if is_anonymous(one.element, tag) {
-            places.push(place)?;
+    linked: &[Linked<'a>],
+) -> Result<Vec<Linked<'a>>, TreeFault>
+    ensures { Gives (λ list. map held list.items ≡ filter (λ one. is_anonymous_reference one.0) (map held linked.now)) result }
+{
+    let mut list = Vec::new(alloc);
+    for one in linked {
+        if is_anonymous_reference(one.element) {
+            list.push(*one)?;
         }
     }
-    Ok(places)
+    Ok(list)
 }
 
-/// What becomes of the linked elements.
-fn outcomes(
+/// The anonymous targets among linked elements, in order.
+fn anonymous_targets<'a>(
+    alloc: Global,
+    linked: &[Linked<'a>],
+) -> Result<Vec<Linked<'a>>, TreeFault>
+    ensures { Gives (λ list. map held list.items ≡ filter (λ one. is_anonymous_target one.0) (map held linked.now)) result }
+{
+    let mut list = Vec::new(alloc);
+    for one in linked {
+        if is_anonymous_target(one.element) {
+            list.push(*one)?;
+        }
+    }
+    Ok(list)
+}
+
+/// The ERROR that there are more of the ones than of the others, at the first reference, or else target.
+fn complain(
     alloc: Global,
     work: &mut Work,
-    linked: &[Linked<'_>],
-) -> Result<Vec<Outcome>, TreeFault> {
-    let references = anonymous_places(alloc, linked, Tag::Reference)?;
-    let targets = anonymous_places(alloc, linked, Tag::Target)?;
-    if references.len() == targets.len() {
-        return taken(alloc, linked, targets.as_slice());
-    }
+    references: &[Linked<'_>],
+    targets: &[Linked<'_>],
+) -> Result<usize, TreeFault> {
     let line = match references.first().or(targets.first()) {
-        Some(place) if *place < linked.len() => line_of(linked[*place].element),
-        _ => 0,
+        Some(one) => line_of(one.element),
+        None => 0,
     };
     let text = format!(in alloc;
         "Anonymous hyperlink mismatch: {} references but {} targets.",
         references.len(),
         targets.len()
     )?;
-    let report = work.report(alloc, Level::Error, line, Text::new(text), true)?;
-    mismatched(alloc, linked, report)
+    work.report(alloc, Level::Error, line, Text::new(text), true)
 }
 
 /// Each reference takes the target that is its own by the order.
 fn taken(
     alloc: Global,
     linked: &[Linked<'_>],
-    targets: &[usize],
-) -> Result<Vec<Outcome>, TreeFault> {
-    let mut targets = targets.iter();
+    targets: &[Linked<'_>],
+) -> Result<Vec<Outcome>, TreeFault>
+    ensures { Gives (λ outcomes. outcomes.items ≡ taken (map held linked.entry.now) (map held targets.entry.now)) result }
+{
+    let mut left = targets;
     let mut outcomes = Vec::new(alloc);
     for one in linked {
-        if is_anonymous(one.element, Tag::Reference) {
-            let outcome = match targets.next() {
-                Some(place) if *place < linked.len() => taking(alloc, linked[*place].element)?,
-                _ => Outcome::same(),
-            };
-            outcomes.push(outcome)?;
-        } else {
-            outcomes.push(Outcome::same())?;
+        if is_anonymous_reference(one.element) {
+            outcomes.push(Outcome::adds(first_lead(alloc, left)?))?;
+            left = behind_first(left);
+            continue;
         }
+        outcomes.push(Outcome::same())?;
     }
     Ok(outcomes)
 }
 
-/// What becomes of a reference to a target.
-fn taking(alloc: Global, target: &Node) -> Result<Outcome, TreeFault> {
+/// All but the first.
+fn behind_first<'t, 'a>(targets: &'t [Linked<'a>]) -> &'t [Linked<'a>]
+    ensures { result.now ≡ drop 1 targets.now }
+{
+    &targets[targets.len().min(1)..]
+}
+
+/// What a reference says of the first of some targets, if there is one.
+fn first_lead(alloc: Global, targets: &[Linked<'_>]) -> Result<Option<Entry>, TreeFault>
+    ensures { Gives (λ lead. lead ≡ first_lead (map held targets.entry.now)) result }
+{
+    match targets.first() {
+        Some(target) => lead_to(alloc, target.element),
+        None => Ok(None),
+    }
+}
+
+/// What a reference says of its target: where that leads, or its id, unless it is an indirect one.
+fn lead_to(alloc: Global, target: &Node) -> Result<Option<Entry>, TreeFault>
+    ensures { Gives (λ lead. lead ≡ lead_to target.now) result }
+{
     if let Some(attr) = lead_of(alloc, target)? {
-        return Ok(Outcome::says(attr));
+        return Ok(Some(attr));
+    }
+    if has(target, Key::Refname) {
+        return Ok(None);
     }
     match first_said(target, Key::Ids) {
-        Some(id) if !has(target, Key::Refname) => {
-            Ok(Outcome::says(text_attr(alloc, Key::Refid, id)?))
-        }
-        _ => Ok(Outcome::same()),
+        Some(id) => Ok(Some(text_attr(alloc, Key::Refid, id)?)),
+        None => Ok(None),
     }
 }
 
@@ -130,7 +197,7 @@ fn mismatched(
 ) -> Result<Vec<Outcome>, TreeFault> {
     let mut outcomes = Vec::new(alloc);
     for one in linked {
-        if is_anonymous(one.element, Tag::Reference) {
+        if is_anonymous_reference(one.element) {
             outcomes.push(Outcome::Fails(report))?;
         } else {
             outcomes.push(Outcome::same())?;

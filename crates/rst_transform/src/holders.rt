@@ -1,4 +1,9 @@
 //! The holders of names among the elements that references join.
+ghost use Rattle.std.specs.Prelude.{◌≡◌};
+ghost use Rattle.rst_tree.specs.declared.attrs.Value.TheVariants.{Text as Words};
+ghost use Rattle.rst_tree.specs.Attributes.{attr};
+ghost use Rattle.rst_tree.specs.Faults.{Gives};
+ghost use Rattle.rst_transform.specs.Anonymous.{lead_of};
 
 use crate::links::Linked;
 use crate::reading::{is_a, number_said, text_said};
@@ -47,20 +52,25 @@ impl Holders {
 }
 
 /// An attribute that is a text.
-pub(crate) fn text_attr(alloc: Global, key: Key, text: &str) -> Result<Entry, TreeFault> {
+pub(crate) fn text_attr(alloc: Global, key: Key, text: &str) -> Result<Entry, TreeFault>
+    ensures { Gives (λ entry. entry ≡ attr key (Words text.now)) result }
+{
     let text = Text::from_str(alloc, text)?;
     Ok(Entry::new(key, Value::Text(text)))
 }
 
 /// Where a target leads that isn't a place of its own: its `refuri` or else its `refid`, as an attribute for what refers to
 /// it.
-pub(crate) fn lead_of(alloc: Global, target: &Node) -> Result<Option<Entry>, TreeFault> {
-    for key in [Key::Refuri, Key::Refid] {
-        if let Some(to) = text_said(target, key) {
-            return Ok(Some(text_attr(alloc, key, to)?));
-        }
+pub(crate) fn lead_of(alloc: Global, target: &Node) -> Result<Option<Entry>, TreeFault>
+    ensures { Gives (λ lead. lead ≡ lead_of target.now) result }
+{
+    if let Some(uri) = text_said(target, Key::Refuri) {
+        return Ok(Some(text_attr(alloc, Key::Refuri, uri)?));
     }
-    Ok(None)
+    match text_said(target, Key::Refid) {
+        Some(id) => Ok(Some(text_attr(alloc, Key::Refid, id)?)),
+        None => Ok(None),
+    }
 }
 
 /// Where a name leads by which another target isn't meant: to where its holder leads if that is a target, and else to the

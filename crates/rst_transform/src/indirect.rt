@@ -1,6 +1,6 @@
 //! Indirect targets.
 
-use crate::anonymous::{anonymous_places, is_anonymous};
+use crate::anonymous::{is_anonymous_reference, is_anonymous_target};
 use crate::holders::{Holders, lead_by_name};
 use crate::links::{Changes, Linked, Outcome, linked_in, put_back, settled, take_root};
 use crate::reading::{has, is_a, line_of, text_said};
@@ -228,6 +228,17 @@ fn reports(
     Ok(reports)
 }
 
+/// The places of the anonymous targets, in order.
+fn anonymous_places(alloc: Global, linked: &[Linked<'_>]) -> Result<Vec<usize>, TreeFault> {
+    let mut places = Vec::new(alloc);
+    for (place, one) in linked.iter().enumerate() {
+        if is_anonymous_target(one.element) {
+            places.push(place)?;
+        }
+    }
+    Ok(places)
+}
+
 /// For each reference the place of the target that it means, by its name or by the order.
 fn targets_of(
     alloc: Global,
@@ -235,11 +246,11 @@ fn targets_of(
     holders: &Holders,
     linked: &[Linked<'_>],
 ) -> Result<Vec<Option<usize>>, TreeFault> {
-    let anonymous = anonymous_places(alloc, linked, Tag::Target)?;
+    let anonymous = anonymous_places(alloc, linked)?;
     let mut anonymous = anonymous.iter();
     let mut targets = Vec::new(alloc);
     for one in linked {
-        if is_anonymous(one.element, Tag::Reference) {
+        if is_anonymous_reference(one.element) {
             targets.push(anonymous.next().copied())?;
             continue;
         }

@@ -1,7 +1,10 @@
 //! The elements that references join, and what the transforms of references make of them.
-ghost use Rattle.std.specs.Prelude.{◌≡◌};
+ghost use Rattle.std.specs.Prelude.{◌≡◌, ◌++◌, map, length, true, None, Some};
+ghost use Rattle.std.specs.List.{list_all};
 ghost use Rattle.rst_tree.specs.Faults.{Gives};
-ghost use Rattle.rst_transform.specs.Links.{Shows, changed_root, with_more};
+ghost use Rattle.rst_transform.specs.Linkings.{held, inner_of, linked_among, linked_of, own_linked};
+ghost use Rattle.rst_transform.specs.Links.{Shows, changed_root, is_idle, with_more};
+ghost use Rattle.rst_transform.specs.Outcomes.{addition, adds, change_before, stays};
 
 use crate::texts::take_source;
 use crate::work::Work;
@@ -32,7 +35,9 @@ pub(crate) struct Addition {
 
 impl Addition {
     /// Nothing.
-    fn none() -> Addition {
+    fn none() -> Addition
+        ensures { result ≡ addition None }
+    {
         Addition {
             attr: None,
             shown: None,
@@ -51,16 +56,31 @@ pub(crate) enum Outcome {
 
 impl Outcome {
     /// It stays as it is.
-    pub(crate) fn same() -> Outcome {
-        Outcome::Stays(Addition::none())
+    pub(crate) fn same() -> Outcome
+        ensures { result ≡ adds None }
+    {
+        Outcome::adds(None)
     }
 
     /// It stays, and says this.
-    pub(crate) fn says(attr: Entry) -> Outcome {
-        Outcome::Stays(Addition {
-            attr: Some(attr),
-            shown: None,
-        })
+    pub(crate) fn says(attr: Entry) -> Outcome
+        ensures { result ≡ adds (Some attr) }
+    {
+        Outcome::adds(Some(attr))
+    }
+
+    /// It stays, and says this, if there is something.
+    pub(crate) fn adds(attr: Option<Entry>) -> Outcome
+        ensures { result ≡ adds attr }
+    {
+        Outcome::Stays(Addition { attr, shown: None })
+    }
+
+    /// Whether it stays.
+    fn stays(&self) -> bool
+        ensures { result ≡ stays self.now }
+    {
+        matches!(self, Outcome::Stays(_))
     }
 }
 
@@ -74,12 +94,17 @@ pub(crate) enum Change {
 }
 
 /// The root of a document, taken out until it is put back.
-pub(crate) fn take_root(alloc: Global, work: &mut Work) -> Node {
+pub(crate) fn take_root(alloc: Global, work: &mut Work) -> Node
+    ensures root { result ≡ work.old.root }
+    ensures work { work.new ≡ record work.old { root = work.new.root } }
+{
     mem::replace(&mut work.root, Node::element(alloc, Tag::Document, 0))
 }
 
 /// The linked elements in a document, in preorder.
-pub(crate) fn linked_in<'a>(alloc: Global, root: &'a Node) -> Result<Vec<Linked<'a>>, TreeFault> {
+pub(crate) fn linked_in<'a>(alloc: Global, root: &'a Node) -> Result<Vec<Linked<'a>>, TreeFault>
+    ensures { Gives (λ list. map held list.items ≡ linked_of root.now) result }
+{
     let mut list = Vec::new(alloc);
     if let Node::Element { children, .. } = root {
         add_linked(children, None, &mut list)?;
@@ -92,21 +117,46 @@ fn add_linked<'a>(
     nodes: &'a Children,
     outer: Option<usize>,
     list: &mut Vec<Linked<'a>>,
-) -> Result<(), TreeFault> {
+) -> Result<(), TreeFault>
+    ensures { Gives (λ _. map held list.new.items ≡ map held list.old.items ++ linked_among (length list.old.items) outer nodes.now) result }
+{
     for node in nodes.as_slice() {
-        if let Node::Element { tag, children, .. } = node {
-            let mut inner = outer;
-            if is_linked(*tag) {
-                inner = Some(list.len());
-                list.push(Linked {
-                    element: node,
-                    outer,
-                })?;
+        match node {
+            Node::Text(_) => continue,
+            Node::Element { tag, children, .. } => {
+                let inner = inner_of(*tag, outer, list.len());
+                add_own(node, *tag, outer, list)?;
+                add_linked(children, inner, list)?;
             }
-            add_linked(children, inner, list)?;
         }
     }
     Ok(())
+}
+
+/// Adds an element, if it is linked, that stands in the one at the place `outer`.
+fn add_own<'a>(
+    node: &'a Node,
+    tag: Tag,
+    outer: Option<usize>,
+    list: &mut Vec<Linked<'a>>,
+) -> Result<(), TreeFault>
+    ensures { Gives (λ _. map held list.new.items ≡ map held list.old.items ++ own_linked outer tag node.now) result }
+{
+    if is_linked(tag) {
+        list.push(Linked {
+            element: node,
+            outer,
+        })?;
+    }
+    Ok(())
+}
+
+/// The place of the innermost linked element that the nodes in one stand in: its own, behind so many, if it is linked, or else that of
+/// the one around it.
+fn inner_of(tag: Tag, outer: Option<usize>, before: usize) -> Option<usize>
+    ensures { result ≡ inner_of before outer tag }
+{
+    if is_linked(tag) { Some(before) } else { outer }
 }
 
 /// For each element the first report for which one that it stands in becomes a problematic.
@@ -191,7 +241,16 @@ pub(crate) fn settled(
     work: &mut Work,
     linked: &[Linked<'_>],
     outcomes: Vec<Outcome>,
-) -> Result<Changes, TreeFault> {
+) -> Result<Changes, TreeFault>
+    ensures changes { list_all stays outcomes.items ≡ true → Gives (λ changes. changes ≡ map change_before outcomes.items) result }
+    ensures work { list_all stays outcomes.items ≡ true → work.new ≡ work.old }
+{
+    if all_stay(outcomes.as_slice()) {
+        let changes = before_turns(alloc, outcomes)?;
+        return Ok(Changes {
+            left: VecDeque::from_vec(changes),
+        });
+    }
     let around = first_around(alloc, linked, outcomes.as_slice())?;
     let turns = turns(
         alloc,
@@ -205,17 +264,32 @@ pub(crate) fn settled(
     Ok(Changes { left })
 }
 
+/// Whether no element becomes a problematic.
+fn all_stay(outcomes: &[Outcome]) -> bool
+    ensures { result ≡ list_all stays outcomes.now }
+{
+    outcomes.iter().all(|outcome| outcome.stays())
+}
+
 /// The changes of elements none of which has become a problematic yet.
-fn before_turns(alloc: Global, outcomes: Vec<Outcome>) -> Result<Vec<Change>, TreeFault> {
+fn before_turns(alloc: Global, outcomes: Vec<Outcome>) -> Result<Vec<Change>, TreeFault>
+    ensures { Gives (λ changes. changes.items ≡ map change_before outcomes.items) result }
+{
     let mut changes = Vec::with_capacity(alloc, outcomes.len())?;
     for outcome in outcomes {
-        let addition = match outcome {
-            Outcome::Stays(addition) => addition,
-            Outcome::Fails(_) => Addition::none(),
-        };
-        changes.push(Change::Stays(addition))?;
+        changes.push(change_before(outcome))?;
     }
     Ok(changes)
+}
+
+/// The change of an element before any became a problematic.
+fn change_before(outcome: Outcome) -> Change
+    ensures { result ≡ change_before outcome }
+{
+    match outcome {
+        Outcome::Stays(addition) => Change::Stays(addition),
+        Outcome::Fails(_) => Change::Stays(Addition::none()),
+    }
 }
 
 /// The changes of the elements that are met in the end.
@@ -259,18 +333,17 @@ impl Model for Changes {
 
 impl Changes {
     /// Whether every element stays as it is.
-    fn are_idle(&self) -> bool {
-        for change in &self.left {
-            if !is_idle(change) {
-                return false;
-            }
-        }
-        true
+    fn are_idle(&self) -> bool
+        ensures { result ≡ list_all is_idle self.now }
+    {
+        self.left.iter().all(|change| is_idle(change))
     }
 }
 
 /// Whether an element with this change stays as it is.
-fn is_idle(change: &Change) -> bool {
+fn is_idle(change: &Change) -> bool
+    ensures { result ≡ is_idle change.now }
+{
     match change {
         Change::Stays(addition) => addition.attr.is_none() && addition.shown.is_none(),
         Change::Fails(_) => false,
@@ -337,17 +410,20 @@ impl Rewriter for Changes {
 }
 
 /// Puts the root of a document back, in which its linked elements changed.
+#[tactic(auto, using(crate::proofs::Idle::idle_root))]
 pub(crate) fn put_back(
     alloc: Global,
     work: &mut Work,
     root: Node,
     changes: Changes,
-) -> Result<(), TreeFault> {
-    work.root = if changes.are_idle() {
-        root
-    } else {
-        with_changes(alloc, root, changes)?
-    };
+) -> Result<(), TreeFault>
+    ensures { Gives (λ _. work.new ≡ record work.old { root = changed_root changes root }) result }
+{
+    if changes.are_idle() {
+        work.root = root;
+        return Ok(());
+    }
+    work.root = with_changes(alloc, root, changes)?;
     Ok(())
 }
 

@@ -1,5 +1,5 @@
 //! What the attributes of an element say.
-ghost use Rattle.std.specs.Prelude.{◌≡◌, MatchOption, Some, None, is_some};
+ghost use Rattle.std.specs.Prelude.{◌≡◌, MatchOption, Some, None, is_some, slice_get};
 ghost use Rattle.rst_tree.specs.Attributes.{value_of, said_text};
 ghost use Rattle.rst_tree.specs.Faults.{Gives};
 ghost use Rattle.rst_tree.specs.Paths.{node_value};
@@ -44,7 +44,9 @@ pub(crate) fn number_said(node: &Node, key: Key) -> Option<u64>
 }
 
 /// The first member of what an attribute says, where it is a list that has one.
-pub(crate) fn first_said<'a>(node: &'a Node, key: Key) -> Option<&'a str> {
+pub(crate) fn first_said<'a>(node: &'a Node, key: Key) -> Option<&'a str>
+    ensures { MatchOption result (slice_get (list_said key node.now) 0 ≡ None) (λ text. slice_get (list_said key node.now) 0 ≡ Some text.now) }
+{
     match node.value(key) {
         Some(Said::List(list)) => match list.first() {
             Some(text) => Some(text.as_str()),
