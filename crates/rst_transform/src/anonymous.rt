@@ -101,10 +101,7 @@ fn anonymous_references<'a>(
 }
 
 /// The anonymous targets among linked elements, in order.
-fn anonymous_targets<'a>(
-    alloc: Global,
-    linked: &[Linked<'a>],
-) -> Result<Vec<Linked<'a>>, TreeFault>
+fn anonymous_targets<'a>(alloc: Global, linked: &[Linked<'a>]) -> Result<Vec<Linked<'a>>, TreeFault>
     ensures { Gives (λ list. map held list.items ≡ filter (λ one. is_anonymous_target one.0) (map held linked.now)) result }
 {
     let mut list = Vec::new(alloc);

@@ -11,4 +11,4 @@ decreases-add_linked l = height l.nodes.now
 abbrev pub invariant-loop-node : goal.invariant-loop-node
 invariant-loop-node l =
     map held l.list.items ++ linked_among (length l.list.items) l.outer (forest_of (drop l.node-index l.node-items)) ≡
-      map held l.fn.list.items ++ linked_among (length l.fn.list.items) l.fn.outer l.fn.nodes
+    map held l.fn.list.items ++ linked_among (length l.fn.list.items) l.fn.outer l.fn.nodes
