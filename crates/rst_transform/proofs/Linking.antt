@@ -1,5 +1,5 @@
 -- The linked elements of a document, found one node after another.
-use Rattle.std.proofs.Common.{◌≡◌, ℕ, ◌+◌, ◌<◌, ◌≤◌, List, [], ◌∷◌, ◌++◌, length, map, get_or, drop, append_assoc, refl, sym, ◌∙◌, ap, arith, Bool, true, false, Option}
+use Rattle.std.proofs.Common.{◌≡◌, ℕ, ◌+◌, ◌<◌, ◌≤◌, List, [], ◌∷◌, ◌++◌, length, map, get_or, drop, append_assoc, refl, sym, ◌∙◌, ap, Bool, true, false, Option}
 use Rattle.std.specs.Prelude.{if◌then◌else◌, None}
 use Rattle.std.specs.List.{list_all}
 use Rattle.std.proofs.lemmas.List.{append-nil, drop_all, drop_more, length-append, length-map}

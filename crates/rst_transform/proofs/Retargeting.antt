@@ -1,6 +1,6 @@
 -- Internal targets that hand on their ids and names, one element after another.
-use Rattle.std.proofs.Common.{◌≡◌, ◌∙◌, ℕ, suc, ◌<◌, List, [], ◌∷◌, ◌++◌, length, get_or, Bool, true, false, Option, Some, None, refl, ap, sym, subst, append_assoc, drop-cons, arith}
-use Rattle.std.specs.Prelude.{◌&&◌, if◌then◌else◌, drop, map, reverse}
+use Rattle.std.proofs.Common.{◌≡◌, ◌∙◌, ℕ, suc, ◌<◌, List, [], ◌∷◌, ◌++◌, length, get_or, Bool, true, false, Option, Some, refl, ap, sym, subst, append_assoc, drop-cons, arith}
+use Rattle.std.specs.Prelude.{◌&&◌, if◌then◌else◌, drop, reverse}
 use Rattle.std.specs.Str.{bytes_eq}
 use Rattle.std.proofs.lemmas.Bool.Decides.{nat_tests}
 use Rattle.std.proofs.lemmas.List.{append-nil, reverse-append, reverse-reverse}

@@ -1,7 +1,6 @@
 -- The elements that references join, in preorder, each with the place of the innermost one of them that it stands in (Markup
 -- Specification, 'Hyperlink References').
 use Rattle.std.specs.Prelude.{ℕ, ◌+◌, List, [], ◌∷◌, ◌++◌, length, if◌then◌else◌, Option, Some, None}
-use Rattle.rst_tree.specs.declared.attrs.Attr.{Attr}
 use Rattle.rst_tree.specs.declared.node.Node.{Node}
 use Rattle.rst_tree.specs.declared.node.Node.TheVariants.{Element, Text}
 use Rattle.rst_tree.specs.declared.tag.Tag.{Tag}

@@ -1,5 +1,5 @@
 -- What becomes of linked elements. No rule of markup: the transforms of references are said by it.
-use Rattle.std.specs.Prelude.{Bool, true, false, List, Option, None}
+use Rattle.std.specs.Prelude.{Bool, true, false, Option, None}
 use Rattle.rst_tree.specs.declared.attrs.Attr.{Attr}
 use Rattle.rst_transform.specs.declared.links.Addition.{Addition}
 use Rattle.rst_transform.specs.declared.links.Change.{Change}

@@ -1,4 +1,4 @@
-use Rattle.std.proofs.Common.{rules, arith, ◌+◌, ◌≤◌, ◌≡◌, length, refl, sym, ◌∙◌, ap}
+use Rattle.std.proofs.Common.{rules, arith, ◌+◌, ◌≤◌, refl}
 use Rattle.rst_tree.specs.Forest.{height}
 use Rattle.rst_tree.proofs.PrintedParts.{inside_lower}
 use Rattle.rst_transform.proofs.Linking.{past_text, past_element, at_end}

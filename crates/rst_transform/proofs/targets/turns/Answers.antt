@@ -1,7 +1,7 @@
-use Rattle.std.proofs.Common.{◌≡◌, ◌∙◌, [], Bool, false, Vec, Global, ap, subst}
+use Rattle.std.proofs.Common.{◌≡◌, ◌∙◌, Bool, Vec, Global, ap, subst}
 use Rattle.rst_tree.specs.Faults.{Gives}
 use Rattle.rst_tree.specs.Read.{elements_of, folded}
-use Rattle.rst_transform.specs.Targets.{found, found_next}
+use Rattle.rst_transform.specs.Targets.{found_next}
 use Rattle.rst_transform.proofs.Retargeting.{turns_found}
 use Rattle.rst_transform.proofs.targets.turns.Goals as goal
 
