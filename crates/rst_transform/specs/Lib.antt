@@ -9,6 +9,7 @@ pub mod Links
 pub mod Lists
 pub mod Messages
 pub mod Outcomes
+pub mod Problematics
 pub mod Reading
 pub mod Reports
 pub mod Shown

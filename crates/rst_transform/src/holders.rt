@@ -25,6 +25,9 @@ impl Holders {
         serials: u64,
     ) -> Result<Holders, TreeFault> {
         let mut places: Vec<Option<usize>> = Vec::new(alloc);
+        if serials == 0 {
+            return Ok(Holders { places });
+        }
         for _ in 0..serials {
             places.push(None)?;
         }

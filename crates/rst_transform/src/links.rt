@@ -204,7 +204,7 @@ fn turns(
     outcomes: &[Outcome],
     around: &[Option<usize>],
 ) -> Result<Vec<(usize, usize)>, TreeFault> {
-    let mut turns = Vec::new(alloc);
+    let mut turns = Vec::with_capacity(alloc, outcomes.len())?;
     for (place, (outcome, first)) in outcomes.iter().zip(around).enumerate() {
         if let Outcome::Fails(report) = outcome {
             if *report < reports && still_stands(*report, *first) {

@@ -74,13 +74,7 @@ pub fn resolve(alloc: Global, mut work: Work) -> Result<Work, TreeFault> {
 fn changes_of(alloc: Global, work: &mut Work, root: &Node) -> Result<Changes, TreeFault> {
     let linked = linked_in(alloc, root)?;
     let meanings = meanings(alloc, work, linked.as_slice())?;
-    let found = found_by_order(alloc, linked.as_slice())?;
-    let notes = notes_meant(
-        alloc,
-        linked.as_slice(),
-        meanings.as_slice(),
-        found.as_slice(),
-    )?;
+    let notes = notes_meant(alloc, linked.as_slice(), meanings.as_slice())?;
     let outcomes = outcomes(alloc, work, linked.as_slice(), meanings)?;
     let outcomes = with_backrefs(alloc, linked.as_slice(), notes.as_slice(), outcomes)?;
     settled(alloc, work, linked.as_slice(), outcomes)
@@ -115,8 +109,16 @@ fn label_of(alloc: Global, note: &Node) -> Result<Option<Text>, TreeFault> {
     Ok(None)
 }
 
+/// Whether an element is a footnote that was numbered and not named.
+fn is_numbered(node: &Node) -> bool {
+    mark_of(node) == Some("#")
+}
+
 /// The places of the footnotes that were numbered and not named, by their numbers.
 fn numbers(alloc: Global, linked: &[Linked<'_>]) -> Result<Vec<Option<usize>>, TreeFault> {
+    if !linked.iter().any(|one| is_numbered(one.element)) {
+        return Ok(Vec::new(alloc));
+    }
     let mut numbers: Vec<Option<usize>> = Vec::with_capacity(
         alloc,
         linked.len().saturating_add(1),
@@ -126,7 +128,7 @@ fn numbers(alloc: Global, linked: &[Linked<'_>]) -> Result<Vec<Option<usize>>, T
         numbers.push(None)?;
     }
     for (place, one) in linked.iter().enumerate() {
-        if mark_of(one.element) != Some("#") {
+        if !is_numbered(one.element) {
             continue;
         }
         if let Some(label) = label_of(alloc, one.element)? {
@@ -209,15 +211,18 @@ fn meanings(
     Ok(meanings)
 }
 
-/// For each reference to a footnote or citation the place of that.
+/// For each reference to a footnote or citation the place of that. Where there is no such reference the list is empty.
 fn notes_meant(
     alloc: Global,
     linked: &[Linked<'_>],
     meanings: &[Option<Meaning>],
-    found: &[Option<usize>],
 ) -> Result<Vec<Option<usize>>, TreeFault> {
+    if !linked.iter().any(|one| is_note_reference(one.element)) {
+        return Ok(Vec::new(alloc));
+    }
+    let found = found_by_order(alloc, linked)?;
     let mut notes = Vec::with_capacity(alloc, linked.len())?;
-    for ((one, meaning), found) in linked.iter().zip(meanings).zip(found) {
+    for ((one, meaning), found) in linked.iter().zip(meanings).zip(&found) {
         match meaning {
             Some(Meaning::Leads { note, .. }) if is_note_reference(one.element) => {
                 notes.push(*note)?

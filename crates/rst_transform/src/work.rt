@@ -1,6 +1,7 @@
 //! The document between two transforms.
-ghost use Rattle.std.specs.Prelude.{◌≡◌, ◌+◌, ◌∷◌, ◌++◌, [], false, vec_len};
+ghost use Rattle.std.specs.Prelude.{◌≡◌, ◌+◌, ◌∷◌, ◌++◌, [], false, vec_len, List, slice_get};
 ghost use Rattle.rst_tree.specs.Faults.{Gives};
+ghost use Rattle.rst_transform.specs.Problematics.{attrs_for, referring, MakesProblematic, OwnId};
 ghost use Rattle.rst_transform.specs.Reports.{with_references, report_node, without_ids, next_report, KeepsRest};
 
 use rst_names::{Ids, Names};
@@ -75,7 +76,10 @@ impl Report {
     }
 
     /// Adds a problematic by its id, and gives the message's own, which it gets with the first.
-    fn refer_back(&mut self, alloc: Global, ids: &mut Ids, id: Text) -> Result<Text, TreeFault> {
+    fn refer_back(&mut self, alloc: Global, ids: &mut Ids, id: Text) -> Result<Text, TreeFault>
+        ensures report { Gives (λ own. self.new ≡ referring own id self.old) result }
+        ensures ids { Gives (λ own. OwnId self.old.id own ids.old ids.new) result }
+    {
         self.backrefs.push(id)?;
         if let Some(own) = &self.id {
             return own.copy();
@@ -104,6 +108,11 @@ pub struct Work {
 }
 
 impl Work {
+    ghost use Rattle.rst_tree.specs.declared.attrs.Attr.{Attr};
+    ghost use Rattle.rst_tree.specs.declared.node.Node.TheVariants.{Element};
+    ghost use Rattle.rst_tree.specs.declared.tag.Tag.TheVariants.{Problematic};
+    ghost use Rattle.rst_tree.specs.Forest.{bare, words};
+
     /// The next message, which has no problematics yet.
     fn next_report(&self, alloc: Global, level: Level, line: usize, text: Text, own: bool) -> Report
         ensures { result ≡ next_report self.now.first_number self.now.reports.items level line text own }
@@ -167,29 +176,42 @@ impl Work {
         report: usize,
         source: Text,
         line: usize,
-    ) -> Result<Node, TreeFault> {
+    ) -> Result<Node, TreeFault>
+        ensures { Gives (λ node. (attrs : List Attr) × MakesProblematic (slice_get self.old.reports.items report) report self.old self.new attrs × (node ≡ Element Problematic attrs (words source bare) line)) result }
+    {
+        let attrs = self.problematic_attrs(alloc, report)?;
+        let children = Children::lone(alloc, Node::Text(source))?;
         Ok(Node::Element {
             tag: Tag::Problematic,
-            attrs: self.problematic_attrs(alloc, report)?,
-            children: Children::lone(alloc, Node::Text(source))?,
+            attrs,
+            children,
             line,
         })
     }
 
     /// The attributes of the next problematic, as the message at a place among the reports tells. It gets its id before the
     /// message gets one. A place behind the last report gives a problematic without message.
-    pub fn problematic_attrs(&mut self, alloc: Global, report: usize) -> Result<Attrs, TreeFault> {
+    pub fn problematic_attrs(&mut self, alloc: Global, report: usize) -> Result<Attrs, TreeFault>
+        ensures { Gives (λ attrs. MakesProblematic (slice_get self.old.reports.items report) report self.old self.new attrs) result }
+    {
         let id = self.ids.give_kind(alloc, Tag::Problematic)?;
-        let back = id.copy()?;
-        // In the order of their names, as `Attrs::set` would put them.
-        let mut attrs = Vec::with_capacity(alloc, 3)?;
-        attrs.push(Entry::new(Key::Ids, Value::List(Texts::lone(alloc, id))))?;
-        if report < self.reports.len() {
-            let report = &mut self.reports[report];
-            let refid = report.refer_back(alloc, &mut self.ids, back)?;
-            attrs.push(Entry::new(Key::Message, Value::Number(report.number)))?;
-            attrs.push(Entry::new(Key::Refid, Value::Text(refid)))?;
+        if report >= self.reports.len() {
+            return Attrs::lone(alloc, Key::Ids, Value::List(Texts::lone(alloc, id)));
         }
-        Ok(Attrs::of(attrs))
+        let back = id.copy()?;
+        let report = &mut self.reports[report];
+        let own = report.refer_back(alloc, &mut self.ids, back)?;
+        attrs_for(alloc, id, report.number, own)
     }
+}
+
+/// What a problematic tells: its id, and the number and the id of its message, in the order of their names.
+fn attrs_for(alloc: Global, id: Text, number: u64, own: Text) -> Result<Attrs, TreeFault>
+    ensures { Gives (λ attrs. attrs ≡ attrs_for id number own) result }
+{
+    let mut attrs = Vec::with_capacity(alloc, 3)?;
+    attrs.push_reserved(Entry::new(Key::Ids, Value::List(Texts::lone(alloc, id))));
+    attrs.push_reserved(Entry::new(Key::Message, Value::Number(number)));
+    attrs.push_reserved(Entry::new(Key::Refid, Value::Text(own)));
+    Ok(Attrs::of(attrs))
 }
