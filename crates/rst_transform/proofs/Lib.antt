@@ -4,5 +4,6 @@ pub mod Leaving
 pub mod Linking
 pub mod Placing
 pub mod Retargeting
+pub mod Settled
 pub mod Showing
 pub mod Titles

@@ -10,12 +10,11 @@ use Rattle.rst_tree.specs.declared.tag.Tag.TheVariants.{Reference}
 use Rattle.rst_tree.specs.Attributes.{attr, value_of}
 use Rattle.rst_tree.specs.Paths.{node_value}
 use Rattle.rst_marked.specs.Held.{is_target}
-use Rattle.rst_transform.specs.declared.links.Change.{Change}
 use Rattle.rst_transform.specs.declared.links.Outcome.{Outcome}
 use Rattle.rst_transform.specs.declared.work.Work.{Work}
 use Rattle.rst_transform.specs.Linkings.{Held, linked_of}
 use Rattle.rst_transform.specs.Links.{changed_root}
-use Rattle.rst_transform.specs.Outcomes.{adds, change_before}
+use Rattle.rst_transform.specs.Outcomes.{adds}
 use Rattle.rst_transform.specs.Reading.{list_said, text_said}
 
 abbrev pub is_reference : Tag → Bool
@@ -80,9 +79,9 @@ targets_in root = filter (λ one. is_anonymous_target one.0) (linked_of root)
 abbrev pub Agrees : Node → Type 0
 Agrees root = length (references_in root) ≡ length (targets_in root)
 
--- the changes of the linked elements, where there are
-abbrev pub agreed : Node → List Change
-agreed root = map change_before (taken (linked_of root) (targets_in root))
+-- what becomes of the linked elements, where there are
+abbrev pub agreed : Node → List Outcome
+agreed root = taken (linked_of root) (targets_in root)
 
 -- a document whose references took their targets
 abbrev pub with_anonymous : Work → Work

@@ -12,6 +12,7 @@ pub mod Outcomes
 pub mod Problematics
 pub mod Reading
 pub mod Reports
+pub mod Settling
 pub mod Shown
 pub mod Targets
 pub mod Title

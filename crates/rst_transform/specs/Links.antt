@@ -1,4 +1,4 @@
--- What the changes of linked elements, taken in turn, make of the elements of a tree.
+-- What the outcomes of linked elements, taken in turn, make of the elements of a tree.
 use Rattle.std.specs.Prelude.{◌≡◌, Bool, true, false, ℕ, List, [], ◌∷◌, drop, if◌then◌else◌, Option, Some, None}
 use Rattle.rst_tree.specs.declared.attrs.Attr.{Attr}
 use Rattle.rst_tree.specs.declared.node.Node.{Node}
@@ -11,8 +11,8 @@ use Rattle.rst_tree.specs.Attributes.{with_attr}
 use Rattle.rst_tree.specs.Forest.{Forest, bare, words}
 use Rattle.rst_tree.specs.Rewritten.{kept, rewritten}
 use Rattle.rst_marked.specs.Linked.{is_linked}
-use Rattle.rst_transform.specs.declared.links.Change.{Change}
-use Rattle.rst_transform.specs.declared.links.Change.TheVariants.{Stays, Fails}
+use Rattle.rst_transform.specs.declared.links.Outcome.{Outcome}
+use Rattle.rst_transform.specs.declared.links.Outcome.TheVariants.{Stays, Fails, Failed}
 use Rattle.rst_transform.specs.Reading.{source_said}
 
 -- the attributes, and one more if there is one
@@ -30,19 +30,20 @@ abbrev pub Shows : Option (List ℕ) → Forest → Forest → Bool → Type 0
 Shows None old new stays = (new ≡ old) × (stays ≡ true)
 Shows (Some text) old new stays = (new ≡ words text bare) × (stays ≡ false)
 
--- what the first change makes of an element; what fails becomes a problematic of its source text
-abbrev pub changed_by : List Change → Tag → List Attr → ℕ → Rewrite
+-- what the first outcome makes of an element; what failed becomes a problematic of its source text
+abbrev pub changed_by : List Outcome → Tag → List Attr → ℕ → Rewrite
 changed_by [] t a l = Keep t a l
 changed_by (Stays x ∷ more) t a l = shown_as x.shown t (with_more x.attr a) l
-changed_by (Fails p ∷ more) t a l = Replace (Element Problematic p (words (source_said a) bare) l)
+changed_by (Fails report ∷ more) t a l = Keep t a l
+changed_by (Failed p ∷ more) t a l = Replace (Element Problematic p (words (source_said a) bare) l)
 
 -- what becomes of an element
-abbrev pub change_of : List Change → Node → Rewrite
+abbrev pub change_of : List Outcome → Node → Rewrite
 change_of s (Element t a c l) = if is_linked t then changed_by s t a l else Keep t a l
 change_of s (Text t) = kept (Text t)
 
--- the changes that are left behind an element
-abbrev pub change_next : List Change → Node → List Change
+-- the outcomes that are left behind an element
+abbrev pub change_next : List Outcome → Node → List Outcome
 change_next s (Element t a c l) = if is_linked t then drop 1 s else s
 change_next s (Text t) = s
 
@@ -51,12 +52,13 @@ abbrev pub is_nothing : Option Attr → Option (List ℕ) → Bool
 is_nothing None None = true
 is_nothing _ _ = false
 
--- an element with this change stays as it is
-abbrev pub is_idle : Change → Bool
+-- an element of which this becomes stays as it is
+abbrev pub is_idle : Outcome → Bool
 is_idle (Stays x) = is_nothing x.attr x.shown
-is_idle (Fails p) = false
+is_idle (Fails report) = true
+is_idle (Failed p) = false
 
 -- the tree of a root, changed
-abbrev pub changed_root : List Change → Node → Node
+abbrev pub changed_root : List Outcome → Node → Node
 changed_root s (Element t a c l) = Element t a (rewritten change_next change_of s c).0 l
 changed_root s (Text t) = Text t

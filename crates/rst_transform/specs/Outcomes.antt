@@ -2,10 +2,8 @@
 use Rattle.std.specs.Prelude.{Bool, true, false, Option, None}
 use Rattle.rst_tree.specs.declared.attrs.Attr.{Attr}
 use Rattle.rst_transform.specs.declared.links.Addition.{Addition}
-use Rattle.rst_transform.specs.declared.links.Change.{Change}
-use Rattle.rst_transform.specs.declared.links.Change.TheVariants.{Stays as Staying}
 use Rattle.rst_transform.specs.declared.links.Outcome.{Outcome}
-use Rattle.rst_transform.specs.declared.links.Outcome.TheVariants.{Stays, Fails}
+use Rattle.rst_transform.specs.declared.links.Outcome.TheVariants.{Stays}
 
 -- an element says one thing more, if there is one
 abbrev pub addition : Option Attr → Addition
@@ -16,9 +14,4 @@ adds attr = Stays (addition attr)
 
 abbrev pub stays : Outcome → Bool
 stays (Stays more) = true
-stays (Fails report) = false
-
--- the change of an element before any became a problematic
-abbrev pub change_before : Outcome → Change
-change_before (Stays more) = Staying more
-change_before (Fails report) = Staying (addition None)
+stays _ = false

@@ -25,9 +25,14 @@ OwnId None id before after = NewId SystemMessage id before after
 abbrev pub referring : List ℕ → List ℕ → Report → Report
 referring own problematic r = record r { id = Some own; backrefs = r.backrefs ++ problematic ∷ [] }
 
--- what a problematic tells: its id, and the number and the id of its message
-abbrev pub attrs_for : List ℕ → ℕ → List ℕ → List Attr
-attrs_for id number own = attr IdsKey (Listed (id ∷ [])) ∷ attr Message (Number number) ∷ attr Refid (Words own) ∷ []
+-- the number and the id of a message, if there is one
+abbrev pub message_attrs : Option (ℕ × List ℕ) → List Attr
+message_attrs (Some message) = attr Message (Number message.0) ∷ attr Refid (Words message.1) ∷ []
+message_attrs None = []
+
+-- what a problematic tells: its id, and those
+abbrev pub told : List ℕ → Option (ℕ × List ℕ) → List Attr
+told id message = attr IdsKey (Listed (id ∷ [])) ∷ message_attrs message
 
 -- the next problematic of a message, which is the one at a place
 pub record IsNext (r : Report) (place : ℕ) (before after : Work) (attrs : List Attr) : Type 0 where
@@ -36,7 +41,7 @@ pub record IsNext (r : Report) (place : ℕ) (before after : Work) (attrs : List
   pub between : Ids
   pub new_id : NewId Problematic id before.ids between
   pub own_id : OwnId r.id own between after.ids
-  pub told : attrs ≡ attrs_for id r.number own
+  pub says : attrs ≡ told id (Some (r.number, own))
   pub reports : after.reports.items ≡ slice_set before.reports.items place (referring own id r)
   pub rest : after ≡ record before { ids = after.ids; reports = after.reports }
 
@@ -44,7 +49,7 @@ pub record IsNext (r : Report) (place : ℕ) (before after : Work) (attrs : List
 pub record IsAlone (before after : Work) (attrs : List Attr) : Type 0 where
   pub id : List ℕ
   pub new_id : NewId Problematic id before.ids after.ids
-  pub told : attrs ≡ attr IdsKey (Listed (id ∷ [])) ∷ []
+  pub says : attrs ≡ told id None
   pub rest : after ≡ record before { ids = after.ids }
 
 -- the next problematic of the message at a place, if there is that

@@ -5,8 +5,9 @@ ghost use Rattle.rst_transform.specs.Anonymous.{agreed, first_lead, is_anonymous
 ghost use Rattle.rst_transform.specs.Linkings.{held};
 
 use crate::holders::{lead_of, text_attr};
-use crate::links::{Changes, Linked, Outcome, linked_in, put_back, settled, take_root};
+use crate::links::{Changes, Linked, Outcome, linked_in, put_back, take_root};
 use crate::reading::{first_said, has, line_of};
+use crate::settling::settled;
 use crate::work::Work;
 use rst_tree::{Entry, Key, Level, Node, Tag, Text, TreeFault};
 use std::alloc::Global;

@@ -1,8 +1,9 @@
 //! Footnotes.
 
 use crate::holders::text_attr;
-use crate::links::{Addition, Changes, Linked, Outcome, linked_in, put_back, settled, take_root};
+use crate::links::{Addition, Changes, Linked, Outcome, linked_in, put_back, take_root};
 use crate::reading::{first_said, has, is_a, line_of, list_said, text_said};
+use crate::settling::settled;
 use crate::work::Work;
 use rst_tree::{Entry, Key, Level, Node, Said, Tag, Text, TreeFault, Value};
 use std::alloc::Global;

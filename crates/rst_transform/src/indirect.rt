@@ -2,8 +2,9 @@
 
 use crate::anonymous::{is_anonymous_reference, is_anonymous_target};
 use crate::holders::{Holders, lead_by_name};
-use crate::links::{Changes, Linked, Outcome, linked_in, put_back, settled, take_root};
+use crate::links::{Changes, Linked, Outcome, linked_in, put_back, take_root};
 use crate::reading::{has, is_a, line_of, text_said};
+use crate::settling::settled;
 use crate::work::Work;
 use rst_names::{Holder, Names};
 use rst_tree::{Entry, Key, Level, Node, Tag, Text, TreeFault};

@@ -4,8 +4,9 @@ ghost use Rattle.std.specs.List.{list_all};
 ghost use Rattle.rst_tree.specs.Faults.{Gives};
 ghost use Rattle.rst_transform.specs.Linkings.{held, inner_of, linked_among, linked_of, own_linked};
 ghost use Rattle.rst_transform.specs.Links.{Shows, changed_root, is_idle, with_more};
-ghost use Rattle.rst_transform.specs.Outcomes.{addition, adds, change_before, stays};
+ghost use Rattle.rst_transform.specs.Outcomes.{adds, stays};
 
+use crate::problematics::ProblematicAttrs;
 use crate::texts::take_source;
 use crate::work::Work;
 use rst_marked::is_linked;
@@ -33,25 +34,15 @@ pub(crate) struct Addition {
     pub shown: Option<Text>,
 }
 
-impl Addition {
-    /// Nothing.
-    fn none() -> Addition
-        ensures { result ≡ addition None }
-    {
-        Addition {
-            attr: None,
-            shown: None,
-        }
-    }
-}
-
 /// What becomes of a linked element.
 #[derive(Drop)]
 pub(crate) enum Outcome {
     /// It stays.
     Stays(Addition),
-    /// It becomes a problematic of the message at this place among the reports.
+    /// It becomes a problematic of the message at this place among the reports once its turn comes, and stays till then.
     Fails(usize),
+    /// It has become a problematic that tells this.
+    Failed(ProblematicAttrs),
 }
 
 impl Outcome {
@@ -77,20 +68,11 @@ impl Outcome {
     }
 
     /// Whether it stays.
-    fn stays(&self) -> bool
+    pub(crate) fn stays(&self) -> bool
         ensures { result ≡ stays self.now }
     {
         matches!(self, Outcome::Stays(_))
     }
-}
-
-/// What becomes of a linked element that is still met in the end.
-#[derive(Drop)]
-pub(crate) enum Change {
-    /// It stays.
-    Stays(Addition),
-    /// It becomes a problematic with these attributes.
-    Fails(Attrs),
 }
 
 /// The root of a document, taken out until it is put back.
@@ -159,179 +141,37 @@ fn inner_of(tag: Tag, outer: Option<usize>, before: usize) -> Option<usize>
     if is_linked(tag) { Some(before) } else { outer }
 }
 
-/// For each element the first report for which one that it stands in becomes a problematic.
-fn first_around(
-    alloc: Global,
-    linked: &[Linked<'_>],
-    outcomes: &[Outcome],
-) -> Result<Vec<Option<usize>>, TreeFault> {
-    let mut around: Vec<Option<usize>> = Vec::with_capacity(alloc, linked.len())?;
-    for element in linked {
-        let first = match element.outer {
-            Some(outer) => match (around.get(outer), outcomes.get(outer)) {
-                (Some(first), Some(outcome)) => earlier(*first, outcome),
-                _ => None,
-            },
-            None => None,
-        };
-        around.push(first)?;
-    }
-    Ok(around)
-}
-
-/// The earlier of a report and that of an outcome, where there are such.
-fn earlier(first: Option<usize>, outcome: &Outcome) -> Option<usize> {
-    match (first, outcome) {
-        (Some(first), Outcome::Fails(report)) => Some(first.min(*report)),
-        (None, Outcome::Fails(report)) => Some(*report),
-        (first, Outcome::Stays(_)) => first,
-    }
-}
-
-/// Whether an element still stands when the turn of a report comes: one inside another is gone once that one became a
-/// problematic.
-fn still_stands(report: usize, around: Option<usize>) -> bool {
-    match around {
-        Some(first) => report < first,
-        None => true,
-    }
-}
-
-/// The elements that become problematics, each by its report and its place: report by report, under each in preorder.
-fn turns(
-    alloc: Global,
-    reports: usize,
-    outcomes: &[Outcome],
-    around: &[Option<usize>],
-) -> Result<Vec<(usize, usize)>, TreeFault> {
-    let mut turns = Vec::with_capacity(alloc, outcomes.len())?;
-    for (place, (outcome, first)) in outcomes.iter().zip(around).enumerate() {
-        if let Outcome::Fails(report) = outcome {
-            if *report < reports && still_stands(*report, *first) {
-                turns.push((*report, place))?;
-            }
-        }
-    }
-    // Mostly they are found in this order.
-    turns.sort()?;
-    Ok(turns)
-}
-
-/// Lets each element at its turn become its problematic.
-fn take_turns(
-    alloc: Global,
-    work: &mut Work,
-    turns: &[(usize, usize)],
-    changes: &mut Vec<Change>,
-) -> Result<(), TreeFault> {
-    for (report, place) in turns {
-        if *place < changes.len() {
-            changes[*place] = Change::Fails(work.problematic_attrs(alloc, *report)?);
-        }
-    }
-    Ok(())
-}
-
-/// The outcomes of linked elements settled: each that is still met in preorder, with its problematic if it becomes one.
-///
-/// The problematics take their ids here, message by message. An element inside one that became a problematic is gone:
-/// it makes none afterwards, and isn't met in the end.
-pub(crate) fn settled(
-    alloc: Global,
-    work: &mut Work,
-    linked: &[Linked<'_>],
-    outcomes: Vec<Outcome>,
-) -> Result<Changes, TreeFault>
-    ensures changes { list_all stays outcomes.items ≡ true → Gives (λ changes. changes ≡ map change_before outcomes.items) result }
-    ensures work { list_all stays outcomes.items ≡ true → work.new ≡ work.old }
-{
-    if all_stay(outcomes.as_slice()) {
-        let changes = before_turns(alloc, outcomes)?;
-        return Ok(Changes {
-            left: VecDeque::from_vec(changes),
-        });
-    }
-    let around = first_around(alloc, linked, outcomes.as_slice())?;
-    let turns = turns(
-        alloc,
-        work.reports.len(),
-        outcomes.as_slice(),
-        around.as_slice(),
-    )?;
-    let mut changes = before_turns(alloc, outcomes)?;
-    take_turns(alloc, work, turns.as_slice(), &mut changes)?;
-    let left = met(alloc, changes, around)?;
-    Ok(Changes { left })
-}
-
-/// Whether no element becomes a problematic.
-fn all_stay(outcomes: &[Outcome]) -> bool
-    ensures { result ≡ list_all stays outcomes.now }
-{
-    outcomes.iter().all(|outcome| outcome.stays())
-}
-
-/// The changes of elements none of which has become a problematic yet.
-fn before_turns(alloc: Global, outcomes: Vec<Outcome>) -> Result<Vec<Change>, TreeFault>
-    ensures { Gives (λ changes. changes.items ≡ map change_before outcomes.items) result }
-{
-    let mut changes = Vec::with_capacity(alloc, outcomes.len())?;
-    for outcome in outcomes {
-        changes.push(change_before(outcome))?;
-    }
-    Ok(changes)
-}
-
-/// The change of an element before any became a problematic.
-fn change_before(outcome: Outcome) -> Change
-    ensures { result ≡ change_before outcome }
-{
-    match outcome {
-        Outcome::Stays(addition) => Change::Stays(addition),
-        Outcome::Fails(_) => Change::Stays(Addition::none()),
-    }
-}
-
-/// The changes of the elements that are met in the end.
-fn met(
-    alloc: Global,
-    changes: Vec<Change>,
-    around: Vec<Option<usize>>,
-) -> Result<VecDeque<Change>, TreeFault> {
-    if around.iter().all(|first| first.is_none()) {
-        return Ok(VecDeque::from_vec(changes));
-    }
-    let mut left = VecDeque::new(alloc);
-    for (change, first) in changes.into_iter().zip(around) {
-        if first.is_none() {
-            left.push_back(change)?;
-        }
-    }
-    Ok(left)
-}
-
-/// The changes of the linked elements of a tree, in the order in which they are met, which contracts see as the list of
-/// them.
+/// What becomes of the linked elements of a tree, in the order in which they are met, which contracts see as the list of
+/// that.
 #[derive(Drop)]
 pub(crate) struct Changes {
-    left: VecDeque<Change>,
+    left: VecDeque<Outcome>,
 }
 
 impl Model for Changes {
     ghost use Rattle.std.specs.Prelude.{List};
-    ghost use Rattle.rst_transform.specs.declared.links.Change.{Change};
+    ghost use Rattle.rst_transform.specs.declared.links.Outcome.{Outcome};
 
-    ghost Value = { List Change };
+    ghost Value = { List Outcome };
 
     ghost use Rattle.std.specs.Coded.{codes};
-    ghost use Rattle.rst_transform.specs.contracts.links.Change as change;
+    ghost use Rattle.rst_transform.specs.contracts.links.Outcome as outcome;
 
-    ghost coded = { Prim.hlevel (codes, change.the_row.coded) };
+    ghost coded = { Prim.hlevel (codes, outcome.the_row.coded) };
 
     ghost view = { λ s. s.left.items };
 }
 
 impl Changes {
+    /// The changes that a list tells.
+    pub(crate) fn of(list: Vec<Outcome>) -> Changes
+        ensures { result ≡ list.items }
+    {
+        Changes {
+            left: VecDeque::from_vec(list),
+        }
+    }
+
     /// Whether every element stays as it is.
     fn are_idle(&self) -> bool
         ensures { result ≡ list_all is_idle self.now }
@@ -340,13 +180,14 @@ impl Changes {
     }
 }
 
-/// Whether an element with this change stays as it is.
-fn is_idle(change: &Change) -> bool
-    ensures { result ≡ is_idle change.now }
+/// Whether an element of which this becomes stays as it is.
+fn is_idle(outcome: &Outcome) -> bool
+    ensures { result ≡ is_idle outcome.now }
 {
-    match change {
-        Change::Stays(addition) => addition.attr.is_none() && addition.shown.is_none(),
-        Change::Fails(_) => false,
+    match outcome {
+        Outcome::Stays(addition) => addition.attr.is_none() && addition.shown.is_none(),
+        Outcome::Fails(_) => true,
+        Outcome::Failed(_) => false,
     }
 }
 
@@ -392,15 +233,15 @@ impl Rewriter for Changes {
                 return Ok(true);
             }
             match self.left.pop_front() {
-                None => return Ok(true),
-                Some(Change::Stays(addition)) => {
+                None | Some(Outcome::Fails(_)) => return Ok(true),
+                Some(Outcome::Stays(addition)) => {
                     add(attrs, addition.attr)?;
                     return show(children, addition.shown);
                 }
-                Some(Change::Fails(of_problematic)) => {
+                Some(Outcome::Failed(problematic)) => {
                     let source = take_source(alloc, attrs)?;
                     *tag = Tag::Problematic;
-                    *attrs = of_problematic;
+                    problematic.tell(alloc, attrs)?;
                     children.set_lone(Node::Text(source))?;
                 }
             }

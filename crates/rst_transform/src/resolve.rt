@@ -2,12 +2,14 @@
 
 use crate::footnotes::{found_by_order, mark_of, spelled_number};
 use crate::holders::{Holders, lead_by_name, text_attr};
-use crate::links::{Addition, Changes, Linked, Outcome, linked_in, put_back, settled, take_root};
+use crate::links::{Addition, Changes, Linked, Outcome, linked_in, put_back, take_root};
 use crate::reading::{first_said, has, is_a, line_of, text_said};
+use crate::settling::settled;
 use crate::work::Work;
 use rst_names::{Holder, Names};
 use rst_tree::{Entry, Key, Level, Node, Tag, Text, Texts, TreeFault, Value};
 use std::alloc::Global;
+use std::mem;
 
 /// What a name means to a reference.
 #[derive(Drop)]
@@ -73,9 +75,9 @@ pub fn resolve(alloc: Global, mut work: Work) -> Result<Work, TreeFault> {
 /// The changes of a tree's linked elements.
 fn changes_of(alloc: Global, work: &mut Work, root: &Node) -> Result<Changes, TreeFault> {
     let linked = linked_in(alloc, root)?;
-    let meanings = meanings(alloc, work, linked.as_slice())?;
-    let notes = notes_meant(alloc, linked.as_slice(), meanings.as_slice())?;
-    let outcomes = outcomes(alloc, work, linked.as_slice(), meanings)?;
+    let names = mem::replace(&mut work.names, Names::new(alloc));
+    let (outcomes, notes) = outcomes(alloc, work, &names, linked.as_slice())?;
+    work.names = names;
     let outcomes = with_backrefs(alloc, linked.as_slice(), notes.as_slice(), outcomes)?;
     settled(alloc, work, linked.as_slice(), outcomes)
 }
@@ -143,6 +145,17 @@ fn numbers(alloc: Global, linked: &[Linked<'_>]) -> Result<Vec<Option<usize>>, T
 }
 
 impl Lookup<'_> {
+    /// What the name of a reference by name means; there is nothing for another element.
+    fn meaning_to(&self, alloc: Global, element: &Node) -> Result<Option<Meaning>, TreeFault> {
+        match reference_name(element) {
+            Some(name) => {
+                let meaning = self.meaning(alloc, name, is_note_reference(element))?;
+                Ok(Some(meaning))
+            }
+            None => Ok(None),
+        }
+    }
+
     /// What a name means to a reference, which may be one to footnotes and citations alone.
     fn meaning(&self, alloc: Global, name: &str, to_note: bool) -> Result<Meaning, TreeFault> {
         let Some(held) = self.names.get(name) else {
@@ -186,72 +199,28 @@ impl Lookup<'_> {
     }
 }
 
-/// What the name of each reference by name means; there is nothing for the other elements.
-fn meanings(
+/// What becomes of the references by name, where the messages of those that fail are made; and for each reference to a footnote or
+/// citation the place of that. Where there is no such reference the list of places is empty.
+fn outcomes<'a>(
     alloc: Global,
-    work: &Work,
-    linked: &[Linked<'_>],
-) -> Result<Vec<Option<Meaning>>, TreeFault> {
+    work: &mut Work,
+    names: &'a Names,
+    linked: &'a [Linked<'a>],
+) -> Result<(Vec<Outcome>, Vec<Option<usize>>), TreeFault> {
     let lookup = Lookup {
         linked,
-        names: &work.names,
+        names,
         holders: Holders::of(alloc, linked, work.serials)?,
         numbers: numbers(alloc, linked)?,
     };
-    let mut meanings = Vec::with_capacity(alloc, linked.len())?;
-    for one in linked {
-        match reference_name(one.element) {
-            Some(name) => {
-                let to_note = is_note_reference(one.element);
-                meanings.push(Some(lookup.meaning(alloc, name, to_note)?))?;
-            }
-            None => meanings.push(None)?,
-        }
-    }
-    Ok(meanings)
-}
-
-/// For each reference to a footnote or citation the place of that. Where there is no such reference the list is empty.
-fn notes_meant(
-    alloc: Global,
-    linked: &[Linked<'_>],
-    meanings: &[Option<Meaning>],
-) -> Result<Vec<Option<usize>>, TreeFault> {
-    if !linked.iter().any(|one| is_note_reference(one.element)) {
-        return Ok(Vec::new(alloc));
-    }
-    let found = found_by_order(alloc, linked)?;
-    let mut notes = Vec::with_capacity(alloc, linked.len())?;
-    for ((one, meaning), found) in linked.iter().zip(meanings).zip(&found) {
-        match meaning {
-            Some(Meaning::Leads { note, .. }) if is_note_reference(one.element) => {
-                notes.push(*note)?
-            }
-            _ => notes.push(*found)?,
-        }
-    }
-    Ok(notes)
-}
-
-/// Whether a reference whose name means this gets a message, if it still stands.
-fn fails(meaning: &Option<Meaning>) -> bool {
-    matches!(meaning, Some(Meaning::Unknown | Meaning::Duplicate))
-}
-
-/// What becomes of the references by name; the messages of those that fail are made here.
-fn outcomes(
-    alloc: Global,
-    work: &mut Work,
-    linked: &[Linked<'_>],
-    meanings: Vec<Option<Meaning>>,
-) -> Result<Vec<Outcome>, TreeFault> {
-    let failing = meanings.iter().filter(|meaning| fails(meaning)).count();
-    work.reports.reserve(failing)?;
+    let mut notes = notes_by_order(alloc, linked)?;
     let mut outcomes = Vec::with_capacity(alloc, linked.len())?;
     let mut ended: Vec<bool> = Vec::with_capacity(alloc, linked.len())?;
-    for (one, meaning) in linked.iter().zip(meanings) {
+    for (place, one) in linked.iter().enumerate() {
+        let meaning = lookup.meaning_to(alloc, one.element)?;
+        note_meant(&mut notes, place, one.element, &meaning);
         let gone = match one.outer {
-            Some(outer) => outer < ended.len() && ended[outer],
+            Some(outer) => matches!(ended.get(outer), Some(true)),
             None => false,
         };
         let outcome = match meaning {
@@ -262,7 +231,30 @@ fn outcomes(
         ended.push(gone || matches!(&outcome, Outcome::Fails(_)))?;
         outcomes.push(outcome)?;
     }
-    Ok(outcomes)
+    Ok((outcomes, notes))
+}
+
+/// For each linked element the place of the footnote that it refers to by order, if it does. Where none refers to a footnote or
+/// citation the list is empty.
+fn notes_by_order(alloc: Global, linked: &[Linked<'_>]) -> Result<Vec<Option<usize>>, TreeFault> {
+    if !linked.iter().any(|one| is_note_reference(one.element)) {
+        return Ok(Vec::new(alloc));
+    }
+    found_by_order(alloc, linked)
+}
+
+/// Puts the footnote or citation that a reference means in the place of what it refers to by order.
+fn note_meant(
+    notes: &mut [Option<usize>],
+    place: usize,
+    reference: &Node,
+    meaning: &Option<Meaning>,
+) {
+    if let Some(Meaning::Leads { note, .. }) = meaning {
+        if is_note_reference(reference) && place < notes.len() {
+            notes[place] = *note;
+        }
+    }
 }
 
 /// What becomes of a reference whose name means this.

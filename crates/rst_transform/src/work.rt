@@ -1,9 +1,10 @@
 //! The document between two transforms.
 ghost use Rattle.std.specs.Prelude.{◌≡◌, ◌+◌, ◌∷◌, ◌++◌, [], false, vec_len, List, slice_get};
 ghost use Rattle.rst_tree.specs.Faults.{Gives};
-ghost use Rattle.rst_transform.specs.Problematics.{attrs_for, referring, MakesProblematic, OwnId};
+ghost use Rattle.rst_transform.specs.Problematics.{referring, MakesProblematic, OwnId};
 ghost use Rattle.rst_transform.specs.Reports.{with_references, report_node, without_ids, next_report, KeepsRest};
 
+use crate::problematics::ProblematicAttrs;
 use rst_names::{Ids, Names};
 use rst_tree::{
     Attrs, Children, Entry, Key, Level, Node, Note, Tag, Text, Texts, TreeFault, Value,
@@ -142,7 +143,9 @@ impl Work {
         text: Text,
         own: bool,
     ) -> Result<usize, TreeFault>
-        ensures { Gives (λ place. (place ≡ vec_len self.old.reports) × (vec_len self.new.reports ≡ place + 1)) result }
+        ensures place { Gives (λ place. (place ≡ vec_len self.old.reports) × (vec_len self.new.reports ≡ place + 1)) result }
+        ensures reports { let next = next_report self.old.first_number self.old.reports.items level line text own in Gives (λ _. self.new.reports.items ≡ self.old.reports.items ++ next ∷ []) result }
+        ensures rest { Gives (λ _. KeepsRest self.old self.new) result }
     {
         let place = self.reports.len();
         let report = self.next_report(alloc, level, line, text, own);
@@ -179,7 +182,9 @@ impl Work {
     ) -> Result<Node, TreeFault>
         ensures { Gives (λ node. (attrs : List Attr) × MakesProblematic (slice_get self.old.reports.items report) report self.old self.new attrs × (node ≡ Element Problematic attrs (words source bare) line)) result }
     {
-        let attrs = self.problematic_attrs(alloc, report)?;
+        let mut attrs = Attrs::new(alloc);
+        self.next_problematic(alloc, report)?
+            .tell(alloc, &mut attrs)?;
         let children = Children::lone(alloc, Node::Text(source))?;
         Ok(Node::Element {
             tag: Tag::Problematic,
@@ -189,29 +194,22 @@ impl Work {
         })
     }
 
-    /// The attributes of the next problematic, as the message at a place among the reports tells. It gets its id before the
-    /// message gets one. A place behind the last report gives a problematic without message.
-    pub fn problematic_attrs(&mut self, alloc: Global, report: usize) -> Result<Attrs, TreeFault>
-        ensures { Gives (λ attrs. MakesProblematic (slice_get self.old.reports.items report) report self.old self.new attrs) result }
+    /// What the next problematic tells, as the message at a place among the reports has it. It gets its id before the message
+    /// gets one. A place behind the last report gives a problematic without message.
+    pub(crate) fn next_problematic(
+        &mut self,
+        alloc: Global,
+        report: usize,
+    ) -> Result<ProblematicAttrs, TreeFault>
+        ensures { Gives (λ told. MakesProblematic (slice_get self.old.reports.items report) report self.old self.new told) result }
     {
         let id = self.ids.give_kind(alloc, Tag::Problematic)?;
         if report >= self.reports.len() {
-            return Attrs::lone(alloc, Key::Ids, Value::List(Texts::lone(alloc, id)));
+            return Ok(ProblematicAttrs::alone(id));
         }
         let back = id.copy()?;
         let report = &mut self.reports[report];
         let own = report.refer_back(alloc, &mut self.ids, back)?;
-        attrs_for(alloc, id, report.number, own)
+        Ok(ProblematicAttrs::of(id, report.number, own))
     }
-}
-
-/// What a problematic tells: its id, and the number and the id of its message, in the order of their names.
-fn attrs_for(alloc: Global, id: Text, number: u64, own: Text) -> Result<Attrs, TreeFault>
-    ensures { Gives (λ attrs. attrs ≡ attrs_for id number own) result }
-{
-    let mut attrs = Vec::with_capacity(alloc, 3)?;
-    attrs.push_reserved(Entry::new(Key::Ids, Value::List(Texts::lone(alloc, id))));
-    attrs.push_reserved(Entry::new(Key::Message, Value::Number(number)));
-    attrs.push_reserved(Entry::new(Key::Refid, Value::Text(own)));
-    Ok(Attrs::of(attrs))
 }

@@ -172,6 +172,13 @@ impl Attrs {
         None
     }
 
+    /// Takes out all attributes. The list keeps its room.
+    pub fn clear(&mut self)
+        ensures { self.new ≡ [] }
+    {
+        self.list.clear();
+    }
+
     /// Takes out the attributes that serve the transforms alone.
     pub fn remove_hidden(&mut self)
         ensures { self.new ≡ without_hidden self.old }

@@ -1,0 +1,60 @@
+//! What problematics tell.
+ghost use Rattle.std.specs.Prelude.{◌≡◌, Some, None};
+ghost use Rattle.rst_tree.specs.Faults.{Gives};
+ghost use Rattle.rst_transform.specs.Problematics.{told};
+
+use rst_tree::{Attrs, Key, Text, Texts, TreeFault, Value};
+use std::alloc::Global;
+use std::marker::Model;
+
+/// What a problematic tells, which contracts see as its attributes (Document Tree, 'problematic'). A document can have many that
+/// wait for their places in the tree, and this takes no memory of its own.
+#[derive(Drop)]
+pub(crate) struct ProblematicAttrs {
+    id: Text,
+    /// The number and the id of its message, if it has one.
+    message: Option<(u64, Text)>,
+}
+
+impl Model for ProblematicAttrs {
+    ghost use Rattle.std.specs.Prelude.{List};
+    ghost use Rattle.rst_tree.specs.declared.attrs.Attr.{Attr};
+    ghost use Rattle.rst_transform.specs.Problematics.{told};
+
+    ghost Value = { List Attr };
+
+    ghost view = { λ p. told p.id p.message };
+}
+
+impl ProblematicAttrs {
+    /// The problematic of an id, with the number and the id of its message.
+    pub(crate) fn of(id: Text, number: u64, own: Text) -> ProblematicAttrs
+        ensures { result ≡ told id (Some (number, own)) }
+    {
+        ProblematicAttrs {
+            id,
+            message: Some((number, own)),
+        }
+    }
+
+    /// One of an id without message.
+    pub(crate) fn alone(id: Text) -> ProblematicAttrs
+        ensures { result ≡ told id None }
+    {
+        ProblematicAttrs { id, message: None }
+    }
+
+    /// Lets an element tell it in place of its attributes, in the room that they had.
+    pub(crate) fn tell(self, alloc: Global, attrs: &mut Attrs) -> Result<(), TreeFault>
+        ensures { Gives (λ _. attrs.new ≡ self) result }
+    {
+        attrs.clear();
+        attrs.reserve(3)?;
+        attrs.set(Key::Ids, Value::List(Texts::lone(alloc, self.id)))?;
+        if let Some((number, own)) = self.message {
+            attrs.set(Key::Message, Value::Number(number))?;
+            attrs.set(Key::Refid, Value::Text(own))?;
+        }
+        Ok(())
+    }
+}
