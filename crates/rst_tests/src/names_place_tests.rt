@@ -80,7 +80,7 @@ const TARGETS_IN_TITLE: (&str, &str) = (
             x 
             <target dupnames="b" ids="b-3" inline="1" own_name="b" serial="4">
                 b
-        <system_message backrefs="problematic-1" ids="system-message-1" message="0">
+        <system_message backrefs="problematic-1" ids="system-message-1" line="1" message="0">
             <paragraph>
                 Inline emphasis start-string without end-string.
         <system_message backrefs="b-2" level="2" line="6" type="WARNING">
@@ -89,7 +89,7 @@ const TARGETS_IN_TITLE: (&str, &str) = (
         <system_message backrefs="b-3" level="2" line="6" type="WARNING">
             <paragraph>
                 Duplicate explicit target name: "b".
-        <system_message>
+        <system_message line="1">
             <paragraph>
                 Title underline too short.
     <section dupnames="b" ids="b-4" own_name="b" serial="5">
@@ -147,7 +147,7 @@ const TARGETS_IN_LINES: (&str, &str) = (
         <line>
             <target dupnames="a" ids="a-2" inline="1" own_name="a" serial="2">
                 a
-    <system_message backrefs="problematic-1" ids="system-message-1" message="0">
+    <system_message backrefs="problematic-1" ids="system-message-1" line="1" message="0">
         <paragraph>
             Inline emphasis start-string without end-string.
     <system_message backrefs="a-1" level="2" line="2" type="WARNING">
@@ -210,7 +210,7 @@ const TARGETS_IN_TERMS: (&str, &str) = (
                     *
                 x
             <definition>
-                <system_message backrefs="problematic-1" ids="system-message-1" message="0">
+                <system_message backrefs="problematic-1" ids="system-message-1" line="1" message="0">
                     <paragraph>
                         Inline emphasis start-string without end-string.
                 <system_message backrefs="a-1" level="2" line="1" type="WARNING">

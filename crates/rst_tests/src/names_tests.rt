@@ -352,14 +352,14 @@ const MESSAGE_OF_A_PROBLEMATIC: (&str, &str) = (
         <problematic ids="problematic-1" message="0" refid="system-message-1">
             *
         y
-    <system_message backrefs="problematic-1" ids="system-message-1" message="0">
+    <system_message backrefs="problematic-1" ids="system-message-1" line="1" message="0">
         <paragraph>
             Inline emphasis start-string without end-string.
     <paragraph text_messages="1">
         <problematic ids="problematic-2" message="1" refid="system-message-2">
             `
         z
-    <system_message backrefs="problematic-2" ids="system-message-2" message="1">
+    <system_message backrefs="problematic-2" ids="system-message-2" line="1" message="1">
         <paragraph>
             Inline interpreted text or phrase reference start-string without end-string.
 "#,

@@ -264,12 +264,7 @@ fn message(alloc: Global) -> Result<Node, TreeFault> {
         Tag::Paragraph,
         "Error in \"image\" directive:\nunknown option: \"foo\".",
     )?;
-    let attrs = [
-        (Key::Level, Says::Number(3)),
-        (Key::Line, Says::Number(1)),
-        SOURCE,
-        (Key::Type_, Says::Text("ERROR")),
-    ];
+    let attrs = [(Key::Level, Says::Number(3)), SOURCE];
     element(
         alloc,
         Tag::Document,

@@ -4,12 +4,9 @@ use Rattle.rst_tree.specs.declared.attrs.Attr.{Attr}
 use Rattle.rst_tree.specs.declared.attrs.Value.TheVariants.{List as Listed}
 use Rattle.rst_tree.specs.declared.key.Key.TheVariants.{Backrefs}
 use Rattle.rst_tree.specs.declared.node.Node.{Node}
-use Rattle.rst_tree.specs.declared.node.Node.TheVariants.{Element}
 use Rattle.rst_tree.specs.declared.note.Level.{Level}
-use Rattle.rst_tree.specs.declared.tag.Tag.TheVariants.{SystemMessage}
 use Rattle.rst_tree.specs.Attributes.{with_attr}
-use Rattle.rst_tree.specs.Messages.{note_nodes, numbered_attrs}
-use Rattle.rst_tree.specs.Nodes.{forest_of}
+use Rattle.rst_tree.specs.Messages.{message_with, numbered_attrs}
 use Rattle.rst_names.specs.Written.{with_id}
 use Rattle.rst_transform.specs.declared.work.Report.{Report}
 use Rattle.rst_transform.specs.declared.work.Work.{Work}
@@ -20,7 +17,7 @@ with_references r attrs = with_id r.id (with_attr Backrefs (Listed r.backrefs) a
 
 -- the message as a `system_message` with its number
 abbrev pub report_node : Report → Node
-report_node r = Element SystemMessage (with_references r (numbered_attrs r.number r.note.level r.note.line)) (forest_of (note_nodes r.note.text r.note.block r.note.line)) r.note.line
+report_node r = message_with (with_references r (numbered_attrs r.number r.note.level)) r.note
 
 -- the message once its id and those of its problematics have moved elsewhere
 abbrev pub without_ids : Report → Report

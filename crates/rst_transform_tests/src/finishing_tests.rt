@@ -16,7 +16,7 @@ const DOCUMENTS: &[(Threshold, Threshold, &str, &str)] = &[
         <problematic message=\"0\">
             *
         a
-    <system_message level=\"2\" line=\"1\" message=\"0\" type=\"WARNING\">
+    <system_message level=\"2\" message=\"0\">
         <paragraph>
             Inline emphasis start-string without end-string.
 ",
@@ -25,7 +25,7 @@ const DOCUMENTS: &[(Threshold, Threshold, &str, &str)] = &[
         <problematic ids=\"problematic-1\" refid=\"system-message-1\">
             *
         a
-    <system_message backrefs=\"problematic-1\" ids=\"system-message-1\" level=\"2\" line=\"1\" type=\"WARNING\">
+    <system_message backrefs=\"problematic-1\" ids=\"system-message-1\" level=\"2\" line=\"6\" type=\"WARNING\">
         <paragraph>
             Inline emphasis start-string without end-string.
 2 6: Inline emphasis start-string without end-string.
@@ -40,7 +40,7 @@ const DOCUMENTS: &[(Threshold, Threshold, &str, &str)] = &[
         <problematic message=\"0\">
             *
         a
-    <system_message level=\"2\" line=\"1\" message=\"0\" type=\"WARNING\">
+    <system_message level=\"2\" message=\"0\">
         <paragraph>
             Inline emphasis start-string without end-string.
 ",
@@ -100,7 +100,7 @@ const DOCUMENTS: &[(Threshold, Threshold, &str, &str)] = &[
                     <problematic message=\"0\">
                         *
                     c
-                <system_message level=\"2\" line=\"6\" message=\"0\" type=\"WARNING\">
+                <system_message level=\"2\" message=\"0\">
                     <paragraph>
                         Inline emphasis start-string without end-string.
     <section own_name=\"a\" text_messages=\"0\">
@@ -110,7 +110,7 @@ const DOCUMENTS: &[(Threshold, Threshold, &str, &str)] = &[
             <problematic message=\"1\">
                 *
             d
-        <system_message level=\"2\" line=\"11\" message=\"1\" type=\"WARNING\">
+        <system_message level=\"2\" message=\"1\">
             <paragraph>
                 Inline emphasis start-string without end-string.
 ",
@@ -127,7 +127,7 @@ const DOCUMENTS: &[(Threshold, Threshold, &str, &str)] = &[
                     <problematic ids=\"problematic-1\" refid=\"system-message-1\">
                         *
                     c
-                <system_message backrefs=\"problematic-1\" ids=\"system-message-1\" level=\"2\" line=\"6\" type=\"WARNING\">
+                <system_message backrefs=\"problematic-1\" ids=\"system-message-1\" level=\"2\" line=\"14\" type=\"WARNING\">
                     <paragraph>
                         Inline emphasis start-string without end-string.
     <section dupnames=\"a\" ids=\"a-1\">
@@ -140,7 +140,7 @@ const DOCUMENTS: &[(Threshold, Threshold, &str, &str)] = &[
             <problematic ids=\"problematic-2\" refid=\"system-message-2\">
                 *
             d
-        <system_message backrefs=\"problematic-2\" ids=\"system-message-2\" level=\"2\" line=\"11\" type=\"WARNING\">
+        <system_message backrefs=\"problematic-2\" ids=\"system-message-2\" level=\"2\" line=\"24\" type=\"WARNING\">
             <paragraph>
                 Inline emphasis start-string without end-string.
     <section classes=\"system-messages\">
@@ -165,7 +165,7 @@ const DOCUMENTS: &[(Threshold, Threshold, &str, &str)] = &[
         <problematic message=\"0\">
             *
         a
-    <system_message level=\"2\" line=\"5\" message=\"0\" type=\"WARNING\">
+    <system_message level=\"2\" message=\"0\">
         <paragraph>
             Inline emphasis start-string without end-string.
     <transition>
@@ -179,7 +179,7 @@ const DOCUMENTS: &[(Threshold, Threshold, &str, &str)] = &[
         <problematic ids=\"problematic-1\" refid=\"system-message-1\">
             *
         a
-    <system_message backrefs=\"problematic-1\" ids=\"system-message-1\" level=\"2\" line=\"5\" type=\"WARNING\">
+    <system_message backrefs=\"problematic-1\" ids=\"system-message-1\" level=\"2\" line=\"10\" type=\"WARNING\">
         <paragraph>
             Inline emphasis start-string without end-string.
     <transition>

@@ -1,5 +1,6 @@
 //! Trees for tests, written as they are printed: each node behind four spaces a level, an element as
-//! `<tag key="value" ..>`, and any other line as a text.
+//! `<tag key="value" ..>`, and any other line as a text. Messages are written without their lines and types, which they tell where
+//! they are printed.
 
 use rst_names::{Held, Holder, Ids, Names, Strength};
 use rst_text::Counted;
@@ -59,8 +60,6 @@ fn attribute(alloc: Global, name: &str, said: &str) -> Result<(Key, Value), Tree
         "inline" => worded(alloc, Key::Inline, said),
         "bullet" => worded(alloc, Key::Bullet, said),
         "xml:space" => worded(alloc, Key::XmlSpace, said),
-        "line" => worded(alloc, Key::Line, said),
-        "type" => worded(alloc, Key::Type_, said),
         "level" => Ok((Key::Level, digit(said))),
         "message" => Ok((Key::Message, digit(said))),
         "text_messages" => Ok((Key::TextMessages, digit(said))),

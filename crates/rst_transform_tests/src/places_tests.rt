@@ -55,7 +55,7 @@ const TARGETS: &[(&str, &str)] = &[
         ) x
         - y
         z
-    <system_message backrefs=\"problematic-1\" ids=\"system-message-1\" level=\"2\" line=\"10\" type=\"WARNING\">
+    <system_message backrefs=\"problematic-1\" ids=\"system-message-1\" level=\"2\">
         <paragraph>
             Inline emphasis start-string without end-string.
 ",
@@ -72,7 +72,7 @@ const TARGETS: &[(&str, &str)] = &[
         ) x
         - y
         z
-    <system_message backrefs=\"problematic-1\" ids=\"system-message-1\" level=\"2\" line=\"10\" type=\"WARNING\">
+    <system_message backrefs=\"problematic-1\" ids=\"system-message-1\" level=\"2\" line=\"14\" type=\"WARNING\">
         <paragraph>
             Inline emphasis start-string without end-string.
 ",
@@ -115,7 +115,7 @@ const TARGETS: &[(&str, &str)] = &[
     <target dupnames=\"a\" ids=\"a\" own_name=\"a\">
     <paragraph>
         x
-    <system_message backrefs=\"a-1\" level=\"2\" line=\"5\" type=\"WARNING\">
+    <system_message backrefs=\"a-1\" level=\"2\">
         <paragraph>
             Duplicate explicit target name: \"a\".
     <target dupnames=\"a\" ids=\"a-1\" own_name=\"a\">
@@ -182,7 +182,7 @@ const TITLES: &[(&str, &str)] = &[
         <section dupnames=\"a\" ids=\"a-1\" own_name=\"a\">
             <title>
                 A
-            <system_message backrefs=\"a-1\" level=\"1\" line=\"6\" type=\"INFO\">
+            <system_message backrefs=\"a-1\" level=\"1\">
                 <paragraph>
                     Duplicate implicit target name: \"a\".
             <paragraph>
@@ -195,7 +195,7 @@ const TITLES: &[(&str, &str)] = &[
         A
     <comment xml:space=\"preserve\">
         x
-    <system_message backrefs=\"a-1\" level=\"1\" line=\"6\" type=\"INFO\">
+    <system_message backrefs=\"a-1\" level=\"1\" line=\"10\" type=\"INFO\">
         <paragraph>
             Duplicate implicit target name: \"a\".
     <paragraph>
@@ -247,7 +247,7 @@ const TITLES: &[(&str, &str)] = &[
             <problematic ids=\"problematic-1\" refid=\"system-message-1\">
                 *
             x
-        <system_message backrefs=\"problematic-1\" ids=\"system-message-1\" level=\"2\" line=\"1\" type=\"WARNING\">
+        <system_message backrefs=\"problematic-1\" ids=\"system-message-1\" level=\"2\">
             <paragraph>
                 Inline emphasis start-string without end-string.
         <section ids=\"b\" names=\"b\" own_name=\"b\">
@@ -263,7 +263,7 @@ const TITLES: &[(&str, &str)] = &[
         <problematic ids=\"problematic-1\" refid=\"system-message-1\">
             *
         x
-    <system_message backrefs=\"problematic-1\" ids=\"system-message-1\" level=\"2\" line=\"1\" type=\"WARNING\">
+    <system_message backrefs=\"problematic-1\" ids=\"system-message-1\" level=\"2\" line=\"8\" type=\"WARNING\">
         <paragraph>
             Inline emphasis start-string without end-string.
     <section ids=\"b\" names=\"b\" own_name=\"b\">

@@ -46,6 +46,16 @@ with_attr k v (a ∷ more) =
     if nat_lt (key_code a.key) (key_code k) then a ∷ with_attr k v more
     else (if is_same a.key k then attr k v ∷ more else attr k v ∷ a ∷ more)
 
+-- the first attributes, whose names come before k
+abbrev pub before : Key → List Attr → List Attr
+before k [] = []
+before k (a ∷ more) = if nat_lt (key_code a.key) (key_code k) then a ∷ before k more else []
+
+-- the attributes behind those, without one of the name k in front
+abbrev pub behind : Key → List Attr → List Attr
+behind k [] = []
+behind k (a ∷ more) = if nat_lt (key_code a.key) (key_code k) then behind k more else (if is_same a.key k then more else a ∷ more)
+
 -- the attributes without the first of a name
 abbrev pub without_key : Key → List Attr → List Attr
 without_key k [] = []

@@ -1,5 +1,5 @@
 -- The levels of messages (Document Tree, 'system_message').
-use Rattle.std.specs.Prelude.{ℕ, List, codes}
+use Rattle.std.specs.Prelude.{ℕ, ◌==◌, if◌then◌else◌, List, codes}
 use Rattle.rst_tree.specs.declared.note.Level.{Level}
 use Rattle.rst_tree.specs.declared.note.Level.TheVariants.{Info, Warning, Error, Severe}
 
@@ -16,3 +16,7 @@ level_number Info = 1
 level_number Warning = 2
 level_number Error = 3
 level_number Severe = 4
+
+-- the level that has a number: where none has it, the gravest
+abbrev pub level_of : ℕ → Level
+level_of n = if n == 1 then Info else (if n == 2 then Warning else (if n == 3 then Error else Severe))

@@ -2,7 +2,7 @@
 use Rattle.std.specs.Prelude.{ℕ, List, [], ◌∷◌, codes, Option, Some, None}
 use Rattle.rst_tree.specs.declared.attrs.Attr.{Attr}
 use Rattle.rst_tree.specs.declared.attrs.Value.TheVariants.{Text, Number}
-use Rattle.rst_tree.specs.declared.key.Key.TheVariants.{Level as LevelKey, Line, Message, Type_, XmlSpace}
+use Rattle.rst_tree.specs.declared.key.Key.TheVariants.{Level as LevelKey, Message, XmlSpace}
 use Rattle.rst_tree.specs.declared.tag.Tag.{Tag}
 use Rattle.rst_tree.specs.declared.tag.Tag.TheVariants.{SystemMessage, Paragraph, LiteralBlock}
 use Rattle.rst_tree.specs.declared.node.Node.{Node}
@@ -11,7 +11,7 @@ use Rattle.rst_tree.specs.declared.note.Level.{Level}
 use Rattle.rst_tree.specs.declared.note.Note.{Note}
 use Rattle.rst_tree.specs.Attributes.{attr, with_attr}
 use Rattle.rst_tree.specs.Forest.{bare, words}
-use Rattle.rst_tree.specs.LevelNames.{level_name, level_number}
+use Rattle.rst_tree.specs.LevelNames.{level_number}
 use Rattle.rst_tree.specs.Nodes.{forest_of}
 
 -- an element that holds one text
@@ -27,18 +27,22 @@ abbrev pub note_nodes : List ℕ → Option (List ℕ) → ℕ → List Node
 note_nodes text None line = holding Paragraph [] text line ∷ []
 note_nodes text (Some shown) line = holding Paragraph [] text line ∷ literal_of shown line ∷ []
 
--- the level, the line and the level's name
-abbrev pub note_attrs : Level → ℕ → List Attr
-note_attrs level line = attr LevelKey (Number (level_number level)) ∷ attr Line (Number line) ∷ attr Type_ (Text (level_name level)) ∷ []
+-- the level: the line, the source and the type are told where the message is printed
+abbrev pub note_attrs : Level → List Attr
+note_attrs level = attr LevelKey (Number (level_number level)) ∷ []
+
+-- the same with the number of the message, as it stands among their names
+abbrev pub numbered_attrs : ℕ → Level → List Attr
+numbered_attrs number level = with_attr Message (Number number) (note_attrs level)
+
+-- a message's element that holds some attributes
+abbrev pub message_with : List Attr → Note → Node
+message_with attrs note = Element SystemMessage attrs (forest_of (note_nodes note.text note.block note.line)) note.line
 
 -- the message's element
 abbrev pub note_node : Note → Node
-note_node note = Element SystemMessage (note_attrs note.level note.line) (forest_of (note_nodes note.text note.block note.line)) note.line
-
--- the same attributes with the number of the message, as it stands among their names
-abbrev pub numbered_attrs : ℕ → Level → ℕ → List Attr
-numbered_attrs number level line = with_attr Message (Number number) (note_attrs level line)
+note_node note = message_with (note_attrs note.level) note
 
 -- the message's element with its number
 abbrev pub numbered_node : ℕ → Note → Node
-numbered_node number note = Element SystemMessage (numbered_attrs number note.level note.line) (forest_of (note_nodes note.text note.block note.line)) note.line
+numbered_node number note = message_with (numbered_attrs number note.level) note

@@ -2,7 +2,7 @@
 ghost use Rattle.std.specs.Prelude.{◌≡◌};
 ghost use Rattle.rst_tree.specs.Faults.{Gives};
 ghost use Rattle.rst_tree.specs.Nodes.{forest_of};
-ghost use Rattle.rst_tree.specs.Messages.{holding, literal_of, note_nodes, note_attrs, note_node, numbered_attrs, numbered_node};
+ghost use Rattle.rst_tree.specs.Messages.{holding, literal_of, note_nodes, note_attrs, note_node, message_with, numbered_attrs, numbered_node};
 
 use crate::attrs::{Attrs, Value};
 use crate::entry::Entry;
@@ -20,21 +20,22 @@ impl Note {
     pub fn into_node(self, alloc: Global) -> Result<Node, TreeFault>
         ensures { Gives (λ node. node ≡ note_node self) result }
     {
-        let attrs = note_attrs(alloc, self.level, self.line)?;
-        let children = note_nodes(alloc, self.text, self.block, self.line)?;
-        Ok(Node::Element {
-            tag: Tag::SystemMessage,
-            attrs,
-            children,
-            line: self.line,
-        })
+        let attrs = note_attrs(alloc, self.level)?;
+        self.into_message(alloc, attrs)
     }
 
     /// The same with the number of the message (`Key::Message`).
     pub fn into_numbered(self, alloc: Global, number: u64) -> Result<Node, TreeFault>
         ensures { Gives (λ node. node ≡ numbered_node number self) result }
     {
-        let attrs = numbered_attrs(alloc, self.level, self.line, number)?;
+        let attrs = numbered_attrs(alloc, self.level, number)?;
+        self.into_message(alloc, attrs)
+    }
+
+    /// The same with these attributes.
+    fn into_message(self, alloc: Global, attrs: Attrs) -> Result<Node, TreeFault>
+        ensures { Gives (λ node. node ≡ message_with attrs self) result }
+    {
         let children = note_nodes(alloc, self.text, self.block, self.line)?;
         Ok(Node::Element {
             tag: Tag::SystemMessage,
@@ -45,32 +46,25 @@ impl Note {
     }
 }
 
-/// The level, the line, the number of the message and the level's name, in a list with room for two more: the message's id and the
-/// ids of its problematics.
-fn numbered_attrs(alloc: Global, level: Level, line: usize, number: u64) -> Result<Attrs, TreeFault>
-    ensures { Gives (λ attrs. attrs ≡ numbered_attrs number level line) result }
+/// The level and the number of the message, in a list with room for two more: the message's id and the ids of its problematics. The
+/// line, the source and the type are told where the message is printed.
+fn numbered_attrs(alloc: Global, level: Level, number: u64) -> Result<Attrs, TreeFault>
+    ensures { Gives (λ attrs. attrs ≡ numbered_attrs number level) result }
 {
-    let name = Text::from_str(alloc, level.name())?;
-    let mut attrs = Vec::with_capacity(alloc, 6)?;
+    let mut attrs = Vec::with_capacity(alloc, 4)?;
     let grade = Value::Number(u64::from(level.number()));
     attrs.push_reserved(Entry::new(Key::Level, grade));
-    attrs.push_reserved(Entry::new(Key::Line, Value::Number(line as u64)));
     attrs.push_reserved(Entry::new(Key::Message, Value::Number(number)));
-    attrs.push_reserved(Entry::new(Key::Type_, Value::Text(name)));
     Ok(Attrs::of(attrs))
 }
 
-/// The level, the line and the level's name, in a list with room for three more: the number of the message, its id and the
-/// ids of its problematics.
-fn note_attrs(alloc: Global, level: Level, line: usize) -> Result<Attrs, TreeFault>
-    ensures { Gives (λ attrs. attrs ≡ note_attrs level line) result }
+/// The level, in a list with room for three more: the number of the message, its id and the ids of its problematics.
+fn note_attrs(alloc: Global, level: Level) -> Result<Attrs, TreeFault>
+    ensures { Gives (λ attrs. attrs ≡ note_attrs level) result }
 {
-    let name = Text::from_str(alloc, level.name())?;
-    let mut attrs = Vec::with_capacity(alloc, 6)?;
+    let mut attrs = Vec::with_capacity(alloc, 4)?;
     let number = Value::Number(u64::from(level.number()));
     attrs.push_reserved(Entry::new(Key::Level, number));
-    attrs.push_reserved(Entry::new(Key::Line, Value::Number(line as u64)));
-    attrs.push_reserved(Entry::new(Key::Type_, Value::Text(name)));
     Ok(Attrs::of(attrs))
 }
 

@@ -1,6 +1,6 @@
 //! Messages.
 ghost use Rattle.std.specs.Prelude.{◌≡◌};
-ghost use Rattle.rst_tree.specs.LevelNames.{level_name, level_number};
+ghost use Rattle.rst_tree.specs.LevelNames.{level_name, level_number, level_of};
 
 use crate::text::Text;
 
@@ -36,6 +36,18 @@ impl Level {
             Level::Warning => 2,
             Level::Error => 3,
             Level::Severe => 4,
+        }
+    }
+
+    /// The level that has a number: where none has it, the gravest.
+    pub fn of_number(number: u64) -> Level
+        ensures { result ≡ level_of number }
+    {
+        match number {
+            1 => Level::Info,
+            2 => Level::Warning,
+            3 => Level::Error,
+            _ => Level::Severe,
         }
     }
 }

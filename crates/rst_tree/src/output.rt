@@ -2,21 +2,21 @@
 ghost use Rattle.std.specs.Prelude.{◌≡◌, ◌≢◌, ◌+◌, ◌*◌, ◌-◌, ◌^◌, ◌<◌, ◌∷◌, ◌++◌, [], length, take, drop, map, replicate};
 ghost use Rattle.rst_tree.specs.Sends.{Sends};
 ghost use Rattle.rst_tree.specs.Print.{is_escaped, escaped_byte, escaped, spaced, value_text, shown_attr, start_tag, line_len, printed_line, printed, text_lines, printed_node};
-ghost use Rattle.rst_tree.specs.Attributes.{attr, with_attr};
+ghost use Rattle.rst_tree.specs.Attributes.{attr, before, behind};
 ghost use Rattle.rst_tree.specs.Entries.{said};
 ghost use Rattle.rst_tree.specs.Nodes.{node_height};
-ghost use Rattle.rst_tree.specs.Sources.{given_attrs, with_given};
-ghost use Rattle.rst_tree.specs.declared.attrs.Value.TheVariants.{Text as Words};
-ghost use Rattle.rst_tree.specs.declared.key.Key.TheVariants.{Source};
+ghost use Rattle.rst_tree.specs.Told.{given, told_attrs, with_source, with_told, with_type};
+ghost use Rattle.rst_tree.specs.declared.attrs.Value.TheVariants.{Text as Words, Number};
+ghost use Rattle.rst_tree.specs.declared.tag.Tag.TheVariants.{SystemMessage};
 ghost use Rattle.rst_tree.specs.Message.{message_head, block_text, message_of};
 ghost use Rattle.std.specs.List.{flat_map, list_any};
 ghost use Rattle.std.specs.Fmt.{decimal};
 
-use crate::attrs::{is_at, place_of};
+use crate::attrs::{Attrs, is_at, place_of};
 use crate::entry::{Entry, Said};
 use crate::key::Key;
 use crate::node::Node;
-use crate::note::Note;
+use crate::note::{Level, Note};
 use crate::page::{Page, put, put_byte};
 use crate::tag::Tag;
 use crate::text::Text;
@@ -121,65 +121,141 @@ fn put_attr<W: Write, const N: usize>(out: &mut Counted<W>, page: &mut Page<N>, 
     put_byte(out, page, b'"');
 }
 
-/// Writes an element's tag with its attributes, the source among them where one is given and such elements tell it, and the line's
-/// end.
+/// Writes an element's tag with its attributes and what it tells, and the line's end.
 fn put_tag_line<W: Write, const N: usize>(
     out: &mut Counted<W>,
     page: &mut Page<N>,
     tag: Tag,
-    attrs: &[Entry],
+    attrs: &Attrs,
+    line: usize,
     source: Option<&str>,
 )
-    ensures { Sends W.contents (start_tag tag (given_attrs source.entry tag attrs.now) ++ 10 ∷ []) out.old page.old out.new page.new }
+    ensures { Sends W.contents (start_tag tag (told_attrs (given source.entry) tag attrs.now line) ++ 10 ∷ []) out.old page.old out.new page.new }
 {
     put_byte(out, page, b'<');
     put(out, page, tag.name().as_bytes());
-    put_given_attrs(out, page, tag, attrs, source);
+    put_told_attrs(out, page, tag, attrs, line, source);
     put(out, page, b">\n");
 }
 
-/// Writes the attributes of an element, the source among them where one is given and such elements tell it (Document Tree,
-/// `source`).
-fn put_given_attrs<W: Write, const N: usize>(
+/// Writes the attributes of an element and what it tells: a document its source, and a message its line, its source and its type
+/// (Document Tree, `source` and `system_message`).
+fn put_told_attrs<W: Write, const N: usize>(
     out: &mut Counted<W>,
     page: &mut Page<N>,
     tag: Tag,
-    attrs: &[Entry],
+    attrs: &Attrs,
+    line: usize,
     source: Option<&str>,
 )
-    ensures { Sends W.contents (flat_map shown_attr (given_attrs source.entry tag attrs.now)) out.old page.old out.new page.new }
+    ensures { Sends W.contents (flat_map shown_attr (told_attrs (given source.entry) tag attrs.now line)) out.old page.old out.new page.new }
 {
-    match source {
-        Some(source) if tag.tells_source() => put_attrs_with_source(out, page, attrs, source),
-        _ => put_attrs(out, page, attrs),
+    match tag {
+        Tag::Document => put_source_and_type(out, page, attrs.as_slice(), source, None),
+        Tag::SystemMessage => put_message_attrs(out, page, attrs, line, source),
+        _ => put_attrs(out, page, attrs.as_slice()),
     }
 }
 
-/// Writes the attributes with the source: in place of one that they tell, or between the names before and behind it.
-fn put_attrs_with_source<W: Write, const N: usize>(
+/// Writes the attributes of a message, its line, its source if one is given, and the type of the level that it says.
+fn put_message_attrs<W: Write, const N: usize>(
+    out: &mut Counted<W>,
+    page: &mut Page<N>,
+    attrs: &Attrs,
+    line: usize,
+    source: Option<&str>,
+)
+    ensures { Sends W.contents (flat_map shown_attr (told_attrs (given source.entry) SystemMessage attrs.now line)) out.old page.old out.new page.new }
+{
+    let level = attrs.number(Key::Level);
+    let rest = put_before(out, page, attrs.as_slice(), Key::Line);
+    put_number_attr(out, page, Key::Line, line as u64);
+    put_source_and_type(out, page, rest, source, level);
+}
+
+/// Writes the attributes with the source, if one is given, and the type of the level that has a number, if one is said.
+fn put_source_and_type<W: Write, const N: usize>(
     out: &mut Counted<W>,
     page: &mut Page<N>,
     attrs: &[Entry],
-    source: &str,
+    source: Option<&str>,
+    level: Option<u64>,
 )
-    ensures { Sends W.contents (flat_map shown_attr (with_attr Source (Words source.now) attrs.now)) out.old page.old out.new page.new }
+    ensures { Sends W.contents (flat_map shown_attr (with_type level (with_source (given source.entry) attrs.now))) out.old page.old out.new page.new }
 {
-    let place = place_of(attrs, Key::Source);
-    put_attrs(out, page, &attrs[..place]);
-    put_source(out, page, source);
-    if is_at(attrs, place, Key::Source) {
-        put_attrs(out, page, &attrs[place + 1..]);
-    } else {
-        put_attrs(out, page, &attrs[place..]);
+    match source {
+        None => put_with_type(out, page, attrs, level),
+        Some(source) => {
+            let rest = put_before(out, page, attrs, Key::Source);
+            put_text_attr(out, page, Key::Source, source);
+            put_with_type(out, page, rest, level);
+        }
     }
 }
 
-/// Writes the attribute that tells the source.
-fn put_source<W: Write, const N: usize>(out: &mut Counted<W>, page: &mut Page<N>, source: &str)
-    ensures { Sends W.contents (shown_attr (attr Source (Words source.now))) out.old page.old out.new page.new }
+/// Writes the attributes with the type of the level that has a number, if one is said.
+fn put_with_type<W: Write, const N: usize>(
+    out: &mut Counted<W>,
+    page: &mut Page<N>,
+    attrs: &[Entry],
+    level: Option<u64>,
+)
+    ensures { Sends W.contents (flat_map shown_attr (with_type level attrs.now)) out.old page.old out.new page.new }
 {
-    put(out, page, Key::Source.opening().as_bytes());
-    put(out, page, source.as_bytes());
+    match level {
+        None => put_attrs(out, page, attrs),
+        Some(number) => {
+            let rest = put_before(out, page, attrs, Key::Type_);
+            put_text_attr(out, page, Key::Type_, Level::of_number(number).name());
+            put_attrs(out, page, rest);
+        }
+    }
+}
+
+/// Writes the first attributes, whose names come before that of one that is told, and gives those behind it. One of that name isn't
+/// among them: another is told in its place.
+fn put_before<'a, W: Write, const N: usize>(
+    out: &mut Counted<W>,
+    page: &mut Page<N>,
+    attrs: &'a [Entry],
+    key: Key,
+) -> &'a [Entry]
+    ensures sent { Sends W.contents (flat_map shown_attr (before key attrs.now)) out.old page.old out.new page.new }
+    ensures rest { result.now ≡ behind key attrs.now }
+{
+    let place = place_of(attrs, key);
+    put_attrs(out, page, &attrs[..place]);
+    if is_at(attrs, place, key) {
+        return &attrs[place + 1..];
+    }
+    &attrs[place..]
+}
+
+/// Writes an attribute that says a text.
+fn put_text_attr<W: Write, const N: usize>(
+    out: &mut Counted<W>,
+    page: &mut Page<N>,
+    key: Key,
+    text: &str,
+)
+    ensures { Sends W.contents (shown_attr (attr key (Words text.now))) out.old page.old out.new page.new }
+{
+    put(out, page, key.opening().as_bytes());
+    put(out, page, text.as_bytes());
+    put_byte(out, page, b'"');
+}
+
+/// Writes an attribute that says a number.
+fn put_number_attr<W: Write, const N: usize>(
+    out: &mut Counted<W>,
+    page: &mut Page<N>,
+    key: Key,
+    number: u64,
+)
+    ensures { Sends W.contents (shown_attr (attr key (Number number))) out.old page.old out.new page.new }
+{
+    put(out, page, key.opening().as_bytes());
+    put_number(out, page, number);
     put_byte(out, page, b'"');
 }
 
@@ -262,8 +338,7 @@ fn put_text<W: Write, const N: usize>(
     }
 }
 
-/// Writes a node at a level: its first line, and the nodes in it one level deeper. Where a source is given, the elements that tell
-/// it do.
+/// Writes a node at a level: its first line, and the nodes in it one level deeper, each with what it tells.
 pub fn put_node<W: Write, const N: usize>(
     out: &mut Counted<W>,
     page: &mut Page<N>,
@@ -272,17 +347,17 @@ pub fn put_node<W: Write, const N: usize>(
     source: Option<&str>,
 )
     requires levels { level + node_height node.now < 2 ^ 64 }
-    ensures { Sends W.contents (printed_node level (with_given source.entry node.now)) out.old page.old out.new page.new }
+    ensures { Sends W.contents (printed_node level (with_told (given source.entry) node.now)) out.old page.old out.new page.new }
 {
     match node {
         Node::Element {
             tag,
             attrs,
             children,
-            line: _,
+            line,
         } => {
             put_indent(out, page, level);
-            put_tag_line(out, page, *tag, attrs.as_slice(), source);
+            put_tag_line(out, page, *tag, attrs, *line, source);
             for child in children.as_slice() {
                 put_node(out, page, level + 1, child, source);
             }

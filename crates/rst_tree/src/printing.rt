@@ -1,9 +1,9 @@
 //! Trees and messages as they are printed.
-ghost use Rattle.std.specs.Prelude.{◌≡◌, false};
+ghost use Rattle.std.specs.Prelude.{◌≡◌, false, None, Some};
 ghost use Rattle.rst_text.specs.Counted.{between, has_failed};
 ghost use Rattle.rst_tree.specs.Print.{print_of};
 ghost use Rattle.rst_tree.specs.Message.{message_of};
-ghost use Rattle.rst_tree.specs.Sources.{with_source, with_given};
+ghost use Rattle.rst_tree.specs.Told.{given, with_told};
 ghost use Rattle.rst_tree.specs.Faults.{Prints};
 
 use crate::fault::PrintFault;
@@ -22,10 +22,12 @@ const MESSAGE_PAGE: usize = 512;
 
 /// Prints a tree to a writer that hasn't failed: each element and each line of a text is a line, behind four spaces for
 /// each level. All attributes are printed but empty lists of ids, classes, names and references back; `xml:space` is one
-/// like any other, which the makers of literal blocks, doctest blocks, comments and addresses set.
+/// like any other, which the makers of literal blocks, doctest blocks, comments and addresses set. Each message tells its line and
+/// its type (Document Tree, `system_message`), which the tree itself needn't hold: the line is that of the element, and the
+/// type is that of its level.
 pub fn print<W: Write>(tree: &Tree, out: &mut Counted<W>) -> Result<(), PrintFault>
     requires { has_failed out.old ≡ false }
-    ensures { Prints (between W.contents out.old out.new) (print_of tree.now) result }
+    ensures { Prints (between W.contents out.old out.new) (print_of (with_told None tree.now)) result }
 {
     print_given(tree, None, out)
 }
@@ -38,19 +40,19 @@ pub fn print_with_source<W: Write>(
     out: &mut Counted<W>,
 ) -> Result<(), PrintFault>
     requires { has_failed out.old ≡ false }
-    ensures { Prints (between W.contents out.old out.new) (print_of (with_source source.now tree.now)) result }
+    ensures { Prints (between W.contents out.old out.new) (print_of (with_told (Some source.now) tree.now)) result }
 {
     print_given(tree, Some(source), out)
 }
 
-/// Prints a tree, with the source told where one is given.
+/// Prints a tree, with what its elements tell: the source among it, if one is given.
 fn print_given<W: Write>(
     tree: &Tree,
     source: Option<&str>,
     out: &mut Counted<W>,
 ) -> Result<(), PrintFault>
     requires { has_failed out.old ≡ false }
-    ensures { Prints (between W.contents out.old out.new) (print_of (with_given source.entry tree.now)) result }
+    ensures { Prints (between W.contents out.old out.new) (print_of (with_told (given source.entry) tree.now)) result }
 {
     let mut page: Page<TREE_PAGE> = Page::new();
     put_node(out, &mut page, 0, tree.root(), source);

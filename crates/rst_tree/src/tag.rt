@@ -1,6 +1,5 @@
 //! The kinds of elements.
 ghost use Rattle.std.specs.Prelude.{◌≡◌};
-ghost use Rattle.rst_tree.specs.Sources.{tells_source};
 
 /// What an element is (Document Tree, 'Element Reference').
 #[derive(Clone, Copy, Debug, PartialEq, Eq)]
@@ -214,11 +213,5 @@ impl Tag {
             Tag::TitleReference => "title-reference",
             _ => self.name(),
         }
-    }
-    /// Whether elements of this kind tell the source (Document Tree, `source`).
-    pub fn tells_source(self) -> bool
-        ensures { result ≡ tells_source self }
-    {
-        matches!(self, Tag::Document | Tag::SystemMessage)
     }
 }
