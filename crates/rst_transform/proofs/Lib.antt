@@ -1,3 +1,4 @@
+pub mod Agreeing
 pub mod Gathering
 pub mod Idle
 pub mod Leaving

@@ -1,7 +1,7 @@
 //! Anonymous references.
-ghost use Rattle.std.specs.Prelude.{◌≡◌, drop, filter, map};
+ghost use Rattle.std.specs.Prelude.{◌≡◌, drop, filter, length, map};
 ghost use Rattle.rst_tree.specs.Faults.{Gives};
-ghost use Rattle.rst_transform.specs.Anonymous.{agreed, first_lead, is_anonymous_reference, is_anonymous_target, lead_to, taken, with_anonymous, Agrees};
+ghost use Rattle.rst_transform.specs.Anonymous.{agree, agreed, failing, first_lead, first_line, is_anonymous_reference, is_anonymous_target, lead_to, mismatch, taken, with_anonymous, Agrees, ChangesAnonymous, IsAnonymous, IsComplaint};
 ghost use Rattle.rst_transform.specs.Linkings.{held};
 
 use crate::holders::{lead_of, text_attr};
@@ -35,7 +35,8 @@ use std::alloc::Global;
 /// One through an indirect target is left to the next transform. If there are more of the ones than of the others, there is
 /// one ERROR, and each reference becomes a problematic.
 pub fn anonymous(alloc: Global, mut work: Work) -> Result<Work, TreeFault>
-    ensures { Agrees work.root → Gives (λ done. done ≡ with_anonymous work) result }
+    ensures done { Gives (IsAnonymous work) result }
+    ensures agrees { Agrees work.root → Gives (λ done. done ≡ with_anonymous work) result }
 {
     let root = take_root(alloc, &mut work);
     let changes = changes_of(alloc, &mut work, &root)?;
@@ -46,6 +47,7 @@ pub fn anonymous(alloc: Global, mut work: Work) -> Result<Work, TreeFault>
 /// The changes of a tree's linked elements.
 #[tactic(auto, using(crate::proofs::Linking::taken_stay))]
 fn changes_of(alloc: Global, work: &mut Work, root: &Node) -> Result<Changes, TreeFault>
+    ensures done { Gives (ChangesAnonymous (agree root.now) root.now work.old work.new) result }
     ensures changes { Agrees root.now → Gives (λ changes. changes ≡ agreed root.now) result }
     ensures work { Agrees root.now → work.new ≡ work.old }
 {
@@ -114,23 +116,43 @@ fn anonymous_targets<'a>(alloc: Global, linked: &[Linked<'a>]) -> Result<Vec<Lin
     Ok(list)
 }
 
-/// The ERROR that there are more of the ones than of the others, at the first reference, or else target.
+/// The line of the first reference, or else target.
+fn first_line(references: &[Linked<'_>], targets: &[Linked<'_>]) -> usize
+    ensures { result ≡ first_line (map held references.now) (map held targets.now) }
+{
+    if let Some(one) = references.first() {
+        return line_of(one.element);
+    }
+    match targets.first() {
+        Some(one) => line_of(one.element),
+        None => 0,
+    }
+}
+
+/// That there are more of the ones than of the others, in words.
+fn mismatch(alloc: Global, references: usize, targets: usize) -> Result<Text, TreeFault>
+    ensures { Gives (λ text. text ≡ mismatch references targets) result }
+{
+    let text = format!(in alloc;
+        "Anonymous hyperlink mismatch: {references} references but {targets} targets."
+    )?;
+    Ok(Text::new(text))
+}
+
+/// The ERROR that there are.
 fn complain(
     alloc: Global,
     work: &mut Work,
     references: &[Linked<'_>],
     targets: &[Linked<'_>],
-) -> Result<usize, TreeFault> {
-    let line = match references.first().or(targets.first()) {
-        Some(one) => line_of(one.element),
-        None => 0,
-    };
-    let text = format!(in alloc;
-        "Anonymous hyperlink mismatch: {} references but {} targets.",
-        references.len(),
-        targets.len()
-    )?;
-    work.report(alloc, Level::Error, line, Text::new(text), true)
+) -> Result<usize, TreeFault>
+    ensures place { Gives (λ place. place ≡ length work.old.reports.items) result }
+    ensures told { Gives (λ _. IsComplaint (first_line (map held references.now) (map held targets.now)) (length references.now) (length targets.now) work.old work.new) result }
+{
+    let line = first_line(references, targets);
+    let text = mismatch(alloc, references.len(), targets.len())?;
+    let place = work.report(alloc, Level::Error, line, text, true)?;
+    Ok(place)
 }
 
 /// Each reference takes the target that is its own by the order.
@@ -192,14 +214,22 @@ fn mismatched(
     alloc: Global,
     linked: &[Linked<'_>],
     report: usize,
-) -> Result<Vec<Outcome>, TreeFault> {
-    let mut outcomes = Vec::new(alloc);
+) -> Result<Vec<Outcome>, TreeFault>
+    ensures { Gives (λ outcomes. outcomes.items ≡ map (λ one. failing report one.0) (map held linked.now)) result }
+{
+    let mut outcomes = Vec::with_capacity(alloc, linked.len())?;
     for one in linked {
-        if is_anonymous_reference(one.element) {
-            outcomes.push(Outcome::Fails(report))?;
-        } else {
-            outcomes.push(Outcome::same())?;
-        }
+        outcomes.push(failing(report, one.element))?;
     }
     Ok(outcomes)
+}
+
+/// What becomes of an element where all anonymous references fail for a report.
+fn failing(report: usize, element: &Node) -> Outcome
+    ensures { result ≡ failing report element.now }
+{
+    if is_anonymous_reference(element) {
+        return Outcome::Fails(report);
+    }
+    Outcome::same()
 }
