@@ -1,5 +1,5 @@
 -- What becomes of the linked elements of a tree, by whether it has as many anonymous references as anonymous targets.
-use Rattle.std.proofs.Common.{◌≡◌, ℕ, ◌++◌, List, length, map, refl, sym, ◌∙◌, ap, Bool, true, false}
+use Rattle.std.proofs.Common.{◌≡◌, ℕ, List, length, map, refl, sym, ◌∙◌, ap, Bool, true, false}
 use Rattle.std.specs.Prelude.{Result, Ok, Err, nat_eq}
 use Rattle.std.proofs.lemmas.List.{length-map}
 use Rattle.rst_tree.specs.declared.fault.TreeFault.{TreeFault}

@@ -1,6 +1,6 @@
 -- What linked elements come to: one turn more, and that all are met as they are where none fails.
-use Rattle.std.proofs.Common.{◌≡◌, ℕ, zero, suc, ◌+◌, ◌<◌, List, [], ◌∷◌, ◌++◌, length, drop, get_or, refl, sym, ◌∙◌, ap, arith, Bool, true}
-use Rattle.std.specs.Prelude.{◌&&◌, Option, Some, None, is_none, is_some, slice_get, slice_set}
+use Rattle.std.proofs.Common.{◌≡◌, ℕ, zero, suc, ◌+◌, ◌<◌, List, [], ◌∷◌, ◌++◌, length, drop, get_or, refl, sym, ap, arith, Bool, true}
+use Rattle.std.specs.Prelude.{Option, Some, None, is_none, slice_get, slice_set}
 use Rattle.std.specs.List.{list_all}
 use Rattle.std.specs.Option.{option_flatten}
 use Rattle.std.proofs.lemmas.List.{drop_more}
@@ -13,7 +13,7 @@ use Rattle.rst_transform.specs.declared.work.Work.{Work}
 use Rattle.rst_transform.specs.Linkings.{Held}
 use Rattle.rst_transform.specs.Outcomes.{stays}
 use Rattle.rst_transform.specs.Problematics.{MakesProblematic}
-use Rattle.rst_transform.specs.Settling.{earlier_at, first_at, first_in, firsts, in_order, met_from, turns_from, AreTurns, Settles, TakesTurns}
+use Rattle.rst_transform.specs.Settling.{earlier_at, first_at, first_in, firsts, met_from, turns_from, Settles, TakesTurns}
 
 -- the turn at a place among all is the first of those that are left there
 pub next_turn : (turns : List (ℕ × ℕ)) (i : ℕ) (turn : ℕ × ℕ) (before next after : Work) (outcomes settled : List Outcome) (told : List Attr) → i < length turns → turn ≡ get_or turns i turn

@@ -1,14 +1,11 @@
 -- Nodes that are shown.
-use Rattle.std.proofs.Common.{◌≡◌, ℕ, ◌+◌, ◌<◌, ◌≤◌, zero, suc, unwrap_or, List, [], ◌∷◌, ◌++◌, length, take, get_or, set, Bool, true, false, not, ◌&&◌, refl, ap, sym, ◌∙◌, arith}
+use Rattle.std.proofs.Common.{◌≡◌, ℕ, ◌+◌, ◌<◌, ◌≤◌, unwrap_or, List, [], ◌∷◌, ◌++◌, length, take, set, Bool, true, false, not, ◌&&◌, refl, ap, sym, ◌∙◌, arith}
 use Rattle.std.proofs.lemmas.List.{take_more_set, take_all}
 use Rattle.std.proofs.lemmas.List.{append-nil}
 use Rattle.std.proofs.lemmas.List.Elements.{filter-append}
 use Rattle.std.specs.Prelude.{filter}
 use Rattle.rst_tree.proofs.Changes.{nodes_of-forest_of, forest_of-nodes_of}
-use Rattle.rst_tree.proofs.Fitting.{both, height-push}
-use Rattle.rst_tree.proofs.PrintedParts.{node_height-le}
 use Rattle.rst_tree.proofs.Rewrites.{Same, Same-init, Same-more}
-use Rattle.rst_tree.proofs.Walks.{same_item}
 use Rattle.rst_settings.specs.declared.Threshold.{Threshold}
 use Rattle.rst_tree.specs.declared.attrs.Attr.{Attr}
 use Rattle.rst_tree.specs.declared.key.Key.{Key}
@@ -18,8 +15,8 @@ use Rattle.rst_tree.specs.declared.node.Node.TheVariants.{Element, Text}
 use Rattle.rst_tree.specs.declared.tag.Tag.{Tag}
 use Rattle.rst_tree.specs.Attributes.{value_of, said_number, without_hidden}
 use Rattle.rst_tree.specs.KeyNames.{is_hidden, is_same}
-use Rattle.rst_tree.specs.Nodes.{forest_of, nodes_of, node_height}
-use Rattle.rst_tree.specs.Forest.{Forest, height}
+use Rattle.rst_tree.specs.Nodes.{forest_of, nodes_of}
+use Rattle.rst_tree.specs.Forest.{Forest}
 use Rattle.rst_transform.proofs.Leaving.{within_none}
 use Rattle.rst_transform.specs.Shown.{is_low, is_below, may_stay, has_hidden, are_shown, are_within}
 
@@ -149,7 +146,7 @@ Sifting-more report levels old now fit fit' leaves i new s fits stays last told 
       same = Same-more old now i new s.same fits;
       front = ap (λ xs. are_shown report (forest_of xs)) front ∙ shown_more report (left report (take i ns)) new s.front last;
       told = told ∙ ap (λ xs. are_within levels (forest_of xs)) (sym front);
-      all = λ h. front ∙ ap (λ xs. xs ++ new ∷ []) (s.all h) ∙ sym (taken_more now i new fits)
+      all = λ h. front ∙ ap (λ xs. xs ++ new ∷ []) (s.all h) ∙ sym (taken_more now i new fits);
     }
 
 -- one more that leaves
@@ -162,7 +159,7 @@ Sifting-gone report levels old now fit leaves i new s fits gone =
       same = Same-more old now i new s.same fits;
       front = ap (λ xs. are_shown report (forest_of xs)) front ∙ s.front;
       told = s.told ∙ ap (λ xs. are_within levels (forest_of xs)) (sym front);
-      all = λ h. absurd (cc)
+      all = λ h. absurd (cc);
     }
 
 -- what is left in the end

@@ -1,15 +1,14 @@
 -- What failing elements come to, message by message (Document Tree, 'problematic'): an element inside one that became a problematic is
 -- gone from then on.
-use Rattle.std.specs.Prelude.{◌≡◌, ◌+◌, ◌&&◌, ℕ, Bool, true, false, min, nat_lt, List, [], ◌∷◌, ◌++◌, length, map, if◌then◌else◌, slice_get, slice_set, is_some, Option, Some, None, IsPermutation, IsSorted}
+use Rattle.std.specs.Prelude.{◌≡◌, ◌+◌, ◌&&◌, ℕ, Bool, true, min, nat_lt, List, [], ◌∷◌, ◌++◌, length, if◌then◌else◌, slice_get, slice_set, is_some, Option, Some, None, IsPermutation, IsSorted}
 use Rattle.std.specs.Option.{option_flatten}
 use Rattle.std.specs.declared.cmp.Ordering.{Ordering}
 use Rattle.std.specs.Ordering.{ordering_then, nat_cmp}
 use Rattle.rst_tree.specs.declared.attrs.Attr.{Attr}
-use Rattle.rst_transform.specs.declared.links.Linked.{Linked}
 use Rattle.rst_transform.specs.declared.links.Outcome.{Outcome}
 use Rattle.rst_transform.specs.declared.links.Outcome.TheVariants.{Stays, Fails, Failed}
 use Rattle.rst_transform.specs.declared.work.Work.{Work}
-use Rattle.rst_transform.specs.Linkings.{Held, held}
+use Rattle.rst_transform.specs.Linkings.{Held}
 use Rattle.rst_transform.specs.Problematics.{MakesProblematic}
 
 -- the earlier of a report and that of an outcome, where there are such

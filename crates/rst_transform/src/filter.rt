@@ -163,7 +163,13 @@ fn filter_in(
                     ..
                 } => {
                     attrs.remove_hidden();
-                    let inside = filter_in(alloc, children, levels.saturating_sub(1), report, shown)?;
+                    let inside = filter_in(
+                        alloc,
+                        children,
+                        levels.saturating_sub(1),
+                        report,
+                        shown,
+                    )?;
                     fit = fits_element(fit, attrs, inside, levels);
                 }
             },

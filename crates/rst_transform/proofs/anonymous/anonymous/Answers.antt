@@ -3,9 +3,9 @@ use Rattle.rst_transform.proofs.anonymous.anonymous.Goals as goal
 
 pub returns-clause-done : goal.returns-clause-done
 returns-clause-done c = record {
-    out = c.take_root-root.new.work.root;
-    settled = c.changes_of.new.work;
-    changes = c.in_ok-changes.changes;
-    become = search rules;
-    back = search rules
-  }
+  out = c.take_root-root.new.work.root;
+  settled = c.changes_of.new.work;
+  changes = c.in_ok-changes.changes;
+  become = search rules;
+  back = search rules;
+}

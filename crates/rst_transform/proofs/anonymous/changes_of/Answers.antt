@@ -1,4 +1,4 @@
-use Rattle.std.proofs.Common.{rules, arith, ◌≡◌, ◌∙◌, sym, map, length, nat_eq, true, false}
+use Rattle.std.proofs.Common.{rules, ◌≡◌, ◌∙◌, sym, map, length, nat_eq, true, false}
 use Rattle.rst_transform.specs.Anonymous.{agree, agreed, references_in, targets_in}
 use Rattle.rst_transform.specs.Linkings.{held, linked_of}
 use Rattle.rst_transform.specs.Outcomes.{stays}
@@ -25,4 +25,4 @@ returns-clause-done c =
     let other : nat_eq (length c.in_ok-references.references.items) (length c.in_ok-targets.targets.items) ≡ false = search rules in
     let h : agree c.args.root.now ≡ false = sym (told c.args.root.now c.in_ok-references.references.items c.in_ok-targets.targets.items is are) ∙ other in
     failed_all c.args.root.now c.args.work.now c.complain.new.work c.settled-2.new.work (agree c.args.root.now) c.in_ok-references.references.items c.in_ok-targets.targets.items c.in_ok-linked.linked.items
-      c.in_ok-outcomes-2.outcomes.items c.in_ok-report.report c.settled-2.result h is are all (search rules) (search rules) (search rules) (search rules)
+    c.in_ok-outcomes-2.outcomes.items c.in_ok-report.report c.settled-2.result h is are all (search rules) (search rules) (search rules) (search rules)

@@ -1,10 +1,10 @@
-use Rattle.std.proofs.Common.{rules, arith, refl, ◌≡◌, ◌+◌, ◌<◌, ◌≤◌, length, ap, ◌∙◌, sym}
+use Rattle.std.proofs.Common.{rules, arith, refl, ◌≡◌, ◌+◌, ◌≤◌, ap, ◌∙◌}
 use Rattle.rst_tree.proofs.Rewrites.{Same-child}
 use Rattle.rst_tree.specs.Forest.{height}
-use Rattle.rst_tree.specs.Nodes.{nodes_of, node_height}
+use Rattle.rst_tree.specs.Nodes.{node_height}
 use Rattle.rst_tree.specs.declared.node.Node.TheVariants.{Text}
 use Rattle.rst_transform.proofs.Leaving.{within_text, within_element}
-use Rattle.rst_transform.proofs.Showing.{Sifting-init, Sifting-more, Sifting-gone, Sifting-left, Sifting-whole, stays_shown}
+use Rattle.rst_transform.proofs.Showing.{Sifting-init, Sifting-more, Sifting-gone, Sifting-whole, stays_shown}
 use Rattle.rst_transform.specs.Shown.{are_within}
 use Rattle.rst_transform.proofs.filter.+filter_in.Goals as goal
 
