@@ -1,8 +1,9 @@
 -- Nodes that are shown.
 use Rattle.std.proofs.Common.{◌≡◌, ℕ, ◌+◌, ◌<◌, ◌≤◌, zero, suc, unwrap_or, List, [], ◌∷◌, ◌++◌, length, take, get_or, set, Bool, true, false, not, ◌&&◌, refl, ap, sym, ◌∙◌, arith}
 use Rattle.std.proofs.lemmas.List.{take_more_set, take_all}
-use Rattle.std.proofs.lemmas.List.Folds.{list_all-append}
-use Rattle.std.specs.List.{list_all}
+use Rattle.std.proofs.lemmas.List.{append-nil}
+use Rattle.std.proofs.lemmas.List.Elements.{filter-append}
+use Rattle.std.specs.Prelude.{filter}
 use Rattle.rst_tree.proofs.Changes.{nodes_of-forest_of, forest_of-nodes_of}
 use Rattle.rst_tree.proofs.Fitting.{both, height-push}
 use Rattle.rst_tree.proofs.PrintedParts.{node_height-le}
@@ -102,85 +103,87 @@ element_shown report tag attrs shown inside line reached same nodes =
     let clean : has_hidden shown ≡ false = ap has_hidden same ∙ none_hidden attrs in
     rw low (rw clean (rw nodes refl))
 
--- an item of a list whose items all pass
-all_at : {X : Type 0} (f : X → Bool) (xs : List X) (i : ℕ) (x : X) → list_all f xs ≡ true → i < length xs → x ≡ get_or xs i x → f x ≡ true
-all_at f [] i x h fits is = absurd (omega arith)
-all_at f (y ∷ xs) zero x h fits is = ap f is ∙ (both (f y) (list_all f xs) h).0
-all_at f (y ∷ xs) (suc i) x h fits is = all_at f xs i x (both (f y) (list_all f xs) h).1 (omega arith) is
+-- what is left of nodes without the messages below the report level
+abbrev pub left : Threshold → List Node → List Node
+left report ns = filter (may_stay report) ns
 
-passes : (b : Bool) → false ≡ not b → b ≡ true
-passes true h = refl
-passes false h = cc
+left_stay : (report : Threshold) (ns : List Node) (n : Node) → may_stay report n ≡ true → left report (ns ++ n ∷ []) ≡ left report ns ++ n ∷ []
+left_stay report ns n stays = filter-append (may_stay report) ns (n ∷ []) ∙ (rw stays refl)
 
-one_high : (n : Node) → 1 ≤ node_height n
-one_high (Element t a c l) = omega arith
-one_high (Text t) = omega arith
+left_gone : (report : Threshold) (ns : List Node) (n : Node) → may_stay report n ≡ false → left report (ns ++ n ∷ []) ≡ left report ns
+left_gone report ns n gone = filter-append (may_stay report) ns (n ∷ []) ∙ (rw gone (append-nil (left report ns)))
 
 reached_of : (b : Bool) → not b ≡ true → false ≡ b
 reached_of true h = cc
 reached_of false h = refl
 
--- a list that nodes are
-pub listed : (report : Threshold) (f : Forest) (ns : List Node) → f ≡ forest_of ns → list_all (may_stay report) ns ≡ true → list_all (may_stay report) (nodes_of f) ≡ true
-listed report f ns is all = ap (λ g. list_all (may_stay report) (nodes_of g)) is ∙ ap (list_all (may_stay report)) (nodes_of-forest_of ns) ∙ all
+passes : (b : Bool) → false ≡ not b → b ≡ true
+passes true h = refl
+passes false h = cc
 
--- nodes that stay of others
-pub record Staying (report : Threshold) (nodes : Forest) (kept : List Node) : Type 0 where
-  pub all : list_all (may_stay report) kept ≡ true
-  pub low : height (forest_of kept) ≤ height nodes
+fails : (b : Bool) → true ≡ not b → b ≡ false
+fails true h = cc
+fails false h = refl
 
-Staying-more : (report : Threshold) (nodes : Forest) (kept : List Node) (n : Node) → Staying report nodes kept → may_stay report n ≡ true → node_height n ≤ height nodes → Staying report nodes (kept ++ n ∷ [])
-Staying-more report nodes kept n s stays low =
-    record { all = list_all-append (may_stay report) kept (n ∷ []) ∙ (rw (s.all, stays) refl); low = height-push (height nodes) n kept s.low low }
-
--- a node of the nodes is no higher than they
-met_low : (nodes : Forest) (ns : List Node) (i : ℕ) (n : Node) → nodes ≡ forest_of ns → n ≡ get_or ns i n → i < length ns → node_height n ≤ height nodes
-met_low nodes ns i n is at fits =
-    let e : node_height n ≡ node_height (get_or ns i n) = ap node_height at in
-    let f : height nodes ≡ height (forest_of ns) = ap height is in
-    omega (arith, e, f, node_height-le ns i n fits)
-
--- one that stays
-pub Staying-node : (report : Threshold) (nodes : Forest) (ns kept : List Node) (i : ℕ) (n : Node) → Staying report nodes kept → nodes ≡ forest_of ns → n ≡ get_or ns i n → i < length ns → false ≡ not (may_stay report n)
-    → Staying report nodes (kept ++ n ∷ [])
-Staying-node report nodes ns kept i n s is at fits stays = Staying-more report nodes kept n s (passes (may_stay report n) stays) (met_low nodes ns i n is at fits)
-
--- one that becomes a text
-pub Staying-text : (report : Threshold) (nodes : Forest) (ns kept : List Node) (i : ℕ) (n : Node) (t : List ℕ) → Staying report nodes kept → nodes ≡ forest_of ns → n ≡ get_or ns i n → i < length ns
-    → Staying report nodes (kept ++ Text t ∷ [])
-Staying-text report nodes ns kept i n t s is at fits = Staying-more report nodes kept (Text t) s refl (let h = met_low nodes ns i n is at fits in let k = one_high n in omega arith)
-
--- nodes filtered in place, before place i, and whether those fit
-pub record Sifting (report : Threshold) (levels : ℕ) (old now : Forest) (fit : Bool) (i : ℕ) : Type 0 where
+-- nodes filtered in place, before place i, what is left of them, and whether that fits; some leave, or all are left
+pub record Sifting (report : Threshold) (levels : ℕ) (old now : Forest) (fit leaves : Bool) (i : ℕ) : Type 0 where
   pub same : Same old now i
-  pub front : are_shown report (forest_of (take i (nodes_of now))) ≡ true
-  pub told : fit ≡ are_within levels (forest_of (take i (nodes_of now)))
+  pub front : are_shown report (forest_of (left report (take i (nodes_of now)))) ≡ true
+  pub told : fit ≡ are_within levels (forest_of (left report (take i (nodes_of now))))
+  pub all : leaves ≡ false → left report (take i (nodes_of now)) ≡ take i (nodes_of now)
 
-pub Sifting-init : (report : Threshold) (levels : ℕ) (f : Forest) → Sifting report levels f f true 0
-Sifting-init report levels f = record { same = Same-init f; front = refl; told = sym (within_none levels) }
+pub Sifting-init : (report : Threshold) (levels : ℕ) (f : Forest) → Sifting report levels f f true false 0
+Sifting-init report levels f = record { same = Same-init f; front = refl; told = sym (within_none levels); all = λ h. refl }
 
-pub Sifting-more : (report : Threshold) (levels : ℕ) (old now : Forest) (fit fit' : Bool) (i : ℕ) (new : Node) → Sifting report levels old now fit i → i < length (nodes_of now)
-    → are_shown report (forest_of (new ∷ [])) ≡ true → fit' ≡ are_within levels (forest_of (take i (nodes_of now) ++ new ∷ []))
-    → Sifting report levels old (forest_of (set (nodes_of now) i new)) fit' (i + 1)
-Sifting-more report levels old now fit fit' i new s fits last told =
+taken_more : (now : Forest) (i : ℕ) (new : Node) → i < length (nodes_of now) → take (i + 1) (nodes_of (forest_of (set (nodes_of now) i new))) ≡ take i (nodes_of now) ++ new ∷ []
+taken_more now i new fits = ap (take (i + 1)) (nodes_of-forest_of (set (nodes_of now) i new)) ∙ take_more_set (nodes_of now) i new fits
+
+-- one more that stays
+pub Sifting-more : (report : Threshold) (levels : ℕ) (old now : Forest) (fit fit' leaves : Bool) (i : ℕ) (new : Node) → Sifting report levels old now fit leaves i → i < length (nodes_of now)
+    → may_stay report new ≡ true → are_shown report (forest_of (new ∷ [])) ≡ true → fit' ≡ are_within levels (forest_of (left report (take i (nodes_of now)) ++ new ∷ []))
+    → Sifting report levels old (forest_of (set (nodes_of now) i new)) fit' leaves (i + 1)
+Sifting-more report levels old now fit fit' leaves i new s fits stays last told =
     let ns = nodes_of now in
-    let front : take (i + 1) (nodes_of (forest_of (set ns i new))) ≡ take i ns ++ new ∷ [] = ap (take (i + 1)) (nodes_of-forest_of (set ns i new)) ∙ take_more_set ns i new fits in
+    let front : left report (take (i + 1) (nodes_of (forest_of (set ns i new)))) ≡ left report (take i ns) ++ new ∷ [] = ap (left report) (taken_more now i new fits) ∙ left_stay report (take i ns) new stays in
     record {
       same = Same-more old now i new s.same fits;
-      front = ap (λ xs. are_shown report (forest_of xs)) front ∙ shown_more report (take i ns) new s.front last;
+      front = ap (λ xs. are_shown report (forest_of xs)) front ∙ shown_more report (left report (take i ns)) new s.front last;
       told = told ∙ ap (λ xs. are_within levels (forest_of xs)) (sym front);
+      all = λ h. front ∙ ap (λ xs. xs ++ new ∷ []) (s.all h) ∙ sym (taken_more now i new fits);
     }
 
-pub Sifting-shown : (report : Threshold) (levels : ℕ) (old now : Forest) (fit : Bool) (i : ℕ) → Sifting report levels old now fit i → length (nodes_of now) ≤ i → are_shown report now ≡ true
-Sifting-shown report levels old now fit i s all = ap (are_shown report) (sym (forest_of-nodes_of now)) ∙ (rw (take_all i (nodes_of now) all) at s.front)
+-- one more that leaves
+pub Sifting-gone : (report : Threshold) (levels : ℕ) (old now : Forest) (fit leaves : Bool) (i : ℕ) (new : Node) → Sifting report levels old now fit leaves i → i < length (nodes_of now)
+    → true ≡ not (may_stay report new) → Sifting report levels old (forest_of (set (nodes_of now) i new)) fit true (i + 1)
+Sifting-gone report levels old now fit leaves i new s fits gone =
+    let ns = nodes_of now in
+    let front : left report (take (i + 1) (nodes_of (forest_of (set ns i new)))) ≡ left report (take i ns) = ap (left report) (taken_more now i new fits) ∙ left_gone report (take i ns) new (fails (may_stay report new) gone) in
+    record {
+      same = Same-more old now i new s.same fits;
+      front = ap (λ xs. are_shown report (forest_of xs)) front ∙ s.front;
+      told = s.told ∙ ap (λ xs. are_within levels (forest_of xs)) (sym front);
+      all = λ h. absurd (cc);
+    }
 
-pub Sifting-tree : (report : Threshold) (levels : ℕ) (old now : Forest) (fit : Bool) (i : ℕ) → Sifting report levels old now fit i → length (nodes_of now) ≤ i → fit ≡ are_within levels now
-Sifting-tree report levels old now fit i s all = s.told ∙ ap (are_within levels) (ap forest_of (take_all i (nodes_of now) all) ∙ forest_of-nodes_of now)
+-- what is left in the end
+ended : (now : Forest) (i : ℕ) → length (nodes_of now) ≤ i → take i (nodes_of now) ≡ nodes_of now
+ended now i all = take_all i (nodes_of now) all
 
--- an element that is met isn't a message below the report level
-pub Sifting-stays : (report : Threshold) (levels : ℕ) (old now : Forest) (fit : Bool) (i : ℕ) (child : Node) (t : Tag) (a : List Attr) (c : Forest) (l : ℕ) → Sifting report levels old now fit i
-    → i < length (nodes_of now) → child ≡ get_or (nodes_of now) i child → child ≡ Element t a c l → list_all (may_stay report) (nodes_of old) ≡ true → false ≡ is_below report t a
-Sifting-stays report levels old now fit i child t a c l s fits is made all =
-    let at : child ≡ get_or (nodes_of old) i child = is ∙ same_item i (nodes_of now) (nodes_of old) child s.same.rest in
-    let k : may_stay report child ≡ true = all_at (may_stay report) (nodes_of old) i child all (omega (arith, s.same.same_len, fits)) at in
-    reached_of (is_below report t a) (rw made at k)
+pub Sifting-left : (report : Threshold) (levels : ℕ) (old now done : Forest) (fit leaves : Bool) (i : ℕ) → Sifting report levels old now fit leaves i → length (nodes_of now) ≤ i → done ≡ forest_of (left report (nodes_of now))
+    → (are_shown report done ≡ true) × (fit ≡ are_within levels done)
+Sifting-left report levels old now done fit leaves i s all is =
+    let whole : forest_of (left report (take i (nodes_of now))) ≡ done = ap (λ xs. forest_of (left report xs)) (ended now i all) ∙ sym is in
+    (ap (are_shown report) (sym whole) ∙ s.front, s.told ∙ ap (are_within levels) whole)
+
+pub Sifting-whole : (report : Threshold) (levels : ℕ) (old now : Forest) (fit leaves : Bool) (i : ℕ) → Sifting report levels old now fit leaves i → length (nodes_of now) ≤ i → leaves ≡ false
+    → (are_shown report now ≡ true) × (fit ≡ are_within levels now)
+Sifting-whole report levels old now fit leaves i s all none =
+    Sifting-left report levels old now now fit leaves i s all (sym (ap forest_of (ap (left report) (sym (ended now i all)) ∙ s.all none ∙ ended now i all) ∙ forest_of-nodes_of now))
+
+-- an element that stays isn't below the report level, nor is it without its hidden attributes
+pub stays_shown : (report : Threshold) (child : Node) (t : Tag) (a shown : List Attr) (c inside : Forest) (l : ℕ) → child ≡ Element t a c l → false ≡ not (may_stay report child) → shown ≡ without_hidden a → are_shown report inside ≡ true
+    → (may_stay report (Element t shown inside l) ≡ true) × (are_shown report (forest_of (Element t shown inside l ∷ [])) ≡ true)
+stays_shown report child t a shown c inside l is stays same nodes =
+    let reached : false ≡ is_below report t a = reached_of (is_below report t a) (rw is at (passes (may_stay report child) stays)) in
+    let low : is_below report t shown ≡ false = ap (is_below report t) same ∙ below_left report t a ∙ sym reached in
+    (rw low refl, element_shown report t a shown inside l reached same nodes)

@@ -1,9 +1,7 @@
 //! What of a document is shown.
-ghost use Rattle.std.specs.Prelude.{◌≡◌, ◌≤◌, ◌&&◌, true, not, nat_lt, IsTrue};
-ghost use Rattle.std.specs.List.{list_all};
+ghost use Rattle.std.specs.Prelude.{◌≡◌, ◌&&◌, true, not, nat_lt, filter};
 ghost use Rattle.rst_tree.specs.Faults.{Gives};
-ghost use Rattle.rst_tree.specs.Forest.{height};
-ghost use Rattle.rst_tree.specs.Nodes.{nodes_of};
+ghost use Rattle.rst_tree.specs.Nodes.{forest_of, nodes_of};
 ghost use Rattle.rst_tree.specs.Tree.{in_order, is_lines, is_tree};
 ghost use Rattle.rst_transform.specs.Shown.{are_within, is_gone, may_stay, are_shown, is_shown_in};
 
@@ -48,7 +46,6 @@ pub(crate) fn filter(
             line,
         } => {
             attrs.remove_hidden();
-            keep_staying(alloc, &mut children, report, shown)?;
             let inside = filter_in(alloc, &mut children, Tree::MOST_LEVELS - 1, report, shown)?;
             let is_tree = inside && attrs.are_in_order();
             let root = Node::Element {
@@ -78,74 +75,39 @@ enum Fate {
 fn fate_of(node: &Node, report: Threshold, shown: &[bool]) -> Fate
     ensures { is_gone result ≡ not (may_stay report node.now) }
 {
-    let Node::Element { tag, attrs, .. } = node else {
-        return Fate::Stays;
-    };
-    match tag {
-        Tag::SystemMessage if !reaches(level_number(attrs), report) => Fate::Vanishes,
-        Tag::Problematic => match attrs.number(Key::Message) {
-            Some(message) if matches!(shown.get(message as usize), Some(true)) => Fate::Stays,
-            _ => Fate::BecomesText,
-        },
+    if !may_stay(node, report) {
+        return Fate::Vanishes;
+    }
+    match node {
+        Node::Element { tag, attrs, .. } if matches!(tag, Tag::Problematic) => {
+            match attrs.number(Key::Message) {
+                Some(message) if matches!(shown.get(message as usize), Some(true)) => Fate::Stays,
+                _ => Fate::BecomesText,
+            }
+        }
         _ => Fate::Stays,
     }
 }
 
-/// Whether all nodes stay.
-fn all_stay(nodes: &[Node], report: Threshold, shown: &[bool]) -> bool
-    ensures { IsTrue result → list_all (may_stay report) nodes.now ≡ true }
+/// Takes the messages below the report level out of a list.
+fn take_out_low(alloc: Global, nodes: &mut Children, report: Threshold)
+    ensures { nodes.new ≡ forest_of (filter (may_stay report) (nodes_of nodes.old)) }
 {
-    for node in nodes {
-        if !matches!(fate_of(node, report, shown), Fate::Stays) {
-            return false;
-        }
-    }
-    true
+    let mut list = mem::replace(nodes, Children::new(alloc)).into_list();
+    list.retain(|node| may_stay(node, report));
+    *nodes = Children::of(list);
 }
 
-/// Takes the nodes that don't stay out of a list, or puts their texts in their places. A list whose nodes all stay is left alone.
-fn keep_staying(
-    alloc: Global,
-    nodes: &mut Children,
-    report: Threshold,
-    shown: &[bool],
-) -> Result<(), TreeFault>
-    ensures stay { Gives (λ _. list_all (may_stay report) (nodes_of nodes.new) ≡ true) result }
-    ensures height { Gives (λ _. height nodes.new ≤ height nodes.old) result }
+/// Whether a node isn't a message below the report level.
+fn may_stay(node: &Node, report: Threshold) -> bool
+    ensures { result ≡ may_stay report node.now }
 {
-    if all_stay(nodes.as_slice(), report, shown) {
-        return Ok(());
-    }
-    let all = mem::replace(nodes, Children::new(alloc));
-    *nodes = staying(alloc, all, report, shown)?;
-    Ok(())
-}
-
-/// The nodes that stay, and the texts of those that become text.
-fn staying(
-    alloc: Global,
-    nodes: Children,
-    report: Threshold,
-    shown: &[bool],
-) -> Result<Children, TreeFault>
-    ensures stay { Gives (λ kept. list_all (may_stay report) (nodes_of kept) ≡ true) result }
-    ensures height { Gives (λ kept. height kept ≤ height nodes) result }
-{
-    let mut kept = Vec::with_capacity(alloc, nodes.len())?;
-    for node in nodes.into_list() {
-        match fate_of(&node, report, shown) {
-            Fate::Stays => {
-                kept.push(node)?;
-                continue;
-            }
-            Fate::BecomesText => {
-                kept.push(Node::Text(node.text_of(alloc)?))?;
-                continue;
-            }
-            Fate::Vanishes => continue,
+    match node {
+        Node::Element { tag, attrs, .. } => {
+            !matches!(tag, Tag::SystemMessage) || reaches(level_number(attrs), report)
         }
+        Node::Text(_) => true,
     }
-    Ok(Children::of(kept))
 }
 
 /// Whether nodes fit with a text behind them, where there are so many levels and `fit` says whether they fit without it.
@@ -162,7 +124,7 @@ fn fits_element(fit: bool, attrs: &Attrs, inside: bool, levels: usize) -> bool
     fit && levels > 0 && inside && attrs.are_in_order()
 }
 
-/// Takes what isn't shown out of nodes that stay, and tells whether what is left fits in a tree at so many levels: all attributes are
+/// Takes what isn't shown out of nodes, and tells whether what is left fits in a tree at so many levels: all attributes are
 /// in order, no text holds a line end but LF, and the levels suffice.
 fn filter_in(
     alloc: Global,
@@ -171,28 +133,50 @@ fn filter_in(
     report: Threshold,
     shown: &[bool],
 ) -> Result<bool, TreeFault>
-    requires { list_all (may_stay report) (nodes_of nodes.old) ≡ true }
     ensures shown { Gives (λ _. are_shown report nodes.new ≡ true) result }
     ensures tree { Gives (λ fit. fit ≡ are_within levels nodes.new) result }
 {
     let mut fit = true;
+    let mut leaves = false;
     for i in 0..nodes.len() {
-        match nodes.get_mut(i) {
-            Node::Text(text) => {
-                fit = fits_text(fit, text, levels);
+        let node = nodes.get_mut(i);
+        match fate_of(node, report, shown) {
+            Fate::Vanishes => {
+                // It is taken out with all that do, behind the last.
+                leaves = true;
                 continue;
             }
-            Node::Element {
-                attrs,
-                children,
-                ..
-            } => {
-                attrs.remove_hidden();
-                keep_staying(alloc, children, report, shown)?;
-                let inside = filter_in(alloc, children, levels.saturating_sub(1), report, shown)?;
-                fit = fits_element(fit, attrs, inside, levels);
+            Fate::BecomesText => {
+                let text = node.text_of(alloc)?;
+                fit = fits_text(fit, &text, levels);
+                *node = Node::Text(text);
+                continue;
             }
+            Fate::Stays => match node {
+                Node::Text(text) => {
+                    fit = fits_text(fit, text, levels);
+                    continue;
+                }
+                Node::Element {
+                    attrs,
+                    children,
+                    ..
+                } => {
+                    attrs.remove_hidden();
+                    let inside = filter_in(
+                        alloc,
+                        children,
+                        levels.saturating_sub(1),
+                        report,
+                        shown,
+                    )?;
+                    fit = fits_element(fit, attrs, inside, levels);
+                }
+            },
         }
+    }
+    if leaves {
+        take_out_low(alloc, nodes, report);
     }
     Ok(fit)
 }
