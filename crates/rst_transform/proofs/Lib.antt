@@ -1,5 +1,6 @@
 pub mod Agreeing
 pub mod Gathering
+pub mod Holding
 pub mod Idle
 pub mod Leaving
 pub mod Linking

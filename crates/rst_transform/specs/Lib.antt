@@ -4,6 +4,7 @@ pub mod Bibliography
 pub mod Docinfo
 pub mod Fields
 pub mod Gathered
+pub mod Holders
 pub mod Linkings
 pub mod Links
 pub mod Lists
