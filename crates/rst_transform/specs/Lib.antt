@@ -9,6 +9,7 @@ pub mod Linkings
 pub mod Links
 pub mod Lists
 pub mod Messages
+pub mod NoteOrders
 pub mod Outcomes
 pub mod Problematics
 pub mod Reading

@@ -1,5 +1,5 @@
 -- What of a finished document is shown (Configuration, `report_level`).
-use Rattle.std.specs.Prelude.{ℕ, min, List, [], ◌∷◌, Bool, true, false, not, nat_le, ◌&&◌, ◌||◌}
+use Rattle.std.specs.Prelude.{ℕ, min, List, Bool, true, false, not, nat_le, ◌&&◌}
 use Rattle.rst_settings.specs.declared.Threshold.{Threshold}
 use Rattle.rst_settings.specs.Threshold.{is_reached}
 use Rattle.rst_tree.specs.declared.attrs.Attr.{Attr}
@@ -8,7 +8,6 @@ use Rattle.rst_tree.specs.declared.node.Node.TheVariants.{Element, Text}
 use Rattle.rst_tree.specs.declared.tag.Tag.{Tag}
 use Rattle.rst_tree.specs.declared.tag.Tag.TheVariants.{SystemMessage}
 use Rattle.rst_tree.specs.Forest.{Forest, bare, element, words, height}
-use Rattle.rst_tree.specs.KeyNames.{is_hidden}
 use Rattle.rst_tree.specs.Tree.{is_sound}
 use Rattle.rst_transform.specs.declared.filter.Fate.{Fate}
 use Rattle.rst_transform.specs.declared.filter.Fate.TheVariants.{Stays, BecomesText, Vanishes}
@@ -33,20 +32,15 @@ abbrev pub may_stay : Threshold → Node → Bool
 may_stay report (Element t a c l) = not (is_below report t a)
 may_stay report (Text t) = true
 
--- whether one of the attributes serves the transforms alone
-abbrev pub has_hidden : List Attr → Bool
-has_hidden [] = false
-has_hidden (a ∷ more) = is_hidden a.key || has_hidden more
-
--- no element of the nodes, or in them, is a message below the report level, and none has an attribute that serves the transforms alone
+-- no element of the nodes, or in them, is a message below the report level
 abbrev pub are_shown : Threshold → Forest → Bool
 are_shown report bare = true
-are_shown report (element t a c l r) = not (is_below report t a) && (not (has_hidden a) && (are_shown report c && are_shown report r))
+are_shown report (element t a c l r) = not (is_below report t a) && (are_shown report c && are_shown report r)
 are_shown report (words t r) = are_shown report r
 
--- the same for what stands in a document, and the document's own attributes
+-- the same for what stands in a document
 abbrev pub is_shown_in : Threshold → Node → Bool
-is_shown_in report (Element t a c l) = not (has_hidden a) && are_shown report c
+is_shown_in report (Element t a c l) = are_shown report c
 is_shown_in report (Text t) = true
 
 -- the nodes fit in a tree at so many levels: they nest no deeper, the attributes are in order, and the texts hold no line end but LF

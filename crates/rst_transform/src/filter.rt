@@ -11,10 +11,9 @@ use rst_tree::{Attrs, Children, Key, Node, Tag, Text, Tree, TreeFault};
 use std::alloc::Global;
 use std::mem;
 
-/// Takes the messages below the report level out of a document, lets each problematic whose message is gone become its text, and
-/// takes off the attributes that serve the transforms alone (Configuration, `report_level`). `shown` tells of the
-/// number of each message whether that stays. Whether what is left is a tree is told with it, so that nobody needs to go through it
-/// once more.
+/// Takes the messages below the report level out of a document, and lets each problematic whose message is gone become its text
+/// (Configuration, `report_level`). `shown` tells of the number of each message whether that stays. Whether what is left is a tree is
+/// told with it, so that nobody needs to go through it once more.
 ///
 /// Before, where WARNINGs aren't shown:
 ///
@@ -41,11 +40,10 @@ pub(crate) fn filter(
     match root {
         Node::Element {
             tag,
-            mut attrs,
+            attrs,
             mut children,
             line,
         } => {
-            attrs.remove_hidden();
             let inside = filter_in(alloc, &mut children, Tree::MOST_LEVELS - 1, report, shown)?;
             let is_tree = inside && attrs.are_in_order();
             let root = Node::Element {
@@ -162,7 +160,6 @@ fn filter_in(
                     children,
                     ..
                 } => {
-                    attrs.remove_hidden();
                     let inside = filter_in(
                         alloc,
                         children,

@@ -2,34 +2,19 @@
 
 use crate::holders::text_attr;
 use crate::links::{Addition, Changes, Linked, Outcome, linked_in, put_back, take_root};
-use crate::reading::{first_said, has, is_a, line_of, list_said, text_said};
+use crate::note_order::{
+    Order, footnote_order, found_by_order, in_order, mark_of, reference_order,
+};
+use crate::reading::{first_said, is_a, line_of, list_said, number_said};
 use crate::settling::settled;
 use crate::work::Work;
-use rst_tree::{Entry, Key, Level, Node, Said, Tag, Text, TreeFault, Value};
+use rst_names::{Held, Holder, Names, Strength};
+use rst_tree::{Entry, Key, Level, Node, Tag, Text, TreeFault, Value};
 use std::alloc::Global;
 
 /// The labels of symbol footnotes; the further ones are these doubled, tripled and so on (Markup Specification, 'Auto-Symbol
 /// Footnotes').
 const SYMBOLS: [char; 10] = ['*', '†', '‡', '§', '¶', '#', '♠', '♥', '♦', '♣'];
-
-/// The two orders by which a reference without a name finds its footnote.
-#[derive(Clone, Copy, PartialEq, Eq)]
-enum Order {
-    /// That of the footnotes which are to be numbered.
-    Numbers,
-    /// That of the symbol footnotes.
-    Symbols,
-}
-
-impl Order {
-    /// What the message on references left over calls them.
-    fn name(self) -> &'static str {
-        match self {
-            Order::Numbers => "autonumbered",
-            Order::Symbols => "symbol",
-        }
-    }
-}
 
 /// Numbers the footnotes, and lets the references find those that they find by the order (Markup Specification,
 /// 'Footnotes').
@@ -81,6 +66,7 @@ fn changes_of(alloc: Global, work: &mut Work, root: &Node) -> Result<Changes, Tr
     let linked = linked_in(alloc, root)?;
     let labels = labels(alloc, linked.as_slice())?;
     let found = found_by_order(alloc, linked.as_slice())?;
+    hold_numbers(alloc, &mut work.names, linked.as_slice(), labels.as_slice())?;
     let outcomes = outcomes(
         alloc,
         work,
@@ -91,70 +77,8 @@ fn changes_of(alloc: Global, work: &mut Work, root: &Node) -> Result<Changes, Tr
     settled(alloc, work, linked.as_slice(), outcomes)
 }
 
-/// The label that a footnote was written with.
-pub(crate) fn mark_of<'a>(node: &'a Node) -> Option<&'a str> {
-    if is_a(node, Tag::Footnote) {
-        text_said(node, Key::Mark)
-    } else {
-        None
-    }
-}
-
-/// How references find a footnote by the order, if they do.
-fn footnote_order(node: &Node) -> Option<Order> {
-    match mark_of(node) {
-        Some("#") => Some(Order::Numbers),
-        Some("*") => Some(Order::Symbols),
-        _ => None,
-    }
-}
-
-/// How a reference finds its footnote by the order, if it does.
-fn reference_order(node: &Node) -> Option<Order> {
-    if !is_a(node, Tag::FootnoteReference) || has(node, Key::Refname) {
-        return None;
-    }
-    match node.value(Key::Auto) {
-        Some(Said::Text(text)) if text.as_str() == "*" => Some(Order::Symbols),
-        Some(_) => Some(Order::Numbers),
-        None => None,
-    }
-}
-
-/// The places of the footnotes that references find by an order.
-fn in_order(alloc: Global, linked: &[Linked<'_>], order: Order) -> Result<Vec<usize>, TreeFault> {
-    let mut places = Vec::new(alloc);
-    for (place, one) in linked.iter().enumerate() {
-        if footnote_order(one.element) == Some(order) {
-            places.push(place)?;
-        }
-    }
-    Ok(places)
-}
-
-/// For each reference that finds its footnote by the order the footnote's place, where there is one.
-pub(crate) fn found_by_order(
-    alloc: Global,
-    linked: &[Linked<'_>],
-) -> Result<Vec<Option<usize>>, TreeFault> {
-    let numbers = in_order(alloc, linked, Order::Numbers)?;
-    let symbols = in_order(alloc, linked, Order::Symbols)?;
-    let mut numbers = numbers.iter();
-    let mut symbols = symbols.iter();
-    let mut found = Vec::with_capacity(alloc, linked.len())?;
-    for one in linked {
-        let place = match reference_order(one.element) {
-            Some(Order::Numbers) => numbers.next().copied(),
-            Some(Order::Symbols) => symbols.next().copied(),
-            None => None,
-        };
-        found.push(place)?;
-    }
-    Ok(found)
-}
-
 /// The number that a label spells, as numbers are printed.
-pub(crate) fn spelled_number(label: &str) -> Option<usize> {
+fn spelled_number(label: &str) -> Option<usize> {
     match label.as_bytes().first() {
         Some(b'1'..=b'9') => label.parse::<usize>().ok(),
         _ => None,
@@ -221,6 +145,48 @@ fn labels(alloc: Global, linked: &[Linked<'_>]) -> Result<Vec<Option<Text>>, Tre
     Ok(labels)
 }
 
+/// Lets the footnotes that were to be numbered and not named hold their numbers as names.
+fn hold_numbers(
+    alloc: Global,
+    names: &mut Names,
+    linked: &[Linked<'_>],
+    labels: &[Option<Text>],
+) -> Result<(), TreeFault> {
+    for (one, label) in linked.iter().zip(labels) {
+        if !Order::Numbers.is(footnote_order(one.element)) {
+            continue;
+        }
+        if let Some(number) = label {
+            hold_number(alloc, names, number.as_str(), one.element)?;
+        }
+    }
+    Ok(())
+}
+
+/// Lets a footnote hold its number as a name, unless an element was written with that name.
+fn hold_number(
+    alloc: Global,
+    names: &mut Names,
+    number: &str,
+    footnote: &Node,
+) -> Result<(), TreeFault> {
+    if names.get(number).is_some() {
+        return Ok(());
+    }
+    let Some(serial) = number_said(footnote, Key::Serial) else {
+        return Ok(());
+    };
+    let Some(id) = first_said(footnote, Key::Ids) else {
+        return Ok(());
+    };
+    let held = Held {
+        holder: Holder::Element(serial),
+        strength: Strength::Explicit,
+        id: Text::from_str(alloc, id)?,
+    };
+    names.hold(alloc, number, held)
+}
+
 /// The message on the references of an order for which no footnote is left, if there are such.
 fn leftover(
     alloc: Global,
@@ -230,7 +196,7 @@ fn leftover(
     order: Order,
 ) -> Result<Option<usize>, TreeFault> {
     for (one, place) in linked.iter().zip(found) {
-        if place.is_none() && reference_order(one.element) == Some(order) {
+        if place.is_none() && order.is(reference_order(one.element)) {
             let text = format!(in alloc;
                 "Too many {} footnote references: only {} corresponding footnotes available.",
                 order.name(),
@@ -311,7 +277,7 @@ fn labelled(
         };
         return Ok(Outcome::Stays(Addition { attr: None, shown }));
     }
-    if footnote_order(one.element) == Some(Order::Numbers) {
+    if Order::Numbers.is(footnote_order(one.element)) {
         if let Some(number) = text_at(labels, place)? {
             let mut names = list_said(alloc, one.element, Key::Names)?;
             names.push(number)?;

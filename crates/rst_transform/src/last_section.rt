@@ -32,9 +32,9 @@ pub(crate) fn last_section(
 
 /// Whether a message stands in the last section and is at or above the report level.
 fn is_shown(report: &Report, threshold: Threshold) -> bool
-    ensures { result ≡ (report.now.own && is_reached threshold (level_number report.now.note.level)) }
+    ensures { result ≡ (report.now.own && is_reached threshold (level_number report.now.level)) }
 {
-    report.own && threshold.is_reached(report.note.level.number())
+    report.own && threshold.is_reached(report.level.number())
 }
 
 /// The section with the messages that stand in it.

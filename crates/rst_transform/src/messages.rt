@@ -131,7 +131,8 @@ impl Messages {
     {
         self.notes.reserve(reports.len())?;
         for report in reports {
-            self.push(report.note, Some(report.number))?;
+            let number = report.number;
+            self.push(report.into_note(), Some(number))?;
         }
         Ok(())
     }

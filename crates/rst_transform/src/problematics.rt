@@ -1,11 +1,12 @@
 //! What problematics tell.
-ghost use Rattle.std.specs.Prelude.{◌≡◌, Some, None};
+ghost use Rattle.std.specs.Prelude.{◌≡◌, ◌++◌, Some, None};
 ghost use Rattle.rst_tree.specs.Faults.{Gives};
-ghost use Rattle.rst_transform.specs.Problematics.{told};
+ghost use Rattle.rst_transform.specs.Problematics.{message_attrs, told};
 
-use rst_tree::{Attrs, Key, Text, Texts, TreeFault, Value};
+use rst_tree::{Attrs, Entry, Key, Text, Texts, TreeFault, Value};
 use std::alloc::Global;
 use std::marker::Model;
+use std::mem;
 
 /// What a problematic tells, which contracts see as its attributes (Document Tree, 'problematic'). A document can have many that
 /// wait for their places in the tree, and this takes no memory of its own.
@@ -48,13 +49,24 @@ impl ProblematicAttrs {
     pub(crate) fn tell(self, alloc: Global, attrs: &mut Attrs) -> Result<(), TreeFault>
         ensures { Gives (λ _. attrs.new ≡ self) result }
     {
-        attrs.clear();
-        attrs.reserve(3)?;
-        attrs.set(Key::Ids, Value::List(Texts::lone(alloc, self.id)))?;
-        if let Some((number, own)) = self.message {
-            attrs.set(Key::Message, Value::Number(number))?;
-            attrs.set(Key::Refid, Value::Text(own))?;
-        }
+        let mut list = mem::replace(attrs, Attrs::new(alloc)).into_list();
+        list.clear();
+        list.reserve_exact(3)?;
+        let id = Value::List(Texts::lone(alloc, self.id));
+        list.push(Entry::new(Key::Ids, id))?;
+        push_message(&mut list, self.message)?;
+        *attrs = Attrs::of(list);
         Ok(())
     }
+}
+
+/// Adds the number and the id of a message, if there is one.
+fn push_message(list: &mut Vec<Entry>, message: Option<(u64, Text)>) -> Result<(), TreeFault>
+    ensures { Gives (λ _. list.new.items ≡ list.old.items ++ message_attrs message) result }
+{
+    if let Some((number, own)) = message {
+        list.push(Entry::new(Key::Message, Value::Number(number)))?;
+        list.push(Entry::new(Key::Refid, Value::Text(own)))?;
+    }
+    Ok(())
 }

@@ -1,8 +1,8 @@
 //! References by name.
 
-use crate::footnotes::{found_by_order, mark_of, spelled_number};
-use crate::holders::{Holders, lead_by_name, text_attr};
+use crate::holders::{Holders, lead_by_name};
 use crate::links::{Addition, Changes, Linked, Outcome, linked_in, put_back, take_root};
+use crate::note_order::found_by_order;
 use crate::reading::{first_said, has, is_a, line_of, text_said};
 use crate::settling::settled;
 use crate::work::Work;
@@ -28,8 +28,6 @@ struct Lookup<'a> {
     linked: &'a [Linked<'a>],
     names: &'a Names,
     holders: Holders,
-    /// The places of the footnotes that were numbered and not named, by their numbers.
-    numbers: Vec<Option<usize>>,
 }
 
 /// Lets each reference by name refer to what the name means, and each footnote and citation tell its references (Markup
@@ -111,39 +109,6 @@ fn label_of(alloc: Global, note: &Node) -> Result<Option<Text>, TreeFault> {
     Ok(None)
 }
 
-/// Whether an element is a footnote that was numbered and not named.
-fn is_numbered(node: &Node) -> bool {
-    mark_of(node) == Some("#")
-}
-
-/// The places of the footnotes that were numbered and not named, by their numbers.
-fn numbers(alloc: Global, linked: &[Linked<'_>]) -> Result<Vec<Option<usize>>, TreeFault> {
-    if !linked.iter().any(|one| is_numbered(one.element)) {
-        return Ok(Vec::new(alloc));
-    }
-    let mut numbers: Vec<Option<usize>> = Vec::with_capacity(
-        alloc,
-        linked.len().saturating_add(1),
-    )?;
-    numbers.push(None)?;
-    for _ in linked {
-        numbers.push(None)?;
-    }
-    for (place, one) in linked.iter().enumerate() {
-        if !is_numbered(one.element) {
-            continue;
-        }
-        if let Some(label) = label_of(alloc, one.element)? {
-            if let Some(number) = spelled_number(label.as_str()) {
-                if number < numbers.len() {
-                    numbers[number] = Some(place);
-                }
-            }
-        }
-    }
-    Ok(numbers)
-}
-
 impl Lookup<'_> {
     /// What the name of a reference by name means; there is nothing for another element.
     fn meaning_to(&self, alloc: Global, element: &Node) -> Result<Option<Meaning>, TreeFault> {
@@ -159,7 +124,7 @@ impl Lookup<'_> {
     /// What a name means to a reference, which may be one to footnotes and citations alone.
     fn meaning(&self, alloc: Global, name: &str, to_note: bool) -> Result<Meaning, TreeFault> {
         let Some(held) = self.names.get(name) else {
-            return self.numbered(alloc, name);
+            return Ok(Meaning::Unknown);
         };
         if held.holder == Holder::Nobody {
             return Ok(Meaning::Duplicate);
@@ -179,24 +144,6 @@ impl Lookup<'_> {
         let attr = lead_by_name(alloc, self.names, name, held, holder)?;
         Ok(Meaning::Leads { attr, note })
     }
-
-    /// What a name means that no element was written with: the footnote that got it as its number, if there is one.
-    fn numbered(&self, alloc: Global, name: &str) -> Result<Meaning, TreeFault> {
-        if let Some(number) = spelled_number(name) {
-            if let Some(Some(place)) = self.numbers.get(number) {
-                if let Some(one) = self.linked.get(*place) {
-                    if let Some(id) = first_said(one.element, Key::Ids) {
-                        let attr = text_attr(alloc, Key::Refid, id)?;
-                        return Ok(Meaning::Leads {
-                            attr,
-                            note: Some(*place),
-                        });
-                    }
-                }
-            }
-        }
-        Ok(Meaning::Unknown)
-    }
 }
 
 /// What becomes of the references by name, where the messages of those that fail are made; and for each reference to a footnote or
@@ -211,7 +158,6 @@ fn outcomes<'a>(
         linked,
         names,
         holders: Holders::of(alloc, linked, work.serials)?,
-        numbers: numbers(alloc, linked)?,
     };
     let mut notes = notes_by_order(alloc, linked)?;
     let mut outcomes = Vec::with_capacity(alloc, linked.len())?;

@@ -2,7 +2,7 @@
 ghost use Rattle.std.specs.Prelude.{◌≡◌, ◌+◌, ◌∷◌, ◌++◌, [], false, vec_len, List, slice_get};
 ghost use Rattle.rst_tree.specs.Faults.{Gives};
 ghost use Rattle.rst_transform.specs.Problematics.{referring, MakesProblematic, OwnId};
-ghost use Rattle.rst_transform.specs.Reports.{with_references, report_node, without_ids, next_report, KeepsRest};
+ghost use Rattle.rst_transform.specs.Reports.{id_attrs, report_attrs, report_node, report_note, without_ids, next_report, KeepsRest};
 
 use crate::problematics::ProblematicAttrs;
 use rst_names::{Ids, Names};
@@ -15,8 +15,12 @@ use std::mem;
 /// A message of a transform.
 #[derive(Debug, Drop)]
 pub struct Report {
+    /// How grave it is.
+    pub level: Level,
+    /// The number of the line that it speaks of.
+    pub line: usize,
     /// What it says.
-    pub note: Note,
+    pub text: Text,
     /// The number that it and its problematics carry (`Key::Message`), which no other message has.
     pub number: u64,
     /// Its id, which it gets with its first problematic.
@@ -33,47 +37,44 @@ impl Report {
         ensures node { Gives (λ node. node ≡ report_node self.old) result }
         ensures left { Gives (λ _. self.new ≡ without_ids self.old) result }
     {
-        let block = match &self.note.block {
-            Some(block) => Some(block.copy()?),
-            None => None,
-        };
         let note = Note {
-            level: self.note.level,
-            line: self.note.line,
-            text: self.note.text.copy()?,
-            block,
+            level: self.level,
+            line: self.line,
+            text: self.text.copy()?,
+            block: None,
         };
-        match note.into_numbered(alloc, self.number)? {
-            Node::Element {
-                tag,
-                mut attrs,
-                children,
-                line,
-            } => {
-                self.hand_references(alloc, &mut attrs)?;
-                Ok(Node::Element {
-                    tag,
-                    attrs,
-                    children,
-                    line,
-                })
-            }
-            node => Ok(node),
-        }
+        let attrs = self.take_attrs(alloc)?;
+        let node = note.into_node_with(alloc, attrs)?;
+        Ok(node)
     }
 
-    /// Lets the attributes of the message tell its id and those of its problematics.
-    fn hand_references(&mut self, alloc: Global, attrs: &mut Attrs) -> Result<(), TreeFault>
-        ensures attrs { Gives (λ _. attrs.new ≡ with_references self.old attrs.old) result }
+    /// What the `system_message` tells, in the order of the names: the ids of its problematics and its own, which move there, its level
+    /// and its number.
+    fn take_attrs(&mut self, alloc: Global) -> Result<Attrs, TreeFault>
+        ensures attrs { Gives (λ attrs. attrs ≡ report_attrs self.old) result }
         ensures left { Gives (λ _. self.new ≡ without_ids self.old) result }
     {
+        let mut list = Vec::with_capacity(alloc, 4)?;
         let backrefs = mem::replace(&mut self.backrefs, Texts::new(alloc));
-        attrs.reserve(2)?;
-        attrs.set(Key::Backrefs, Value::List(backrefs))?;
-        if let Some(id) = mem::replace(&mut self.id, None) {
-            attrs.set(Key::Ids, Value::List(Texts::lone(alloc, id)))?;
+        list.push(Entry::new(Key::Backrefs, Value::List(backrefs)))?;
+        let id = mem::replace(&mut self.id, None);
+        push_id(alloc, &mut list, id)?;
+        let level = Value::Number(u64::from(self.level.number()));
+        list.push(Entry::new(Key::Level, level))?;
+        list.push(Entry::new(Key::Message, Value::Number(self.number)))?;
+        Ok(Attrs::of(list))
+    }
+
+    /// What it says, for the list of messages.
+    pub fn into_note(self) -> Note
+        ensures { result ≡ report_note self }
+    {
+        Note {
+            level: self.level,
+            line: self.line,
+            text: self.text,
+            block: None,
         }
-        Ok(())
     }
 
     /// Adds a problematic by its id, and gives the message's own, which it gets with the first.
@@ -89,6 +90,16 @@ impl Report {
         self.id = Some(own.copy()?);
         Ok(own)
     }
+}
+
+/// Adds the id of an element, if it has one.
+fn push_id(alloc: Global, list: &mut Vec<Entry>, id: Option<Text>) -> Result<(), TreeFault>
+    ensures { Gives (λ _. list.new.items ≡ list.old.items ++ id_attrs id) result }
+{
+    if let Some(id) = id {
+        list.push(Entry::new(Key::Ids, Value::List(Texts::lone(alloc, id))))?;
+    }
+    Ok(())
 }
 
 /// The document between two transforms, with what registration left, and the messages of the transforms so far.
@@ -119,12 +130,9 @@ impl Work {
         ensures { result ≡ next_report self.now.first_number self.now.reports.items level line text own }
     {
         Report {
-            note: Note {
-                level,
-                line,
-                text,
-                block: None,
-            },
+            level,
+            line,
+            text,
             // The sum can't saturate: memory doesn't hold so many messages.
             number: self.first_number.saturating_add(self.reports.len() as u64),
             id: None,

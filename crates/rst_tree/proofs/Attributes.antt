@@ -1,16 +1,16 @@
 -- Attributes put at their places.
 use Rattle.std.proofs.lemmas.Bool.{eqb-true}
-use Rattle.std.proofs.Common.{nat_eq, ◌∙◌, Bool, ℕ, sym, ◌≡◌, ◌+◌, ◌≤◌, List, [], ◌∷◌, length, drop, set, filter, not, add-one, refl, ap, arith, true, false, nat_lt}
+use Rattle.std.proofs.Common.{nat_eq, ◌∙◌, Bool, ℕ, sym, ◌≡◌, ◌+◌, ◌≤◌, List, [], ◌∷◌, length, drop, set, add-one, refl, ap, arith, true, false, nat_lt}
 use Rattle.std.specs.Prelude.{if◌then◌else◌}
 use Rattle.std.specs.List.{insert, remove}
 use Rattle.std.proofs.Common.{get_or, Some, None, ◌<◌}
 use Rattle.rst_tree.specs.declared.attrs.Attr.{Attr}
 use Rattle.rst_tree.specs.declared.attrs.Value.{Value}
 use Rattle.rst_tree.specs.declared.key.Key.{Key}
-use Rattle.rst_tree.specs.KeyNames.{key_code, is_same, is_hidden}
+use Rattle.rst_tree.specs.KeyNames.{key_code, is_same}
 use Rattle.rst_tree.specs.Tree.{in_order}
 use Rattle.std.specs.Prelude.{◌&&◌}
-use Rattle.rst_tree.specs.Attributes.{attr, places_below, with_attr, is_at, value_of, place_named, without_key, without_hidden}
+use Rattle.rst_tree.specs.Attributes.{attr, places_below, with_attr, is_at, value_of, place_named, without_key}
 
 -- a value in place of the one before
 pub set_there : (k : Key) (v : Value) (xs : List Attr) → is_at k (drop (places_below k xs) xs) ≡ true → set xs (places_below k xs) (attr k v) ≡ with_attr k v xs
@@ -107,10 +107,3 @@ unnamed_rest k [] h = refl
 unnamed_rest k (x ∷ xs) h =
     elim (is_same x.key k) as (λ b. length (x ∷ xs) ≤ (if b then 0 else place_named k xs + 1) → x ∷ xs ≡ (if b then xs else x ∷ without_key k xs))
     [ true ↦ λ h. absurd (omega arith) | false ↦ λ h. ap (λ z. x ∷ z) (unnamed_rest k xs (omega arith)) ] h
-
--- what a test by the name keeps
-pub without_hidden-filter : (xs : List Attr) → without_hidden xs ≡ filter (λ a. not (is_hidden a.key)) xs
-without_hidden-filter [] = refl
-without_hidden-filter (a ∷ xs) =
-    elim (is_hidden a.key) as (λ v. (if v then without_hidden xs else a ∷ without_hidden xs) ≡ (if not v then a ∷ filter (λ b. not (is_hidden b.key)) xs else filter (λ b. not (is_hidden b.key)) xs))
-    [ true ↦ without_hidden-filter xs | false ↦ ap (λ l. a ∷ l) (without_hidden-filter xs) ]

@@ -4,7 +4,7 @@ use Rattle.rst_tree.specs.declared.attrs.Attr.{Attr}
 use Rattle.rst_tree.specs.declared.attrs.Value.{Value}
 use Rattle.rst_tree.specs.declared.attrs.Value.TheVariants.{Text, Number, List as Listed}
 use Rattle.rst_tree.specs.declared.key.Key.{Key}
-use Rattle.rst_tree.specs.KeyNames.{key_code, is_same, is_hidden}
+use Rattle.rst_tree.specs.KeyNames.{key_code, is_same}
 
 -- an attribute: its name, and what it says
 abbrev pub attr : Key → Value → Attr
@@ -65,8 +65,3 @@ without_key k (a ∷ more) = if is_same a.key k then more else a ∷ without_key
 abbrev pub place_named : Key → List Attr → ℕ
 place_named k [] = 0
 place_named k (a ∷ more) = if is_same a.key k then 0 else place_named k more + 1
-
--- the attributes without those that the transforms alone need
-abbrev pub without_hidden : List Attr → List Attr
-without_hidden [] = []
-without_hidden (a ∷ more) = if is_hidden a.key then without_hidden more else a ∷ without_hidden more

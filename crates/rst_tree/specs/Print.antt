@@ -11,7 +11,7 @@ use Rattle.rst_tree.specs.declared.key.Key.TheVariants.{Ids, Classes, Names, Dup
 use Rattle.rst_tree.specs.declared.tag.Tag.{Tag}
 use Rattle.rst_tree.specs.declared.node.Node.{Node}
 use Rattle.rst_tree.specs.declared.node.Node.TheVariants.{Element, Text as Words}
-use Rattle.rst_tree.specs.KeyNames.{key_name}
+use Rattle.rst_tree.specs.KeyNames.{key_name, is_hidden}
 use Rattle.rst_tree.specs.TagNames.{tag_name}
 use Rattle.rst_tree.specs.Forest.{Forest, bare, element, words}
 
@@ -52,9 +52,9 @@ abbrev pub is_empty_list : Value → Bool
 is_empty_list (Listed []) = true
 is_empty_list _ = false
 
--- an attribute that isn't shown: one of those lists, where it is empty
+-- an attribute that isn't shown: one that serves the transforms alone, or one of those lists, where it is empty
 abbrev pub is_left_out : Attr → Bool
-is_left_out a = is_empty_list a.value && hides_empty a.key
+is_left_out a = is_hidden a.key || (is_empty_list a.value && hides_empty a.key)
 
 -- ` name="`, which stands in front of a value
 abbrev pub attribute_opening : Key → List ℕ

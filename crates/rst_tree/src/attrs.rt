@@ -1,7 +1,7 @@
 //! The attributes of elements.
 ghost use Rattle.std.specs.Prelude.{◌≡◌, ◌≤◌, ◌∷◌, drop, length, vec_len, [], MatchOption, None, Some, is_some};
 ghost use Rattle.rst_tree.specs.Faults.{Gives, Becomes};
-ghost use Rattle.rst_tree.specs.Attributes.{attr, value_of, said_text, said_number, with_attr, without_key, without_hidden, place_named, places_below, is_at};
+ghost use Rattle.rst_tree.specs.Attributes.{attr, value_of, said_text, said_number, with_attr, without_key, place_named, places_below, is_at};
 ghost use Rattle.rst_tree.specs.Entries.{said};
 ghost use Rattle.rst_tree.specs.Tree.{in_order};
 
@@ -74,6 +74,14 @@ impl Attrs {
         ensures { result ≡ list.items }
     {
         Attrs { list }
+    }
+
+    /// The attributes as a `Vec`, with the room that they had.
+    pub fn into_list(self) -> Vec<Entry>
+        ensures { self ≡ result.items }
+    {
+        let Attrs { list } = self;
+        list
     }
 
     /// The attributes in order.
@@ -170,20 +178,6 @@ impl Attrs {
             return Some(attr.into_value());
         }
         None
-    }
-
-    /// Takes out all attributes. The list keeps its room.
-    pub fn clear(&mut self)
-        ensures { self.new ≡ [] }
-    {
-        self.list.clear();
-    }
-
-    /// Takes out the attributes that serve the transforms alone.
-    pub fn remove_hidden(&mut self)
-        ensures { self.new ≡ without_hidden self.old }
-    {
-        self.list.retain(|attr| !attr.key().is_hidden());
     }
 
     /// An equal list of attributes.

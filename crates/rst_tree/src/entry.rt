@@ -114,13 +114,13 @@ impl Entry {
         Ok(Entry { held })
     }
 
-    /// Whether it is a list that isn't shown where it is empty, and is empty.
+    /// Whether it isn't shown: it serves the transforms alone, or is an empty list of a name that isn't shown with one.
     pub fn is_left_out(&self) -> bool
         ensures { result ≡ is_left_out self.now }
     {
         match &self.held {
-            Held::List(key, list) => list.is_empty() && key.hides_empty(),
-            _ => false,
+            Held::List(key, list) => key.is_hidden() || (list.is_empty() && key.hides_empty()),
+            _ => self.key().is_hidden(),
         }
     }
 }

@@ -2,7 +2,7 @@
 ghost use Rattle.std.specs.Prelude.{◌≡◌};
 
 /// An attribute, in the order of the names (Document Tree, 'Attribute Reference'). Those that `is_hidden` tells serve the
-/// transforms alone. The printer prints what stands in a tree, so they are taken out first, by `Attrs::remove_hidden`.
+/// transforms alone, and aren't printed.
 #[derive(Clone, Copy, Debug, PartialEq, Eq)]
 pub enum Key {
     Align,
@@ -115,7 +115,7 @@ impl Key {
         self as u8
     }
 
-    /// Whether the attribute serves the transforms alone: a finished tree has none of these.
+    /// Whether the attribute serves the transforms alone, and isn't printed.
     pub fn is_hidden(self) -> bool
         ensures { result ≡ is_hidden self }
     {

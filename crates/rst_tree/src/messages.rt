@@ -21,7 +21,7 @@ impl Note {
         ensures { Gives (λ node. node ≡ note_node self) result }
     {
         let attrs = note_attrs(alloc, self.level)?;
-        self.into_message(alloc, attrs)
+        self.into_node_with(alloc, attrs)
     }
 
     /// The same with the number of the message (`Key::Message`).
@@ -29,11 +29,11 @@ impl Note {
         ensures { Gives (λ node. node ≡ numbered_node number self) result }
     {
         let attrs = numbered_attrs(alloc, self.level, number)?;
-        self.into_message(alloc, attrs)
+        self.into_node_with(alloc, attrs)
     }
 
     /// The same with these attributes.
-    fn into_message(self, alloc: Global, attrs: Attrs) -> Result<Node, TreeFault>
+    pub fn into_node_with(self, alloc: Global, attrs: Attrs) -> Result<Node, TreeFault>
         ensures { Gives (λ node. node ≡ message_with attrs self) result }
     {
         let children = note_nodes(alloc, self.text, self.block, self.line)?;

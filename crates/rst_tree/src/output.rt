@@ -1,9 +1,10 @@
 //! The texts of nodes and messages, piece by piece.
-ghost use Rattle.std.specs.Prelude.{◌≡◌, ◌≢◌, ◌+◌, ◌*◌, ◌-◌, ◌^◌, ◌<◌, ◌∷◌, ◌++◌, [], length, take, drop, map, replicate};
+ghost use Rattle.std.specs.Prelude.{◌≡◌, ◌≢◌, ◌+◌, ◌*◌, ◌-◌, ◌^◌, ◌<◌, ◌∷◌, ◌++◌, [], false, length, take, drop, map, replicate};
 ghost use Rattle.rst_tree.specs.Sends.{Sends};
 ghost use Rattle.rst_tree.specs.Print.{is_escaped, escaped_byte, escaped, spaced, value_text, shown_attr, start_tag, line_len, printed_line, printed, text_lines, printed_node};
 ghost use Rattle.rst_tree.specs.Attributes.{attr, before, behind};
 ghost use Rattle.rst_tree.specs.Entries.{said};
+ghost use Rattle.rst_tree.specs.KeyNames.{is_hidden};
 ghost use Rattle.rst_tree.specs.Nodes.{node_height};
 ghost use Rattle.rst_tree.specs.Told.{given, told_attrs, with_source, with_told, with_type};
 ghost use Rattle.rst_tree.specs.declared.attrs.Value.TheVariants.{Text as Words, Number};
@@ -109,7 +110,7 @@ fn put_value<W: Write, const N: usize>(out: &mut Counted<W>, page: &mut Page<N>,
     }
 }
 
-/// Writes an attribute, unless it is a list that isn't shown where it is empty.
+/// Writes an attribute, unless it isn't shown.
 fn put_attr<W: Write, const N: usize>(out: &mut Counted<W>, page: &mut Page<N>, attr: &Entry)
     ensures { Sends W.contents (shown_attr attr.now) out.old page.old out.new page.new }
 {
@@ -231,13 +232,14 @@ fn put_before<'a, W: Write, const N: usize>(
     &attrs[place..]
 }
 
-/// Writes an attribute that says a text.
+/// Writes an attribute that says a text and doesn't serve the transforms alone.
 fn put_text_attr<W: Write, const N: usize>(
     out: &mut Counted<W>,
     page: &mut Page<N>,
     key: Key,
     text: &str,
 )
+    requires { is_hidden key ≡ false }
     ensures { Sends W.contents (shown_attr (attr key (Words text.now))) out.old page.old out.new page.new }
 {
     put(out, page, key.opening().as_bytes());
@@ -245,13 +247,14 @@ fn put_text_attr<W: Write, const N: usize>(
     put_byte(out, page, b'"');
 }
 
-/// Writes an attribute that says a number.
+/// Writes an attribute that says a number and doesn't serve the transforms alone.
 fn put_number_attr<W: Write, const N: usize>(
     out: &mut Counted<W>,
     page: &mut Page<N>,
     key: Key,
     number: u64,
 )
+    requires { is_hidden key ≡ false }
     ensures { Sends W.contents (shown_attr (attr key (Number number))) out.old page.old out.new page.new }
 {
     put(out, page, key.opening().as_bytes());

@@ -21,8 +21,9 @@ const TREE_PAGE: usize = 8192;
 const MESSAGE_PAGE: usize = 512;
 
 /// Prints a tree to a writer that hasn't failed: each element and each line of a text is a line, behind four spaces for
-/// each level. All attributes are printed but empty lists of ids, classes, names and references back; `xml:space` is one
-/// like any other, which the makers of literal blocks, doctest blocks, comments and addresses set. Each message tells its line and
+/// each level. All attributes are printed but those that serve the transforms alone, and empty lists of ids, classes, names and
+/// references back; `xml:space` is one like any other, which the makers of literal blocks, doctest blocks, comments and addresses set.
+/// Each message tells its line and
 /// its type (Document Tree, `system_message`), which the tree itself needn't hold: the line is that of the element, and the
 /// type is that of its level.
 pub fn print<W: Write>(tree: &Tree, out: &mut Counted<W>) -> Result<(), PrintFault>

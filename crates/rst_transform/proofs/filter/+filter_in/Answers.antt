@@ -39,11 +39,11 @@ filter_in-requires t c =
 pub loop-i-preserved : goal.loop-i-preserved
 loop-i-preserved t c =
     let inside = c.in_ok-inside-in-Element.ensures in
-    let shown = stays_shown c.args.report c.get_mut-node.result.now c.in-Element.tag c.in-Element.attrs c.remove_hidden.new.self c.in-Element.children c.filter_in.new.nodes c.in-Element.line
-    c.in-Element.is c.in-Stays.ensures c.remove_hidden.ensures inside.shown in
+    let shown = stays_shown c.args.report c.get_mut-node.result.now c.in-Element.tag c.in-Element.attrs c.in-Element.children c.filter_in.new.nodes c.in-Element.line
+    c.in-Element.is c.in-Stays.ensures inside.shown in
     Sifting-more c.args.report c.args.levels _ c.loop-i.nodes c.loop-i.fit c.fits_element-fit.result c.loop-i.leaves c.loop-i.i _ c.loop-i.invariant
     (omega (arith, c.loop-i.invariant.same.same_len, c.len-i-end.ensures)) shown.0 shown.1
-    (within_element c.args.levels _ c.in-Element.tag c.remove_hidden.new.self c.filter_in.new.nodes c.in-Element.line c.loop-i.fit c.in_ok-inside-in-Element.inside c.fits_element-fit.result c.loop-i.invariant.told
+    (within_element c.args.levels _ c.in-Element.tag c.in-Element.attrs c.filter_in.new.nodes c.in-Element.line c.loop-i.fit c.in_ok-inside-in-Element.inside c.fits_element-fit.result c.loop-i.invariant.told
     (inside.tree ∙ ap (λ levels. are_within levels c.filter_in.new.nodes) c.saturating_sub.ensures) c.fits_element-fit.ensures)
 
 pub returns-else-leaves-clause-shown : goal.returns-else-leaves-clause-shown

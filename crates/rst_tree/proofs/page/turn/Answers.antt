@@ -1,4 +1,4 @@
-use Rattle.std.proofs.Common.{◌≡◌, arith, sym, ◌∙◌, ap, drop, length}
+use Rattle.std.proofs.Common.{arith, sym, ◌∙◌, ap, length}
 use Rattle.std.proofs.lemmas.List.{drop_all}
 use Rattle.rst_tree.proofs.Pages.{Gets-turned}
 use Rattle.rst_tree.proofs.page.turn.Goals as goal
