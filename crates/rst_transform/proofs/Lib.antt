@@ -5,6 +5,8 @@ pub mod Idle
 pub mod Leaving
 pub mod Linking
 pub mod Placing
+pub mod Referring
+pub mod Resolves
 pub mod Retargeting
 pub mod Settled
 pub mod Showing

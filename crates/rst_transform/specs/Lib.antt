@@ -1,5 +1,6 @@
 pub mod Anonymous
 pub mod Authors
+pub mod Backrefs
 pub mod Bibliography
 pub mod Docinfo
 pub mod Fields
@@ -8,12 +9,15 @@ pub mod Holders
 pub mod Linkings
 pub mod Links
 pub mod Lists
+pub mod Meanings
 pub mod Messages
 pub mod NoteOrders
 pub mod Outcomes
 pub mod Problematics
 pub mod Reading
 pub mod Reports
+pub mod Resolved
+pub mod Resolving
 pub mod Settling
 pub mod Shown
 pub mod Targets

@@ -3,7 +3,7 @@ use Rattle.std.specs.Prelude.{Bool, true, false, Option, None}
 use Rattle.rst_tree.specs.declared.attrs.Attr.{Attr}
 use Rattle.rst_transform.specs.declared.links.Addition.{Addition}
 use Rattle.rst_transform.specs.declared.links.Outcome.{Outcome}
-use Rattle.rst_transform.specs.declared.links.Outcome.TheVariants.{Stays}
+use Rattle.rst_transform.specs.declared.links.Outcome.TheVariants.{Stays, Fails}
 
 -- an element says one thing more, if there is one
 abbrev pub addition : Option Attr → Addition
@@ -15,3 +15,7 @@ adds attr = Stays (addition attr)
 abbrev pub stays : Outcome → Bool
 stays (Stays more) = true
 stays _ = false
+
+abbrev pub fails : Outcome → Bool
+fails (Fails report) = true
+fails _ = false

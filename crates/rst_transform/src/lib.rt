@@ -3,6 +3,7 @@
 
 pub mod anonymous;
 mod authors;
+mod backrefs;
 mod bibliography;
 mod definitions;
 pub mod docinfo;
@@ -17,6 +18,7 @@ pub mod indirect;
 mod last_section;
 mod links;
 mod lists;
+mod meanings;
 mod messages;
 mod note_order;
 mod problematics;

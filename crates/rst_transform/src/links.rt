@@ -4,7 +4,7 @@ ghost use Rattle.std.specs.List.{list_all};
 ghost use Rattle.rst_tree.specs.Faults.{Gives};
 ghost use Rattle.rst_transform.specs.Linkings.{held, inner_of, linked_among, linked_of, own_linked};
 ghost use Rattle.rst_transform.specs.Links.{Shows, changed_root, is_idle, with_more};
-ghost use Rattle.rst_transform.specs.Outcomes.{adds, stays};
+ghost use Rattle.rst_transform.specs.Outcomes.{adds, fails, stays};
 
 use crate::problematics::ProblematicAttrs;
 use crate::texts::take_source;
@@ -65,6 +65,13 @@ impl Outcome {
         ensures { result ≡ adds attr }
     {
         Outcome::Stays(Addition { attr, shown: None })
+    }
+
+    /// Whether it becomes a problematic once its turn comes.
+    pub(crate) fn fails(&self) -> bool
+        ensures { result ≡ fails self.now }
+    {
+        matches!(self, Outcome::Fails(_))
     }
 
     /// Whether it stays.

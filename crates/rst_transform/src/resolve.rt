@@ -1,34 +1,26 @@
 //! References by name.
+ghost use Rattle.std.specs.Prelude.{◌≡◌, ◌||◌, length, map};
+ghost use Rattle.rst_tree.specs.Faults.{Gives};
+ghost use Rattle.rst_transform.specs.declared.links.Outcome.TheVariants.{Fails};
+ghost use Rattle.rst_transform.specs.Holders.{place_at};
+ghost use Rattle.rst_transform.specs.Linkings.{held};
+ghost use Rattle.rst_transform.specs.Meanings.{meaning_to};
+ghost use Rattle.rst_transform.specs.Outcomes.{fails};
+ghost use Rattle.rst_transform.specs.Reports.{KeepsRest};
+ghost use Rattle.rst_transform.specs.Resolved.{outcomes_among, resolved_among, ChangesReferences, IsResolved};
+ghost use Rattle.rst_transform.specs.Resolving.{duplicate, is_gone, label_of, name_of, outcome_of, reports_behind, reports_with, resolved, shown_for, shows_label, unknown, what_becomes, with_error};
 
-use crate::holders::{Holders, lead_by_name};
+use crate::backrefs::with_backrefs;
+use crate::holders::Holders;
 use crate::links::{Addition, Changes, Linked, Outcome, linked_in, put_back, take_root};
-use crate::note_order::found_by_order;
-use crate::reading::{first_said, has, is_a, line_of, text_said};
+use crate::meanings::{Lookup, Meaning, element_at, is_note_reference};
+use crate::reading::{has, line_of, text_said};
 use crate::settling::settled;
 use crate::work::Work;
-use rst_names::{Holder, Names};
-use rst_tree::{Entry, Key, Level, Node, Tag, Text, Texts, TreeFault, Value};
+use rst_names::Names;
+use rst_tree::{Key, Level, Node, Text, TreeFault};
 use std::alloc::Global;
 use std::mem;
-
-/// What a name means to a reference.
-#[derive(Drop)]
-enum Meaning {
-    /// It leads where the attribute says: to the footnote or citation at this place, if it is one.
-    Leads { attr: Entry, note: Option<usize> },
-    /// No element of the kind that is looked for has it.
-    Unknown,
-    /// Elements with equal names lost it.
-    Duplicate,
-}
-
-/// What the names of a document are looked up in.
-#[derive(Drop)]
-struct Lookup<'a> {
-    linked: &'a [Linked<'a>],
-    names: &'a Names,
-    holders: Holders,
-}
 
 /// Lets each reference by name refer to what the name means, and each footnote and citation tell its references (Markup
 /// Specification, 'Hyperlink References').
@@ -63,7 +55,9 @@ struct Lookup<'a> {
 ///
 /// A name that means nothing gives an ERROR, and the reference becomes a problematic; the references inside it are gone, and
 /// give no message.
-pub fn resolve(alloc: Global, mut work: Work) -> Result<Work, TreeFault> {
+pub fn resolve(alloc: Global, mut work: Work) -> Result<Work, TreeFault>
+    ensures { Gives (IsResolved work) result }
+{
     let root = take_root(alloc, &mut work);
     let changes = changes_of(alloc, &mut work, &root)?;
     put_back(alloc, &mut work, root, changes)?;
@@ -71,196 +65,215 @@ pub fn resolve(alloc: Global, mut work: Work) -> Result<Work, TreeFault> {
 }
 
 /// The changes of a tree's linked elements.
-fn changes_of(alloc: Global, work: &mut Work, root: &Node) -> Result<Changes, TreeFault> {
+fn changes_of(alloc: Global, work: &mut Work, root: &Node) -> Result<Changes, TreeFault>
+    ensures { Gives (ChangesReferences root.now work.old work.new) result }
+{
     let linked = linked_in(alloc, root)?;
+    let outcomes = outcomes_of(alloc, work, linked.as_slice())?;
+    let changes = settled(alloc, work, linked.as_slice(), outcomes)?;
+    Ok(changes)
+}
+
+/// What becomes of linked elements, where the messages of those that fail are made, and each footnote and citation tells the references
+/// to it.
+fn outcomes_of(
+    alloc: Global,
+    work: &mut Work,
+    linked: &[Linked<'_>],
+) -> Result<Vec<Outcome>, TreeFault>
+    ensures outcomes { Gives (λ outcomes. outcomes.items ≡ outcomes_among (map held linked.now) work.old) result }
+    ensures reports { Gives (λ _. work.new.reports.items ≡ (resolved_among (map held linked.now) work.old).1) result }
+    ensures rest { Gives (λ _. KeepsRest work.old work.new) result }
+{
     let names = mem::replace(&mut work.names, Names::new(alloc));
-    let (outcomes, notes) = outcomes(alloc, work, &names, linked.as_slice())?;
+    let outcomes = looked_up(alloc, work, &names, linked)?;
     work.names = names;
-    let outcomes = with_backrefs(alloc, linked.as_slice(), notes.as_slice(), outcomes)?;
-    settled(alloc, work, linked.as_slice(), outcomes)
+    Ok(outcomes)
 }
 
-/// The name of a reference by name.
-fn reference_name<'a>(node: &'a Node) -> Option<&'a str> {
-    if is_a(node, Tag::Reference) || is_note_reference(node) {
-        text_said(node, Key::Refname)
-    } else {
-        None
-    }
-}
-
-/// Whether an element is a reference to a footnote or a citation.
-fn is_note_reference(node: &Node) -> bool {
-    is_a(node, Tag::FootnoteReference) || is_a(node, Tag::CitationReference)
-}
-
-/// Whether an element is a footnote or a citation.
-fn is_note(node: &Node) -> bool {
-    is_a(node, Tag::Footnote) || is_a(node, Tag::Citation)
-}
-
-/// The label that a footnote or a citation shows.
-fn label_of(alloc: Global, note: &Node) -> Result<Option<Text>, TreeFault> {
-    if let Node::Element { children, .. } = note {
-        if let Some(label) = children.get(0) {
-            return Ok(Some(label.text_of(alloc)?));
-        }
-    }
-    Ok(None)
-}
-
-impl Lookup<'_> {
-    /// What the name of a reference by name means; there is nothing for another element.
-    fn meaning_to(&self, alloc: Global, element: &Node) -> Result<Option<Meaning>, TreeFault> {
-        match reference_name(element) {
-            Some(name) => {
-                let meaning = self.meaning(alloc, name, is_note_reference(element))?;
-                Ok(Some(meaning))
-            }
-            None => Ok(None),
-        }
-    }
-
-    /// What a name means to a reference, which may be one to footnotes and citations alone.
-    fn meaning(&self, alloc: Global, name: &str, to_note: bool) -> Result<Meaning, TreeFault> {
-        let Some(held) = self.names.get(name) else {
-            return Ok(Meaning::Unknown);
-        };
-        if held.holder == Holder::Nobody {
-            return Ok(Meaning::Duplicate);
-        }
-        let place = self.holders.place(held.holder);
-        let holder = match place {
-            Some(place) => self.linked.get(place).map(|one| one.element),
-            None => None,
-        };
-        let note = match holder {
-            Some(holder) if is_note(holder) => place,
-            _ => None,
-        };
-        if to_note && note.is_none() {
-            return Ok(Meaning::Unknown);
-        }
-        let attr = lead_by_name(alloc, self.names, name, held, holder)?;
-        Ok(Meaning::Leads { attr, note })
-    }
-}
-
-/// What becomes of the references by name, where the messages of those that fail are made; and for each reference to a footnote or
-/// citation the place of that. Where there is no such reference the list of places is empty.
-fn outcomes<'a>(
+/// The same by names that were taken out of the document.
+fn looked_up<'a>(
     alloc: Global,
     work: &mut Work,
     names: &'a Names,
     linked: &'a [Linked<'a>],
-) -> Result<(Vec<Outcome>, Vec<Option<usize>>), TreeFault> {
+) -> Result<Vec<Outcome>, TreeFault>
+    ensures outcomes { Gives (λ outcomes. outcomes.items ≡ outcomes_among (map held linked.now) (record work.old { names = names.now })) result }
+    ensures reports { Gives (λ _. work.new.reports.items ≡ (resolved_among (map held linked.now) (record work.old { names = names.now })).1) result }
+    ensures rest { Gives (λ _. KeepsRest work.old work.new) result }
+{
+    let holders = Holders::of(alloc, linked, work.serials)?;
     let lookup = Lookup {
         linked,
         names,
-        holders: Holders::of(alloc, linked, work.serials)?,
+        holders,
     };
-    let mut notes = notes_by_order(alloc, linked)?;
-    let mut outcomes = Vec::with_capacity(alloc, linked.len())?;
-    let mut ended: Vec<bool> = Vec::with_capacity(alloc, linked.len())?;
-    for (place, one) in linked.iter().enumerate() {
-        let meaning = lookup.meaning_to(alloc, one.element)?;
-        note_meant(&mut notes, place, one.element, &meaning);
-        let gone = match one.outer {
-            Some(outer) => matches!(ended.get(outer), Some(true)),
-            None => false,
-        };
-        let outcome = match meaning {
-            Some(_meaning) if gone => Outcome::same(),
-            Some(meaning) => outcome(alloc, work, linked, *one, meaning)?,
-            None => Outcome::same(),
-        };
-        ended.push(gone || matches!(&outcome, Outcome::Fails(_)))?;
-        outcomes.push(outcome)?;
-    }
-    Ok((outcomes, notes))
+    let outcomes = outcomes(alloc, work, &lookup)?;
+    let outcomes = with_backrefs(alloc, &lookup, outcomes)?;
+    Ok(outcomes)
 }
 
-/// For each linked element the place of the footnote that it refers to by order, if it does. Where none refers to a footnote or
-/// citation the list is empty.
-fn notes_by_order(alloc: Global, linked: &[Linked<'_>]) -> Result<Vec<Option<usize>>, TreeFault> {
-    if !linked.iter().any(|one| is_note_reference(one.element)) {
-        return Ok(Vec::new(alloc));
-    }
-    found_by_order(alloc, linked)
+/// The label that a footnote or a citation shows.
+fn label_of(alloc: Global, note: &Node) -> Result<Option<Text>, TreeFault>
+    ensures { Gives (λ label. label ≡ label_of note.now) result }
+{
+    let Node::Element { children, .. } = note else {
+        return Ok(None);
+    };
+    let Some(label) = children.get(0) else {
+        return Ok(None);
+    };
+    let text = label.text_of(alloc)?;
+    Ok(Some(text))
 }
 
-/// Puts the footnote or citation that a reference means in the place of what it refers to by order.
-fn note_meant(
-    notes: &mut [Option<usize>],
-    place: usize,
+/// Whether a reference shows the label of the footnote that it refers to.
+fn shows_label(reference: &Node) -> bool
+    ensures { result ≡ shows_label reference.now }
+{
+    is_note_reference(reference) && has(reference, Key::Auto)
+}
+
+/// What a reference shows in place of what it holds, if it shows the label of the footnote or citation at a place.
+fn shown_for(
+    alloc: Global,
+    linked: &[Linked<'_>],
     reference: &Node,
-    meaning: &Option<Meaning>,
-) {
-    if let Some(Meaning::Leads { note, .. }) = meaning {
-        if is_note_reference(reference) && place < notes.len() {
-            notes[place] = *note;
-        }
+    note: Option<usize>,
+) -> Result<Option<Text>, TreeFault>
+    ensures { Gives (λ shown. shown ≡ shown_for (map held linked.now) reference.now note) result }
+{
+    if !shows_label(reference) {
+        return Ok(None);
     }
+    let Some(note) = element_at(linked, note) else {
+        return Ok(None);
+    };
+    let label = label_of(alloc, note)?;
+    Ok(label)
 }
 
-/// What becomes of a reference whose name means this.
-fn outcome(
+/// What is told of a name that means nothing.
+fn unknown(alloc: Global, name: &str) -> Result<Text, TreeFault>
+    ensures { Gives (λ text. text ≡ unknown name.now) result }
+{
+    let text = Text::of_three(alloc, "Unknown target name: \"", name, "\".")?;
+    Ok(text)
+}
+
+/// What is told of a name that elements with equal names lost.
+fn duplicate(alloc: Global, name: &str) -> Result<Text, TreeFault>
+    ensures { Gives (λ text. text ≡ duplicate name.now) result }
+{
+    let before = "Duplicate target name, cannot be used as a unique reference: \"";
+    let text = Text::of_three(alloc, before, name, "\".")?;
+    Ok(text)
+}
+
+/// The name of a reference, or the empty name.
+fn name_of(reference: &Node) -> &str
+    ensures { result.now ≡ name_of reference.now }
+{
+    text_said(reference, Key::Refname).unwrap_or("")
+}
+
+/// A reference that fails for an ERROR of its own.
+fn failing(
     alloc: Global,
     work: &mut Work,
-    linked: &[Linked<'_>],
-    one: Linked<'_>,
-    meaning: Meaning,
-) -> Result<Outcome, TreeFault> {
-    let before = match meaning {
-        Meaning::Leads { attr, note } => {
-            let shown = match note {
-                Some(place) if is_note_reference(one.element) && has(one.element, Key::Auto) => {
-                    match linked.get(place) {
-                        Some(note) => label_of(alloc, note.element)?,
-                        None => None,
-                    }
-                }
-                _ => None,
-            };
-            return Ok(Outcome::Stays(Addition {
-                attr: Some(attr),
-                shown,
-            }));
-        }
-        Meaning::Unknown => "Unknown target name: \"",
-        Meaning::Duplicate => "Duplicate target name, cannot be used as a unique reference: \"",
-    };
-    let name = text_said(one.element, Key::Refname).unwrap_or("");
-    let text = Text::of_three(alloc, before, name, "\".")?;
-    let report = work.report(alloc, Level::Error, line_of(one.element), text, true)?;
+    reference: &Node,
+    text: Text,
+) -> Result<Outcome, TreeFault>
+    ensures outcome { Gives (λ outcome. outcome ≡ Fails (length work.old.reports.items)) result }
+    ensures reports { Gives (λ _. work.new.reports.items ≡ with_error work.old.first_number work.old.reports.items reference.now text) result }
+    ensures rest { Gives (λ _. KeepsRest work.old work.new) result }
+{
+    let line = line_of(reference);
+    let report = work.report(alloc, Level::Error, line, text, true)?;
     Ok(Outcome::Fails(report))
 }
 
-/// The outcomes, with those of the footnotes and citations that references mean: they tell the ids of these, in order.
-fn with_backrefs(
+/// What becomes of a reference whose name means this.
+fn outcome_of(
     alloc: Global,
+    work: &mut Work,
     linked: &[Linked<'_>],
-    notes: &[Option<usize>],
-    mut outcomes: Vec<Outcome>,
-) -> Result<Vec<Outcome>, TreeFault> {
-    if notes.iter().all(|note| note.is_none()) {
-        return Ok(outcomes);
-    }
-    let mut backrefs = Vec::with_capacity(alloc, linked.len())?;
-    for _ in linked {
-        backrefs.push(Texts::new(alloc))?;
-    }
-    for (one, note) in linked.iter().zip(notes) {
-        if let (Some(note), Some(id)) = (note, first_said(one.element, Key::Ids)) {
-            if *note < backrefs.len() {
-                backrefs[*note].push(Text::from_str(alloc, id)?)?;
-            }
+    reference: &Node,
+    meaning: Meaning,
+) -> Result<Outcome, TreeFault>
+    ensures outcome { Gives (λ outcome. outcome ≡ outcome_of (map held linked.now) (length work.old.reports.items) reference.now meaning) result }
+    ensures reports { Gives (λ _. work.new.reports.items ≡ reports_with work.old.first_number work.old.reports.items reference.now meaning) result }
+    ensures rest { Gives (λ _. KeepsRest work.old work.new) result }
+{
+    match meaning {
+        Meaning::Leads { attr, note } => {
+            let shown = shown_for(alloc, linked, reference, note)?;
+            let attr = Some(attr);
+            Ok(Outcome::Stays(Addition { attr, shown }))
+        }
+        Meaning::Unknown => {
+            let text = unknown(alloc, name_of(reference))?;
+            failing(alloc, work, reference, text)
+        }
+        Meaning::Duplicate => {
+            let text = duplicate(alloc, name_of(reference))?;
+            failing(alloc, work, reference, text)
         }
     }
-    for (place, ids) in backrefs.into_iter().enumerate() {
-        if place < outcomes.len() && !ids.as_slice().is_empty() {
-            outcomes[place] = Outcome::says(Entry::new(Key::Backrefs, Value::List(ids)));
-        }
+}
+
+/// Whether an element is gone: the one that it stands in is gone or fails.
+fn is_gone(ended: &[bool], outer: Option<usize>) -> bool
+    ensures { result ≡ is_gone ended.now outer }
+{
+    match outer {
+        Some(outer) => ended.get(outer).copied().unwrap_or(false),
+        None => false,
+    }
+}
+
+/// What becomes of an element that may be gone.
+fn what_becomes(
+    alloc: Global,
+    work: &mut Work,
+    lookup: &Lookup<'_>,
+    element: &Node,
+    gone: bool,
+) -> Result<Outcome, TreeFault>
+    ensures outcome { let meaning = meaning_to (place_at lookup.now.holders.places.items) (map held lookup.now.linked.now) lookup.now.names.now element.now in Gives (λ outcome. outcome ≡ what_becomes (map held lookup.now.linked.now) gone (length work.old.reports.items) element.now meaning) result }
+    ensures reports { let meaning = meaning_to (place_at lookup.now.holders.places.items) (map held lookup.now.linked.now) lookup.now.names.now element.now in Gives (λ _. work.new.reports.items ≡ reports_behind gone work.old.first_number work.old.reports.items element.now meaning) result }
+    ensures rest { Gives (λ _. KeepsRest work.old work.new) result }
+{
+    if gone {
+        return Ok(Outcome::same());
+    }
+    let Some(meaning) = lookup.meaning_to(alloc, element)? else {
+        return Ok(Outcome::same());
+    };
+    outcome_of(alloc, work, lookup.linked, element, meaning)
+}
+
+/// Whether an element that may be gone, and of which this becomes, is gone or fails.
+fn ends(gone: bool, outcome: &Outcome) -> bool
+    ensures { result ≡ (gone || fails outcome.now) }
+{
+    gone || outcome.fails()
+}
+
+/// What becomes of all linked elements, where the messages of those that fail are made.
+fn outcomes(alloc: Global, work: &mut Work, lookup: &Lookup<'_>) -> Result<Vec<Outcome>, TreeFault>
+    ensures outcomes { let all = resolved (place_at lookup.now.holders.places.items) (map held lookup.now.linked.now) lookup.now.names.now work.old.first_number work.old.reports.items in Gives (λ outcomes. outcomes.items ≡ all.0) result }
+    ensures reports { let all = resolved (place_at lookup.now.holders.places.items) (map held lookup.now.linked.now) lookup.now.names.now work.old.first_number work.old.reports.items in Gives (λ _. work.new.reports.items ≡ all.1) result }
+    ensures rest { Gives (λ _. KeepsRest work.old work.new) result }
+{
+    let linked = lookup.linked;
+    let mut outcomes = Vec::with_capacity(alloc, linked.len())?;
+    let mut ended: Vec<bool> = Vec::with_capacity(alloc, linked.len())?;
+    for one in linked {
+        let gone = is_gone(ended.as_slice(), one.outer);
+        let outcome = what_becomes(alloc, work, lookup, one.element, gone)?;
+        ended.push(ends(gone, &outcome))?;
+        outcomes.push(outcome)?;
     }
     Ok(outcomes)
 }
