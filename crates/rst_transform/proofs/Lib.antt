@@ -1,4 +1,5 @@
 pub mod Agreeing
+pub mod Defining
 pub mod Gathering
 pub mod Holding
 pub mod Idle

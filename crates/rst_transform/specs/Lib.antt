@@ -2,6 +2,7 @@ pub mod Anonymous
 pub mod Authors
 pub mod Backrefs
 pub mod Bibliography
+pub mod Definitions
 pub mod Docinfo
 pub mod Fields
 pub mod Gathered

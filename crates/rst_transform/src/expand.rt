@@ -50,7 +50,7 @@ impl From<TreeFault> for ExpansionFault {
 /// How far the expansion of one reference has come.
 #[derive(Drop)]
 struct Progress {
-    /// The numbers of the definitions that stand one in another here, the outermost first.
+    /// The places of the definitions that stand one in another here, the outermost first.
     path: Vec<usize>,
     /// How many more nodes and characters may be met.
     left: usize,
@@ -60,8 +60,8 @@ impl Progress {
     /// At the reference that is to be replaced; `within` is the definition that it stands in.
     fn start(alloc: Global, within: Option<usize>) -> Result<Progress, TreeFault> {
         let mut path = Vec::new(alloc);
-        if let Some(number) = within {
-            path.push(number)?;
+        if let Some(place) = within {
+            path.push(place)?;
         }
         Ok(Progress {
             path,
@@ -85,16 +85,16 @@ impl Progress {
     }
 
     /// Goes into the definition that a reference of this name found.
-    fn enter(&mut self, alloc: Global, number: usize, name: &str) -> Result<(), ExpansionFault>
+    fn enter(&mut self, alloc: Global, place: usize, name: &str) -> Result<(), ExpansionFault>
         ensures { self.new.left ≡ self.old.left }
     {
-        if self.path.iter().any(|entered| *entered == number) {
+        if self.path.iter().any(|entered| *entered == place) {
             return Err(ExpansionFault::Circular(String::from_str(alloc, name)?));
         }
         if self.path.len() >= MOST_NESTED {
             return Err(ExpansionFault::TooLarge);
         }
-        self.path.push(number)?;
+        self.path.push(place)?;
         Ok(())
     }
 
@@ -172,13 +172,13 @@ fn entered<'a>(
 ) -> Result<&'a Children, ExpansionFault>
     ensures { progress.new.left ≡ progress.old.left }
 {
-    match definitions.find(alloc, name)? {
-        None => Err(ExpansionFault::Undefined(String::from_str(alloc, name)?)),
-        Some(definition) => {
-            progress.enter(alloc, definition.number, name)?;
-            Ok(&definition.content)
+    if let Some(place) = definitions.find(alloc, name)? {
+        if let Some(content) = definitions.content(place) {
+            progress.enter(alloc, place, name)?;
+            return Ok(content);
         }
     }
+    Err(ExpansionFault::Undefined(String::from_str(alloc, name)?))
 }
 
 /// The nodes for a reference of a name; `within` is the definition that it stands in.
@@ -250,7 +250,7 @@ fn within_element(
     within: Option<usize>,
 ) -> Option<usize> {
     if matches!(tag, Tag::SubstitutionDefinition) {
-        return definitions.number(said(attrs, Key::OwnName));
+        return definitions.place(said(attrs, Key::OwnName));
     }
     within
 }

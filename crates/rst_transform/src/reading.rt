@@ -1,5 +1,5 @@
 //! What the attributes of an element say.
-ghost use Rattle.std.specs.Prelude.{◌≡◌, MatchOption, Some, None, is_some, slice_get};
+ghost use Rattle.std.specs.Prelude.{◌≡◌, [], MatchOption, Some, None, is_some, slice_get, unwrap_or};
 ghost use Rattle.rst_tree.specs.Attributes.{value_of, said_text};
 ghost use Rattle.rst_tree.specs.Faults.{Gives};
 ghost use Rattle.rst_tree.specs.Paths.{node_value};
@@ -19,7 +19,9 @@ fn text<'a>(attrs: &'a Attrs, key: Key) -> Option<&'a str>
 }
 
 /// The same; the empty text where there is none.
-pub(crate) fn said(attrs: &Attrs, key: Key) -> &str {
+pub(crate) fn said(attrs: &Attrs, key: Key) -> &str
+    ensures { result.now ≡ unwrap_or (said_text (value_of key attrs.now)) [] }
+{
     text(attrs, key).unwrap_or("")
 }
 
