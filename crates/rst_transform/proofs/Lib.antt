@@ -3,6 +3,7 @@ pub mod Defining
 pub mod Gathering
 pub mod Holding
 pub mod Idle
+pub mod LastNodes
 pub mod Leaving
 pub mod Linking
 pub mod Placing

@@ -7,6 +7,7 @@ pub mod Docinfo
 pub mod Fields
 pub mod Gathered
 pub mod Holders
+pub mod LastSection
 pub mod Linkings
 pub mod Links
 pub mod Lists
