@@ -1,9 +1,12 @@
 pub mod Agreeing
+pub mod FreeNumbers
 pub mod Gathering
 pub mod Holding
 pub mod Idle
 pub mod Leaving
 pub mod Linking
+pub mod Notes
+pub mod Numbering
 pub mod Placing
 pub mod Retargeting
 pub mod Settled

@@ -3,12 +3,14 @@ pub mod Authors
 pub mod Bibliography
 pub mod Docinfo
 pub mod Fields
+pub mod Footnotes
 pub mod Gathered
 pub mod Holders
 pub mod Linkings
 pub mod Links
 pub mod Lists
 pub mod Messages
+pub mod NoteLabels
 pub mod NoteOrders
 pub mod Outcomes
 pub mod Problematics

@@ -18,6 +18,7 @@ mod last_section;
 mod links;
 mod lists;
 mod messages;
+mod note_labels;
 mod note_order;
 mod problematics;
 mod reading;
