@@ -1,11 +1,14 @@
 pub mod Agreeing
 pub mod Defining
+pub mod FreeNumbers
 pub mod Gathering
 pub mod Holding
 pub mod Idle
 pub mod LastNodes
 pub mod Leaving
 pub mod Linking
+pub mod Notes
+pub mod Numbering
 pub mod Placing
 pub mod Referring
 pub mod Resolves

@@ -5,6 +5,7 @@ pub mod Bibliography
 pub mod Definitions
 pub mod Docinfo
 pub mod Fields
+pub mod Footnotes
 pub mod Gathered
 pub mod Holders
 pub mod LastSection
@@ -13,6 +14,7 @@ pub mod Links
 pub mod Lists
 pub mod Meanings
 pub mod Messages
+pub mod NoteLabels
 pub mod NoteOrders
 pub mod Outcomes
 pub mod Problematics

@@ -1,20 +1,23 @@
 //! Footnotes.
+ghost use Rattle.std.specs.Prelude.{◌≡◌, MatchOption, None, Some, length, map, slice_get};
+ghost use Rattle.rst_names.specs.Names.{held_by};
+ghost use Rattle.rst_tree.specs.declared.key.Key.TheVariants.{Ids, Serial};
+ghost use Rattle.rst_tree.specs.Faults.{Gives};
+ghost use Rattle.rst_transform.specs.Footnotes.{at, first_left_over, is_label, label_in, labelled, lead_to_note, outcome_by, outcomes_from, own_number, referring, report_of, too_many, with_number, ChangesFootnotes, HoldNumbers, HoldsName, HoldsNumber, NumbersFootnotes, TellsLeftOver};
+ghost use Rattle.rst_transform.specs.Linkings.{held, linked_of};
+ghost use Rattle.rst_transform.specs.NoteOrders.{in_order, reference_order};
+ghost use Rattle.rst_transform.specs.Reading.{list_said, number_said};
 
 use crate::holders::text_attr;
 use crate::links::{Addition, Changes, Linked, Outcome, linked_in, put_back, take_root};
-use crate::note_order::{
-    Order, footnote_order, found_by_order, in_order, mark_of, reference_order,
-};
-use crate::reading::{first_said, is_a, line_of, list_said, number_said};
+use crate::note_labels::labels;
+use crate::note_order::{Order, footnote_order, found_by_order, in_order, reference_order};
+use crate::reading::{first_said, line_of, list_said, number_said};
 use crate::settling::settled;
 use crate::work::Work;
 use rst_names::{Held, Holder, Names, Strength};
 use rst_tree::{Entry, Key, Level, Node, Tag, Text, TreeFault, Value};
 use std::alloc::Global;
-
-/// The labels of symbol footnotes; the further ones are these doubled, tripled and so on (Markup Specification, 'Auto-Symbol
-/// Footnotes').
-const SYMBOLS: [char; 10] = ['*', '†', '‡', '§', '¶', '#', '♠', '♥', '♦', '♣'];
 
 /// Numbers the footnotes, and lets the references find those that they find by the order (Markup Specification,
 /// 'Footnotes').
@@ -54,7 +57,9 @@ const SYMBOLS: [char; 10] = ['*', '†', '‡', '§', '¶', '#', '♠', '♥', '
 /// ```
 ///
 /// References left over become problematics of one ERROR for each of the two numberings.
-pub fn footnotes(alloc: Global, mut work: Work) -> Result<Work, TreeFault> {
+pub fn footnotes(alloc: Global, mut work: Work) -> Result<Work, TreeFault>
+    ensures { Gives (NumbersFootnotes work) result }
+{
     let root = take_root(alloc, &mut work);
     let changes = changes_of(alloc, &mut work, &root)?;
     put_back(alloc, &mut work, root, changes)?;
@@ -62,87 +67,64 @@ pub fn footnotes(alloc: Global, mut work: Work) -> Result<Work, TreeFault> {
 }
 
 /// The changes of a tree's linked elements.
-fn changes_of(alloc: Global, work: &mut Work, root: &Node) -> Result<Changes, TreeFault> {
+fn changes_of(alloc: Global, work: &mut Work, root: &Node) -> Result<Changes, TreeFault>
+    ensures { Gives (ChangesFootnotes (linked_of root.now) work.old work.new) result }
+{
     let linked = linked_in(alloc, root)?;
     let labels = labels(alloc, linked.as_slice())?;
     let found = found_by_order(alloc, linked.as_slice())?;
     hold_numbers(alloc, &mut work.names, linked.as_slice(), labels.as_slice())?;
-    let outcomes = outcomes(
+    let numbers = leftover(
         alloc,
         work,
         linked.as_slice(),
+        found.as_slice(),
+        Order::Numbers,
+    )?;
+    let symbols = leftover(
+        alloc,
+        work,
+        linked.as_slice(),
+        found.as_slice(),
+        Order::Symbols,
+    )?;
+    let outcomes = outcomes(
+        alloc,
+        linked.as_slice(),
         labels.as_slice(),
         found.as_slice(),
+        numbers,
+        symbols,
     )?;
-    settled(alloc, work, linked.as_slice(), outcomes)
+    let changes = settled(alloc, work, linked.as_slice(), outcomes)?;
+    Ok(changes)
 }
 
-/// The number that a label spells, as numbers are printed.
-fn spelled_number(label: &str) -> Option<usize> {
-    match label.as_bytes().first() {
-        Some(b'1'..=b'9') => label.parse::<usize>().ok(),
+/// The label of the footnote at a place, if there is one.
+fn label_at<'l>(labels: &'l [Option<Text>], place: usize) -> Option<&'l str>
+    ensures { MatchOption result (at labels.now place ≡ None) (λ label. at labels.now place ≡ Some label.now) }
+{
+    match labels.get(place) {
+        Some(Some(label)) => Some(label.as_str()),
         _ => None,
     }
 }
 
-/// Which numbers up to that of all linked elements are labels that were written.
-fn written_numbers(alloc: Global, linked: &[Linked<'_>]) -> Result<Vec<bool>, TreeFault> {
-    let mut written = Vec::new(alloc);
-    written.push(false)?;
-    for _ in linked {
-        written.push(false)?;
-    }
-    for one in linked {
-        if let Some(label) = mark_of(one.element) {
-            if let Some(number) = spelled_number(label) {
-                if number < written.len() {
-                    written[number] = true;
-                }
-            }
-        }
-    }
-    Ok(written)
+/// The footnote that the element at a place finds, if it finds one.
+fn found_at(found: &[Option<usize>], place: usize) -> Option<usize>
+    ensures { result ≡ at found.now place }
+{
+    *found.get(place)?
 }
 
-/// The least number behind another that no label has.
-fn next_free(written: &[bool], number: usize) -> usize {
-    let mut next = number.saturating_add(1);
-    while next < written.len() && written[next] {
-        next += 1;
+/// The number that the element at a place gets as a name: its label, if it is a footnote that was written with `#` alone.
+fn own_number<'l>(node: &Node, labels: &'l [Option<Text>], place: usize) -> Option<&'l str>
+    ensures { MatchOption result (own_number node.now (at labels.now place) ≡ None) (λ number. own_number node.now (at labels.now place) ≡ Some number.now) }
+{
+    if !Order::Numbers.is(footnote_order(node)) {
+        return None;
     }
-    next
-}
-
-/// The label of the n-th symbol footnote, from 0.
-fn symbol_label(alloc: Global, n: usize) -> Result<Text, TreeFault> {
-    let mut label = String::new(alloc);
-    for _ in 0..=n / SYMBOLS.len() {
-        label.push(SYMBOLS[n % SYMBOLS.len()])?;
-    }
-    Ok(Text::new(label))
-}
-
-/// The label that each footnote shows, by its place; there is nothing for the other elements.
-fn labels(alloc: Global, linked: &[Linked<'_>]) -> Result<Vec<Option<Text>>, TreeFault> {
-    let written = written_numbers(alloc, linked)?;
-    let mut number = 0;
-    let mut symbols: usize = 0;
-    let mut labels = Vec::new(alloc);
-    for one in linked {
-        match mark_of(one.element) {
-            None => labels.push(None)?,
-            Some("*") => {
-                labels.push(Some(symbol_label(alloc, symbols)?))?;
-                symbols = symbols.saturating_add(1);
-            }
-            Some(mark) if mark.starts_with('#') => {
-                number = next_free(written.as_slice(), number);
-                labels.push(Some(Text::new(number.to_string(alloc)?)))?;
-            }
-            Some(mark) => labels.push(Some(Text::from_str(alloc, mark)?))?,
-        }
-    }
-    Ok(labels)
+    label_at(labels, place)
 }
 
 /// Lets the footnotes that were to be numbered and not named hold their numbers as names.
@@ -151,16 +133,29 @@ fn hold_numbers(
     names: &mut Names,
     linked: &[Linked<'_>],
     labels: &[Option<Text>],
-) -> Result<(), TreeFault> {
-    for (one, label) in linked.iter().zip(labels) {
-        if !Order::Numbers.is(footnote_order(one.element)) {
-            continue;
-        }
-        if let Some(number) = label {
-            hold_number(alloc, names, number.as_str(), one.element)?;
-        }
+) -> Result<(), TreeFault>
+    ensures { Gives (λ _. HoldNumbers 0 labels.now (map held linked.now) names.old names.new) result }
+{
+    for (place, one) in linked.iter().enumerate() {
+        hold_own(alloc, names, one.element, labels, place)?;
     }
     Ok(())
+}
+
+/// Lets the element at a place hold its number as a name, if it gets one.
+fn hold_own(
+    alloc: Global,
+    names: &mut Names,
+    element: &Node,
+    labels: &[Option<Text>],
+    place: usize,
+) -> Result<(), TreeFault>
+    ensures { Gives (λ _. HoldsNumber (own_number element.now (at labels.now place)) element.now names.old names.new) result }
+{
+    let Some(number) = own_number(element, labels, place) else {
+        return Ok(());
+    };
+    hold_number(alloc, names, number, element)
 }
 
 /// Lets a footnote hold its number as a name, unless an element was written with that name.
@@ -169,8 +164,10 @@ fn hold_number(
     names: &mut Names,
     number: &str,
     footnote: &Node,
-) -> Result<(), TreeFault> {
-    if names.get(number).is_some() {
+) -> Result<(), TreeFault>
+    ensures { Gives (λ _. HoldsName number.now (held_by names.old number.now) (number_said Serial footnote.now) (slice_get (list_said Ids footnote.now) 0) names.old names.new) result }
+{
+    if let Some(_) = names.get(number) {
         return Ok(());
     }
     let Some(serial) = number_said(footnote, Key::Serial) else {
@@ -187,6 +184,29 @@ fn hold_number(
     names.hold(alloc, number, held)
 }
 
+/// The line of the first reference of an order that finds no footnote, if there is such.
+fn first_left_over(linked: &[Linked<'_>], found: &[Option<usize>], order: Order) -> Option<usize>
+    ensures { result ≡ first_left_over order 0 found.now (map held linked.now) }
+{
+    for (place, one) in linked.iter().enumerate() {
+        if order.is(reference_order(one.element)) && found_at(found, place).is_none() {
+            return Some(line_of(one.element));
+        }
+    }
+    None
+}
+
+/// That there are too many references of an order, in words.
+fn too_many(alloc: Global, order: Order, footnotes: usize) -> Result<Text, TreeFault>
+    ensures { Gives (λ text. text ≡ too_many order footnotes) result }
+{
+    let text = format!(in alloc;
+        "Too many {} footnote references: only {footnotes} corresponding footnotes available.",
+        order.name()
+    )?;
+    Ok(Text::new(text))
+}
+
 /// The message on the references of an order for which no footnote is left, if there are such.
 fn leftover(
     alloc: Global,
@@ -194,53 +214,116 @@ fn leftover(
     linked: &[Linked<'_>],
     found: &[Option<usize>],
     order: Order,
-) -> Result<Option<usize>, TreeFault> {
-    for (one, place) in linked.iter().zip(found) {
-        if place.is_none() && order.is(reference_order(one.element)) {
-            let text = format!(in alloc;
-                "Too many {} footnote references: only {} corresponding footnotes available.",
-                order.name(),
-                in_order(alloc, linked, order)?.len()
-            )?;
-            let line = line_of(one.element);
-            return Ok(Some(work.report(alloc, Level::Error, line, Text::new(text), true)?));
-        }
+) -> Result<Option<usize>, TreeFault>
+    ensures { Gives (TellsLeftOver (first_left_over order 0 found.now (map held linked.now)) order (length (in_order order (map held linked.now))) work.old work.new) result }
+{
+    let Some(line) = first_left_over(linked, found, order) else {
+        return Ok(None);
+    };
+    let footnotes = in_order(alloc, linked, order)?;
+    let text = too_many(alloc, order, footnotes.len())?;
+    let place = work.report(alloc, Level::Error, line, text, true)?;
+    Ok(Some(place))
+}
+
+/// The message on a reference, by those on the two orders.
+fn report_of(node: &Node, numbers: Option<usize>, symbols: Option<usize>) -> Option<usize>
+    ensures { result ≡ report_of (reference_order node.now) numbers symbols }
+{
+    match reference_order(node) {
+        Some(Order::Numbers) => numbers,
+        Some(Order::Symbols) => symbols,
+        None => None,
     }
-    Ok(None)
 }
 
 /// What becomes of the linked elements.
 fn outcomes(
     alloc: Global,
-    work: &mut Work,
     linked: &[Linked<'_>],
     labels: &[Option<Text>],
     found: &[Option<usize>],
-) -> Result<Vec<Outcome>, TreeFault> {
-    let numbers = leftover(alloc, work, linked, found, Order::Numbers)?;
-    let symbols = leftover(alloc, work, linked, found, Order::Symbols)?;
-    let mut outcomes = Vec::new(alloc);
-    for (place, (one, found)) in linked.iter().zip(found).enumerate() {
-        let left_over = match reference_order(one.element) {
-            Some(Order::Numbers) => numbers,
-            Some(Order::Symbols) => symbols,
-            None => None,
-        };
-        let outcome = match (found, left_over) {
-            (Some(footnote), _) => referring(alloc, linked, labels, *footnote)?,
-            (None, Some(report)) => Outcome::Fails(report),
-            (None, None) => labelled(alloc, *one, labels, place)?,
-        };
-        outcomes.push(outcome)?;
+    numbers: Option<usize>,
+    symbols: Option<usize>,
+) -> Result<Vec<Outcome>, TreeFault>
+    ensures { Gives (λ list. list.items ≡ outcomes_from (map held linked.now) labels.now found.now numbers symbols 0 (map held linked.now)) result }
+{
+    let mut list = Vec::with_capacity(alloc, linked.len())?;
+    for (place, one) in linked.iter().enumerate() {
+        let report = report_of(one.element, numbers, symbols);
+        let outcome = outcome(
+            alloc,
+            linked,
+            labels,
+            place,
+            one,
+            found_at(found, place),
+            report,
+        )?;
+        list.push(outcome)?;
     }
-    Ok(outcomes)
+    Ok(list)
 }
 
-/// A copy of a text at a place, if there is one.
-fn text_at(texts: &[Option<Text>], place: usize) -> Result<Option<Text>, TreeFault> {
-    match texts.get(place) {
-        Some(Some(text)) => Ok(Some(text.copy()?)),
-        _ => Ok(None),
+/// What becomes of the element at a place, by the footnote that it finds and the message on it.
+fn outcome(
+    alloc: Global,
+    linked: &[Linked<'_>],
+    labels: &[Option<Text>],
+    place: usize,
+    one: &Linked<'_>,
+    found: Option<usize>,
+    report: Option<usize>,
+) -> Result<Outcome, TreeFault>
+    ensures { Gives (λ outcome. outcome ≡ outcome_by (map held linked.now) labels.now place (held one.now) found report) result }
+{
+    if let Some(footnote) = found {
+        return referring(alloc, linked, labels, footnote);
+    }
+    if let Some(report) = report {
+        return Ok(Outcome::Fails(report));
+    }
+    labelled(alloc, one, labels, place)
+}
+
+/// A copy of the label of the footnote at a place, if there is one.
+fn shown_at(alloc: Global, labels: &[Option<Text>], place: usize) -> Result<Option<Text>, TreeFault>
+    ensures { Gives (λ shown. shown ≡ at labels.now place) result }
+{
+    match label_at(labels, place) {
+        Some(label) => Ok(Some(Text::from_str(alloc, label)?)),
+        None => Ok(None),
+    }
+}
+
+/// A copy of the label of the footnote that a label stands in, if there is one.
+fn label_in(
+    alloc: Global,
+    labels: &[Option<Text>],
+    outer: Option<usize>,
+) -> Result<Option<Text>, TreeFault>
+    ensures { Gives (λ shown. shown ≡ label_in labels.now outer) result }
+{
+    match outer {
+        Some(footnote) => shown_at(alloc, labels, footnote),
+        None => Ok(None),
+    }
+}
+
+/// What a reference says of the footnote at a place: its id.
+fn lead_to_note(
+    alloc: Global,
+    linked: &[Linked<'_>],
+    footnote: usize,
+) -> Result<Option<Entry>, TreeFault>
+    ensures { Gives (λ lead. lead ≡ lead_to_note (slice_get (map held linked.now) footnote)) result }
+{
+    let Some(note) = linked.get(footnote) else {
+        return Ok(None);
+    };
+    match first_said(note.element, Key::Ids) {
+        Some(id) => Ok(Some(text_attr(alloc, Key::Refid, id)?)),
+        None => Ok(None),
     }
 }
 
@@ -250,39 +333,55 @@ fn referring(
     linked: &[Linked<'_>],
     labels: &[Option<Text>],
     footnote: usize,
-) -> Result<Outcome, TreeFault> {
-    let attr = match linked.get(footnote) {
-        Some(one) => match first_said(one.element, Key::Ids) {
-            Some(id) => Some(text_attr(alloc, Key::Refid, id)?),
-            None => None,
-        },
-        None => None,
-    };
-    let shown = text_at(labels, footnote)?;
+) -> Result<Outcome, TreeFault>
+    ensures { Gives (λ outcome. outcome ≡ referring (map held linked.now) labels.now footnote) result }
+{
+    let attr = lead_to_note(alloc, linked, footnote)?;
+    let shown = shown_at(alloc, labels, footnote)?;
     Ok(Outcome::Stays(Addition { attr, shown }))
+}
+
+/// Whether a node is a label.
+fn is_label(node: &Node) -> bool
+    ensures { result ≡ is_label node.now }
+{
+    match node {
+        Node::Element { tag, .. } => matches!(tag, Tag::Label),
+        Node::Text(_) => false,
+    }
+}
+
+/// The names of the element at a place with its number, if it gets one as a name.
+fn with_number(
+    alloc: Global,
+    node: &Node,
+    labels: &[Option<Text>],
+    place: usize,
+) -> Result<Option<Entry>, TreeFault>
+    ensures { Gives (λ names. names ≡ with_number node.now (own_number node.now (at labels.now place))) result }
+{
+    let Some(number) = own_number(node, labels, place) else {
+        return Ok(None);
+    };
+    let mut names = list_said(alloc, node, Key::Names)?;
+    names.push(Text::from_str(alloc, number)?)?;
+    Ok(Some(Entry::new(Key::Names, Value::List(names))))
 }
 
 /// What becomes of an element that is no reference by the order: a label shows what its footnote is labelled with, and a
 /// footnote that was to be numbered gets its number as a name.
 fn labelled(
     alloc: Global,
-    one: Linked<'_>,
+    one: &Linked<'_>,
     labels: &[Option<Text>],
     place: usize,
-) -> Result<Outcome, TreeFault> {
-    if is_a(one.element, Tag::Label) {
-        let shown = match one.outer {
-            Some(footnote) => text_at(labels, footnote)?,
-            None => None,
-        };
+) -> Result<Outcome, TreeFault>
+    ensures { Gives (λ outcome. outcome ≡ labelled labels.now place (held one.now)) result }
+{
+    if is_label(one.element) {
+        let shown = label_in(alloc, labels, one.outer)?;
         return Ok(Outcome::Stays(Addition { attr: None, shown }));
     }
-    if Order::Numbers.is(footnote_order(one.element)) {
-        if let Some(number) = text_at(labels, place)? {
-            let mut names = list_said(alloc, one.element, Key::Names)?;
-            names.push(number)?;
-            return Ok(Outcome::says(Entry::new(Key::Names, Value::List(names))));
-        }
-    }
-    Ok(Outcome::same())
+    let names = with_number(alloc, one.element, labels, place)?;
+    Ok(Outcome::adds(names))
 }

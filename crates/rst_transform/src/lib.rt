@@ -20,6 +20,7 @@ mod links;
 mod lists;
 mod meanings;
 mod messages;
+mod note_labels;
 mod note_order;
 mod problematics;
 mod reading;

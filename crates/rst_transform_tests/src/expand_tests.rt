@@ -201,7 +201,7 @@ fn expansions_are_bounded(rt: HostRuntime) -> Result<(), Fail> {
             Some(report) => {
                 assert!(rt; !fits);
                 assert_eq!(rt;
-                    report.note.text.as_str(),
+                    report.text.as_str(),
                     "Substitution expansion too large: \"1\"."
                 );
             }
