@@ -189,14 +189,14 @@ const RESOLVE: &[(&str, &str)] = &[
 9: Duplicate target name, cannot be used as a unique reference: \"lost\".
 ",
     ),
-    // Footnotes by name, by number and by order tell their references in order; other holders aren't looked for.
+    // Footnotes by name, by their number as a name, and by order tell their references in order; other holders aren't looked for.
     (
         "<document>
     <paragraph>
         <footnote_reference auto=\"1\" ids=\"r1\" rawsource=\"[#n]_\" refname=\"n\">
         <footnote_reference ids=\"r2\" rawsource=\"[1]_\" refname=\"1\">
             1
-        <footnote_reference auto=\"1\" ids=\"r3\" rawsource=\"[#]_\" refid=\"f1\">
+        <footnote_reference auto=\"1\" ids=\"r3\" rawsource=\"[#]_\" refid=\"1\">
             1
         <citation_reference ids=\"r4\" rawsource=\"[c]_\" refname=\"c\">
             c
@@ -204,7 +204,7 @@ const RESOLVE: &[(&str, &str)] = &[
             b
         <reference rawsource=\"1_\" refname=\"1\">
             1
-    <footnote auto=\"1\" ids=\"f1 n\" mark=\"#\">
+    <footnote auto=\"1\" ids=\"1 n\" mark=\"#\" names=\"1\" serial=\"111\">
         <label>
             1
     <footnote auto=\"1\" ids=\"n\" mark=\"#n\" names=\"n\" serial=\"1\">
@@ -219,17 +219,17 @@ const RESOLVE: &[(&str, &str)] = &[
     <paragraph>
         <footnote_reference auto=\"1\" ids=\"r1\" rawsource=\"[#n]_\" refid=\"n\" refname=\"n\">
             2
-        <footnote_reference ids=\"r2\" rawsource=\"[1]_\" refid=\"f1\" refname=\"1\">
+        <footnote_reference ids=\"r2\" rawsource=\"[1]_\" refid=\"1\" refname=\"1\">
             1
-        <footnote_reference auto=\"1\" ids=\"r3\" rawsource=\"[#]_\" refid=\"f1\">
+        <footnote_reference auto=\"1\" ids=\"r3\" rawsource=\"[#]_\" refid=\"1\">
             1
         <citation_reference ids=\"r4\" rawsource=\"[c]_\" refid=\"c\" refname=\"c\">
             c
         <problematic ids=\"problematic-1\" message=\"0\" refid=\"system-message-1\">
             [b]_
-        <reference rawsource=\"1_\" refid=\"f1\" refname=\"1\">
+        <reference rawsource=\"1_\" refid=\"1\" refname=\"1\">
             1
-    <footnote auto=\"1\" backrefs=\"r2 r3\" ids=\"f1 n\" mark=\"#\">
+    <footnote auto=\"1\" backrefs=\"r2 r3\" ids=\"1 n\" mark=\"#\" names=\"1\" serial=\"3\">
         <label>
             1
     <footnote auto=\"1\" backrefs=\"r1\" ids=\"n\" mark=\"#n\" names=\"n\" serial=\"1\">
