@@ -1,7 +1,9 @@
 pub mod Agreeing
+pub mod Following
 pub mod Gathering
 pub mod Holding
 pub mod Idle
+pub mod Leading
 pub mod Leaving
 pub mod Linking
 pub mod Placing

@@ -5,6 +5,7 @@ pub mod Docinfo
 pub mod Fields
 pub mod Gathered
 pub mod Holders
+pub mod Indirect
 pub mod Linkings
 pub mod Links
 pub mod Lists
@@ -19,3 +20,4 @@ pub mod Shown
 pub mod Targets
 pub mod Title
 pub mod Transitions
+pub mod Ways
