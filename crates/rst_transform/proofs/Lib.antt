@@ -1,10 +1,12 @@
 pub mod Agreeing
 pub mod Defining
+pub mod Following
 pub mod FreeNumbers
 pub mod Gathering
 pub mod Holding
 pub mod Idle
 pub mod LastNodes
+pub mod Leading
 pub mod Leaving
 pub mod Linking
 pub mod Notes

@@ -8,6 +8,7 @@ pub mod Fields
 pub mod Footnotes
 pub mod Gathered
 pub mod Holders
+pub mod Indirect
 pub mod LastSection
 pub mod Linkings
 pub mod Links
@@ -27,3 +28,4 @@ pub mod Shown
 pub mod Targets
 pub mod Title
 pub mod Transitions
+pub mod Ways

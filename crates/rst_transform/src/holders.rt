@@ -113,7 +113,7 @@ fn target_lead(alloc: Global, holder: Option<&Node>) -> Result<Option<Entry>, Tr
 }
 
 /// Whether a node is a target.
-fn is_target(node: &Node) -> bool
+pub(crate) fn is_target(node: &Node) -> bool
     ensures { result ≡ is_target_node node.now }
 {
     match node {

@@ -30,6 +30,7 @@ pub mod targets;
 mod texts;
 pub mod title;
 pub mod transitions;
+mod ways;
 mod work;
 
 pub use fault::TransformFault;
