@@ -1,5 +1,5 @@
 -- What names mean to the references by name (Markup Specification, 'Hyperlink References', 'Footnotes', 'Citations').
-use Rattle.std.specs.Prelude.{ℕ, ◌&&◌, ◌||◌, Bool, true, false, not, List, if◌then◌else◌, is_some, slice_get, Option, Some, None}
+use Rattle.std.specs.Prelude.{ℕ, ◌&&◌, Bool, true, false, not, List, if◌then◌else◌, is_some, slice_get, Option, Some, None}
 use Rattle.std.specs.Option.{option_map}
 use Rattle.rst_names.specs.declared.names.Held.{Held as NameHeld}
 use Rattle.rst_names.specs.declared.names.Holder.{Holder}

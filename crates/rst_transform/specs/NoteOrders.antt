@@ -9,7 +9,6 @@ use Rattle.rst_tree.specs.declared.node.Node.TheVariants.{Element, Text as Words
 use Rattle.rst_tree.specs.declared.tag.Tag.{Tag}
 use Rattle.rst_tree.specs.declared.tag.Tag.TheVariants.{Footnote, FootnoteReference}
 use Rattle.rst_tree.specs.Attributes.{value_of, said_text}
-use Rattle.rst_tree.specs.Paths.{node_value}
 use Rattle.rst_transform.specs.declared.note_order.Order.{Order}
 use Rattle.rst_transform.specs.declared.note_order.Order.TheVariants.{Numbers, Symbols}
 use Rattle.rst_transform.specs.Linkings.{Held}

@@ -1,5 +1,5 @@
 -- References by name (Markup Specification, 'Hyperlink References'): each leads where its name leads, or else fails.
-use Rattle.std.specs.Prelude.{◌≡◌, ℕ, ◌&&◌, ◌||◌, Bool, true, false, List, [], ◌∷◌, ◌++◌, codes, length, if◌then◌else◌, is_some, slice_get, unwrap_or, Option, Some, None}
+use Rattle.std.specs.Prelude.{ℕ, ◌&&◌, ◌||◌, Bool, true, false, List, [], ◌∷◌, ◌++◌, codes, length, if◌then◌else◌, is_some, slice_get, unwrap_or, Option, Some, None}
 use Rattle.rst_names.specs.declared.names.Holder.{Holder}
 use Rattle.rst_names.specs.declared.names.Names.{Names}
 use Rattle.rst_tree.specs.declared.key.Key.TheVariants.{Auto, Refname}

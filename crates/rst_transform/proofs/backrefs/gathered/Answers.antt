@@ -1,4 +1,4 @@
-use Rattle.std.proofs.Common.{rules, ◌≡◌, ◌≤◌, ◌∙◌, sym, [], drop, map, length}
+use Rattle.std.proofs.Common.{rules, ◌≤◌, ◌∙◌, sym, drop, map, length}
 use Rattle.std.proofs.lemmas.List.{drop_all}
 use Rattle.rst_transform.specs.Linkings.{held}
 use Rattle.rst_transform.proofs.Referring.{gathered_none}

@@ -1,4 +1,4 @@
-use Rattle.std.proofs.Common.{rules, ◌≡◌, ◌∙◌, false, map}
+use Rattle.std.proofs.Common.{rules, ◌≡◌, false, map}
 use Rattle.std.specs.List.{list_any}
 use Rattle.rst_transform.specs.Linkings.{held}
 use Rattle.rst_transform.specs.Meanings.{is_note_reference}

@@ -1,4 +1,4 @@
-use Rattle.std.proofs.Common.{rules, arith}
+use Rattle.std.proofs.Common.{rules}
 use Rattle.rst_transform.proofs.Holding.{Noting-init, Noting-more, Noting-end}
 use Rattle.rst_transform.proofs.holders.Holders.of.Goals as goal
 
