@@ -2,7 +2,7 @@
 //! the profile of the reference implementation gives.
 
 use super::comparing::compare;
-use super::printed::printed;
+use super::printed::outlined;
 use rst_marked::Marked;
 use rst_names::register;
 use rst_tree::{Attrs, Children, Key, Node, Tag, Text, TreeFault, Value};
@@ -176,7 +176,12 @@ fn document_of(alloc: Global, example: &str) -> Result<Node, TreeFault> {
 pub fn register_as(rt: &impl Abort, alloc: Global, example: &str, want: &str) -> Result<(), Fail> {
     let document = document_of(alloc, example)?;
     let registered = register(alloc, Marked::of(alloc, document)?, 10)?;
-    compare(rt, printed(alloc, registered.root)?.as_str(), want, example);
+    compare(
+        rt,
+        outlined(alloc, registered.root)?.as_str(),
+        want,
+        example,
+    );
     Ok(())
 }
 

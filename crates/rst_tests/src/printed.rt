@@ -1,5 +1,6 @@
 //! Trees and nodes as the tests show them.
 use super::comparing::compare;
+use rst_outline::outline;
 use rst_text::Counted;
 use rst_tree::{Attrs, Children, Node, Tag, Tree, print};
 use std::alloc::Global;
@@ -19,6 +20,14 @@ pub fn printed(alloc: Global, root: Node) -> Result<String, Fail> {
     }
 }
 
+/// A root with all its attributes, if it is a tree.
+pub fn outlined(alloc: Global, root: Node) -> Result<String, Fail> {
+    match Tree::of(root) {
+        Ok(tree) => Ok(outline(alloc, tree.root())?),
+        Err(_) => Err(Fail::new("no tree")),
+    }
+}
+
 /// Puts a text with its line ends as arrows behind another.
 pub fn push_shown(out: &mut String, text: &str) -> Result<(), Fail> {
     for c in text.chars() {
@@ -27,7 +36,7 @@ pub fn push_shown(out: &mut String, text: &str) -> Result<(), Fail> {
     Ok(())
 }
 
-/// The nodes as they are printed in a document, those attributes included that serve the transforms alone, with line ends
+/// The nodes as they are printed in a document, but with all attributes, also those that serve the transforms alone, and with line ends
 /// as arrows.
 pub fn shown(alloc: Global, nodes: Vec<Node>) -> Result<String, Fail> {
     let root = Node::Element {
@@ -36,7 +45,7 @@ pub fn shown(alloc: Global, nodes: Vec<Node>) -> Result<String, Fail> {
         children: Children::of(nodes),
         line: 1,
     };
-    let text = printed(alloc, root)?;
+    let text = outlined(alloc, root)?;
     let text = text.as_str();
     let mut out = String::new(alloc);
     push_shown(&mut out, text.strip_prefix("<document>\n").unwrap_or(text))?;

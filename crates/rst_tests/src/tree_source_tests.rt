@@ -81,7 +81,7 @@ const WITH_SOURCE: &str = "<document ids=\"a\" source=\"s.rst\" title=\"A\">
     <system_message ids=\"b\" level=\"1\" line=\"8\" source=\"s.rst\" type=\"INFO\">
         <paragraph>
             Two.
-    <system_message level=\"3\" line=\"9\" message=\"0\" source=\"s.rst\" title=\"C\" type=\"ERROR\" xml:space=\"preserve\">
+    <system_message level=\"3\" line=\"9\" source=\"s.rst\" title=\"C\" type=\"ERROR\" xml:space=\"preserve\">
         <paragraph>
             Three.
     <system_message level=\"4\" line=\"10\" source=\"s.rst\" type=\"SEVERE\">
@@ -100,7 +100,7 @@ const WITHOUT_SOURCE: &str = "<document ids=\"a\" title=\"A\">
     <system_message ids=\"b\" level=\"1\" line=\"8\" source=\"other.rst\" type=\"INFO\">
         <paragraph>
             Two.
-    <system_message level=\"3\" line=\"9\" message=\"0\" title=\"C\" type=\"ERROR\" xml:space=\"preserve\">
+    <system_message level=\"3\" line=\"9\" title=\"C\" type=\"ERROR\" xml:space=\"preserve\">
         <paragraph>
             Three.
     <system_message level=\"4\" line=\"10\" type=\"SEVERE\">

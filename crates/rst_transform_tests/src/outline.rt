@@ -3,11 +3,10 @@
 //! they are printed.
 
 use rst_names::{Held, Holder, Ids, Names, Strength};
+use rst_outline::outline;
 use rst_text::Counted;
 use rst_transform::Work;
-use rst_tree::{
-    Attrs, Entry, Key, Level, Node, Said, Tag, Text, Texts, Tree, TreeFault, Value, print,
-};
+use rst_tree::{Attrs, Key, Node, Said, Tag, Text, Texts, Tree, TreeFault, Value, print};
 use std::alloc::Global;
 use std::test::Fail;
 
@@ -222,91 +221,10 @@ pub fn printed(alloc: Global, tree: &Tree) -> Result<String, Fail> {
     Ok(String::from_str(alloc, std::str::from_utf8(&out)?)?)
 }
 
-/// What an attribute says, as it is printed where it holds no white space.
-fn said_text(alloc: Global, said: Said<'_>) -> Result<String, TreeFault> {
-    let mut text = String::new(alloc);
-    match said {
-        Said::Text(said) => text.push_str(said.as_str())?,
-        Said::Number(number) => text = number.to_string(alloc)?,
-        Said::List(members) => {
-            for member in members {
-                if !text.is_empty() {
-                    text.push(' ')?;
-                }
-                text.push_str(member.as_str())?;
-            }
-        }
-    }
-    Ok(text)
-}
-
-/// Puts an attribute behind a text, unless it says nothing.
-fn add_attribute(alloc: Global, attr: &Entry, text: &mut String) -> Result<(), TreeFault> {
-    let said = said_text(alloc, attr.said())?;
-    if said.is_empty() {
-        return Ok(());
-    }
-    text.push_str(attr.key().opening())?;
-    text.push_str(said.as_str())?;
-    text.push('"')?;
-    Ok(())
-}
-
-/// The attributes of an element, and what it tells where it is printed.
-fn told(alloc: Global, tag: Tag, attrs: &Attrs, line: usize) -> Result<Attrs, TreeFault> {
-    let mut told = attrs.copy(alloc)?;
-    if matches!(tag, Tag::SystemMessage) {
-        told.set(Key::Line, Value::Number(line as u64))?;
-        if let Some(level) = attrs.number(Key::Level) {
-            let name = Text::from_str(alloc, Level::of_number(level).name())?;
-            told.set(Key::Type_, Value::Text(name))?;
-        }
-    }
-    Ok(told)
-}
-
-/// Puts the lines of a node behind a text, each behind an indentation: as they are printed, but with all attributes, also those that
-/// serve the transforms alone.
-fn add_outline(
-    alloc: Global,
-    node: &Node,
-    indentation: &str,
-    text: &mut String,
-) -> Result<(), TreeFault> {
-    text.push_str(indentation)?;
-    match node {
-        Node::Text(said) => text.push_str(said.as_str())?,
-        Node::Element {
-            tag,
-            attrs,
-            children,
-            line,
-        } => {
-            text.push('<')?;
-            text.push_str(tag.name())?;
-            let told = told(alloc, *tag, attrs, *line)?;
-            for attr in told.as_slice() {
-                add_attribute(alloc, attr, text)?;
-            }
-            text.push('>')?;
-            text.push('\n')?;
-            let mut inner = String::from_str(alloc, indentation)?;
-            inner.push_str("    ")?;
-            for child in children.as_slice() {
-                add_outline(alloc, child, inner.as_str(), text)?;
-            }
-            return Ok(());
-        }
-    }
-    text.push('\n')?;
-    Ok(())
-}
-
 /// The document with all its attributes, and behind it each message: its line, and what it says.
 pub fn shown(alloc: Global, work: Work) -> Result<String, Fail> {
     let Work { root, reports, .. } = work;
-    let mut text = String::new(alloc);
-    add_outline(alloc, &root, "", &mut text)?;
+    let mut text = outline(alloc, &root)?;
     for report in &reports {
         let said = report.text.as_str();
         let line = report.line;

@@ -1,7 +1,7 @@
 use Rattle.std.proofs.Common.{rules, arith, ◌+◌, ◌≤◌}
 use Rattle.rst_tree.specs.Nodes.{node_height}
 use Rattle.rst_tree.proofs.PrintedParts.{child_height}
-use Rattle.rst_transform_tests.proofs.outline.+add_outline.Goals as goal
+use Rattle.rst_outline.proofs.lines.+add_outline.Goals as goal
 
 pub add_outline-requires : goal.add_outline-requires
 add_outline-requires t c =
