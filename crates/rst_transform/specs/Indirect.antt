@@ -1,5 +1,6 @@
 -- Indirect targets, which lead where the names that they refer to lead (Markup Specification, 'Hyperlink Targets').
-use Rattle.std.specs.Prelude.{◌≡◌, ℕ, ◌+◌, Bool, true, false, List, [], ◌∷◌, ◌++◌, codes, drop, length, map, if◌then◌else◌, is_some, option_map, slice_get, unwrap_or, Option, Some, None}
+use Rattle.std.specs.Prelude.{◌≡◌, ℕ, ◌+◌, Bool, true, false, List, [], ◌∷◌, ◌++◌, codes, drop, length, map, if◌then◌else◌, is_none, is_some, option_map, slice_get, unwrap_or, Option, Some, None}
+use Rattle.std.specs.List.{list_all}
 use Rattle.rst_names.specs.declared.names.Held.{Held as Naming}
 use Rattle.rst_names.specs.declared.names.Holder.{Holder}
 use Rattle.rst_names.specs.declared.names.Holder.TheVariants.{Nobody, Element as Numbered, Unregistered}
@@ -184,12 +185,24 @@ reports_in root work = at_place (reports_from (answers_in root work) (length wor
 abbrev pub targets_in : Node → Work → ℕ → Option ℕ
 targets_in root work = at_place (targets_of work.names (holder_place work.serials (linked_of root)) (linked_of root))
 
+-- what becomes of the linked elements in a document
+abbrev pub outcomes_in : Node → Work → List Outcome
+outcomes_in root work = outcomes_from (answers_in root work) (reports_in root work) (targets_in root work) 0 (linked_of root)
+
+-- no way is a circle, or ends at a name that no element holds
+abbrev pub NoneFails : Node → Work → Type 0
+NoneFails root work = list_all is_none (reports_from (answers_in root work) (length work.reports.items) 0 (linked_of root)) ≡ true
+
+-- a document whose indirect targets lead where their ways end
+abbrev pub with_indirect : Work → Work
+with_indirect work = record work { root = changed_root (outcomes_in work.root work) work.root }
+
 -- what becomes of the linked elements of a tree, and the document before and after
 pub record ChangesIndirect (root : Node) (before after : Work) (changes : List Outcome) : Type 0 where
   pub told : Work
   pub reports : told.reports.items ≡ told_from (answers_in root before) before.first_number before.reports.items 0 (linked_of root)
   pub rest : KeepsRest before told
-  pub settles : Settles (linked_of root) (outcomes_from (answers_in root before) (reports_in root before) (targets_in root before) 0 (linked_of root)) told after changes
+  pub settles : Settles (linked_of root) (outcomes_in root before) told after changes
 
 -- the document before and after; its root is taken out, and put back as it changed
 pub record IsIndirect (before after : Work) : Type 0 where

@@ -1,10 +1,11 @@
 //! Indirect targets.
-ghost use Rattle.std.specs.Prelude.{◌≡◌, ◌++◌, ℕ, drop, is_some, length, map, slice_get, unwrap_or, MatchOption, None, Some, []};
+ghost use Rattle.std.specs.Prelude.{◌≡◌, ◌++◌, ℕ, drop, is_none, is_some, length, map, slice_get, unwrap_or, MatchOption, None, Some, [], true};
+ghost use Rattle.std.specs.List.{list_all};
 ghost use Rattle.rst_tree.specs.Faults.{Gives};
 ghost use Rattle.rst_tree.specs.declared.key.Key.TheVariants.{OwnName};
 ghost use Rattle.rst_names.specs.Names.{held_by, kept_for};
 ghost use Rattle.rst_transform.specs.Holders.{holding, place_at};
-ghost use Rattle.rst_transform.specs.Indirect.{anonymous_from, circle_told, ends_at_name, failure_of, first_step, has_holder, indirect_name, is_reference_node, led, missing_told, named_place, next_count, outcome_at, outcome_through, outcomes_from, own_step, report_place, reports_from, step_to, steps_of, targets_from, targets_of, told_from, with_report, ChangesIndirect, IsIndirect};
+ghost use Rattle.rst_transform.specs.Indirect.{anonymous_from, circle_told, ends_at_name, failure_of, first_step, has_holder, indirect_name, is_reference_node, led, missing_told, named_place, next_count, outcome_at, outcome_through, outcomes_from, outcomes_in, own_step, report_place, reports_from, step_to, steps_of, targets_from, targets_of, told_from, with_indirect, with_report, ChangesIndirect, IsIndirect, NoneFails};
 ghost use Rattle.rst_transform.specs.declared.ways.Answer.TheVariants.{Missing};
 ghost use Rattle.rst_transform.specs.declared.ways.Step.TheVariants.{Ends};
 ghost use Rattle.rst_transform.specs.Linkings.{held};
@@ -52,7 +53,8 @@ use std::alloc::Global;
 /// element holds, gives an ERROR, and the references through it become problematics of that message: message by message,
 /// under each in the order of the document.
 pub fn indirect(alloc: Global, mut work: Work) -> Result<Work, TreeFault>
-    ensures { Gives (IsIndirect work) result }
+    ensures done { Gives (IsIndirect work) result }
+    ensures led { NoneFails work.root work → Gives (λ done. done ≡ with_indirect work) result }
 {
     let root = take_root(alloc, &mut work);
     let changes = changes_of(alloc, &mut work, &root)?;
@@ -62,7 +64,9 @@ pub fn indirect(alloc: Global, mut work: Work) -> Result<Work, TreeFault>
 
 /// The changes of a tree's linked elements.
 fn changes_of(alloc: Global, work: &mut Work, root: &Node) -> Result<Changes, TreeFault>
-    ensures { Gives (ChangesIndirect root.now work.old work.new) result }
+    ensures done { Gives (ChangesIndirect root.now work.old work.new) result }
+    ensures changes { NoneFails root.now work.old → Gives (λ changes. changes ≡ outcomes_in root.now work.old) result }
+    ensures work { NoneFails root.now work.old → Gives (λ _. work.new ≡ work.old) result }
 {
     let linked = linked_in(alloc, root)?;
     let holders = Holders::of(alloc, linked.as_slice(), work.serials)?;
@@ -267,6 +271,7 @@ fn told(
     ensures reports { Gives (λ _. work.new.reports.items ≡ with_report work.old.first_number work.old.reports.items node.now failure) result }
     ensures count { Gives (λ _. length work.new.reports.items ≡ next_count (length work.old.reports.items) failure) result }
     ensures rest { Gives (λ _. KeepsRest work.old work.new) result }
+    ensures same { Gives (λ place. place ≡ None → work.new ≡ work.old) result }
 {
     let Some(text) = failure else {
         return Ok(None);
@@ -285,6 +290,7 @@ fn reports(
     ensures places { Gives (λ reports. reports.items ≡ reports_from (at_place answers.now) (length work.old.reports.items) 0 (map held linked.now)) result }
     ensures reports { Gives (λ _. work.new.reports.items ≡ told_from (at_place answers.now) work.old.first_number work.old.reports.items 0 (map held linked.now)) result }
     ensures rest { Gives (λ _. KeepsRest work.old work.new) result }
+    ensures same { Gives (λ reports. list_all is_none reports.items ≡ true → work.new ≡ work.old) result }
 {
     let mut reports = Vec::with_capacity(alloc, linked.len())?;
     for (place, one) in linked.iter().enumerate() {
