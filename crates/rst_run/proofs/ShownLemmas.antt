@@ -27,4 +27,4 @@ pub ends_read : {A : Type 0} (settings : Settings) (source : List ℕ) (finished
     → Shows (parts_of settings source finished.tree finished.notes.items) out err end → Headline (Answers settings source) input out err end
 ends_read settings source finished input out err taken end (bytes, handed, (read, same, short)) reads shows =
     let made : Reads settings bytes (Ok finished) = subst (λ l. Reads settings l (Ok finished)) same reads in
-    (bytes, handed, ends_shown (Answers settings source bytes) _ input out err end read (short, made.0, finished.tree, finished.notes.items, made.1.0, refl) shows)
+    (bytes, handed, ends_shown (Answers settings source bytes) _ input out err end read (short, finished, made, refl) shows)

@@ -10,8 +10,8 @@ use Rattle.rst_text.specs.Text.{text_of}
 use Rattle.rst_text.specs.declared.counted.Counted.{Counted}
 use Rattle.rst_settings.specs.declared.Settings.{Settings}
 use Rattle.rst_settings.specs.Threshold.{is_reached}
-use Rattle.rst_transform.specs.Messages.{EndsAtHalt, highest_level}
-use Rattle.rst_transform.specs.Shown.{is_shown_in}
+use Rattle.rst_transform.specs.Messages.{highest_level}
+use Rattle.rst_transform.specs.declared.finishing.Finished.{Finished}
 use Rattle.rst_tree.specs.LevelNames.{level_name, level_number}
 use Rattle.rst_tree.specs.Message.{message_of}
 use Rattle.rst_tree.specs.Print.{print_of}
@@ -21,6 +21,7 @@ use Rattle.rst_tree.specs.declared.note.Level.{Level}
 use Rattle.rst_tree.specs.declared.note.Note.{Note}
 use Rattle.rst_run.specs.declared.end.End.{End}
 use Rattle.rst_run.specs.declared.end.End.TheVariants.{TooLong, NotUtf8, TooDeep, NoMemory}
+use Rattle.rst_run.specs.Reading.{HasShortLines, IsMade}
 
 -- standard output, standard error and the exit status
 pub record Parts : Type 0 where
@@ -71,24 +72,10 @@ abbrev pub parts_of : Settings → List ℕ → Node → List Note → Parts
 parts_of settings source document notes =
     record { out = shown_by source document (halting settings notes); err = told settings source notes; status = ended_by settings notes (halting settings notes) }
 
--- a document and its messages as they are shown: no message in the document is below the report level, no attribute serves the
--- transforms alone, and no message but the last one halts the run
-abbrev pub IsFinished : Settings → Node → List Note → Type 0
-IsFinished settings document notes = (is_shown_in settings.report document ≡ true) × EndsAtHalt settings.halt notes
-
--- no line is longer than the settings say
-abbrev pub IsShort : Settings → Block → Type 0
-IsShort settings lines = first_longer settings.limit lines ≡ None
-
--- there is a text, and its lines are short
-abbrev pub HasShortLines : Settings → Option (List ℕ) → Type 0
-HasShortLines settings None = ⊥
-HasShortLines settings (Some text) = IsShort settings (lines_of settings.tab text)
-
--- The answer to some bytes: what is shown of the document that they were read as, and of its messages; or the
+-- The answer to some bytes: what is shown of the finished document that was made of their text, and of its messages; or the
 -- refusal of what is too long, no UTF-8 or nested too deeply.
 abbrev pub Answers : Settings → List ℕ → List ℕ → Result Parts End → Type 0
-Answers settings source bytes (Ok parts) = (length bytes ≤ 16777216) × IsSome (text_of bytes) × (document : Node) × (notes : List Note) × IsFinished settings document notes × (parts ≡ parts_of settings source document notes)
+Answers settings source bytes (Ok parts) = (length bytes ≤ 16777216) × (finished : Finished) × IsMade settings (text_of bytes) finished × (parts ≡ parts_of settings source finished.tree finished.notes.items)
 Answers settings source bytes (Err TooLong) = 16777216 < length bytes
 Answers settings source bytes (Err (NotUtf8 at)) = (length bytes ≤ 16777216) × (text_of bytes ≡ None) × (at ≡ utf8_valid_len bytes)
 Answers settings source bytes (Err (TooDeep line)) = (length bytes ≤ 16777216) × HasShortLines settings (text_of bytes)

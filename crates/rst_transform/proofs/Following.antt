@@ -5,7 +5,8 @@ use Rattle.rst_transform.specs.declared.ways.Answer.{Answer}
 use Rattle.rst_transform.specs.declared.ways.Answer.TheVariants.{Circular}
 use Rattle.rst_transform.specs.declared.ways.Step.{Step}
 use Rattle.rst_transform.specs.declared.ways.Step.TheVariants.{To, Ends}
-use Rattle.rst_transform.specs.Ways.{at_once, at_place, comes_to, end_by, filled, known, next_of, next_on, way_end, KnownBelow}
+use Rattle.rst_transform.specs.Ways.{at_once, comes_to, end_by, filled, known, next_of, next_on, way_end, KnownBelow}
+use Rattle.rst_transform.specs.Lists.{at_place}
 
 -- it holds of each member
 abbrev Each : (ℕ → Type 0) → List ℕ → Type 0

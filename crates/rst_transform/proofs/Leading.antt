@@ -18,7 +18,8 @@ use Rattle.rst_transform.specs.Links.{changed_root}
 use Rattle.rst_transform.specs.Outcomes.{adds, stays}
 use Rattle.rst_transform.specs.Reports.{KeepsRest}
 use Rattle.rst_transform.specs.Settling.{Settles}
-use Rattle.rst_transform.specs.Ways.{at_place, comes_to}
+use Rattle.rst_transform.specs.Ways.{comes_to}
+use Rattle.rst_transform.specs.Lists.{at_place}
 
 -- the element at a place is what is held there
 pub held_at : (linked : List Linked) (place : ℕ) (one : Linked) → slice_get linked place ≡ Some one → slice_get (map held linked) place ≡ Some (held one)

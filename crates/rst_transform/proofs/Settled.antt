@@ -13,14 +13,15 @@ use Rattle.rst_transform.specs.declared.work.Work.{Work}
 use Rattle.rst_transform.specs.Linkings.{Held}
 use Rattle.rst_transform.specs.Outcomes.{stays}
 use Rattle.rst_transform.specs.Problematics.{MakesProblematic}
-use Rattle.rst_transform.specs.Settling.{earlier_at, first_at, first_in, firsts, met_from, turns_from, Settles, TakesTurns}
+use Rattle.rst_transform.specs.Settling.{earlier_at, first_in, firsts, met_from, turns_from, Settles, TakesTurns}
+use Rattle.rst_transform.specs.Lists.{at_place}
 
 -- the turn at a place among all is the first of those that are left there
 pub next_turn : (turns : List (ℕ × ℕ)) (i : ℕ) (turn : ℕ × ℕ) (before next after : Work) (outcomes settled : List Outcome) (told : List Attr) → i < length turns → turn ≡ get_or turns i turn
     → MakesProblematic (slice_get before.reports.items turn.0) turn.0 before next told → TakesTurns (drop (i + 1) turns) next (slice_set outcomes turn.1 (Failed told)) after settled → TakesTurns (drop i turns) before outcomes after settled
 next_turn turns i turn before next after outcomes settled told within at makes rest = rw (drop_more turns i turn within, ← at) (next, told, makes, rest)
 
-none_at : (around : List (Option ℕ)) (place : ℕ) → list_all is_none around ≡ true → first_at around place ≡ None
+none_at : (around : List (Option ℕ)) (place : ℕ) → list_all is_none around ≡ true → at_place around place ≡ None
 none_at [] place h = refl
 none_at (None ∷ more) zero h = refl
 none_at (None ∷ more) (suc place) h = none_at more place h

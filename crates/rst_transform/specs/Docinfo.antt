@@ -15,6 +15,7 @@ use Rattle.rst_transform.specs.Gathered.{Gathered, docinfo_nodes, gathered, none
 use Rattle.rst_transform.specs.Lists.{with_names}
 use Rattle.rst_transform.specs.Title.{may_precede}
 use Rattle.rst_transform.specs.Transitions.{is_title}
+use Rattle.rst_names.specs.Names.{KnowsTheSame}
 
 -- a node with more ids and names
 abbrev pub named : List Attr → Node → Node
@@ -87,3 +88,10 @@ docinfo_reports first reports (Text t) = reports
 -- all but the messages and the names is as it was
 abbrev pub KeepsOthers : Work → Work → Type 0
 KeepsOthers old new = new ≡ record old { names = new.names; reports = new.reports }
+
+-- the document before and after
+pub record HasDocinfo (before after : Work) : Type 0 where
+  pub root : after.root ≡ with_docinfo before.first_number before.reports.items before.root
+  pub reports : after.reports.items ≡ docinfo_reports before.first_number before.reports.items before.root
+  pub names : KnowsTheSame before.names after.names
+  pub rest : after ≡ record before { root = after.root; names = after.names; reports = after.reports }

@@ -1,6 +1,5 @@
 -- Footnotes, and the references that find them by the order (Markup Specification, 'Footnotes').
 use Rattle.std.specs.Prelude.{◌≡◌, ℕ, ◌+◌, ◌&&◌, Bool, true, false, List, [], ◌∷◌, ◌++◌, codes, decimal, length, if◌then◌else◌, is_none, slice_get, Option, Some, None}
-use Rattle.std.specs.Option.{option_flatten}
 use Rattle.rst_names.specs.declared.names.Held.{Held as KnownName}
 use Rattle.rst_names.specs.declared.names.Holder.TheVariants.{Element as HeldBy}
 use Rattle.rst_names.specs.declared.names.Names.{Names as KnownNames}
@@ -28,10 +27,7 @@ use Rattle.rst_transform.specs.Outcomes.{adds}
 use Rattle.rst_transform.specs.Reading.{line_of, list_said, number_said}
 use Rattle.rst_transform.specs.Reports.{next_report, KeepsRest}
 use Rattle.rst_transform.specs.Settling.{Settles}
-
--- what a list has at a place
-abbrev pub at : {X : Type 0} → List (Option X) → ℕ → Option X
-at list place = option_flatten (slice_get list place)
+use Rattle.rst_transform.specs.Lists.{at_place}
 
 -- ---- the numbers as names
 
@@ -54,7 +50,7 @@ HoldsNumber (Some number) node before after = HoldsName number (held_by before n
 abbrev pub HoldNumbers : ℕ → List (Option (List ℕ)) → List Held → KnownNames → KnownNames → Type 0
 HoldNumbers place labels [] before after = after ≡ before
 HoldNumbers place labels (one ∷ more) before after =
-    (next : KnownNames) × HoldsNumber (own_number one.0 (at labels place)) one.0 before next × HoldNumbers (place + 1) labels more next after
+    (next : KnownNames) × HoldsNumber (own_number one.0 (at_place labels place)) one.0 before next × HoldNumbers (place + 1) labels more next after
 
 -- ---- the references that find no footnote
 
@@ -65,7 +61,7 @@ is_left_over order node found = is_order order (reference_order node) && is_none
 abbrev pub first_left_over : Order → ℕ → List (Option ℕ) → List Held → Option ℕ
 first_left_over order place found [] = None
 first_left_over order place found (one ∷ more) =
-    if is_left_over order one.0 (at found place) then Some (line_of one.0) else first_left_over order (place + 1) found more
+    if is_left_over order one.0 (at_place found place) then Some (line_of one.0) else first_left_over order (place + 1) found more
 
 -- what is told of such, where there are so many footnotes of the order
 abbrev pub too_many : Order → ℕ → List ℕ
@@ -94,7 +90,7 @@ lead_to_note (Some note) = lead_to_id (slice_get (list_said Ids note.0) 0)
 
 -- and shows the label of the footnote at a place
 abbrev pub referring : List Held → List (Option (List ℕ)) → ℕ → Outcome
-referring linked labels footnote = Stays (record { attr = lead_to_note (slice_get linked footnote); shown = at labels footnote })
+referring linked labels footnote = Stays (record { attr = lead_to_note (slice_get linked footnote); shown = at_place labels footnote })
 
 abbrev pub is_label : Node → Bool
 is_label (Element Label a c l) = true
@@ -103,7 +99,7 @@ is_label _ = false
 -- a label shows that of the footnote that it stands in
 abbrev pub label_in : List (Option (List ℕ)) → Option ℕ → Option (List ℕ)
 label_in labels None = None
-label_in labels (Some footnote) = at labels footnote
+label_in labels (Some footnote) = at_place labels footnote
 
 -- the names of an element with its number
 abbrev pub with_number : Node → Option (List ℕ) → Option Attr
@@ -114,7 +110,7 @@ with_number node (Some number) = Some (attr Names (Listed (list_said Names node 
 abbrev pub labelled : List (Option (List ℕ)) → ℕ → Held → Outcome
 labelled labels place one =
     if is_label one.0 then Stays (record { attr = None; shown = label_in labels one.1 })
-    else adds (with_number one.0 (own_number one.0 (at labels place)))
+    else adds (with_number one.0 (own_number one.0 (at_place labels place)))
 
 -- what becomes of an element, by the footnote that it finds and the message on it
 abbrev pub outcome_by : List Held → List (Option (List ℕ)) → ℕ → Held → Option ℕ → Option ℕ → Outcome
@@ -126,7 +122,7 @@ outcome_by linked labels place one None None = labelled labels place one
 abbrev pub outcomes_from : List Held → List (Option (List ℕ)) → List (Option ℕ) → Option ℕ → Option ℕ → ℕ → List Held → List Outcome
 outcomes_from linked labels found numbers symbols place [] = []
 outcomes_from linked labels found numbers symbols place (one ∷ more) =
-    outcome_by linked labels place one (at found place) (report_of (reference_order one.0) numbers symbols) ∷ outcomes_from linked labels found numbers symbols (place + 1) more
+    outcome_by linked labels place one (at_place found place) (report_of (reference_order one.0) numbers symbols) ∷ outcomes_from linked labels found numbers symbols (place + 1) more
 
 abbrev pub outcomes : List Held → Option ℕ → Option ℕ → List Outcome
 outcomes linked numbers symbols = outcomes_from linked (labels linked) (found_by_order linked) numbers symbols 0 linked

@@ -27,7 +27,8 @@ use Rattle.rst_transform.specs.Outcomes.{adds}
 use Rattle.rst_transform.specs.Reading.{line_of, text_said}
 use Rattle.rst_transform.specs.Reports.{next_report, KeepsRest}
 use Rattle.rst_transform.specs.Settling.{Settles}
-use Rattle.rst_transform.specs.Ways.{at_place, comes_to}
+use Rattle.rst_transform.specs.Ways.{comes_to}
+use Rattle.rst_transform.specs.Lists.{at_place}
 
 -- the name that an indirect target refers to
 abbrev pub indirect_name : Node → Option (List ℕ)

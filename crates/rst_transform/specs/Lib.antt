@@ -5,6 +5,7 @@ pub mod Bibliography
 pub mod Definitions
 pub mod Docinfo
 pub mod Fields
+pub mod Finishing
 pub mod Footnotes
 pub mod Gathered
 pub mod Holders

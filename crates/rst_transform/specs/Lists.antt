@@ -1,5 +1,6 @@
--- Lists of texts among the attributes of elements (Document Tree, `ids`, `names` and `dupnames`).
-use Rattle.std.specs.Prelude.{ℕ, List, [], ◌∷◌, ◌++◌}
+-- Lists of texts among the attributes of elements (Document Tree, `ids`, `names` and `dupnames`), and lists that have something for some places.
+use Rattle.std.specs.Prelude.{ℕ, List, [], ◌∷◌, ◌++◌, slice_get, Option}
+use Rattle.std.specs.Option.{option_flatten}
 use Rattle.rst_tree.specs.declared.attrs.Attr.{Attr}
 use Rattle.rst_tree.specs.declared.attrs.Value.TheVariants.{List as Listed}
 use Rattle.rst_tree.specs.declared.key.Key.{Key}
@@ -23,3 +24,7 @@ with_list_of k from attrs = with_listed k (listed k from) attrs
 -- the attributes with the ids, names and lost names of others behind their own
 abbrev pub with_names : List Attr → List Attr → List Attr
 with_names from attrs = with_list_of Dupnames from (with_list_of Names from (with_list_of Ids from attrs))
+
+-- what a list has for a place, if it has something there
+abbrev pub at_place : {A : Type 0} → List (Option A) → ℕ → Option A
+at_place list place = option_flatten (slice_get list place)

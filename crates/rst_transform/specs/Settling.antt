@@ -1,7 +1,6 @@
 -- What failing elements come to, message by message (Document Tree, 'problematic'): an element inside one that became a problematic is
 -- gone from then on.
 use Rattle.std.specs.Prelude.{◌≡◌, ◌+◌, ◌&&◌, ℕ, Bool, true, min, nat_lt, List, [], ◌∷◌, ◌++◌, length, if◌then◌else◌, slice_get, slice_set, is_some, Option, Some, None, IsPermutation, IsSorted}
-use Rattle.std.specs.Option.{option_flatten}
 use Rattle.std.specs.declared.cmp.Ordering.{Ordering}
 use Rattle.std.specs.Ordering.{ordering_then, nat_cmp}
 use Rattle.rst_tree.specs.declared.attrs.Attr.{Attr}
@@ -10,6 +9,7 @@ use Rattle.rst_transform.specs.declared.links.Outcome.TheVariants.{Stays, Fails,
 use Rattle.rst_transform.specs.declared.work.Work.{Work}
 use Rattle.rst_transform.specs.Linkings.{Held}
 use Rattle.rst_transform.specs.Problematics.{MakesProblematic}
+use Rattle.rst_transform.specs.Lists.{at_place}
 
 -- the earlier of a report and that of an outcome, where there are such
 abbrev pub earlier : Option ℕ → Outcome → Option ℕ
@@ -43,9 +43,6 @@ turn_of reports (Fails report) around = if nat_lt report reports && still_stands
 turn_of reports (Stays more) around = None
 turn_of reports (Failed told) around = None
 
-abbrev pub first_at : List (Option ℕ) → ℕ → Option ℕ
-first_at around place = option_flatten (slice_get around place)
-
 abbrev pub turn_at : Option ℕ → ℕ → List (ℕ × ℕ)
 turn_at (Some report) place = (report, place) ∷ []
 turn_at None place = []
@@ -53,7 +50,7 @@ turn_at None place = []
 -- the turns of some elements, of which the first is at a place, each with the place of its element
 abbrev pub turns_from : ℕ → ℕ → List (Option ℕ) → List Outcome → List (ℕ × ℕ)
 turns_from place reports around [] = []
-turns_from place reports around (outcome ∷ more) = turn_at (turn_of reports outcome (first_at around place)) place ++ turns_from (place + 1) reports around more
+turns_from place reports around (outcome ∷ more) = turn_at (turn_of reports outcome (at_place around place)) place ++ turns_from (place + 1) reports around more
 
 -- the turns by their reports, and under each by their places
 abbrev pub in_order : ℕ × ℕ → ℕ × ℕ → Ordering
@@ -71,7 +68,7 @@ TakesTurns (turn ∷ more) before outcomes after settled =
 -- what becomes of those of some elements, of which the first is at a place, that stand in none that becomes a problematic
 abbrev pub met_from : ℕ → List (Option ℕ) → List Outcome → List Outcome
 met_from place around [] = []
-met_from place around (outcome ∷ more) = if is_some (first_at around place) then met_from (place + 1) around more else outcome ∷ met_from (place + 1) around more
+met_from place around (outcome ∷ more) = if is_some (at_place around place) then met_from (place + 1) around more else outcome ∷ met_from (place + 1) around more
 
 -- the outcomes of linked elements, what becomes in the end of those that are met, and the documents before and after
 pub record Settles (linked : List Held) (outcomes : List Outcome) (before after : Work) (changes : List Outcome) : Type 0 where

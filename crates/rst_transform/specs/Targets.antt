@@ -18,6 +18,8 @@ use Rattle.rst_tree.specs.declared.tag.Tag.TheVariants.{Comment, SubstitutionDef
 use Rattle.rst_tree.specs.Attributes.{said_number, value_of, with_attr, without_key}
 use Rattle.rst_tree.specs.Walk.{Item, item}
 use Rattle.rst_transform.specs.Lists.{listed, with_listed}
+use Rattle.rst_transform.specs.declared.work.Work.{Work}
+use Rattle.rst_tree.specs.Walk.{node_items, node_shape}
 
 -- whether an element of a kind takes the ids and names of a target before it
 abbrev pub takes_ids : Tag → Bool
@@ -145,3 +147,10 @@ met u x =
 -- the element then
 abbrev pub passed_on : Underway → Item → Item
 passed_on u x = if is_turn u x then item x.tag (referring x.attrs) x.line else item x.tag (given u.handed x.attrs) x.line
+
+-- the document before and after: its elements and the names that they hold change, nothing else
+pub record IsRetargeted (before after : Work) : Type 0 where
+  pub elements : node_items after.root ≡ retargeted (handed [] []) (node_items before.root)
+  pub shape : node_shape after.root ≡ node_shape before.root
+  pub names : Passes (names_got (handed [] []) (node_items before.root)) before.names after.names
+  pub rest : after ≡ record before { root = after.root; names = after.names }

@@ -17,6 +17,7 @@ use Rattle.rst_tree.specs.Nodes.{join_node}
 use Rattle.rst_tree.specs.Tree.{text_in}
 use Rattle.rst_transform.specs.declared.title.Section.{Section}
 use Rattle.rst_transform.specs.Lists.{listed, with_names}
+use Rattle.rst_transform.specs.declared.work.Work.{Work}
 
 -- what may stand before a lone section: a comment, a target, a substitution definition or a message
 abbrev pub may_precede : Node → Bool
@@ -98,3 +99,9 @@ names_got (Text t) = []
 abbrev pub Moves : List (List ℕ) → Names → Names → Type 0
 Moves names old new =
     ((name : List ℕ) → held_by new name ≡ (if list_any (bytes_eq name) names then moved Unregistered (held_by old name) else held_by old name)) × SameUris old new
+
+-- the document before and after
+pub record IsTitled (before after : Work) : Type 0 where
+  pub root : after.root ≡ titled before.root
+  pub names : Moves (names_got before.root) before.names after.names
+  pub rest : after ≡ record before { root = after.root; names = after.names }

@@ -1,5 +1,5 @@
 -- The places of transitions, and the messages on those that stand where none may (reStructuredText Markup Specification, 'Transitions').
-use Rattle.std.specs.Prelude.{ℕ, Bool, true, false, ◌&&◌, ◌||◌, not, ◌-◌, List, [], ◌∷◌, ◌++◌, length, slice_get, reverse, Option, Some, None, if◌then◌else◌, codes}
+use Rattle.std.specs.Prelude.{◌≡◌, ℕ, Bool, true, false, ◌&&◌, ◌||◌, not, ◌-◌, List, [], ◌∷◌, ◌++◌, length, slice_get, reverse, Option, Some, None, if◌then◌else◌, codes}
 use Rattle.std.specs.List.{list_all}
 use Rattle.rst_tree.specs.declared.attrs.Attr.{Attr}
 use Rattle.rst_tree.specs.declared.node.Node.{Node}
@@ -144,3 +144,9 @@ with_places first reports (Text t) = Text t
 abbrev pub with_reports : ℕ → List Report → Node → List Report
 with_reports first reports (Element t a c l) = (all_placed first reports c).reports
 with_reports first reports (Text t) = reports
+
+-- the document before and after
+pub record HasTransitions (before after : Work) : Type 0 where
+  pub root : after.root ≡ with_places before.first_number before.reports.items before.root
+  pub reports : after.reports.items ≡ with_reports before.first_number before.reports.items before.root
+  pub rest : after ≡ record before { root = after.root; reports = after.reports }

@@ -1,14 +1,10 @@
 -- Where the ways of indirect targets end (Markup Specification, 'Hyperlink Targets').
 use Rattle.std.specs.Prelude.{◌≡◌, ℕ, zero, suc, ◌+◌, ◌<◌, ◌≤◌, true, List, [], ◌∷◌, length, if◌then◌else◌, is_some, option_map, slice_get, slice_set, Option, Some, None}
-use Rattle.std.specs.Option.{option_flatten}
 use Rattle.rst_transform.specs.declared.ways.Answer.{Answer}
 use Rattle.rst_transform.specs.declared.ways.Answer.TheVariants.{Circular}
 use Rattle.rst_transform.specs.declared.ways.Step.{Step}
 use Rattle.rst_transform.specs.declared.ways.Step.TheVariants.{To, Ends}
-
--- what a list has for a place, if it has something there
-abbrev pub at_place : {A : Type 0} → List (Option A) → ℕ → Option A
-at_place list place = option_flatten (slice_get list place)
+use Rattle.rst_transform.specs.Lists.{at_place}
 
 -- a way ends with its first step, or where the way from the next place ends
 abbrev pub end_by : (ℕ → Answer) → Option Step → Answer

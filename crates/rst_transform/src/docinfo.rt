@@ -4,7 +4,7 @@ ghost use Rattle.std.specs.List.{prefix_len};
 ghost use Rattle.rst_names.specs.Names.{KnowsTheSame};
 ghost use Rattle.rst_tree.specs.Faults.{Gives};
 ghost use Rattle.rst_tree.specs.Nodes.{forest_of, nodes_of};
-ghost use Rattle.rst_transform.specs.Docinfo.{behind_titles, docinfo_reports, first_named, is_field_list, leading_list, list_gathered, list_in, list_place, may_lead, nodes_with, replaced, reports_with, told, with_docinfo, KeepsOthers};
+ghost use Rattle.rst_transform.specs.Docinfo.{behind_titles, docinfo_reports, first_named, is_field_list, leading_list, list_gathered, list_in, list_place, may_lead, nodes_with, replaced, reports_with, told, with_docinfo, KeepsOthers, HasDocinfo};
 ghost use Rattle.rst_transform.specs.Gathered.{docinfo_nodes};
 ghost use Rattle.rst_transform.specs.Reports.{KeepsRest};
 ghost use Rattle.rst_transform.specs.Transitions.{is_title};
@@ -237,10 +237,7 @@ fn with_bibliography(
 ///
 /// The only refusal is [`TreeFault::NoMemory`].
 pub fn docinfo(alloc: Global, mut work: Work) -> Result<Work, TreeFault>
-    ensures root { Gives (λ done. done.root ≡ with_docinfo work.first_number work.reports.items work.root) result }
-    ensures reports { Gives (λ done. done.reports.items ≡ docinfo_reports work.first_number work.reports.items work.root) result }
-    ensures names { Gives (λ done. KnowsTheSame work.names done.names) result }
-    ensures rest { Gives (λ done. done ≡ record work { root = done.root; names = done.names; reports = done.reports }) result }
+    ensures { Gives (HasDocinfo work) result }
 {
     let empty = Node::element(alloc, Tag::Document, 0);
     match mem::replace(&mut work.root, empty) {

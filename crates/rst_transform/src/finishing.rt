@@ -1,7 +1,16 @@
 //! All transforms, in order.
-ghost use Rattle.std.specs.Prelude.{◌≡◌, ◌≤◌, IfOk, true};
+ghost use Rattle.std.specs.Prelude.{◌≡◌, ◌≤◌, IfOk, true, false};
+ghost use Rattle.rst_tree.specs.Faults.{Gives};
+ghost use Rattle.rst_transform.specs.Anonymous.{IsAnonymous};
+ghost use Rattle.rst_transform.specs.Docinfo.{HasDocinfo};
+ghost use Rattle.rst_transform.specs.Finishing.{IsLinked, IsStarted, IsTransformed, Where};
+ghost use Rattle.rst_transform.specs.Footnotes.{NumbersFootnotes};
+ghost use Rattle.rst_transform.specs.Indirect.{IsIndirect};
 ghost use Rattle.rst_transform.specs.Messages.{EndsAtHalt, highest_level};
 ghost use Rattle.rst_transform.specs.Shown.{is_shown_in};
+ghost use Rattle.rst_transform.specs.Targets.{IsRetargeted};
+ghost use Rattle.rst_transform.specs.Title.{IsTitled};
+ghost use Rattle.rst_transform.specs.Transitions.{HasTransitions};
 
 use crate::anonymous::anonymous;
 use crate::docinfo::docinfo;
@@ -50,11 +59,12 @@ pub fn finish(
     ensures few { IfOk result (λ done. done.highest ≤ 4) }
 {
     let kinds = document.kinds();
-    let (work, noticed) = registered(alloc, document, messages)?;
+    let registered = register(alloc, document, messages)?;
     let mut list = Messages::with_room(alloc, messages, settings.halt, settings.report)?;
-    if kinds.messages || noticed {
-        list.add_those_in(alloc, &work.root)?;
+    if kinds.messages || registered.noticed {
+        list.add_those_in(alloc, &registered.root)?;
     }
+    let work = started(alloc, registered, messages);
     let work = transformed(alloc, work, kinds, settings)?;
     let Work { root, reports, .. } = last_section(alloc, work, settings.report)?;
     list.add_reports(reports)?;
@@ -70,66 +80,135 @@ pub fn finish(
     })
 }
 
-/// A document with names and ids, before the transforms, and whether messages on equal names stand in it now.
-fn registered(alloc: Global, document: Marked, messages: u64) -> Result<(Work, bool), TreeFault> {
-    let Registered {
-        root,
-        ids,
-        names,
-        serials,
-        noticed,
-    } = register(alloc, document, messages)?;
-    let work = Work {
-        root,
-        ids,
-        names,
+/// A registered document before the transforms, where so many numbers were given to messages.
+fn started(alloc: Global, registered: Registered, messages: u64) -> Work
+    ensures { IsStarted messages registered result }
+{
+    Work {
+        root: registered.root,
+        ids: registered.ids,
+        names: registered.names,
         reports: Vec::new(alloc),
         first_number: messages,
-        serials,
-    };
-    Ok((work, noticed))
+        serials: registered.serials,
+    }
 }
 
-/// A document with elements of some kinds after all transforms.
+/// A document with elements of some kinds after all transforms, in order.
 fn transformed(
     alloc: Global,
     work: Work,
     kinds: Kinds,
     settings: &Settings,
-) -> Result<Work, TreeFault> {
-    let mut work = work;
-    if kinds.substitutions {
-        work = expand(alloc, work)?;
-    }
-    if kinds.targets {
-        work = targets(alloc, work)?;
-    }
-    if settings.title {
-        work = title(alloc, work)?;
-    }
-    if settings.info {
-        work = docinfo(alloc, work)?;
-    }
-    if kinds.links {
-        work = linked(alloc, work, kinds)?;
-    }
-    if kinds.transitions {
-        work = transitions(alloc, work)?;
-    }
+) -> Result<Work, TreeFault>
+    ensures { Gives (IsTransformed kinds settings.now work) result }
+{
+    let expanded = with_contents(alloc, work, kinds.substitutions)?;
+    let retargeted = with_targets(alloc, expanded, kinds.targets)?;
+    let titled = with_title(alloc, retargeted, settings.title)?;
+    let informed = with_info(alloc, titled, settings.info)?;
+    let linked = with_links(alloc, informed, kinds)?;
+    let work = with_transitions(alloc, linked, kinds.transitions)?;
     Ok(work)
 }
 
-/// A document with elements of some kinds after the transforms of links.
-fn linked(alloc: Global, work: Work, kinds: Kinds) -> Result<Work, TreeFault> {
-    let mut work = work;
-    if kinds.anonymous {
-        work = anonymous(alloc, work)?;
+/// A document with the contents of substitution definitions, if it has references to such.
+fn with_contents(alloc: Global, work: Work, has: bool) -> Result<Work, TreeFault>
+    ensures { has ≡ false → Gives (λ done. done ≡ work) result }
+{
+    if !has {
+        return Ok(work);
     }
-    if kinds.indirect {
-        work = indirect(alloc, work)?;
+    expand(alloc, work)
+}
+
+/// A document whose internal targets handed on what they have, if it has any.
+fn with_targets(alloc: Global, work: Work, has: bool) -> Result<Work, TreeFault>
+    ensures { Gives (Where has IsRetargeted work) result }
+{
+    if !has {
+        return Ok(work);
     }
-    if kinds.footnotes {
-        work = footnotes(alloc, work)?;
+    targets(alloc, work)
+}
+
+/// A document with its title, if that is asked for.
+fn with_title(alloc: Global, work: Work, asked: bool) -> Result<Work, TreeFault>
+    ensures { Gives (Where asked IsTitled work) result }
+{
+    if !asked {
+        return Ok(work);
     }
-    resolve(alloc, work)
+    title(alloc, work)
+}
+
+/// A document with its bibliography, if that is asked for.
+fn with_info(alloc: Global, work: Work, asked: bool) -> Result<Work, TreeFault>
+    ensures { Gives (Where asked HasDocinfo work) result }
+{
+    if !asked {
+        return Ok(work);
+    }
+    docinfo(alloc, work)
+}
+
+/// A document whose links lead somewhere, if it has elements at the ends of links.
+fn with_links(alloc: Global, work: Work, kinds: Kinds) -> Result<Work, TreeFault>
+    ensures { Gives (Where kinds.links (IsLinked kinds) work) result }
+{
+    if !kinds.links {
+        return Ok(work);
+    }
+    linked(alloc, work, kinds)
+}
+
+/// A document after the transforms of links, in order.
+fn linked(alloc: Global, work: Work, kinds: Kinds) -> Result<Work, TreeFault>
+    ensures { Gives (IsLinked kinds work) result }
+{
+    let paired = with_anonymous(alloc, work, kinds.anonymous)?;
+    let led = with_indirect(alloc, paired, kinds.indirect)?;
+    let numbered = with_footnotes(alloc, led, kinds.footnotes)?;
+    let work = resolve(alloc, numbered)?;
+    Ok(work)
+}
+
+/// A document whose anonymous references have their targets, if it has any of both.
+fn with_anonymous(alloc: Global, work: Work, has: bool) -> Result<Work, TreeFault>
+    ensures { Gives (Where has IsAnonymous work) result }
+{
+    if !has {
+        return Ok(work);
+    }
+    anonymous(alloc, work)
+}
+
+/// A document whose indirect targets lead where their names do, if it has any.
+fn with_indirect(alloc: Global, work: Work, has: bool) -> Result<Work, TreeFault>
+    ensures { Gives (Where has IsIndirect work) result }
+{
+    if !has {
+        return Ok(work);
+    }
+    indirect(alloc, work)
+}
+
+/// A document whose footnotes have their numbers, if it has any, or references to such.
+fn with_footnotes(alloc: Global, work: Work, has: bool) -> Result<Work, TreeFault>
+    ensures { Gives (Where has NumbersFootnotes work) result }
+{
+    if !has {
+        return Ok(work);
+    }
+    footnotes(alloc, work)
+}
+
+/// A document whose transitions stand where they may, if it has any.
+fn with_transitions(alloc: Global, work: Work, has: bool) -> Result<Work, TreeFault>
+    ensures { Gives (Where has HasTransitions work) result }
+{
+    if !has {
+        return Ok(work);
+    }
+    transitions(alloc, work)
 }

@@ -3,10 +3,11 @@ ghost use Rattle.std.specs.Prelude.{◌≡◌, MatchOption, None, Some, length, 
 ghost use Rattle.rst_names.specs.Names.{held_by};
 ghost use Rattle.rst_tree.specs.declared.key.Key.TheVariants.{Ids, Serial};
 ghost use Rattle.rst_tree.specs.Faults.{Gives};
-ghost use Rattle.rst_transform.specs.Footnotes.{at, first_left_over, is_label, label_in, labelled, lead_to_note, outcome_by, outcomes_from, own_number, referring, report_of, too_many, with_number, ChangesFootnotes, HoldNumbers, HoldsName, HoldsNumber, NumbersFootnotes, TellsLeftOver};
+ghost use Rattle.rst_transform.specs.Footnotes.{first_left_over, is_label, label_in, labelled, lead_to_note, outcome_by, outcomes_from, own_number, referring, report_of, too_many, with_number, ChangesFootnotes, HoldNumbers, HoldsName, HoldsNumber, NumbersFootnotes, TellsLeftOver};
 ghost use Rattle.rst_transform.specs.Linkings.{held, linked_of};
 ghost use Rattle.rst_transform.specs.NoteOrders.{in_order, reference_order};
 ghost use Rattle.rst_transform.specs.Reading.{list_said, number_said};
+ghost use Rattle.rst_transform.specs.Lists.{at_place};
 
 use crate::holders::text_attr;
 use crate::links::{Addition, Changes, Linked, Outcome, linked_in, put_back, take_root};
@@ -14,6 +15,7 @@ use crate::note_labels::labels;
 use crate::note_order::{Order, footnote_order, found_by_order, in_order, reference_order};
 use crate::reading::{first_said, line_of, list_said, number_said};
 use crate::settling::settled;
+use crate::lists::at_place;
 use crate::work::Work;
 use rst_names::{Held, Holder, Names, Strength};
 use rst_tree::{Entry, Key, Level, Node, Tag, Text, TreeFault, Value};
@@ -102,7 +104,7 @@ fn changes_of(alloc: Global, work: &mut Work, root: &Node) -> Result<Changes, Tr
 
 /// The label of the footnote at a place, if there is one.
 fn label_at<'l>(labels: &'l [Option<Text>], place: usize) -> Option<&'l str>
-    ensures { MatchOption result (at labels.now place ≡ None) (λ label. at labels.now place ≡ Some label.now) }
+    ensures { MatchOption result (at_place labels.now place ≡ None) (λ label. at_place labels.now place ≡ Some label.now) }
 {
     match labels.get(place) {
         Some(Some(label)) => Some(label.as_str()),
@@ -110,16 +112,9 @@ fn label_at<'l>(labels: &'l [Option<Text>], place: usize) -> Option<&'l str>
     }
 }
 
-/// The footnote that the element at a place finds, if it finds one.
-fn found_at(found: &[Option<usize>], place: usize) -> Option<usize>
-    ensures { result ≡ at found.now place }
-{
-    *found.get(place)?
-}
-
 /// The number that the element at a place gets as a name: its label, if it is a footnote that was written with `#` alone.
 fn own_number<'l>(node: &Node, labels: &'l [Option<Text>], place: usize) -> Option<&'l str>
-    ensures { MatchOption result (own_number node.now (at labels.now place) ≡ None) (λ number. own_number node.now (at labels.now place) ≡ Some number.now) }
+    ensures { MatchOption result (own_number node.now (at_place labels.now place) ≡ None) (λ number. own_number node.now (at_place labels.now place) ≡ Some number.now) }
 {
     if !Order::Numbers.is(footnote_order(node)) {
         return None;
@@ -150,7 +145,7 @@ fn hold_own(
     labels: &[Option<Text>],
     place: usize,
 ) -> Result<(), TreeFault>
-    ensures { Gives (λ _. HoldsNumber (own_number element.now (at labels.now place)) element.now names.old names.new) result }
+    ensures { Gives (λ _. HoldsNumber (own_number element.now (at_place labels.now place)) element.now names.old names.new) result }
 {
     let Some(number) = own_number(element, labels, place) else {
         return Ok(());
@@ -189,7 +184,7 @@ fn first_left_over(linked: &[Linked<'_>], found: &[Option<usize>], order: Order)
     ensures { result ≡ first_left_over order 0 found.now (map held linked.now) }
 {
     for (place, one) in linked.iter().enumerate() {
-        if order.is(reference_order(one.element)) && found_at(found, place).is_none() {
+        if order.is(reference_order(one.element)) && at_place(found, place).is_none() {
             return Some(line_of(one.element));
         }
     }
@@ -257,7 +252,7 @@ fn outcomes(
             labels,
             place,
             one,
-            found_at(found, place),
+            at_place(found, place),
             report,
         )?;
         list.push(outcome)?;
@@ -288,7 +283,7 @@ fn outcome(
 
 /// A copy of the label of the footnote at a place, if there is one.
 fn shown_at(alloc: Global, labels: &[Option<Text>], place: usize) -> Result<Option<Text>, TreeFault>
-    ensures { Gives (λ shown. shown ≡ at labels.now place) result }
+    ensures { Gives (λ shown. shown ≡ at_place labels.now place) result }
 {
     match label_at(labels, place) {
         Some(label) => Ok(Some(Text::from_str(alloc, label)?)),
@@ -358,7 +353,7 @@ fn with_number(
     labels: &[Option<Text>],
     place: usize,
 ) -> Result<Option<Entry>, TreeFault>
-    ensures { Gives (λ names. names ≡ with_number node.now (own_number node.now (at labels.now place))) result }
+    ensures { Gives (λ names. names ≡ with_number node.now (own_number node.now (at_place labels.now place))) result }
 {
     let Some(number) = own_number(node, labels, place) else {
         return Ok(None);

@@ -11,7 +11,7 @@ ghost use Rattle.rst_transform.specs.declared.ways.Step.TheVariants.{Ends};
 ghost use Rattle.rst_transform.specs.Linkings.{held};
 ghost use Rattle.rst_transform.specs.Reading.{text_said};
 ghost use Rattle.rst_transform.specs.Reports.{KeepsRest};
-ghost use Rattle.rst_transform.specs.Ways.{at_place};
+ghost use Rattle.rst_transform.specs.Lists.{at_place};
 
 use crate::anonymous::{is_anonymous_reference, is_anonymous_target};
 use crate::holders::{Holders, is_target, lead_by_name};
@@ -19,6 +19,7 @@ use crate::links::{Changes, Linked, Outcome, linked_in, put_back, take_root};
 use crate::reading::{has, line_of, text_said};
 use crate::settling::settled;
 use crate::ways::{Answer, Step, answer_at, answers};
+use crate::lists::at_place;
 use crate::work::Work;
 use rst_names::{Held, Holder, Names};
 use rst_tree::{Key, Level, Node, Tag, Text, TreeFault};
@@ -380,13 +381,6 @@ fn targets_by(
     Ok(targets)
 }
 
-/// What a list of places has for one of them.
-fn place_in(places: &[Option<usize>], place: usize) -> Option<usize>
-    ensures { result ≡ at_place places.now place }
-{
-    *places.get(place)?
-}
-
 /// What becomes of an element that leads where an answer says.
 fn led(alloc: Global, answer: &Answer) -> Result<Outcome, TreeFault>
     ensures { Gives (λ outcome. outcome ≡ led answer.now) result }
@@ -410,7 +404,7 @@ fn outcome_through(
     let Some(target) = target else {
         return Ok(Outcome::same());
     };
-    if let Some(report) = place_in(reports, target) {
+    if let Some(report) = at_place(reports, target) {
         return Ok(Outcome::Fails(report));
     }
     match answer_at(answers, target) {
@@ -448,7 +442,7 @@ fn outcomes(
 {
     let mut outcomes = Vec::with_capacity(alloc, linked.len())?;
     for (place, one) in linked.iter().enumerate() {
-        let target = place_in(targets, place);
+        let target = at_place(targets, place);
         let outcome = outcome_at(alloc, one.element, answers, reports, target, place)?;
         outcomes.push(outcome)?;
     }

@@ -1,8 +1,8 @@
-//! Lists of texts among the attributes, and lists of nodes.
+//! Lists of texts among the attributes, lists of nodes, and lists of places.
 ghost use Rattle.std.specs.Prelude.{◌≡◌, ◌++◌};
 ghost use Rattle.rst_tree.specs.Attributes.{without_key};
 ghost use Rattle.rst_tree.specs.Faults.{Gives};
-ghost use Rattle.rst_transform.specs.Lists.{listed, with_listed, with_list_of, with_names};
+ghost use Rattle.rst_transform.specs.Lists.{at_place, listed, with_listed, with_list_of, with_names};
 
 use rst_tree::{Attrs, Key, Node, Said, Text, Texts, TreeFault, Value};
 use std::alloc::Global;
@@ -64,4 +64,11 @@ pub(crate) fn joined(mut nodes: Vec<Node>, more: Vec<Node>) -> Result<Vec<Node>,
         nodes.push(node)?;
     }
     Ok(nodes)
+}
+
+/// What a list of places has for one of them.
+pub(crate) fn at_place(places: &[Option<usize>], place: usize) -> Option<usize>
+    ensures { result ≡ at_place places.now place }
+{
+    *places.get(place)?
 }

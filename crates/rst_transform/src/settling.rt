@@ -4,9 +4,11 @@ ghost use Rattle.std.specs.List.{list_all};
 ghost use Rattle.rst_tree.specs.Faults.{Gives};
 ghost use Rattle.rst_transform.specs.Linkings.{held};
 ghost use Rattle.rst_transform.specs.Outcomes.{stays};
-ghost use Rattle.rst_transform.specs.Settling.{earlier, first_at, first_in, firsts, met_from, still_stands, turn_of, turns_from, AreTurns, Settles, TakesTurns};
+ghost use Rattle.rst_transform.specs.Settling.{earlier, first_in, firsts, met_from, still_stands, turn_of, turns_from, AreTurns, Settles, TakesTurns};
+ghost use Rattle.rst_transform.specs.Lists.{at_place};
 
 use crate::links::{Changes, Linked, Outcome};
+use crate::lists::at_place;
 use crate::work::Work;
 use rst_tree::TreeFault;
 use std::alloc::Global;
@@ -84,13 +86,6 @@ fn earlier(first: Option<usize>, outcome: &Outcome) -> Option<usize>
     }
 }
 
-/// The first report around the element at a place, if there is one.
-fn first_at(around: &[Option<usize>], place: usize) -> Option<usize>
-    ensures { result ≡ first_at around.now place }
-{
-    *around.get(place)?
-}
-
 /// Whether an element still stands when the turn of a report comes: one inside another is gone once that one became a
 /// problematic.
 fn still_stands(report: usize, around: Option<usize>) -> bool
@@ -125,7 +120,7 @@ fn turns(
 {
     let mut turns = Vec::with_capacity(alloc, outcomes.len())?;
     for (place, outcome) in outcomes.iter().enumerate() {
-        if let Some(report) = turn_of(reports, outcome, first_at(around, place)) {
+        if let Some(report) = turn_of(reports, outcome, at_place(around, place)) {
             turns.push((report, place))?;
         }
     }
@@ -181,7 +176,7 @@ fn met(
     }
     let mut left = Vec::with_capacity(alloc, outcomes.len())?;
     for (place, outcome) in outcomes.into_iter().enumerate() {
-        if first_at(around, place).is_none() {
+        if at_place(around, place).is_none() {
             left.push(outcome)?;
         }
     }

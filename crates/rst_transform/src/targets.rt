@@ -2,7 +2,7 @@
 ghost use Rattle.std.specs.Prelude.{◌≡◌, ◌++◌, [], false, map, reverse};
 ghost use Rattle.rst_tree.specs.Faults.{Gives};
 ghost use Rattle.rst_tree.specs.Walk.{item, node_items, node_shape};
-ghost use Rattle.rst_transform.specs.Targets.{found, found_turns, given, got_by, handed, handed_first, holder_of, is_turn, names_got, referring, retargeted, takes_ids, turns, turns_left, underway, with_refid, Passes};
+ghost use Rattle.rst_transform.specs.Targets.{found, found_turns, given, got_by, handed, handed_first, holder_of, is_turn, names_got, referring, retargeted, takes_ids, turns, turns_left, underway, with_refid, Passes, IsRetargeted};
 
 use crate::lists::{append, take_list};
 use crate::work::Work;
@@ -33,10 +33,7 @@ use std::mem;
 ///
 /// A target that no element follows, or one that takes no ids, stays as it is.
 pub fn targets(alloc: Global, mut work: Work) -> Result<Work, TreeFault>
-    ensures elements { Gives (λ done. node_items done.root ≡ retargeted (handed [] []) (node_items work.root)) result }
-    ensures shape { Gives (λ done. node_shape done.root ≡ node_shape work.root) result }
-    ensures names { Gives (λ done. Passes (names_got (handed [] []) (node_items work.root)) work.names done.names) result }
-    ensures rest { Gives (λ done. done ≡ record work { root = done.root; names = done.names }) result }
+    ensures { Gives (IsRetargeted work) result }
 {
     let turns = turns(alloc, &work.root)?;
     let mut moving = Moving::of(alloc, turns);

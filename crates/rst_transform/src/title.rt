@@ -5,7 +5,7 @@ ghost use Rattle.rst_tree.specs.declared.key.Key.TheVariants.{Names as OfNames};
 ghost use Rattle.rst_tree.specs.Faults.{Gives};
 ghost use Rattle.rst_tree.specs.Nodes.{forest_of, join_node, nodes_of};
 ghost use Rattle.rst_transform.specs.Lists.{with_names, listed};
-ghost use Rattle.rst_transform.specs.Title.{lone_section, may_precede, names_got, section_in, subtitle, subtitle_names, subtitled_by, title_attrs, title_names, titled, titled_by, Moves};
+ghost use Rattle.rst_transform.specs.Title.{lone_section, may_precede, names_got, section_in, subtitle, subtitle_names, subtitled_by, title_attrs, title_names, titled, titled_by, Moves, IsTitled};
 
 use crate::lists::{append_names, joined};
 use crate::work::Work;
@@ -33,9 +33,7 @@ use std::alloc::Global;
 ///
 /// Comments, targets, substitution definitions and messages may stand before the section.
 pub fn title(alloc: Global, work: Work) -> Result<Work, TreeFault>
-    ensures root { Gives (λ done. done.root ≡ titled work.root) result }
-    ensures names { Gives (λ done. Moves (names_got work.root) work.names done.names) result }
-    ensures rest { Gives (λ done. done ≡ record work { root = done.root; names = done.names }) result }
+    ensures { Gives (IsTitled work) result }
 {
     let Work {
         root,

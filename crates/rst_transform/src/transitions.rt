@@ -5,7 +5,7 @@ ghost use Rattle.rst_tree.specs.Faults.{Gives};
 ghost use Rattle.rst_tree.specs.Nodes.{forest_of};
 ghost use Rattle.rst_tree.specs.declared.node.Node.TheVariants.{Element};
 ghost use Rattle.rst_transform.specs.Reports.{KeepsRest, report_node};
-ghost use Rattle.rst_transform.specs.Transitions.{behind, ends_in_transition, fault_before, further, is_section, is_title, is_transition, none_yet, place_in, put_last, put_transition, so_far, transition_report, with_fault, with_message, with_places, with_reports};
+ghost use Rattle.rst_transform.specs.Transitions.{behind, ends_in_transition, fault_before, further, is_section, is_title, is_transition, none_yet, place_in, put_last, put_transition, so_far, transition_report, with_fault, with_message, with_places, with_reports, HasTransitions};
 
 use crate::work::Work;
 use rst_tree::{Attrs, Children, Level, Node, Tag, Text, TreeFault};
@@ -33,9 +33,7 @@ use std::mem;
 ///
 /// One that would move behind the end of the document stays, and a message follows it.
 pub fn transitions(alloc: Global, mut work: Work) -> Result<Work, TreeFault>
-    ensures root { Gives (λ done. done.root ≡ with_places work.first_number work.reports.items work.root) result }
-    ensures reports { Gives (λ done. done.reports.items ≡ with_reports work.first_number work.reports.items work.root) result }
-    ensures rest { Gives (λ done. done ≡ record work { root = done.root; reports = done.reports }) result }
+    ensures { Gives (HasTransitions work) result }
 {
     let root = mem::replace(&mut work.root, Node::element(alloc, Tag::Document, 0));
     match root {

@@ -2,7 +2,8 @@
 ghost use Rattle.std.specs.Prelude.{◌≡◌, ◌+◌, MatchOption, None, Some, map, slice_set, unwrap_or};
 ghost use Rattle.rst_tree.specs.Faults.{Gives};
 ghost use Rattle.rst_transform.specs.declared.ways.Answer.TheVariants.{Circular};
-ghost use Rattle.rst_transform.specs.Ways.{at_once, at_place, comes_to, filled, next_on, KnownBelow};
+ghost use Rattle.rst_transform.specs.Ways.{at_once, comes_to, filled, next_on, KnownBelow};
+ghost use Rattle.rst_transform.specs.Lists.{at_place};
 
 use rst_tree::{Entry, Text, TreeFault};
 use std::alloc::Global;

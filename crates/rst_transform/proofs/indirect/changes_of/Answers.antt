@@ -6,9 +6,10 @@ use Rattle.rst_transform.specs.Holders.{place_at}
 use Rattle.rst_transform.specs.Indirect.{answers_in, outcomes_in, reports_from, steps_of, targets_of}
 use Rattle.rst_transform.specs.Linkings.{held, linked_of}
 use Rattle.rst_transform.specs.Outcomes.{stays}
-use Rattle.rst_transform.specs.Ways.{at_place, comes_to}
+use Rattle.rst_transform.specs.Ways.{comes_to}
 use Rattle.rst_transform.proofs.Leading.{all_led, all_stay, outcomes_are, reports_told}
 use Rattle.rst_transform.proofs.indirect.changes_of.Goals as goal
+use Rattle.rst_transform.specs.Lists.{at_place}
 
 pub returns-clause-done : goal.returns-clause-done
 returns-clause-done c =

@@ -1,8 +1,8 @@
 use Rattle.std.proofs.Common.{◌≡◌, ◌++◌, map, drop}
 use Rattle.rst_transform.specs.Indirect.{outcomes_from}
 use Rattle.rst_transform.specs.Linkings.{held}
-use Rattle.rst_transform.specs.Ways.{at_place}
 use Rattle.rst_transform.proofs.indirect.outcomes.Given as goal
+use Rattle.rst_transform.specs.Lists.{at_place}
 
 abbrev pub invariant-loop-place : goal.invariant-loop-place
 invariant-loop-place l =

@@ -4,8 +4,8 @@ use Rattle.std.specs.List.{list_all}
 use Rattle.rst_transform.specs.Indirect.{reports_from, told_from}
 use Rattle.rst_transform.specs.Linkings.{held}
 use Rattle.rst_transform.specs.Reports.{KeepsRest}
-use Rattle.rst_transform.specs.Ways.{at_place}
 use Rattle.rst_transform.proofs.indirect.reports.Given as goal
+use Rattle.rst_transform.specs.Lists.{at_place}
 
 abbrev pub invariant-loop-place : goal.invariant-loop-place
 invariant-loop-place l = record {

@@ -1,8 +1,9 @@
 use Rattle.std.proofs.Common.{rules, ◌≡◌, Some, None, unwrap_or}
 use Rattle.rst_transform.specs.declared.ways.Answer.TheVariants.{Circular}
-use Rattle.rst_transform.specs.Ways.{at_place, filled, next_on}
+use Rattle.rst_transform.specs.Ways.{filled, next_on}
 use Rattle.rst_transform.proofs.Following.{Following-less, Following-more, Following-end}
 use Rattle.rst_transform.proofs.ways.follow.Goals as goal
+use Rattle.rst_transform.specs.Lists.{at_place}
 
 pub loop-next-smaller : goal.loop-next-smaller
 loop-next-smaller c =
