@@ -1,6 +1,6 @@
 -- The list of messages, one message after another.
-use Rattle.std.proofs.Common.{◌≡◌, ℕ, zero, suc, ◌+◌, ◌<◌, ◌≤◌, List, [], ◌∷◌, ◌++◌, length, map, get_or, set, take, Bool, true, false, append_assoc, arith, refl, ap, sym, ◌∙◌}
-use Rattle.std.specs.Prelude.{◌&&◌, ◌||◌, ◌==◌, if◌then◌else◌, slice_get, Option, Some, None}
+use Rattle.std.proofs.Common.{◌≡◌, ℕ, ◌+◌, ◌<◌, ◌≤◌, List, [], ◌∷◌, ◌++◌, length, map, get_or, take, Bool, true, false, append_assoc, arith, refl, ap, sym, ◌∙◌}
+use Rattle.std.specs.Prelude.{◌&&◌, ◌||◌, ◌==◌, if◌then◌else◌, slice_get, Option, Some, None, Result}
 use Rattle.std.specs.List.{list_any}
 use Rattle.std.proofs.lemmas.List.{append-nil, map-append, take_all, take_more}
 use Rattle.std.proofs.lemmas.List.Folds.{list_any-append}
@@ -11,6 +11,8 @@ use Rattle.rst_tree.specs.declared.node.Node.{Node}
 use Rattle.rst_tree.specs.declared.node.Node.TheVariants.{Element, Text}
 use Rattle.rst_tree.specs.declared.note.Note.{Note}
 use Rattle.rst_tree.specs.declared.tag.Tag.{Tag}
+use Rattle.rst_tree.specs.declared.fault.TreeFault.{TreeFault}
+use Rattle.rst_tree.specs.Faults.{Gives}
 use Rattle.rst_tree.specs.Forest.{Forest, bare, element, words}
 use Rattle.rst_tree.specs.LevelNames.{level_number}
 use Rattle.rst_tree.specs.Nodes.{forest_of, nodes_of}
@@ -18,7 +20,7 @@ use Rattle.rst_tree.specs.Tree.{text_all, text_in}
 use Rattle.rst_transform.specs.declared.messages.Messages.{Messages}
 use Rattle.rst_transform.specs.Listed.{Adds, KeepsLevels, Lists}
 use Rattle.rst_transform.specs.Messages.{halts, has_halt, has_number, is_number_shown, is_shown_as, marked, notes_of, until_halt, Numbered}
-use Rattle.rst_transform.specs.MessagesIn.{messages_among, own_messages}
+use Rattle.rst_transform.specs.MessagesIn.{is_message, message_said, messages_among}
 
 -- whether a run halts is told by the messages up to the halt
 halts_until : (halt : Threshold) (notes : List Note) → has_halt halt (until_halt halt notes) ≡ has_halt halt notes
@@ -109,7 +111,8 @@ pub among_more : (ns : List Node) (n : Node) → messages_among (forest_of (ns +
 among_more [] n = refl
 among_more (Text t ∷ ns) n = among_more ns n
 among_more (Element t a c l ∷ ns) n =
-    ap (λ more. own_messages t a c l (messages_among c) ++ more) (among_more ns n) ∙ sym (append_assoc (own_messages t a c l (messages_among c)) (messages_among (forest_of ns)) (messages_among (forest_of (n ∷ []))))
+    let own : List Numbered = if is_message t then message_said a c l ∷ [] else messages_among c in
+    ap (λ more. own ++ more) (among_more ns n) ∙ sym (append_assoc own (messages_among (forest_of ns)) (messages_among (forest_of (n ∷ []))))
 
 -- the messages among nodes that are added up to a place
 abbrev pub AddsUpTo : List Node → ℕ → Messages → Messages → Type 0
@@ -121,9 +124,20 @@ up_to_more ns i n old now new within at before one =
     ap (λ ns. messages_among (forest_of ns)) (take_more ns i n within ∙ ap (λ last. take i ns ++ last ∷ []) (sym at)) ∙ among_more (take i ns) n in
     rw split (Adds-more (messages_among (forest_of (take i ns))) (messages_among (forest_of (n ∷ []))) old now new before one)
 
--- the messages of an element alone
-pub element_alone : (n : Node) (t : Tag) (a : List Attr) (c : Forest) (l : ℕ) (own : List Numbered) → n ≡ Element t a c l → own_messages t a c l (messages_among c) ≡ own → messages_among (forest_of (n ∷ [])) ≡ own
-element_alone n t a c l own is its = rw is (append-nil (own_messages t a c l (messages_among c)) ∙ its)
+-- a text holds none
+pub past_text : (ns : List Node) (i : ℕ) (n : Node) (t : List ℕ) (old now : Messages) → i < length ns → n ≡ get_or ns i n → n ≡ Text t → AddsUpTo ns i old now → AddsUpTo ns (i + 1) old now
+past_text ns i n t old now within at is before = up_to_more ns i n old now now within at before (rw is (Adds-none now))
+
+-- a message is added itself
+pub past_message : (ns : List Node) (i : ℕ) (n : Node) (t : Tag) (a : List Attr) (c : Forest) (l : ℕ) (old now new : Messages) → i < length ns → n ≡ get_or ns i n → n ≡ Element t a c l → true ≡ is_message t
+    → AddsUpTo ns i old now → Adds (message_said a c l ∷ []) now new → AddsUpTo ns (i + 1) old new
+past_message ns i n t a c l old now new within at is its before one = up_to_more ns i n old now new within at before (rw (is, ← its) one)
+
+-- of another element those in it
+pub past_element : (ns : List Node) (i : ℕ) (n : Node) (t : Tag) (a : List Attr) (c : Forest) (l : ℕ) (old now new : Messages) → i < length ns → n ≡ get_or ns i n → n ≡ Element t a c l → false ≡ is_message t
+    → AddsUpTo ns i old now → Adds (messages_among c) now new → AddsUpTo ns (i + 1) old new
+past_element ns i n t a c l old now new within at is its before inside =
+    up_to_more ns i n old now new within at before (rw (is, ← its, append-nil (messages_among c)) inside)
 
 pub up_to_end : (ns : List Node) (i : ℕ) (old now : Messages) → length ns ≤ i → AddsUpTo ns i old now → Adds (messages_among (forest_of ns)) old now
 up_to_end ns i old now past before = rw (take_all i ns past) at before
@@ -136,37 +150,7 @@ lone_text (words x bare) t one first = let e : x ≡ t = cc in sym e ∙ sym (ap
 lone_text (words x (words y r)) t one first = absurd (omega arith)
 lone_text (words x (element tag a c l r)) t one first = absurd (omega arith)
 
-eq_suc : (n k : ℕ) → (n == k) ≡ (suc n == suc k)
-eq_suc n k = grind arith
-
-or_other : (b c : Bool) → c ≡ false → b ≡ (b || c)
-or_other true c none = refl
-or_other false c none = sym none
-
-or_this : (b c : Bool) → c ≡ true → true ≡ (b || c)
-or_this true c this = refl
-or_this false c this = sym this
-
--- a mark set in a list of marks
-pub marked_set : (marks : List Bool) (k n : ℕ) → k < length marks → marked (set marks k true) n ≡ (marked marks n || (n == k))
-marked_set [] k n within = absurd (omega (arith, within))
-marked_set (m ∷ ms) zero zero within = or_this m (0 == 0) refl
-marked_set (m ∷ ms) zero (suc n) within = or_other (marked ms n) (suc n == 0) refl
-marked_set (m ∷ ms) (suc k) zero within = or_other m (0 == suc k) refl
-marked_set (m ∷ ms) (suc k) (suc n) within = marked_set ms k n (omega (arith, within)) ∙ ap (λ b. marked ms n || b) (eq_suc n k)
-
--- one behind the last
-pub marked_last : (marks : List Bool) (k n : ℕ) → length marks ≡ k → marked (marks ++ true ∷ []) n ≡ (marked marks n || (n == k))
-marked_last [] zero zero last = refl
-marked_last [] zero (suc n) last = refl
-marked_last [] (suc k) n last = absurd (omega (arith, last))
-marked_last (m ∷ ms) zero n last = absurd (omega (arith, last))
-marked_last (m ∷ ms) (suc k) zero last = or_other m (0 == suc k) refl
-marked_last (m ∷ ms) (suc k) (suc n) last = marked_last ms k n (omega (arith, last)) ∙ ap (λ b. marked ms n || b) (eq_suc n k)
-
--- a place behind the last that isn't marked is as if it weren't there
-pub unmarked_last : (marks : List Bool) (n : ℕ) → marked (marks ++ false ∷ []) n ≡ marked marks n
-unmarked_last [] zero = refl
-unmarked_last [] (suc n) = refl
-unmarked_last (m ∷ ms) zero = refl
-unmarked_last (m ∷ ms) (suc n) = unmarked_last ms n
+-- a copy of the lone text in an element
+pub gives_lone : (node : Node) (t : Tag) (a : List Attr) (c : Forest) (l : ℕ) (text : List ℕ) (copy : Result (List ℕ) TreeFault) → node ≡ Element t a c l → length (nodes_of c) ≡ 1 → slice_get (nodes_of c) 0 ≡ Some (Text text)
+    → Gives (λ own. own ≡ text) copy → Gives (λ own. own ≡ text_in node) copy
+gives_lone node t a c l text copy is one first copied = rw (is, ← lone_text c text one first) copied

@@ -1,5 +1,5 @@
 -- The messages that stand in a document (Document Tree, 'system_message').
-use Rattle.std.specs.Prelude.{ℕ, max, List, [], ◌∷◌, ◌++◌, slice_get, option_map}
+use Rattle.std.specs.Prelude.{ℕ, max, List, [], ◌∷◌, ◌++◌, if◌then◌else◌, slice_get, Bool, true, false, option_map}
 use Rattle.rst_tree.specs.declared.attrs.Attr.{Attr}
 use Rattle.rst_tree.specs.declared.key.Key.TheVariants.{Message}
 use Rattle.rst_tree.specs.declared.node.Node.{Node}
@@ -23,16 +23,16 @@ note_said attrs nodes line =
 abbrev pub message_said : List Attr → Forest → ℕ → Numbered
 message_said attrs nodes line = (note_said attrs nodes line, said_number (value_of Message attrs))
 
--- the messages of an element, given those in it: a message holds no other
-abbrev pub own_messages : Tag → List Attr → Forest → ℕ → List Numbered → List Numbered
-own_messages SystemMessage a c l inside = message_said a c l ∷ []
-own_messages _ a c l inside = inside
+-- whether an element is a message
+abbrev pub is_message : Tag → Bool
+is_message SystemMessage = true
+is_message _ = false
 
--- the messages among nodes and in them, in preorder
+-- the messages among nodes and in them, in preorder: a message holds no other
 abbrev pub messages_among : Forest → List Numbered
 messages_among bare = []
 messages_among (words t r) = messages_among r
-messages_among (element t a c l r) = own_messages t a c l (messages_among c) ++ messages_among r
+messages_among (element t a c l r) = (if is_message t then message_said a c l ∷ [] else messages_among c) ++ messages_among r
 
 -- those in a document
 abbrev pub messages_in : Node → List Numbered

@@ -4,7 +4,7 @@ ghost use Rattle.rst_settings.specs.Threshold.{is_reached};
 ghost use Rattle.rst_tree.specs.Faults.{Gives};
 ghost use Rattle.rst_tree.specs.Tree.{text_in};
 ghost use Rattle.rst_transform.specs.Messages.{has_halt, EndsAtHalt, highest_level, level_said, has_number, marked};
-ghost use Rattle.rst_transform.specs.MessagesIn.{note_said};
+ghost use Rattle.rst_transform.specs.MessagesIn.{is_message, note_said};
 
 use crate::work::Report;
 use rst_settings::Threshold;
@@ -124,7 +124,7 @@ impl Messages {
                     children,
                     line,
                 } => {
-                    if matches!(tag, Tag::SystemMessage) {
+                    if is_message(*tag) {
                         self.add(alloc, attrs, children, *line)?;
                         continue;
                     }
@@ -171,6 +171,13 @@ impl Messages {
         }
         (self.notes, highest)
     }
+}
+
+/// Whether an element is a message.
+fn is_message(tag: Tag) -> bool
+    ensures { result ≡ is_message tag }
+{
+    matches!(tag, Tag::SystemMessage)
 }
 
 /// Marks the number of a message that is shown, if it has one.
