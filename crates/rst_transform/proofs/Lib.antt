@@ -9,6 +9,7 @@ pub mod LastNodes
 pub mod Leading
 pub mod Leaving
 pub mod Linking
+pub mod Listing
 pub mod Notes
 pub mod Numbering
 pub mod Placing

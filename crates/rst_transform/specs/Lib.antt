@@ -5,6 +5,7 @@ pub mod Bibliography
 pub mod Definitions
 pub mod Docinfo
 pub mod Fields
+pub mod Filtered
 pub mod Finishing
 pub mod Footnotes
 pub mod Gathered
@@ -13,9 +14,11 @@ pub mod Indirect
 pub mod LastSection
 pub mod Linkings
 pub mod Links
+pub mod Listed
 pub mod Lists
 pub mod Meanings
 pub mod Messages
+pub mod MessagesIn
 pub mod NoteLabels
 pub mod NoteOrders
 pub mod Outcomes

@@ -1,5 +1,6 @@
--- The messages of a run, up to the first that halts it (Configuration, `halt_level`).
-use Rattle.std.specs.Prelude.{◌≡◌, ℕ, ◌-◌, max, List, [], ◌∷◌, length, take, Bool, false, unwrap_or}
+-- The messages of a run, up to the first that halts it (Configuration, `halt_level`), and which of them are shown (Configuration,
+-- `report_level`).
+use Rattle.std.specs.Prelude.{◌≡◌, ℕ, ◌-◌, ◌==◌, ◌&&◌, max, List, [], ◌∷◌, map, length, take, slice_index_or, Bool, false, if◌then◌else◌, Option, Some, None, unwrap_or}
 use Rattle.std.specs.List.{list_any}
 use Rattle.rst_settings.specs.declared.Threshold.{Threshold}
 use Rattle.rst_settings.specs.Threshold.{is_reached}
@@ -12,6 +13,11 @@ use Rattle.rst_tree.specs.LevelNames.{level_number}
 -- whether a message halts a run
 abbrev pub halts : Threshold → Note → Bool
 halts halt note = is_reached halt (level_number note.level)
+
+-- the messages up to the first that halts a run, and that one
+abbrev pub until_halt : Threshold → List Note → List Note
+until_halt halt [] = []
+until_halt halt (note ∷ more) = note ∷ (if halts halt note then [] else until_halt halt more)
 
 -- whether one of the messages halts a run
 abbrev pub has_halt : Threshold → List Note → Bool
@@ -29,3 +35,28 @@ highest_level (note ∷ more) = max (level_number note.level) (highest_level mor
 -- the number of the level that a `system_message` with these attributes tells, 0 where it tells none
 abbrev pub level_said : List Attr → ℕ
 level_said attrs = unwrap_or (said_number (value_of Level attrs)) 0
+
+-- a message, and the number that it carries, if it has one
+abbrev pub Numbered : Type 0
+Numbered = Note × Option ℕ
+
+-- what messages say
+abbrev pub notes_of : List Numbered → List Note
+notes_of all = map (λ one. one.0) all
+
+-- whether the number that a message carries is this one
+abbrev pub has_number : ℕ → Option ℕ → Bool
+has_number n None = false
+has_number n (Some number) = n == number
+
+-- whether a message is shown, and carries this number
+abbrev pub is_shown_as : Threshold → ℕ → Numbered → Bool
+is_shown_as report n one = is_reached report (level_number one.0.level) && has_number n one.1
+
+-- whether one of the messages is shown and carries this number
+abbrev pub is_number_shown : Threshold → List Numbered → ℕ → Bool
+is_number_shown report all n = list_any (is_shown_as report n) all
+
+-- whether a number is marked in a list of marks; none is past its end
+abbrev pub marked : List Bool → ℕ → Bool
+marked marks n = slice_index_or marks n false

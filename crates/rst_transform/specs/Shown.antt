@@ -9,8 +9,6 @@ use Rattle.rst_tree.specs.declared.tag.Tag.{Tag}
 use Rattle.rst_tree.specs.declared.tag.Tag.TheVariants.{SystemMessage}
 use Rattle.rst_tree.specs.Forest.{Forest, bare, element, words, height}
 use Rattle.rst_tree.specs.Tree.{is_sound}
-use Rattle.rst_transform.specs.declared.filter.Fate.{Fate}
-use Rattle.rst_transform.specs.declared.filter.Fate.TheVariants.{Stays, BecomesText, Vanishes}
 use Rattle.rst_transform.specs.Messages.{level_said}
 
 -- whether an element that tells this number of a level is a message below the report level
@@ -20,12 +18,6 @@ is_low report _ level = false
 
 abbrev pub is_below : Threshold → Tag → List Attr → Bool
 is_below report tag attrs = is_low report tag (level_said attrs)
-
--- whether it is gone in the end
-abbrev pub is_gone : Fate → Bool
-is_gone Stays = false
-is_gone BecomesText = false
-is_gone Vanishes = true
 
 -- whether a node isn't such a message
 abbrev pub may_stay : Threshold → Node → Bool

@@ -1,9 +1,11 @@
 //! What of a document is shown.
-ghost use Rattle.std.specs.Prelude.{◌≡◌, ◌&&◌, true, not, nat_lt, filter};
+ghost use Rattle.std.specs.Prelude.{◌≡◌, ◌&&◌, true, nat_lt, filter};
 ghost use Rattle.rst_tree.specs.Faults.{Gives};
 ghost use Rattle.rst_tree.specs.Nodes.{forest_of, nodes_of};
 ghost use Rattle.rst_tree.specs.Tree.{in_order, is_lines, is_tree};
-ghost use Rattle.rst_transform.specs.Shown.{are_within, is_gone, may_stay, are_shown, is_shown_in};
+ghost use Rattle.rst_transform.specs.Filtered.{filtered, is_told_shown, is_unexplained, node_fate, with_filtered};
+ghost use Rattle.rst_transform.specs.Messages.{marked};
+ghost use Rattle.rst_transform.specs.Shown.{are_within, may_stay, is_shown_in};
 
 use crate::messages::{level_number, reaches};
 use rst_settings::Threshold;
@@ -34,6 +36,7 @@ pub(crate) fn filter(
     report: Threshold,
     shown: &[bool],
 ) -> Result<(Node, bool), TreeFault>
+    ensures nodes { Gives (λ done. done.0 ≡ with_filtered report (marked shown.now) root) result }
     ensures shown { Gives (λ done. is_shown_in report done.0 ≡ true) result }
     ensures tree { Gives (λ done. done.1 ≡ is_tree done.0) result }
 {
@@ -71,19 +74,33 @@ enum Fate {
 
 /// What becomes of a node, whatever becomes of the nodes in it.
 fn fate_of(node: &Node, report: Threshold, shown: &[bool]) -> Fate
-    ensures { is_gone result ≡ not (may_stay report node.now) }
+    ensures { result ≡ node_fate report (marked shown.now) node.now }
 {
     if !may_stay(node, report) {
         return Fate::Vanishes;
     }
-    match node {
-        Node::Element { tag, attrs, .. } if matches!(tag, Tag::Problematic) => {
-            match attrs.number(Key::Message) {
-                Some(message) if matches!(shown.get(message as usize), Some(true)) => Fate::Stays,
-                _ => Fate::BecomesText,
-            }
+    if let Node::Element { tag, attrs, .. } = node {
+        if is_unexplained(*tag, attrs, shown) {
+            return Fate::BecomesText;
         }
-        _ => Fate::Stays,
+    }
+    Fate::Stays
+}
+
+/// Whether an element is a problematic whose message isn't shown.
+fn is_unexplained(tag: Tag, attrs: &Attrs, shown: &[bool]) -> bool
+    ensures { result ≡ is_unexplained (marked shown.now) tag attrs.now }
+{
+    matches!(tag, Tag::Problematic) && !is_told_shown(attrs.number(Key::Message), shown)
+}
+
+/// Whether the message of a number is shown; where there is no number, there is none.
+fn is_told_shown(number: Option<u64>, shown: &[bool]) -> bool
+    ensures { result ≡ is_told_shown (marked shown.now) number }
+{
+    match number {
+        Some(number) => matches!(shown.get(number as usize), Some(true)),
+        None => false,
     }
 }
 
@@ -131,7 +148,7 @@ fn filter_in(
     report: Threshold,
     shown: &[bool],
 ) -> Result<bool, TreeFault>
-    ensures shown { Gives (λ _. are_shown report nodes.new ≡ true) result }
+    ensures nodes { Gives (λ _. nodes.new ≡ filtered report (marked shown.now) nodes.old) result }
     ensures tree { Gives (λ fit. fit ≡ are_within levels nodes.new) result }
 {
     let mut fit = true;

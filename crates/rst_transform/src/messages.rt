@@ -1,9 +1,10 @@
 //! The list of messages, and the levels at which they count.
-ghost use Rattle.std.specs.Prelude.{◌≡◌, ◌≤◌, min};
+ghost use Rattle.std.specs.Prelude.{◌≡◌, ◌≤◌, ◌==◌, ◌&&◌, ◌||◌, min, ℕ};
 ghost use Rattle.rst_settings.specs.Threshold.{is_reached};
-ghost use Rattle.rst_tree.specs.Attributes.{value_of};
 ghost use Rattle.rst_tree.specs.Faults.{Gives};
-ghost use Rattle.rst_transform.specs.Messages.{has_halt, EndsAtHalt, highest_level, level_said};
+ghost use Rattle.rst_tree.specs.Tree.{text_in};
+ghost use Rattle.rst_transform.specs.Messages.{has_halt, EndsAtHalt, highest_level, level_said, has_number, marked};
+ghost use Rattle.rst_transform.specs.MessagesIn.{is_message, note_said};
 
 use crate::work::Report;
 use rst_settings::Threshold;
@@ -42,6 +43,11 @@ pub(crate) struct Messages {
 }
 
 impl Messages {
+    ghost use Rattle.std.specs.Prelude.{[], ◌∷◌, List, map};
+    ghost use Rattle.rst_transform.specs.Messages.{until_halt, notes_of, is_number_shown, Numbered};
+    ghost use Rattle.rst_transform.specs.MessagesIn.{message_said, messages_among, messages_in};
+    ghost use Rattle.rst_transform.specs.Listed.{report_said, Adds, Lists, KeepsLevels};
+
     /// No message, in a list with room for so many, of a run that halts at a threshold and shows messages from another one on.
     pub(crate) fn with_room(
         alloc: Global,
@@ -49,7 +55,9 @@ impl Messages {
         halt: Threshold,
         report: Threshold,
     ) -> Result<Messages, TreeFault>
-        ensures { Gives (λ messages. messages.halt ≡ halt) result }
+        ensures halt { Gives (λ messages. messages.halt ≡ halt) result }
+        ensures report { Gives (λ messages. messages.report ≡ report) result }
+        ensures none { Gives (λ messages. Lists [] messages) result }
     {
         Ok(Messages {
             notes: Vec::with_capacity(alloc, room as usize)?,
@@ -62,14 +70,11 @@ impl Messages {
 
     /// Adds a message with a number, if it has one: to the list only if no earlier one halts the run.
     fn push(&mut self, note: Note, number: Option<u64>) -> Result<(), TreeFault>
-        ensures { self.new.halt ≡ self.old.halt }
+        ensures levels { KeepsLevels self.old self.new }
+        ensures adds { Gives (λ _. Adds ((note, number) ∷ []) self.old self.new) result }
     {
         let level = note.level.number();
-        if self.report.is_reached(level) {
-            if let Some(number) = number {
-                mark(&mut self.shown, number as usize)?;
-            }
-        }
+        mark_shown(&mut self.shown, self.report.is_reached(level), number)?;
         if self.halted {
             return Ok(());
         }
@@ -87,7 +92,8 @@ impl Messages {
         children: &Children,
         line: usize,
     ) -> Result<(), TreeFault>
-        ensures { self.new.halt ≡ self.old.halt }
+        ensures levels { KeepsLevels self.old self.new }
+        ensures adds { Gives (λ _. Adds (message_said attrs.now children.now line ∷ []) self.old self.new) result }
     {
         let note = note_of(alloc, attrs, children, line)?;
         self.push(note, attrs.number(Key::Message))
@@ -95,7 +101,8 @@ impl Messages {
 
     /// Adds the messages in a document, in preorder.
     pub(crate) fn add_those_in(&mut self, alloc: Global, root: &Node) -> Result<(), TreeFault>
-        ensures { self.new.halt ≡ self.old.halt }
+        ensures levels { KeepsLevels self.old self.new }
+        ensures adds { Gives (λ _. Adds (messages_in root.now) self.old self.new) result }
     {
         if let Node::Element { children, .. } = root {
             self.add_all(alloc, children)?;
@@ -105,19 +112,22 @@ impl Messages {
 
     /// Adds those among nodes and in them. A message holds no other.
     fn add_all(&mut self, alloc: Global, nodes: &Children) -> Result<(), TreeFault>
-        ensures { self.new.halt ≡ self.old.halt }
+        ensures levels { KeepsLevels self.old self.new }
+        ensures adds { Gives (λ _. Adds (messages_among nodes.now) self.old self.new) result }
     {
         for node in nodes.as_slice() {
-            if let Node::Element {
-                tag,
-                attrs,
-                children,
-                line,
-            } = node
-            {
-                if matches!(tag, Tag::SystemMessage) {
-                    self.add(alloc, attrs, children, *line)?;
-                } else {
+            match node {
+                Node::Text(_) => continue,
+                Node::Element {
+                    tag,
+                    attrs,
+                    children,
+                    line,
+                } => {
+                    if is_message(*tag) {
+                        self.add(alloc, attrs, children, *line)?;
+                        continue;
+                    }
                     self.add_all(alloc, children)?;
                 }
             }
@@ -127,7 +137,8 @@ impl Messages {
 
     /// Adds the messages of the transforms, which are the last.
     pub(crate) fn add_reports(&mut self, reports: Vec<Report>) -> Result<(), TreeFault>
-        ensures { self.new.halt ≡ self.old.halt }
+        ensures levels { KeepsLevels self.old self.new }
+        ensures adds { Gives (λ _. Adds (map report_said reports.items) self.old self.new) result }
     {
         self.notes.reserve(reports.len())?;
         for report in reports {
@@ -139,12 +150,15 @@ impl Messages {
 
     /// Whether the message of each number is shown, once all messages were added. No transform takes a message out of a
     /// document, so those that are stand in it.
-    pub(crate) fn shown(&self) -> &[bool] {
+    pub(crate) fn shown(&self) -> &[bool]
+        ensures { (all : List Numbered) → Lists all self.now → (n : ℕ) → marked result.now n ≡ is_number_shown self.now.report all n }
+    {
         self.shown.as_slice()
     }
 
     /// The messages, and the number of their highest level, 0 where there are none.
     pub(crate) fn end(self) -> (Vec<Note>, u8)
+        ensures notes { (all : List Numbered) → Lists all self → result.0.items ≡ until_halt self.halt (notes_of all) }
         ensures halt { EndsAtHalt self.halt result.0.items }
         ensures highest { result.1 ≡ highest_level result.0.items }
         ensures few { result.1 ≤ 4 }
@@ -159,31 +173,54 @@ impl Messages {
     }
 }
 
+/// Whether an element is a message.
+fn is_message(tag: Tag) -> bool
+    ensures { result ≡ is_message tag }
+{
+    matches!(tag, Tag::SystemMessage)
+}
+
+/// Marks the number of a message that is shown, if it has one.
+fn mark_shown(
+    marks: &mut Vec<bool>,
+    is_shown: bool,
+    number: Option<u64>,
+) -> Result<(), TreeFault>
+    ensures { Gives (λ _. (n : ℕ) → marked marks.new.items n ≡ (marked marks.old.items n || (is_shown && has_number n number))) result }
+{
+    if !is_shown {
+        return Ok(());
+    }
+    match number {
+        Some(number) => mark(marks, number as usize),
+        None => Ok(()),
+    }
+}
+
 /// Marks a number among those up to it or more.
-fn mark(marks: &mut Vec<bool>, number: usize) -> Result<(), TreeFault> {
+fn mark(marks: &mut Vec<bool>, number: usize) -> Result<(), TreeFault>
+    ensures { Gives (λ _. (n : ℕ) → marked marks.new.items n ≡ (marked marks.old.items n || (n == number))) result }
+{
     for _ in marks.len()..number {
         marks.push(false)?;
     }
-    match marks.get_mut(number) {
-        Some(mark) => *mark = true,
-        None => marks.push(true)?,
+    if let Some(mark) = marks.get_mut(number) {
+        *mark = true;
+        return Ok(());
     }
+    marks.push(true)?;
     Ok(())
 }
 
-/// What a `system_message` with these attributes and nodes tells.
+/// What a `system_message` with these attributes and nodes on a line tells.
 fn note_of(
     alloc: Global,
     attrs: &Attrs,
     children: &Children,
     line: usize,
-) -> Result<Note, TreeFault> {
-    let level = match level_number(attrs) {
-        0 | 1 => Level::Info,
-        2 => Level::Warning,
-        3 => Level::Error,
-        _ => Level::Severe,
-    };
+) -> Result<Note, TreeFault>
+    ensures { Gives (λ note. note ≡ note_said attrs.now children.now line) result }
+{
     let text = match children.get(0) {
         Some(paragraph) => words_of(alloc, paragraph)?,
         None => Text::from_str(alloc, "")?,
@@ -193,7 +230,8 @@ fn note_of(
         None => None,
     };
     Ok(Note {
-        level,
+        // One that tells no level is as grave as the first.
+        level: Level::of_number(level_number(attrs).max(1)),
         line,
         text,
         block,
@@ -201,7 +239,9 @@ fn note_of(
 }
 
 /// The texts in an element, joined; mostly there is one.
-fn words_of(alloc: Global, element: &Node) -> Result<Text, TreeFault> {
+fn words_of(alloc: Global, element: &Node) -> Result<Text, TreeFault>
+    ensures { Gives (λ text. text ≡ text_in element.now) result }
+{
     if let Node::Element { children, .. } = element {
         if children.len() == 1 {
             if let Some(Node::Text(text)) = children.get(0) {

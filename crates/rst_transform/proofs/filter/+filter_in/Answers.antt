@@ -1,31 +1,34 @@
-use Rattle.std.proofs.Common.{rules, arith, refl, ◌≡◌, ◌+◌, ◌≤◌, ap, ◌∙◌}
+use Rattle.std.proofs.Common.{rules, arith, ◌≡◌, ◌+◌, ◌≤◌, ap, ◌∙◌}
 use Rattle.rst_tree.proofs.Rewrites.{Same-child}
 use Rattle.rst_tree.specs.Forest.{height}
 use Rattle.rst_tree.specs.Nodes.{node_height}
 use Rattle.rst_tree.specs.declared.node.Node.TheVariants.{Text}
 use Rattle.rst_transform.proofs.Leaving.{within_text, within_element}
-use Rattle.rst_transform.proofs.Showing.{Sifting-init, Sifting-more, Sifting-gone, Sifting-whole, stays_shown}
+use Rattle.rst_transform.proofs.Showing.{Sifting-init, Sifting-more, Sifting-gone, Sifting-left, Sifting-whole, becoming_leaves, element_leaves, text_leaves}
+use Rattle.rst_transform.specs.Messages.{marked}
 use Rattle.rst_transform.specs.Shown.{are_within}
 use Rattle.rst_transform.proofs.filter.+filter_in.Goals as goal
 
 pub loop-i-init : goal.loop-i-init
-loop-i-init t c = Sifting-init _ _ _
+loop-i-init t c = Sifting-init _ _ _ _
 
 pub loop-i-preserved-in-Vanishes : goal.loop-i-preserved-in-Vanishes
 loop-i-preserved-in-Vanishes t c =
-    Sifting-gone c.args.report c.args.levels _ c.loop-i.nodes c.loop-i.fit c.loop-i.leaves c.loop-i.i c.get_mut-node.result.now c.loop-i.invariant
-    (omega (arith, c.loop-i.invariant.same.same_len, c.len-i-end.ensures)) c.in-Vanishes.ensures
+    Sifting-gone c.args.report (marked c.args.shown.now) c.args.levels _ c.loop-i.nodes c.loop-i.fit c.loop-i.leaves c.loop-i.i c.get_mut-node.result.now c.loop-i.invariant
+    (omega (arith, c.loop-i.invariant.same.same_len, c.len-i-end.ensures)) c.get_mut-node.ensures.value c.in-Vanishes.ensures
 
 pub loop-i-preserved-in-BecomesText : goal.loop-i-preserved-in-BecomesText
 loop-i-preserved-in-BecomesText t c =
-    Sifting-more c.args.report c.args.levels _ c.loop-i.nodes c.loop-i.fit c.fits_text-fit.result c.loop-i.leaves c.loop-i.i (Text c.in_ok-text-in-BecomesText.text) c.loop-i.invariant
-    (omega (arith, c.loop-i.invariant.same.same_len, c.len-i-end.ensures)) refl refl
+    let leaves = becoming_leaves c.args.report (marked c.args.shown.now) c.get_mut-node.result.now c.in_ok-text-in-BecomesText.text c.in-BecomesText.ensures c.in_ok-text-in-BecomesText.ensures in
+    Sifting-more c.args.report (marked c.args.shown.now) c.args.levels _ c.loop-i.nodes c.loop-i.fit c.fits_text-fit.result c.loop-i.leaves c.loop-i.i c.get_mut-node.result.now (Text c.in_ok-text-in-BecomesText.text) c.loop-i.invariant
+    (omega (arith, c.loop-i.invariant.same.same_len, c.len-i-end.ensures)) c.get_mut-node.ensures.value leaves
     (within_text c.args.levels _ c.in_ok-text-in-BecomesText.text c.loop-i.fit c.fits_text-fit.result c.loop-i.invariant.told c.fits_text-fit.ensures)
 
 pub loop-i-preserved-in-Text : goal.loop-i-preserved-in-Text
 loop-i-preserved-in-Text t c =
-    Sifting-more c.args.report c.args.levels _ c.loop-i.nodes c.loop-i.fit c.fits_text-fit-in-Text.result c.loop-i.leaves c.loop-i.i (Text c.in-Text.text) c.loop-i.invariant
-    (omega (arith, c.loop-i.invariant.same.same_len, c.len-i-end.ensures)) refl refl
+    let leaves = text_leaves c.args.report (marked c.args.shown.now) c.get_mut-node.result.now c.in-Text.text c.in-Text.is in
+    Sifting-more c.args.report (marked c.args.shown.now) c.args.levels _ c.loop-i.nodes c.loop-i.fit c.fits_text-fit-in-Text.result c.loop-i.leaves c.loop-i.i c.get_mut-node.result.now (Text c.in-Text.text) c.loop-i.invariant
+    (omega (arith, c.loop-i.invariant.same.same_len, c.len-i-end.ensures)) c.get_mut-node.ensures.value leaves
     (within_text c.args.levels _ c.in-Text.text c.loop-i.fit c.fits_text-fit-in-Text.result c.loop-i.invariant.told c.fits_text-fit-in-Text.ensures)
 
 pub filter_in-requires : goal.filter_in-requires
@@ -39,17 +42,21 @@ filter_in-requires t c =
 pub loop-i-preserved : goal.loop-i-preserved
 loop-i-preserved t c =
     let inside = c.in_ok-inside-in-Element.ensures in
-    let shown = stays_shown c.args.report c.get_mut-node.result.now c.in-Element.tag c.in-Element.attrs c.in-Element.children c.filter_in.new.nodes c.in-Element.line
-    c.in-Element.is c.in-Stays.ensures inside.shown in
-    Sifting-more c.args.report c.args.levels _ c.loop-i.nodes c.loop-i.fit c.fits_element-fit.result c.loop-i.leaves c.loop-i.i _ c.loop-i.invariant
-    (omega (arith, c.loop-i.invariant.same.same_len, c.len-i-end.ensures)) shown.0 shown.1
+    let leaves = element_leaves c.args.report (marked c.args.shown.now) c.get_mut-node.result.now c.in-Element.tag c.in-Element.attrs c.in-Element.children c.filter_in.new.nodes c.in-Element.line
+    c.in-Element.is c.in-Stays.ensures inside.nodes in
+    Sifting-more c.args.report (marked c.args.shown.now) c.args.levels _ c.loop-i.nodes c.loop-i.fit c.fits_element-fit.result c.loop-i.leaves c.loop-i.i c.get_mut-node.result.now _ c.loop-i.invariant
+    (omega (arith, c.loop-i.invariant.same.same_len, c.len-i-end.ensures)) c.get_mut-node.ensures.value leaves
     (within_element c.args.levels _ c.in-Element.tag c.in-Element.attrs c.filter_in.new.nodes c.in-Element.line c.loop-i.fit c.in_ok-inside-in-Element.inside c.fits_element-fit.result c.loop-i.invariant.told
     (inside.tree ∙ ap (λ levels. are_within levels c.filter_in.new.nodes) c.saturating_sub.ensures) c.fits_element-fit.ensures)
 
-pub returns-else-leaves-clause-shown : goal.returns-else-leaves-clause-shown
-returns-else-leaves-clause-shown t c =
-    (Sifting-whole c.args.report c.args.levels _ c.loop-i.nodes c.loop-i.fit c.loop-i.leaves c.loop-i.i c.loop-i.invariant (omega (arith, c.loop-i.invariant.same.same_len, c.len-i-end.ensures)) c.if-leaves.false).0
+pub returns-then-leaves-clause-nodes : goal.returns-then-leaves-clause-nodes
+returns-then-leaves-clause-nodes t c =
+    (Sifting-left c.args.report (marked c.args.shown.now) c.args.levels _ c.loop-i.nodes _ c.loop-i.fit c.loop-i.leaves c.loop-i.i c.loop-i.invariant (omega (arith, c.loop-i.invariant.same.same_len, c.len-i-end.ensures)) (search rules)).0
+
+pub returns-else-leaves-clause-nodes : goal.returns-else-leaves-clause-nodes
+returns-else-leaves-clause-nodes t c =
+    (Sifting-whole c.args.report (marked c.args.shown.now) c.args.levels _ c.loop-i.nodes c.loop-i.fit c.loop-i.leaves c.loop-i.i c.loop-i.invariant (omega (arith, c.loop-i.invariant.same.same_len, c.len-i-end.ensures)) c.if-leaves.false).0
 
 pub returns-else-leaves-clause-tree : goal.returns-else-leaves-clause-tree
 returns-else-leaves-clause-tree t c =
-    (Sifting-whole c.args.report c.args.levels _ c.loop-i.nodes c.loop-i.fit c.loop-i.leaves c.loop-i.i c.loop-i.invariant (omega (arith, c.loop-i.invariant.same.same_len, c.len-i-end.ensures)) c.if-leaves.false).1
+    (Sifting-whole c.args.report (marked c.args.shown.now) c.args.levels _ c.loop-i.nodes c.loop-i.fit c.loop-i.leaves c.loop-i.i c.loop-i.invariant (omega (arith, c.loop-i.invariant.same.same_len, c.len-i-end.ensures)) c.if-leaves.false).1

@@ -1,5 +1,9 @@
-use Rattle.std.proofs.Common.{◌≡◌}
+use Rattle.std.proofs.Common.{map}
+use Rattle.rst_transform.specs.Listed.{report_said, Adds, KeepsLevels}
 use Rattle.rst_transform.proofs.messages.Messages.add_reports.Given as goal
 
 abbrev pub invariant-loop-report : goal.invariant-loop-report
-invariant-loop-report l = l.self.halt ≡ l.initial.self.halt
+invariant-loop-report l = record {
+  levels : KeepsLevels l.fn.self l.self;
+  adds : Adds (map report_said l.yielded) l.fn.self l.self;
+}
