@@ -1,7 +1,8 @@
 //! What stands for one substitution reference.
-ghost use Rattle.std.specs.Prelude.{◌≡◌, ◌+◌, ◌∷◌, ◌++◌, [], ◌≤◌, nat_le, true, ℕ, length, take, vec_len, ◌-◌, OnOk};
+ghost use Rattle.std.specs.Prelude.{◌≡◌, ◌+◌, ◌++◌, ◌==◌, ◌≤◌, nat_le, true, take, vec_len, ◌-◌, OnOk};
 ghost use Rattle.std.specs.List.{list_any};
 ghost use Rattle.rst_tree.specs.Faults.{Gives};
+ghost use Rattle.rst_transform.specs.declared.expansion.ExpansionFault.TheVariants.{Undefined};
 ghost use Rattle.rst_transform.specs.declared.expansion.Halted.TheVariants.{By as HaltedBy, NoMemory as HaltedByMemory};
 ghost use Rattle.rst_transform.specs.Definitions.{found_by};
 ghost use Rattle.rst_transform.specs.Expansion.{behind, copied, expanded, given, is_reference, most_met, nodes_for, path_from, size_of, told, ComesTo, Enters};
