@@ -137,7 +137,10 @@ fn with_replaced(
     ensures { let wanted = nodes_for (found_by definitions.now) within (name_said attrs) in Gives (λ all. (here : List AnyNode) × GivesWay attrs line wanted work.old work.new here × (all.items ≡ nodes.items ++ here)) result }
 {
     match expansion(alloc, definitions, said(&attrs, Key::Refname), within) {
-        Ok(expanded) => joined(nodes, expanded),
+        Ok(expanded) => {
+            let all = joined(nodes, expanded)?;
+            Ok(all)
+        }
         Err(Halted::NoMemory) => Err(TreeFault::NoMemory),
         Err(Halted::By(fault)) => {
             let problematic = problematic(alloc, attrs, line, fault, work)?;
