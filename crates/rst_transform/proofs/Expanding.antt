@@ -12,9 +12,10 @@ use Rattle.rst_tree.specs.Nodes.{forest_of}
 use Rattle.rst_transform.specs.declared.definitions.Definitions.{Definitions}
 use Rattle.rst_transform.specs.declared.expansion.ExpansionFault.TheVariants.{Undefined, Circular, TooLarge}
 use Rattle.rst_transform.specs.declared.work.Work.{Work}
-use Rattle.rst_transform.specs.Definitions.{found_by, known_found}
-use Rattle.rst_transform.specs.Expanded.{within_element, ExpandsIn, GivesWay}
+use Rattle.rst_transform.specs.Definitions.{definitions_in, found_by, known_found, known_place, AreKnown}
+use Rattle.rst_transform.specs.Expanded.{within_element, ExpandsIn, ExpandsRoot, GivesWay}
 use Rattle.rst_transform.specs.Expansion.{behind, expanded, given, given_within, is_reference, most_nested, name_said, nodes_for, Expansion}
+use Rattle.rst_transform.proofs.Defining.{found_known, place_known}
 
 -- the nodes before some, with what those come to while so much may be met
 abbrev pub so_far : (List ℕ → ℕ → Expansion) → List Node → List Node → ℕ → ℕ → Expansion
@@ -93,3 +94,10 @@ more_element found place within all first now between done next nodes items left
 pub all_expanded : (found : List ℕ → Option (ℕ × Forest)) (place : List ℕ → Option ℕ) (within : Option ℕ) (all : Forest) (first now : Work) (done items : List Node)
     → Continues found place within all first now done items → items ≡ [] → ExpandsIn found place within all first now done
 all_expanded found place within all first now done items before is = rw (append-nil done) at (before now [] (rw is (refl, refl)))
+
+-- a document whose nodes were expanded by what is known of its definitions
+pub root_expanded : (root : Node) (before taken expanded after : Work) (known : Definitions) (t : Tag) (a : List Attr) (c children : Forest) (l : ℕ) (nodes : List Node) → root ≡ Element t a c l → AreKnown (definitions_in before.root) known
+    → taken ≡ record before { root = taken.root } → ExpandsIn (found_by known) (known_place known) None c taken expanded nodes → children ≡ forest_of nodes → after ≡ record expanded { root = Element t a children l } → ExpandsRoot root before after
+root_expanded root before taken expanded after known t a c children l nodes is are kept expands become back =
+    let by_names = rw (found_known (definitions_in before.root) known are, place_known (definitions_in before.root) known are) at expands in
+    rw is (taken.root, expanded, nodes, rw kept at by_names, rw become at back)
