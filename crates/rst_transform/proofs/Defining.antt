@@ -1,8 +1,9 @@
 -- The definitions of a document, found one node after another, and then known by their names.
-use Rattle.std.proofs.Common.{◌≡◌, ℕ, ◌+◌, ◌<◌, ◌≤◌, List, [], ◌∷◌, ◌++◌, length, map, get_or, drop, take, append_assoc, sym, ◌∙◌, ap, arith, Bool}
+use Rattle.std.proofs.Common.{◌≡◌, ℕ, ◌+◌, ◌<◌, ◌≤◌, List, [], ◌∷◌, ◌++◌, length, map, get_or, drop, take, append_assoc, refl, sym, ◌∙◌, ap, arith, Bool}
 use Rattle.std.specs.Prelude.{if◌then◌else◌, Option, Some, None}
 use Rattle.std.specs.BTreeMap.{get_by_text}
 use Rattle.std.specs.Str.{bytes_eq}
+use Rattle.std.proofs.Math.Path.{fun_ext}
 use Rattle.std.proofs.lemmas.List.{append-nil, drop_all, drop_more, length-map, map-append, take_more}
 use Rattle.rst_tree.specs.declared.attrs.Attr.{Attr}
 use Rattle.rst_tree.specs.declared.node.Node.{Node}
@@ -12,7 +13,7 @@ use Rattle.rst_tree.specs.Forest.{Forest}
 use Rattle.rst_tree.specs.Nodes.{forest_of}
 use Rattle.rst_transform.specs.declared.definitions.Defined.{Defined}
 use Rattle.rst_transform.specs.declared.definitions.Definitions.{Definitions}
-use Rattle.rst_transform.specs.Definitions.{defined, definitions_among, last_place, own_definition, place_of_name, place_of_normalized, AreKnown, Definition}
+use Rattle.rst_transform.specs.Definitions.{defined, definitions_among, found_among, found_by, known_place, last_place, own_definition, place_of_name, place_of_normalized, AreKnown, Definition}
 use Rattle.rst_transform.specs.Fields.{name_in}
 
 -- a text holds none
@@ -74,3 +75,10 @@ pub known_next : (list : List Defined) (i : ℕ) (one : Defined) (next : Definit
 known_next list i one next within at known =
     let more : take (i + 1) list ≡ take i list ++ one ∷ [] = take_more list i one within ∙ ap (λ last. take i list ++ last ∷ []) (sym at) in
     rw (more, map-append defined (take i list) (one ∷ [])) known
+
+-- what a name finds among definitions, and the place of one, are what is known of them
+pub found_known : (all : List Definition) (known : Definitions) → AreKnown all known → found_by known ≡ found_among all
+found_known all known are = fun_ext (λ name. rw (are.contents, are.exact name, are.normalized (name_in name)) refl)
+
+pub place_known : (all : List Definition) (known : Definitions) → AreKnown all known → known_place known ≡ place_of_name all
+place_known all known are = fun_ext (λ name. are.exact name)

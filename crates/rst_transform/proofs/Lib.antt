@@ -1,5 +1,6 @@
 pub mod Agreeing
 pub mod Defining
+pub mod Expanding
 pub mod Following
 pub mod FreeNumbers
 pub mod Gathering

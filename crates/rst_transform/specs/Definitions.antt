@@ -1,5 +1,5 @@
 -- Substitution definitions (Markup Specification, 'Substitution Definitions').
-use Rattle.std.specs.Prelude.{◌≡◌, ℕ, ◌+◌, Bool, List, [], ◌∷◌, ◌++◌, if◌then◌else◌, map, unwrap_or, Option, Some, None}
+use Rattle.std.specs.Prelude.{◌≡◌, ℕ, ◌+◌, Bool, List, [], ◌∷◌, ◌++◌, if◌then◌else◌, map, slice_get, unwrap_or, Option, Some, None}
 use Rattle.std.specs.BTreeMap.{get_by_text}
 use Rattle.std.specs.Str.{bytes_eq}
 use Rattle.rst_tree.specs.declared.attrs.Attr.{Attr}
@@ -60,8 +60,32 @@ or_else None other = other
 abbrev pub place_found : List Definition → List ℕ → Option ℕ
 place_found all name = or_else (place_of_name all name) (place_of_normalized all (name_in name))
 
+-- a place with the nodes there, if there are such
+abbrev pub with_place : ℕ → Option Forest → Option (ℕ × Forest)
+with_place place None = None
+with_place place (Some content) = Some (place, content)
+
+abbrev pub placed : List Forest → Option ℕ → Option (ℕ × Forest)
+placed contents None = None
+placed contents (Some place) = with_place place (slice_get contents place)
+
+-- the definition that a name finds: its place, and the nodes that stand for a reference
+abbrev pub found_among : List Definition → List ℕ → Option (ℕ × Forest)
+found_among all name = placed (map (λ one. one.1) all) (place_found all name)
+
 -- the definitions that a document's are known by
 pub record AreKnown (all : List Definition) (known : Definitions) : Type 0 where
   pub contents : known.contents.items ≡ map (λ one. one.1) all
   pub exact : (name : List ℕ) → get_by_text known.exact name ≡ place_of_name all name
   pub normalized : (name : List ℕ) → get_by_text known.normalized name ≡ place_of_normalized all name
+
+-- the places that known definitions tell, of a name as it was written, and of what a name finds
+abbrev pub known_place : Definitions → List ℕ → Option ℕ
+known_place known name = get_by_text known.exact name
+
+abbrev pub known_found : Definitions → List ℕ → Option ℕ
+known_found known name = or_else (get_by_text known.exact name) (get_by_text known.normalized (name_in name))
+
+-- the definition that a name finds among them
+abbrev pub found_by : Definitions → List ℕ → Option (ℕ × Forest)
+found_by known name = placed known.contents.items (known_found known name)

@@ -4,6 +4,8 @@ pub mod Backrefs
 pub mod Bibliography
 pub mod Definitions
 pub mod Docinfo
+pub mod Expanded
+pub mod Expansion
 pub mod Fields
 pub mod Filtered
 pub mod Finishing

@@ -3,7 +3,7 @@ ghost use Rattle.std.specs.Prelude.{◌≡◌, ◌∷◌, ◌++◌, [], if◌the
 ghost use Rattle.std.specs.BTreeMap.{get_by_text};
 ghost use Rattle.std.specs.Str.{bytes_eq};
 ghost use Rattle.rst_tree.specs.Faults.{Gives};
-ghost use Rattle.rst_transform.specs.Definitions.{defined, definitions_among, definitions_in, own_definition, place_found, place_of_name, AreKnown, Definition};
+ghost use Rattle.rst_transform.specs.Definitions.{defined, definitions_among, definitions_in, known_found, known_place, own_definition, AreKnown, Definition};
 
 use crate::reading::said;
 use crate::texts::{copies, folded};
@@ -67,14 +67,14 @@ impl Definitions {
 
     /// The place of the definition of a name as it was written, if there is one.
     pub(crate) fn place(&self, name: &str) -> Option<usize>
-        ensures { (all : List Definition) → AreKnown all self.now → result ≡ place_of_name all name.now }
+        ensures { result ≡ known_place self.now name.now }
     {
         self.exact.get(name).copied()
     }
 
     /// The place of the definition that a name finds: the name as it is written comes first, and then the name by `name_of`.
     pub(crate) fn find(&self, alloc: Global, name: &str) -> Result<Option<usize>, TreeFault>
-        ensures { Gives (λ place. (all : List Definition) → AreKnown all self.now → place ≡ place_found all name.now) result }
+        ensures { Gives (λ place. place ≡ known_found self.now name.now) result }
     {
         if let Some(place) = self.exact.get(name) {
             return Ok(Some(*place));
@@ -85,7 +85,7 @@ impl Definitions {
 
     /// The nodes that stand for a reference to the definition at a place, if there is one.
     pub(crate) fn content(&self, place: usize) -> Option<&Children>
-        ensures { (all : List Definition) → AreKnown all self.now → MatchOption result (slice_get (map (λ one. one.1) all) place ≡ None) (λ content. slice_get (map (λ one. one.1) all) place ≡ Some content.now) }
+        ensures { MatchOption result (slice_get self.now.contents.items place ≡ None) (λ content. slice_get self.now.contents.items place ≡ Some content.now) }
     {
         self.contents.get(place)
     }

@@ -8,6 +8,7 @@ mod bibliography;
 mod definitions;
 pub mod docinfo;
 pub mod expand;
+mod expansion;
 mod fault;
 mod field;
 mod filter;
