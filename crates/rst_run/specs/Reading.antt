@@ -7,7 +7,7 @@ use Rattle.rst_settings.specs.declared.Settings.{Settings}
 use Rattle.rst_text.specs.Block.{Block}
 use Rattle.rst_text.specs.Lines.{first_longer, lines_of}
 use Rattle.rst_text.specs.Text.{text_of}
-use Rattle.rst_transform.specs.Finishing.{Finishes}
+use Rattle.rst_transform.specs.Finishing.{Leaves}
 use Rattle.rst_transform.specs.Messages.{EndsAtHalt, highest_level}
 use Rattle.rst_transform.specs.Shown.{is_shown_in}
 use Rattle.rst_transform.specs.declared.finishing.Finished.{Finished}
@@ -60,7 +60,7 @@ IsReadOf settings (Some text) parsed = IsReadWith (first_longer settings.limit (
 -- the finished document of a text, and its messages with their highest level
 abbrev pub IsMade : Settings → Option (List ℕ) → Finished → Type 0
 IsMade settings text finished =
-    ((parsed : Parsed) × IsReadOf settings text parsed × Finishes parsed.messages parsed.document settings finished)
+    ((parsed : Parsed) × IsReadOf settings text parsed × Leaves parsed.messages settings parsed.document finished.tree finished.notes.items)
     × IsFinished settings finished.tree finished.notes.items × (finished.highest ≡ highest_level finished.notes.items) × (finished.highest ≤ 4)
 
 -- there is a text, and its lines are short

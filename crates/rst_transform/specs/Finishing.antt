@@ -1,13 +1,29 @@
 -- A document after all transforms, in their order (Document Tree, 'Introduction').
-use Rattle.std.specs.Prelude.{◌≡◌, ℕ, Bool, true, false, List, []}
+use Rattle.std.specs.Prelude.{◌≡◌, ℕ, Bool, true, false, ◌||◌, List, [], ◌++◌, map, Result, Ok, Err}
 use Rattle.rst_marked.specs.declared.kinds.Kinds.{Kinds}
+use Rattle.rst_marked.specs.Held.{kinds_of}
 use Rattle.rst_names.specs.declared.registration.Registered.{Registered}
+use Rattle.rst_names.specs.Registering.{IsRegistered}
 use Rattle.rst_settings.specs.declared.Settings.{Settings}
+use Rattle.rst_tree.specs.declared.node.Node.{Node}
+use Rattle.rst_tree.specs.declared.note.Note.{Note}
+use Rattle.rst_tree.specs.Tree.{is_tree}
+use Rattle.rst_tree.specs.Walk.{node_items}
+use Rattle.rst_transform.specs.declared.fault.TransformFault.{TransformFault}
+use Rattle.rst_transform.specs.declared.fault.TransformFault.TheVariants.{NoMemory, NoTree}
+use Rattle.rst_transform.specs.declared.finishing.Finished.{Finished}
+use Rattle.rst_transform.specs.declared.work.Report.{Report}
 use Rattle.rst_transform.specs.declared.work.Work.{Work}
 use Rattle.rst_transform.specs.Anonymous.{IsAnonymous}
 use Rattle.rst_transform.specs.Docinfo.{HasDocinfo}
+use Rattle.rst_transform.specs.Expanded.{IsExpanded}
+use Rattle.rst_transform.specs.Filtered.{with_filtered}
 use Rattle.rst_transform.specs.Footnotes.{NumbersFootnotes}
 use Rattle.rst_transform.specs.Indirect.{IsIndirect}
+use Rattle.rst_transform.specs.LastSection.{HasLastSection}
+use Rattle.rst_transform.specs.Listed.{report_said}
+use Rattle.rst_transform.specs.Messages.{is_number_shown, notes_of, until_halt, Numbered}
+use Rattle.rst_transform.specs.MessagesIn.{messages_in}
 use Rattle.rst_transform.specs.Resolved.{IsResolved}
 use Rattle.rst_transform.specs.Targets.{IsRetargeted}
 use Rattle.rst_transform.specs.Title.{IsTitled}
@@ -44,9 +60,40 @@ pub record IsTransformed (kinds : Kinds) (settings : Settings) (before after : W
   pub titled : Work
   pub informed : Work
   pub linked : Work
-  pub substitutions : kinds.substitutions ≡ false → expanded ≡ before
+  pub substitutions : Where kinds.substitutions IsExpanded before expanded
   pub targets : Where kinds.targets IsRetargeted expanded retargeted
   pub title : Where settings.title IsTitled retargeted titled
   pub info : Where settings.info HasDocinfo titled informed
   pub links : Where kinds.links (IsLinked kinds) informed linked
   pub transitions : Where kinds.transitions HasTransitions linked after
+
+-- the messages in a document, if it is known to have any
+abbrev pub messages_if : Bool → Node → List Numbered
+messages_if true root = messages_in root
+messages_if false root = []
+
+-- the messages in a registered document, where some of its kinds or on equal names stand in it, and then those of the transforms
+abbrev pub all_messages : Kinds → Registered → List Report → List Numbered
+all_messages kinds registered reports = messages_if (kinds.messages || registered.noticed) registered.root ++ map report_said reports
+
+-- What is left of a document that was parsed, in which so many numbers were given to messages: the document as it is shown, and the list of
+-- messages, up to the first that halts the run.
+pub record Leaves (messages : ℕ) (settings : Settings) (document : Node) (root : Node) (notes : List Note) : Type 0 where
+  pub registered : Registered
+  pub started : Work
+  pub transformed : Work
+  pub sectioned : Work
+  pub is_registered : IsRegistered messages document registered
+  pub is_started : IsStarted messages registered started
+  pub is_transformed : IsTransformed (kinds_of (node_items document)) settings started transformed
+  pub has_section : HasLastSection settings.report transformed sectioned
+  pub all : List Numbered
+  pub are_all : all ≡ all_messages (kinds_of (node_items document)) registered sectioned.reports.items
+  pub notes_are : notes ≡ until_halt settings.halt (notes_of all)
+  pub root_is : root ≡ with_filtered settings.report (is_number_shown settings.report all) sectioned.root
+
+-- what is left of it is a tree, or it isn't, or memory ran out
+abbrev pub Finishes : ℕ → Settings → Node → Result Finished TransformFault → Type 0
+Finishes messages settings document (Ok done) = Leaves messages settings document done.tree done.notes.items
+Finishes messages settings document (Err NoTree) = (root : Node) × (notes : List Note) × Leaves messages settings document root notes × (is_tree root ≡ false)
+Finishes messages settings document (Err NoMemory) = Unit {0}

@@ -1,12 +1,16 @@
 //! All transforms, in order.
-ghost use Rattle.std.specs.Prelude.{◌≡◌, ◌≤◌, IfOk, true, false};
+ghost use Rattle.std.specs.Prelude.{◌≡◌, ◌≤◌, ◌++◌, map, IfOk, List, true};
 ghost use Rattle.rst_tree.specs.Faults.{Gives};
+ghost use Rattle.rst_tree.specs.Tree.{is_tree};
 ghost use Rattle.rst_transform.specs.Anonymous.{IsAnonymous};
 ghost use Rattle.rst_transform.specs.Docinfo.{HasDocinfo};
-ghost use Rattle.rst_transform.specs.Finishing.{IsLinked, IsStarted, IsTransformed, Where};
+ghost use Rattle.rst_transform.specs.Expanded.{IsExpanded};
+ghost use Rattle.rst_transform.specs.Filtered.{with_filtered};
+ghost use Rattle.rst_transform.specs.Finishing.{messages_if, Finishes, IsLinked, IsStarted, IsTransformed, Where};
 ghost use Rattle.rst_transform.specs.Footnotes.{NumbersFootnotes};
 ghost use Rattle.rst_transform.specs.Indirect.{IsIndirect};
-ghost use Rattle.rst_transform.specs.Messages.{EndsAtHalt, highest_level};
+ghost use Rattle.rst_transform.specs.Listed.{report_said, Lists};
+ghost use Rattle.rst_transform.specs.Messages.{highest_level, is_number_shown, EndsAtHalt, Numbered};
 ghost use Rattle.rst_transform.specs.Shown.{is_shown_in};
 ghost use Rattle.rst_transform.specs.Targets.{IsRetargeted};
 ghost use Rattle.rst_transform.specs.Title.{IsTitled};
@@ -28,8 +32,8 @@ use crate::transitions::transitions;
 use crate::work::Work;
 use rst_marked::{Kinds, Marked};
 use rst_names::{Registered, register};
-use rst_settings::Settings;
-use rst_tree::{Note, Tree, TreeFault};
+use rst_settings::{Settings, Threshold};
+use rst_tree::{Node, Note, Tree, TreeFault};
 use std::alloc::Global;
 
 /// A document as it is printed, and the messages of the run.
@@ -53,6 +57,7 @@ pub fn finish(
     messages: u64,
     settings: &Settings,
 ) -> Result<Finished, TransformFault>
+    ensures finishes { Finishes messages settings.now document result }
     ensures shown { IfOk result (λ done. is_shown_in settings.now.report done.tree ≡ true) }
     ensures halt { IfOk result (λ done. EndsAtHalt settings.now.halt done.notes.items) }
     ensures highest { IfOk result (λ done. done.highest ≡ highest_level done.notes.items) }
@@ -60,15 +65,12 @@ pub fn finish(
 {
     let kinds = document.kinds();
     let registered = register(alloc, document, messages)?;
-    let mut list = Messages::with_room(alloc, messages, settings.halt, settings.report)?;
-    if kinds.messages || registered.noticed {
-        list.add_those_in(alloc, &registered.root)?;
-    }
+    let has = kinds.messages || registered.noticed;
+    let list = listed(alloc, &registered.root, has, messages, settings)?;
     let work = started(alloc, registered, messages);
-    let work = transformed(alloc, work, kinds, settings)?;
-    let Work { root, reports, .. } = last_section(alloc, work, settings.report)?;
-    list.add_reports(reports)?;
-    let (root, is_tree) = filter(alloc, root, settings.report, list.shown())?;
+    let after = transformed(alloc, work, kinds, settings)?;
+    let work = last_section(alloc, after, settings.report)?;
+    let (root, is_tree, list) = left(alloc, work, list, settings.report)?;
     if !is_tree {
         return Err(TransformFault::NoTree);
     }
@@ -78,6 +80,46 @@ pub fn finish(
         notes,
         highest,
     })
+}
+
+/// The messages in a registered document, if it has any, in a list with room for so many.
+fn listed(
+    alloc: Global,
+    root: &Node,
+    has: bool,
+    room: u64,
+    settings: &Settings,
+) -> Result<Messages, TreeFault>
+    ensures halt { Gives (λ list. list.halt ≡ settings.now.halt) result }
+    ensures report { Gives (λ list. list.report ≡ settings.now.report) result }
+    ensures lists { Gives (λ list. Lists (messages_if has root.now) list) result }
+{
+    let mut list = Messages::with_room(alloc, room, settings.halt, settings.report)?;
+    if !has {
+        return Ok(list);
+    }
+    list.add_those_in(alloc, root)?;
+    Ok(list)
+}
+
+/// What is left of a document with its last section, whether that is a tree, and the list of messages with those of the transforms.
+fn left(
+    alloc: Global,
+    work: Work,
+    list: Messages,
+    report: Threshold,
+) -> Result<(Node, bool, Messages), TreeFault>
+    ensures halt { Gives (λ done. done.2.halt ≡ list.halt) result }
+    ensures lists { (all : List Numbered) → Lists all list → Gives (λ done. Lists (all ++ map report_said work.reports.items) done.2) result }
+    ensures root { (all : List Numbered) → Lists all list → list.report ≡ report → Gives (λ done. done.0 ≡ with_filtered report (is_number_shown report (all ++ map report_said work.reports.items)) work.root) result }
+    ensures shown { Gives (λ done. is_shown_in report done.0 ≡ true) result }
+    ensures tree { Gives (λ done. done.1 ≡ is_tree done.0) result }
+{
+    let Work { root, reports, .. } = work;
+    let mut list = list;
+    list.add_reports(reports)?;
+    let (root, is_tree) = filter(alloc, root, report, list.shown())?;
+    Ok((root, is_tree, list))
 }
 
 /// A registered document before the transforms, where so many numbers were given to messages.
@@ -114,7 +156,7 @@ fn transformed(
 
 /// A document with the contents of substitution definitions, if it has references to such.
 fn with_contents(alloc: Global, work: Work, has: bool) -> Result<Work, TreeFault>
-    ensures { has ≡ false → Gives (λ done. done ≡ work) result }
+    ensures { Gives (Where has IsExpanded work) result }
 {
     if !has {
         return Ok(work);
