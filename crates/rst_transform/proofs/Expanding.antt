@@ -1,5 +1,5 @@
 -- The expansion of a reference, and of the references in a document one node after another.
-use Rattle.std.proofs.Common.{◌≡◌, ℕ, zero, suc, ◌+◌, ◌-◌, ◌<◌, ◌≤◌, List, [], ◌∷◌, ◌++◌, length, drop, append_assoc, refl, sym, ◌∙◌, ap, arith, Bool, true, false, length-append}
+use Rattle.std.proofs.Common.{◌≡◌, ℕ, zero, suc, ◌-◌, ◌<◌, ◌≤◌, List, [], ◌∷◌, ◌++◌, length, drop, append_assoc, refl, ◌∙◌, ap, arith, true, false, length-append}
 use Rattle.std.specs.Prelude.{◌==◌, slice_get, Option, Some, None, Err}
 use Rattle.std.specs.List.{list_any}
 use Rattle.std.proofs.lemmas.List.{append-nil}
@@ -85,7 +85,7 @@ more_reference found place within all first now between done next here items lef
     rw (push, append_assoc done here more) (before after (here ++ more) (rw is (between, here, more, rw test gives, rest, refl)))
 
 pub more_element : (found : List ℕ → Option (ℕ × Forest)) (place : List ℕ → Option ℕ) (within : Option ℕ) (all : Forest) (first now between : Work) (done next nodes items left : List Node) (t : Tag) (a : List Attr) (c : Forest) (l : ℕ)
-    → Continues found place within all first now done items → items ≡ Element t a c l ∷ left → is_reference t ≡ false → ExpandsIn found place (within_element found place t a within) c now between nodes
+    → Continues found place within all first now done items → items ≡ Element t a c l ∷ left → is_reference t ≡ false → ExpandsIn found place (within_element place t a within) c now between nodes
     → next ≡ done ++ Element t a (forest_of nodes) l ∷ [] → Continues found place within all first between next left
 more_element found place within all first now between done next nodes items left t a c l before is test inner push = λ after more rest.
     let here : List Node = Element t a (forest_of nodes) l ∷ [] in

@@ -1,4 +1,5 @@
--- Substitution references in a document (Markup Specification, 'Substitution References'): each gives way to what stands for it, or to a problematic.
+-- Substitution references in a document (Markup Specification, 'Substitution References'): each gives way to what stands for it, or to a
+-- problematic (Document Tree, 'problematic').
 use Rattle.std.specs.Prelude.{◌≡◌, ℕ, Bool, true, false, List, [], ◌∷◌, ◌++◌, length, if◌then◌else◌, slice_get, unwrap_or, Option, None, Result, Ok, Err}
 use Rattle.rst_tree.specs.declared.attrs.Attr.{Attr}
 use Rattle.rst_tree.specs.declared.key.Key.TheVariants.{OwnName}
@@ -41,25 +42,26 @@ abbrev pub is_definition : Tag → Bool
 is_definition SubstitutionDefinition = true
 is_definition _ = false
 
--- the one of two statements that a test tells
-abbrev pub Either : Bool → Type 0 → Type 0 → Type 0
-Either true one other = one
-Either false one other = other
+-- the place of the definition that the nodes in an element stand in, if there is one: that of its own name if it is a definition
+abbrev pub within_element : (List ℕ → Option ℕ) → Tag → List Attr → Option ℕ → Option ℕ
+within_element place t a within = if is_definition t then place (unwrap_or (said_text (value_of OwnName a)) []) else within
+
+-- the first statement where a test holds, and else the second
+abbrev pub Whether : Bool → Type 0 → Type 0 → Type 0
+Whether true one other = one
+Whether false one other = other
 
 -- where it is told which definition a name finds, and at which place the definition of a name stands
 module _ (found : List ℕ → Option (ℕ × Forest)) (place : List ℕ → Option ℕ) where
-  -- the place of the definition that the nodes in an element stand in, if they stand in one
-  abbrev pub within_element : Tag → List Attr → Option ℕ → Option ℕ
-  within_element t a within = if is_definition t then place (unwrap_or (said_text (value_of OwnName a)) []) else within
-
-  -- the references among some nodes, and in them, gave way in the order of the document; the nodes stand in the definition at a place, or in none
+  -- The references among some nodes, and in them, gave way in the order of the document, and these nodes came of it. They stand in the
+  -- definition at a place, or in none.
   abbrev pub ExpandsIn : Option ℕ → Forest → Work → Work → List Node → Type 0
   ExpandsIn within bare before after done = (after ≡ before) × (done ≡ [])
   ExpandsIn within (words t r) before after done = (more : List Node) × ExpandsIn within r before after more × (done ≡ Text t ∷ more)
   ExpandsIn within (element t a c l r) before after done =
       (between : Work) × (here : List Node) × (more : List Node)
-      × Either (is_reference t) (GivesWay a l (nodes_for found within (name_said a)) before between here)
-        ((nodes : List Node) × ExpandsIn (within_element t a within) c before between nodes × (here ≡ Element t a (forest_of nodes) l ∷ []))
+      × Whether (is_reference t) (GivesWay a l (nodes_for found within (name_said a)) before between here)
+      ((nodes : List Node) × ExpandsIn (within_element place t a within) c before between nodes × (here ≡ Element t a (forest_of nodes) l ∷ []))
       × ExpandsIn within r between after more
       × (done ≡ here ++ more)
 

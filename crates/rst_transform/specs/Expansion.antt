@@ -1,5 +1,5 @@
--- What stands for a substitution reference (Markup Specification, 'Substitution References' and 'Substitution Definitions'). How much may be met for
--- one is no rule of markup.
+-- What stands for a substitution reference (Markup Specification, 'Substitution References', 'Substitution Definitions'). How much may be met
+-- for one is no rule of markup.
 use Rattle.std.specs.Prelude.{◌≡◌, ℕ, zero, suc, ◌+◌, ◌-◌, ◌==◌, nat_le, Bool, true, false, List, [], ◌∷◌, ◌++◌, codes, length, if◌then◌else◌, unwrap_or, Option, Some, None, Result, Ok, Err}
 use Rattle.std.specs.List.{list_any}
 use Rattle.std.specs.Str.{chars}
@@ -46,7 +46,7 @@ copied t a nodes l = Element t (without_key Serial a) (forest_of nodes) l
 abbrev pub Expansion : Type 0
 Expansion = Result (List Node × ℕ) ExpansionFault
 
--- so much is met, while so much may be, and then the rest
+-- so much is met, if so much may still be, and then the rest
 abbrev pub meeting : ℕ → ℕ → (ℕ → Expansion) → Expansion
 meeting size left rest = if nat_le size left then rest (left - size) else Err TooLarge
 
@@ -65,12 +65,12 @@ abbrev pub inside : Tag → List Attr → ℕ → Expansion → Expansion
 inside t a l (Ok done) = Ok (copied t a done.0 l ∷ [], done.1)
 inside t a l (Err fault) = Err fault
 
--- Copies of nodes with the references in them replaced, while so much may be met; it is told what a reference to a name comes to.
+-- what copies of nodes come to, while so much may be met, where it is told what a reference to a name does
 abbrev pub expanded : (List ℕ → ℕ → Expansion) → Forest → ℕ → Expansion
 expanded given bare left = Ok ([], left)
-expanded given (words t r) left = meeting (length (chars t) + 1) left (λ now. behind (Text t ∷ []) (expanded given r now))
+expanded given (words t r) left = meeting (size_of (Text t)) left (λ more. behind (Text t ∷ []) (expanded given r more))
 expanded given (element t a c l r) left =
-    meeting 1 left (λ now. and_then (if is_reference t then given (name_said a) now else inside t a l (expanded given c now)) (λ then_left. expanded given r then_left))
+    meeting (size_of (Element t a c l)) left (λ more. and_then (if is_reference t then given (name_said a) more else inside t a l (expanded given c more)) (λ then_more. expanded given r then_more))
 
 -- the path of a reference that stands in the definition at a place, or in none
 abbrev pub path_from : Option ℕ → List ℕ
@@ -82,19 +82,19 @@ abbrev pub nodes_in : Expansion → Result (List Node) ExpansionFault
 nodes_in (Ok done) = Ok done.0
 nodes_in (Err fault) = Err fault
 
--- a definition is gone into, if there is one that isn't among those that are
+-- what a reference to a name comes to by its definition, if there is one that isn't gone into already, as those at the places of a path are
 abbrev pub entering : List ℕ → List ℕ → Option (ℕ × Forest) → (ℕ × Forest → Expansion) → Expansion
 entering path name None content = Err (Undefined name)
 entering path name (Some one) content = if list_any (λ place. place == one.0) path then Err (Circular name) else content one
 
--- what stands for references, where it is told which definition a name finds
+-- where it is told which definition a name finds
 module _ (found : List ℕ → Option (ℕ × Forest)) where
-  -- what a reference to a name comes to in definitions at the places of a path, where so many more may be gone into
+  -- what a reference to a name comes to behind the definitions on a path, where so many more may be gone into
   unfoldable pub given_within : ℕ → List ℕ → List ℕ → ℕ → Expansion
   given_within zero path name left = entering path name (found name) (λ one. Err TooLarge)
   given_within (suc more) path name left = entering path name (found name) (λ one. expanded (given_within more (path ++ one.0 ∷ [])) one.1 left)
 
-  -- the same, where most_nested may be in all
+  -- the same, where that many may be in all
   abbrev pub given : List ℕ → List ℕ → ℕ → Expansion
   given path = given_within (most_nested - length path) path
 
@@ -114,7 +114,7 @@ ComesTo wanted given (Ok done) = wanted ≡ Ok (given done)
 ComesTo wanted given (Err (By fault)) = wanted ≡ Err fault
 ComesTo wanted given (Err NoMemory) = Unit {0}
 
--- the call goes into the definition that a reference is to: what it comes to is what the nodes there do
+-- the call goes into the definition that a reference finds: the reference comes to what the nodes there do
 abbrev pub Enters : {A : Type 0} → (ℕ → Expansion) → (A → ℕ → Expansion) → Result A Halted → Type 0
 Enters reference content (Ok done) = (left : ℕ) → reference left ≡ content done left
 Enters reference content (Err (By fault)) = (left : ℕ) → reference left ≡ Err fault

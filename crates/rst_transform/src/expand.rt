@@ -116,7 +116,7 @@ fn within_element(
     attrs: &Attrs,
     within: Option<usize>,
 ) -> Option<usize>
-    ensures { result ≡ within_element (found_by definitions.now) (known_place definitions.now) tag attrs.now within }
+    ensures { result ≡ within_element (known_place definitions.now) tag attrs.now within }
 {
     if matches!(tag, Tag::SubstitutionDefinition) {
         return definitions.place(said(attrs, Key::OwnName));

@@ -1,5 +1,5 @@
 //! All transforms, in order.
-ghost use Rattle.std.specs.Prelude.{◌≡◌, ◌≤◌, ◌++◌, map, IfOk, List, true};
+ghost use Rattle.std.specs.Prelude.{◌≡◌, ◌≤◌, ◌||◌, ◌++◌, map, IfOk, List, true};
 ghost use Rattle.rst_tree.specs.Faults.{Gives};
 ghost use Rattle.rst_tree.specs.Tree.{is_tree};
 ghost use Rattle.rst_transform.specs.Anonymous.{IsAnonymous};
@@ -65,7 +65,7 @@ pub fn finish(
 {
     let kinds = document.kinds();
     let registered = register(alloc, document, messages)?;
-    let has = kinds.messages || registered.noticed;
+    let has = has_messages(kinds, registered.noticed);
     let list = listed(alloc, &registered.root, has, messages, settings)?;
     let work = started(alloc, registered, messages);
     let after = transformed(alloc, work, kinds, settings)?;
@@ -80,6 +80,13 @@ pub fn finish(
         notes,
         highest,
     })
+}
+
+/// Whether messages stand in a registered document.
+fn has_messages(kinds: Kinds, noticed: bool) -> bool
+    ensures { result ≡ (kinds.messages || noticed) }
+{
+    kinds.messages || noticed
 }
 
 /// The messages in a registered document, if it has any, in a list with room for so many.

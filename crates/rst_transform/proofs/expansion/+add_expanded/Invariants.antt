@@ -14,5 +14,5 @@ invariant-loop-node l = record {
   nodes : so_far (given (found_by l.fn.definitions) l.fn.progress.path.items) l.nodes.items l.node-items l.node-index l.progress.left ≡
       behind l.fn.nodes.items (expanded (given (found_by l.fn.definitions) l.fn.progress.path.items) l.fn.content l.fn.progress.left);
   path : l.progress.path.items ≡ l.fn.progress.path.items;
-  left : l.progress.left ≤ l.initial.progress.left
+  left : l.progress.left ≤ l.initial.progress.left;
 }
