@@ -181,11 +181,7 @@ fn is_message(tag: Tag) -> bool
 }
 
 /// Marks the number of a message that is shown, if it has one.
-fn mark_shown(
-    marks: &mut Vec<bool>,
-    is_shown: bool,
-    number: Option<u64>,
-) -> Result<(), TreeFault>
+fn mark_shown(marks: &mut Vec<bool>, is_shown: bool, number: Option<u64>) -> Result<(), TreeFault>
     ensures { Gives (λ _. (n : ℕ) → marked marks.new.items n ≡ (marked marks.old.items n || (is_shown && has_number n number))) result }
 {
     if !is_shown {
