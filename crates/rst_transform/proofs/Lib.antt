@@ -1,4 +1,5 @@
 pub mod Agreeing
+pub mod Concluding
 pub mod Defining
 pub mod Following
 pub mod FreeNumbers
@@ -10,6 +11,7 @@ pub mod Leading
 pub mod Leaving
 pub mod Linking
 pub mod Listing
+pub mod NoMessages
 pub mod Notes
 pub mod Numbering
 pub mod Placing

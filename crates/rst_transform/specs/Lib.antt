@@ -6,6 +6,7 @@ pub mod Definitions
 pub mod Docinfo
 pub mod Fields
 pub mod Filtered
+pub mod Finished
 pub mod Footnotes
 pub mod Gathered
 pub mod Holders

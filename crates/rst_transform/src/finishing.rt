@@ -1,5 +1,6 @@
 //! All transforms, in order.
 ghost use Rattle.std.specs.Prelude.{◌≡◌, ◌≤◌, IfOk, true};
+ghost use Rattle.rst_transform.specs.Finished.{IsFinished};
 ghost use Rattle.rst_transform.specs.Messages.{EndsAtHalt, highest_level};
 ghost use Rattle.rst_transform.specs.Shown.{is_shown_in};
 
@@ -44,17 +45,17 @@ pub fn finish(
     messages: u64,
     settings: &Settings,
 ) -> Result<Finished, TransformFault>
+    ensures finished { IfOk result (IsFinished messages document settings.now) }
     ensures shown { IfOk result (λ done. is_shown_in settings.now.report done.tree ≡ true) }
     ensures halt { IfOk result (λ done. EndsAtHalt settings.now.halt done.notes.items) }
     ensures highest { IfOk result (λ done. done.highest ≡ highest_level done.notes.items) }
     ensures few { IfOk result (λ done. done.highest ≤ 4) }
 {
     let kinds = document.kinds();
-    let (work, noticed) = registered(alloc, document, messages)?;
+    let registered = register(alloc, document, messages)?;
     let mut list = Messages::with_room(alloc, messages, settings.halt, settings.report)?;
-    if kinds.messages || noticed {
-        list.add_those_in(alloc, &work.root)?;
-    }
+    list.add_registered(alloc, &registered, kinds)?;
+    let work = started(alloc, registered, messages);
     let work = transformed(alloc, work, kinds, settings)?;
     let Work { root, reports, .. } = last_section(alloc, work, settings.report)?;
     list.add_reports(reports)?;
@@ -70,24 +71,16 @@ pub fn finish(
     })
 }
 
-/// A document with names and ids, before the transforms, and whether messages on equal names stand in it now.
-fn registered(alloc: Global, document: Marked, messages: u64) -> Result<(Work, bool), TreeFault> {
-    let Registered {
-        root,
-        ids,
-        names,
-        serials,
-        noticed,
-    } = register(alloc, document, messages)?;
-    let work = Work {
-        root,
-        ids,
-        names,
+/// A registered document before the transforms, where so many numbers were given to messages.
+fn started(alloc: Global, registered: Registered, messages: u64) -> Work {
+    Work {
+        root: registered.root,
+        ids: registered.ids,
+        names: registered.names,
         reports: Vec::new(alloc),
         first_number: messages,
-        serials,
-    };
-    Ok((work, noticed))
+        serials: registered.serials,
+    }
 }
 
 /// A document with elements of some kinds after all transforms.
