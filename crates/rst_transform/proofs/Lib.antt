@@ -11,6 +11,7 @@ pub mod Leading
 pub mod Leaving
 pub mod Linking
 pub mod Listing
+pub mod NoMessages
 pub mod Notes
 pub mod Numbering
 pub mod Placing

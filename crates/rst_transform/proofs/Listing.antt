@@ -17,10 +17,11 @@ use Rattle.rst_tree.specs.Forest.{Forest, bare, element, words}
 use Rattle.rst_tree.specs.LevelNames.{level_number}
 use Rattle.rst_tree.specs.Nodes.{forest_of, nodes_of}
 use Rattle.rst_tree.specs.Tree.{text_all, text_in}
+use Rattle.rst_marked.specs.Held.{is_message}
 use Rattle.rst_transform.specs.declared.messages.Messages.{Messages}
 use Rattle.rst_transform.specs.Listed.{Adds, KeepsLevels, Lists}
 use Rattle.rst_transform.specs.Messages.{halts, has_halt, has_number, is_number_shown, is_shown_as, marked, notes_of, until_halt, Numbered}
-use Rattle.rst_transform.specs.MessagesIn.{is_message, message_said, messages_among}
+use Rattle.rst_transform.specs.MessagesIn.{message_said, messages_among}
 
 -- whether a run halts is told by the messages up to the halt
 halts_until : (halt : Threshold) (notes : List Note) → has_halt halt (until_halt halt notes) ≡ has_halt halt notes

@@ -1,5 +1,5 @@
 -- A document after all transforms, in their order (Document Tree, 'Introduction').
-use Rattle.std.specs.Prelude.{◌≡◌, ℕ, Bool, true, false, ◌||◌, List, [], ◌++◌, map, Result, Ok, Err}
+use Rattle.std.specs.Prelude.{◌≡◌, ℕ, Bool, true, false, List, [], ◌++◌, map, Result, Ok, Err}
 use Rattle.rst_marked.specs.declared.kinds.Kinds.{Kinds}
 use Rattle.rst_marked.specs.Held.{kinds_of}
 use Rattle.rst_names.specs.declared.registration.Registered.{Registered}
@@ -67,14 +67,9 @@ pub record IsTransformed (kinds : Kinds) (settings : Settings) (before after : W
   pub links : Where kinds.links (IsLinked kinds) informed linked
   pub transitions : Where kinds.transitions HasTransitions linked after
 
--- the messages in a document, if it is known to have any
-abbrev pub messages_if : Bool → Node → List Numbered
-messages_if true root = messages_in root
-messages_if false root = []
-
--- the messages in a registered document, where some of its kinds or on equal names stand in it, and then those of the transforms
-abbrev pub all_messages : Kinds → Registered → List Report → List Numbered
-all_messages kinds registered reports = messages_if (kinds.messages || registered.noticed) registered.root ++ map report_said reports
+-- the messages in a registered document, and then those of the transforms
+abbrev pub all_messages : Registered → List Report → List Numbered
+all_messages registered reports = messages_in registered.root ++ map report_said reports
 
 -- What is left of a document that was parsed, in which so many numbers were given to messages: the document as it is shown, and the list of
 -- messages, up to the first that halts the run.
@@ -88,7 +83,7 @@ pub record Leaves (messages : ℕ) (settings : Settings) (document : Node) (root
   pub is_transformed : IsTransformed (kinds_of (node_items document)) settings started transformed
   pub has_section : HasLastSection settings.report transformed sectioned
   pub all : List Numbered
-  pub are_all : all ≡ all_messages (kinds_of (node_items document)) registered sectioned.reports.items
+  pub are_all : all ≡ all_messages registered sectioned.reports.items
   pub notes_are : notes ≡ until_halt settings.halt (notes_of all)
   pub root_is : root ≡ with_filtered settings.report (is_number_shown settings.report all) sectioned.root
 

@@ -1,12 +1,11 @@
 -- The messages that stand in a document (Document Tree, 'system_message').
-use Rattle.std.specs.Prelude.{ℕ, max, List, [], ◌∷◌, ◌++◌, if◌then◌else◌, slice_get, Bool, true, false, option_map}
+use Rattle.std.specs.Prelude.{ℕ, max, List, [], ◌∷◌, ◌++◌, if◌then◌else◌, slice_get, option_map}
 use Rattle.rst_tree.specs.declared.attrs.Attr.{Attr}
 use Rattle.rst_tree.specs.declared.key.Key.TheVariants.{Message}
 use Rattle.rst_tree.specs.declared.node.Node.{Node}
 use Rattle.rst_tree.specs.declared.node.Node.TheVariants.{Element, Text}
 use Rattle.rst_tree.specs.declared.note.Note.{Note}
-use Rattle.rst_tree.specs.declared.tag.Tag.{Tag}
-use Rattle.rst_tree.specs.declared.tag.Tag.TheVariants.{SystemMessage}
+use Rattle.rst_marked.specs.Held.{is_message}
 use Rattle.rst_tree.specs.Attributes.{said_number, value_of}
 use Rattle.rst_tree.specs.Forest.{Forest, bare, element, words}
 use Rattle.rst_tree.specs.LevelNames.{level_of}
@@ -22,11 +21,6 @@ note_said attrs nodes line =
 -- the same with its number
 abbrev pub message_said : List Attr → Forest → ℕ → Numbered
 message_said attrs nodes line = (note_said attrs nodes line, said_number (value_of Message attrs))
-
--- whether an element is a message
-abbrev pub is_message : Tag → Bool
-is_message SystemMessage = true
-is_message _ = false
 
 -- the messages among nodes and in them, in preorder: a message holds no other
 abbrev pub messages_among : Forest → List Numbered

@@ -1,16 +1,21 @@
 //! All transforms, in order.
-ghost use Rattle.std.specs.Prelude.{◌≡◌, ◌≤◌, ◌||◌, ◌++◌, map, IfOk, List, true};
+ghost use Rattle.std.specs.Prelude.{◌≡◌, ◌≤◌, ◌++◌, ℕ, map, IfOk, List, true};
+ghost use Rattle.rst_marked.specs.Held.{kinds_of};
+ghost use Rattle.rst_names.specs.Registering.{IsRegistered};
+ghost use Rattle.rst_tree.specs.declared.node.Node.{Node};
 ghost use Rattle.rst_tree.specs.Faults.{Gives};
 ghost use Rattle.rst_tree.specs.Tree.{is_tree};
+ghost use Rattle.rst_tree.specs.Walk.{node_items};
 ghost use Rattle.rst_transform.specs.Anonymous.{IsAnonymous};
 ghost use Rattle.rst_transform.specs.Docinfo.{HasDocinfo};
 ghost use Rattle.rst_transform.specs.Expanded.{IsExpanded};
 ghost use Rattle.rst_transform.specs.Filtered.{with_filtered};
-ghost use Rattle.rst_transform.specs.Finishing.{messages_if, Finishes, IsLinked, IsStarted, IsTransformed, Where};
+ghost use Rattle.rst_transform.specs.Finishing.{Finishes, IsLinked, IsStarted, IsTransformed, Where};
 ghost use Rattle.rst_transform.specs.Footnotes.{NumbersFootnotes};
 ghost use Rattle.rst_transform.specs.Indirect.{IsIndirect};
 ghost use Rattle.rst_transform.specs.Listed.{report_said, Lists};
 ghost use Rattle.rst_transform.specs.Messages.{highest_level, is_number_shown, EndsAtHalt, Numbered};
+ghost use Rattle.rst_transform.specs.MessagesIn.{messages_in};
 ghost use Rattle.rst_transform.specs.Shown.{is_shown_in};
 ghost use Rattle.rst_transform.specs.Targets.{IsRetargeted};
 ghost use Rattle.rst_transform.specs.Title.{IsTitled};
@@ -65,8 +70,7 @@ pub fn finish(
 {
     let kinds = document.kinds();
     let registered = register(alloc, document, messages)?;
-    let has = has_messages(kinds, registered.noticed);
-    let list = listed(alloc, &registered.root, has, messages, settings)?;
+    let list = listed(alloc, &registered, kinds, messages, settings)?;
     let work = started(alloc, registered, messages);
     let after = transformed(alloc, work, kinds, settings)?;
     let work = last_section(alloc, after, settings.report)?;
@@ -82,30 +86,20 @@ pub fn finish(
     })
 }
 
-/// Whether messages stand in a registered document.
-fn has_messages(kinds: Kinds, noticed: bool) -> bool
-    ensures { result ≡ (kinds.messages || noticed) }
-{
-    kinds.messages || noticed
-}
-
-/// The messages in a registered document, if it has any, in a list with room for so many.
+/// The messages in a registered document, whose elements are of some kinds but for what registration put in, in a list with room for so many.
 fn listed(
     alloc: Global,
-    root: &Node,
-    has: bool,
+    registered: &Registered,
+    kinds: Kinds,
     room: u64,
     settings: &Settings,
 ) -> Result<Messages, TreeFault>
     ensures halt { Gives (λ list. list.halt ≡ settings.now.halt) result }
     ensures report { Gives (λ list. list.report ≡ settings.now.report) result }
-    ensures lists { Gives (λ list. Lists (messages_if has root.now) list) result }
+    ensures lists { Gives (λ list. (messages : ℕ) (document : Node) → IsRegistered messages document registered.now → kinds ≡ kinds_of (node_items document) → Lists (messages_in registered.now.root) list) result }
 {
     let mut list = Messages::with_room(alloc, room, settings.halt, settings.report)?;
-    if !has {
-        return Ok(list);
-    }
-    list.add_those_in(alloc, root)?;
+    list.add_registered(alloc, registered, kinds)?;
     Ok(list)
 }
 

@@ -1,12 +1,15 @@
 //! The list of messages, and the levels at which they count.
 ghost use Rattle.std.specs.Prelude.{◌≡◌, ◌≤◌, ◌==◌, ◌&&◌, ◌||◌, min, ℕ};
+ghost use Rattle.rst_marked.specs.Held.{is_message};
 ghost use Rattle.rst_settings.specs.Threshold.{is_reached};
 ghost use Rattle.rst_tree.specs.Faults.{Gives};
 ghost use Rattle.rst_tree.specs.Tree.{text_in};
 ghost use Rattle.rst_transform.specs.Messages.{has_halt, EndsAtHalt, highest_level, level_said, has_number, marked};
-ghost use Rattle.rst_transform.specs.MessagesIn.{is_message, note_said};
+ghost use Rattle.rst_transform.specs.MessagesIn.{note_said};
 
 use crate::work::Report;
+use rst_marked::Kinds;
+use rst_names::Registered;
 use rst_settings::Threshold;
 use rst_tree::{Attrs, Children, Key, Level, Node, Note, Tag, Text, TreeFault};
 use std::alloc::Global;
@@ -44,6 +47,10 @@ pub(crate) struct Messages {
 
 impl Messages {
     ghost use Rattle.std.specs.Prelude.{[], ◌∷◌, List, map};
+    ghost use Rattle.rst_tree.specs.declared.node.Node.{Node};
+    ghost use Rattle.rst_tree.specs.Walk.{node_items};
+    ghost use Rattle.rst_marked.specs.Held.{kinds_of};
+    ghost use Rattle.rst_names.specs.Registering.{IsRegistered};
     ghost use Rattle.rst_transform.specs.Messages.{until_halt, notes_of, is_number_shown, Numbered};
     ghost use Rattle.rst_transform.specs.MessagesIn.{message_said, messages_among, messages_in};
     ghost use Rattle.rst_transform.specs.Listed.{report_said, Adds, Lists, KeepsLevels};
@@ -99,8 +106,25 @@ impl Messages {
         self.push(note, attrs.number(Key::Message))
     }
 
+    /// Adds the messages in a registered document, whose elements are of some kinds, but for those that registration put in. Where
+    /// there is none, nobody looks for them.
+    pub(crate) fn add_registered(
+        &mut self,
+        alloc: Global,
+        registered: &Registered,
+        kinds: Kinds,
+    ) -> Result<(), TreeFault>
+        ensures levels { KeepsLevels self.old self.new }
+        ensures adds { Gives (λ _. (numbers : ℕ) (document : Node) → IsRegistered numbers document registered.now → kinds ≡ kinds_of (node_items document) → Adds (messages_in registered.now.root) self.old self.new) result }
+    {
+        if !kinds.messages && !registered.noticed {
+            return Ok(());
+        }
+        self.add_those_in(alloc, &registered.root)
+    }
+
     /// Adds the messages in a document, in preorder.
-    pub(crate) fn add_those_in(&mut self, alloc: Global, root: &Node) -> Result<(), TreeFault>
+    fn add_those_in(&mut self, alloc: Global, root: &Node) -> Result<(), TreeFault>
         ensures levels { KeepsLevels self.old self.new }
         ensures adds { Gives (λ _. Adds (messages_in root.now) self.old self.new) result }
     {

@@ -1,18 +1,15 @@
-use Rattle.std.proofs.Common.{rules, ◌≡◌, ◌∙◌, ◌||◌, List, ap, refl}
-use Rattle.rst_marked.specs.Held.{kinds_of}
-use Rattle.rst_marked.specs.declared.kinds.Kinds.{Kinds}
-use Rattle.rst_tree.specs.Walk.{node_items}
-use Rattle.rst_transform.specs.Finishing.{all_messages, messages_if}
+use Rattle.std.proofs.Common.{rules, ◌≡◌, ◌∙◌, List, ap, refl}
+use Rattle.rst_transform.specs.Finishing.{all_messages}
 use Rattle.rst_transform.specs.Listed.{Lists}
 use Rattle.rst_transform.specs.Messages.{notes_of, until_halt, Numbered}
+use Rattle.rst_transform.specs.MessagesIn.{messages_in}
 use Rattle.rst_transform.proofs.finishing.finish.Goals as goal
 
 pub returns-then-not-is_tree-clause-finishes : goal.returns-then-not-is_tree-clause-finishes
 returns-then-not-is_tree-clause-finishes c =
-    let kinds : Kinds = kinds_of (node_items c.args.document) in
-    let first : Lists (messages_if (kinds.messages || c.in_ok-registered.registered.noticed) c.in_ok-registered.registered.root) c.in_ok-list.list =
-      rw (c.has_messages-has.ensures, c.kinds-kinds.ensures) at c.in_ok-list.ensures.lists in
-    let all : List Numbered = all_messages kinds c.in_ok-registered.registered c.in_ok-work.work.reports.items in
+    let first : Lists (messages_in c.in_ok-registered.registered.root) c.in_ok-list.list =
+      c.in_ok-list.ensures.lists c.args.messages c.args.document c.in_ok-registered.ensures c.kinds-kinds.ensures in
+    let all : List Numbered = all_messages c.in_ok-registered.registered c.in_ok-work.work.reports.items in
     (c.in_ok-root.root, until_halt c.args.settings.now.halt (notes_of all),
       record {
         registered = c.in_ok-registered.registered;
@@ -32,10 +29,9 @@ returns-then-not-is_tree-clause-finishes c =
 
 pub returns-clause-finishes : goal.returns-clause-finishes
 returns-clause-finishes c =
-    let kinds : Kinds = kinds_of (node_items c.args.document) in
-    let first : Lists (messages_if (kinds.messages || c.in_ok-registered.registered.noticed) c.in_ok-registered.registered.root) c.in_ok-list.list =
-      rw (c.has_messages-has.ensures, c.kinds-kinds.ensures) at c.in_ok-list.ensures.lists in
-    let all : List Numbered = all_messages kinds c.in_ok-registered.registered c.in_ok-work.work.reports.items in
+    let first : Lists (messages_in c.in_ok-registered.registered.root) c.in_ok-list.list =
+      c.in_ok-list.ensures.lists c.args.messages c.args.document c.in_ok-registered.ensures c.kinds-kinds.ensures in
+    let all : List Numbered = all_messages c.in_ok-registered.registered c.in_ok-work.work.reports.items in
     record {
       registered = c.in_ok-registered.registered;
       started = c.started-work.result;
