@@ -1,5 +1,5 @@
 -- Where the ways of indirect targets end (Markup Specification, 'Hyperlink Targets').
-use Rattle.std.specs.Prelude.{◌≡◌, ℕ, zero, suc, ◌+◌, ◌<◌, ◌≤◌, true, List, [], ◌∷◌, length, if◌then◌else◌, is_some, option_map, slice_get, slice_set, Option, Some, None}
+use Rattle.std.specs.Prelude.{◌≡◌, ℕ, zero, suc, ◌+◌, ◌<◌, ◌≤◌, true, List, [], ◌∷◌, length, if◌then◌else◌, is_some, option_map, slice_set, Option, Some, None}
 use Rattle.rst_transform.specs.declared.ways.Answer.{Answer}
 use Rattle.rst_transform.specs.declared.ways.Answer.TheVariants.{Circular}
 use Rattle.rst_transform.specs.declared.ways.Step.{Step}

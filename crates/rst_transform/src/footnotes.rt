@@ -11,11 +11,11 @@ ghost use Rattle.rst_transform.specs.Lists.{at_place};
 
 use crate::holders::text_attr;
 use crate::links::{Addition, Changes, Linked, Outcome, linked_in, put_back, take_root};
+use crate::lists::at_place;
 use crate::note_labels::labels;
 use crate::note_order::{Order, footnote_order, found_by_order, in_order, reference_order};
 use crate::reading::{first_said, line_of, list_said, number_said};
 use crate::settling::settled;
-use crate::lists::at_place;
 use crate::work::Work;
 use rst_names::{Held, Holder, Names, Strength};
 use rst_tree::{Entry, Key, Level, Node, Tag, Text, TreeFault, Value};

@@ -1,4 +1,4 @@
-use Rattle.std.proofs.Common.{rules, ◌≡◌, ◌∙◌, List, ap, refl}
+use Rattle.std.proofs.Common.{rules, ◌∙◌, List, ap, refl}
 use Rattle.rst_transform.specs.Finishing.{all_messages}
 use Rattle.rst_transform.specs.Listed.{Lists}
 use Rattle.rst_transform.specs.Messages.{notes_of, until_halt, Numbered}
@@ -8,9 +8,10 @@ use Rattle.rst_transform.proofs.finishing.finish.Goals as goal
 pub returns-then-not-is_tree-clause-finishes : goal.returns-then-not-is_tree-clause-finishes
 returns-then-not-is_tree-clause-finishes c =
     let first : Lists (messages_in c.in_ok-registered.registered.root) c.in_ok-list.list =
-      c.in_ok-list.ensures.lists c.args.messages c.args.document c.in_ok-registered.ensures c.kinds-kinds.ensures in
-    let all : List Numbered = all_messages c.in_ok-registered.registered c.in_ok-work.work.reports.items in
-    (c.in_ok-root.root, until_halt c.args.settings.now.halt (notes_of all),
+    c.in_ok-list.ensures.lists c.args.messages c.args.document c.in_ok-registered.ensures c.kinds-kinds.ensures in
+    let all : List Numbered = all_messages c.in_ok-registered.registered c.in_ok-work.work.reports.items in (
+      c.in_ok-root.root,
+      until_halt c.args.settings.now.halt (notes_of all),
       record {
         registered = c.in_ok-registered.registered;
         started = c.started-work.result;
@@ -25,12 +26,13 @@ returns-then-not-is_tree-clause-finishes c =
         notes_are = refl;
         root_is = c.in_ok-root.ensures.root _ first c.in_ok-list.ensures.report;
       },
-      search rules)
+      search rules,
+    )
 
 pub returns-clause-finishes : goal.returns-clause-finishes
 returns-clause-finishes c =
     let first : Lists (messages_in c.in_ok-registered.registered.root) c.in_ok-list.list =
-      c.in_ok-list.ensures.lists c.args.messages c.args.document c.in_ok-registered.ensures c.kinds-kinds.ensures in
+    c.in_ok-list.ensures.lists c.args.messages c.args.document c.in_ok-registered.ensures c.kinds-kinds.ensures in
     let all : List Numbered = all_messages c.in_ok-registered.registered c.in_ok-work.work.reports.items in
     record {
       registered = c.in_ok-registered.registered;
@@ -44,7 +46,7 @@ returns-clause-finishes c =
       all = all;
       are_all = refl;
       notes_are =
-        c.end-notes.ensures.notes all (c.in_ok-root.ensures.lists _ first)
-        ∙ ap (λ halt. until_halt halt (notes_of all)) (c.in_ok-root.ensures.halt ∙ c.in_ok-list.ensures.halt);
+          c.end-notes.ensures.notes all (c.in_ok-root.ensures.lists _ first)
+          ∙ ap (λ halt. until_halt halt (notes_of all)) (c.in_ok-root.ensures.halt ∙ c.in_ok-list.ensures.halt);
       root_is = c.sound.ensures ∙ c.in_ok-root.ensures.root _ first c.in_ok-list.ensures.report;
     }
