@@ -4,9 +4,9 @@
     scripts/failing.py [PROGRAM]
 
 A growth that fails gives the one line that memory ran out, and nothing on standard output; so does a read, with its own line. Where a
-write fails, standard error has a front of the messages, and standard output a front of the document, nothing if standard error
-failed. Short reads and writes change nothing. It takes a C compiler, `cc`, and tries nothing where there is none. PROGRAM is by itself
-the one that was built here.
+write fails, standard error has the beginning of the messages, and standard output the beginning of the document, or nothing if standard
+error failed. Short reads and writes change nothing. PROGRAM is by default the one that scripts/program.sh finds. Without a C compiler,
+`cc`, nothing is tried, and the exit status is 77.
 """
 
 import collections
@@ -17,8 +17,10 @@ import subprocess
 import sys
 import tempfile
 
+from program import program
+
 HERE = pathlib.Path(__file__).resolve().parent
-BUILT = HERE.parent / "crates/rst2pseudoxml/out/rst2pseudoxml"
+SKIPPED = 77
 NAME = b"rst2pseudoxml: "
 # So many calls at each end of a long run are tried.
 ENDS = 150
@@ -27,25 +29,31 @@ ENDS = 150
 class Trial:
     """A program over an input, with calls of the C library that fail."""
 
-    def __init__(self, program, folder):
-        self.words = [str(program), "--halt=5"]
+    def __init__(self, path, folder):
+        self.command = [path, "--halt=5"]
         self.counts = os.path.join(folder, "counts")
         self.library = os.path.join(folder, "failing.so")
         self.text = (HERE / "failing.rst").read_bytes()
-        subprocess.run(["cc", "-shared", "-fPIC", "-o", self.library, str(HERE / "failing.c"), "-ldl"], check=True)
+        compiler = subprocess.run(["cc", "-shared", "-fPIC", "-o", self.library, str(HERE / "failing.c"), "-ldl"], check=False)
+        if compiler.returncode:
+            sys.exit("failing.py: cc doesn't compile failing.c")
         self.whole = self.run()
+        if self.whole[0] != 0 or not self.whole[1] or not self.whole[2]:
+            sys.exit("failing.py: the program doesn't show failing.rst and its messages")
 
     def run(self, **failing):
         """The exit status, standard output and standard error of a run."""
-        words = {name: str(value) for name, value in failing.items() if value}
-        env = {"PATH": os.environ.get("PATH", ""), "LD_PRELOAD": self.library, **words}
-        done = subprocess.run(self.words, input=self.text, stdout=subprocess.PIPE, stderr=subprocess.PIPE, env=env, check=False)
+        variables = {name: str(value) for name, value in failing.items() if value}
+        env = {"PATH": os.environ.get("PATH", ""), "LD_PRELOAD": self.library, **variables}
+        done = subprocess.run(self.command, input=self.text, stdout=subprocess.PIPE, stderr=subprocess.PIPE, env=env, check=False)
         return done.returncode, done.stdout, done.stderr
 
     def calls(self, **failing):
         """How many growths, reads and writes a run makes that ends as if none failed."""
         if self.run(COUNTS=self.counts, **failing) != self.whole:
-            raise SystemExit(f"failing.py: {failing} changes what a run shows")
+            sys.exit(f"failing.py: {failing} changes what a run shows")
+        if not os.path.exists(self.counts):
+            sys.exit("failing.py: the program doesn't call the C library that failing.c replaces")
         return map(int, pathlib.Path(self.counts).read_text(encoding="ascii").split())
 
     def of_growth(self, answer):
@@ -69,13 +77,13 @@ def tried(count):
 
 
 def main():
-    program = sys.argv[1] if len(sys.argv) > 1 else BUILT
+    path = program(sys.argv[1:])
     if not shutil.which("cc"):
-        print("failing calls: not tried, since there is no C compiler")
-        return 0
+        print("skipped: there is no C compiler, cc")
+        return SKIPPED
     wrong = collections.Counter()
     with tempfile.TemporaryDirectory() as folder:
-        trial = Trial(program, folder)
+        trial = Trial(path, folder)
         growths, _, _ = trial.calls()
         for on in (0, 1):
             wrong["growths"] += sum(not trial.of_growth(trial.run(FAIL_GROWTH=at, FAIL_ON=on)) for at in range(1, growths + 1))
