@@ -1,8 +1,18 @@
 #!/usr/bin/env bash
 # Tries the edits that ./check leaves out for their time (crates/*/more-edits), of all crates or of those that are named, on a copy
-# of the last commit: the prover must refuse each, as it must those of must-fail/.
+# of the last commit: the prover must refuse each, as it must those of must-fail/. Needs the kit.
 set -euo pipefail
-top=$(cd -- "$(dirname -- "$0")/.." && pwd)
+top=$(CDPATH='' cd -- "$(dirname -- "$0")/.." && pwd)
+for crate in "$@"; do
+  if ! printf '%s\n' "$top"/crates/*/more-edits | grep -qxF -- "$top/crates/$crate/more-edits"; then
+    echo "edits.sh: '$crate' isn't a crate with more-edits/" >&2
+    exit 2
+  fi
+done
+if ! command -v rt >/dev/null; then
+  echo "edits.sh: the command rt of Rattle's kit is missing" >&2
+  exit 1
+fi
 copy=$(mktemp -d) && trap 'rm -rf "$copy"' EXIT
 git clone -q "$top" "$copy/repository"
 cd "$copy/repository/crates"

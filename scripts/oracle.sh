@@ -7,7 +7,7 @@
 #
 # PROGRAM is by default the one that scripts/program.sh finds.
 set -uo pipefail
-top=$(cd -- "$(dirname -- "$0")/.." && pwd)
+top=$(CDPATH='' cd -- "$(dirname -- "$0")/.." && pwd)
 program=${1:-}
 [ $# -gt 0 ] || program=$("$top/scripts/program.sh") || exit 1
 if [ $# -gt 1 ] || ! [ -f "$program" ] || ! [ -x "$program" ]; then
@@ -15,7 +15,7 @@ if [ $# -gt 1 ] || ! [ -f "$program" ] || ! [ -x "$program" ]; then
   exit 1
 fi
 program=$(realpath -- "$program")
-reference=$(cd -- "${RST_REFERENCE:-$top/../shared/oracle}" 2>/dev/null && pwd)
+reference=$(CDPATH='' cd -- "${RST_REFERENCE:-$top/../shared/oracle}" 2>/dev/null && pwd)
 if [ -z "$reference" ]; then
   echo "skipped: there is no reference program beside the checkout"
   exit 77
