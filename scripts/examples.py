@@ -1,5 +1,5 @@
 #!/usr/bin/env python3
-"""Runs every example of the README and of docs/ and compares what it does with what the page shows.
+"""Runs every example of the pages (*.md at the top and in docs/) and compares what it does with what the page shows.
 
     scripts/examples.py [PROGRAM]
     scripts/examples.py --self-test
@@ -157,7 +157,7 @@ def main():
         return self_test()
     path = program(sys.argv[1:])
     passed = failed = 0
-    for page in [TOP / "README.md", *sorted((TOP / "docs").glob("**/*.md"))]:
+    for page in [*sorted(TOP.glob("*.md")), *sorted(TOP.glob("docs/**/*.md"))]:
         name = page.relative_to(TOP)
         try:
             for line, command, these in faults(page.read_text(encoding="utf-8"), path):
