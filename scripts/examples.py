@@ -20,6 +20,7 @@ A command passes if
 """
 
 import pathlib
+import re
 import shlex
 import shutil
 import subprocess
@@ -58,6 +59,9 @@ SELF_TEST = (
     ("```console\n```\n", "line 1: an example without a command"),
     ("```console\n$ true\n", "line 1: an example without an end"),
     ("``` console\n$ false\n```\n", "line 1: an example begins with ```console"),
+    ("```console \n$ false\n```\n", "line 1: an example begins with ```console"),
+    ("~~~console\n$ false\n~~~\n", "line 1: an example begins with ```console"),
+    ("```console\n$ printf 'a\\r\\n'\na\n```\n", "prints"),
     ("```sh\n$ false\n```\n", None),
 )
 
@@ -69,7 +73,7 @@ def blocks(text):
         if start is None:
             if line == "```console":
                 start, pairs = number, []
-            elif line.lstrip(" `~") == "console" and line != "console":
+            elif re.match(r"\s*(```+|~~~+)\s*console\b", line):
                 raise ValueError(f"line {number}: an example begins with ```console")
         elif line == "```":
             if not pairs:
@@ -108,7 +112,7 @@ def results(commands, path):
         subprocess.run(["bash", "-c", script_of(commands, path, folder)], cwd=TOP, stdin=subprocess.DEVNULL, check=False)
         for number in range(len(commands)):
             files = [pathlib.Path(folder, f"{number}.{kind}") for kind in ("out", "err", "ends")]
-            out, err, ends = (file.read_text("utf-8", "replace") if file.exists() else None for file in files)
+            out, err, ends = (file.read_bytes().decode("utf-8", "replace") if file.exists() else None for file in files)
             yield out or "", err or "", ends and ends.split()
 
 
