@@ -1,0 +1,61 @@
+#!/usr/bin/env bash
+# Compares the tree of each X.rst in a folder with the file X.tree beside it, and shows the differences.
+#
+#     check-trees.sh [--update] [--] FOLDER
+#
+# With --update it writes the trees instead. The status is 0 if all trees are as they were (or written), 1 if one isn't, is
+# missing, or can't be made, 2 if nothing was compared. A page is read by standard input, so its source is `<stdin>` on every
+# machine. The program is that of the checkout that this script is in; a copy of the script runs the `rst2pseudoxml` on the PATH.
+set -u
+program=$(dirname -- "$(dirname -- "$(readlink -f -- "$0")")")/rst2pseudoxml
+[ -f "$program" ] || program=rst2pseudoxml
+
+refuse() { # LINE
+  printf 'check-trees.sh: %s\n' "$1" >&2
+  exit 2
+}
+
+write_tree() { # TREE: by a file beside it, so that it is never half written
+  if cp -- "$made/tree" "$1.new" && mv -fT -- "$1.new" "$1"; then
+    printf 'written: %s\n' "$1"
+  else
+    rm -f -- "$1.new"
+    return 1
+  fi
+}
+
+check_tree() { # PAGE
+  local tree=${1%.rst}.tree status
+  "$program" --verbose --halt=none >"$made/tree" 2>"$made/said" <"$1"
+  status=$?
+  if [ "$status" != 0 ]; then
+    printf '%s: ' "$1" # the program's line names no file, and there is none where the program was killed
+    [ -s "$made/said" ] || printf 'rst2pseudoxml: ended with status %d\n' "$status"
+    cat -- "$made/said"
+    return 1
+  fi
+  if [ "$update" = yes ]; then
+    cmp -s -- "$tree" "$made/tree" || write_tree "$tree"
+  elif [ -e "$tree" ]; then
+    diff -au --label "$tree" --label "what $1 is now" -- "$tree" "$made/tree"
+  else
+    printf '%s: there is no %s; --update writes it\n' "$1" "$tree"
+    return 1
+  fi
+}
+
+update=no
+[ "${1-}" = --update ] && update=yes && shift
+[ "${1-}" = -- ] && shift
+[ $# = 1 ] || refuse "usage: check-trees.sh [--update] [--] FOLDER"
+case $1 in -*) folder=./$1 ;; *) folder=$1 ;; esac
+shopt -s nullglob
+pages=("$folder"/*.rst)
+[ ${#pages[@]} -gt 0 ] || refuse "there is no .rst file in $1"
+command -v -- "$program" >/dev/null || refuse "there is no rst2pseudoxml on the PATH"
+made=$(mktemp -d) && trap 'rm -rf -- "$made"' EXIT || exit 2
+failed=0
+for page in "${pages[@]}"; do
+  check_tree "$page" || failed=1
+done
+exit $failed
