@@ -1,0 +1,81 @@
+#!/usr/bin/env python3
+"""Tests of the module rst2pseudoxml; pytest runs them, and so does python3 by itself."""
+
+import unittest
+
+from rst2pseudoxml import Refused, assert_tree, tree
+
+HELLO = '<document source="<stdin>">\n    <paragraph>\n        Hello\n'
+
+
+class Trees(unittest.TestCase):
+    def test_tree(self):
+        self.assertEqual(tree("Hello"), HELLO)
+
+    def test_characters_outside_ascii(self):
+        self.assertEqual(tree("Grüße"), HELLO.replace("Hello", "Grüße"))
+
+    def test_options(self):
+        self.assertIn("Possible title underline", tree("Title\n--\n", "--verbose"))
+        self.assertNotIn("Possible title underline", tree("Title\n--\n"))
+
+    def test_severe_messages_do_not_halt(self):
+        self.assertIn('level="4"', tree("- One\n  ===\n", "--exit-status=info"))
+
+    def test_refused_text(self):
+        with self.assertRaisesRegex(Refused, "^rst2pseudoxml: line 1: nesting too deep$"):
+            tree("- " * 251 + "a")
+
+    def test_refused_options(self):
+        with self.assertRaisesRegex(Refused, "^rst2pseudoxml: bad level$"):
+            tree("Hello", "--report=loud")
+
+
+class Assertions(unittest.TestCase):
+    def test_equal(self):
+        assert_tree("Hello", HELLO)
+
+    def test_indented(self):
+        # In an editor that takes spaces off the ends of lines, write the space at such an end as \x20.
+        assert_tree(
+            "A **word**.",
+            """
+            <document source="<stdin>">
+                <paragraph>
+                    A\x20
+                    <strong>
+                        word
+                    .
+            """,
+        )
+
+    def test_options(self):
+        assert_tree("a\tb", HELLO.replace("Hello", "a   b"), "--tab-width=4")
+
+    def test_difference(self):
+        with self.assertRaises(AssertionError) as failed:
+            assert_tree("*Hello*", HELLO)
+        self.assertEqual(
+            str(failed.exception).split("\n"),
+            [
+                "the tree differs",
+                "--- expected",
+                "+++ the tree",
+                "@@ -1,4 +1,5 @@",
+                ' <document source="<stdin>">',
+                "     <paragraph>",
+                "-        Hello",
+                "+        <emphasis>",
+                "+            Hello",
+                " ",
+            ],
+        )
+
+    def test_spaces_and_line_ends_count(self):
+        for expected in (HELLO.replace("Hello", "Hello "), HELLO + "\n", HELLO.rstrip("\n"), " " + HELLO, ""):
+            with self.subTest(expected=expected), self.assertRaises(AssertionError):
+                assert_tree("Hello", expected)
+
+
+if __name__ == "__main__":
+    unittest.main()

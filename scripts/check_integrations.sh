@@ -1,0 +1,171 @@
+#!/usr/bin/env bash
+# Tests integrations/, the hook for pre-commit and the action for GitHub with the tools that this machine has: python3, pytest,
+# the module yaml, pre-commit, Emacs, Flycheck. Prints a line for each that is skipped. The status is 0 if what was run passed,
+# 1 if a test failed, 77 if nothing could be run. It leaves nothing in the checkout.
+set -u
+top=$(cd -- "$(dirname -- "$0")/.." && pwd)
+here=$top/integrations
+folder=$(mktemp -d) && trap 'rm -rf -- "$folder"' EXIT && cd -- "$folder" || exit 1
+export PYTHONDONTWRITEBYTECODE=1 PRE_COMMIT_HOME=$folder/kept
+if ! "$top/rst2pseudoxml" >out 2>&1 </dev/null; then
+  echo "skipped: integrations, as no program runs here: $(tail -n 1 out)"
+  exit 77
+fi
+wrong=0
+same() { # NAME WANTED GOT
+  [ "$2" = "$3" ] && return
+  wrong=$((wrong + 1))
+  printf '%s: wanted\n%s\ngot\n%s\n' "$1" "$2" "$3"
+}
+answer() { # COMMAND ARGUMENT..: the status, and what was printed on both streams
+  "$@" >out 2>&1 </dev/null
+  echo "$? $(cat out)"
+}
+shows() { # NAME STATUS LINE COMMAND ARGUMENT..: the line is among those that are printed
+  local name=$1 status=$2 line=$3 got
+  shift 3
+  got=$(answer "$@")
+  [ "${got%% *}" = "$status" ] && grep -qxF -e "$line" out && return
+  same "$name" "$status .. $line" "$got"
+}
+succeeds() { # NAME COMMAND ARGUMENT..
+  local name=$1 got
+  shift
+  got=$(answer "$@")
+  [ "${got%% *}" = 0 ] || same "$name" 0 "$got"
+}
+python_with() { # MODULE: a python3 that has it
+  local python
+  for python in python3 /usr/bin/python3; do
+    "$python" -c "import $1" 2>/dev/null && echo "$python" && return
+  done
+  return 1
+}
+
+check_pages() {
+  local check=$here/check-pages.sh
+  same 'a good page' '0 ' "$(answer "$check" good.rst)"
+  same 'a bad page' "1 a b.rst:$warning" "$(answer "$check" good.rst 'a b.rst' good.rst)"
+  same 'a name that begins with -' "1 ./-x.rst:$warning" "$(answer "$check" -- -x.rst)"
+  same 'a lower level' "1 info.rst:1: (INFO/1) Enumerated list start value not ordinal-1: \"c\" (ordinal 3)" \
+    "$(answer "$check" --level=info info.rst)"
+  same 'a higher level' '0 ' "$(answer "$check" --level=error -- 'a b.rst')"
+  same 'refused pages' "1 deep.rst: rst2pseudoxml: line 3: nesting too deep
+bytes.rst: rst2pseudoxml: not UTF-8 at byte 1
+a folder: rst2pseudoxml: read failed
+none.rst: rst2pseudoxml: cannot open none.rst
+a b.rst:$warning" "$(answer "$check" deep.rst bytes.rst 'a folder' none.rst 'a b.rst')"
+  same 'no file' '2 check-pages.sh: no file was named (usage: check-pages.sh [--level=LEVEL] [--] FILE..)' "$(answer "$check" --)"
+  same 'no option' '2 check-pages.sh: no such option: -x.rst' "$(answer "$check" -x.rst)"
+  same 'no level' '2 check-pages.sh: no such level: loud' "$(answer "$check" --level=loud good.rst)"
+}
+
+check_trees() {
+  local check=$here/check-trees.sh
+  mkdir trees && cp -- 'a b.rst' good.rst trees
+  same 'missing trees' '1 trees/a b.rst: there is no trees/a b.tree; --update writes it
+trees/good.rst: there is no trees/good.tree; --update writes it' "$(answer "$check" trees)"
+  same 'written trees' $'0 written: trees/a b.tree\nwritten: trees/good.tree' "$(answer "$check" --update trees)"
+  same 'equal trees' '0 ' "$(answer "$check" trees)"
+  same 'nothing to write' '0 ' "$(answer "$check" --update -- trees)"
+  same 'a written tree' "$("$top/rst2pseudoxml" <good.rst)" "$(cat trees/good.tree)"
+  echo '*fine*' >trees/good.rst && cp deep.rst trees
+  same 'a changed tree and a refused page' '1 trees/deep.rst: rst2pseudoxml: line 3: nesting too deep
+--- trees/good.tree
++++ what trees/good.rst is now
+@@ -1,3 +1,4 @@
+ <document source="<stdin>">
+     <paragraph>
+-        fine
++        <emphasis>
++            fine' "$(answer "$check" trees)"
+  same 'no tree of a refused page' $'1 trees/deep.rst: rst2pseudoxml: line 3: nesting too deep\nwritten: trees/good.tree' \
+    "$(answer "$check" --update trees)"
+  same 'the files' 'a b.rst a b.tree deep.rst good.rst good.tree' "$(cd trees && echo *)"
+  same 'no page' '2 check-trees.sh: there is no .rst file in a folder' "$(answer "$check" 'a folder')"
+  same 'no folder' '2 check-trees.sh: usage: check-trees.sh [--update] [--] FOLDER' "$(answer "$check" --update)"
+}
+
+check_copies() { # they run the program on the PATH, where those of the checkout run that of the checkout
+  mkdir -p copy/of path && cp -- "$here"/check-*.sh copy/of
+  printf '#!/bin/sh\necho rst2pseudoxml: of the PATH >&2\nexit 1\n' >path/rst2pseudoxml
+  chmod +x path/rst2pseudoxml
+  local PATH=$folder/path:$PATH
+  same 'pages by the checkout' '0 ' "$(answer "$here/check-pages.sh" good.rst)"
+  same 'pages by the PATH' '1 good.rst: rst2pseudoxml: of the PATH' "$(answer copy/of/check-pages.sh good.rst)"
+  shows 'trees by the PATH' 1 './good.rst: rst2pseudoxml: of the PATH' copy/of/check-trees.sh .
+  # shellcheck disable=SC2016
+  printf '#!/bin/sh\nkill -9 $$\n' >path/rst2pseudoxml
+  shows 'a program that is killed' 1 'good.rst: rst2pseudoxml: ended with status 137' copy/of/check-pages.sh good.rst
+}
+
+check_python() {
+  if ! command -v python3 >/dev/null; then
+    echo "skipped: the Python module, the problem matchers, pytest and the action, as there is no python3"
+    return
+  fi
+  succeeds 'the Python module' python3 "$here/test_rst2pseudoxml.py"
+  succeeds 'the problem matchers' python3 "$here/test_problem_matchers.py"
+  local python
+  if python=$(python_with pytest); then
+    succeeds 'the Python module under pytest' "$python" -m pytest -p no:cacheprovider "$here/test_rst2pseudoxml.py"
+    cat >test_fails.py <<'END'
+from rst2pseudoxml import assert_tree
+
+def test_fails():
+    assert_tree("Some *text*", '<document source="<stdin>">\n')
+END
+    shows 'a test that fails under pytest' 1 'E       +        <emphasis>' \
+      env PYTHONPATH="$here" "$python" -m pytest -p no:cacheprovider test_fails.py
+  else
+    echo "skipped: pytest, as no python3 here has it"
+  fi
+  if python=$(python_with yaml); then
+    succeeds 'the action' "$python" "$here/test_action.py"
+  else
+    echo "skipped: the action, as no python3 here has the module yaml"
+  fi
+}
+
+check_hook() {
+  if ! command -v pre-commit >/dev/null || ! git -C "$top" rev-parse --git-dir >/dev/null 2>&1; then
+    echo "skipped: the hook, as there is no pre-commit, or the checkout is no git repository"
+    return
+  fi
+  if ! grep -qx "sources $("$top/scripts/digest.sh")" "$top/dist/BUILT"; then
+    echo "skipped: the hook, as it runs the program in dist/, which isn't of these sources"
+    return
+  fi
+  mkdir pages && cd pages || exit 1
+  git init -q . && cp -- ../good.rst ../-x.rst . && git add .
+  shows 'the hook on a bad page' 1 "./-x.rst:$warning" pre-commit try-repo "$top" rst2pseudoxml --all-files
+  git rm -qf -- -x.rst
+  succeeds 'the hook on a good page' pre-commit try-repo "$top" rst2pseudoxml --all-files
+  cd ..
+}
+
+check_emacs() {
+  if ! command -v emacs >/dev/null; then
+    echo "skipped: Emacs, as there is none"
+    return
+  fi
+  mkdir home tools && ln -s "$top/rst2pseudoxml" tools
+  succeeds 'Emacs' env HOME="$folder/home" PATH="$folder/tools:$PATH" timeout 15 emacs -q --batch -l "$here/test-emacs.el"
+  grep '^skipped: ' out
+}
+
+warning='1: (WARNING/2) Inline emphasis start-string without end-string.'
+echo fine >good.rst
+echo 'A *word' | tee -- 'a b.rst' ./-x.rst >/dev/null
+echo 'c. one' >info.rst
+printf 'text\n\n%sa\n' "$(printf -- '- %.0s' {1..251})" >deep.rst
+printf 'a\377' >bytes.rst
+mkdir 'a folder'
+check_pages
+check_trees
+check_copies
+check_python
+check_hook
+check_emacs
+echo "integrations: $wrong wrong"
+[ "$wrong" = 0 ]
