@@ -108,15 +108,15 @@ check_python() {
   succeeds 'the problem matchers' python3 "$here/test_problem_matchers.py"
   local python
   if python=$(python_with pytest); then
-    succeeds 'the Python module under pytest' "$python" -m pytest -p no:cacheprovider "$here/test_rst2pseudoxml.py"
     cat >test_fails.py <<'END'
 from rst2pseudoxml import assert_tree
 
 def test_fails():
     assert_tree("Some *text*", '<document source="<stdin>">\n')
 END
-    shows 'a test that fails under pytest' 1 'E       +        <emphasis>' \
-      env PYTHONPATH="$here" "$python" -m pytest -p no:cacheprovider test_fails.py
+    shows 'pytest, with a test that fails' 1 'E       +        <emphasis>' \
+      env PYTHONPATH="$here" "$python" -m pytest -p no:cacheprovider test_fails.py "$here/test_rst2pseudoxml.py"
+    grep -q '1 failed, 11 passed' out || same 'pytest, how many tests fail' '1 failed, 11 passed' "$(tail -n 1 out)"
   else
     echo "skipped: pytest, as no python3 here has it"
   fi
@@ -127,8 +127,9 @@ END
   fi
 }
 
-check_hook() {
-  if ! command -v pre-commit >/dev/null || ! git -C "$top" rev-parse --git-dir >/dev/null 2>&1; then
+check_hook() { # as it was last committed, since pre-commit runs a clone
+  local commit
+  if ! command -v pre-commit >/dev/null || ! commit=$(git -C "$top" rev-parse HEAD 2>/dev/null); then
     echo "skipped: the hook, as there is no pre-commit, or the checkout is no git repository"
     return
   fi
@@ -136,11 +137,18 @@ check_hook() {
     echo "skipped: the hook, as it runs the program in dist/, which isn't of these sources"
     return
   fi
-  mkdir pages && cd pages || exit 1
-  git init -q . && cp -- ../good.rst ../-x.rst . && git add .
-  shows 'the hook on a bad page' 1 "./-x.rst:$warning" pre-commit try-repo "$top" rst2pseudoxml --all-files
+  mkdir pages && cp -- good.rst ./-x.rst pages && cd pages || exit 1
+  cat >.pre-commit-config.yaml <<END
+repos:
+  - repo: "$top"
+    rev: $commit
+    hooks:
+      - id: rst2pseudoxml
+END
+  git init -q . && git add .
+  shows 'the hook on a bad page' 1 "./-x.rst:$warning" pre-commit run --all-files
   git rm -qf -- -x.rst
-  succeeds 'the hook on a good page' pre-commit try-repo "$top" rst2pseudoxml --all-files
+  succeeds 'the hook on a good page' pre-commit run --all-files
   cd ..
 }
 
