@@ -1,7 +1,8 @@
 #!/usr/bin/env python3
 """Runs the step of the action as GitHub does: its text by bash, in the workspace, with the variables that GitHub sets.
 
-It needs the module yaml. pytest runs it as well. The hook's file is read too; scripts/check_integrations.sh runs the hook.
+It needs the module yaml. pytest runs it as well. The file of the hook for pre-commit is only read here; the hook itself is run
+by scripts/check_integrations.sh.
 """
 
 import os
@@ -29,10 +30,13 @@ def run_step(workspace, **given):
         (variables[name],) = [text for key, text in inputs.items() if value == "${{ inputs.%s }}" % key]
     script = workspace / "step.sh"
     script.write_text(step["run"])
-    # GitHub's `shell: bash`.
-    command = ["bash", "--noprofile", "--norc", "-eo", "pipefail", str(script)]
     done = subprocess.run(
-        command, cwd=workspace, env={**os.environ, **variables}, stdin=subprocess.DEVNULL, stdout=subprocess.PIPE, stderr=subprocess.STDOUT
+        ["bash", "--noprofile", "--norc", "-eo", "pipefail", script],  # GitHub's `shell: bash`
+        cwd=workspace,
+        env={**os.environ, **variables},
+        stdin=subprocess.DEVNULL,
+        stdout=subprocess.PIPE,
+        stderr=subprocess.STDOUT,
     )
     first, *lines = done.stdout.decode("utf-8").split("\n")
     assert first == f"::add-matcher::{MATCHER}" and MATCHER.is_file(), first

@@ -149,6 +149,7 @@ END
   shows 'the hook on a bad page' 1 "./-x.rst:$warning" pre-commit run --all-files
   git rm -qf -- -x.rst
   succeeds 'the hook on a good page' pre-commit run --all-files
+  grep -q 'Passed$' out || same 'the hook ran' 'Passed' "$(cat out)"
   cd ..
 }
 
