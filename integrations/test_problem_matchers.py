@@ -35,7 +35,7 @@ def github_matchers():
         (pattern,) = matcher["pattern"]
         # GitHub knows no other severities, and leaves out a line with another one.
         assert matcher["severity"] in ("error", "warning", "notice"), matcher
-        yield {"notice": "info"}.get(matcher["severity"], matcher["severity"]), pattern
+        yield matcher["severity"].replace("notice", "info"), pattern
 
 
 def vscode_matchers():
@@ -47,21 +47,24 @@ def vscode_matchers():
         yield matcher["severity"], pattern
 
 
+def problem(text, severity, pattern):
+    """What a matcher finds in a line of output: (file, line, severity, message), or None."""
+    match = re.search(pattern["regexp"], text, re.ASCII)
+    if match is None:
+        return None
+    part = {key: match[group] for key, group in pattern.items() if isinstance(group, int)}
+    # A severity that VS Code doesn't know gives way to that of the matcher.
+    said = part.get("severity", "").lower()
+    known = said if said in ("error", "warning", "info") else severity
+    return part["file"], int(part["line"]) if "line" in part else None, known, part["message"]
+
+
 def problems(output, matchers):
-    """What the matchers find in lines of output: (file, line, severity, message). No two of them may find one line."""
+    """What the matchers find in the lines of output. No two of them may find one line."""
     found = []
     for text in output.split("\n"):
-        here = []
-        for severity, pattern in matchers:
-            match = re.search(pattern["regexp"], text, re.ASCII)
-            if match is None:
-                continue
-            part = {key: match[group] for key, group in pattern.items() if isinstance(group, int)}
-            # A severity that VS Code doesn't know gives way to that of the matcher.
-            said = part.get("severity", "").lower()
-            known = said if said in ("error", "warning", "info") else severity
-            line = int(part["line"]) if "line" in part else None
-            here.append((part["file"], line, known, part["message"]))
+        here = [problem(text, *matcher) for matcher in matchers]
+        here = [one for one in here if one is not None]
         assert len(here) <= 1, (text, here)
         found += here
     return found
@@ -73,17 +76,18 @@ def run(folder, *command):
 
 
 class Matchers(unittest.TestCase):
-    def setUp(self):
+    @classmethod
+    def setUpClass(cls):
         kept = tempfile.TemporaryDirectory()
-        self.addCleanup(kept.cleanup)
-        self.folder = pathlib.Path(kept.name)
+        cls.addClassCleanup(kept.cleanup)
+        cls.folder = pathlib.Path(kept.name)
         for name, text in PAGES.items():
             if text is None:
-                (self.folder / name).mkdir()
+                (cls.folder / name).mkdir()
             else:
-                (self.folder / name).write_text(text)
+                (cls.folder / name).write_text(text)
         checker = str(HERE / "check-pages.sh")
-        self.output = run(self.folder, checker, "--level=info", *PAGES, "missing.rst")
+        cls.output = run(cls.folder, checker, "--level=info", *PAGES, "missing.rst")
 
     def test_github(self):
         self.assertEqual(problems(self.output, list(github_matchers())), WANTED)

@@ -69,9 +69,8 @@ trees/good.rst: there is no trees/good.tree; --update writes it' "$(answer "$che
   same 'equal trees' '0 ' "$(answer "$check" trees)"
   same 'nothing to write' '0 ' "$(answer "$check" --update -- trees)"
   same 'a written tree' "$("$top/rst2pseudoxml" <good.rst)" "$(cat trees/good.tree)"
-  echo '*fine*' >trees/good.rst && cp deep.rst trees
-  same 'a changed tree and a refused page' '1 trees/deep.rst: rst2pseudoxml: line 3: nesting too deep
---- trees/good.tree
+  echo '*fine*' >trees/good.rst
+  same 'a changed tree' '1 --- trees/good.tree
 +++ what trees/good.rst is now
 @@ -1,3 +1,4 @@
  <document source="<stdin>">
@@ -79,8 +78,10 @@ trees/good.rst: there is no trees/good.tree; --update writes it' "$(answer "$che
 -        fine
 +        <emphasis>
 +            fine' "$(answer "$check" trees)"
+  cp deep.rst trees
   same 'no tree of a refused page' $'1 trees/deep.rst: rst2pseudoxml: line 3: nesting too deep\nwritten: trees/good.tree' \
     "$(answer "$check" --update trees)"
+  same 'a refused page' '1 trees/deep.rst: rst2pseudoxml: line 3: nesting too deep' "$(answer "$check" trees)"
   same 'the files' 'a b.rst a b.tree deep.rst good.rst good.tree' "$(cd trees && echo *)"
   same 'no page' '2 check-trees.sh: there is no .rst file in a folder' "$(answer "$check" 'a folder')"
   same 'no folder' '2 check-trees.sh: usage: check-trees.sh [--update] [--] FOLDER' "$(answer "$check" --update)"
@@ -159,7 +160,7 @@ check_emacs() {
     return
   fi
   mkdir home tools && ln -s "$top/rst2pseudoxml" tools
-  succeeds 'Emacs' env HOME="$folder/home" PATH="$folder/tools:$PATH" timeout 15 emacs -q --batch -l "$here/test-emacs.el"
+  succeeds 'Emacs' env HOME="$folder/home" PATH="$folder/tools:$PATH" timeout 60 emacs -q --batch -l "$here/test-emacs.el"
   grep '^skipped: ' out
 }
 
