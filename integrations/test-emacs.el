@@ -47,9 +47,9 @@
   (test-same "Flycheck, messages"
              '((1 info "Enumerated list start value not ordinal-1: \"c\" (ordinal 3)")
                (3 warning "Inline emphasis start-string without end-string.")
-               (5 error "Error in \"image\" directive:\n1 argument(s) required, 0 supplied.")
-               (8 error "Unexpected section title."))
-             (test-errors "c. one\n\nA *word\n\n.. image::\n\n- One\n  ===\n"))
+               (6 error "Unexpected section title.")
+               (8 error "Error in \"image\" directive:\n1 argument(s) required, 0 supplied."))
+             (test-errors "c. one\n\nA *word\n\n- One\n  ===\n\n.. image::\n"))
   (test-same "Flycheck, no messages" nil (test-errors "A *word*\n"))
   (test-same "Flycheck, a refusal with a line"
              '((3 error "nesting too deep"))
