@@ -4,3 +4,4 @@ pub mod MessageLemmas
 pub mod ReadLemmas
 pub mod TermLemmas
 pub mod LineBlockLemmas
+pub mod ReadingBridges

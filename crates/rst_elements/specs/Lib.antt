@@ -7,3 +7,5 @@ pub mod Admonitions
 pub mod LineBlocks
 pub mod Options
 pub mod Terms
+pub mod Readings
+pub mod Choices

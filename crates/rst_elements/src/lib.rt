@@ -5,6 +5,7 @@
 mod directives;
 mod images;
 mod labels;
+mod laws;
 mod line_blocks;
 mod lists;
 mod messages;
@@ -20,6 +21,7 @@ mod values;
 
 pub use directives::{code_block, directive_element, with_title_class};
 pub use images::{figure, image};
+pub use laws::texts_are_read;
 pub use labels::{citation, footnote};
 pub use line_blocks::{BarText, LineBlockFault, line_block};
 pub use lists::{bullet_list, enumerated_list, option, start_message};

@@ -8,3 +8,4 @@ pub mod PieceLemmas
 pub mod WordLemmas
 pub mod CalmLemmas
 pub mod QuietLemmas
+pub mod ReadingLemmas

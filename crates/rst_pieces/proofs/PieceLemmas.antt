@@ -67,7 +67,7 @@ told-start t items e ps h = rw e h
 pub told-other : (t : Text) (from : ℕ) (items : List Piece) (p : Piece) → Told t from items → piece_at t from from ≡ Some p → Told t p.to (items ++ p ∷ [])
 told-other t from items p told begins ps h = rw append_assoc (told (p ∷ ps) (other p ps begins h))
 
-is-plain : (t : Text) (from at : ℕ) → from < at → at ≤ length t → HasNoStart t from from at → IsPlain t from (plain_from from at)
+pub is-plain : (t : Text) (from at : ℕ) → from < at → at ≤ length t → HasNoStart t from from at → IsPlain t from (plain_from from at)
 is-plain t from at some within none = record { is_plain = refl; some = some; within = within; none = none }
 
 pub told-plain : (t : Text) (from at : ℕ) (items : List Piece) (p : Piece) → Told t from items → from < at → at ≤ length t → HasNoStart t from from at → piece_at t from at ≡ Some p → Told t p.to ((items ++ plain_from from at ∷ []) ++ p ∷ [])

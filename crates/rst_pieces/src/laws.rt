@@ -3,6 +3,7 @@ ghost use Rattle.std.specs.Prelude.{◌≡◌, ℕ, ◌<◌, true, List, [], ◌
 ghost use Rattle.rst_pieces.specs.declared.piece.Piece.{Piece};
 ghost use Rattle.rst_pieces.specs.Pieces.{plain_from, IsPieces};
 ghost use Rattle.rst_pieces.specs.Quiet.{quiet};
+ghost use Rattle.rst_pieces.specs.Reading.{pieces_of};
 
 /// Exactly one list is that of the pieces of a text.
 pub fn one_list_of_pieces()
@@ -14,4 +15,9 @@ pub fn one_list_of_pieces()
 pub fn quiet_is_one_piece()
     ensures one { (t : List ℕ) → quiet t ≡ true → 0 < length t → IsPieces t 0 (plain_from 0 (length t) ∷ []) }
     ensures none { IsPieces [] 0 [] }
+{}
+
+/// The pieces of a text are those that are found one behind the other.
+pub fn pieces_are_found()
+    ensures { (t : List ℕ) → IsPieces t 0 (pieces_of t) }
 {}

@@ -18,7 +18,7 @@ mod words;
 
 pub use characters::{has, is_dark};
 pub use escaping::{escapes, has_backslash, unescaped};
-pub use laws::{one_list_of_pieces, quiet_is_one_piece};
+pub use laws::{one_list_of_pieces, pieces_are_found, quiet_is_one_piece};
 pub use names::{is_joint, is_simple_name};
 pub use piece::{Kind, Markup, Piece, Suffix};
 pub use quiet::is_quiet;
