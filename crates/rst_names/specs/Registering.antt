@@ -18,7 +18,7 @@ use Rattle.rst_names.specs.declared.registry.Registry.{Registry}
 use Rattle.rst_names.specs.declared.registry.Standing.{Standing}
 use Rattle.rst_names.specs.Gathered.{number_at, own_name}
 use Rattle.rst_names.specs.Ids.{is_taken, numbered, IsLeastFree, Takes}
-use Rattle.rst_names.specs.Names.{held_by}
+use Rattle.rst_names.specs.Names.{held_by, kept_for}
 use Rattle.rst_names.specs.Registry.{held_in, rule_named, IsDefined, IsNamed}
 use Rattle.rst_names.specs.Written.{given, left_behind, problematic_id, with_given}
 
@@ -90,6 +90,7 @@ AllRegistered earlier (x ∷ xs) before after = (between : Registry) × Register
 pub record KnowsNothing (messages : ℕ) (first : Registry) : Type 0 where
   pub ids : (id : List ℕ) → is_taken first.ids id ≡ false
   pub names : (name : List ℕ) → held_by first.names name ≡ None
+  pub uris : (name : List ℕ) → kept_for first.names name ≡ None
   pub definitions : (name : List ℕ) → get_by_text first.definitions name ≡ None
   pub standings : first.standings.items ≡ []
   pub numbers : first.links.numbers.items ≡ []

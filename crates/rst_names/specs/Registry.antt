@@ -24,7 +24,7 @@ use Rattle.rst_names.specs.declared.rulings.Now.TheVariants.{Old, New, Nobody}
 use Rattle.rst_names.specs.declared.rulings.Ruling.{Ruling}
 use Rattle.rst_names.specs.Gathered.{own_name, text_at}
 use Rattle.rst_names.specs.Ids.{is_taken, IsIdFor, Takes}
-use Rattle.rst_names.specs.Names.{held_by, moved, Knows}
+use Rattle.rst_names.specs.Names.{held_by, moved, Knows, SameUris}
 use Rattle.rst_names.specs.Notices.{duplicate_definition, duplicate_name}
 use Rattle.rst_names.specs.Rulings.{ruling_for}
 
@@ -113,6 +113,7 @@ pub record IsNamed (rule : Ruling) (new : Item) (before after : Registry) (s : S
   pub is_taken_now : Takes id before.ids after.ids
   pub stands : s ≡ standing (next_number before) (Some id) rule.new_loses
   pub names : Knows (own_name new) (known_by rule.now (next_number before) new id (held_in before new)) before.names after.names
+  pub uris : SameUris before.names after.names
   pub others : after.standings.items ≡ (if rule.old_loses then losing (holder_in (held_in before new)) before.standings.items else before.standings.items)
   pub notices : deque_items after.notices.queue ≡ deque_items before.notices.queue ++ notices_by rule.complaint (next_number before) new id
   pub definitions : after.definitions ≡ before.definitions

@@ -6,7 +6,7 @@ ghost use Rattle.rst_tree.specs.declared.key.Key.TheVariants.{Refuri};
 ghost use Rattle.rst_marked.specs.Registered.{item_of};
 ghost use Rattle.rst_names.specs.Gathered.{text_at};
 ghost use Rattle.rst_names.specs.Gathered as spec;
-ghost use Rattle.rst_names.specs.Names.{held_by, Knows};
+ghost use Rattle.rst_names.specs.Names.{held_by, Knows, SameUris};
 ghost use Rattle.rst_names.specs.Registering.{with_named, IsAdded, IsLinked, IsRegistry, KnowsNothing, Registers, Stands};
 ghost use Rattle.rst_names.specs.Registry.{strength_of, is_same_text, is_shared, rule_by, known_by, losing, holder_in, held_in, next_number, notices_by, rule_named, definer, definition_notices, IsNamed, IsDefined};
 
@@ -240,7 +240,8 @@ fn follow(
     serial: u64,
     id: &Text,
 ) -> Result<(), TreeFault>
-    ensures { Gives (λ _. Knows (spec.own_name (item_of new.entry)) (known_by now serial (item_of new.entry) id.now (held_by names.old (spec.own_name (item_of new.entry)))) names.old names.new) result }
+    ensures names { Gives (λ _. Knows (spec.own_name (item_of new.entry)) (known_by now serial (item_of new.entry) id.now (held_by names.old (spec.own_name (item_of new.entry)))) names.old names.new) result }
+    ensures uris { Gives (λ _. SameUris names.old names.new) result }
 {
     match now {
         Now::Old => Ok(()),
