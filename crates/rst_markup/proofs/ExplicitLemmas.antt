@@ -328,3 +328,9 @@ comment_to cause m X = omega (arith, hanging_to 0 m.cut false X)
 
 pub alone_reach : (m : Marker) (X : Block) → is_blank (next_text X) ≡ false → reach (explicit_end 0 (dots_alone 0 m X)) X ≡ reach (hanging_size X) X
 alone_reach m X e = rw e (ap (λ k. reach k X) (omega (arith, hanging_to 0 m.cut true X)))
+
+pub end_size : (n : ℕ) (f g : ExplicitForm) (m : Marker) (X : Block) → f ≡ g → explicit_end 0 (explicit_by g 0 m X) ≡ n → explicit_end 0 (explicit_by f 0 m X) ≡ n
+end_size n f g m X e to = ap (λ x. explicit_end 0 (explicit_by x 0 m X)) e ∙ to
+
+pub alone_size : (m : Marker) (X : Block) → is_blank (next_text X) ≡ false → explicit_end 0 (dots_alone 0 m X) ≡ hanging_size X
+alone_size m X e = rw e (omega (arith, hanging_to 0 m.cut true X))

@@ -29,6 +29,7 @@ pub fn adorned_at(
     requires few { looks.old < 2 ^ 120 + 2 ^ 70 }
     ensures form { result ≡ adorned_form titles mark (next_text (drop i (block_of view.now))) (spec.third_text (drop i (block_of view.now))) }
     ensures looks { looks.new ≤ looks.old + spec.overline_looks (next_text (drop i (block_of view.now))) }
+    ensures low { looks.old ≤ looks.new }
 {
     if !titles {
         return adorned_below(mark);

@@ -27,6 +27,7 @@ fn level_end(view: &View<'_>, from: usize, indent: usize, looks: &mut Looks) -> 
     requires few { looks.old < 2 ^ 120 + 2 }
     ensures end { result ≡ option_map (λ n. from + n) (spec.level_lines indent (drop from (block_of view.now))) }
     ensures looks { looks.new ≤ looks.old + lines_while Filled (drop from (block_of view.now)) + 1 }
+    ensures low { looks.old ≤ looks.new }
 {
     let len = view.len();
     for i in from..len {
@@ -53,6 +54,7 @@ fn attribution_behind(
     ensures attribution { result ≡ spec.attribution_behind k marker (drop k (block_of view.now)) }
     ensures text { IfSome result (λ a. IsBlock (block_of view.now) (spec.attribution_part k a)) }
     ensures looks { looks.new ≤ looks.old + 2 + lines_while Filled (drop 1 (drop k (block_of view.now))) }
+    ensures low { looks.old ≤ looks.new }
 {
     prove!(k < view.len());
     let indent = indentation(below_text(view, k, 1, looks));
@@ -77,6 +79,7 @@ pub fn attribution_at(view: &View<'_>, k: usize, looks: &mut Looks) -> Option<At
     ensures attribution { result ≡ spec.attribution_at k (drop k (block_of view.now)) }
     ensures text { IfSome result (λ a. IsBlock (block_of view.now) (spec.attribution_part k a)) }
     ensures looks { looks.new ≤ looks.old + 3 + lines_while Filled (drop 1 (drop k (block_of view.now))) }
+    ensures low { looks.old ≤ looks.new }
 {
     let marker = attribution_of(view.line(k, looks))?;
     attribution_behind(view, k, marker, looks)

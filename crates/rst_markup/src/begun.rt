@@ -75,6 +75,7 @@ pub fn begun_at(view: &View<'_>, at: usize, looks: &mut Looks) -> Begun
     requires few { looks.old < 2 ^ 120 }
     ensures begun { spec.IsBegun (drop at (block_of view.now)) result }
     ensures looks { looks.new ≤ looks.old + 3 }
+    ensures low { looks.old + 1 ≤ looks.new }
 {
     let text = view.line(at, looks);
     let next = below_text(view, at, 1, looks);

@@ -19,6 +19,7 @@ pub fn hanging_end(view: &View<'_>, i: usize, looks: &mut Looks) -> usize
     requires few { looks.old < 2 ^ 121 }
     ensures end { result ≡ i + spec.hanging_size (drop i (block_of view.now)) }
     ensures looks { looks.new < looks.old + reach (spec.hanging_size (drop i (block_of view.now))) (drop i (block_of view.now)) }
+    ensures low { looks.old + spec.hanging_size (drop i (block_of view.now)) ≤ looks.new + 1 }
 {
     below_end(view, i, 1, looks)
 }
@@ -30,6 +31,7 @@ pub fn item_end(view: &View<'_>, i: usize, marker: Marker, looks: &mut Looks) ->
     requires few { looks.old < 2 ^ 121 }
     ensures end { result ≡ i + spec.item_size marker (drop i (block_of view.now)) }
     ensures looks { looks.new < looks.old + reach (spec.item_size marker (drop i (block_of view.now))) (drop i (block_of view.now)) }
+    ensures low { looks.old + spec.item_size marker (drop i (block_of view.now)) ≤ looks.new + 1 }
 {
     let least = if marker.bare { 1 } else { marker.cut };
     below_end(view, i, least, looks)
@@ -44,6 +46,7 @@ pub(crate) fn run_below_end(view: &View<'_>, i: usize, test: LineTest, looks: &m
     ensures within { result ≤ length (block_of view.now) }
     ensures after { i < result }
     ensures few { looks.new ≤ looks.old + spec.run_size test (drop i (block_of view.now)) }
+    ensures low { looks.old + spec.run_size test (drop i (block_of view.now)) ≤ looks.new + 1 }
 {
     prove!(i < view.len());
     lines_end(view, i + 1, test, looks)
@@ -56,6 +59,7 @@ pub fn indented_end(view: &View<'_>, i: usize, looks: &mut Looks) -> usize
     requires few { looks.old < 2 ^ 120 + 2 ^ 70 }
     ensures end { result ≡ i + spec.indented_size (drop i (block_of view.now)) }
     ensures few { looks.new ≤ looks.old + spec.indented_size (drop i (block_of view.now)) }
+    ensures low { looks.old + spec.indented_size (drop i (block_of view.now)) ≤ looks.new + 1 }
 {
     run_below_end(view, i, LineTest::Indented, looks)
 }

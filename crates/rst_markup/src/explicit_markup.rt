@@ -66,6 +66,7 @@ pub fn hanging_part(view: &View<'_>, i: usize, cut: usize, bare: bool, looks: &m
     requires few { looks.old < 2 ^ 120 + 2 ^ 70 }
     ensures part { result ≡ spec.hanging_part i cut bare (drop i (block_of view.now)) }
     ensures looks { looks.new + 2 ≤ looks.old + 2 * reach (hanging_size (drop i (block_of view.now))) (drop i (block_of view.now)) }
+    ensures low { looks.old + hanging_size (drop i (block_of view.now)) ≤ looks.new + 1 }
 {
     prove!(i < view.len());
     let extent = view.block_end(i + 1, None, looks);

@@ -39,6 +39,7 @@ fn target_part(view: &View<'_>, i: usize, n: usize, looks: &mut Looks) -> Part
     requires few { looks.old < 2 ^ 120 + 2 }
     ensures part { result ≡ spec.target_part i n (drop i (block_of view.now)) }
     ensures looks { looks.new ≤ looks.old + indented_size (drop i (block_of view.now)) }
+    ensures low { looks.old + indented_size (drop i (block_of view.now)) ≤ looks.new + 1 }
 {
     Part {
         from: i,
@@ -62,6 +63,7 @@ fn call_of(
     requires few { looks.old < 2 ^ 120 + 2 }
     ensures call { result ≡ spec.call_of i n mark (drop i (block_of view.now)) }
     ensures looks { looks.new + 2 ≤ looks.old + 2 * reach (hanging_size (drop i (block_of view.now))) (drop i (block_of view.now)) }
+    ensures low { looks.old + hanging_size (drop i (block_of view.now)) ≤ looks.new + 1 }
 {
     let marker = mark.marker;
     Invocation {
@@ -78,6 +80,7 @@ fn label_with(view: &View<'_>, i: usize, n: usize, mark: LabelMark, looks: &mut 
     requires few { looks.old < 2 ^ 120 + 2 }
     ensures explicit { result ≡ spec.label_with mark.kind (places.place_of (n + 1) mark.len) (hanging_part i (n + mark.marker.cut) mark.marker.bare (drop i (block_of view.now))) }
     ensures looks { looks.new + 2 ≤ looks.old + 2 * reach (hanging_size (drop i (block_of view.now))) (drop i (block_of view.now)) }
+    ensures low { looks.old + hanging_size (drop i (block_of view.now)) ≤ looks.new + 1 }
 {
     let label = place_of(n + 1, mark.len);
     let marker = mark.marker;
@@ -95,6 +98,7 @@ fn target_with(view: &View<'_>, i: usize, n: usize, mark: TargetMark, looks: &mu
     requires few { looks.old < 2 ^ 120 + 2 }
     ensures explicit { result ≡ spec.target_with i n mark (drop i (block_of view.now)) }
     ensures looks { looks.new ≤ looks.old + indented_size (drop i (block_of view.now)) }
+    ensures low { looks.old + indented_size (drop i (block_of view.now)) ≤ looks.new + 1 }
 {
     match mark {
         TargetMark::Named { from, len, marker } => Explicit::Target {
@@ -123,6 +127,7 @@ fn substitution_with(
     requires few { looks.old < 2 ^ 120 + 2 }
     ensures explicit { result ≡ spec.substitution_with i name n (drop i (block_of view.now)) }
     ensures looks { looks.new + 1 ≤ looks.old + 2 * reach (hanging_size (drop i (block_of view.now))) (drop i (block_of view.now)) }
+    ensures low { looks.old + hanging_size (drop i (block_of view.now)) ≤ looks.new + 1 }
 {
     match directive_of(false, skip(text, n)) {
         Some(mark) => {
@@ -147,6 +152,7 @@ fn dots_alone(view: &View<'_>, i: usize, marker: Marker, looks: &mut Looks) -> E
     requires few { looks.old < 2 ^ 120 + 1 }
     ensures explicit { result ≡ spec.dots_alone i marker (drop i (block_of view.now)) }
     ensures looks { looks.new + 1 ≤ looks.old + 2 * reach (spec.explicit_end 0 (spec.dots_alone 0 marker (drop i (block_of view.now)))) (drop i (block_of view.now)) }
+    ensures low { looks.old + spec.explicit_end 0 (spec.dots_alone 0 marker (drop i (block_of view.now))) ≤ looks.new + 1 }
 {
     if is_blank(below_text(view, i, 1, looks)) {
         return Explicit::EmptyComment;
@@ -173,6 +179,7 @@ fn explicit_by(
     requires few { looks.old < 2 ^ 120 + 1 }
     ensures explicit { result ≡ spec.explicit_by form i marker (drop i (block_of view.now)) }
     ensures looks { looks.new + 1 ≤ looks.old + 2 * reach (spec.explicit_end 0 (spec.explicit_by form 0 marker (drop i (block_of view.now)))) (drop i (block_of view.now)) }
+    ensures low { looks.old + spec.explicit_end 0 (spec.explicit_by form 0 marker (drop i (block_of view.now))) ≤ looks.new + 1 }
 {
     let n = marker.cut;
     match form {
@@ -204,6 +211,7 @@ pub(crate) fn behind_dots(
     requires few { looks.old < 2 ^ 120 + 1 }
     ensures explicit { result ≡ spec.behind_dots i marker (drop i (block_of view.now)) }
     ensures looks { looks.new + 1 ≤ looks.old + 2 * reach (spec.explicit_end 0 (spec.behind_dots 0 marker (drop i (block_of view.now)))) (drop i (block_of view.now)) }
+    ensures low { looks.old + spec.explicit_end 0 (spec.behind_dots 0 marker (drop i (block_of view.now))) ≤ looks.new + 1 }
 {
     if marker.bare {
         return dots_alone(view, i, marker, looks);
@@ -221,6 +229,7 @@ fn anonymous(view: &View<'_>, i: usize, text: &str, looks: &mut Looks) -> Explic
     requires few { looks.old < 2 ^ 120 + 2 }
     ensures explicit { result ≡ spec.anonymous_of i (drop i (block_of view.now)) }
     ensures looks { looks.new ≤ looks.old + indented_size (drop i (block_of view.now)) }
+    ensures low { looks.old + indented_size (drop i (block_of view.now)) ≤ looks.new + 1 }
 {
     let Some(marker) = underscores(text) else {
         unreachable!()
@@ -241,6 +250,7 @@ pub fn explicit(view: &View<'_>, i: usize, looks: &mut Looks) -> Explicit
     ensures within { spec.IsExplicitIn (block_of view.now) i result }
     ensures end { spec.explicit_end i result ≡ i + spec.explicit_size (drop i (block_of view.now)) }
     ensures looks { looks.new ≤ looks.old + 2 * reach (spec.explicit_size (drop i (block_of view.now))) (drop i (block_of view.now)) }
+    ensures low { looks.old + spec.explicit_size (drop i (block_of view.now)) ≤ looks.new }
 {
     let text = view.line(i, looks);
     match dots(text) {

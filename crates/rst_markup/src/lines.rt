@@ -48,6 +48,7 @@ pub fn text_at<'a>(view: &View<'a>, i: usize, looks: &mut Looks) -> &'a str
     ensures text { chars result.now ≡ front_text (drop i (block_of view.now)) }
     ensures few { looks.new ≤ looks.old + 1 }
     ensures looks { looks.new ≤ looks.old + through_text (drop i (block_of view.now)) }
+    ensures low { looks.old ≤ looks.new }
 {
     if i < view.len() {
         view.line(i, looks)
@@ -62,6 +63,7 @@ pub fn below_text<'a>(view: &View<'a>, i: usize, n: usize, looks: &mut Looks) ->
     requires few { looks.old < 2 ^ 121 }
     ensures text { chars result.now ≡ front_text (drop n (drop i (block_of view.now))) }
     ensures looks { looks.new ≤ looks.old + 1 }
+    ensures low { looks.old ≤ looks.new }
 {
     if n < view.len() - i {
         view.line(i + n, looks)
@@ -79,6 +81,7 @@ pub fn lines_end(view: &View<'_>, from: usize, test: LineTest, looks: &mut Looks
     ensures within { result ≤ length (block_of view.now) }
     ensures few { looks.new ≤ looks.old + lines_while test (drop from (block_of view.now)) + 1 }
     ensures looks { looks.new ≤ looks.old + reach (lines_while test (drop from (block_of view.now))) (drop from (block_of view.now)) }
+    ensures low { looks.old + lines_while test (drop from (block_of view.now)) ≤ looks.new }
 {
     let mut end = from;
     for i in from..view.len() {
@@ -97,6 +100,7 @@ pub fn below_end(view: &View<'_>, i: usize, least: usize, looks: &mut Looks) -> 
     requires few { looks.old < 2 ^ 121 }
     ensures end { result ≡ i + suc (extent least (drop 1 (drop i (block_of view.now)))) }
     ensures looks { looks.new < looks.old + reach (suc (extent least (drop 1 (drop i (block_of view.now))))) (drop i (block_of view.now)) }
+    ensures low { looks.old + extent least (drop 1 (drop i (block_of view.now))) ≤ looks.new }
 {
     prove!(i < view.len());
     view.block_end(i + 1, Some(least), looks).end

@@ -76,6 +76,7 @@ fn border_below(view: &View<'_>, i: usize, k: usize, looks: &mut Looks) -> Optio
     requires few { looks.old < 2 ^ 120 + 2 ^ 81 }
     ensures border { result ≡ spec.border_below (drop i (block_of view.now)) k }
     ensures looks { looks.new + k + 1 ≤ looks.old + spec.through (length (drop i (block_of view.now))) result }
+    ensures low { looks.old ≤ looks.new }
 {
     let all = view.len() - i;
     for j in k + 1..all {
@@ -92,6 +93,7 @@ pub fn is_as_long(view: &View<'_>, i: usize, k: usize, looks: &mut Looks) -> boo
     requires few { looks.old < 2 ^ 120 + 2 ^ 83 }
     ensures value { result ≡ spec.is_as_long (drop i (block_of view.now)) k }
     ensures looks { looks.new ≤ looks.old + 2 }
+    ensures low { looks.old + 1 ≤ looks.new }
 {
     let top = view.line(i, looks);
     let border = below_text(view, i, k, looks);
@@ -105,6 +107,7 @@ fn closes_head(view: &View<'_>, i: usize, k: usize, looks: &mut Looks) -> bool
     requires few { looks.old < 2 ^ 120 + 2 ^ 82 }
     ensures value { result ≡ spec.closes_head (drop i (block_of view.now)) k }
     ensures looks { looks.new ≤ looks.old + 3 }
+    ensures low { looks.old ≤ looks.new }
 {
     prove!(i < view.len());
     let next = below_text(view, i, k + 1, looks);
@@ -145,6 +148,7 @@ pub fn simple_borders(view: &View<'_>, i: usize, looks: &mut Looks) -> SimpleBor
     ensures bottom { result.bottom ≡ spec.simple_bottom (drop i (block_of view.now)) }
     ensures within { IfSome (option_or result.bottom result.head) (λ k. k < length (drop i (block_of view.now))) }
     ensures looks { looks.new ≤ looks.old + 2 + spec.simple_scan (drop i (block_of view.now)) }
+    ensures low { looks.old ≤ looks.new }
 {
     let Some(first) = border_below(view, i, 0, looks) else {
         return SimpleBorders {

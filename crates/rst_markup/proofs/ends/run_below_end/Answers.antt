@@ -17,3 +17,9 @@ unfolding run_size
 returns-clause-few c =
     let B : Block = block_of c.args.view.now in
     omega (arith, c.lines_end.ensures.few, ap (λ X. lines_while c.args.test X) (drop_one c.args.i B))
+
+pub returns-clause-low : goal.returns-clause-low
+unfolding run_size
+returns-clause-low c =
+    let B : Block = block_of c.args.view.now in
+    omega (arith, c.lines_end.ensures.low, ap (λ X. lines_while c.args.test X) (drop_one c.args.i B))

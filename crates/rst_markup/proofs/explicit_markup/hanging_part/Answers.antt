@@ -10,6 +10,7 @@ use Rattle.rst_markup.specs.Sizes.{hanging_size}
 use Rattle.rst_markup.proofs.LineLemmas.{drop_one}
 use Rattle.rst_markup.proofs.EndLemmas.{looked_le}
 use Rattle.rst_markup.proofs.PartLemmas.{part_text, part_bare, looked_hanging, hanging_is, blank_below}
+use Rattle.rst_text.proofs.Reaches.{looked_is}
 use Rattle.rst_markup.proofs.explicit_markup.hanging_part.Goals as goal
 
 pub lines_end-start-requires-clause-few : goal.lines_end-start-requires-clause-few
@@ -50,3 +51,13 @@ returns-clause-looks c =
     let B : Block = block_of c.args.view.now in
     let X : Block = drop c.args.i B in
     omega (arith, c.block_end-extent.ensures.looks, c.lines_end-start.ensures.looks, looked_hanging X (omega (arith, length-drop c.args.i B)), ap (λ Y. looked 1 Y) (drop_one c.args.i B), blank_below (drop (c.args.i + 1) B))
+
+pub returns-then-not-bare-clause-low : goal.returns-then-not-bare-clause-low
+returns-then-not-bare-clause-low c =
+    let B : Block = block_of c.args.view.now in
+    omega (arith, c.block_end-extent.ensures.looks, looked_is 1 (drop (c.args.i + 1) B), hanging_is (drop c.args.i B), ap (λ Y. extent 1 Y) (drop_one c.args.i B))
+
+pub returns-clause-low : goal.returns-clause-low
+returns-clause-low c =
+    let B : Block = block_of c.args.view.now in
+    omega (arith, c.block_end-extent.ensures.looks, c.lines_end-start.ensures.low, looked_is 1 (drop (c.args.i + 1) B), hanging_is (drop c.args.i B), ap (λ Y. extent 1 Y) (drop_one c.args.i B))

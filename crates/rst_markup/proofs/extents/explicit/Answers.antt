@@ -54,3 +54,15 @@ returns-in-None-clause-looks c =
     let X : Block = drop c.args.i (block_of c.args.view.now) in
     let e : dots (front_text X) ≡ None = ap dots (sym c.line-text.ensures.text) ∙ sym c.dots.ensures ∙ c.in-None.is in
     omega (arith, c.line-text.ensures.looks, c.anonymous.ensures.looks, size_other X e, indented_some X)
+
+pub returns-in-Some-clause-low : goal.returns-in-Some-clause-low
+returns-in-Some-clause-low c =
+    let X : Block = drop c.args.i (block_of c.args.view.now) in
+    let e : dots (front_text X) ≡ Some c.in-Some.marker = ap dots (sym c.line-text.ensures.text) ∙ sym c.dots.ensures ∙ c.in-Some.is in
+    omega (arith, c.line-text.ensures.looks, c.behind_dots.ensures.low, size_dots X c.in-Some.marker e)
+
+pub returns-in-None-clause-low : goal.returns-in-None-clause-low
+returns-in-None-clause-low c =
+    let X : Block = drop c.args.i (block_of c.args.view.now) in
+    let e : dots (front_text X) ≡ None = ap dots (sym c.line-text.ensures.text) ∙ sym c.dots.ensures ∙ c.in-None.is in
+    omega (arith, c.line-text.ensures.looks, c.anonymous.ensures.low, size_other X e)

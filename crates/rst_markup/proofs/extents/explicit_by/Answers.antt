@@ -6,7 +6,7 @@ use Rattle.rst_marks.proofs.TextLemmas.{length-chars}
 use Rattle.rst_markup.specs.Sizes.{hanging_size, indented_size}
 use Rattle.rst_markup.specs.ExplicitMarkup.{explicit_form}
 use Rattle.rst_markup.specs.declared.explicit_markup.ExplicitForm.TheVariants.{Label, Target, Substitution, Directive, Comment}
-use Rattle.rst_markup.proofs.ExplicitLemmas.{form_within_at, target_short, indented_some, end_reach, label_to, target_to, directive_to, comment_to}
+use Rattle.rst_markup.proofs.ExplicitLemmas.{form_within_at, target_short, indented_some, end_reach, end_size, label_to, target_to, directive_to, comment_to}
 use Rattle.rst_markup.proofs.extents.explicit_by.Goals as goal
 
 pub label_with-requires-clause-label : goal.label_with-requires-clause-label
@@ -105,3 +105,23 @@ pub returns-in-Comment-clause-looks : goal.returns-in-Comment-clause-looks
 returns-in-Comment-clause-looks c =
     let X : Block = drop c.args.i (block_of c.args.view.now) in
     omega (arith, c.hanging_part.ensures.looks, end_reach (hanging_size X) c.args.form (Comment c.in-Comment.cause) c.args.marker X c.in-Comment.is (comment_to c.in-Comment.cause c.args.marker X))
+
+pub returns-in-Label-clause-low : goal.returns-in-Label-clause-low
+returns-in-Label-clause-low c =
+    let X : Block = drop c.args.i (block_of c.args.view.now) in
+    omega (arith, c.label_with.ensures.low, end_size (hanging_size X) c.args.form (Label c.in-Label.mark) c.args.marker X c.in-Label.is (label_to c.in-Label.mark c.args.marker X))
+
+pub returns-in-Directive-clause-low : goal.returns-in-Directive-clause-low
+returns-in-Directive-clause-low c =
+    let X : Block = drop c.args.i (block_of c.args.view.now) in
+    omega (arith, c.call_of.ensures.low, end_size (hanging_size X) c.args.form (Directive c.in-Directive.mark) c.args.marker X c.in-Directive.is (directive_to c.in-Directive.mark c.args.marker X))
+
+pub returns-in-Comment-clause-low : goal.returns-in-Comment-clause-low
+returns-in-Comment-clause-low c =
+    let X : Block = drop c.args.i (block_of c.args.view.now) in
+    omega (arith, c.hanging_part.ensures.low, end_size (hanging_size X) c.args.form (Comment c.in-Comment.cause) c.args.marker X c.in-Comment.is (comment_to c.in-Comment.cause c.args.marker X))
+
+pub returns-in-Target-clause-low : goal.returns-in-Target-clause-low
+returns-in-Target-clause-low c =
+    let X : Block = drop c.args.i (block_of c.args.view.now) in
+    omega (arith, c.target_with.ensures.low, end_size (indented_size X) c.args.form (Target c.in-Target.mark) c.args.marker X c.in-Target.is (target_to c.in-Target.mark c.args.marker X))

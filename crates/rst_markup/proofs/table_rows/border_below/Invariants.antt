@@ -7,5 +7,6 @@ use Rattle.rst_markup.proofs.table_rows.border_below.Given as goal
 abbrev pub invariant-loop-j : goal.invariant-loop-j
 invariant-loop-j l = record {
   none : NoneFrom (is_lower_border_at (drop l.i (block_of l.view))) (l.fn.k + 1) l.j;
+  low : l.fn.looks ≤ l.looks;
   looks : l.looks + l.fn.k + 1 ≤ l.fn.looks + l.j;
 }
