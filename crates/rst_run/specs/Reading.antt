@@ -8,8 +8,8 @@ use Rattle.rst_text.specs.Block.{Block}
 use Rattle.rst_text.specs.Lines.{first_longer, lines_of}
 use Rattle.rst_text.specs.Text.{text_of}
 use Rattle.rst_transform.specs.Finishing.{Leaves}
-use Rattle.rst_transform.specs.Messages.{EndsAtHalt, highest_level}
-use Rattle.rst_transform.specs.Shown.{is_shown_in}
+use Rattle.rst_messages.specs.Messages.{EndsAtHalt, highest_level}
+use Rattle.rst_messages.specs.Shown.{is_shown_in}
 use Rattle.rst_transform.specs.declared.finishing.Finished.{Finished}
 use Rattle.rst_tree.specs.Messages.{note_node}
 use Rattle.rst_tree.specs.Nodes.{forest_of}

@@ -10,7 +10,7 @@ use Rattle.rst_text.specs.Text.{text_of}
 use Rattle.rst_text.specs.declared.counted.Counted.{Counted}
 use Rattle.rst_settings.specs.declared.Settings.{Settings}
 use Rattle.rst_settings.specs.Threshold.{is_reached}
-use Rattle.rst_transform.specs.Messages.{highest_level}
+use Rattle.rst_messages.specs.Messages.{highest_level}
 use Rattle.rst_transform.specs.declared.finishing.Finished.{Finished}
 use Rattle.rst_tree.specs.LevelNames.{level_name, level_number}
 use Rattle.rst_tree.specs.Message.{message_of}

@@ -1,7 +1,7 @@
 //! A run from a reader to two writers.
 ghost use Rattle.std.specs.Prelude.{◌≡◌, ◌≤◌, false};
 ghost use Rattle.rst_text.specs.Counted.{has_failed, between};
-ghost use Rattle.rst_transform.specs.Messages.{highest_level};
+ghost use Rattle.rst_messages.specs.Messages.{highest_level};
 ghost use Rattle.rst_run.specs.Headline.{Headline, Shows, Puts};
 ghost use Rattle.rst_run.specs.Shown.{Answers, parts_of};
 

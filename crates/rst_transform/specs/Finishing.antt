@@ -12,22 +12,22 @@ use Rattle.rst_tree.specs.Walk.{node_items}
 use Rattle.rst_transform.specs.declared.fault.TransformFault.{TransformFault}
 use Rattle.rst_transform.specs.declared.fault.TransformFault.TheVariants.{NoMemory, NoTree}
 use Rattle.rst_transform.specs.declared.finishing.Finished.{Finished}
-use Rattle.rst_transform.specs.declared.work.Report.{Report}
-use Rattle.rst_transform.specs.declared.work.Work.{Work}
-use Rattle.rst_transform.specs.Anonymous.{IsAnonymous}
-use Rattle.rst_transform.specs.Docinfo.{HasDocinfo}
-use Rattle.rst_transform.specs.Expanded.{IsExpanded}
-use Rattle.rst_transform.specs.Filtered.{with_filtered}
-use Rattle.rst_transform.specs.Footnotes.{NumbersFootnotes}
-use Rattle.rst_transform.specs.Indirect.{IsIndirect}
-use Rattle.rst_transform.specs.LastSection.{HasLastSection}
-use Rattle.rst_transform.specs.Listed.{report_said}
-use Rattle.rst_transform.specs.Messages.{is_number_shown, notes_of, until_halt, Numbered}
-use Rattle.rst_transform.specs.MessagesIn.{messages_in}
-use Rattle.rst_transform.specs.Resolved.{IsResolved}
-use Rattle.rst_transform.specs.Targets.{IsRetargeted}
-use Rattle.rst_transform.specs.Title.{IsTitled}
-use Rattle.rst_transform.specs.Transitions.{HasTransitions}
+use Rattle.rst_work.specs.declared.work.Report.{Report}
+use Rattle.rst_work.specs.declared.work.Work.{Work}
+use Rattle.rst_hyperlinks.specs.Anonymous.{IsAnonymous}
+use Rattle.rst_docinfo.specs.Docinfo.{HasDocinfo}
+use Rattle.rst_substitutions.specs.Expanded.{IsExpanded}
+use Rattle.rst_messages.specs.Filtered.{with_filtered}
+use Rattle.rst_footnotes.specs.Footnotes.{NumbersFootnotes}
+use Rattle.rst_hyperlinks.specs.Indirect.{IsIndirect}
+use Rattle.rst_structure.specs.LastSection.{HasLastSection}
+use Rattle.rst_messages.specs.Listed.{report_said}
+use Rattle.rst_messages.specs.Messages.{is_number_shown, notes_of, until_halt, Numbered}
+use Rattle.rst_messages.specs.MessagesIn.{messages_in}
+use Rattle.rst_resolve.specs.Resolved.{IsResolved}
+use Rattle.rst_structure.specs.Targets.{IsRetargeted}
+use Rattle.rst_structure.specs.Title.{IsTitled}
+use Rattle.rst_structure.specs.Transitions.{HasTransitions}
 
 -- a transform takes place, or the document stays as it is
 abbrev pub Where : Bool → (Work → Work → Type 0) → Work → Work → Type 0

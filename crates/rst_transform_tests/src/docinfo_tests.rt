@@ -1,7 +1,7 @@
 //! Documents before and after their leading field list becomes a bibliography.
 
 use crate::outline::{shown, work};
-use rst_transform::docinfo::docinfo;
+use rst_docinfo::docinfo::docinfo;
 use std::test::Fail;
 
 const ROWS: &[(&str, &str)] = &[

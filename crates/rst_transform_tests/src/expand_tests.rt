@@ -1,7 +1,7 @@
 //! Documents before and after substitution references are replaced.
 
 use crate::outline::{shown, work};
-use rst_transform::expand::expand;
+use rst_substitutions::expand::expand;
 use rst_tree::TreeFault;
 use std::alloc::Global;
 use std::test::Fail;

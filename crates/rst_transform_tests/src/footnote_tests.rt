@@ -1,8 +1,8 @@
 //! Documents before and after footnotes are numbered and names resolved.
 
 use crate::outline::{named, shown};
-use rst_transform::footnotes::footnotes;
-use rst_transform::resolve::resolve;
+use rst_footnotes::footnotes::footnotes;
+use rst_resolve::resolve::resolve;
 use std::test::Fail;
 
 const FOOTNOTES: &[(&str, &str)] = &[

@@ -5,7 +5,7 @@
 use rst_names::{Held, Holder, Ids, Names, Strength};
 use rst_outline::outline;
 use rst_text::Counted;
-use rst_transform::Work;
+use rst_work::work::Work;
 use rst_tree::{Attrs, Key, Node, Said, Tag, Text, Texts, Tree, TreeFault, Value, print};
 use std::alloc::Global;
 use std::test::Fail;

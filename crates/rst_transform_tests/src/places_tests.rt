@@ -1,8 +1,8 @@
 //! Documents before and after the transforms that move what stands in them, as lines of their trees.
 
 use crate::outline::{shown, work};
-use rst_transform::targets::targets;
-use rst_transform::title::title;
+use rst_structure::targets::targets;
+use rst_structure::title::title;
 use std::test::Fail;
 
 const TARGETS: &[(&str, &str)] = &[

@@ -1,8 +1,8 @@
 //! Documents before and after anonymous references and indirect targets are joined.
 
 use crate::outline::{named, shown};
-use rst_transform::anonymous::anonymous;
-use rst_transform::indirect::indirect;
+use rst_hyperlinks::anonymous::anonymous;
+use rst_hyperlinks::indirect::indirect;
 use std::test::Fail;
 
 const ANONYMOUS: &[(&str, &str)] = &[

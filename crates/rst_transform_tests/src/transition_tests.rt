@@ -1,7 +1,7 @@
 //! Documents before and after transitions have their places, as lines of their trees.
 
 use crate::outline::{shown, work};
-use rst_transform::transitions::transitions;
+use rst_structure::transitions::transitions;
 use std::test::Fail;
 
 const TRANSITIONS: &[(&str, &str)] = &[

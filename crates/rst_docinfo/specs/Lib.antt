@@ -1,0 +1,5 @@
+pub mod Authors
+pub mod Bibliography
+pub mod Docinfo
+pub mod Fields
+pub mod Gathered

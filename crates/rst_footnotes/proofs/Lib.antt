@@ -1,0 +1,3 @@
+pub mod FreeNumbers
+pub mod Notes
+pub mod Numbering

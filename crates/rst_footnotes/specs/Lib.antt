@@ -1,0 +1,2 @@
+pub mod Footnotes
+pub mod NoteLabels

@@ -1,0 +1,4 @@
+pub mod Agreeing
+pub mod Following
+pub mod Leading
+pub mod Taking

@@ -1,0 +1,3 @@
+pub mod Anonymous
+pub mod Indirect
+pub mod Ways

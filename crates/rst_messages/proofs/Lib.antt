@@ -1,0 +1,4 @@
+pub mod Leaving
+pub mod Listing
+pub mod NoMessages
+pub mod Showing

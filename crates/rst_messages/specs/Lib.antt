@@ -1,0 +1,5 @@
+pub mod Filtered
+pub mod Listed
+pub mod Messages
+pub mod MessagesIn
+pub mod Shown

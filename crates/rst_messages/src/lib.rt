@@ -1,0 +1,5 @@
+//! Part of the transforms.
+#![tactic(auto)]
+
+pub mod filter;
+pub mod messages;

@@ -1,0 +1,2 @@
+pub mod Referring
+pub mod Resolves

@@ -1,0 +1,4 @@
+pub mod Backrefs
+pub mod Meanings
+pub mod Resolved
+pub mod Resolving

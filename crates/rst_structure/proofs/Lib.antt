@@ -1,0 +1,4 @@
+pub mod LastNodes
+pub mod Placing
+pub mod Retargeting
+pub mod Titles

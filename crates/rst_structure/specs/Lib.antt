@@ -1,0 +1,4 @@
+pub mod LastSection
+pub mod Targets
+pub mod Title
+pub mod Transitions

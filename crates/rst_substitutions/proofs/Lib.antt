@@ -1,0 +1,2 @@
+pub mod Defining
+pub mod Expanding

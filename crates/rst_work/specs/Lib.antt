@@ -1,0 +1,4 @@
+pub mod Lists
+pub mod Problematics
+pub mod Reading
+pub mod Reports

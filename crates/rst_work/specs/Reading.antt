@@ -1,0 +1,67 @@
+-- What the attributes of an element say.
+use Rattle.std.specs.Prelude.{ℕ, Bool, true, false, List, [], Option, Some, None, unwrap_or, encode_utf8_all}
+use Rattle.std.specs.Str.{chars}
+use Rattle.rst_text.specs.Names as names
+use Rattle.rst_tree.specs.declared.tag.Tag.{Tag}
+use Rattle.rst_tree.specs.declared.tag.Tag.TheVariants.{Comment, Target, SubstitutionDefinition, SystemMessage, Subtitle, Title}
+use Rattle.rst_tree.specs.declared.attrs.Attr.{Attr}
+use Rattle.rst_tree.specs.declared.attrs.Value.{Value}
+use Rattle.rst_tree.specs.declared.attrs.Value.TheVariants.{Text, Number, List as Listed}
+use Rattle.rst_tree.specs.declared.key.Key.{Key}
+use Rattle.rst_tree.specs.declared.key.Key.TheVariants.{Rawsource}
+use Rattle.rst_tree.specs.declared.node.Node.{Node}
+use Rattle.rst_tree.specs.declared.node.Node.TheVariants.{Element, Text as Words}
+use Rattle.rst_tree.specs.Attributes.{value_of, said_text, said_number}
+use Rattle.rst_tree.specs.Paths.{node_value}
+
+-- the members of the list that a value is, or none
+abbrev pub members_in : Option Value → List (List ℕ)
+members_in None = []
+members_in (Some (Text text)) = []
+members_in (Some (Number number)) = []
+members_in (Some (Listed texts)) = texts
+
+abbrev pub text_said : Key → Node → Option (List ℕ)
+text_said k n = said_text (node_value k n)
+
+abbrev pub number_said : Key → Node → Option ℕ
+number_said k n = said_number (node_value k n)
+
+abbrev pub list_said : Key → Node → List (List ℕ)
+list_said k n = members_in (node_value k n)
+
+-- the number of an element's first line, 0 for a text
+abbrev pub line_of : Node → ℕ
+line_of (Element t a c l) = l
+line_of (Words t) = 0
+
+-- the source text that the attributes of a reference tell, or the empty text
+abbrev pub source_said : List Attr → List ℕ
+source_said attrs = unwrap_or (said_text (value_of Rawsource attrs)) []
+
+abbrev pub is_heading : Tag → Bool
+is_heading Title = true
+is_heading Subtitle = true
+is_heading _ = false
+
+-- a title or a subtitle
+abbrev pub is_title : Node → Bool
+is_title (Element t a c l) = is_heading t
+is_title (Words t) = false
+
+-- what may stand before a lone section: a comment, a target, a substitution definition or a message
+abbrev pub may_precede : Node → Bool
+may_precede (Element Comment a c l) = true
+may_precede (Element Target a c l) = true
+may_precede (Element SubstitutionDefinition a c l) = true
+may_precede (Element SystemMessage a c l) = true
+may_precede (Element _ a c l) = false
+may_precede (Words t) = false
+
+-- the name that a text gives
+abbrev pub name_in : List ℕ → List ℕ
+name_in text = encode_utf8_all (names.name_of (chars text))
+
+-- the id that a text gives
+abbrev pub identifier : List ℕ → List ℕ
+identifier text = encode_utf8_all (names.id_of (chars text))
