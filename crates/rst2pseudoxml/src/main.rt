@@ -4,9 +4,9 @@
 ghost use Rattle.std.specs.Prelude.{◌≡◌, false};
 ghost use Rattle.rst_text.specs.Counted.{has_failed};
 
-use rst_options::{OptionFault, options};
-use rst_run::{Stop, report, run};
 use rst_text::Counted;
+use rst2pseudoxml_options::{OptionFault, options};
+use rst2pseudoxml_run::{Stop, report, run};
 use std::alloc::{AllocError, Global};
 use std::env;
 use std::fs::File;

@@ -1,7 +1,7 @@
 //! Tables of inputs with what the program shows of each.
-use rst_options::options;
-use rst_run::{Stop, report, run};
 use rst_text::Counted;
+use rst2pseudoxml_options::options;
+use rst2pseudoxml_run::{Stop, report, run};
 use std::alloc::Global;
 use std::process::Abort;
 use std::test::Fail;

@@ -1,10 +1,10 @@
 //! Runs over readers and writers in memory that fail in mid-stream, and what is reported of each end.
 ghost use Rattle.std.specs.Prelude.{Some};
 
-use rst_options::OptionFault;
-use rst_run::{End, Stop, report, run};
 use rst_settings::Settings;
 use rst_text::Counted;
+use rst2pseudoxml_options::OptionFault;
+use rst2pseudoxml_run::{End, Stop, report, run};
 use std::alloc::Global;
 use std::io::{Error, ErrorKind, Read, Result, Write};
 use std::test::Fail;

@@ -7,11 +7,11 @@ use Rattle.rst_text.specs.MayCut.{is_indented}
 use Rattle.rst_text.proofs.CutLaws.{take_of}
 use Rattle.rst_text.proofs.Indented.{is_indented-drop, is_indented-take, is_indented-extent, is_indented-rest}
 use Rattle.rst_text.proofs.Reaches.{extent_indented}
-use Rattle.rst_marks.specs.declared.marker.Marker.{Marker}
-use Rattle.rst_markup.specs.Parts.{IsBlock}
-use Rattle.rst_markup.specs.RowLaws.{extent_le, below_le}
-use Rattle.rst_markup.specs.Sizes.{item_size, least_below}
-use Rattle.rst_markup.specs.declared.part.Part.{Part}
+use Rattle.rst_markup_lines.specs.declared.marker.Marker.{Marker}
+use Rattle.rst_markup_blocks.specs.Parts.{IsBlock}
+use Rattle.rst_markup_blocks.specs.RowLaws.{extent_le, below_le}
+use Rattle.rst_markup_blocks.specs.Sizes.{item_size, least_below}
+use Rattle.rst_markup_blocks.specs.declared.part.Part.{Part}
 use Rattle.rst_text.specs.declared.view.Extent.{Extent}
 
 pub uncut : (X : Block) → is_indented 0 X ≡ true

@@ -2,13 +2,13 @@
 use Rattle.std.proofs.Common.{◌≡◌, ℕ, ◌<◌, ◌≤◌, false, length, drop, length-drop, Option, None, Some, arith, refl}
 use Rattle.rst_text.specs.Block.{Block, front_text}
 use Rattle.rst_text.specs.Reach.{reach}
-use Rattle.rst_marks.specs.ExplicitMarks.{dots}
-use Rattle.rst_marks.specs.declared.marker.Marker.{Marker}
-use Rattle.rst_markup.specs.Explicit.{explicit_size}
-use Rattle.rst_markup.specs.ExplicitLaws.{explicit_within}
-use Rattle.rst_markup.specs.ReachLaws.{grid_scan_le, simple_scan_le}
-use Rattle.rst_markup.specs.TableRows.{grid_scan, simple_scan}
-use Rattle.rst_markup.proofs.ExplicitLemmas.{indented_le, size_other}
+use Rattle.rst_markup_lines.specs.ExplicitMarks.{dots}
+use Rattle.rst_markup_lines.specs.declared.marker.Marker.{Marker}
+use Rattle.rst_markup_blocks.specs.Explicit.{explicit_size}
+use Rattle.rst_markup_blocks.specs.ExplicitLaws.{explicit_within}
+use Rattle.rst_markup_blocks.specs.ReachLaws.{grid_scan_le, simple_scan_le}
+use Rattle.rst_markup_blocks.specs.TableRows.{grid_scan, simple_scan}
+use Rattle.rst_markup_blocks.proofs.ExplicitLemmas.{indented_le, size_other}
 use Rattle.rst_block.proofs.Reached.{reach_le}
 
 explicit_fits : (X : Block) → 0 < length X → explicit_size X ≤ length X

@@ -2,8 +2,8 @@
 use Rattle.std.proofs.Common.{ℕ, ◌+◌, ◌≤◌, lt-ltb, le-ltb, inl, inr}
 use Rattle.std.proofs.lemmas.Bool.{cases_lt}
 use Rattle.rst_text.specs.Block.{Block}
-use Rattle.rst_markup.specs.Parts.{IsBlock}
-use Rattle.rst_markup.specs.declared.part.Part.{Part}
+use Rattle.rst_markup_blocks.specs.Parts.{IsBlock}
+use Rattle.rst_markup_blocks.specs.declared.part.Part.{Part}
 use Rattle.rst_block.specs.Steps.{IsRest, rest_of}
 use Rattle.rst_block.proofs.Blocks.{rest_block}
 

@@ -2,10 +2,10 @@
 use Rattle.std.proofs.Common.{◌≡◌, ℕ, suc, ◌-◌, ◌<◌, ◌≤◌, Bool, true, false, cond, [], ◌∷◌, length, drop, length-drop, arith}
 use Rattle.rst_text.specs.Block.{Block, is_blank}
 use Rattle.rst_text.specs.Reach.{reach, through_text}
-use Rattle.rst_markup.specs.Sizes.{hanging_size, item_size, least_below}
-use Rattle.rst_markup.specs.RowLaws.{below_le}
-use Rattle.rst_markup.proofs.ExplicitLemmas.{hanging_le}
-use Rattle.rst_marks.specs.declared.marker.Marker.{Marker}
+use Rattle.rst_markup_blocks.specs.Sizes.{hanging_size, item_size, least_below}
+use Rattle.rst_markup_blocks.specs.RowLaws.{below_le}
+use Rattle.rst_markup_blocks.proofs.ExplicitLemmas.{hanging_le}
+use Rattle.rst_markup_lines.specs.declared.marker.Marker.{Marker}
 
 through_le : (X : Block) → through_text X ≤ length X
 unfolding through_text

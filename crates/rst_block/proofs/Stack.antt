@@ -3,7 +3,7 @@ use Rattle.std.proofs.Common.{◌≡◌, ℕ, ◌+◌, ◌-◌, ◌*◌, ◌<◌
 use Rattle.std.proofs.lemmas.List.{drop-append-le, take-append-le, map-append, length-map}
 use Rattle.rst_text.specs.Block.{Block}
 use Rattle.rst_text.specs.Shown.{portion_block}
-use Rattle.rst_markup.specs.declared.part.Part.{Part}
+use Rattle.rst_markup_blocks.specs.declared.part.Part.{Part}
 use Rattle.rst_block.specs.Frames.{IsFrame, AreFrames, IsNow, HasSecond}
 use Rattle.rst_block.specs.Steps.{IsStep, IsNext, IsResumed}
 use Rattle.rst_block.specs.declared.frame.Frame.{Frame}

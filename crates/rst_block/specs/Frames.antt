@@ -2,8 +2,8 @@
 use Rattle.std.specs.Prelude.{◌≡◌, ℕ, ◌^◌, ◌<◌, ◌≤◌, List, [], ◌∷◌, length, Option, None, Some}
 use Rattle.rst_text.specs.Block.{Block}
 use Rattle.rst_text.specs.Shown.{block_of, source_of, IsPortion, portion_block}
-use Rattle.rst_markup.specs.Parts.{IsBlock}
-use Rattle.rst_markup.specs.declared.part.Part.{Part}
+use Rattle.rst_markup_blocks.specs.Parts.{IsBlock}
+use Rattle.rst_markup_blocks.specs.declared.part.Part.{Part}
 use Rattle.rst_block.specs.Steps.{IsBlockIf, IsWaiting, IsResumed}
 use Rattle.rst_block.specs.declared.frame.Frame.{Frame}
 use Rattle.rst_block.specs.declared.frame.Ended.{Ended}

@@ -1,8 +1,8 @@
 -- What a step leads to: the block goes on behind its line, and what is read inside is a part of it.
 use Rattle.std.specs.Prelude.{◌≡◌, ℕ, ◌+◌, ◌<◌, ◌≤◌, nat_lt, if◌then◌else◌, length, Option, None, Some}
 use Rattle.rst_text.specs.Block.{Block}
-use Rattle.rst_markup.specs.Parts.{IsBlock}
-use Rattle.rst_markup.specs.declared.part.Part.{Part}
+use Rattle.rst_markup_blocks.specs.Parts.{IsBlock}
+use Rattle.rst_markup_blocks.specs.declared.part.Part.{Part}
 use Rattle.rst_block.specs.declared.step.Step.{Step}
 use Rattle.rst_block.specs.declared.step.Step.TheVariants.{Next, Open, Cells, Done}
 use Rattle.rst_block.specs.declared.resume.Waits.{Waits}

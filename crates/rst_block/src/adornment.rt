@@ -2,7 +2,7 @@
 //! Specification, 'Sections', 'Transitions').
 ghost use Rattle.std.specs.Prelude.{◌≡◌, ◌+◌, ◌-◌, ◌*◌, ◌^◌, ◌<◌, ◌≤◌, length, drop, IfOk, IfSome};
 ghost use Rattle.rst_text.specs.Shown.{block_of};
-ghost use Rattle.rst_markup.specs.Parts.{IsBlock, IsCall};
+ghost use Rattle.rst_markup_blocks.specs.Parts.{IsBlock, IsCall};
 ghost use Rattle.rst_block.specs.Steps as spec;
 
 use super::fault::BlockFault;
@@ -11,10 +11,10 @@ use super::level::Level;
 use super::step::Step;
 use super::text::text_line;
 use super::texts::{Pass, alone, number_at, source};
-use rst_elements::message;
-use rst_marks::Adornment;
-use rst_markup::{Adorned, adorned_at, below_text, text_at};
-use rst_sections::Style;
+use rst_block_nodes::message;
+use rst_block_sections::Style;
+use rst_markup_blocks::{Adorned, adorned_at, below_text, text_at};
+use rst_markup_lines::Adornment;
 use rst_text::{View, indentation, skip};
 use rst_tree::{Level as Gravity, Node, Tag};
 use std::alloc::Global;

@@ -1,7 +1,7 @@
 //! Items of definition lists (Markup Specification, 'Definition Lists').
 ghost use Rattle.std.specs.Prelude.{◌≡◌, ◌+◌, ◌-◌, ◌*◌, ◌^◌, ◌<◌, ◌≤◌, length, drop, IfOk, IfSome};
 ghost use Rattle.rst_text.specs.Shown.{block_of};
-ghost use Rattle.rst_markup.specs.Parts.{IsBlock, IsCall};
+ghost use Rattle.rst_markup_blocks.specs.Parts.{IsBlock, IsCall};
 ghost use Rattle.rst_block.specs.Steps as spec;
 
 use super::fault::BlockFault;
@@ -12,7 +12,7 @@ use super::resume::Waits;
 use super::run::{ListKind, Run};
 use super::step::Step;
 use super::texts::{Pass, number_at};
-use rst_elements::term_and_classifiers;
+use rst_block_nodes::term_and_classifiers;
 use rst_text::View;
 use rst_tree::{Node, Tag};
 use std::alloc::Global;

@@ -2,8 +2,8 @@
 ghost use Rattle.std.specs.Prelude.{◌≡◌, ℕ, ◌+◌, ◌-◌, ◌*◌, ◌^◌, ◌<◌, ◌≤◌, length, drop, IfOk, IfSome};
 ghost use Rattle.rst_text.specs.Block.{Block};
 ghost use Rattle.rst_text.specs.Shown.{block_of};
-ghost use Rattle.rst_directives.specs.Call.{IsArgumentIn, IsContentIn, IsDirectiveIn};
-ghost use Rattle.rst_markup.specs.Parts.{IsBlock, IsCall};
+ghost use Rattle.rst_markup_directives.specs.Call.{IsArgumentIn, IsContentIn, IsDirectiveIn};
+ghost use Rattle.rst_markup_blocks.specs.Parts.{IsBlock, IsCall};
 ghost use Rattle.rst_block.specs.Steps as spec;
 
 use super::fault::BlockFault;
@@ -14,15 +14,15 @@ use super::part::inside;
 use super::resume::Waits;
 use super::step::Step;
 use super::texts::{Pass, alone, excerpt, joined, number_at, source};
-use rst_directives::{
+use rst_block_nodes::{
+    code_block, directive_element, figure, image, message, with_text, with_title_class,
+};
+use rst_block_sections::{append, filled};
+use rst_markup_blocks::{Invocation, Part};
+use rst_markup_directives::{
     Argument, Content, Directive, DirectiveFault, Name, Place, Setting, called, directive,
     message as fault_text,
 };
-use rst_elements::{
-    code_block, directive_element, figure, image, message, with_text, with_title_class,
-};
-use rst_markup::{Invocation, Part};
-use rst_sections::{append, filled};
 use rst_text::View;
 use rst_tree::{Level as Gravity, Node, Tag};
 use std::alloc::Global;

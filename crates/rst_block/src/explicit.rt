@@ -2,9 +2,9 @@
 ghost use Rattle.std.specs.Prelude.{◌≡◌, ◌+◌, ◌-◌, ◌*◌, ◌^◌, ◌<◌, ◌≤◌, length, drop, IfOk, IfSome, IsTrue};
 ghost use Rattle.rst_text.specs.Block.{Block};
 ghost use Rattle.rst_text.specs.Shown.{block_of};
-ghost use Rattle.rst_markup.specs.Parts.{IsBlock, IsCall};
-ghost use Rattle.rst_markup.specs.Explicit.{IsExplicitIn, is_explicit_kind};
-ghost use Rattle.rst_markup.specs.Kinds.{kind_of};
+ghost use Rattle.rst_markup_blocks.specs.Parts.{IsBlock, IsCall};
+ghost use Rattle.rst_markup_blocks.specs.Explicit.{IsExplicitIn, is_explicit_kind};
+ghost use Rattle.rst_markup_blocks.specs.Kinds.{kind_of};
 ghost use Rattle.rst_block.specs.Steps as spec;
 
 use super::directive::directive_block;
@@ -16,9 +16,9 @@ use super::run::Run;
 use super::step::Step;
 use super::substitution::substitution_definition;
 use super::texts::{Pass, excerpt, joined, number_at};
-use rst_elements::{citation, footnote, message, preserved, target};
-use rst_marks::Characters;
-use rst_markup::{CommentCause, Explicit, Part, explicit};
+use rst_block_nodes::{citation, footnote, message, preserved, target};
+use rst_markup_blocks::{CommentCause, Explicit, Part, explicit};
+use rst_markup_lines::Characters;
 use rst_text::View;
 use rst_tree::{Level as Gravity, Node, Tag};
 use std::alloc::Global;

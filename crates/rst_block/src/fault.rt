@@ -2,7 +2,7 @@
 ghost use Rattle.std.specs.Prelude.{◌≡◌};
 ghost use Rattle.rst_block.specs.declared.fault.BlockFault.TheVariants.{NoMemory};
 
-use rst_directives::MarkupFault;
+use rst_markup_directives::MarkupFault;
 use rst_text::TextFault;
 use rst_tree::TreeFault;
 use std::alloc::{AllocError, AllocFailed};

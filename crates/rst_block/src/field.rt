@@ -1,7 +1,7 @@
 //! Fields (Markup Specification, 'Field Lists').
 ghost use Rattle.std.specs.Prelude.{◌≡◌, ◌+◌, ◌-◌, ◌*◌, ◌^◌, ◌<◌, ◌≤◌, length, drop, IfOk, IfSome};
 ghost use Rattle.rst_text.specs.Shown.{block_of};
-ghost use Rattle.rst_markup.specs.Parts.{IsBlock, IsCall};
+ghost use Rattle.rst_markup_blocks.specs.Parts.{IsBlock, IsCall};
 ghost use Rattle.rst_block.specs.Steps as spec;
 
 use super::fault::BlockFault;
@@ -11,8 +11,8 @@ use super::resume::Waits;
 use super::run::ListKind;
 use super::step::Step;
 use super::texts::{Pass, excerpt, number_at};
-use rst_elements::with_text;
-use rst_marks::FieldMark;
+use rst_block_nodes::with_text;
+use rst_markup_lines::FieldMark;
 use rst_text::View;
 use rst_tree::{Node, Tag};
 use std::alloc::Global;

@@ -1,8 +1,8 @@
 //! Figures (Directives, 'Figure').
 use super::fault::BlockFault;
 use super::texts::{alone, push};
-use rst_elements::{element_of, message};
-use rst_sections::{append, filled};
+use rst_block_nodes::{element_of, message};
+use rst_block_sections::{append, filled};
 use rst_tree::{Attrs, Children, Key, Level as Gravity, Node, Tag};
 use std::alloc::Global;
 use std::vec::IntoIter;

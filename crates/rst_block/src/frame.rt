@@ -1,7 +1,7 @@
 //! Blocks that wait for one inside them.
 ghost use Rattle.std.specs.Prelude.{◌≡◌, ◌+◌, ◌-◌, ◌*◌, ◌^◌, ◌<◌, ◌≤◌, length, IfOk};
 ghost use Rattle.rst_text.specs.Shown.{block_of, source_of, IsPortion, portion_block};
-ghost use Rattle.rst_markup.specs.Parts.{IsBlock};
+ghost use Rattle.rst_markup_blocks.specs.Parts.{IsBlock};
 ghost use Rattle.rst_block.specs.Steps as spec;
 ghost use Rattle.rst_block.specs.Frames as frames;
 
@@ -11,8 +11,8 @@ use super::part::inside;
 use super::resume::{Waits, resume};
 use super::step::Step;
 use super::texts::Pass;
-use rst_markup::Part;
-use rst_sections::append;
+use rst_block_sections::append;
+use rst_markup_blocks::Part;
 use rst_text::{Portion, View};
 use rst_tree::Node;
 use std::alloc::Global;

@@ -3,8 +3,8 @@ ghost use Rattle.std.specs.Prelude.{◌≡◌};
 
 use super::fault::BlockFault;
 use super::texts::Pass;
-use rst_elements::with_text;
-use rst_sections::{Heading, Style};
+use rst_block_nodes::with_text;
+use rst_block_sections::{Heading, Style};
 use rst_tree::{Node, Tag};
 use std::alloc::Global;
 

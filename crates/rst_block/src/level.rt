@@ -1,13 +1,13 @@
 //! A block that is being read.
 ghost use Rattle.std.specs.Prelude.{◌≡◌, ℕ, ◌+◌, ◌-◌, ◌*◌, ◌^◌, ◌<◌, ◌≤◌, length, drop, IfOk, IfSome};
 ghost use Rattle.rst_text.specs.Shown.{block_of};
-ghost use Rattle.rst_markup.specs.Parts.{IsBlock, IsCall};
+ghost use Rattle.rst_markup_blocks.specs.Parts.{IsBlock, IsCall};
 ghost use Rattle.rst_block.specs.Steps as spec;
 
 use super::fault::BlockFault;
 use super::run::{ListKind, OpenList, Run};
 use super::texts::{Pass, push, unindent};
-use rst_sections::{Heading, append};
+use rst_block_sections::{Heading, append};
 use rst_text::View;
 use rst_tree::Node;
 use std::alloc::Global;

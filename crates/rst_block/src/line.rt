@@ -1,7 +1,7 @@
 //! Lines of line blocks (Markup Specification, 'Line Blocks').
 ghost use Rattle.std.specs.Prelude.{◌≡◌, ◌+◌, ◌-◌, ◌*◌, ◌^◌, ◌<◌, ◌≤◌, length, drop, IfOk, IfSome};
 ghost use Rattle.rst_text.specs.Shown.{block_of};
-ghost use Rattle.rst_markup.specs.Parts.{IsBlock, IsCall};
+ghost use Rattle.rst_markup_blocks.specs.Parts.{IsBlock, IsCall};
 ghost use Rattle.rst_block.specs.Steps as spec;
 
 use super::fault::BlockFault;
@@ -9,9 +9,9 @@ use super::level::Level;
 use super::part::{indented, inside};
 use super::run::Run;
 use super::texts::{Pass, joined, lines_between, number_at};
-use rst_elements::BarText;
-use rst_marks::Marker;
-use rst_markup::indented_end;
+use rst_block_nodes::BarText;
+use rst_markup_blocks::indented_end;
+use rst_markup_lines::Marker;
 use rst_text::{View, skip};
 use std::alloc::Global;
 

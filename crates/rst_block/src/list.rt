@@ -2,7 +2,7 @@
 ghost use Rattle.std.specs.Prelude.{◌≡◌, ◌+◌, ◌-◌, ◌*◌, ◌^◌, ◌<◌, ◌≤◌, length, drop, IfOk, IfSome};
 ghost use Rattle.rst_text.specs.Block.{Block};
 ghost use Rattle.rst_text.specs.Shown.{block_of};
-ghost use Rattle.rst_markup.specs.Parts.{IsBlock, IsCall};
+ghost use Rattle.rst_markup_blocks.specs.Parts.{IsBlock, IsCall};
 ghost use Rattle.rst_block.specs.Steps as spec;
 
 use super::fault::BlockFault;
@@ -12,9 +12,9 @@ use super::resume::Waits;
 use super::run::{ListKind, Run, Sequel};
 use super::step::Step;
 use super::texts::{Pass, excerpt, number_at};
-use rst_elements::{bullet_list, enumerated_list, start_message};
-use rst_marks::{Characters, Enumerator, Format, Marker, Ordinals, first_reading};
-use rst_markup::Part;
+use rst_block_nodes::{bullet_list, enumerated_list, start_message};
+use rst_markup_blocks::Part;
+use rst_markup_lines::{Characters, Enumerator, Format, Marker, Ordinals, first_reading};
 use rst_text::View;
 use std::alloc::Global;
 

@@ -1,7 +1,7 @@
 //! The machine: the constructs of a block one after the other, and the blocks inside them.
 ghost use Rattle.std.specs.Prelude.{◌≡◌, ◌+◌, ◌-◌, ◌*◌, ◌^◌, ◌<◌, ◌≤◌, ◌++◌, ◌∷◌, [], length, drop, IfOk, IfSome, IfNone};
 ghost use Rattle.rst_text.specs.Shown.{block_of};
-ghost use Rattle.rst_markup.specs.Parts.{IsBlock, IsCall};
+ghost use Rattle.rst_markup_blocks.specs.Parts.{IsBlock, IsCall};
 ghost use Rattle.rst_block.specs.Steps as spec;
 ghost use Rattle.rst_block.specs.declared.step.Step.TheVariants.{Next};
 
@@ -15,9 +15,9 @@ use super::step::{Step, step_at};
 use super::table::{after_table, entry_of, table_of};
 use super::texts::Pass;
 use arrayvec::ArrayVec;
-use rst_elements::element_of;
-use rst_markup::{LineTest, Part, lines_end};
-use rst_tables::{Cell, TableResult};
+use rst_block_nodes::element_of;
+use rst_markup_blocks::{LineTest, Part, lines_end};
+use rst_markup_tables::{Cell, TableResult};
 use rst_text::{Lines, View};
 use rst_tree::{Attrs, Node, Tag};
 use std::alloc::Global;

@@ -1,7 +1,7 @@
 //! Items of option lists (Markup Specification, 'Option Lists').
 ghost use Rattle.std.specs.Prelude.{◌≡◌, ◌+◌, ◌-◌, ◌*◌, ◌^◌, ◌<◌, ◌≤◌, length, drop, IfOk, IfSome};
 ghost use Rattle.rst_text.specs.Shown.{block_of};
-ghost use Rattle.rst_markup.specs.Parts.{IsBlock, IsCall};
+ghost use Rattle.rst_markup_blocks.specs.Parts.{IsBlock, IsCall};
 ghost use Rattle.rst_block.specs.Steps as spec;
 
 use super::fault::BlockFault;
@@ -12,8 +12,8 @@ use super::resume::Waits;
 use super::run::ListKind;
 use super::step::Step;
 use super::texts::{Pass, excerpt, number_at};
-use rst_elements::option;
-use rst_marks::{ListedOption, Marker, listed_options};
+use rst_block_nodes::option;
+use rst_markup_lines::{ListedOption, Marker, listed_options};
 use rst_text::View;
 use rst_tree::{Children, Node, Tag};
 use std::alloc::Global;

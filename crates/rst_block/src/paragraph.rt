@@ -3,8 +3,8 @@
 ghost use Rattle.std.specs.Prelude.{◌≡◌, ◌+◌, ◌-◌, ◌*◌, ◌^◌, ◌<◌, ◌≤◌, length, drop, IfOk, IfSome};
 ghost use Rattle.std.specs.Str.{chars};
 ghost use Rattle.rst_text.specs.Shown.{block_of};
-ghost use Rattle.rst_markup.specs.Parts.{IsBlock, IsCall};
-ghost use Rattle.rst_markup.specs.Conditions.{next_text};
+ghost use Rattle.rst_markup_blocks.specs.Parts.{IsBlock, IsCall};
+ghost use Rattle.rst_markup_blocks.specs.Conditions.{next_text};
 ghost use Rattle.rst_block.specs.Paragraphs as paragraphs;
 ghost use Rattle.rst_block.specs.Steps as spec;
 
@@ -12,12 +12,12 @@ use super::fault::BlockFault;
 use super::level::Level;
 use super::part::{indented, inside};
 use super::texts::{Pass, joined, number_at, source};
-use rst_elements::{message, preserved, with_text};
-use rst_marks::{begins_with, ends_in_colons, front, is_blank, is_punctuation};
-use rst_markup::{
+use rst_block_nodes::{message, preserved, with_text};
+use rst_markup_blocks::{
     Adorned, Begun, LineTest, TextForm, adorned_at, begun_at, below_text, lines_end, text_at,
     text_form,
 };
+use rst_markup_lines::{begins_with, ends_in_colons, front, is_blank, is_punctuation};
 use rst_text::{View, skip};
 use rst_tree::{Level as Gravity, Tag};
 use std::alloc::{AllocError, Global};

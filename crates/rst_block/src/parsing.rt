@@ -3,10 +3,10 @@ use super::fault::BlockFault;
 use super::machine::{Frames, read};
 use super::texts::Pass;
 use arrayvec::ArrayVec;
-use rst_elements::Numbers;
-use rst_marked::Marked;
-use rst_sections::document;
+use rst_block_nodes::Numbers;
+use rst_block_sections::document;
 use rst_text::{Lines, Looks};
+use rst_tree_index::Marked;
 use std::alloc::Global;
 
 /// What was read of a document.

@@ -1,11 +1,11 @@
 //! Parts of a view that are blocks inside.
 ghost use Rattle.std.specs.Prelude.{◌≡◌, ◌+◌, ◌-◌, ◌*◌, ◌^◌, ◌<◌, ◌≤◌, length, drop, IfOk, IfSome};
 ghost use Rattle.rst_text.specs.Shown.{block_of, source_of};
-ghost use Rattle.rst_markup.specs.Parts.{IsBlock, IsCall};
+ghost use Rattle.rst_markup_blocks.specs.Parts.{IsBlock, IsCall};
 ghost use Rattle.rst_block.specs.Steps as spec;
 
-use rst_marks::Marker;
-use rst_markup::{Part, hanging_part, item_end};
+use rst_markup_blocks::{Part, hanging_part, item_end};
+use rst_markup_lines::Marker;
 use rst_text::{Looks, View};
 
 /// The lines from place `from` on that are blank or indented, without their least indentation.

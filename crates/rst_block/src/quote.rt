@@ -1,8 +1,8 @@
 //! Block quotes with their attributions (Markup Specification, 'Block Quotes').
 ghost use Rattle.std.specs.Prelude.{◌≡◌, ◌+◌, ◌-◌, ◌*◌, ◌^◌, ◌<◌, ◌≤◌, length, drop, IfOk, IfSome};
 ghost use Rattle.rst_text.specs.Shown.{block_of};
-ghost use Rattle.rst_markup.specs.Parts.{IsBlock, IsCall};
-ghost use Rattle.rst_markup.specs.Attributions.{attribution_part};
+ghost use Rattle.rst_markup_blocks.specs.Parts.{IsBlock, IsCall};
+ghost use Rattle.rst_markup_blocks.specs.Attributions.{attribution_part};
 ghost use Rattle.rst_block.specs.Steps as spec;
 
 use super::fault::BlockFault;
@@ -11,8 +11,8 @@ use super::part::{indented, inside};
 use super::resume::Waits;
 use super::step::Step;
 use super::texts::{Pass, joined, number_at};
-use rst_elements::{Texted, with_text};
-use rst_markup::{Attribution, LineTest, Part, attribution_at, lines_end};
+use rst_block_nodes::{Texted, with_text};
+use rst_markup_blocks::{Attribution, LineTest, Part, attribution_at, lines_end};
 use rst_text::View;
 use rst_tree::Tag;
 use std::alloc::Global;

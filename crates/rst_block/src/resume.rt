@@ -1,7 +1,7 @@
 //! What is done with the nodes of a block inside once it is read.
 ghost use Rattle.std.specs.Prelude.{◌≡◌, ◌+◌, ◌-◌, ◌*◌, ◌^◌, ◌<◌, ◌≤◌, length, drop, IfOk, IfSome};
 ghost use Rattle.rst_text.specs.Shown.{block_of};
-ghost use Rattle.rst_markup.specs.Parts.{IsBlock, IsCall};
+ghost use Rattle.rst_markup_blocks.specs.Parts.{IsBlock, IsCall};
 ghost use Rattle.rst_block.specs.Steps as spec;
 
 use super::fault::BlockFault;
@@ -11,9 +11,9 @@ use super::quote::quote_part;
 use super::step::Step;
 use super::substitution::{OpenReplacement, finished_replacement};
 use super::texts::{Pass, push};
-use rst_elements::{Texted, element_of};
-use rst_markup::Part;
-use rst_sections::{append, filled};
+use rst_block_nodes::{Texted, element_of};
+use rst_block_sections::{append, filled};
+use rst_markup_blocks::Part;
 use rst_text::View;
 use rst_tree::{Attrs, Node, Tag};
 use std::alloc::Global;

@@ -1,14 +1,14 @@
 //! Constructs that join with those before them: items of one list, lines of one line block, explicit markup.
 ghost use Rattle.std.specs.Prelude.{◌≡◌, ◌+◌, ◌-◌, ◌*◌, ◌^◌, ◌<◌, ◌≤◌, length, drop, IfOk, IfSome};
 ghost use Rattle.rst_text.specs.Shown.{block_of};
-ghost use Rattle.rst_markup.specs.Parts.{IsBlock, IsCall};
+ghost use Rattle.rst_markup_blocks.specs.Parts.{IsBlock, IsCall};
 ghost use Rattle.rst_block.specs.Steps as spec;
 
 use super::fault::BlockFault;
 use super::texts::{Pass, push};
-use rst_elements::{BarText, LineBlockFault, line_block};
-use rst_marks::{Enumerator, Format, Ordinals, Sequence, is_same_format, ordinal_in};
-use rst_sections::{append, filled};
+use rst_block_nodes::{BarText, LineBlockFault, line_block};
+use rst_block_sections::{append, filled};
+use rst_markup_lines::{Enumerator, Format, Ordinals, Sequence, is_same_format, ordinal_in};
 use rst_tree::Node;
 use std::alloc::Global;
 

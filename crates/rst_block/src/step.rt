@@ -1,7 +1,7 @@
 //! One step: the construct at the next line of a block.
 ghost use Rattle.std.specs.Prelude.{◌≡◌, ◌+◌, ◌-◌, ◌*◌, ◌^◌, ◌<◌, ◌≤◌, length, drop, IfOk, IfSome};
 ghost use Rattle.rst_text.specs.Shown.{block_of};
-ghost use Rattle.rst_markup.specs.Parts.{IsBlock, IsCall};
+ghost use Rattle.rst_markup_blocks.specs.Parts.{IsBlock, IsCall};
 ghost use Rattle.rst_block.specs.Steps as spec;
 
 use super::adornment::adornment;
@@ -18,8 +18,8 @@ use super::resume::Waits;
 use super::table::table;
 use super::text::text_line;
 use super::texts::Pass;
-use rst_markup::{Begun, Part, begun_at};
-use rst_tables::{TableResult, grid, simple};
+use rst_markup_blocks::{Begun, Part, begun_at};
+use rst_markup_tables::{TableResult, grid, simple};
 use rst_text::View;
 use std::alloc::Global;
 

@@ -1,8 +1,8 @@
 //! Substitution definitions (Markup Specification, 'Substitution Definitions').
 ghost use Rattle.std.specs.Prelude.{◌≡◌, ◌+◌, ◌-◌, ◌*◌, ◌^◌, ◌<◌, ◌≤◌, length, drop, IfOk, IfSome};
 ghost use Rattle.rst_text.specs.Shown.{block_of};
-ghost use Rattle.rst_directives.specs.Call.{IsContentIn};
-ghost use Rattle.rst_markup.specs.Parts.{IsBlock, IsCall};
+ghost use Rattle.rst_markup_directives.specs.Call.{IsContentIn};
+ghost use Rattle.rst_markup_blocks.specs.Parts.{IsBlock, IsCall};
 ghost use Rattle.rst_block.specs.Steps as spec;
 
 use super::directive::{directive_at, wrong_directive};
@@ -11,12 +11,12 @@ use super::level::Level;
 use super::resume::Waits;
 use super::step::Step;
 use super::texts::{Pass, alone, excerpt, number_at, source};
-use rst_directives::{Argument, Content, Directive, DirectiveFault, Place, Setting};
-use rst_elements::{
+use rst_block_nodes::{
     image, may_replace, message, substitution_definition as definition, substitution_name,
 };
-use rst_markup::Invocation;
-use rst_sections::filled;
+use rst_block_sections::filled;
+use rst_markup_blocks::Invocation;
+use rst_markup_directives::{Argument, Content, Directive, DirectiveFault, Place, Setting};
 use rst_text::View;
 use rst_tree::{Children, Level as Gravity, Node, Tag};
 use std::alloc::Global;

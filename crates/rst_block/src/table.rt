@@ -1,16 +1,16 @@
 //! Tables (Markup Specification, 'Tables').
 ghost use Rattle.std.specs.Prelude.{◌≡◌, ◌+◌, ◌-◌, ◌*◌, ◌^◌, ◌<◌, ◌≤◌, length, drop, IfOk, IfSome};
 ghost use Rattle.rst_text.specs.Shown.{block_of};
-ghost use Rattle.rst_markup.specs.Parts.{IsBlock, IsCall};
+ghost use Rattle.rst_markup_blocks.specs.Parts.{IsBlock, IsCall};
 ghost use Rattle.rst_block.specs.Steps as spec;
 
 use super::fault::BlockFault;
 use super::level::Level;
 use super::step::Step;
 use super::texts::{Pass, alone, number_at, source};
-use rst_elements::{element_of, entry, message, tgroup};
-use rst_sections::filled;
-use rst_tables::{Cell, TableFault, TableResult, malformed_text};
+use rst_block_nodes::{element_of, entry, message, tgroup};
+use rst_block_sections::filled;
+use rst_markup_tables::{Cell, TableFault, TableResult, malformed_text};
 use rst_text::View;
 use rst_tree::{Attrs, Level as Gravity, Node, Tag};
 use std::alloc::Global;

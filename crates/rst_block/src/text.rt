@@ -1,7 +1,7 @@
 //! Lines of text: titles, items of definition lists and paragraphs.
 ghost use Rattle.std.specs.Prelude.{◌≡◌, ◌+◌, ◌-◌, ◌*◌, ◌^◌, ◌<◌, ◌≤◌, length, drop, IfOk, IfSome};
 ghost use Rattle.rst_text.specs.Shown.{block_of};
-ghost use Rattle.rst_markup.specs.Parts.{IsBlock, IsCall};
+ghost use Rattle.rst_markup_blocks.specs.Parts.{IsBlock, IsCall};
 ghost use Rattle.rst_block.specs.Steps as spec;
 
 use super::definition::definition;
@@ -11,10 +11,10 @@ use super::level::Level;
 use super::paragraph::paragraph;
 use super::step::Step;
 use super::texts::{Pass, number_at, source};
-use rst_elements::message;
-use rst_marks::front;
-use rst_markup::{TextForm, below_text, text_at, text_form};
-use rst_sections::Style;
+use rst_block_nodes::message;
+use rst_block_sections::Style;
+use rst_markup_blocks::{TextForm, below_text, text_at, text_form};
+use rst_markup_lines::front;
 use rst_text::View;
 use rst_tree::{Level as Gravity, Node};
 use std::alloc::Global;

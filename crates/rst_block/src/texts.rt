@@ -2,12 +2,12 @@
 ghost use Rattle.std.specs.Prelude.{◌≡◌, ◌+◌, ◌-◌, ◌*◌, ◌^◌, ◌<◌, ◌≤◌, length, drop, IfOk, IfSome};
 ghost use Rattle.rst_text.specs.Block.{first_number};
 ghost use Rattle.rst_text.specs.Shown.{block_of};
-ghost use Rattle.rst_markup.specs.Parts.{IsBlock, IsCall};
+ghost use Rattle.rst_markup_blocks.specs.Parts.{IsBlock, IsCall};
 ghost use Rattle.rst_block.specs.Steps as spec;
 
 use super::fault::BlockFault;
-use rst_elements::{Numbers, message};
-use rst_marks::Characters;
+use rst_block_nodes::{Numbers, message};
+use rst_markup_lines::Characters;
 use rst_text::{Looks, View, skip};
 use rst_tree::{Level, Node};
 use std::alloc::{AllocError, Global};

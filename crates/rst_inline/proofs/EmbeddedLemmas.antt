@@ -4,8 +4,8 @@ use Rattle.std.proofs.lemmas.Bool.{lt-ltb, ltb-true, and_parts}
 use Rattle.rst_text.specs.Characters.{is_white}
 use Rattle.rst_text.specs.Places.{last_from, NoneFrom, IsLast}
 use Rattle.rst_text.proofs.PlacesLemmas.{last_from-is}
-use Rattle.rst_pieces.specs.Characters.{Text, has}
-use Rattle.rst_pieces.specs.Escapes.{is_escaped}
+use Rattle.rst_inline_scan.specs.Characters.{Text, has}
+use Rattle.rst_inline_scan.specs.Escapes.{is_escaped}
 use Rattle.rst_inline.specs.Embedded.{opens_angle, ends_with, last_angle, dark_end, is_alias}
 
 -- the last character, where it has been reached

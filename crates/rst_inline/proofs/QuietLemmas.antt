@@ -4,13 +4,13 @@ use Rattle.std.proofs.lemmas.List.{take_all}
 use Rattle.std.specs.Str.{chars}
 use Rattle.std.proofs.lemmas.Str.{chars-IsAscii}
 use Rattle.rst_tree.specs.Nodes.{nodes_of}
-use Rattle.rst_pieces.specs.Characters.{Text}
-use Rattle.rst_pieces.specs.Escapes.{unescaped}
-use Rattle.rst_pieces.specs.Pieces.{plain_from}
-use Rattle.rst_pieces.specs.Quiet.{quiet}
-use Rattle.rst_pieces.specs.declared.piece.Piece.{Piece}
-use Rattle.rst_pieces.proofs.EscapeLemmas.{unescaped-plain}
-use Rattle.rst_pieces.proofs.QuietLemmas.{whole, quiet-pieces, quiet-ascii, quiet-plain}
+use Rattle.rst_inline_scan.specs.Characters.{Text}
+use Rattle.rst_inline_scan.specs.Escapes.{unescaped}
+use Rattle.rst_inline_scan.specs.Pieces.{plain_from}
+use Rattle.rst_inline_scan.specs.Quiet.{quiet}
+use Rattle.rst_inline_scan.specs.declared.piece.Piece.{Piece}
+use Rattle.rst_inline_scan.proofs.EscapeLemmas.{unescaped-plain}
+use Rattle.rst_inline_scan.proofs.QuietLemmas.{whole, quiet-pieces, quiet-ascii, quiet-plain}
 use Rattle.rst_inline.specs.declared.nodes.Pieces.{Pieces}
 use Rattle.rst_inline.specs.Elements.{text_children}
 use Rattle.rst_inline.specs.Parts.{source}

@@ -4,9 +4,9 @@ use Rattle.std.specs.Prelude.{Result, Ok, Err}
 use Rattle.std.proofs.lemmas.Grind.{flat_map-append}
 use Rattle.std.proofs.lemmas.List.{length-append}
 use Rattle.rst_tree.specs.declared.node.Node.{Node}
-use Rattle.rst_pieces.specs.Characters.{Text}
-use Rattle.rst_pieces.specs.Pieces.{IsPieces}
-use Rattle.rst_pieces.specs.declared.piece.Piece.{Piece}
+use Rattle.rst_inline_scan.specs.Characters.{Text}
+use Rattle.rst_inline_scan.specs.Pieces.{IsPieces}
+use Rattle.rst_inline_scan.specs.declared.piece.Piece.{Piece}
 use Rattle.rst_inline.specs.declared.nodes.Pieces.{Pieces}
 use Rattle.rst_inline.specs.declared.fault.InlineFault.{InlineFault}
 use Rattle.rst_inline.specs.declared.fault.InlineFault.TheVariants.{NoMemory}

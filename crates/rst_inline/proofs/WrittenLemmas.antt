@@ -7,14 +7,14 @@ use Rattle.std.proofs.lemmas.Str.{encodes-IsAscii, chars-IsAscii}
 use Rattle.std.proofs.Math.Nat.{min-le_left}
 use Rattle.rst_tree.specs.declared.node.Node.TheVariants.{Text as Words}
 use Rattle.rst_tree.specs.declared.tag.Tag.TheVariants as tag
-use Rattle.rst_pieces.specs.Characters.{Text}
-use Rattle.rst_pieces.specs.Escapes.{has_backslash, unescaped}
-use Rattle.rst_pieces.specs.Pieces.{IsWithin}
-use Rattle.rst_pieces.specs.declared.piece.Kind.TheVariants.{Plain, Marked, Reference, Uri}
-use Rattle.rst_pieces.specs.declared.piece.Markup.TheVariants.{Strong, Emphasis, Literal}
-use Rattle.rst_pieces.specs.declared.piece.Suffix.{Suffix}
-use Rattle.rst_pieces.specs.declared.piece.Piece.{Piece}
-use Rattle.rst_pieces.proofs.EscapeLemmas.{either-false, unescaped-plain}
+use Rattle.rst_inline_scan.specs.Characters.{Text}
+use Rattle.rst_inline_scan.specs.Escapes.{has_backslash, unescaped}
+use Rattle.rst_inline_scan.specs.Pieces.{IsWithin}
+use Rattle.rst_inline_scan.specs.declared.piece.Kind.TheVariants.{Plain, Marked, Reference, Uri}
+use Rattle.rst_inline_scan.specs.declared.piece.Markup.TheVariants.{Strong, Emphasis, Literal}
+use Rattle.rst_inline_scan.specs.declared.piece.Suffix.{Suffix}
+use Rattle.rst_inline_scan.specs.declared.piece.Piece.{Piece}
+use Rattle.rst_inline_scan.proofs.EscapeLemmas.{either-false, unescaped-plain}
 use Rattle.rst_inline.specs.declared.reading.Meaning.TheVariants.{One}
 use Rattle.rst_inline.specs.Elements.{text_element, reference_node, uri_node}
 use Rattle.rst_inline.specs.Parts.{part, source, content, IsBare}

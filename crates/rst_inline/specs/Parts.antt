@@ -1,9 +1,9 @@
 -- The characters of pieces of inline markup (Markup Specification, 'Inline Markup').
 use Rattle.std.specs.Prelude.{◌≡◌, ℕ, false, List, take, drop, encode_utf8_all}
 use Rattle.std.specs.Str.{IsAscii}
-use Rattle.rst_pieces.specs.Characters.{Text}
-use Rattle.rst_pieces.specs.Escapes.{has_backslash}
-use Rattle.rst_pieces.specs.declared.piece.Piece.{Piece}
+use Rattle.rst_inline_scan.specs.Characters.{Text}
+use Rattle.rst_inline_scan.specs.Escapes.{has_backslash}
+use Rattle.rst_inline_scan.specs.declared.piece.Piece.{Piece}
 
 -- the characters from a place on, up to another place
 abbrev pub part : Text → ℕ → ℕ → Text

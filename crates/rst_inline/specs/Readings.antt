@@ -8,15 +8,15 @@ use Rattle.rst_tree.specs.declared.phrase.Phrase.TheVariants.{UnendedStrong, Une
 use Rattle.rst_tree.specs.Phrases.{phrase_text}
 use Rattle.rst_tree.specs.declared.tag.Tag.{Tag}
 use Rattle.rst_tree.specs.declared.tag.Tag.TheVariants as tag
-use Rattle.rst_pieces.specs.Characters.{Text}
-use Rattle.rst_pieces.specs.Escapes.{unescaped}
-use Rattle.rst_pieces.specs.declared.piece.Kind.TheVariants.{Plain, Marked, Unended, Label, Reference, Uri}
-use Rattle.rst_pieces.specs.declared.piece.Markup.{Markup}
-use Rattle.rst_pieces.specs.declared.piece.Markup.TheVariants.{Strong, Emphasis, Literal, Target, Substitution, Interpreted}
-use Rattle.rst_pieces.specs.declared.piece.Kind.{Kind}
-use Rattle.rst_pieces.specs.declared.piece.Piece.{Piece}
-use Rattle.rst_pieces.specs.declared.piece.Suffix.{Suffix}
-use Rattle.rst_pieces.specs.declared.piece.Suffix.TheVariants.{Bare, Role, Named, Anonymous}
+use Rattle.rst_inline_scan.specs.Characters.{Text}
+use Rattle.rst_inline_scan.specs.Escapes.{unescaped}
+use Rattle.rst_inline_scan.specs.declared.piece.Kind.TheVariants.{Plain, Marked, Unended, Label, Reference, Uri}
+use Rattle.rst_inline_scan.specs.declared.piece.Markup.{Markup}
+use Rattle.rst_inline_scan.specs.declared.piece.Markup.TheVariants.{Strong, Emphasis, Literal, Target, Substitution, Interpreted}
+use Rattle.rst_inline_scan.specs.declared.piece.Kind.{Kind}
+use Rattle.rst_inline_scan.specs.declared.piece.Piece.{Piece}
+use Rattle.rst_inline_scan.specs.declared.piece.Suffix.{Suffix}
+use Rattle.rst_inline_scan.specs.declared.piece.Suffix.TheVariants.{Bare, Role, Named, Anonymous}
 use Rattle.rst_inline.specs.declared.reading.Meaning.{Meaning}
 use Rattle.rst_inline.specs.declared.reading.Meaning.TheVariants.{Nothing, One, Two, Wrong}
 use Rattle.rst_inline.specs.Parts.{part, source, content, spelled}

@@ -3,9 +3,9 @@ use Rattle.std.specs.Prelude.{◌≡◌, ℕ, List, [], ◌∷◌, ◌++◌, len
 use Rattle.std.specs.List.{flat_map}
 use Rattle.rst_tree.specs.declared.node.Node.{Node}
 use Rattle.rst_tree.specs.declared.note.Note.{Note}
-use Rattle.rst_pieces.specs.Characters.{Text}
-use Rattle.rst_pieces.specs.Pieces.{IsPieces}
-use Rattle.rst_pieces.specs.declared.piece.Piece.{Piece}
+use Rattle.rst_inline_scan.specs.Characters.{Text}
+use Rattle.rst_inline_scan.specs.Pieces.{IsPieces}
+use Rattle.rst_inline_scan.specs.declared.piece.Piece.{Piece}
 use Rattle.rst_inline.specs.declared.reading.Meaning.{Meaning}
 use Rattle.rst_inline.specs.declared.reading.Meaning.TheVariants.{Nothing, One, Two, Wrong}
 use Rattle.rst_inline.specs.declared.nodes.Pieces.{Pieces}

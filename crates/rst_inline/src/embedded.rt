@@ -1,11 +1,11 @@
 //! Embedded URIs and aliases.
 ghost use Rattle.std.specs.Prelude.{◌≡◌, ◌<◌, ◌≤◌, length, IfOk, IfSome, ◌&&◌, ◌==◌, not};
-ghost use Rattle.rst_pieces.specs.Characters.{without_white};
+ghost use Rattle.rst_inline_scan.specs.Characters.{without_white};
 ghost use Rattle.rst_inline.specs.Embedded.{ends_with, last_angle, fits_angle, embedded_at, dark_end, enclosed, is_alias, meant, shown_by};
 
 use super::fault::InlineFault;
 use super::texts::part;
-use rst_pieces::{escapes, has, is_dark, unescaped};
+use rst_inline_scan::{escapes, has, is_dark, unescaped};
 use rst_text::is_white;
 use std::alloc::{AllocError, Global};
 

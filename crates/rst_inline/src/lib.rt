@@ -15,5 +15,5 @@ mod written;
 
 pub use fault::InlineFault;
 pub use nodes::{Pieces, inline};
-pub use rst_pieces::plain_uri;
+pub use rst_inline_scan::plain_uri;
 pub use texts::unescape;

@@ -1,8 +1,8 @@
 //! The nodes and the messages of a text.
 ghost use Rattle.std.specs.Prelude.{◌≡◌, ℕ, true, All, IfSome};
 ghost use Rattle.std.specs.Str.{chars};
-ghost use Rattle.rst_pieces.specs.Pieces.{IsWithin};
-ghost use Rattle.rst_pieces.specs.Quiet.{quiet};
+ghost use Rattle.rst_inline_scan.specs.Pieces.{IsWithin};
+ghost use Rattle.rst_inline_scan.specs.Quiet.{quiet};
 ghost use Rattle.rst_inline.specs.Faults.{Gives};
 ghost use Rattle.rst_inline.specs.Parts.{IsBare};
 ghost use Rattle.rst_inline.specs.Results.{Reads, IsRead};
@@ -11,7 +11,7 @@ use super::elements::text_nodes;
 use super::fault::InlineFault;
 use super::reading::Meaning;
 use super::written::{characters, if_ascii, if_bare, meaning, pieces, problem};
-use rst_pieces::{Kind, Piece, is_quiet};
+use rst_inline_scan::{Kind, Piece, is_quiet};
 use rst_tree::{Node, Note};
 use std::alloc::Global;
 

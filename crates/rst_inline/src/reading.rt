@@ -1,8 +1,8 @@
 //! What pieces mean.
 ghost use Rattle.std.specs.Prelude.{◌<◌, ◌+◌, true, ◌≡◌, []};
 ghost use Rattle.std.specs.Str.{chars};
-ghost use Rattle.rst_pieces.specs.Escapes.{unescaped};
-ghost use Rattle.rst_pieces.specs.Pieces.{IsWithin};
+ghost use Rattle.rst_inline_scan.specs.Escapes.{unescaped};
+ghost use Rattle.rst_inline_scan.specs.Pieces.{IsWithin};
 ghost use Rattle.rst_inline.specs.declared.reading.Meaning.TheVariants.{One};
 ghost use Rattle.rst_inline.specs.Elements.{text_element};
 ghost use Rattle.rst_inline.specs.Parts.{source, content};
@@ -18,7 +18,7 @@ use super::references::{
 };
 use super::roles::role_tag;
 use super::texts::{bare, part, spell};
-use rst_pieces::{Kind, Markup, Piece, Suffix};
+use rst_inline_scan::{Kind, Markup, Piece, Suffix};
 use rst_tree::{Level, Node, Phrase, Tag, Text};
 use std::alloc::Global;
 

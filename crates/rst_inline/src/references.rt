@@ -8,7 +8,7 @@ use super::attributes::{attr, three, two};
 use super::elements::element;
 use super::fault::InlineFault;
 use super::texts::{name_said, normalized_said, said};
-use rst_pieces::Suffix;
+use rst_inline_scan::Suffix;
 use rst_tree::{Attrs, Children, Entry, Key, Node, Tag, Value};
 use std::alloc::Global;
 

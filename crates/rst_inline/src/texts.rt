@@ -3,13 +3,13 @@ ghost use Rattle.std.specs.Prelude.{◌≡◌, string_bytes, IfOk};
 ghost use Rattle.std.specs.Str.{chars};
 ghost use Rattle.rst_text.specs.Names as names;
 ghost use Rattle.rst_text.specs.Text.{chars_of};
-ghost use Rattle.rst_pieces.specs.Escapes.{unescaped};
+ghost use Rattle.rst_inline_scan.specs.Escapes.{unescaped};
 ghost use Rattle.rst_inline.specs.Parts.{part, spelled};
 ghost use Rattle.rst_inline.specs.Elements.{said};
 ghost use Rattle.rst_inline.specs.Faults.{Gives};
 
 use super::fault::InlineFault;
-use rst_pieces::{has_backslash, unescaped};
+use rst_inline_scan::{has_backslash, unescaped};
 use rst_text::{characters_of, name_of, normalized_white};
 use rst_tree::{Text, Value};
 use std::alloc::{AllocError, Global};

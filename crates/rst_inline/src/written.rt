@@ -2,7 +2,7 @@
 ghost use Rattle.std.specs.Prelude.{◌≡◌, ℕ, List, [], IfOk, IfSome};
 ghost use Rattle.std.specs.Str.{chars, IsAscii};
 ghost use Rattle.rst_tree.specs.declared.node.Node.TheVariants.{Text as Words};
-ghost use Rattle.rst_pieces.specs.Pieces.{IsPieces, IsWithin};
+ghost use Rattle.rst_inline_scan.specs.Pieces.{IsPieces, IsWithin};
 ghost use Rattle.rst_inline.specs.declared.reading.Meaning.TheVariants.{One};
 ghost use Rattle.rst_inline.specs.Faults.{Gives};
 ghost use Rattle.rst_inline.specs.Elements.{text_element, reference_node, uri_node, problematic_node};
@@ -14,7 +14,7 @@ use super::fault::InlineFault;
 use super::reading::{Meaning, reading};
 use super::references::{reference, uri_reference};
 use super::texts::{part, spell};
-use rst_pieces::{Kind, Markup, Piece, Suffix, pieces_of, pieces_of_ascii};
+use rst_inline_scan::{Kind, Markup, Piece, Suffix, pieces_of, pieces_of_ascii};
 use rst_text::ascii_characters;
 use rst_tree::{Node, Tag, Text};
 use std::alloc::{AllocError, Global};

@@ -1,9 +1,9 @@
 -- A document after all transforms, in their order (Document Tree, 'Introduction').
 use Rattle.std.specs.Prelude.{◌≡◌, ℕ, Bool, true, false, List, [], ◌++◌, map, Result, Ok, Err}
-use Rattle.rst_marked.specs.declared.kinds.Kinds.{Kinds}
-use Rattle.rst_marked.specs.Held.{kinds_of}
-use Rattle.rst_names.specs.declared.registration.Registered.{Registered}
-use Rattle.rst_names.specs.Registering.{IsRegistered}
+use Rattle.rst_tree_index.specs.declared.kinds.Kinds.{Kinds}
+use Rattle.rst_tree_index.specs.Held.{kinds_of}
+use Rattle.rst_transform_names.specs.declared.registration.Registered.{Registered}
+use Rattle.rst_transform_names.specs.Registering.{IsRegistered}
 use Rattle.rst_settings.specs.declared.Settings.{Settings}
 use Rattle.rst_tree.specs.declared.node.Node.{Node}
 use Rattle.rst_tree.specs.declared.note.Note.{Note}
@@ -12,22 +12,22 @@ use Rattle.rst_tree.specs.Walk.{node_items}
 use Rattle.rst_transform.specs.declared.fault.TransformFault.{TransformFault}
 use Rattle.rst_transform.specs.declared.fault.TransformFault.TheVariants.{NoMemory, NoTree}
 use Rattle.rst_transform.specs.declared.finishing.Finished.{Finished}
-use Rattle.rst_work.specs.declared.work.Report.{Report}
-use Rattle.rst_work.specs.declared.work.Work.{Work}
-use Rattle.rst_hyperlinks.specs.Anonymous.{IsAnonymous}
-use Rattle.rst_docinfo.specs.Docinfo.{HasDocinfo}
-use Rattle.rst_substitutions.specs.Expanded.{IsExpanded}
-use Rattle.rst_messages.specs.Filtered.{with_filtered}
-use Rattle.rst_footnotes.specs.Footnotes.{NumbersFootnotes}
-use Rattle.rst_hyperlinks.specs.Indirect.{IsIndirect}
-use Rattle.rst_structure.specs.LastSection.{HasLastSection}
-use Rattle.rst_messages.specs.Listed.{report_said}
-use Rattle.rst_messages.specs.Messages.{is_number_shown, notes_of, until_halt, Numbered}
-use Rattle.rst_messages.specs.MessagesIn.{messages_in}
-use Rattle.rst_resolve.specs.Resolved.{IsResolved}
-use Rattle.rst_structure.specs.Targets.{IsRetargeted}
-use Rattle.rst_structure.specs.Title.{IsTitled}
-use Rattle.rst_structure.specs.Transitions.{HasTransitions}
+use Rattle.rst_transform_work.specs.declared.work.Report.{Report}
+use Rattle.rst_transform_work.specs.declared.work.Work.{Work}
+use Rattle.rst_transform_hyperlinks.specs.Anonymous.{IsAnonymous}
+use Rattle.rst_transform_docinfo.specs.Docinfo.{HasDocinfo}
+use Rattle.rst_transform_substitutions.specs.Expanded.{IsExpanded}
+use Rattle.rst_transform_messages.specs.Filtered.{with_filtered}
+use Rattle.rst_transform_footnotes.specs.Footnotes.{NumbersFootnotes}
+use Rattle.rst_transform_hyperlinks.specs.Indirect.{IsIndirect}
+use Rattle.rst_transform_structure.specs.LastSection.{HasLastSection}
+use Rattle.rst_transform_messages.specs.Listed.{report_said}
+use Rattle.rst_transform_messages.specs.Messages.{is_number_shown, notes_of, until_halt, Numbered}
+use Rattle.rst_transform_messages.specs.MessagesIn.{messages_in}
+use Rattle.rst_transform_references.specs.Resolved.{IsResolved}
+use Rattle.rst_transform_structure.specs.Targets.{IsRetargeted}
+use Rattle.rst_transform_structure.specs.Title.{IsTitled}
+use Rattle.rst_transform_structure.specs.Transitions.{HasTransitions}
 
 -- a transform takes place, or the document stays as it is
 abbrev pub Where : Bool → (Work → Work → Type 0) → Work → Work → Type 0

@@ -1,6 +1,6 @@
 use Rattle.std.proofs.Common.{drop, length-drop, arith}
 use Rattle.rst_text.specs.Shown.{block_of}
-use Rattle.rst_markup.proofs.EndLemmas.{looked_le}
+use Rattle.rst_markup_blocks.proofs.EndLemmas.{looked_le}
 use Rattle.rst_block.proofs.Blocks.{indented_block}
 use Rattle.rst_block.proofs.part.indented.Goals as goal
 

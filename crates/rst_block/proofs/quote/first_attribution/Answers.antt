@@ -2,9 +2,9 @@ use Rattle.std.proofs.Common.{◌≡◌, ◌+◌, drop, length-drop, arith, ap}
 use Rattle.std.proofs.lemmas.List.{drop-drop}
 use Rattle.rst_text.specs.Block.{Block}
 use Rattle.rst_text.specs.Shown.{block_of}
-use Rattle.rst_markup.specs.Lines.{lines_while}
-use Rattle.rst_markup.specs.RowLaws.{while_le}
-use Rattle.rst_markup.specs.declared.lines.LineTest.TheVariants.{Filled}
+use Rattle.rst_markup_blocks.specs.Lines.{lines_while}
+use Rattle.rst_markup_blocks.specs.RowLaws.{while_le}
+use Rattle.rst_markup_blocks.specs.declared.lines.LineTest.TheVariants.{Filled}
 use Rattle.rst_block.proofs.quote.first_attribution.Goals as goal
 
 pub returns-in-Some-clause-looks : goal.returns-in-Some-clause-looks

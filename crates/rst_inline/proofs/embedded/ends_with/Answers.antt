@@ -1,7 +1,7 @@
 use Rattle.std.proofs.Common.{◌≡◌, ◌-◌, ◌&&◌, not, length, sym, ◌∙◌, arith, ap}
 use Rattle.std.proofs.lemmas.List.{get_or_read}
-use Rattle.rst_pieces.specs.Escapes.{escapes}
-use Rattle.rst_pieces.proofs.EscapeLemmas.{is_escaped-start, is_escaped-more}
+use Rattle.rst_inline_scan.specs.Escapes.{escapes}
+use Rattle.rst_inline_scan.proofs.EscapeLemmas.{is_escaped-start, is_escaped-more}
 use Rattle.rst_inline.proofs.EmbeddedLemmas.{ends_with-is}
 use Rattle.rst_inline.proofs.embedded.ends_with.Goals as goal
 

@@ -1,5 +1,5 @@
 use Rattle.std.proofs.Common.{◌≡◌, ◌-◌, ◌≤◌, length}
-use Rattle.rst_pieces.specs.Escapes.{is_escaped}
+use Rattle.rst_inline_scan.specs.Escapes.{is_escaped}
 use Rattle.rst_inline.proofs.embedded.ends_with.Given as goal
 
 abbrev pub invariant-loop-place : goal.invariant-loop-place

@@ -1,5 +1,5 @@
 use Rattle.std.proofs.Common.{◌≡◌, ◌++◌, drop}
-use Rattle.rst_pieces.specs.Characters.{without_white}
+use Rattle.rst_inline_scan.specs.Characters.{without_white}
 use Rattle.rst_inline.proofs.embedded.without_white.Given as goal
 
 abbrev pub invariant-loop-c : goal.invariant-loop-c

@@ -1,7 +1,7 @@
 use Rattle.std.proofs.Common.{◌≡◌, ◌∙◌, IfSome, refl, sym, subst, arith}
 use Rattle.std.specs.Str.{chars}
-use Rattle.rst_pieces.specs.Pieces.{IsPieces}
-use Rattle.rst_pieces.proofs.PieceLemmas.{IsPieces-within}
+use Rattle.rst_inline_scan.specs.Pieces.{IsPieces}
+use Rattle.rst_inline_scan.proofs.PieceLemmas.{IsPieces-within}
 use Rattle.rst_inline.proofs.ReadLemmas.{read-pieces}
 use Rattle.rst_inline.proofs.nodes.inline.Goals as goal
 

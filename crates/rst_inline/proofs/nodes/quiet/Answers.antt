@@ -1,7 +1,7 @@
 use Rattle.std.proofs.Common.{◌∙◌, ap}
 use Rattle.std.proofs.lemmas.Str.{chars-IsAscii}
 use Rattle.rst_tree.specs.Nodes.{nodes_of}
-use Rattle.rst_pieces.proofs.QuietLemmas.{quiet-ascii}
+use Rattle.rst_inline_scan.proofs.QuietLemmas.{quiet-ascii}
 use Rattle.rst_inline.specs.Elements.{text_children}
 use Rattle.rst_inline.proofs.QuietLemmas.{quiet-read}
 use Rattle.rst_inline.proofs.nodes.quiet.Goals as goal

@@ -1,7 +1,7 @@
 use Rattle.std.proofs.Common.{◌∙◌, sym, ap}
 use Rattle.std.specs.Str.{chars}
 use Rattle.rst_tree.specs.declared.node.Node.TheVariants.{Text as Words}
-use Rattle.rst_pieces.specs.Escapes.{unescaped}
+use Rattle.rst_inline_scan.specs.Escapes.{unescaped}
 use Rattle.rst_inline.specs.declared.reading.Meaning.TheVariants.{One}
 use Rattle.rst_inline.proofs.TextLemmas.{spelled-chars, some-plain, no-plain}
 use Rattle.rst_inline.proofs.reading.plain.Goals as goal

@@ -1,7 +1,7 @@
 use Rattle.std.proofs.Common.{◌≡◌, IfOk, sym, subst, false}
 use Rattle.rst_text.specs.Text.{chars_of}
-use Rattle.rst_pieces.specs.Escapes.{has_backslash}
-use Rattle.rst_pieces.proofs.EscapeLemmas.{unescaped-plain}
+use Rattle.rst_inline_scan.specs.Escapes.{has_backslash}
+use Rattle.rst_inline_scan.proofs.EscapeLemmas.{unescaped-plain}
 use Rattle.rst_inline.proofs.texts.bare.Goals as goal
 
 pub returns-then-not-has_backslash : goal.returns-then-not-has_backslash

@@ -1,5 +1,5 @@
 use Rattle.std.proofs.Common.{◌∙◌, ap}
-use Rattle.rst_pieces.specs.Escapes.{unescaped}
+use Rattle.rst_inline_scan.specs.Escapes.{unescaped}
 use Rattle.rst_inline.proofs.texts.unescape.Goals as goal
 
 pub returns : goal.returns

@@ -1,9 +1,9 @@
 use Rattle.std.proofs.Common.{◌≡◌, ◌∙◌, ap, subst, []}
 use Rattle.rst_tree.specs.declared.node.Node.TheVariants.{Text as Words}
 use Rattle.rst_tree.specs.declared.tag.Tag.TheVariants.{Strong, Emphasis, Literal}
-use Rattle.rst_pieces.specs.Characters.{Text}
-use Rattle.rst_pieces.specs.declared.piece.Kind.TheVariants.{Marked}
-use Rattle.rst_pieces.specs.declared.piece.Markup.TheVariants as markups
+use Rattle.rst_inline_scan.specs.Characters.{Text}
+use Rattle.rst_inline_scan.specs.declared.piece.Kind.TheVariants.{Marked}
+use Rattle.rst_inline_scan.specs.declared.piece.Markup.TheVariants as markups
 use Rattle.rst_inline.specs.declared.reading.Meaning.TheVariants.{One}
 use Rattle.rst_inline.specs.Faults.{Gives}
 use Rattle.rst_inline.specs.Parts.{source, content, IsBare}

@@ -1,8 +1,8 @@
 use Rattle.std.proofs.Common.{rules, ◌∙◌, List, ap, refl}
 use Rattle.rst_transform.specs.Finishing.{all_messages}
-use Rattle.rst_messages.specs.Listed.{Lists}
-use Rattle.rst_messages.specs.Messages.{notes_of, until_halt, Numbered}
-use Rattle.rst_messages.specs.MessagesIn.{messages_in}
+use Rattle.rst_transform_messages.specs.Listed.{Lists}
+use Rattle.rst_transform_messages.specs.Messages.{notes_of, until_halt, Numbered}
+use Rattle.rst_transform_messages.specs.MessagesIn.{messages_in}
 use Rattle.rst_transform.proofs.finishing.finish.Goals as goal
 
 pub returns-then-not-is_tree-clause-finishes : goal.returns-then-not-is_tree-clause-finishes

@@ -1,8 +1,8 @@
 use Rattle.std.proofs.Common.{◌∙◌, ap, ◌++◌, List, map}
 use Rattle.std.proofs.Math.Path.{fun_ext}
-use Rattle.rst_messages.specs.Filtered.{with_filtered}
-use Rattle.rst_messages.specs.Listed.{report_said}
-use Rattle.rst_messages.specs.Messages.{is_number_shown, Numbered}
+use Rattle.rst_transform_messages.specs.Filtered.{with_filtered}
+use Rattle.rst_transform_messages.specs.Listed.{report_said}
+use Rattle.rst_transform_messages.specs.Messages.{is_number_shown, Numbered}
 use Rattle.rst_transform.proofs.finishing.left.Goals as goal
 
 pub returns-clause-root : goal.returns-clause-root

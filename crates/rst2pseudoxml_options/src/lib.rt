@@ -1,0 +1,48 @@
+//! The argument words of the program: the settings that they choose, and the source.
+#![tactic(auto)]
+
+ghost use Rattle.std.specs.Prelude.{◌≡◌, map, option_map, string_bytes};
+ghost use Rattle.rst2pseudoxml_options.specs.Options.{is_dashed, Chooses};
+
+mod choice;
+mod command;
+mod fault;
+mod found;
+mod values;
+
+use choice::choice_of;
+pub use fault::OptionFault;
+use found::{matches_of, text_of};
+use rst_settings::Settings;
+use std::alloc::Global;
+
+/// The settings that the words choose, and SOURCE as written, if they name one; the words are those after the
+/// program's name.
+///
+/// Faults are looked for in the order [`OptionFault::Usage`], [`OptionFault::BadLevel`], [`OptionFault::BadTab`],
+/// [`OptionFault::BadLimit`], [`OptionFault::TwoLevels`]; [`OptionFault::NoMemory`] comes where a growth is refused.
+pub fn options(alloc: Global, words: &[String]) -> Result<(Settings, Option<String>), OptionFault>
+    ensures { Chooses (map string_bytes words.now) result }
+{
+    let matches = matches_of(alloc, words)?;
+    let source = text_of(&matches, "source");
+    if is_dashed(source) {
+        return Err(OptionFault::Usage);
+    }
+    let settings = choice_of(&matches)?;
+    let source = match source {
+        Some(text) => Some(String::from_str(alloc, text)?),
+        None => None,
+    };
+    Ok((settings, source))
+}
+
+/// Whether SOURCE begins with a hyphen.
+fn is_dashed(source: Option<&str>) -> bool
+    ensures { result ≡ is_dashed (option_map (λ s. s.now) source.entry) }
+{
+    match source {
+        Some(text) => text.as_bytes().first() == Some(&b'-'),
+        None => false,
+    }
+}

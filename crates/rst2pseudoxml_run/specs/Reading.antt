@@ -1,0 +1,77 @@
+-- The document that an input is.
+use Rattle.std.specs.Prelude.{◌≡◌, ℕ, ◌≤◌, true, List, [], ◌∷◌, ◌++◌, Option, None, Some, Result, Ok, Err, codes}
+use Rattle.std.specs.Fmt.{decimal}
+use Rattle.std.specs.Str.Lossy.{utf8_valid_len}
+use Rattle.rst_block.specs.declared.parsing.Parsed.{Parsed}
+use Rattle.rst_settings.specs.declared.Settings.{Settings}
+use Rattle.rst_text.specs.Block.{Block}
+use Rattle.rst_text.specs.Lines.{first_longer, lines_of}
+use Rattle.rst_text.specs.Text.{text_of}
+use Rattle.rst_transform.specs.Finishing.{Leaves}
+use Rattle.rst_transform_messages.specs.Messages.{EndsAtHalt, highest_level}
+use Rattle.rst_transform_messages.specs.Shown.{is_shown_in}
+use Rattle.rst_transform.specs.declared.finishing.Finished.{Finished}
+use Rattle.rst_tree.specs.Messages.{note_node}
+use Rattle.rst_tree.specs.Nodes.{forest_of}
+use Rattle.rst_tree.specs.declared.node.Node.{Node}
+use Rattle.rst_tree.specs.declared.node.Node.TheVariants.{Element}
+use Rattle.rst_tree.specs.declared.note.Level.TheVariants.{Error}
+use Rattle.rst_tree.specs.declared.note.Note.{Note}
+use Rattle.rst_tree.specs.declared.tag.Tag.TheVariants.{Document}
+use Rattle.rst2pseudoxml_run.specs.declared.end.End.{End}
+use Rattle.rst2pseudoxml_run.specs.declared.end.End.TheVariants.{NotUtf8, TooDeep, NoMemory}
+
+-- that the line of a number is too long (Configuration, `line_length_limit`)
+abbrev pub long_text : ℕ → List ℕ
+long_text line = codes "Line " ++ decimal line ++ codes " exceeds the line-length-limit."
+
+abbrev pub long_message : ℕ → Node
+long_message line = note_node (record { level = Error; line = line; text = long_text line; block = None })
+
+-- a document with nothing but that message
+abbrev pub long_document : ℕ → Node
+long_document line = Element Document [] (forest_of (long_message line ∷ [])) 0
+
+-- no line is longer than the settings say
+abbrev pub IsShort : Settings → Block → Type 0
+IsShort settings lines = first_longer settings.limit lines ≡ None
+
+-- where a line is too long, the document says so and nothing else
+abbrev pub IsReadWith : Option ℕ → Parsed → Type 0
+IsReadWith None parsed = Unit {0}
+IsReadWith (Some line) parsed = (parsed.document ≡ long_document line) × (parsed.messages ≡ 0)
+
+-- a document was read of the lines, or a block nests too deep, which isn't looked for where a line is too long, or memory ran out
+abbrev pub Parses : Settings → Block → Result Parsed End → Type 0
+Parses settings lines (Ok parsed) = IsReadWith (first_longer settings.limit lines) parsed
+Parses settings lines (Err (TooDeep line)) = IsShort settings lines
+Parses settings lines (Err NoMemory) = Unit {0}
+Parses settings lines (Err _) = ⊥
+
+-- no message in a document is below the report level, and no message but the last one halts the run
+abbrev pub IsFinished : Settings → Node → List Note → Type 0
+IsFinished settings document notes = (is_shown_in settings.report document ≡ true) × EndsAtHalt settings.halt notes
+
+-- what is read of a text
+abbrev pub IsReadOf : Settings → Option (List ℕ) → Parsed → Type 0
+IsReadOf settings None parsed = ⊥
+IsReadOf settings (Some text) parsed = IsReadWith (first_longer settings.limit (lines_of settings.tab text)) parsed
+
+-- the finished document of a text, and its messages with their highest level
+abbrev pub IsMade : Settings → Option (List ℕ) → Finished → Type 0
+IsMade settings text finished =
+    ((parsed : Parsed) × IsReadOf settings text parsed × Leaves parsed.messages settings parsed.document finished.tree finished.notes.items)
+    × IsFinished settings finished.tree finished.notes.items × (finished.highest ≡ highest_level finished.notes.items) × (finished.highest ≤ 4)
+
+-- there is a text, and its lines are short
+abbrev pub HasShortLines : Settings → Option (List ℕ) → Type 0
+HasShortLines settings None = ⊥
+HasShortLines settings (Some text) = IsShort settings (lines_of settings.tab text)
+
+-- a document was made of the bytes, or they were refused, or memory ran out
+abbrev pub Reads : Settings → List ℕ → Result Finished End → Type 0
+Reads settings bytes (Ok finished) = IsMade settings (text_of bytes) finished
+Reads settings bytes (Err (NotUtf8 at)) = (text_of bytes ≡ None) × (at ≡ utf8_valid_len bytes)
+Reads settings bytes (Err (TooDeep line)) = HasShortLines settings (text_of bytes)
+Reads settings bytes (Err NoMemory) = Unit {0}
+Reads settings bytes (Err _) = ⊥

@@ -1,0 +1,49 @@
+-- The line by which a fault is reported.
+use Rattle.std.specs.Prelude.{◌≡◌, ℕ, ◌≤◌, false, List, [], ◌∷◌, ◌++◌, length, take, codes, decimal, string_bytes}
+use Rattle.rst_text.specs.Counted.{Stream, Gains}
+use Rattle.rst2pseudoxml_run.specs.declared.end.End.{End}
+use Rattle.rst2pseudoxml_run.specs.declared.end.End.TheVariants.{Done, Read, TooLong, NotUtf8, NoMemory, WriteErr, WriteOut, TooDeep}
+use Rattle.rst2pseudoxml_run.specs.declared.reporting.Stop.{Stop}
+use Rattle.rst2pseudoxml_run.specs.declared.reporting.Stop.TheVariants.{Words, Options, Open, Ran}
+use Rattle.rst2pseudoxml_options.specs.declared.fault.OptionFault.{OptionFault}
+use Rattle.rst2pseudoxml_options.specs.declared.fault.OptionFault.TheVariants.{Usage, BadLevel, BadTab, BadLimit, TwoLevels, NoMemory as NoRoom}
+
+abbrev pub message_of : End → List ℕ
+message_of (Done status) = []
+message_of Read = codes "read failed"
+message_of TooLong = codes "input too long"
+message_of (NotUtf8 at) = codes "not UTF-8 at byte " ++ decimal at
+message_of NoMemory = codes "out of memory"
+message_of (WriteErr done) = codes "write failed"
+message_of (WriteOut done) = codes "write failed"
+message_of (TooDeep line) = codes "line " ++ decimal line ++ codes ": nesting too deep"
+
+abbrev pub option_message : OptionFault → List ℕ
+option_message Usage = codes "bad arguments"
+option_message BadLevel = codes "bad level"
+option_message BadTab = codes "bad tab width"
+option_message BadLimit = codes "bad line limit"
+option_message TwoLevels = codes "two levels"
+option_message NoRoom = codes "out of memory"
+
+abbrev pub fault_line : List ℕ → List ℕ
+fault_line message = codes "rst2pseudoxml: " ++ message ++ 10 ∷ []
+
+-- the line of a fault, and nothing for a run that is done
+abbrev pub line_of : Stop → List ℕ
+line_of Words = fault_line (codes "bad arguments")
+line_of (Options fault) = fault_line (option_message fault)
+line_of (Open source) = fault_line (codes "cannot open " ++ string_bytes source)
+line_of (Ran (Done status)) = []
+line_of (Ran end) = fault_line (message_of end)
+
+abbrev pub status_of : Stop → ℕ
+status_of Words = 2
+status_of (Options fault) = 2
+status_of (Open source) = 1
+status_of (Ran (Done status)) = status
+status_of (Ran end) = 1
+
+-- the whole line was written, or a front of it up to a failed write
+abbrev pub Reports : Stream → List ℕ → Type 0
+Reports err line = (done : ℕ) × (done ≤ length line) × Gains err (take done line) × (err.failed ≡ false → Gains err line)

@@ -1,0 +1,89 @@
+//! The document that an input is: its tree and its messages.
+ghost use Rattle.std.specs.Prelude.{◌≡◌, IfOk, string_bytes};
+ghost use Rattle.rst_tree.specs.Faults.{Gives};
+ghost use Rattle.rst2pseudoxml_run.specs.Reading as spec;
+
+use crate::end::End;
+use itoa::Buffer;
+use rst_block::{BlockFault, Parsed, parse};
+use rst_block_nodes::message;
+use rst_settings::Settings;
+use rst_text::{Lines, TextFault, text_in};
+use rst_transform::{Finished, TransformFault, finish};
+use rst_tree::{Attrs, Children, Level, Node, Tag, TreeFault};
+use rst_tree_index::Marked;
+use std::alloc::{AllocError, Global};
+
+/// The finished document of the bytes, or why they are refused.
+pub fn document_of(alloc: Global, settings: &Settings, bytes: Vec<u8>) -> Result<Finished, End>
+    ensures { spec.Reads settings.now bytes.items result }
+{
+    let text = match text_in(bytes.as_slice()) {
+        Ok(text) => text,
+        Err(TextFault::NotUtf8 { at }) => return Err(End::NotUtf8 { at }),
+        Err(TextFault::NoMemory) => return Err(End::NoMemory),
+    };
+    let lines = match Lines::of(alloc, text, settings.tab) {
+        Ok(lines) => lines,
+        Err(_) => return Err(End::NoMemory),
+    };
+    // Each form of the input is given up before the next is made, so that memory holds few at once.
+    drop(bytes);
+    let parsed = parsed_of(alloc, settings, &lines)?;
+    drop(lines);
+    match finish(alloc, parsed.document, parsed.messages, settings) {
+        Ok(finished) => Ok(finished),
+        // `NoTree` is not expected of a document that was parsed, but that is not proved.
+        Err(TransformFault::NoMemory | TransformFault::NoTree) => Err(End::NoMemory),
+    }
+}
+
+/// What is read of the lines: a line that is too long is all that is told of a document.
+fn parsed_of(alloc: Global, settings: &Settings, lines: &Lines) -> Result<Parsed, End>
+    ensures { spec.Parses settings.now lines.now result }
+{
+    if let Some(line) = lines.first_longer(settings.limit) {
+        return match long_line(alloc, line) {
+            Ok(parsed) => Ok(parsed),
+            Err(_) => Err(End::NoMemory),
+        };
+    }
+    match parse(alloc, lines) {
+        Ok(parsed) => Ok(parsed),
+        Err(BlockFault::TooDeep { line }) => Err(End::TooDeep { line }),
+        Err(BlockFault::NoMemory) => Err(End::NoMemory),
+    }
+}
+
+/// What is said of a line that is too long.
+fn long_text(alloc: Global, line: usize) -> Result<String, AllocError>
+    ensures { IfOk result (λ text. string_bytes text ≡ spec.long_text line) }
+{
+    let mut buffer = Buffer::new();
+    let mut text = String::from_str(alloc, "Line ")?;
+    text.push_str(buffer.format(line))?;
+    text.push_str(" exceeds the line-length-limit.")?;
+    Ok(text)
+}
+
+/// The document of lines of which the one with this number is too long: the message that says so (Configuration,
+/// `line_length_limit`).
+fn long_line(alloc: Global, line: usize) -> Result<Parsed, TreeFault>
+    ensures document { Gives (λ parsed. parsed.document ≡ spec.long_document line) result }
+    ensures messages { Gives (λ parsed. parsed.messages ≡ 0) result }
+{
+    let text = long_text(alloc, line)?;
+    let mut children = Children::new(alloc);
+    children.push(message(alloc, Level::Error, line, text.as_str(), None)?)?;
+    let root = Node::Element {
+        tag: Tag::Document,
+        attrs: Attrs::new(alloc),
+        children,
+        line: 0,
+    };
+    Ok(Parsed {
+        document: Marked::of(alloc, root)?,
+        messages: 0,
+        looks: 0,
+    })
+}

@@ -1,0 +1,106 @@
+//! A run from a reader to two writers.
+ghost use Rattle.std.specs.Prelude.{◌≡◌, ◌≤◌, false};
+ghost use Rattle.rst_text.specs.Counted.{has_failed, between};
+ghost use Rattle.rst_transform_messages.specs.Messages.{highest_level};
+ghost use Rattle.rst2pseudoxml_run.specs.Headline.{Headline, Shows, Puts};
+ghost use Rattle.rst2pseudoxml_run.specs.Shown.{Answers, parts_of};
+
+use crate::document::document_of;
+use crate::end::End;
+use crate::input::read_input;
+use crate::telling::{halting, status_of, told};
+use rst_settings::Settings;
+use rst_text::Counted;
+use rst_transform::Finished;
+use rst_tree::{PrintFault, print_with_source};
+use std::alloc::Global;
+use std::io::{Read, Write};
+use std::mem;
+
+/// Reads the input to its end and writes what the program shows for it: all of standard error, then standard output.
+///
+/// Where the input is refused nothing is written. After a failed write the writer holds the front of its part that it
+/// had taken, each byte once, and standard output holds nothing if standard error failed.
+pub fn run<R: Read, O: Write, E: Write>(
+    alloc: Global,
+    settings: &Settings,
+    source: &str,
+    input: &mut Counted<R>,
+    out: &mut Counted<O>,
+    err: &mut Counted<E>,
+) -> End
+    requires input { has_failed input.old ≡ false }
+    requires out { has_failed out.old ≡ false }
+    requires err { has_failed err.old ≡ false }
+
+    ensures { Headline (Answers settings.now source.now)
+        (between R.remaining input.old input.new)
+        (between O.contents out.old out.new)
+        (between E.contents err.old err.new) result }
+{
+    let bytes = match read_input(alloc, input) {
+        Ok(bytes) => bytes,
+        Err(end) => return end,
+    };
+    let document = document_of(alloc, settings, bytes);
+    match document {
+        Ok(finished) => {
+            let end = show(alloc, settings, source, &finished, out, err);
+            // A run is the last that a process does: its memory goes back as a whole, not node by node.
+            mem::forget(finished);
+            end
+        }
+        Err(end) => end,
+    }
+}
+
+/// Writes what the program shows of a finished document: all of standard error, then standard output.
+///
+/// The messages are gathered before the first write, so where memory runs out nothing was written. The document needs no
+/// memory: it is printed as it is written.
+fn show<O: Write, E: Write>(
+    alloc: Global,
+    settings: &Settings,
+    source: &str,
+    finished: &Finished,
+    out: &mut Counted<O>,
+    err: &mut Counted<E>,
+) -> End
+    requires highest { finished.now.highest ≡ highest_level finished.now.notes.items }
+    requires few { finished.now.highest ≤ 4 }
+    requires out { has_failed out.old ≡ false }
+    requires err { has_failed err.old ≡ false }
+    ensures { Shows (parts_of settings.now source.now finished.now.tree finished.now.notes.items)
+        (between O.contents out.old out.new)
+        (between E.contents err.old err.new) result }
+{
+    let notes = finished.notes.as_slice();
+    let messages = match told(alloc, notes, settings, source) {
+        Ok(messages) => messages,
+        Err(_) => return End::NoMemory,
+    };
+    if let Err(done) = write_text(messages.inner().as_slice(), err) {
+        return End::WriteErr { done };
+    }
+    if halting(notes, settings).is_some() {
+        return End::Done(1);
+    }
+    match print_with_source(&finished.tree, source, out) {
+        Ok(()) => End::Done(status_of(finished.highest, settings)),
+        Err(PrintFault::Write { done }) => End::WriteOut { done },
+    }
+}
+
+/// Writes the text; an empty one makes no write. An `Err` says how many of its bytes the writer took.
+pub fn write_text<W: Write>(text: &[u8], out: &mut Counted<W>) -> Result<(), usize>
+    ensures { Puts (between W.contents out.old out.new) text.now result }
+{
+    let mut done = 0;
+    while done < text.len() {
+        match out.write(&text[done..]) {
+            None => return Err(done),
+            Some(n) => done += n,
+        }
+    }
+    Ok(())
+}

@@ -1,0 +1,49 @@
+-- What is read of a text is what the functions of the text give.
+use Rattle.std.proofs.Common.{◌≡◌, ℕ, List, [], map, length, ap, ◌∙◌}
+use Rattle.rst_inline_scan.specs.Pieces.{IsPieces}
+use Rattle.rst_inline_scan.specs.Reading.{pieces_of}
+use Rattle.rst_inline_scan.specs.declared.piece.Piece.{Piece}
+use Rattle.rst_inline_scan.proofs.PieceLemmas.{IsPieces-unique}
+use Rattle.rst_inline_scan.proofs.ReadingLemmas.{pieces_of-pieces}
+use Rattle.rst_inline.specs.Results.{nodes_behind, notes_of}
+use Rattle.rst_tree.specs.declared.node.Node.{Node}
+use Rattle.rst_tree.specs.declared.tag.Tag.{Tag}
+use Rattle.rst_block_nodes.specs.declared.terms.Heads.{Heads}
+use Rattle.rst_block_nodes.specs.declared.texted.Reading.{Reading}
+use Rattle.rst_block_nodes.specs.declared.texted.Texted.{Texted}
+use Rattle.rst_block_nodes.specs.Elements.{element_of}
+use Rattle.rst_block_nodes.specs.Readings.{read_nodes, read_notes, texted_node, term_nodes}
+use Rattle.rst_block_nodes.specs.Results.{HoldsText, HeadsText, ReadsText}
+use Rattle.rst_block_nodes.specs.Terms.{texts_of, groups_of, heads_of}
+use Rattle.rst_block_nodes.specs.Texts.{counting, messages_from, numbered_on}
+
+pieces_are : (t : List ℕ) (ps : List Piece) → IsPieces t 0 ps → ps ≡ pieces_of t
+pieces_are t ps h = IsPieces-unique t 0 ps (pieces_of t) h (pieces_of-pieces t)
+
+reading_is : (t : List ℕ) (line first : ℕ) (r : Reading) → ReadsText t line first r → (r.nodes.items ≡ read_nodes t line first) × (r.notes.items ≡ read_notes t line first)
+reading_is t line first r h =
+    let same : h.1.0 ≡ pieces_of t = pieces_are t h.1.0 h.1.1 in (
+      h.2.nodes ∙ ap (map (numbered_on first)) (h.1.2.nodes ∙ ap (nodes_behind t line []) same),
+      h.2.notes ∙ ap (messages_from first) (h.1.2.notes ∙ ap (notes_of t line) same),
+    )
+
+pub texted-is : (tag : Tag) (line : ℕ) (t : List ℕ) (text_line first : ℕ) (made : Texted) → HoldsText tag line t text_line first made
+    → (made.element ≡ texted_node tag line t text_line first) × (made.notes.items ≡ read_notes t text_line first)
+texted-is tag line t text_line first made h =
+    let r = reading_is t text_line first h.0 h.1 in (
+      h.2.element
+          ∙ ap (λ (ns : List Node). element_of tag (counting (length ns)) h.0.nodes.items line) r.1
+          ∙ ap (λ (xs : List Node). element_of tag (counting (length (read_notes t text_line first))) xs line) r.0,
+      h.2.notes ∙ r.1,
+    )
+
+pub termed-is : (t : List ℕ) (line first : ℕ) (made : Heads) → HeadsText t line first made
+    → (made.heads.items ≡ term_nodes t line first) × (made.notes.items ≡ read_notes t line first)
+termed-is t line first made h =
+    let r = reading_is t line first h.1 h.3 in (
+      h.4.heads
+          ∙ ap (λ (ns : List Node). heads_of (length ns) line (groups_of (texts_of t h.0) h.1.nodes.items)) r.1
+          ∙ ap (λ (xs : List Node). heads_of (length (read_notes t line first)) line (groups_of (texts_of t h.0) xs)) r.0
+          ∙ ap (λ (ps : List Piece). heads_of (length (read_notes t line first)) line (groups_of (texts_of t ps) (read_nodes t line first))) (pieces_are t h.0 h.2),
+      h.4.notes ∙ r.1,
+    )

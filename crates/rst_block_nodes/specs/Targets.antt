@@ -1,0 +1,81 @@
+-- Targets (Markup Specification, 'Hyperlink Targets'), and what may stand in a replacement text (Directives, 'Replacement
+-- Text').
+use Rattle.std.specs.Prelude.{ℕ, Bool, true, false, ◌&&◌, not, List, [], ◌∷◌, Option, Some, None, encode_utf8_all}
+use Rattle.std.specs.List.{list_all, list_any}
+use Rattle.std.specs.Option.{is_some}
+use Rattle.std.specs.Str.{chars}
+use Rattle.rst_text.specs.Names.{name_of}
+use Rattle.rst_tree.specs.Attributes.{attr, value_of, with_attr}
+use Rattle.rst_tree.specs.Forest.{Forest, bare}
+use Rattle.rst_tree.specs.Nodes.{nodes_of}
+use Rattle.rst_tree.specs.declared.attrs.Attr.{Attr}
+use Rattle.rst_tree.specs.declared.attrs.Value.TheVariants.{Text as Said, Number}
+use Rattle.rst_tree.specs.declared.key.Key.TheVariants.{Anonymous, OwnName, Refname, Refuri}
+use Rattle.rst_tree.specs.declared.node.Node.{Node}
+use Rattle.rst_tree.specs.declared.node.Node.TheVariants.{Element, Text as Words}
+use Rattle.rst_tree.specs.declared.tag.Tag.{Tag}
+use Rattle.rst_tree.specs.declared.tag.Tag.TheVariants.{Emphasis, Strong, Literal, Subscript, Superscript, TitleReference, SubstitutionReference, Reference, Target}
+use Rattle.rst_markup_directives.specs.Target.{Destination, named, located, target_value}
+use Rattle.rst_block_nodes.specs.Values.{name_in, unescaped}
+
+-- ---- targets
+
+-- the name, as it is written, if there is one
+abbrev pub name_attrs : Option (List ℕ) → List Attr
+name_attrs (Some written) = attr OwnName (Said (name_in (unescaped written))) ∷ []
+name_attrs None = attr Anonymous (Number 1) ∷ []
+
+-- with what the target leads to
+abbrev pub leading_attrs : List Attr → Option Destination → List Attr
+leading_attrs attrs (Some (named name)) = with_attr Refname (Said (encode_utf8_all (name_of name))) attrs
+leading_attrs attrs (Some (located uri)) = with_attr Refuri (Said (encode_utf8_all uri)) attrs
+leading_attrs attrs None = attrs
+
+-- a target with attributes, and with what it leads to, if it leads anywhere
+abbrev pub leading_node : List Attr → Option Destination → ℕ → Node
+leading_node attrs destination line = Element Target (leading_attrs attrs destination) bare line
+
+-- the target of a name, or an anonymous one, with what its text leads to
+abbrev pub target_node : Option (List ℕ) → List ℕ → ℕ → Node
+target_node name text line = leading_node (name_attrs name) (target_value (chars text)) line
+
+-- ---- replacement texts
+
+-- elements of this kind may stand there, whatever they hold
+abbrev pub is_plain_role : Tag → Bool
+is_plain_role Emphasis = true
+is_plain_role Strong = true
+is_plain_role Literal = true
+is_plain_role Subscript = true
+is_plain_role Superscript = true
+is_plain_role TitleReference = true
+is_plain_role SubstitutionReference = true
+is_plain_role _ = false
+
+-- the element is a substitution reference
+abbrev pub is_substitution_tag : Tag → Bool
+is_substitution_tag SubstitutionReference = true
+is_substitution_tag _ = false
+
+-- the node is a substitution reference
+abbrev pub is_substitution : Node → Bool
+is_substitution (Element t a c l) = is_substitution_tag t
+is_substitution (Words t) = false
+
+-- A reference may stand there that isn't anonymous and doesn't stand round a substitution reference.
+abbrev pub may_refer : List Attr → Forest → Bool
+may_refer a c = not (is_some (value_of Anonymous a)) && not (list_any is_substitution (nodes_of c))
+
+-- an element may stand there: a reference by its attributes and nodes, any other by its kind
+abbrev pub may_stand_as : Tag → List Attr → Forest → Bool
+may_stand_as Reference a c = may_refer a c
+may_stand_as t a c = is_plain_role t
+
+-- a node may stand there; a text always may
+abbrev pub may_stand : Node → Bool
+may_stand (Element t a c l) = may_stand_as t a c
+may_stand (Words t) = true
+
+-- all nodes may stand there
+abbrev pub may_replace : List Node → Bool
+may_replace nodes = list_all may_stand nodes

@@ -1,0 +1,165 @@
+//! Admonitions, topics and program code.
+ghost use Rattle.std.specs.Prelude.{◌≡◌, ◌++◌, option_map};
+ghost use Rattle.rst_tree.specs.Faults.{Gives};
+ghost use Rattle.rst_block_nodes.specs.Admonitions.{title_class, with_class, with_title_class};
+ghost use Rattle.rst_block_nodes.specs.Options.{tag_of, directive_node, code_node, code_classes, language_classes};
+
+use super::nodes::{element_of, preserving, text_nodes};
+use super::settings::{Holder, set_options};
+use super::values::identifier;
+use rst_markup_directives::{Name, Setting};
+use rst_tree::{Attrs, Key, Node, Tag, Text, Texts, TreeFault, Value};
+use std::alloc::Global;
+
+/// The element that a directive makes: of `replace`, which makes none of its own, the paragraph that it holds.
+fn tag_of(name: Name) -> Tag
+    ensures { result ≡ tag_of name }
+{
+    match name {
+        Name::Attention => Tag::Attention,
+        Name::Caution => Tag::Caution,
+        Name::Danger => Tag::Danger,
+        Name::Error => Tag::Error,
+        Name::Hint => Tag::Hint,
+        Name::Important => Tag::Important,
+        Name::Note => Tag::Note,
+        Name::Tip => Tag::Tip,
+        Name::Warning => Tag::Warning,
+        Name::Admonition => Tag::Admonition,
+        Name::Topic => Tag::Topic,
+        Name::Image => Tag::Image,
+        Name::Figure => Tag::Figure,
+        Name::Replace => Tag::Paragraph,
+        Name::Code => Tag::LiteralBlock,
+    }
+}
+
+/// The element of an admonition or a topic, with the classes and the name of its options, without title and content
+/// (Docutils, Directives, 'Admonitions').
+///
+/// The only refusal is [`TreeFault::NoMemory`].
+pub fn directive_element(
+    alloc: Global,
+    name: Name,
+    options: &[Setting],
+    line: usize,
+) -> Result<Node, TreeFault>
+    ensures { Gives (λ node. node ≡ directive_node name options.now line) result }
+{
+    let mut attrs = Attrs::new(alloc);
+    set_options(alloc, &mut attrs, Holder::Body, options)?;
+    Ok(element_of(tag_of(name), attrs, Vec::new(alloc), line))
+}
+
+/// An element of the directive `admonition` with the class that its title gives, unless its options gave it some: the
+/// word `admonition-` with the id of the title's text (Docutils, Directives, 'Generic Admonition').
+///
+/// The only refusal is [`TreeFault::NoMemory`].
+pub fn with_title_class(alloc: Global, admonition: Node, title: &Node) -> Result<Node, TreeFault>
+    ensures { Gives (λ node. node ≡ with_title_class admonition title.now) result }
+{
+    match admonition {
+        Node::Element {
+            tag,
+            attrs,
+            children,
+            line,
+        } => {
+            let attrs = with_class(alloc, attrs, title)?;
+            Ok(Node::Element {
+                tag,
+                attrs,
+                children,
+                line,
+            })
+        }
+        Node::Text(text) => Ok(Node::Text(text)),
+    }
+}
+
+/// The attributes with the class that a title gives, unless they have some.
+fn with_class(alloc: Global, attrs: Attrs, title: &Node) -> Result<Attrs, TreeFault>
+    ensures { Gives (λ classed. classed ≡ with_class (title_class title.now) attrs) result }
+{
+    if attrs.has(Key::Classes) {
+        return Ok(attrs);
+    }
+    let mut attrs = attrs;
+    attrs.set(Key::Classes, title_class(alloc, title)?)?;
+    Ok(attrs)
+}
+
+/// The class that a title gives.
+fn title_class(alloc: Global, title: &Node) -> Result<Value, TreeFault>
+    ensures { Gives (λ class. class ≡ title_class title.now) result }
+{
+    let text = title.text_of(alloc)?;
+    let id = identifier(alloc, text.as_str())?;
+    let mut class = Text::from_str(alloc, "admonition-")?;
+    class.push_str(id.as_str())?;
+    let mut classes = Texts::new(alloc);
+    classes.push(class)?;
+    Ok(Value::List(classes))
+}
+
+/// Program code in a language, if one is named, with its text (Docutils, Directives, 'Code'). The classes are `code`, the
+/// language as it is written, and those of the options.
+///
+/// The only refusal is [`TreeFault::NoMemory`].
+pub fn code_block(
+    alloc: Global,
+    language: Option<&str>,
+    options: &[Setting],
+    text: &str,
+    line: usize,
+) -> Result<Node, TreeFault>
+    ensures { Gives (λ node. node ≡ code_node (option_map (λ word. word.now) language.entry) options.now text.now line) result }
+{
+    let mut attrs = preserving(alloc)?;
+    set_options(alloc, &mut attrs, Holder::Body, options)?;
+    let own = attrs.remove(Key::Classes);
+    attrs.set(Key::Classes, code_classes(alloc, language, own)?)?;
+    let nodes = text_nodes(alloc, text)?;
+    Ok(element_of(Tag::LiteralBlock, attrs, nodes, line))
+}
+
+/// The classes of program code.
+fn code_classes(
+    alloc: Global,
+    language: Option<&str>,
+    own: Option<Value>,
+) -> Result<Value, TreeFault>
+    ensures { Gives (λ classes. classes ≡ code_classes (option_map (λ word. word.now) language.entry) own) result }
+{
+    let classes = language_classes(alloc, language)?;
+    match own {
+        Some(Value::List(more)) => Ok(Value::List(joined(classes, &more)?)),
+        _ => Ok(Value::List(classes)),
+    }
+}
+
+/// The classes that program code has whatever its options are.
+fn language_classes(alloc: Global, language: Option<&str>) -> Result<Texts, TreeFault>
+    ensures { Gives (λ classes. classes ≡ language_classes (option_map (λ word. word.now) language.entry)) result }
+{
+    let mut classes = Texts::new(alloc);
+    classes.push(Text::from_str(alloc, "code")?)?;
+    match language {
+        Some(word) => {
+            classes.push(Text::from_str(alloc, word)?)?;
+            Ok(classes)
+        }
+        None => Ok(classes),
+    }
+}
+
+/// The classes, and then more.
+fn joined(classes: Texts, more: &Texts) -> Result<Texts, TreeFault>
+    ensures { Gives (λ all. all ≡ classes ++ more.now) result }
+{
+    let mut all = classes;
+    for class in more.as_slice() {
+        all.push(class.copy()?)?;
+    }
+    Ok(all)
+}

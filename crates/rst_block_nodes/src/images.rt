@@ -1,0 +1,136 @@
+//! Images and figures.
+ghost use Rattle.std.specs.Prelude.{◌≡◌, ◌∷◌, [], option_map};
+ghost use Rattle.rst_tree.specs.Faults.{Gives};
+ghost use Rattle.rst_tree.specs.Attributes.{attr};
+ghost use Rattle.rst_tree.specs.declared.attrs.Value.TheVariants.{Text as Said};
+ghost use Rattle.rst_markup_directives.specs.Target.{destination_of};
+ghost use Rattle.rst_block_nodes.specs.Options.{whole_image, image_node, with_alt, image_holder, link_of, linked_node, link_attrs, figure_node};
+
+use super::nodes::element_of;
+use super::settings::{Holder, set_options};
+use super::values::{name_said, normalized, said};
+use rst_markup_directives::{OptionValue, Setting, Target};
+use rst_tree::{Attrs, Key, Node, Tag, Text, TreeFault, Value};
+use std::alloc::Global;
+
+/// An image, in a reference where its options say that it leads to a target (Docutils, Directives, 'Image'). The image of
+/// a figure has no alignment. `alt` is the text that stands for the image where no option says another.
+///
+/// The only refusal is [`TreeFault::NoMemory`].
+pub fn image(
+    alloc: Global,
+    uri: &str,
+    options: &[Setting],
+    line: usize,
+    in_figure: bool,
+    alt: Option<&str>,
+) -> Result<Node, TreeFault>
+    ensures { Gives (λ node. node ≡ whole_image uri.now options.now line in_figure (option_map (λ text. text.now) alt.entry)) result }
+{
+    let image = image_alone(alloc, uri, options, line, in_figure, alt)?;
+    match link_of(options) {
+        Some((to, source)) => linked(alloc, image, to, source, line),
+        None => Ok(image),
+    }
+}
+
+/// The image without what it leads to.
+fn image_alone(
+    alloc: Global,
+    uri: &str,
+    options: &[Setting],
+    line: usize,
+    in_figure: bool,
+    alt: Option<&str>,
+) -> Result<Node, TreeFault>
+    ensures { Gives (λ node. node ≡ image_node uri.now options.now line in_figure (option_map (λ text. text.now) alt.entry)) result }
+{
+    let mut attrs = uri_and_alt(alloc, uri, alt)?;
+    set_options(alloc, &mut attrs, image_holder(in_figure), options)?;
+    Ok(element_of(Tag::Image, attrs, Vec::new(alloc), line))
+}
+
+/// Where an image is, and the text that stands for it.
+fn uri_and_alt(alloc: Global, uri: &str, alt: Option<&str>) -> Result<Attrs, TreeFault>
+    ensures { Gives (λ attrs. attrs ≡ with_alt (option_map (λ text. text.now) alt.entry) (attr Key.Uri (Said uri.now) ∷ [])) result }
+{
+    let mut attrs = Attrs::new(alloc);
+    attrs.set(Key::Uri, said(alloc, uri)?)?;
+    match alt {
+        Some(text) => {
+            attrs.set(Key::Alt, said(alloc, text)?)?;
+            Ok(attrs)
+        }
+        None => Ok(attrs),
+    }
+}
+
+fn image_holder(in_figure: bool) -> Holder
+    ensures { result ≡ image_holder in_figure }
+{
+    if in_figure {
+        Holder::FigureImage
+    } else {
+        Holder::Image
+    }
+}
+
+/// What an option `target` leads to, and the text that it is written with.
+fn link_of(options: &[Setting]) -> Option<(&Target, &str)>
+    ensures { option_map (λ link. (destination_of link.0.now, link.1.now)) result ≡ link_of options.now }
+{
+    for setting in options {
+        if let OptionValue::Link { to, source } = &setting.value {
+            return Some((to, source.as_str()));
+        }
+    }
+    None
+}
+
+/// A reference round an image.
+fn linked(
+    alloc: Global,
+    image: Node,
+    to: &Target,
+    source: &str,
+    line: usize,
+) -> Result<Node, TreeFault>
+    ensures { Gives (λ node. node ≡ linked_node image (destination_of to.now) source.now line) result }
+{
+    let attrs = link_attrs(alloc, to, source)?;
+    let mut nodes = Vec::new(alloc);
+    nodes.push(image)?;
+    Ok(element_of(Tag::Reference, attrs, nodes, line))
+}
+
+/// What a reference leads to, and how it is written.
+#[tactic(auto, using(crate::proofs::TextLemmas::bytes_encoded))]
+fn link_attrs(alloc: Global, to: &Target, source: &str) -> Result<Attrs, TreeFault>
+    ensures { Gives (λ attrs. attrs ≡ link_attrs (destination_of to.now) source.now) result }
+{
+    let mut attrs = Attrs::new(alloc);
+    attrs.set(Key::Rawsource, said(alloc, source)?)?;
+    match to {
+        Target::Uri(uri) => {
+            attrs.set(Key::Refuri, said(alloc, uri.as_str())?)?;
+            Ok(attrs)
+        }
+        Target::Name(name) => {
+            let shown = normalized(alloc, name.as_str())?;
+            attrs.set(Key::Name, Value::Text(Text::new(shown)))?;
+            attrs.set(Key::Refname, name_said(alloc, name.as_str())?)?;
+            Ok(attrs)
+        }
+    }
+}
+
+/// A figure, without its image, caption and legend (Docutils, Directives, 'Figure').
+///
+/// The only refusal is [`TreeFault::NoMemory`].
+pub fn figure(alloc: Global, options: &[Setting], line: usize) -> Result<Node, TreeFault>
+    ensures { Gives (λ node. node ≡ figure_node options.now line) result }
+{
+    let mut attrs = Attrs::new(alloc);
+    set_options(alloc, &mut attrs, Holder::Figure, options)?;
+    Ok(element_of(Tag::Figure, attrs, Vec::new(alloc), line))
+}

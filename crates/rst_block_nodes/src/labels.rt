@@ -1,0 +1,80 @@
+//! Footnotes and citations.
+ghost use Rattle.std.specs.Prelude.{◌≡◌};
+ghost use Rattle.rst_tree.specs.Faults.{Gives};
+ghost use Rattle.rst_block_nodes.specs.Elements.{labelled_node, footnote_node, numbered_node, symbol_node, citation_node};
+
+use super::nodes::{element_of, plain};
+use super::values::{name_said, said};
+use rst_markup_lines::{begins_with, is_blank};
+use rst_text::skip;
+use rst_tree::{Attrs, Key, Node, Tag, TreeFault, Value};
+use std::alloc::Global;
+
+/// A footnote with its label, without its content (Document Tree, 'footnote'). The label is digits, which it shows and is
+/// named by; `#`, maybe with a name behind it, which numbers it; or `*`, which gives it a symbol.
+///
+/// The only refusal is [`TreeFault::NoMemory`].
+pub fn footnote(alloc: Global, label: &str, line: usize) -> Result<Node, TreeFault>
+    ensures { Gives (λ node. node ≡ footnote_node label.now line) result }
+{
+    if begins_with('#', label) {
+        return numbered(alloc, label, line);
+    }
+    if begins_with('*', label) {
+        return symbol(alloc, label, line);
+    }
+    let mut attrs = Attrs::new(alloc);
+    attrs.set(Key::Mark, said(alloc, label)?)?;
+    attrs.set(Key::OwnName, name_said(alloc, label)?)?;
+    labelled(alloc, Tag::Footnote, attrs, label, line)
+}
+
+/// A footnote that is numbered, and named by what stands behind the first character of its label.
+fn numbered(alloc: Global, label: &str, line: usize) -> Result<Node, TreeFault>
+    ensures { Gives (λ node. node ≡ numbered_node label.now line) result }
+{
+    let name = skip(label, 1);
+    let mut attrs = Attrs::new(alloc);
+    attrs.set(Key::Auto, Value::Number(1))?;
+    attrs.set(Key::Mark, said(alloc, label)?)?;
+    if !is_blank(name) {
+        attrs.set(Key::OwnName, name_said(alloc, name)?)?;
+    }
+    labelled(alloc, Tag::Footnote, attrs, "", line)
+}
+
+/// A footnote that has a symbol.
+fn symbol(alloc: Global, label: &str, line: usize) -> Result<Node, TreeFault>
+    ensures { Gives (λ node. node ≡ symbol_node label.now line) result }
+{
+    let mut attrs = Attrs::new(alloc);
+    attrs.set(Key::Auto, said(alloc, "*")?)?;
+    attrs.set(Key::Mark, said(alloc, label)?)?;
+    labelled(alloc, Tag::Footnote, attrs, "", line)
+}
+
+/// A citation with its label, which names it, without its content (Document Tree, 'citation').
+///
+/// The only refusal is [`TreeFault::NoMemory`].
+pub fn citation(alloc: Global, label: &str, line: usize) -> Result<Node, TreeFault>
+    ensures { Gives (λ node. node ≡ citation_node label.now line) result }
+{
+    let mut attrs = Attrs::new(alloc);
+    attrs.set(Key::OwnName, name_said(alloc, label)?)?;
+    labelled(alloc, Tag::Citation, attrs, label, line)
+}
+
+/// An element that begins with a label that shows a text.
+fn labelled(
+    alloc: Global,
+    tag: Tag,
+    attrs: Attrs,
+    shown: &str,
+    line: usize,
+) -> Result<Node, TreeFault>
+    ensures { Gives (λ node. node ≡ labelled_node tag attrs shown.now line) result }
+{
+    let mut nodes = Vec::new(alloc);
+    nodes.push(plain(alloc, Tag::Label, line, shown)?)?;
+    Ok(element_of(tag, attrs, nodes, line))
+}

@@ -1,0 +1,35 @@
+//! The elements of the document tree that blocks make: lists, footnotes, targets, tables, images and the others, from
+//! texts and numbers (Document Tree, 'Element Reference'). Nothing here looks at lines of the source.
+#![tactic(auto)]
+
+mod directives;
+mod images;
+mod labels;
+mod laws;
+mod line_blocks;
+mod lists;
+mod messages;
+mod nodes;
+mod numbers;
+mod sections;
+mod settings;
+mod tables;
+mod targets;
+mod terms;
+mod texted;
+mod values;
+
+pub use directives::{code_block, directive_element, with_title_class};
+pub use images::{figure, image};
+pub use labels::{citation, footnote};
+pub use laws::texts_are_read;
+pub use line_blocks::{BarText, LineBlockFault, line_block};
+pub use lists::{bullet_list, enumerated_list, option, start_message};
+pub use messages::message;
+pub use nodes::{element_of, plain, preserved};
+pub use numbers::Numbers;
+pub use sections::section;
+pub use tables::{entry, tgroup};
+pub use targets::{may_replace, substitution_definition, substitution_name, target};
+pub use terms::{Heads, term_and_classifiers};
+pub use texted::{Texted, with_text};

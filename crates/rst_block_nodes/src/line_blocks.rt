@@ -1,0 +1,201 @@
+//! Line blocks.
+ghost use Rattle.std.specs.Prelude.{◌≡◌, ◌≤◌, ◌-◌, suc, length, string_bytes};
+ghost use Rattle.std.specs.Str.{chars};
+ghost use Rattle.rst_tree.specs.declared.tag.Tag.TheVariants.{Line};
+ghost use Rattle.rst_tree.specs.Faults.{Gives};
+ghost use Rattle.rst_block_nodes.specs.Results.{HoldsText};
+ghost use Rattle.rst_block_nodes.specs.Texts.{counted_on};
+ghost use Rattle.rst_block_nodes.specs.LineBlocks.{Makes, Blocks, indented, first_line, least_indent, deeper_len};
+ghost use Rattle.rst_block_nodes.specs.declared.line_blocks.LineBlockFault.TheVariants.{NoMemory};
+
+use super::nodes::element_of;
+use super::numbers::Numbers;
+use super::texted::{Texted, with_text};
+use rst_tree::{Attrs, Tag, TreeFault};
+use std::alloc::{AllocError, AllocFailed, Global};
+use thiserror::Error;
+
+/// A line of a line block: how deep it is indented behind its bar (none where nothing stands behind the bar), the number of
+/// the line with the bar, the number of the line that its text begins in, and the text.
+#[derive(Debug, Drop)]
+pub struct BarText {
+    pub indent: Option<usize>,
+    pub line: usize,
+    pub text_line: usize,
+    pub text: String,
+}
+
+/// Why a line block was not made.
+#[derive(Clone, Copy, Debug, PartialEq, Eq, Error)]
+pub enum LineBlockFault {
+    /// Line blocks nest too deep; the number is that of the first line of the first line block that does.
+    #[error("line {line}: nesting too deep")]
+    TooDeep { line: usize },
+    /// A growth was refused.
+    #[error("out of memory")]
+    NoMemory,
+}
+
+impl From<AllocError> for LineBlockFault {
+    ghost from_gives = { λ _ fault. fault ≡ NoMemory };
+
+    fn from(_error: AllocError) -> LineBlockFault {
+        LineBlockFault::NoMemory
+    }
+}
+
+impl<T: Drop> From<AllocFailed<T>> for LineBlockFault {
+    ghost from_gives = { λ _ fault. fault ≡ NoMemory };
+
+    fn from(_error: AllocFailed<T>) -> LineBlockFault {
+        LineBlockFault::NoMemory
+    }
+}
+
+impl From<TreeFault> for LineBlockFault {
+    ghost from_gives = { λ _ fault. fault ≡ NoMemory };
+
+    fn from(_fault: TreeFault) -> LineBlockFault {
+        LineBlockFault::NoMemory
+    }
+}
+
+/// A line with the indentation that it counts with.
+#[derive(Drop)]
+struct IndentedText {
+    indent: usize,
+    line: usize,
+    text_line: usize,
+    text: String,
+}
+
+/// The line block of some lines, of a level of nesting (Markup Specification, 'Line Blocks'), and the messages of their
+/// texts. Lines that are deeper than the least indentation form line blocks of the next level, as many neighbours as there
+/// are in each. A line with nothing behind its bar is as deep as the one before it, the first not at all.
+///
+/// Refusals: [`LineBlockFault::TooDeep`] where a line block's level is above `deepest`, and
+/// [`LineBlockFault::NoMemory`].
+pub fn line_block(
+    alloc: Global,
+    lines: Vec<BarText>,
+    level: usize,
+    deepest: usize,
+    numbers: &mut Numbers,
+) -> Result<Texted, LineBlockFault>
+    ensures text { Blocks (suc deepest - level) numbers.old (indented lines.items) result }
+    ensures numbers { Makes (λ block. numbers.new ≡ counted_on numbers.old (length block.notes.items)) result }
+{
+    let lines = indented(alloc, lines)?;
+    if deepest < level {
+        return Err(LineBlockFault::TooDeep {
+            line: first_line(&lines),
+        });
+    }
+    block_of(alloc, &lines, deepest - level, numbers)
+}
+
+/// The lines with their indentations.
+fn indented(alloc: Global, lines: Vec<BarText>) -> Result<Vec<IndentedText>, TreeFault>
+    ensures { Gives (λ texts. texts.items ≡ indented lines.items) result }
+{
+    let mut texts = Vec::new(alloc);
+    let mut last = 0;
+    for bar in lines {
+        last = bar.indent.unwrap_or(last);
+        texts.push(IndentedText {
+            indent: last,
+            line: bar.line,
+            text_line: bar.text_line,
+            text: bar.text,
+        })?;
+    }
+    Ok(texts)
+}
+
+/// The number of the first line, 0 where there is none.
+fn first_line(lines: &[IndentedText]) -> usize
+    ensures { result ≡ first_line lines.now }
+{
+    match lines.first() {
+        Some(first) => first.line,
+        None => 0,
+    }
+}
+
+/// The least indentation, 0 where there is no line.
+fn least_indent(lines: &[IndentedText]) -> usize
+    ensures { result ≡ least_indent lines.now }
+{
+    let Some(first) = lines.first() else {
+        return 0;
+    };
+    let mut least = first.indent;
+    for line in lines {
+        least = least.min(line.indent);
+    }
+    least
+}
+
+/// How many lines at the front are deeper than `least`.
+fn deeper_len(lines: &[IndentedText], least: usize) -> usize
+    ensures value { result ≡ deeper_len least lines.now }
+    ensures within { result ≤ length lines.now }
+{
+    for (i, line) in lines.iter().enumerate() {
+        if line.indent <= least {
+            return i;
+        }
+    }
+    lines.len()
+}
+
+/// The line block of some lines, inside which `levels` more may nest.
+///
+/// Each line is looked at once for each line block that it stands in, and each message is moved once for each.
+fn block_of(
+    alloc: Global,
+    lines: &[IndentedText],
+    levels: usize,
+    numbers: &mut Numbers,
+) -> Result<Texted, LineBlockFault>
+    ensures text { Blocks (suc levels) numbers.old lines.now result }
+    ensures numbers { Makes (λ block. numbers.new ≡ counted_on numbers.old (length block.notes.items)) result }
+{
+    numbers.within_u64();
+    let least = least_indent(lines);
+    let mut nodes = Vec::new(alloc);
+    let mut notes = Vec::new(alloc);
+    let mut place = 0;
+    while place < lines.len() {
+        let run = deeper_len(&lines[place..], least);
+        if run == 0 {
+            let mut made = line_of(alloc, &lines[place], numbers)?;
+            nodes.push(made.element)?;
+            notes.append(&mut made.notes)?;
+            place += 1;
+            continue;
+        }
+        if levels == 0 {
+            return Err(LineBlockFault::TooDeep {
+                line: lines[place].line,
+            });
+        }
+        let inner = &lines[place..place + run];
+        let mut made = block_of(alloc, inner, levels - 1, numbers)?;
+        nodes.push(made.element)?;
+        notes.append(&mut made.notes)?;
+        place += run;
+    }
+    let line = first_line(lines);
+    let element = element_of(Tag::LineBlock, Attrs::new(alloc), nodes, line);
+    Ok(Texted { element, notes })
+}
+
+/// A line, and the messages of its text.
+fn line_of(alloc: Global, line: &IndentedText, numbers: &mut Numbers) -> Result<Texted, TreeFault>
+    ensures text { Gives (HoldsText Line line.now.line (chars (string_bytes line.now.text)) line.now.text_line numbers.old) result }
+    ensures numbers { Gives (λ made. numbers.new ≡ counted_on numbers.old (length made.notes.items)) result }
+{
+    let text = line.text.as_str();
+    with_text(alloc, Tag::Line, line.line, text, line.text_line, numbers)
+}

@@ -1,0 +1,147 @@
+//! Bullet lists, enumerated lists and the options of option lists.
+ghost use Rattle.std.specs.Prelude.{◌≡◌, None, option_map};
+ghost use Rattle.rst_tree.specs.Faults.{Gives};
+ghost use Rattle.rst_block_nodes.specs.Elements.{bullet_list_node, sequence_name, prefix, suffix, enumerated_list_node, start_text, delimiter_text, option_node, option_argument_node};
+ghost use Rattle.rst_block_nodes.specs.Texts.{message_node};
+
+use super::messages::message;
+use super::nodes::{element_of, plain};
+use super::values::said;
+use itoa::Buffer;
+use rst_markup_lines::{Delimiter, Enumerator, Format, Sequence, first_reading};
+use rst_tree::{Attrs, Key, Level, Node, Tag, Text, TreeFault, Value};
+use std::alloc::Global;
+
+/// A bullet list whose items begin with a mark, without its items (Document Tree, 'bullet_list').
+///
+/// The only refusal is [`TreeFault::NoMemory`].
+pub fn bullet_list(alloc: Global, mark: char, line: usize) -> Result<Node, TreeFault>
+    ensures { Gives (λ node. node ≡ bullet_list_node mark line) result }
+{
+    let mut bullet = String::new(alloc);
+    bullet.push(mark)?;
+    let mut attrs = Attrs::new(alloc);
+    attrs.set(Key::Bullet, Value::Text(Text::new(bullet)))?;
+    Ok(element_of(Tag::BulletList, attrs, Vec::new(alloc), line))
+}
+
+/// How the enumeration of a list is named.
+fn sequence_name(sequence: Sequence) -> &'static str
+    ensures { result.now ≡ sequence_name sequence }
+{
+    match sequence {
+        Sequence::Arabic => "arabic",
+        Sequence::LowerAlpha => "loweralpha",
+        Sequence::UpperAlpha => "upperalpha",
+        Sequence::LowerRoman => "lowerroman",
+        Sequence::UpperRoman => "upperroman",
+    }
+}
+
+/// What stands before an ordinal.
+fn prefix(format: Format) -> &'static str
+    ensures { result.now ≡ prefix format }
+{
+    match format {
+        Format::Parentheses => "(",
+        Format::Parenthesis | Format::Period => "",
+    }
+}
+
+/// What stands behind an ordinal.
+fn suffix(format: Format) -> &'static str
+    ensures { result.now ≡ suffix format }
+{
+    match format {
+        Format::Parentheses | Format::Parenthesis => ")",
+        Format::Period => ".",
+    }
+}
+
+/// An enumerated list whose first item begins with an enumerator, without its items (Document Tree, 'enumerated_list').
+/// It says its first ordinal if that isn't 1.
+///
+/// The only refusal is [`TreeFault::NoMemory`].
+pub fn enumerated_list(
+    alloc: Global,
+    enumerator: Enumerator,
+    line: usize,
+) -> Result<Node, TreeFault>
+    ensures { Gives (λ node. node ≡ enumerated_list_node enumerator line) result }
+{
+    let reading = first_reading(enumerator.written.ordinals);
+    let mut attrs = Attrs::new(alloc);
+    attrs.set(Key::Enumtype, said(alloc, sequence_name(reading.sequence))?)?;
+    attrs.set(Key::Prefix, said(alloc, prefix(enumerator.format))?)?;
+    attrs.set(Key::Suffix, said(alloc, suffix(enumerator.format))?)?;
+    if reading.ordinal != 1 {
+        attrs.set(Key::Start, Value::Number(reading.ordinal))?;
+    }
+    Ok(element_of(Tag::EnumeratedList, attrs, Vec::new(alloc), line))
+}
+
+/// The message that the first ordinal of a list isn't 1. `written` is the ordinal as it stands in the source.
+///
+/// The only refusal is [`TreeFault::NoMemory`].
+pub fn start_message(
+    alloc: Global,
+    written: &str,
+    ordinal: u64,
+    line: usize,
+) -> Result<Node, TreeFault>
+    ensures { Gives (λ node. node ≡ message_node Level.Info line (start_text written.now ordinal) None) result }
+{
+    let mut buffer = Buffer::new();
+    let mut text = String::from_str(alloc, "Enumerated list start value not ordinal-1: \"")?;
+    text.push_str(written)?;
+    text.push_str("\" (ordinal ")?;
+    text.push_str(buffer.format(ordinal))?;
+    text.push_str(")")?;
+    message(alloc, Level::Info, line, text.as_str(), None)
+}
+
+/// What stands between an option and its argument.
+fn delimiter_text(delimiter: Delimiter) -> &'static str
+    ensures { result.now ≡ delimiter_text delimiter }
+{
+    match delimiter {
+        Delimiter::Nothing => "",
+        Delimiter::Space => " ",
+        Delimiter::Equals => "=",
+    }
+}
+
+/// An option of an option list, with its argument, if it has one: what stands before it, and its text (Document Tree,
+/// 'option').
+///
+/// The only refusal is [`TreeFault::NoMemory`].
+pub fn option(
+    alloc: Global,
+    string: &str,
+    argument: Option<(Delimiter, &str)>,
+    line: usize,
+) -> Result<Node, TreeFault>
+    ensures { Gives (λ node. node ≡ option_node string.now (option_map (λ a. (a.0, a.1.now)) argument.entry) line) result }
+{
+    let mut nodes = Vec::new(alloc);
+    nodes.push(plain(alloc, Tag::OptionString, line, string)?)?;
+    if let Some((delimiter, text)) = argument {
+        nodes.push(option_argument(alloc, delimiter, text, line)?)?;
+    }
+    Ok(element_of(Tag::Option, Attrs::new(alloc), nodes, line))
+}
+
+/// The argument of an option.
+fn option_argument(
+    alloc: Global,
+    delimiter: Delimiter,
+    text: &str,
+    line: usize,
+) -> Result<Node, TreeFault>
+    ensures { Gives (λ node. node ≡ option_argument_node delimiter text.now line) result }
+{
+    let mut attrs = Attrs::new(alloc);
+    attrs.set(Key::Delimiter, said(alloc, delimiter_text(delimiter))?)?;
+    let nodes = super::nodes::text_nodes(alloc, text)?;
+    Ok(element_of(Tag::OptionArgument, attrs, nodes, line))
+}

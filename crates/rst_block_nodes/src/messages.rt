@@ -1,0 +1,34 @@
+//! Messages.
+ghost use Rattle.std.specs.Prelude.{◌≡◌, option_map};
+ghost use Rattle.rst_tree.specs.Faults.{Gives};
+ghost use Rattle.rst_block_nodes.specs.Texts.{message_node};
+
+use rst_tree::{Level, Node, Note, Text, TreeFault};
+use std::alloc::Global;
+
+/// A message on the line of a number, with the source text that it shows, if it shows some (Document Tree,
+/// 'system_message').
+///
+/// The only refusal is [`TreeFault::NoMemory`].
+pub fn message(
+    alloc: Global,
+    level: Level,
+    line: usize,
+    text: &str,
+    block: Option<&str>,
+) -> Result<Node, TreeFault>
+    ensures { Gives (λ node. node ≡ message_node level line text.now (option_map (λ shown. shown.now) block.entry)) result }
+{
+    let text = Text::from_str(alloc, text)?;
+    let block = match block {
+        Some(shown) => Some(Text::from_str(alloc, shown)?),
+        None => None,
+    };
+    let note = Note {
+        level,
+        line,
+        text,
+        block,
+    };
+    note.into_node(alloc)
+}

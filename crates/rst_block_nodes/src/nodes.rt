@@ -1,0 +1,62 @@
+//! Elements with their nodes, and those that hold a text without markup.
+ghost use Rattle.std.specs.Prelude.{◌≡◌};
+ghost use Rattle.rst_tree.specs.Faults.{Gives};
+ghost use Rattle.rst_block_nodes.specs.Elements.{element_of, text_nodes, plain_node, preserving, preserved_node};
+
+use super::values::said;
+use rst_tree::{Attrs, Children, Key, Node, Tag, TreeFault};
+use std::alloc::Global;
+
+/// An element with these attributes, these nodes in it, and the number of its line, or 0 where it tells none.
+pub fn element_of(tag: Tag, attrs: Attrs, nodes: Vec<Node>, line: usize) -> Node
+    ensures { result ≡ element_of tag attrs nodes.items line }
+{
+    Node::Element {
+        tag,
+        attrs,
+        children: Children::of(nodes),
+        line,
+    }
+}
+
+/// The nodes of a text without markup: none where it is empty.
+pub(crate) fn text_nodes(alloc: Global, text: &str) -> Result<Vec<Node>, TreeFault>
+    ensures { Gives (λ nodes. nodes.items ≡ text_nodes text.now) result }
+{
+    let mut nodes = Vec::new(alloc);
+    if !text.is_empty() {
+        nodes.push(Node::text(alloc, text)?)?;
+    }
+    Ok(nodes)
+}
+
+/// An element whose only node is a text as it stands; an empty text is no node.
+///
+/// The only refusal is [`TreeFault::NoMemory`].
+pub fn plain(alloc: Global, tag: Tag, line: usize, text: &str) -> Result<Node, TreeFault>
+    ensures { Gives (λ node. node ≡ plain_node tag line text.now) result }
+{
+    let nodes = text_nodes(alloc, text)?;
+    Ok(element_of(tag, Attrs::new(alloc), nodes, line))
+}
+
+/// The attribute that says that an element's white characters stay.
+pub(crate) fn preserving(alloc: Global) -> Result<Attrs, TreeFault>
+    ensures { Gives (λ attrs. attrs ≡ preserving) result }
+{
+    let mut attrs = Attrs::new(alloc);
+    attrs.set(Key::XmlSpace, said(alloc, "preserve")?)?;
+    Ok(attrs)
+}
+
+/// A literal block, a doctest block or a comment (Document Tree, 'literal_block'): the same as [`plain`], with the
+/// attribute that says that its white characters stay.
+///
+/// The only refusal is [`TreeFault::NoMemory`].
+pub fn preserved(alloc: Global, tag: Tag, line: usize, text: &str) -> Result<Node, TreeFault>
+    ensures { Gives (λ node. node ≡ preserved_node tag line text.now) result }
+{
+    let attrs = preserving(alloc)?;
+    let nodes = text_nodes(alloc, text)?;
+    Ok(element_of(tag, attrs, nodes, line))
+}

@@ -1,0 +1,93 @@
+//! The attributes that the options of directives give.
+ghost use Rattle.std.specs.Prelude.{◌≡◌};
+ghost use Rattle.rst_tree.specs.Faults.{Gives};
+ghost use Rattle.rst_block_nodes.specs.Options.{with_options, value_in, alignment_name};
+
+use super::values::{listed, said};
+use rst_markup_directives::{Alignment, OptionName, OptionValue, Setting};
+use rst_tree::{Attrs, Key, TreeFault, Value};
+use std::alloc::Global;
+
+/// An element that gets attributes from the options of its directive.
+#[derive(Clone, Copy)]
+pub(crate) enum Holder {
+    /// An image by itself.
+    Image,
+    /// The image of a figure.
+    FigureImage,
+    /// A figure.
+    Figure,
+    /// An admonition, a topic, or a literal block.
+    Body,
+}
+
+impl Holder {
+    ghost use Rattle.rst_block_nodes.specs.Options.{option_key};
+
+    /// The attribute that an option gives the element, if it gives one.
+    fn key(self, option: OptionName) -> Option<Key>
+        ensures { result ≡ option_key self option }
+    {
+        match (self, option) {
+            (Holder::Figure, OptionName::Align) => Some(Key::Align),
+            (Holder::Figure, OptionName::FigureWidth) => Some(Key::Width),
+            (Holder::Figure, OptionName::FigureClass) => Some(Key::Classes),
+            (Holder::Figure, _) => None,
+            (_, OptionName::Class) => Some(Key::Classes),
+            (_, OptionName::Name) => Some(Key::OwnName),
+            (Holder::Body, _) => None,
+            (_, OptionName::Alt) => Some(Key::Alt),
+            (_, OptionName::Height) => Some(Key::Height),
+            (_, OptionName::Width) => Some(Key::Width),
+            (_, OptionName::Scale) => Some(Key::Scale),
+            (Holder::Image, OptionName::Align) => Some(Key::Align),
+            _ => None,
+        }
+    }
+}
+
+/// Lets attributes say what the options of an element's directive say.
+pub(crate) fn set_options(
+    alloc: Global,
+    attrs: &mut Attrs,
+    holder: Holder,
+    options: &[Setting],
+) -> Result<(), TreeFault>
+    ensures { Gives (λ _. attrs.new ≡ with_options holder options.now attrs.old) result }
+{
+    for setting in options {
+        if let Some(key) = holder.key(setting.option) {
+            attrs.set(key, value_of(alloc, &setting.value)?)?;
+        }
+    }
+    Ok(())
+}
+
+/// What the value of an option says as the value of an attribute: of a target, the text that it is written with.
+fn value_of(alloc: Global, value: &OptionValue) -> Result<Value, TreeFault>
+    ensures { Gives (λ said. said ≡ value_in value.now) result }
+{
+    match value {
+        OptionValue::Text(text) => said(alloc, text.as_str()),
+        OptionValue::Measure(measure) => said(alloc, measure.as_str()),
+        OptionValue::Number(number) => Ok(Value::Number(*number)),
+        OptionValue::Place(alignment) => said(alloc, alignment_name(*alignment)),
+        OptionValue::Classes(classes) => listed(alloc, classes),
+        OptionValue::Link { source, .. } => said(alloc, source.as_str()),
+        OptionValue::Name(name) => said(alloc, name.as_str()),
+    }
+}
+
+/// How an alignment is named.
+fn alignment_name(alignment: Alignment) -> &'static str
+    ensures { result.now ≡ alignment_name alignment }
+{
+    match alignment {
+        Alignment::Top => "top",
+        Alignment::Middle => "middle",
+        Alignment::Bottom => "bottom",
+        Alignment::Left => "left",
+        Alignment::Center => "center",
+        Alignment::Right => "right",
+    }
+}

@@ -1,0 +1,54 @@
+//! Parts of tables.
+ghost use Rattle.std.specs.Prelude.{◌≡◌};
+ghost use Rattle.rst_tree.specs.Faults.{Gives};
+ghost use Rattle.rst_block_nodes.specs.Elements.{tgroup_node, colspec_node, entry_node};
+
+use super::nodes::element_of;
+use rst_tree::{Attrs, Key, Node, Tag, TreeFault, Value};
+use std::alloc::Global;
+
+/// The group of all rows of a table whose columns have these widths, with what it says of the columns, without its rows
+/// (Document Tree, 'tgroup').
+///
+/// The only refusal is [`TreeFault::NoMemory`].
+pub fn tgroup(alloc: Global, widths: &[usize], line: usize) -> Result<Node, TreeFault>
+    ensures { Gives (λ node. node ≡ tgroup_node widths.now line) result }
+{
+    let mut nodes = Vec::new(alloc);
+    for width in widths {
+        nodes.push(colspec(alloc, *width, line)?)?;
+    }
+    let mut attrs = Attrs::new(alloc);
+    attrs.set(Key::Cols, Value::Number(widths.len() as u64))?;
+    Ok(element_of(Tag::Tgroup, attrs, nodes, line))
+}
+
+/// A column of a width.
+fn colspec(alloc: Global, width: usize, line: usize) -> Result<Node, TreeFault>
+    ensures { Gives (λ node. node ≡ colspec_node line width) result }
+{
+    let mut attrs = Attrs::new(alloc);
+    attrs.set(Key::Colwidth, Value::Number(width as u64))?;
+    Ok(element_of(Tag::Colspec, attrs, Vec::new(alloc), line))
+}
+
+/// An entry of a table that takes so many rows and columns beside its first, without its content (Document Tree, 'entry').
+///
+/// The only refusal is [`TreeFault::NoMemory`].
+pub fn entry(
+    alloc: Global,
+    morerows: usize,
+    morecols: usize,
+    line: usize,
+) -> Result<Node, TreeFault>
+    ensures { Gives (λ node. node ≡ entry_node morerows morecols line) result }
+{
+    let mut attrs = Attrs::new(alloc);
+    if morecols != 0 {
+        attrs.set(Key::Morecols, Value::Number(morecols as u64))?;
+    }
+    if morerows != 0 {
+        attrs.set(Key::Morerows, Value::Number(morerows as u64))?;
+    }
+    Ok(element_of(Tag::Entry, attrs, Vec::new(alloc), line))
+}

@@ -1,0 +1,181 @@
+//! Targets and substitution definitions.
+ghost use Rattle.std.specs.Prelude.{◌≡◌, string_bytes, option_map};
+ghost use Rattle.std.specs.List.{list_any};
+ghost use Rattle.std.specs.Option.{is_some};
+ghost use Rattle.rst_tree.specs.Attributes.{value_of};
+ghost use Rattle.rst_tree.specs.Nodes.{nodes_of};
+ghost use Rattle.rst_tree.specs.declared.key.Key.TheVariants.{Anonymous};
+ghost use Rattle.rst_tree.specs.Faults.{Gives};
+ghost use Rattle.rst_markup_directives.specs.Target.{destination_of};
+ghost use Rattle.rst_block_nodes.specs.Values.{normalized, unescaped};
+ghost use Rattle.rst_block_nodes.specs.Elements.{substitution_definition_node};
+ghost use Rattle.rst_block_nodes.specs.Targets.{target_node, name_attrs, leading_node, may_replace, may_stand, may_refer, is_plain_role, is_substitution};
+
+use super::nodes::element_of;
+use super::values::{name_said, normalized, said, unescaped};
+use rst_markup_directives::{Target, target_value};
+use rst_tree::{Attrs, Children, Key, Node, Tag, Text, TreeFault, Value};
+use std::alloc::Global;
+
+/// A target that is a block: its name as it is written, still with escapes, if it has one, and its text, whose lines are
+/// joined by line feeds and may have their indentation (Markup Specification, 'Hyperlink Targets'). It leads to a name or
+/// to a URI, or stands for its own place where nothing is left of its text. One without a name is anonymous.
+///
+/// The only refusal is [`TreeFault::NoMemory`].
+pub fn target(alloc: Global, name: Option<&str>, text: &str, line: usize) -> Result<Node, TreeFault>
+    ensures { Gives (λ node. node ≡ target_node (option_map (λ written. written.now) name.entry) text.now line) result }
+{
+    let attrs = name_attrs(alloc, name)?;
+    match target_value(alloc, text) {
+        Ok(destination) => leading(alloc, attrs, destination, line),
+        Err(_) => Err(TreeFault::NoMemory),
+    }
+}
+
+/// The attribute that says a target's name, or that it has none.
+fn name_attrs(alloc: Global, name: Option<&str>) -> Result<Attrs, TreeFault>
+    ensures { Gives (λ attrs. attrs ≡ name_attrs (option_map (λ written. written.now) name.entry)) result }
+{
+    let mut attrs = Attrs::new(alloc);
+    match name {
+        Some(written) => {
+            let name = unescaped(alloc, written)?;
+            attrs.set(Key::OwnName, name_said(alloc, name.as_str())?)?;
+            Ok(attrs)
+        }
+        None => {
+            attrs.set(Key::Anonymous, Value::Number(1))?;
+            Ok(attrs)
+        }
+    }
+}
+
+/// A target with what it leads to.
+#[tactic(auto, using(crate::proofs::TextLemmas::bytes_encoded))]
+fn leading(
+    alloc: Global,
+    attrs: Attrs,
+    destination: Option<Target>,
+    line: usize,
+) -> Result<Node, TreeFault>
+    ensures { Gives (λ node. node ≡ leading_node attrs (option_map destination_of destination) line) result }
+{
+    let mut attrs = attrs;
+    match destination {
+        Some(Target::Name(name)) => {
+            attrs.set(Key::Refname, name_said(alloc, name.as_str())?)?;
+            Ok(element_of(Tag::Target, attrs, Vec::new(alloc), line))
+        }
+        Some(Target::Uri(uri)) => {
+            attrs.set(Key::Refuri, Value::Text(Text::new(uri)))?;
+            Ok(element_of(Tag::Target, attrs, Vec::new(alloc), line))
+        }
+        None => Ok(element_of(Tag::Target, attrs, Vec::new(alloc), line)),
+    }
+}
+
+/// The name of a substitution definition that is written in this way: without escapes, each run of white characters as one
+/// space, and none at the ends. Case is kept.
+///
+/// The only refusal is [`TreeFault::NoMemory`].
+pub fn substitution_name(alloc: Global, written: &str) -> Result<String, TreeFault>
+    ensures { Gives (λ name. string_bytes name ≡ normalized (unescaped written.now)) result }
+{
+    let name = unescaped(alloc, written)?;
+    normalized(alloc, name.as_str())
+}
+
+/// A substitution definition, without its content; the name is that of [`substitution_name`] (Document Tree,
+/// 'substitution_definition').
+///
+/// The only refusal is [`TreeFault::NoMemory`].
+pub fn substitution_definition(alloc: Global, name: &str, line: usize) -> Result<Node, TreeFault>
+    ensures { Gives (λ node. node ≡ substitution_definition_node name.now line) result }
+{
+    let mut attrs = Attrs::new(alloc);
+    attrs.set(Key::OwnName, said(alloc, name)?)?;
+    Ok(element_of(Tag::SubstitutionDefinition, attrs, Vec::new(alloc), line))
+}
+
+/// Whether these nodes of a text may stand in the place of a substitution reference (Docutils, Directives, 'Replacement
+/// Text'): text, plain roles, substitution references, and references that are neither anonymous nor stand round a
+/// substitution reference.
+pub fn may_replace(nodes: &[Node]) -> bool
+    ensures { result ≡ may_replace nodes.now }
+{
+    for node in nodes {
+        if !may_stand(node) {
+            return false;
+        }
+    }
+    true
+}
+
+/// Whether a node may stand in a replacement text.
+fn may_stand(node: &Node) -> bool
+    ensures { result ≡ may_stand node.now }
+{
+    match node {
+        Node::Text(_) => true,
+        Node::Element {
+            tag: Tag::Reference,
+            attrs,
+            children,
+            ..
+        } => may_refer(attrs, children),
+        Node::Element { tag, .. } => is_plain_role(*tag),
+    }
+}
+
+/// Whether a reference with these attributes and nodes may stand in a replacement text.
+fn may_refer(attrs: &Attrs, children: &Children) -> bool
+    ensures { result ≡ may_refer attrs.now children.now }
+{
+    !is_anonymous(attrs) && !holds_substitution(children)
+}
+
+fn holds_substitution(children: &Children) -> bool
+    ensures { result ≡ list_any is_substitution (nodes_of children.now) }
+{
+    has_substitution(children.as_slice())
+}
+
+fn is_anonymous(attrs: &Attrs) -> bool
+    ensures { result ≡ is_some (value_of Anonymous attrs.now) }
+{
+    attrs.has(Key::Anonymous)
+}
+
+/// Whether elements of this kind may stand in a replacement text, whatever they hold.
+fn is_plain_role(tag: Tag) -> bool
+    ensures { result ≡ is_plain_role tag }
+{
+    matches!(
+        tag,
+        Tag::Emphasis
+            | Tag::Strong
+            | Tag::Literal
+            | Tag::Subscript
+            | Tag::Superscript
+            | Tag::TitleReference
+            | Tag::SubstitutionReference
+    )
+}
+
+/// Whether one of the nodes is a substitution reference.
+fn has_substitution(nodes: &[Node]) -> bool
+    ensures { result ≡ list_any is_substitution nodes.now }
+{
+    for node in nodes {
+        if matches!(
+            node,
+            Node::Element {
+                tag: Tag::SubstitutionReference,
+                ..
+            }
+        ) {
+            return true;
+        }
+    }
+    false
+}

@@ -1,0 +1,270 @@
+//! Terms of definition lists, with their classifiers.
+ghost use Rattle.std.specs.Prelude.{◌≡◌, ◌≤◌, false, List, [], ◌∷◌, map, length, IfOk};
+ghost use Rattle.std.specs.Str.{chars};
+ghost use Rattle.rst_tree.specs.Faults.{Gives};
+ghost use Rattle.rst_inline.specs.Parts.{part};
+ghost use Rattle.rst_block_nodes.specs.Results.{HeadsText};
+ghost use Rattle.rst_block_nodes.specs.Texts.{counted_on};
+ghost use Rattle.rst_block_nodes.specs.Terms.{IsPut, groups_of, heads_behind, heads_of, texts_of, letters_from, parts_of, is_bare, is_delimiter, begins_with_space, ends_in_space, dark_len, spelled};
+
+use super::nodes::element_of;
+use super::numbers::Numbers;
+use super::texted::{Reading, counting, read};
+use rst_inline_scan::{Kind, Piece, escapes, pieces_of};
+use rst_text::{characters_of, is_white};
+use rst_tree::{Attrs, Node, Tag, Text, TreeFault};
+use std::alloc::{AllocError, Global};
+
+/// A term and its classifiers, in order, and the messages of their text.
+#[derive(Debug, Drop)]
+pub struct Heads {
+    pub heads: Vec<Node>,
+    pub notes: Vec<Node>,
+}
+
+/// The term that a text is, with the classifiers behind it, each behind a colon with spaces on both sides (Markup
+/// Specification, 'Definition Lists'). The colon and the spaces stand in text without markup, and none of them is
+/// escaped; they are looked for when escapes are gone. The term says how many messages there are.
+///
+/// The only refusal is [`TreeFault::NoMemory`].
+pub fn term_and_classifiers(
+    alloc: Global,
+    text: &str,
+    line: usize,
+    numbers: &mut Numbers,
+) -> Result<Heads, TreeFault>
+    ensures text { Gives (HeadsText (chars text.now) line numbers.old) result }
+    ensures numbers { Gives (λ made. numbers.new ≡ counted_on numbers.old (length made.notes.items)) result }
+{
+    let characters = characters_of(alloc, text)?;
+    let pieces = pieces_of(alloc, &characters)?;
+    let parts = plain_parts(alloc, &characters, &pieces)?;
+    let Reading { nodes, notes } = read(alloc, text, line, numbers)?;
+    let heads = heads_of(alloc, nodes, parts, notes.len(), line)?;
+    Ok(Heads { heads, notes })
+}
+
+/// A character, and whether it was escaped.
+#[derive(Clone, Copy)]
+struct Letter {
+    character: char,
+    escaped: bool,
+}
+
+/// The parts of those pieces without markup of which something is left when escapes are gone, piece after piece.
+fn plain_parts(alloc: Global, text: &[char], pieces: &[Piece]) -> Result<Vec<Vec<Text>>, TreeFault>
+    ensures { Gives (λ parts. map (λ texts. texts.items) parts.items ≡ texts_of text.now pieces.now) result }
+{
+    let mut parts = Vec::new(alloc);
+    for piece in pieces {
+        if !matches!(piece.kind, Kind::Plain) {
+            continue;
+        }
+        let letters = letters_of(alloc, part(text, piece.from, piece.to))?;
+        if !letters.is_empty() {
+            parts.push(parts_of(alloc, &letters)?)?;
+        }
+    }
+    Ok(parts)
+}
+
+/// The characters from a place on, up to another place.
+fn part(text: &[char], low: usize, high: usize) -> &[char]
+    ensures { result.now ≡ part text.now low high }
+{
+    let high = high.min(text.len());
+    &text[low.min(high)..high]
+}
+
+/// The characters that are left when escapes are gone: a backslash vanishes, and white behind one.
+fn letters_of(alloc: Global, text: &[char]) -> Result<Vec<Letter>, AllocError>
+    ensures { IfOk result (λ letters. letters.items ≡ letters_from false text.now) }
+{
+    let mut letters = Vec::new(alloc);
+    let mut escaped = false;
+    for c in text {
+        if escapes(*c, escaped) {
+            escaped = true;
+            continue;
+        }
+        if escaped && is_white(*c) {
+            escaped = false;
+            continue;
+        }
+        letters.push(Letter {
+            character: *c,
+            escaped,
+        })?;
+        escaped = false;
+    }
+    Ok(letters)
+}
+
+/// The texts before, between and behind the colons with spaces on both sides, without these spaces.
+fn parts_of(alloc: Global, letters: &[Letter]) -> Result<Vec<Text>, TreeFault>
+    ensures { Gives (λ parts. parts.items ≡ parts_of letters.now) result }
+{
+    let mut parts = Vec::new(alloc);
+    let mut part = Vec::new(alloc);
+    let mut skipping = false;
+    for place in 0..letters.len() {
+        let letter = letters[place];
+        if skipping && is_bare(letter, ' ') {
+            continue;
+        }
+        skipping = is_delimiter(&part, letter, &letters[place + 1..]);
+        if skipping {
+            parts.push(spelled(alloc, &part[..dark_len(&part)])?)?;
+            part = Vec::new(alloc);
+            continue;
+        }
+        part.push(letter)?;
+    }
+    parts.push(spelled(alloc, &part)?)?;
+    Ok(parts)
+}
+
+/// Whether a letter is a character that isn't escaped.
+fn is_bare(letter: Letter, c: char) -> bool
+    ensures { result ≡ is_bare letter c }
+{
+    letter.character == c && !letter.escaped
+}
+
+/// Whether a letter behind some and before others is a colon with a space on both sides.
+fn is_delimiter(before: &[Letter], letter: Letter, behind: &[Letter]) -> bool
+    ensures { result ≡ is_delimiter before.now letter behind.now }
+{
+    is_bare(letter, ':') && (ends_in_space(before) && begins_with_space(behind))
+}
+
+fn begins_with_space(letters: &[Letter]) -> bool
+    ensures { result ≡ begins_with_space letters.now }
+{
+    match letters.first() {
+        Some(first) => is_bare(*first, ' '),
+        None => false,
+    }
+}
+
+#[tactic(auto, using(crate::proofs::TermLemmas::ends_in_space_append))]
+fn ends_in_space(letters: &[Letter]) -> bool
+    ensures { result ≡ ends_in_space letters.now }
+{
+    match letters.split_last() {
+        Some((last, _)) => is_bare(*last, ' '),
+        None => false,
+    }
+}
+
+/// How many letters stand before the spaces at the end.
+fn dark_len(letters: &[Letter]) -> usize
+    ensures value { result ≡ dark_len letters.now }
+    ensures within { result ≤ length letters.now }
+{
+    let mut len = 0;
+    for (i, letter) in letters.iter().enumerate() {
+        if !is_bare(*letter, ' ') {
+            len = i + 1;
+        }
+    }
+    len
+}
+
+/// The text that letters spell.
+fn spelled(alloc: Global, letters: &[Letter]) -> Result<Text, AllocError>
+    ensures { IfOk result (λ text. text ≡ spelled letters.now) }
+{
+    let mut text = String::new(alloc);
+    for letter in letters {
+        text.push(letter.character)?;
+    }
+    Ok(Text::new(text))
+}
+
+/// The elements that are done, and the nodes of the one that isn't.
+#[derive(Drop)]
+struct Unfinished {
+    done: Vec<Node>,
+    nodes: Vec<Node>,
+}
+
+/// The term and the classifiers of nodes, whose texts consist of these parts, text after text.
+fn heads_of(
+    alloc: Global,
+    nodes: Vec<Node>,
+    parts: Vec<Vec<Text>>,
+    notes: usize,
+    line: usize,
+) -> Result<Vec<Node>, TreeFault>
+    ensures { Gives (λ heads. heads.items ≡ heads_of notes line (groups_of (map (λ texts. texts.items) parts.items) nodes.items)) result }
+{
+    let mut heads = Unfinished {
+        done: Vec::new(alloc),
+        nodes: Vec::new(alloc),
+    };
+    let mut parts = parts.into_iter();
+    for node in nodes {
+        match node {
+            Node::Text(text) => match parts.next() {
+                Some(texts) => heads = with_parts(alloc, heads, texts, notes, line)?,
+                None => heads.nodes.push(Node::Text(text))?,
+            },
+            element => heads.nodes.push(element)?,
+        }
+    }
+    let heads = closed(alloc, heads, notes, line)?;
+    Ok(heads.done)
+}
+
+/// The parts of a text put behind the nodes: each but the first begins a classifier.
+fn with_parts(
+    alloc: Global,
+    heads: Unfinished,
+    parts: Vec<Text>,
+    notes: usize,
+    line: usize,
+) -> Result<Unfinished, TreeFault>
+    ensures { Gives (IsPut notes line heads parts.items) result }
+{
+    let mut heads = heads;
+    let mut is_first = true;
+    for part in parts {
+        if !is_first {
+            heads = closed(alloc, heads, notes, line)?;
+        }
+        is_first = false;
+        if !part.as_str().is_empty() {
+            heads.nodes.push(Node::Text(part))?;
+        }
+    }
+    Ok(heads)
+}
+
+/// The nodes made an element: the first is the term, the others are classifiers.
+#[tactic(auto, using(crate::proofs::HeadLemmas::first_head, crate::proofs::HeadLemmas::further_head))]
+fn closed(
+    alloc: Global,
+    heads: Unfinished,
+    notes: usize,
+    line: usize,
+) -> Result<Unfinished, TreeFault>
+    ensures done { Gives (λ closed. closed.done.items ≡ heads_behind notes line heads.done.items (heads.nodes.items ∷ [])) result }
+    ensures nodes { Gives (λ closed. closed.nodes.items ≡ []) result }
+{
+    let Unfinished { mut done, nodes } = heads;
+    if done.is_empty() {
+        let term = element_of(Tag::Term, counting(alloc, notes)?, nodes, line);
+        done.push(term)?;
+        return Ok(Unfinished {
+            done,
+            nodes: Vec::new(alloc),
+        });
+    }
+    let classifier = element_of(Tag::Classifier, Attrs::new(alloc), nodes, line);
+    done.push(classifier)?;
+    Ok(Unfinished {
+        done,
+        nodes: Vec::new(alloc),
+    })
+}

@@ -1,0 +1,73 @@
+//! Texts as values of attributes.
+ghost use Rattle.std.specs.Prelude.{◌≡◌, string_bytes};
+ghost use Rattle.rst_tree.specs.Faults.{Gives};
+ghost use Rattle.rst_tree.specs.declared.attrs.Value.TheVariants.{Text as Said};
+ghost use Rattle.rst_block_nodes.specs.Values.{name_in, normalized, unescaped, identifier, listed};
+
+use rst_inline::unescape;
+use rst_text::{id_of, name_of, normalized_white};
+use rst_tree::{Text, Texts, TreeFault, Value};
+use std::alloc::Global;
+
+/// A value that says a text.
+pub(crate) fn said(alloc: Global, text: &str) -> Result<Value, TreeFault>
+    ensures { Gives (λ value. value ≡ Said text.now) result }
+{
+    let text = Text::from_str(alloc, text)?;
+    Ok(Value::Text(text))
+}
+
+/// A value that says the name that a text gives.
+#[tactic(auto, using(crate::proofs::TextLemmas::bytes_of_chars))]
+pub(crate) fn name_said(alloc: Global, text: &str) -> Result<Value, TreeFault>
+    ensures { Gives (λ value. value ≡ Said (name_in text.now)) result }
+{
+    match name_of(alloc, text) {
+        Ok(name) => Ok(Value::Text(Text::new(name))),
+        Err(_) => Err(TreeFault::NoMemory),
+    }
+}
+
+/// A text with each run of white characters as one space, and none at its ends.
+#[tactic(auto, using(crate::proofs::TextLemmas::bytes_of_chars))]
+pub(crate) fn normalized(alloc: Global, text: &str) -> Result<String, TreeFault>
+    ensures { Gives (λ shown. string_bytes shown ≡ normalized text.now) result }
+{
+    match normalized_white(alloc, text) {
+        Ok(normalized) => Ok(normalized),
+        Err(_) => Err(TreeFault::NoMemory),
+    }
+}
+
+/// A text without its escapes.
+#[tactic(auto, using(crate::proofs::TextLemmas::bytes_of_chars))]
+pub(crate) fn unescaped(alloc: Global, text: &str) -> Result<String, TreeFault>
+    ensures { Gives (λ shown. string_bytes shown ≡ unescaped text.now) result }
+{
+    match unescape(alloc, text) {
+        Ok(shown) => Ok(shown),
+        Err(_) => Err(TreeFault::NoMemory),
+    }
+}
+
+/// The id that a text gives.
+#[tactic(auto, using(crate::proofs::TextLemmas::bytes_of_chars))]
+pub(crate) fn identifier(alloc: Global, text: &str) -> Result<String, TreeFault>
+    ensures { Gives (λ id. string_bytes id ≡ identifier text.now) result }
+{
+    match id_of(alloc, text) {
+        Ok(id) => Ok(id),
+        Err(_) => Err(TreeFault::NoMemory),
+    }
+}
+
+/// A value that lists texts.
+pub(crate) fn listed(alloc: Global, texts: &[String]) -> Result<Value, TreeFault>
+    ensures { Gives (λ value. value ≡ listed texts.now) result }
+{
+    let mut list = Texts::new(alloc);
+    for text in texts {
+        list.push(Text::from_str(alloc, text.as_str())?)?;
+    }
+    Ok(Value::List(list))
+}

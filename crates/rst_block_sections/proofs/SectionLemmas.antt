@@ -1,0 +1,348 @@
+-- Sections that are opened and closed one after the other are those of the definition.
+use Rattle.std.proofs.Common.{◌≡◌, ℕ, suc, ◌+◌, ◌-◌, ◌≤◌, Bool, true, false, cond, List, [], ◌∷◌, ◌++◌, ◌<◌, length, map, take, drop, drop-cons, add-one, length-drop, get_or, Result, Ok, Err, refl, sym, ◌∙◌, ap, ap₂, subst, arith}
+use Rattle.std.proofs.lemmas.List.{append-nil, append_assoc, length_push, map-append, length-map, at_drop_more, at_drop_all, take_all, take_more, drop_all}
+use Rattle.std.proofs.lemmas.Bool.{le-leb, lt-leb}
+use Rattle.std.specs.Prelude.{nat_le, nat_lt}
+use Rattle.rst_tree.specs.declared.node.Node.{Node}
+use Rattle.rst_tree.specs.declared.node.Node.TheVariants.{Element}
+use Rattle.rst_tree.specs.declared.tag.Tag.TheVariants.{Document}
+use Rattle.rst_tree.specs.Faults.{Gives}
+use Rattle.rst_tree.specs.Nodes.{forest_of}
+use Rattle.rst_tree.specs.declared.fault.TreeFault.{TreeFault}
+use Rattle.rst_tree.specs.declared.fault.TreeFault.TheVariants.{NoMemory}
+use Rattle.rst_block_sections.specs.declared.heading.Heading.{Heading}
+use Rattle.rst_block_sections.specs.declared.heading.Style.{Style}
+use Rattle.rst_block_sections.specs.declared.sectioning.OpenSection.{OpenSection}
+use Rattle.rst_block_sections.specs.declared.sectioning.Sections.{Sections}
+use Rattle.rst_block_sections.specs.OpenSections.{Open, open_of, put_inside, close, closed_with, goes_on, StopsAt}
+use Rattle.rst_block_nodes.specs.Texts.{section_node}
+use Rattle.rst_block_sections.specs.Sections.{Item, plain, titled, Entry, alone, under, Member, loose, section_at, node_of, inside, behind, filled, section_of, heading_notes, members, judged, level_of, same_style, with_style, inconsistent, items_from, document_of, sections_of}
+
+abbrev pub opened : Node → List Node → Open
+opened element nodes = record { element = element; nodes = nodes }
+
+-- ---- nodes without sections
+
+inside_loose : (level : ℕ) (ns : List Node) (ms : List Member) → inside level (map loose ns ++ ms) ≡ ns ++ inside level ms
+unfolding inside
+inside_loose level [] ms = refl
+inside_loose level (n ∷ ns) ms = ap (λ (xs : List Node). n ∷ xs) (inside_loose level ns ms)
+
+behind_loose : (level : ℕ) (ns : List Node) (ms : List Member) → behind level (map loose ns ++ ms) ≡ behind level ms
+unfolding behind
+behind_loose level [] ms = refl
+behind_loose level (n ∷ ns) ms = behind_loose level ns ms
+
+members_plain : (styles : List Style) (current : ℕ) (ns : List Node) (items : List Item)
+    → members (judged styles current (map plain ns ++ items)) ≡ map loose ns ++ members (judged styles current items)
+unfolding members judged
+members_plain styles current [] items = refl
+members_plain styles current (n ∷ ns) items = ap (λ (ms : List Member). loose n ∷ ms) (members_plain styles current ns items)
+
+-- nodes that are put into the innermost section are those that follow
+with_nodes : (level : ℕ) (os : List Open) (element : Node) (nodes ns : List Node) (ms : List Member)
+    → close level os (opened element (nodes ++ ns)) ms ≡ close level os (opened element nodes) (map loose ns ++ ms)
+unfolding close
+with_nodes level [] element nodes ns ms =
+    ap₂ (λ (xs : List Node) (rest : List Member). (filled element xs, rest))
+    (append_assoc nodes ns (inside level ms) ∙ ap (λ (xs : List Node). nodes ++ xs) (sym (inside_loose level ns ms)))
+    (sym (behind_loose level ns ms))
+with_nodes level (o ∷ os) element nodes ns ms = ap (put_inside level o) (with_nodes (level + 1) os element nodes ns ms)
+
+pub nodes_put : (os : List Open) (element : Node) (nodes ns : List Node) (styles : List Style) (current : ℕ) (items : List Item)
+    → (close 0 os (opened element (nodes ++ ns)) (members (judged styles current items))).0
+    ≡ (close 0 os (opened element nodes) (members (judged styles current (map plain ns ++ items)))).0
+nodes_put os element nodes ns styles current items =
+    ap (λ r. r.0) (with_nodes 0 os element nodes ns (members (judged styles current items))
+    ∙ ap (close 0 os (opened element nodes)) (sym (members_plain styles current ns items)))
+
+-- ---- the innermost section ends
+
+pub closes : (level : ℕ) (os : List Open) (o c : Open) (ms : List Member) → inside (level + suc (length os)) ms ≡ [] → behind (level + suc (length os)) ms ≡ ms
+    → close level (os ++ o ∷ []) c ms ≡ close level os (opened o.element (o.nodes ++ filled c.element c.nodes ∷ [])) ms
+unfolding close
+closes level [] o c ms none stays =
+    let e : level + 1 ≡ level + suc 0 = omega arith in
+    let all : c.nodes ++ inside (level + 1) ms ≡ c.nodes = ap (λ n. c.nodes ++ inside n ms) e ∙ ap (λ (xs : List Node). c.nodes ++ xs) none ∙ append-nil c.nodes in
+    let rest : behind (level + 1) ms ≡ ms = ap (λ n. behind n ms) e ∙ stays in
+    ap₂ (λ (xs : List Node) (r : List Member). put_inside level o (filled c.element xs, r)) all rest
+    ∙ ap (λ (xs : List Node). (filled o.element xs, behind level ms)) (sym (append_assoc o.nodes (filled c.element c.nodes ∷ []) (inside level ms)))
+closes level (p ∷ os) o c ms none stays =
+    let e : (level + 1) + suc (length os) ≡ level + suc (suc (length os)) = omega arith in
+    ap (put_inside level p) (closes (level + 1) os o c ms (ap (λ n. inside n ms) e ∙ none) (ap (λ n. behind n ms) e ∙ stays))
+
+-- ---- a section begins
+
+not_within : (level : ℕ) → nat_le (level + 1) level ≡ false
+not_within level = lt-leb (level + 1) level (omega arith)
+
+pub enters : (level : ℕ) (os : List Open) (c new : Open) (ms : List Member)
+    → close level (os ++ c ∷ []) new ms
+    ≡ close level os c (section_at (level + suc (length os)) (filled new.element (new.nodes ++ inside (level + suc (length os)) ms)) ∷ behind (level + suc (length os)) ms)
+unfolding close inside behind
+enters level [] c new ms =
+    let e : level + 1 ≡ level + suc 0 = omega arith in
+    subst (λ n. put_inside level c (close (level + 1) [] new ms) ≡ close level [] c (section_at n (filled new.element (new.nodes ++ inside n ms)) ∷ behind n ms)) e
+    (rw (not_within level) refl)
+enters level (o ∷ os) c new ms =
+    let e : (level + 1) + suc (length os) ≡ level + suc (suc (length os)) = omega arith in
+    ap (put_inside level o) (enters (level + 1) os c new ms
+    ∙ ap (λ n. close (level + 1) os c (section_at n (filled new.element (new.nodes ++ inside n ms)) ∷ behind n ms)) e)
+
+pub stops_at_none : (level : ℕ) → StopsAt level []
+unfolding inside behind
+stops_at_none level deeper h = (refl, refl)
+
+within : (a b : ℕ) → a ≤ b → nat_le a b ≡ true
+within a b h = le-leb a b h
+
+pub stops_at_section : (level : ℕ) (n : Node) (ms : List Member) → StopsAt level (section_at level n ∷ ms)
+unfolding inside behind
+stops_at_section level n ms deeper h = rw (within level deeper h) (refl, refl)
+
+-- ---- levels
+
+pub level_positive : (s : Style) (styles : List Style) → 1 ≤ level_of s styles
+unfolding level_of
+level_positive s [] = omega arith
+level_positive s (t ∷ ts) = by (same_style t s)
+  where
+    by : (b : Bool) → 1 ≤ cond b 1 (suc (level_of s ts))
+    by true = omega arith
+    by false = omega arith
+
+-- ---- all of a document stands in it
+
+AreDeep : List Member → Type 0
+AreDeep [] = Unit {0}
+AreDeep (loose n ∷ ms) = AreDeep ms
+AreDeep (section_at level n ∷ ms) = (1 ≤ level) × AreDeep ms
+
+all_inside : (ms : List Member) → AreDeep ms → inside 0 ms ≡ map node_of ms
+unfolding inside AreDeep
+all_inside [] h = refl
+all_inside (loose n ∷ ms) h = ap (λ (xs : List Node). n ∷ xs) (all_inside ms h)
+all_inside (section_at level n ∷ ms) h = let e : nat_le level 0 ≡ false = lt-leb level 0 (omega (arith, h.0)) in rw e (ap (λ (xs : List Node). n ∷ xs) (all_inside ms h.1))
+
+deep_behind : (level : ℕ) (ms : List Member) → AreDeep ms → AreDeep (behind level ms)
+unfolding behind AreDeep
+deep_behind level [] h = h
+deep_behind level (loose n ∷ ms) h = deep_behind level ms h
+deep_behind level (section_at own n ∷ ms) h = by (nat_le own level) (deep_behind level ms h.1)
+  where
+    by : (b : Bool) → AreDeep (behind level ms) → AreDeep (cond b (section_at own n ∷ ms) (behind level ms))
+    by true rest = h
+    by false rest = rest
+
+deep_judged : (items : List Item) (styles : List Style) (current : ℕ) → AreDeep (members (judged styles current items))
+unfolding judged members AreDeep
+deep_judged [] styles current = tt
+deep_judged (plain n ∷ items) styles current = deep_judged items styles current
+deep_judged (titled h ∷ items) styles current =
+    by (nat_lt (current + 1) (level_of h.style styles)) (deep_judged items styles current) (deep_judged items (with_style h.style styles) (level_of h.style styles))
+  where
+    by : (b : Bool) → AreDeep (members (judged styles current items)) → AreDeep (members (judged (with_style h.style styles) (level_of h.style styles) items))
+        → AreDeep (members (cond b (alone (inconsistent h) ∷ judged styles current items)
+        (under (level_of h.style styles) h ∷ judged (with_style h.style styles) (level_of h.style styles) items)))
+    by true same rest = same
+    by false same rest = (level_positive h.style styles, deep_behind (level_of h.style styles) (members (judged (with_style h.style styles) (level_of h.style styles) items)) rest)
+
+pub all_of_document : (items : List Item) (styles : List Style) (current : ℕ)
+    → inside 0 (members (judged styles current items)) ≡ map node_of (members (judged styles current items))
+all_of_document items styles current = all_inside (members (judged styles current items)) (deep_judged items styles current)
+
+-- nodes alone are the document's
+pub nodes_alone : (ns : List Node) (styles : List Style) (current : ℕ) → map node_of (members (judged styles current (map plain ns))) ≡ ns
+unfolding judged members
+nodes_alone [] styles current = refl
+nodes_alone (n ∷ ns) styles current = ap (λ (xs : List Node). n ∷ xs) (nodes_alone ns styles current)
+
+-- ---- the steps of the sections that are open
+
+-- the innermost section was put into the one round it
+pub ended : (all outer : List OpenSection) (o c p : OpenSection) (ms : List Member) → all ≡ outer ++ o ∷ [] → p.element ≡ o.element
+    → p.nodes.items ≡ o.nodes.items ++ filled c.element c.nodes.items ∷ [] → StopsAt (length all) ms
+    → close 0 (map open_of outer) (open_of p) ms ≡ close 0 (map open_of all) (open_of c) ms
+ended all outer o c p ms is element nodes stops =
+    let e : length all ≡ 0 + suc (length (map open_of outer)) = omega (arith, ap length is ∙ length_push outer o, length-map outer open_of) in
+    let s : (inside (length all) ms ≡ []) × (behind (length all) ms ≡ ms) = stops (length all) (omega arith) in
+    ap₂ (λ x xs. close 0 (map open_of outer) (opened x xs) ms) element nodes
+    ∙ sym (closes 0 (map open_of outer) (open_of o) (open_of c) ms (ap (λ n. inside n ms) (sym e) ∙ s.0) (ap (λ n. behind n ms) (sym e) ∙ s.1))
+    ∙ ap (λ os. close 0 os (open_of c) ms) (sym (ap (map open_of) is ∙ map-append open_of outer (o ∷ [])))
+
+-- the section of a title was begun in the innermost one
+pub entered : (all outer : List OpenSection) (c new : OpenSection) (h : Heading) (ms : List Member) → all ≡ outer ++ c ∷ []
+    → new.element ≡ section_node h.title.element (length (heading_notes h)) h.line → new.nodes.items ≡ heading_notes h
+    → close 0 (map open_of all) (open_of new) ms
+    ≡ close 0 (map open_of outer) (open_of c) (section_at (length outer + 1) (section_of h (inside (length outer + 1) ms)) ∷ behind (length outer + 1) ms)
+entered all outer c new h ms is element nodes =
+    let e : 0 + suc (length (map open_of outer)) ≡ length outer + 1 = omega (arith, length-map outer open_of) in
+    ap (λ os. close 0 os (open_of new) ms) (ap (map open_of) is ∙ map-append open_of outer (c ∷ []))
+    ∙ enters 0 (map open_of outer) (open_of c) (open_of new) ms
+    ∙ ap (λ n. close 0 (map open_of outer) (open_of c) (section_at n (filled new.element (new.nodes.items ++ inside n ms)) ∷ behind n ms)) e
+    ∙ ap₂ (λ x xs. close 0 (map open_of outer) (open_of c) (section_at (length outer + 1) (filled x (xs ++ inside (length outer + 1) ms)) ∷ behind (length outer + 1) ms)) element nodes
+
+-- a title whose level is inconsistent gives its message
+judged_refused : (styles : List Style) (current : ℕ) (h : Heading) (items : List Item) → nat_lt (current + 1) (level_of h.style styles) ≡ true
+    → judged styles current (titled h ∷ items) ≡ alone (inconsistent h) ∷ judged styles current items
+unfolding judged
+judged_refused styles current h items high =
+    ap (λ b. cond b (alone (inconsistent h) ∷ judged styles current items) (under (level_of h.style styles) h ∷ judged (with_style h.style styles) (level_of h.style styles) items)) high
+
+judged_accepted : (styles : List Style) (current : ℕ) (h : Heading) (items : List Item) → nat_lt (current + 1) (level_of h.style styles) ≡ false
+    → judged styles current (titled h ∷ items) ≡ under (level_of h.style styles) h ∷ judged (with_style h.style styles) (level_of h.style styles) items
+unfolding judged
+judged_accepted styles current h items low =
+    ap (λ b. cond b (alone (inconsistent h) ∷ judged styles current items) (under (level_of h.style styles) h ∷ judged (with_style h.style styles) (level_of h.style styles) items)) low
+
+members_alone : (n : Node) (es : List Entry) → members (alone n ∷ es) ≡ loose n ∷ members es
+unfolding members
+members_alone n es = refl
+
+members_under : (level : ℕ) (h : Heading) (es : List Entry)
+    → members (under level h ∷ es) ≡ section_at level (section_of h (inside level (members es))) ∷ behind level (members es)
+unfolding members
+members_under level h es = refl
+
+pub refused : (os : List Open) (element n : Node) (nodes : List Node) (styles : List Style) (current : ℕ) (h : Heading) (items : List Item)
+    → n ≡ inconsistent h → nat_lt (current + 1) (level_of h.style styles) ≡ true
+    → (close 0 os (opened element (nodes ++ n ∷ [])) (members (judged styles current items))).0
+    ≡ (close 0 os (opened element nodes) (members (judged styles current (titled h ∷ items)))).0
+refused os element n nodes styles current h items is high =
+    ap (λ r. r.0) (with_nodes 0 os element nodes (n ∷ []) (members (judged styles current items)))
+    ∙ ap (λ x. (close 0 os (opened element nodes) (loose x ∷ members (judged styles current items))).0) is
+    ∙ ap (λ (ms : List Member). (close 0 os (opened element nodes) ms).0) (sym (ap members (judged_refused styles current h items high) ∙ members_alone (inconsistent h) (judged styles current items)))
+
+-- a title that is accepted begins its section, where those of its level or a deeper one have ended
+pub accepted : (s m t : Sections) (h : Heading) (items : List Item) (level : ℕ) → level ≡ level_of h.style s.styles.items
+    → nat_lt (length s.outer.items + 1) level ≡ false
+    → ((ms : List Member) → StopsAt level ms → closed_with m ms ≡ closed_with s ms) → length m.outer.items + 1 ≡ level
+    → ((ms : List Member) → closed_with t ms ≡ closed_with m (section_at (length m.outer.items + 1) (section_of h (inside (length m.outer.items + 1) ms)) ∷ behind (length m.outer.items + 1) ms))
+    → length t.outer.items ≡ length m.outer.items + 1 → t.styles.items ≡ with_style h.style s.styles.items
+    → goes_on t items ≡ goes_on s (titled h ∷ items)
+accepted s m t h items level is low ends len begins more styles =
+    let es : List Entry = judged (with_style h.style s.styles.items) level items in
+    let e : length t.outer.items ≡ level = more ∙ len in
+    let judge : nat_lt (length s.outer.items + 1) (level_of h.style s.styles.items) ≡ false = ap (λ n. nat_lt (length s.outer.items + 1) n) (sym is) ∙ low in
+    let same : under level h ∷ es ≡ judged s.styles.items (length s.outer.items) (titled h ∷ items) =
+    ap (λ n. under n h ∷ judged (with_style h.style s.styles.items) n items) is ∙ sym (judged_accepted s.styles.items (length s.outer.items) h items judge) in
+    ap₂ (λ ss n. (closed_with t (members (judged ss n items))).0) styles e
+    ∙ ap (λ r. r.0) (begins (members es))
+    ∙ ap (λ n. (closed_with m (section_at n (section_of h (inside n (members es))) ∷ behind n (members es))).0) len
+    ∙ ap (λ r. r.0) (ends (section_at level (section_of h (inside level (members es))) ∷ behind level (members es)) (stops_at_section level (section_of h (inside level (members es))) (behind level (members es))))
+    ∙ ap (λ ms. (closed_with s ms).0) (sym (members_under level h es) ∙ ap members same)
+
+-- the same where the last call can want memory
+pub accepted_gives : {A : Type 0} (r : Result A TreeFault) (s m t : Sections) (h : Heading) (level : ℕ) → level ≡ level_of h.style s.styles.items
+    → nat_lt (length s.outer.items + 1) level ≡ false
+    → ((ms : List Member) → StopsAt level ms → closed_with m ms ≡ closed_with s ms) → length m.outer.items + 1 ≡ level → m.styles.items ≡ with_style h.style s.styles.items
+    → Gives (λ _. (ms : List Member) → closed_with t ms ≡ closed_with m (section_at (length m.outer.items + 1) (section_of h (inside (length m.outer.items + 1) ms)) ∷ behind (length m.outer.items + 1) ms)) r
+    → Gives (λ _. length t.outer.items ≡ length m.outer.items + 1) r → Gives (λ _. t.styles ≡ m.styles) r
+    → Gives (λ _. (items : List Item) → goes_on t items ≡ goes_on s (titled h ∷ items)) r
+accepted_gives (Ok done) s m t h level is low ends len more begins deeper styles =
+    λ items. accepted s m t h items level is low ends len begins deeper (ap (λ ss. ss.items) styles ∙ more)
+accepted_gives (Err NoMemory) s m t h level is low ends len more begins deeper styles = tt
+
+-- ---- the place of a style
+
+level_from : (s : Style) (styles : List Style) (i : ℕ) (d : Style) → i < length styles
+    → level_of s (drop i styles) ≡ cond (same_style (get_or styles i d) s) 1 (suc (level_of s (drop (i + 1) styles)))
+unfolding level_of
+level_from s styles i d here = at_drop_more (level_of s) styles i d here
+
+pub level_here : (s : Style) (styles : List Style) (i : ℕ) (d : Style) (same : Bool) → i < length styles → same ≡ same_style (get_or styles i d) s → same ≡ true
+    → level_of s (drop i styles) ≡ 1
+level_here s styles i d same here is same_true = level_from s styles i d here ∙ ap (λ b. cond b 1 (suc (level_of s (drop (i + 1) styles)))) (sym is ∙ same_true)
+
+pub level_later : (s : Style) (styles : List Style) (i : ℕ) (d : Style) (same : Bool) → i < length styles → same ≡ same_style (get_or styles i d) s → same ≡ false
+    → level_of s (drop i styles) ≡ suc (level_of s (drop (i + 1) styles))
+level_later s styles i d same here is same_false = level_from s styles i d here ∙ ap (λ b. cond b 1 (suc (level_of s (drop (i + 1) styles)))) (sym is ∙ same_false)
+
+pub level_behind : (s : Style) (styles : List Style) (i : ℕ) → length styles ≤ i → level_of s (drop i styles) ≡ 1
+unfolding level_of
+level_behind s styles i h = at_drop_all (level_of s) styles i h
+
+-- ---- nodes from the front of some
+
+pub one_moved : (all left rest : List Node) (i : ℕ) (n : Node) → left ≡ drop i all → left ≡ n ∷ rest → (take (i + 1) all ≡ take i all ++ n ∷ []) × (rest ≡ drop (i + 1) all)
+one_moved all left rest i n is first =
+    let fits : i < length all = omega (arith, length-drop i all, ap length is, ap length first) in
+    let both : n ∷ rest ≡ get_or all i n ∷ drop (i + 1) all = sym first ∙ is ∙ rw add-one (drop-cons all i n fits) in
+    (take_more all i n fits ∙ ap (λ x. take i all ++ x ∷ []) (cc both), cc both)
+
+pub all_moved : (all left : List Node) (i count : ℕ) → left ≡ drop i all → left ≡ [] → i ≤ count → (take i all ≡ take count all) × (left ≡ drop count all)
+all_moved all left i count is none h =
+    let short : length all ≤ i = omega (arith, length-drop i all, ap length is, ap length none) in
+    (take_all i all short ∙ sym (take_all count all (omega arith)), none ∙ sym (drop_all count all (omega arith)))
+
+-- ---- the whole document
+
+none_open : (ms : List Member) → (close 0 [] (opened (Element Document [] (forest_of []) 0) []) ms).0 ≡ Element Document [] (forest_of (inside 0 ms)) 0
+unfolding close
+none_open ms = refl
+
+-- a document without nodes
+pub begins : (s : Sections) (items : List Item) → s.outer.items ≡ [] → s.styles.items ≡ [] → s.current.element ≡ Element Document [] (forest_of []) 0 → s.current.nodes.items ≡ []
+    → goes_on s items ≡ document_of items
+begins s items outer styles element nodes =
+    ap₂ (λ (os : List OpenSection) (ss : List Style). (close 0 (map open_of os) (open_of s.current) (members (judged ss (length os) items))).0) outer styles
+    ∙ ap₂ (λ x (xs : List Node). (close 0 [] (opened x xs) (members (judged [] 0 items))).0) element nodes
+    ∙ none_open (members (judged [] 0 items))
+    ∙ ap (λ xs. Element Document [] (forest_of xs) 0) (all_of_document items [] 0)
+
+alone_closed : (os : List OpenSection) (c : OpenSection) → length os + 1 ≤ 1 → (close 0 (map open_of os) (open_of c) []).0 ≡ filled c.element c.nodes.items
+unfolding close inside
+alone_closed [] c h = ap (filled c.element) (append-nil c.nodes.items)
+alone_closed (o ∷ os) c h = absurd (omega arith)
+
+goes_on_none : (s : Sections) → (closed_with s []).0 ≡ goes_on s []
+unfolding judged members
+goes_on_none s = refl
+
+-- all sections have ended
+pub all_closed : (s t : Sections) → ((ms : List Member) → StopsAt 1 ms → closed_with t ms ≡ closed_with s ms) → length t.outer.items + 1 ≤ 1
+    → filled t.current.element t.current.nodes.items ≡ goes_on s []
+all_closed s t ends few = sym (alone_closed t.outer.items t.current few) ∙ ap (λ r. r.0) (ends [] (stops_at_none 1)) ∙ goes_on_none s
+
+-- nodes were put into the innermost section
+pub put : (s m : Sections) (ns : List Node) (items : List Item) → m.outer ≡ s.outer → m.styles ≡ s.styles → m.current.element ≡ s.current.element
+    → m.current.nodes.items ≡ s.current.nodes.items ++ ns → goes_on m items ≡ goes_on s (map plain ns ++ items)
+put s m ns items outer styles element nodes =
+    ap₂ (λ os ss. (close 0 (map open_of os.items) (open_of m.current) (members (judged ss.items (length os.items) items))).0) outer styles
+    ∙ ap₂ (λ x xs. (close 0 (map open_of s.outer.items) (opened x xs) (members (judged s.styles.items (length s.outer.items) items))).0) element nodes
+    ∙ nodes_put (map open_of s.outer.items) s.current.element s.current.nodes.items ns s.styles.items (length s.outer.items) items
+
+items_of_title : (done : ℕ) (nodes : List Node) (h : Heading) (hs : List Heading)
+    → items_from done nodes (h ∷ hs) ≡ map plain (take (h.before - done) nodes) ++ titled h ∷ items_from (done + (h.before - done)) (drop (h.before - done) nodes) hs
+unfolding items_from
+items_of_title done nodes h hs = refl
+
+-- a title was met, with the nodes before it
+pub title_met : (s m t : Sections) (h : Heading) (done more : ℕ) (nodes rest : List Node) (hs : List Heading) → more ≡ h.before - done
+    → m.outer ≡ s.outer → m.styles ≡ s.styles → m.current.element ≡ s.current.element
+    → m.current.nodes.items ≡ s.current.nodes.items ++ take more nodes → rest ≡ drop more nodes
+    → ((items : List Item) → goes_on t items ≡ goes_on m (titled h ∷ items))
+    → goes_on t (items_from (done + more) rest hs) ≡ goes_on s (items_from done nodes (h ∷ hs))
+title_met s m t h done more nodes rest hs so outer styles element here left met =
+    met (items_from (done + more) rest hs)
+    ∙ put s m (take more nodes) (titled h ∷ items_from (done + more) rest hs) outer styles element here
+    ∙ ap (λ xs. goes_on s (map plain (take more nodes) ++ titled h ∷ items_from (done + more) xs hs)) left
+    ∙ ap (λ n. goes_on s (map plain (take n nodes) ++ titled h ∷ items_from (done + n) (drop n nodes) hs)) so
+    ∙ ap (goes_on s) (sym (items_of_title done nodes h hs))
+
+items_without_titles : (done : ℕ) (nodes : List Node) → items_from done nodes [] ≡ map plain nodes
+unfolding items_from
+items_without_titles done nodes = refl
+
+-- no title is left
+pub last_met : (s m : Sections) (done count : ℕ) (nodes : List Node) → count ≡ length nodes → m.outer ≡ s.outer → m.styles ≡ s.styles → m.current.element ≡ s.current.element
+    → m.current.nodes.items ≡ s.current.nodes.items ++ take count nodes → goes_on m [] ≡ goes_on s (items_from done nodes [])
+last_met s m done count nodes all outer styles element here =
+    put s m nodes [] outer styles element (here ∙ ap (λ n. s.current.nodes.items ++ take n nodes) all ∙ ap (λ xs. s.current.nodes.items ++ xs) (take_all (length nodes) nodes (omega arith)))
+    ∙ ap (goes_on s) (append-nil (map plain nodes) ∙ sym (items_without_titles done nodes))
+
+-- a document without titles
+pub untitled : (nodes : List Node) → Element Document [] (forest_of nodes) 0 ≡ sections_of nodes []
+untitled nodes =
+    ap (λ xs. Element Document [] (forest_of xs) 0) (sym (nodes_alone nodes [] 0))
+    ∙ ap document_of (sym (items_without_titles 0 nodes))

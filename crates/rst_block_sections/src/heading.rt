@@ -1,0 +1,38 @@
+//! Titles of sections, before the sections are made (Markup Specification, 'Sections').
+ghost use Rattle.std.specs.Prelude.{◌≡◌};
+ghost use Rattle.rst_block_sections.specs.Sections.{same_style};
+
+use rst_block_nodes::Texted;
+use rst_tree::Node;
+
+/// The style of a title: its character, and whether it has an overline.
+#[derive(Clone, Copy)]
+pub struct Style {
+    pub character: char,
+    pub overlined: bool,
+}
+
+impl Style {
+    /// Whether two styles are the same.
+    pub fn is(self, other: Style) -> bool
+        ensures { result ≡ same_style self other }
+    {
+        self.character == other.character && self.overlined == other.overlined
+    }
+}
+
+/// A title where it stands in the document.
+#[derive(Drop)]
+pub struct Heading {
+    /// How many nodes of the document stand before it.
+    pub before: usize,
+    pub style: Style,
+    /// The title, with the messages of its text.
+    pub title: Texted,
+    /// The message on its adornment.
+    pub warning: Option<Node>,
+    /// The number of the line of its text.
+    pub line: usize,
+    /// Its lines.
+    pub source: String,
+}

@@ -1,0 +1,201 @@
+//! Sections, made of the nodes and the titles of a document (Markup Specification, 'Sections').
+ghost use Rattle.std.specs.Prelude.{◌≡◌, ◌+◌, ◌-◌, ◌≤◌, List, ◌∷◌, ◌++◌, [], length, take, drop};
+ghost use Rattle.std.specs.Vec.Iter.{into_iter_items};
+ghost use Rattle.rst_block_nodes.specs.Texts.{section_node};
+ghost use Rattle.rst_tree.specs.Faults.{Gives};
+ghost use Rattle.rst_block_sections.specs.Sections.{Item, titled, Member, section_at, inside, behind, section_of, sections_of, document_of, inconsistent, level_of, with_style, heading_notes};
+ghost use Rattle.rst_block_sections.specs.OpenSections.{goes_on, closed_with, StopsAt};
+
+use crate::heading::{Heading, Style};
+use crate::nodes::filled;
+use rst_block_nodes::{element_of, message, section};
+use rst_tree::{Attrs, Level as Gravity, Node, Tag, TreeFault};
+use std::alloc::Global;
+use std::mem;
+use std::vec::IntoIter;
+
+/// A section that is open, with what stands in it so far; the outermost is the document.
+#[derive(Drop)]
+struct OpenSection {
+    element: Node,
+    nodes: Vec<Node>,
+}
+
+/// The document with its sections: the section of a title holds what comes up to the next title of its level or a higher
+/// one.
+///
+/// The only refusal is [`TreeFault::NoMemory`].
+pub fn document(alloc: Global, nodes: Vec<Node>, headings: Vec<Heading>) -> Result<Node, TreeFault>
+    ensures { Gives (λ root. root ≡ sections_of nodes.items headings.items) result }
+{
+    if headings.is_empty() {
+        let attrs = Attrs::new(alloc);
+        return Ok(element_of(Tag::Document, attrs, nodes, 0));
+    }
+    let mut sections = Sections::none(alloc);
+    let mut nodes = nodes.into_iter();
+    let mut done = 0;
+    for heading in headings {
+        let more = heading.before.saturating_sub(done);
+        move_front(&mut nodes, more, &mut sections.current.nodes)?;
+        done += more;
+        sections.title(alloc, heading)?;
+    }
+    let left = nodes.len();
+    move_front(&mut nodes, left, &mut sections.current.nodes)?;
+    sections.closed()
+}
+
+/// Puts so many nodes from the front of some behind others, or all that there are.
+fn move_front(nodes: &mut IntoIter<Node>, count: usize, to: &mut Vec<Node>) -> Result<(), TreeFault>
+    ensures moved { Gives (λ _. to.new.items ≡ to.old.items ++ take count (into_iter_items nodes.old)) result }
+    ensures left { Gives (λ _. into_iter_items nodes.new ≡ drop count (into_iter_items nodes.old)) result }
+{
+    to.reserve(count.min(nodes.len()))?;
+    for _done in 0..count {
+        match nodes.next() {
+            Some(node) => to.push(node)?,
+            None => return Ok(()),
+        }
+    }
+    Ok(())
+}
+
+/// The sections that are open, and the styles of titles in the order of their first use.
+#[derive(Drop)]
+struct Sections {
+    /// The sections round the innermost one, the document first.
+    outer: Vec<OpenSection>,
+    current: OpenSection,
+    styles: Vec<Style>,
+}
+
+impl Sections {
+    /// A document without nodes.
+    fn none(alloc: Global) -> Sections
+        ensures { (items : List Item) → goes_on result items ≡ document_of items }
+    {
+        Sections {
+            outer: Vec::new(alloc),
+            current: OpenSection {
+                element: Node::element(alloc, Tag::Document, 0),
+                nodes: Vec::new(alloc),
+            },
+            styles: Vec::new(alloc),
+        }
+    }
+
+    /// Meets a title: begins a new section, or puts the message on a title whose level is inconsistent.
+    fn title(&mut self, alloc: Global, heading: Heading) -> Result<(), TreeFault>
+        ensures { Gives (λ _. (items : List Item) → goes_on self.new items ≡ goes_on self.old (titled heading ∷ items)) result }
+    {
+        let level = level_of(heading.style, self.styles.as_slice());
+        // The level of the innermost section is the number of those round it.
+        if level > self.outer.len() + 1 {
+            self.current.nodes.push(inconsistent(alloc, &heading)?)?;
+            return Ok(());
+        }
+        remember(&mut self.styles, heading.style, level)?;
+        self.end(level)?;
+        self.enter(alloc, heading)
+    }
+
+    /// Ends those of a level or a deeper one: each is put into the one round it.
+    fn end(&mut self, level: usize) -> Result<(), TreeFault>
+        requires { 1 ≤ level }
+        ensures closed { Gives (λ _. (ms : List Member) → StopsAt level ms → closed_with self.new ms ≡ closed_with self.old ms) result }
+        ensures few { Gives (λ _. length self.new.outer.items + 1 ≤ level) result }
+        ensures enough { Gives (λ _. level ≤ length self.old.outer.items + 1 → level ≤ length self.new.outer.items + 1) result }
+        ensures styles { Gives (λ _. self.new.styles ≡ self.old.styles) result }
+    {
+        while level <= self.outer.len() {
+            self.end_innermost()?;
+        }
+        Ok(())
+    }
+
+    /// Ends the innermost, if it isn't the document.
+    fn end_innermost(&mut self) -> Result<(), TreeFault>
+        ensures closed { Gives (λ _. (ms : List Member) → StopsAt (length self.old.outer.items) ms → closed_with self.new ms ≡ closed_with self.old ms) result }
+        ensures len { Gives (λ _. length self.new.outer.items ≡ length self.old.outer.items - 1) result }
+        ensures styles { Gives (λ _. self.new.styles ≡ self.old.styles) result }
+    {
+        if let Some(round) = self.outer.pop() {
+            let OpenSection { element, nodes } = mem::replace(&mut self.current, round);
+            self.current.nodes.push(filled(element, nodes)?)?;
+        }
+        Ok(())
+    }
+
+    /// Begins the section of a title in the innermost one.
+    fn enter(&mut self, alloc: Global, heading: Heading) -> Result<(), TreeFault>
+        ensures closed { let level = length self.old.outer.items + 1 in Gives (λ _. (ms : List Member) → closed_with self.new ms ≡ closed_with self.old (section_at level (section_of heading (inside level ms)) ∷ behind level ms)) result }
+        ensures len { Gives (λ _. length self.new.outer.items ≡ length self.old.outer.items + 1) result }
+        ensures styles { Gives (λ _. self.new.styles ≡ self.old.styles) result }
+    {
+        let inner = begun(alloc, heading)?;
+        self.outer.push(mem::replace(&mut self.current, inner))?;
+        Ok(())
+    }
+
+    /// The document with all sections ended.
+    fn closed(mut self) -> Result<Node, TreeFault>
+        ensures { Gives (λ root. root ≡ goes_on self []) result }
+    {
+        self.end(1)?;
+        let OpenSection { element, nodes } = self.current;
+        filled(element, nodes)
+    }
+}
+
+/// The level of a style, from 1: its place among those in use, or one more than there are.
+fn level_of(style: Style, styles: &[Style]) -> usize
+    ensures { result ≡ level_of style styles.now }
+{
+    for place in 0..styles.len() {
+        if styles[place].is(style) {
+            return place + 1;
+        }
+    }
+    styles.len() + 1
+}
+
+/// Puts a style, whose level this is, behind those in use if it is new.
+fn remember(styles: &mut Vec<Style>, style: Style, level: usize) -> Result<(), TreeFault>
+    requires { level ≡ level_of style styles.old.items }
+    ensures { Gives (λ _. styles.new.items ≡ with_style style styles.old.items) result }
+{
+    if level > styles.len() {
+        styles.push(style)?;
+    }
+    Ok(())
+}
+
+/// The message on a title whose level is inconsistent.
+fn inconsistent(alloc: Global, heading: &Heading) -> Result<Node, TreeFault>
+    ensures { Gives (λ node. node ≡ inconsistent heading.now) result }
+{
+    let text = "Title level inconsistent:";
+    let source = Some(heading.source.as_str());
+    let node = message(alloc, Gravity::Severe, heading.line, text, source)?;
+    Ok(node)
+}
+
+/// The section of a title, with the messages under the title alone.
+fn begun(alloc: Global, heading: Heading) -> Result<OpenSection, TreeFault>
+    ensures element { Gives (λ o. o.element ≡ section_node heading.title.element (length (heading_notes heading)) heading.line) result }
+    ensures nodes { Gives (λ o. o.nodes.items ≡ heading_notes heading) result }
+{
+    let Heading {
+        title,
+        warning,
+        line,
+        ..
+    } = heading;
+    let mut nodes = title.notes;
+    if let Some(warning) = warning {
+        nodes.push(warning)?;
+    }
+    let element = section(alloc, title.element, nodes.len(), line)?;
+    Ok(OpenSection { element, nodes })
+}

@@ -1,5 +1,0 @@
-use Rattle.rst_directives.proofs.FieldLemmas.{texts-take}
-use Rattle.rst_directives.proofs.calls.front.Goals as goal
-
-pub returns : goal.returns
-returns c = texts-take c.args.run.now c.args.n

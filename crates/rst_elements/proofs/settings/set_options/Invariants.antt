@@ -1,6 +1,0 @@
-use Rattle.std.proofs.Common.{◌≡◌, drop}
-use Rattle.rst_elements.specs.Options.{with_options}
-use Rattle.rst_elements.proofs.settings.set_options.Given as goal
-
-abbrev pub invariant-loop-setting : goal.invariant-loop-setting
-invariant-loop-setting l = with_options l.holder (drop l.setting-index l.options) l.attrs ≡ with_options l.holder l.options l.initial.attrs

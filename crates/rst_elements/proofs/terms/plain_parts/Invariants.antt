@@ -1,7 +1,0 @@
-use Rattle.std.proofs.Common.{◌≡◌, ◌++◌, drop}
-use Rattle.rst_elements.specs.Terms.{texts_of}
-use Rattle.rst_elements.proofs.HeadLemmas.{lists_of}
-use Rattle.rst_elements.proofs.terms.plain_parts.Given as goal
-
-abbrev pub invariant-loop-piece : goal.invariant-loop-piece
-invariant-loop-piece l = lists_of l.parts.items ++ texts_of l.text (drop l.piece-index l.pieces) ≡ texts_of l.text l.pieces

@@ -1,8 +1,0 @@
-use Rattle.std.proofs.Common.{◌≡◌, ◌++◌, map, drop}
-use Rattle.rst_footnotes.specs.Footnotes.{outcomes_from}
-use Rattle.rst_links.specs.Linkings.{held}
-use Rattle.rst_footnotes.proofs.footnotes.outcomes.Given as goal
-
-abbrev pub invariant-loop-place : goal.invariant-loop-place
-invariant-loop-place l =
-    l.list.items ++ outcomes_from (map held l.linked) l.labels l.found l.numbers l.symbols l.place (map held (drop l.place l.linked)) ≡ outcomes_from (map held l.fn.linked) l.fn.labels l.fn.found l.numbers l.symbols 0 (map held l.fn.linked)

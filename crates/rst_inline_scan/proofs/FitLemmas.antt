@@ -1,0 +1,105 @@
+-- Pieces lie within the text, and are not empty.
+use Rattle.std.proofs.Common.{◌≡◌, ℕ, ◌+◌, ◌<◌, ◌≤◌, Bool, true, false, ◌&&◌, cond, Option, Some, None, length, refl, sym, subst, arith}
+use Rattle.std.specs.Option.{option_or}
+use Rattle.std.proofs.lemmas.Bool.{ltb-true, and_parts}
+use Rattle.rst_inline_scan.specs.Characters.{Text, has, is_free_behind}
+use Rattle.rst_inline_scan.specs.Tails.{anonymous_tail, named_tail, name_tail, role_tail, bare_tail}
+use Rattle.rst_inline_scan.specs.declared.piece.Piece.{Piece}
+use Rattle.rst_inline_scan.specs.declared.piece.Tail.{Tail}
+use Rattle.rst_inline_scan.specs.declared.piece.Suffix.TheVariants.{Bare, Role, Named, Anonymous}
+
+pub record Fits (t : Text) (i : ℕ) (p : Piece) : Type 0 where
+  pub begins : p.from ≡ i
+  pub some : i < p.to
+  pub within : p.to ≤ length t
+  pub above : i ≤ p.content_from
+  pub order : p.content_from ≤ p.content_to
+  pub behind : p.content_to ≤ p.to
+
+-- each piece that there may be fits
+abbrev pub Fit : Text → ℕ → Option Piece → Type 0
+Fit t i r = (p : Piece) → r ≡ Some p → Fits t i p
+
+pub has-lt : (t : Text) (i c : ℕ) → has t i c ≡ true → i < length t
+has-lt t i c h = ltb-true i (length t) (and_parts _ _ h).0
+
+pub Some-same : {X : Type 0} {x y : X} → Some x ≡ Some y → x ≡ y
+Some-same h = cc
+
+pub Some-None : {X : Type 0} {x : X} → Some x ≡ None → ⊥
+Some-None h = cc
+
+pub either : {X : Type 0} (b : Bool) (r s : X) (P : X → Type 0) → (b ≡ true → P r) → P s → P (cond b r s)
+either true r s P h k = h refl
+either false r s P h k = k
+
+pub chosen : {X : Type 0} (b : Bool) (r : Option X) (x : X) → cond b r None ≡ Some x → (b ≡ true) × (r ≡ Some x)
+chosen true r x h = (refl, h)
+chosen false r x h = absurd (Some-None (sym h))
+
+pub Fit-none : (t : Text) (i : ℕ) → Fit t i None
+Fit-none t i p h = absurd (Some-None (sym h))
+
+pub Fit-some : (t : Text) (i : ℕ) (q : Piece) → Fits t i q → Fit t i (Some q)
+Fit-some t i q fits p h = subst (Fits t i) (Some-same h) fits
+
+pub Fit-or : (t : Text) (i : ℕ) (r s : Option Piece) → Fit t i r → Fit t i s → Fit t i (option_or r s)
+Fit-or t i (Some q) s first second p h = first p h
+Fit-or t i None s first second p h = second p h
+
+-- ---- tails
+
+-- a tail that there may be ends at or past the place, and within the text
+abbrev pub TailFits : Text → ℕ → Option Tail → Type 0
+TailFits t e r = (tail : Tail) → r ≡ Some tail → (e ≤ tail.to) × (tail.to ≤ length t)
+
+one_tail : (t : Text) (e : ℕ) (made : Tail) → e ≤ made.to → made.to ≤ length t → TailFits t e (Some made)
+one_tail t e made above within tail h = subst (λ (tail : Tail). (e ≤ tail.to) × (tail.to ≤ length t)) (Some-same h) (above, within)
+
+no_tail : (t : Text) (e : ℕ) → TailFits t e None
+no_tail t e tail h = absurd (Some-None (sym h))
+
+pub TailFits-or : (t : Text) (e : ℕ) (r s : Option Tail) → TailFits t e r → TailFits t e s → TailFits t e (option_or r s)
+TailFits-or t e (Some q) s first second tail h = first tail h
+TailFits-or t e None s first second tail h = second tail h
+
+pub bare_tail-fits : (t : Text) (e : ℕ) → e ≤ length t → TailFits t e (bare_tail t e)
+bare_tail-fits t e h = either (is_free_behind t e) (Some (record { suffix = Bare; to = e })) None (TailFits t e) (λ free. one_tail t e _ (omega arith) h) (no_tail t e)
+
+named_tail-fits : (t : Text) (e : ℕ) → TailFits t e (named_tail t e)
+named_tail-fits t e = either (has t e 95 && is_free_behind t (e + 1)) (Some (record { suffix = Named; to = e + 1 })) None (TailFits t e)
+    (λ fits. let l : e < length t = has-lt t e 95 (and_parts (has t e 95) (is_free_behind t (e + 1)) fits).0 in one_tail t e _ (omega arith) (omega arith))
+    (no_tail t e)
+
+anonymous_tail-fits : (t : Text) (e : ℕ) → TailFits t e (anonymous_tail t e)
+anonymous_tail-fits t e = either (has t e 95 && (has t (e + 1) 95 && is_free_behind t (e + 2))) (Some (record { suffix = Anonymous; to = e + 2 })) None (TailFits t e)
+    (λ fits.
+    let second = (and_parts (has t e 95) (has t (e + 1) 95 && is_free_behind t (e + 2)) fits).1 in
+    let l : e + 1 < length t = has-lt t (e + 1) 95 (and_parts (has t (e + 1) 95) (is_free_behind t (e + 2)) second).0 in
+    one_tail t e _ (omega arith) (omega arith))
+    (no_tail t e)
+
+pub name_tail-fits : (t : Text) (e : ℕ) → TailFits t e (name_tail t e)
+unfolding name_tail
+name_tail-fits t e = TailFits-or t e (anonymous_tail t e) (named_tail t e) (anonymous_tail-fits t e) (named_tail-fits t e)
+
+pub role_tail-fits : (t : Text) (e : ℕ) (r : Option ℕ) → ((k : ℕ) → r ≡ Some k → (e < k) × (k ≤ length t)) → TailFits t e (role_tail t r)
+role_tail-fits t e (Some k) h = either (is_free_behind t k) (Some (record { suffix = Role; to = k })) None (TailFits t e)
+    (λ free. let above : e < k = (h k refl).0 in one_tail t e _ (omega arith) (h k refl).1)
+    (no_tail t e)
+role_tail-fits t e None h = no_tail t e
+
+-- where underscores fit, one stands there
+pub name_tail-below : (t : Text) (e : ℕ) (tail : Tail) → name_tail t e ≡ Some tail → e < length t
+unfolding name_tail
+name_tail-below t e tail h = first (anonymous_tail t e) (anonymous_tail-below t e) h
+  where
+    named_tail-below : (made : Tail) → named_tail t e ≡ Some made → e < length t
+    named_tail-below made h = has-lt t e 95 (and_parts (has t e 95) (is_free_behind t (e + 1)) (chosen (has t e 95 && is_free_behind t (e + 1)) (Some (record { suffix = Named; to = e + 1 })) made h).0).0
+
+    anonymous_tail-below : (t : Text) (e : ℕ) (made : Tail) → anonymous_tail t e ≡ Some made → e < length t
+    anonymous_tail-below t e made h = has-lt t e 95 (and_parts (has t e 95) (has t (e + 1) 95 && is_free_behind t (e + 2)) (chosen (has t e 95 && (has t (e + 1) 95 && is_free_behind t (e + 2))) (Some (record { suffix = Anonymous; to = e + 2 })) made h).0).0
+
+    first : (r : Option Tail) → ((made : Tail) → r ≡ Some made → e < length t) → option_or r (named_tail t e) ≡ Some tail → e < length t
+    first (Some q) below h = below q refl
+    first None below h = named_tail-below tail h

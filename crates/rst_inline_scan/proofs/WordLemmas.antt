@@ -1,0 +1,314 @@
+-- Inside words nothing begins.
+use Rattle.std.proofs.Common.{◌≡◌, ⊎_elim, ℕ, ◌+◌, ◌-◌, ◌<◌, ◌≤◌, Bool, true, false, not, ◌&&◌, ◌||◌, ◌==◌, cond, List, [], ◌∷◌, Some, None, length, option_and_then, option_map, get_or, true≢false, refl, sym, ap, ◌∙◌, subst, arith}
+use Rattle.std.specs.Prelude.{nat_lt, find}
+use Rattle.std.specs.List.{list_all}
+use Rattle.std.specs.Char.{is_ascii_alphanumeric, to_ascii_lowercase}
+use Rattle.std.proofs.lemmas.Bool.{lt-ltb, eqb-true, and_parts, cases_lt}
+use Rattle.std.proofs.lemmas.Bool.Decides.{nat_tests}
+use Rattle.rst_text.specs.Characters.{is_white}
+use Rattle.rst_text.specs.Places.{all_from}
+use Rattle.rst_text.proofs.CharacterLemmas.{is_alphanumeric-ascii}
+use Rattle.rst_text.proofs.PlacesLemmas.{cases_bool, lt_eq_gt, all_from-at, all_from-stop, last_from-is}
+use Rattle.rst_inline_scan.specs.Characters.{Text, has, may_precede, is_alnum_at}
+use Rattle.rst_inline_scan.specs.Escapes.{is_escaped}
+use Rattle.rst_inline_scan.specs.Tails.{name_tail}
+use Rattle.rst_inline_scan.specs.Names.{is_joint, is_name_at, role_end, ends_name, is_reference, name_end, reference_to, reference}
+use Rattle.rst_inline_scan.specs.Marked.{has_start, start_of, starts, marked_from, marked}
+use Rattle.rst_inline_scan.specs.Footnotes.{label}
+use Rattle.rst_inline_scan.specs.Uri.{has_any_case, schemes, scheme_end, uri_piece, uri}
+use Rattle.rst_inline_scan.specs.Words.{IsWord, goes_on}
+use Rattle.rst_inline_scan.specs.Pieces.{markup_at, is_free, piece_at, HasNoStart}
+use Rattle.rst_inline_scan.specs.declared.piece.Markup.{Markup}
+use Rattle.rst_inline_scan.specs.declared.piece.Markup.TheVariants.{Strong, Emphasis, Literal, Target, Substitution, Interpreted}
+use Rattle.rst_inline_scan.proofs.EscapeLemmas.{IsBare, other-bare, is_escaped-bare}
+use Rattle.rst_inline_scan.proofs.NameLemmas.{not_reference, is_reference-past}
+use Rattle.rst_inline_scan.proofs.UriLemmas.{letter_at, letter_before, uri_end-none}
+
+-- ---- letters and digits
+
+abbrev IsLetter : ℕ → Type 0
+IsLetter c = is_ascii_alphanumeric c ≡ true
+
+letter-low : (c : ℕ) → IsLetter c → c < 128
+letter-low c h = grind (arith, nat_tests)
+
+-- what holds of each character of ASCII
+below : (p : ℕ → Bool) → all_from p 0 128 ≡ true → (c : ℕ) → c < 128 → p c ≡ true
+below p all c low = all_from-at p 0 128 all c (omega arith) (omega arith)
+
+abbrev unless : Bool → Bool → Bool
+unless a b = not a || b
+
+unless-so : (a b : Bool) → unless a b ≡ true → a ≡ true → b ≡ true
+unless-so true b h k = h
+unless-so false b h k = absurd (cc)
+
+not-so : (b : Bool) → not b ≡ true → b ≡ false
+not-so true h = absurd (cc)
+not-so false h = refl
+
+-- none stands before a start
+pub letter-before : (c : ℕ) → IsLetter c → may_precede c ≡ false
+unfolding may_precede is_white
+letter-before c h = not-so _ (unless-so _ _ (below (λ c. unless (is_ascii_alphanumeric c) (not (may_precede c))) refl c (letter-low c h)) h)
+
+-- a character that passes a test is none that fails it
+pub differs : (p : ℕ → Bool) (c d : ℕ) → p c ≡ true → p d ≡ false → (c == d) ≡ false
+differs p c d h k = not-so _ (by_case (c == d) refl)
+  where
+    by_case : (same : Bool) → (c == d) ≡ same → not same ≡ true
+    by_case true s = absurd (true≢false (sym h ∙ ap p (eqb-true c d s) ∙ k))
+    by_case false s = refl
+
+letter-is : (c d : ℕ) (b : Bool) → is_ascii_alphanumeric d ≡ b → IsLetter c → b ≡ false → (c == d) ≡ false
+letter-is c d b h k e = differs is_ascii_alphanumeric c d k (h ∙ e)
+
+-- ---- the run
+
+letter-at : (t : Text) (i to k : ℕ) → IsWord t i to → i ≤ k → k < to → IsLetter (get_or t k 0)
+letter-at t i to k word above less = word.letters k above less
+
+other-at : (t : Text) (i to k c : ℕ) → IsWord t i to → i ≤ k → k < to → is_ascii_alphanumeric c ≡ false → has t k c ≡ false
+other-at t i to k c word above less e =
+    rw (letter-is (get_or t k 0) c false e (letter-at t i to k word above less) refl) (grind (arith, nat_tests))
+
+-- ---- references
+
+pub no-underscore : (t : Text) (j : ℕ) → has t j 95 ≡ false → ends_name t j ≡ false
+unfolding ends_name name_tail
+no-underscore t j h = rw h (grind (arith, nat_tests))
+
+-- what stands behind a word that nothing goes on with
+record Ends (t : Text) (i : ℕ) : Type 0 where
+  pub underscore : has t i 95 ≡ false
+  pub colon : has t i 58 ≡ false
+  pub name : i < length t → is_name_at t i ≡ false
+
+or_false : (a b : Bool) → (a || b) ≡ false → (a ≡ false) × (b ≡ false)
+or_false true b h = absurd (true≢false h)
+or_false false b h = (refl, h)
+
+within-false : (i n : ℕ) (b : Bool) → (nat_lt i n && b) ≡ false → i < n → b ≡ false
+within-false i n b h less = sym (ap (λ a. a && b) (lt-ltb i n less)) ∙ h
+
+ends-by : (t : Text) (i : ℕ) → goes_on t i ≡ false → Ends t i
+unfolding goes_on
+ends-by t i h =
+    let first = or_false (has t i 95) (has t i 58 || (nat_lt i (length t) && is_name_at t i)) h in
+    let second = or_false (has t i 58) (nat_lt i (length t) && is_name_at t i) first.1 in
+    record { underscore = first.0; colon = second.0; name = within-false i (length t) (is_name_at t i) second.1 }
+
+no-name : (t : Text) (i to : ℕ) → IsWord t i to → Ends t to → name_end t i ≡ None
+unfolding name_end
+no-name t i to word ends = sym (last_from-is (is_reference t i) (i + 1) (length t) None (λ k more less.
+    ⊎_elim
+    (λ inside. not_reference t i k (no-underscore t k (other-at t i to k 95 word (omega arith) inside refl)))
+    (λ rest. ⊎_elim
+    (λ same. not_reference t i k (no-underscore t k (subst (λ n. has t n 95 ≡ false) (sym same) ends.underscore)))
+    (λ past. is_reference-past t i k (all_from-stop (is_name_at t) i to k word.above past (ends.name (omega arith))))
+    rest)
+    (lt_eq_gt k to)))
+
+no-reference : (t : Text) (i to : ℕ) → IsWord t i to → Ends t to → reference t i ≡ None
+unfolding reference
+no-reference t i to word ends = ap (option_and_then (reference_to t i)) (no-name t i to word ends)
+
+-- ---- URIs
+
+-- letters and digits, and a colon behind them
+abbrev named : List ℕ → Bool
+named [] = false
+named (c ∷ cs) = c == 58 || (is_ascii_alphanumeric c && named cs)
+
+pub lower-colon : (c : ℕ) → to_ascii_lowercase c ≡ 58 → c ≡ 58
+lower-colon c h = grind (arith, nat_tests)
+
+lower-letter : (c : ℕ) → IsLetter (to_ascii_lowercase c) → IsLetter c
+lower-letter c h = grind (arith, nat_tests)
+
+no-scheme : (t : Text) (i to : ℕ) (word : List ℕ) → IsWord t i to → has t to 58 ≡ false → named word ≡ true → has_any_case t i word ≡ true → ⊥
+no-scheme t i to [] run colon n h = true≢false (sym n)
+no-scheme t i to (c ∷ cs) run colon n h =
+    let here = letter_before t i c cs h in
+    let letter = letter_at t i c here.0 in
+    let within : i < length t = letter.0 in
+    let same : to_ascii_lowercase (get_or t i 0) ≡ c = letter.1 in
+    let order : i ≤ to = run.above in
+    ⊎_elim
+    (λ inside. ⊎_elim
+    (λ is_colon. true≢false (sym (run.letters i (omega arith) inside) ∙ ap is_ascii_alphanumeric (lower-colon (get_or t i 0) (same ∙ eqb-true c 58 is_colon))))
+    (λ other. no-scheme t (i + 1) to cs
+    (record { above = omega arith; within = run.within; letters = λ k above less. run.letters k (omega arith) less; stops = run.stops })
+    colon (and_parts (is_ascii_alphanumeric c) (named cs) (subst (λ b. (b || (is_ascii_alphanumeric c && named cs)) ≡ true) other n)).1 here.1)
+    (cases_bool (c == 58)))
+    (λ past. let last : i ≡ to = omega arith in ⊎_elim
+    (λ is_colon.
+    let stands : get_or t i 0 ≡ 58 = lower-colon (get_or t i 0) (same ∙ eqb-true c 58 is_colon) in
+    let shown : has t i 58 ≡ true = rw (stands, lt-ltb i (length t) within) refl in
+    true≢false (sym shown ∙ ap (λ n. has t n 58) last ∙ colon))
+    (λ other.
+    let letter : is_ascii_alphanumeric c ≡ true = (and_parts (is_ascii_alphanumeric c) (named cs) (subst (λ b. (b || (is_ascii_alphanumeric c && named cs)) ≡ true) other n)).0 in
+    let mine : IsLetter (get_or t i 0) = lower-letter (get_or t i 0) (ap is_ascii_alphanumeric same ∙ letter) in
+    true≢false (sym mine ∙ ap (λ n. is_ascii_alphanumeric (get_or t n 0)) last ∙ run.stops (omega arith)))
+    (cases_bool (c == 58)))
+    (cases_lt i to)
+
+no-first : (t : Text) (i to : ℕ) (words : List (List ℕ)) → IsWord t i to → has t to 58 ≡ false → list_all named words ≡ true → find (has_any_case t i) words ≡ None
+no-first t i to [] run colon all = refl
+no-first t i to (word ∷ words) run colon all =
+    let parts = and_parts (named word) (list_all named words) all in
+    ⊎_elim
+    (λ yes. absurd (no-scheme t i to word run colon parts.0 yes))
+    (λ no. ap (λ b. cond b (Some word) (find (has_any_case t i) words)) no ∙ no-first t i to words run colon parts.1)
+    (cases_bool (has_any_case t i word))
+
+no-uri : (t : Text) (i to : ℕ) → IsWord t i to → has t to 58 ≡ false → uri t i ≡ None
+unfolding uri scheme_end
+no-uri t i to run colon = ap (option_map (uri_piece i)) (uri_end-none t i (ap (option_map (λ scheme. i + length scheme)) (no-first t i to schemes run colon refl)))
+
+-- ---- other markup
+
+-- none of the characters stands at the place that start-strings and roles begin with
+pub record Lacks (t : Text) (i : ℕ) : Type 0 where
+  pub star : has t i 42 ≡ false
+  pub grave : has t i 96 ≡ false
+  pub underscore : has t i 95 ≡ false
+  pub bar : has t i 124 ≡ false
+  pub colon : has t i 58 ≡ false
+
+pub absent : (p : ℕ → Bool) (t : Text) (i c : ℕ) → p (get_or t i 0) ≡ true → p c ≡ false → has t i c ≡ false
+absent p t i c h k = rw (differs p (get_or t i 0) c h k) (grind (arith, nat_tests))
+
+pub lacks-by : (p : ℕ → Bool) (t : Text) (i : ℕ) → p (get_or t i 0) ≡ true → p 42 ≡ false → p 96 ≡ false → p 95 ≡ false → p 124 ≡ false → p 58 ≡ false → Lacks t i
+lacks-by p t i h star grave underscore bar colon = record {
+  star = absent p t i 42 h star;
+  grave = absent p t i 96 h grave;
+  underscore = absent p t i 95 h underscore;
+  bar = absent p t i 124 h bar;
+  colon = absent p t i 58 h colon;
+}
+
+no-mark : (markup : Markup) (t : Text) (i q : ℕ) → has_start markup t q ≡ false → marked_from markup t i q ≡ None
+unfolding starts
+no-mark markup t i q h = rw h refl
+
+no-role : (t : Text) (i : ℕ) → has t i 58 ≡ false → role_end t i ≡ None
+unfolding role_end
+no-role t i h = rw h refl
+
+pub no-marked : (t : Text) (i : ℕ) → Lacks t i → (markup : Markup) → marked markup t i ≡ None
+unfolding marked start_of
+no-marked t i lacks Strong = no-mark Strong t i i (rw lacks.star refl)
+no-marked t i lacks Emphasis = no-mark Emphasis t i i (rw lacks.star refl)
+no-marked t i lacks Literal = no-mark Literal t i i (rw lacks.grave refl)
+no-marked t i lacks Target = no-mark Target t i i (rw lacks.underscore refl)
+no-marked t i lacks Substitution = no-mark Substitution t i i (rw lacks.bar refl)
+no-marked t i lacks Interpreted = rw (no-role t i lacks.colon) (no-mark Interpreted t i i (rw lacks.grave refl))
+
+no-label : (t : Text) (i : ℕ) → has t i 91 ≡ false → label t i ≡ None
+unfolding label
+no-label t i h = rw h refl
+
+no-markup : (t : Text) (i to : ℕ) → IsWord t i to → Lacks t i → has t i 91 ≡ false → Ends t to → markup_at t i ≡ None
+unfolding markup_at
+no-markup t i to run lacks bracket ends =
+    rw (
+      no-marked t i lacks Strong,
+      no-marked t i lacks Emphasis,
+      no-marked t i lacks Literal,
+      no-marked t i lacks Target,
+      no-marked t i lacks Substitution,
+      no-marked t i lacks Interpreted,
+      no-label t i bracket,
+      no-reference t i to run ends,
+      no-uri t i to run ends.colon,
+    ) refl
+
+-- no markup begins at a place that lacks its marks and where a word ends, which may be empty, with which nothing goes on
+pub no-piece-lacking : (t : Text) (from i to : ℕ) → IsWord t i to → Lacks t i → has t i 91 ≡ false → goes_on t to ≡ false → piece_at t from i ≡ None
+unfolding piece_at
+no-piece-lacking t from i to run lacks bracket h = by_case (is_free t from i)
+  where
+    by_case : (free : Bool) → cond free (markup_at t i) None ≡ None
+    by_case true = no-markup t i to run lacks bracket (ends-by t to h)
+    by_case false = refl
+
+-- nothing begins where a word does, if nothing goes on with it,
+pub no-piece : (t : Text) (from i to : ℕ) → IsWord t i to → i < to → goes_on t to ≡ false → piece_at t from i ≡ None
+no-piece t from i to run some h =
+    let letter = run.letters i (omega arith) some in
+    no-piece-lacking t from i to run (lacks-by is_ascii_alphanumeric t i letter refl refl refl refl refl) (absent is_ascii_alphanumeric t i 91 letter refl) h
+
+-- and further on in it nothing does.
+inside-word : (t : Text) (from i to k : ℕ) → IsWord t i to → i < k → k ≤ to → piece_at t from k ≡ None
+unfolding piece_at is_free
+inside-word t from i to k run above upto =
+    let before : may_precede (get_or t (k - 1) 0) ≡ false = letter-before _ (run.letters (k - 1) (omega arith) (omega arith)) in
+    rw before (grind (arith, nat_tests))
+
+pub HasNoStart-word : (t : Text) (from i to : ℕ) → IsWord t i to → HasNoStart t from from i → piece_at t from i ≡ None → HasNoStart t from from (to + 1)
+HasNoStart-word t from i to run none here k low high =
+    ⊎_elim
+    (λ before. none k low before)
+    (λ rest. ⊎_elim
+    (λ same. subst (λ n. piece_at t from n ≡ None) (sym same) here)
+    (λ past. inside-word t from i to k run past (omega arith))
+    rest)
+    (lt_eq_gt k i)
+
+letter-bare : (t : Text) (k : ℕ) → IsLetter (get_or t k 0) → IsBare t k
+letter-bare t k h = other-bare t k (letter-is (get_or t k 0) 92 false refl h refl)
+
+-- a word escapes nothing
+pub unescaped-word : (t : Text) (from i to : ℕ) → from ≤ i → i < to → IsWord t i to → false ≡ is_escaped t from to
+unescaped-word t from i to order some run =
+    let e : to - 1 + 1 ≡ to = omega arith in
+    sym (ap (is_escaped t from) (sym e) ∙ is_escaped-bare t from (to - 1) (omega arith) (letter-bare t (to - 1) (run.letters (to - 1) (omega arith) (omega arith))))
+
+-- whether what stands behind a word is escaped
+pub unescaped-behind : (t : Text) (from i to : ℕ) (escaped : Bool) → from ≤ i → IsWord t i to → escaped ≡ is_escaped t from i → (escaped && i == to) ≡ is_escaped t from to
+unescaped-behind t from i to escaped order run known = ⊎_elim
+    (λ same. let e : i ≡ to = eqb-true i to same in rw same (and-true escaped ∙ known ∙ ap (is_escaped t from) e))
+    (λ other. rw other (and-false escaped ∙ unescaped-word t from i to order (some_of (run.above) other) run))
+    (cases_bool (i == to))
+  where
+    and-true : (b : Bool) → (b && true) ≡ b
+    and-true true = refl
+    and-true false = refl
+
+    and-false : (b : Bool) → (b && false) ≡ false
+    and-false true = refl
+    and-false false = refl
+
+    some_of : i ≤ to → (i == to) ≡ false → i < to
+    some_of above differ = grind (arith, nat_tests)
+
+-- ---- what goes on with no word
+
+space-joint : (c : ℕ) → c ≡ 32 → is_joint c ≡ false
+unfolding is_joint
+space-joint c h = rw h refl
+
+feed-joint : (c : ℕ) → c ≡ 10 → is_joint c ≡ false
+unfolding is_joint
+feed-joint c h = rw h refl
+
+no-letter-at : (t : Text) (i c : ℕ) → get_or t i 0 ≡ c → c < 128 → is_ascii_alphanumeric c ≡ false → is_alnum_at t i ≡ false
+no-letter-at t i c h low e = rw (h, sym (is_alphanumeric-ascii c low) ∙ e) (grind (arith, nat_tests))
+
+quiet : (t : Text) (i : ℕ) → (get_or t i 0 == 95) ≡ false → (get_or t i 0 == 58) ≡ false → is_joint (get_or t i 0) ≡ false → is_alnum_at t i ≡ false → false ≡ goes_on t i
+unfolding goes_on is_name_at
+quiet t i a b joint letter = rw (a, b, letter, joint) (grind (arith, nat_tests))
+
+pub goes_on-space : (t : Text) (i : ℕ) → get_or t i 0 ≡ 32 → false ≡ goes_on t i
+goes_on-space t i h = quiet t i (ap (λ c. c == 95) h) (ap (λ c. c == 58) h) (space-joint _ h) (no-letter-at t i 32 h (omega arith) refl)
+
+pub goes_on-feed : (t : Text) (i : ℕ) → get_or t i 0 ≡ 10 → false ≡ goes_on t i
+goes_on-feed t i h = quiet t i (ap (λ c. c == 95) h) (ap (λ c. c == 58) h) (feed-joint _ h) (no-letter-at t i 10 h (omega arith) refl)
+
+comma-joint : (c : ℕ) → c ≡ 44 → is_joint c ≡ false
+unfolding is_joint
+comma-joint c h = rw h refl
+
+pub goes_on-comma : (t : Text) (i : ℕ) → get_or t i 0 ≡ 44 → false ≡ goes_on t i
+goes_on-comma t i h = quiet t i (ap (λ c. c == 95) h) (ap (λ c. c == 58) h) (comma-joint _ h) (no-letter-at t i 44 h (omega arith) refl)

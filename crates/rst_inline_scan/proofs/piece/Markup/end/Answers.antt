@@ -1,0 +1,43 @@
+use Rattle.std.proofs.Common.{◌≡◌, ◌+◌, ◌≤◌, false, sym, ◌∙◌, arith, ap, below_more, length, Some, None}
+use Rattle.std.proofs.lemmas.List.{get_or_read}
+use Rattle.rst_text.proofs.PlacesLemmas.{first_from-is}
+use Rattle.rst_inline_scan.specs.Escapes.{escapes}
+use Rattle.rst_inline_scan.specs.Marked.{start_len, ends, markup_end}
+use Rattle.rst_inline_scan.proofs.EscapeLemmas.{is_escaped-bare, is_escaped-more}
+use Rattle.rst_inline_scan.proofs.MarkedLemmas.{start-bare}
+use Rattle.rst_inline_scan.proofs.piece.Markup.end.Goals as goal
+use Rattle.rst_inline_scan.proofs.piece.Markup.end.Goals.{else-start-start_len-via-then-start-start_len+else-ends, else-start-start_len-via-else-start-start_len}
+
+pub loop-at-init : goal.loop-at-init
+loop-at-init c = record {
+  escaped = sym (is_escaped-bare c.args.text.now c.args.place c.args.start c.requires.order (start-bare c.args.self c.args.text.now c.args.start c.requires.mark));
+  none = λ k low high. absurd (omega arith);
+}
+
+pub returns-then-ends : goal.returns-then-ends
+unfolding markup_end
+returns-then-ends c =
+    let here = c.ends.ensures c.args.place c.loop-at.invariant.escaped in
+    record {
+      exact = first_from-is (ends c.args.self c.args.text.now c.args.place) _ (length c.args.text.now) (Some c.loop-at.at) (omega arith, omega arith, cc, c.loop-at.invariant.none);
+      within = omega arith;
+    }
+
+pub returns-clause-exact : goal.returns-clause-exact
+unfolding markup_end
+returns-clause-exact c =
+    first_from-is (ends c.args.self c.args.text.now c.args.place) _ (length c.args.text.now) None (λ k low high. c.loop-at.invariant.none k low (omega arith))
+
+pub loop-at-preserved : goal.loop-at-preserved
+loop-at-preserved c =
+    let known = c.loop-at.invariant.escaped in
+    let next = is_escaped-more c.args.text.now c.args.place c.loop-at.at (omega arith) in
+    let not_here : c.args.start + start_len c.args.self + 1 ≤ c.loop-at.at → ends c.args.self c.args.text.now c.args.place c.loop-at.at ≡ false = λ low.
+    elim c.else-start-start_len.branch [
+      | else-start-start_len-via-then-start-start_len+else-ends w ↦ sym (w.ends.ensures c.args.place known) ∙ cc
+      | else-start-start_len-via-else-start-start_len w ↦ absurd (omega arith)
+    ] in
+    record {
+      escaped = c.escapes-escaped.ensures ∙ ap (λ x. escapes x c.loop-at.escaped) (get_or_read c.args.text.now _ _ (omega arith) c.index-text-at.is 0) ∙ ap (escapes _) c.loop-at.invariant.escaped ∙ sym next;
+      none = λ k low high. below_more (λ k. c.args.start + start_len c.args.self + 1 ≤ k → ends c.args.self c.args.text.now c.args.place k ≡ false) c.loop-at.at (λ k high low. c.loop-at.invariant.none k low high) not_here k high low;
+    }

@@ -1,0 +1,10 @@
+use Rattle.std.proofs.Common.{◌≡◌, ℕ, ◌+◌, ◌<◌, ◌≤◌, false}
+use Rattle.rst_inline_scan.specs.Escapes.{is_escaped}
+use Rattle.rst_inline_scan.specs.Marked.{start_len, ends}
+use Rattle.rst_inline_scan.proofs.piece.Markup.end.Given as goal
+
+abbrev pub invariant-loop-at : goal.invariant-loop-at
+invariant-loop-at l = record {
+  escaped : l.escaped ≡ is_escaped l.text l.place l.at;
+  none : (k : ℕ) → l.start + start_len l.self + 1 ≤ k → k < l.at → ends l.self l.text l.place k ≡ false;
+}

@@ -1,0 +1,58 @@
+-- The pieces of an inline text (Markup Specification, 'Inline markup recognition rules', 'Recognition order').
+use Rattle.std.specs.Prelude.{◌≡◌, ℕ, ◌-◌, ◌<◌, ◌≤◌, Bool, not, ◌&&◌, ◌||◌, ◌==◌, List, [], ◌∷◌, Option, None, Some, slice_index, length, if◌then◌else◌}
+use Rattle.std.specs.Option.{option_or}
+use Rattle.rst_inline_scan.specs.Characters.{Text, may_precede}
+use Rattle.rst_inline_scan.specs.Escapes.{is_escaped}
+use Rattle.rst_inline_scan.specs.Marked.{marked}
+use Rattle.rst_inline_scan.specs.Names.{reference}
+use Rattle.rst_inline_scan.specs.Footnotes.{label}
+use Rattle.rst_inline_scan.specs.Uri.{uri}
+use Rattle.rst_inline_scan.specs.declared.piece.Markup.TheVariants.{Strong, Emphasis, Literal, Target, Substitution, Interpreted}
+use Rattle.rst_inline_scan.specs.declared.piece.Kind.TheVariants.{Plain}
+use Rattle.rst_inline_scan.specs.declared.piece.Piece.{Piece}
+
+-- the piece that the first kind of markup gives that holds at the place
+unfoldable pub markup_at : Text → ℕ → Option Piece
+markup_at t i =
+    option_or (marked Strong t i) (option_or (marked Emphasis t i) (option_or (marked Literal t i) (option_or (marked Target t i)
+    (option_or (marked Substitution t i) (option_or (marked Interpreted t i) (option_or (label t i) (option_or (reference t i) (uri t i))))))))
+
+-- A start may stand at i: it is not escaped, and what stands before it fits. Plain text before i begins at `from`: no backslash
+-- before that counts.
+unfoldable pub is_free : Text → ℕ → ℕ → Bool
+is_free t from i = not (is_escaped t from i) && (i == 0 || may_precede (slice_index t (i - 1)))
+
+-- the piece that begins at i, if a start may stand there and markup begins
+unfoldable pub piece_at : Text → ℕ → ℕ → Option Piece
+piece_at t from i = if is_free t from i then markup_at t i else None
+
+-- no start stands at the places from `low` below `high`
+abbrev pub HasNoStart : Text → ℕ → ℕ → ℕ → Type 0
+HasNoStart t from low high = (i : ℕ) → low ≤ i → i < high → piece_at t from i ≡ None
+
+-- plain text from one place up to another
+abbrev pub plain_from : ℕ → ℕ → Piece
+plain_from from to = record { kind = Plain; from = from; content_from = from; content_to = to; to = to }
+
+-- a plain piece from `from`: it is not empty, and holds no start
+pub record IsPlain (t : Text) (from : ℕ) (p : Piece) : Type 0 where
+  pub is_plain : p ≡ plain_from from p.to
+  pub some : from < p.to
+  pub within : p.to ≤ length t
+  pub none : HasNoStart t from from p.to
+
+-- The pieces of the text from `from` on. A plain piece runs to the least start behind it, or to the end where there is none;
+-- any other begins at a start.
+pub data IsPieces (t : Text) : ℕ → List Piece → Type 0 where
+  nothing : {from : ℕ} → from ≡ length t → IsPieces t from []
+  last : {from : ℕ} (p : Piece) → IsPlain t from p → p.to ≡ length t → IsPieces t from (p ∷ [])
+  other : {from : ℕ} (p : Piece) (ps : List Piece) → piece_at t from from ≡ Some p → IsPieces t p.to ps → IsPieces t from (p ∷ ps)
+  plain : {from : ℕ} (p q : Piece) (ps : List Piece) → IsPlain t from p → piece_at t from p.to ≡ Some q → IsPieces t q.to ps → IsPieces t from (p ∷ q ∷ ps)
+
+-- A piece lies within the text and is not empty, and what its markup encloses lies within the piece.
+pub record IsWithin (t : Text) (p : Piece) : Type 0 where
+  pub some : p.from < p.to
+  pub begins : p.from ≤ p.content_from
+  pub ends : p.content_from ≤ p.content_to
+  pub behind : p.content_to ≤ p.to
+  pub within : p.to ≤ length t

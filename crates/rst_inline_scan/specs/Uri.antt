@@ -1,0 +1,60 @@
+-- Standalone hyperlinks (Markup Specification, 'Standalone Hyperlinks').
+use Rattle.std.specs.Prelude.{◌≡◌, ℕ, ◌+◌, ◌-◌, Bool, not, ◌||◌, List, [], ◌∷◌, Option, None, Some, slice_index, length, map, find, unwrap_or, option_map, option_and_then, codes, if◌then◌else◌}
+use Rattle.std.specs.Char.{to_ascii_lowercase, is_ascii_alphanumeric}
+use Rattle.rst_inline_scan.specs.Characters.{Text, has_string, is_among, is_free_behind}
+use Rattle.rst_text.specs.Places.{first_from, last_from}
+use Rattle.rst_inline_scan.specs.declared.piece.Kind.TheVariants.{Uri}
+use Rattle.rst_inline_scan.specs.declared.piece.Piece.{Piece}
+
+-- the string, which is in lower case, stands at the place without regard to the case of letters of ASCII
+abbrev pub has_any_case : Text → ℕ → Text → Bool
+has_any_case t i string = has_string (map to_ascii_lowercase t) i string
+
+-- the schemes, with what stands between them and what they name
+abbrev pub schemes : List Text
+schemes = codes "file://" ∷ codes "ftp://" ∷ codes "http://" ∷ codes "https://" ∷ codes "irc://" ∷ codes "mailto:" ∷ codes "news:" ∷ []
+
+-- the place behind the scheme that begins at the place
+unfoldable pub scheme_end : Text → ℕ → Option ℕ
+scheme_end t i = option_map (λ scheme. i + length scheme) (find (has_any_case t i) schemes)
+
+-- an ASCII letter or digit, or one of -_.~!*'();/?:@&=$+,%#[]
+unfoldable pub is_uri_char : ℕ → Bool
+is_uri_char c = is_ascii_alphanumeric c
+    || is_among (45 ∷ 95 ∷ 46 ∷ 126 ∷ 33 ∷ 42 ∷ 39 ∷ 40 ∷ 41 ∷ 59 ∷ 47 ∷ 63 ∷ 58 ∷ 64 ∷ 38 ∷ 61 ∷ 36 ∷ 43 ∷ 44 ∷ 37 ∷ 35 ∷ 91 ∷ 93 ∷ []) c
+
+-- one of .,:;!?')] which end no URI
+unfoldable pub is_uri_trail : ℕ → Bool
+is_uri_trail c = is_among (46 ∷ 44 ∷ 58 ∷ 59 ∷ 33 ∷ 63 ∷ 39 ∷ 41 ∷ 93 ∷ []) c
+
+-- the least place from the place on that holds no character of a URI, or the text's end
+unfoldable pub uri_stop : Text → ℕ → ℕ
+uri_stop t i = unwrap_or (first_from (λ k. not (is_uri_char (slice_index t k))) i (length t - i)) (length t)
+
+-- the greatest end up to `stop` with no punctuation before it, that leaves something behind the scheme
+unfoldable pub uri_close : Text → ℕ → ℕ → Option ℕ
+uri_close t i stop = last_from (λ e. not (is_uri_trail (slice_index t (e - 1)))) (i + 1) (stop - i)
+
+-- the end of a URI by the place behind its scheme, if it has one
+abbrev pub uri_behind : Text → ℕ → Option ℕ
+uri_behind t i = uri_close t i (uri_stop t i)
+
+-- the end, if what stands behind it fits
+abbrev pub if_free : Text → ℕ → Option ℕ
+if_free t e = if is_free_behind t e then Some e else None
+
+-- the end of the URI that begins at the place, where what stands behind it fits
+unfoldable pub uri_end : Text → ℕ → Option ℕ
+uri_end t i = option_and_then (if_free t) (option_and_then (uri_behind t) (scheme_end t i))
+
+-- the standalone hyperlink from one place up to another
+abbrev pub uri_piece : ℕ → ℕ → Piece
+uri_piece i e = record { kind = Uri; from = i; content_from = i; content_to = e; to = e }
+
+-- the standalone hyperlink that begins at the place, if one does
+unfoldable pub uri : Text → ℕ → Option Piece
+uri t i = option_map (uri_piece i) (uri_end t i)
+
+-- the whole text is one URI
+abbrev pub IsUri : Text → Type 0
+IsUri t = uri_end t 0 ≡ Some (length t)

@@ -1,0 +1,103 @@
+//! The characters that decide where inline markup may stand.
+ghost use Rattle.std.specs.Prelude.{◌≡◌};
+ghost use Rattle.rst_inline_scan.specs.Characters.{may_precede, may_follow, may_precede_by, may_follow_by, is_pair, has, is_dark, is_alnum_at, is_free_behind};
+
+use rst_text::{is_alphanumeric, is_white};
+use unicode::properties::GeneralCategory;
+
+/// Whether the character may stand before a start.
+#[tactic(auto, unfolding(crate::specs::Characters::may_precede))]
+pub(crate) fn may_precede(c: char) -> bool
+    ensures { result ≡ may_precede c }
+{
+    match c {
+        '-' | ':' | '/' | '\'' | '"' | '<' | '(' | '[' | '{' => true,
+        _ => is_white(c) || (!c.is_ascii() && may_precede_by(GeneralCategory::for_char(c))),
+    }
+}
+
+fn may_precede_by(category: GeneralCategory) -> bool
+    ensures { result ≡ may_precede_by category }
+{
+    matches!(
+        category,
+        GeneralCategory::OpenPunctuation
+            | GeneralCategory::InitialPunctuation
+            | GeneralCategory::FinalPunctuation
+            | GeneralCategory::DashPunctuation
+            | GeneralCategory::OtherPunctuation
+    )
+}
+
+/// Whether the character may stand behind an end.
+#[tactic(auto, unfolding(crate::specs::Characters::may_follow))]
+fn may_follow(c: char) -> bool
+    ensures { result ≡ may_follow c }
+{
+    match c {
+        '\'' | '"' | ')' | ']' | '}' | '>' | '-' | '/' | '\\' | ':' | '.' | ',' | ';' | '!' | '?' =>
+            { true }
+        _ => is_white(c) || (!c.is_ascii() && may_follow_by(GeneralCategory::for_char(c))),
+    }
+}
+
+fn may_follow_by(category: GeneralCategory) -> bool
+    ensures { result ≡ may_follow_by category }
+{
+    matches!(
+        category,
+        GeneralCategory::ClosePunctuation
+            | GeneralCategory::InitialPunctuation
+            | GeneralCategory::FinalPunctuation
+            | GeneralCategory::DashPunctuation
+            | GeneralCategory::OtherPunctuation
+    )
+}
+
+/// Whether the two are quotes or brackets that match.
+#[tactic(auto, unfolding(crate::specs::Characters::is_pair))]
+pub(crate) fn is_pair(before: char, behind: char) -> bool
+    ensures { result ≡ is_pair before behind }
+{
+    matches!(
+        (before, behind),
+        ('\'', '\'') | ('"', '"') | ('<', '>') | ('(', ')') | ('[', ']') | ('{', '}')
+    )
+}
+
+/// Whether the character stands at the place.
+pub fn has(text: &[char], place: usize, c: char) -> bool
+    ensures { result ≡ has text.now place c }
+{
+    text.get(place) == Some(&c)
+}
+
+/// Whether a character that isn't white stands at the place.
+pub fn is_dark(text: &[char], place: usize) -> bool
+    ensures { result ≡ is_dark text.now place }
+{
+    match text.get(place) {
+        Some(c) => !is_white(*c),
+        None => false,
+    }
+}
+
+/// Whether a letter or a number stands at the place.
+pub(crate) fn is_alnum_at(text: &[char], place: usize) -> bool
+    ensures { result ≡ is_alnum_at text.now place }
+{
+    match text.get(place) {
+        Some(c) => is_alphanumeric(*c),
+        None => false,
+    }
+}
+
+/// Whether an end may stand before the place.
+pub(crate) fn is_free_behind(text: &[char], place: usize) -> bool
+    ensures { result ≡ is_free_behind text.now place }
+{
+    match text.get(place) {
+        Some(c) => may_follow(*c),
+        None => true,
+    }
+}

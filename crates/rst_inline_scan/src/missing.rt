@@ -1,0 +1,131 @@
+//! What searches before a place have shown to be absent behind it, so that no text is searched twice in vain.
+ghost use Rattle.std.specs.Prelude.{◌≡◌, ◌<◌, ◌≤◌, true, length, IfSome};
+ghost use Rattle.rst_inline_scan.specs.Marked.{has_start, markup_end};
+ghost use Rattle.rst_inline_scan.specs.Names.{name_end};
+ghost use Rattle.rst_inline_scan.specs.Uri.{uri_end};
+ghost use Rattle.rst_inline_scan.specs.Missing.{unended_from, with_unended, IsMissing};
+
+use super::names::name_end;
+use super::piece::Markup;
+use super::uri::uri_end;
+
+/// What is absent behind a place.
+#[derive(Clone, Copy)]
+pub(crate) struct Missing {
+    // From these places on no start-string of that markup has an end.
+    strong: usize,
+    emphasis: usize,
+    literal: usize,
+    target: usize,
+    substitution: usize,
+    interpreted: usize,
+    // Below these places no reference by name and no URI begins.
+    names: usize,
+    uris: usize,
+}
+
+impl Missing {
+    /// Nothing is known to be absent from the text.
+    pub(crate) fn of(text: &[char]) -> Missing
+        ensures { IsMissing text.now result 0 }
+    {
+        let len = text.len();
+        Missing {
+            strong: len,
+            emphasis: len,
+            literal: len,
+            target: len,
+            substitution: len,
+            interpreted: len,
+            names: 0,
+            uris: 0,
+        }
+    }
+
+    fn unended_from(&self, markup: Markup) -> usize
+        ensures { result ≡ unended_from self.now markup }
+    {
+        match markup {
+            Markup::Strong => self.strong,
+            Markup::Emphasis => self.emphasis,
+            Markup::Literal => self.literal,
+            Markup::Target => self.target,
+            Markup::Substitution => self.substitution,
+            Markup::Interpreted => self.interpreted,
+        }
+    }
+
+    fn set_unended(&mut self, markup: Markup, place: usize)
+        ensures { self.new ≡ with_unended self.old markup place }
+    {
+        match markup {
+            Markup::Strong => self.strong = place,
+            Markup::Emphasis => self.emphasis = place,
+            Markup::Literal => self.literal = place,
+            Markup::Target => self.target = place,
+            Markup::Substitution => self.substitution = place,
+            Markup::Interpreted => self.interpreted = place,
+        }
+    }
+
+    /// The least end of the markup that begins at `place` with its start-string at `start`.
+    pub(crate) fn end(
+        &mut self,
+        markup: Markup,
+        text: &[char],
+        place: usize,
+        start: usize,
+    ) -> Option<usize>
+        requires mark { has_start markup text.now start ≡ true }
+        requires order { place ≤ start }
+        requires below { start ≤ length text.now }
+        requires known { IsMissing text.now self.old place }
+        ensures exact { result ≡ markup_end markup text.now place start }
+        ensures within { IfSome result (λ end. end < length text.now) }
+        ensures known { IsMissing text.now self.new place }
+    {
+        if self.unended_from(markup) <= start {
+            return None;
+        }
+        let found = markup.end(text, place, start);
+        if let None = found {
+            self.set_unended(markup, start);
+        }
+        found
+    }
+
+    /// The greatest end of the name of a reference that begins at the place.
+    pub(crate) fn name_end(&mut self, text: &[char], start: usize) -> Option<usize>
+        requires place { start < length text.now }
+        requires known { IsMissing text.now self.old start }
+        ensures exact { result ≡ name_end text.now start }
+        ensures within { IfSome result (λ end. end < length text.now) }
+        ensures known { IsMissing text.now self.new start }
+    {
+        if start < self.names {
+            return None;
+        }
+        let (found, reach) = name_end(text, start);
+        if let None = found {
+            self.names = reach;
+        }
+        found
+    }
+
+    /// The end of the URI that begins at the place.
+    pub(crate) fn uri_end(&mut self, text: &[char], start: usize) -> Option<usize>
+        requires place { start < length text.now }
+        requires known { IsMissing text.now self.old start }
+        ensures exact { result ≡ uri_end text.now start }
+        ensures known { IsMissing text.now self.new start }
+    {
+        if start < self.uris {
+            return None;
+        }
+        let (found, reach) = uri_end(text, start);
+        if let None = found {
+            self.uris = reach;
+        }
+        found
+    }
+}

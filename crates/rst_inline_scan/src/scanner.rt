@@ -1,0 +1,158 @@
+//! The scanner.
+ghost use Rattle.std.specs.Prelude.{◌≡◌, ℕ, ◌<◌, length, IfOk};
+ghost use Rattle.rst_inline_scan.specs.Escapes.{is_escaped};
+ghost use Rattle.rst_inline_scan.specs.Pieces.{markup_at, is_free, piece_at, plain_from, IsPieces};
+ghost use Rattle.rst_inline_scan.specs.Missing.{IsMissing};
+ghost use Rattle.rst_inline_scan.specs.Words.{IsWord};
+
+use super::calm::step;
+use super::characters::may_precede;
+use super::escaping::escapes;
+use super::footnotes::label;
+use super::missing::Missing;
+use super::names::reference;
+use super::piece::{Kind, Markup, Piece};
+use super::uri::uri;
+use super::words::{goes_on, word_end};
+use std::alloc::{AllocError, Global};
+
+/// The piece that the first kind of markup gives that holds at the place.
+#[tactic(auto, unfolding(crate::specs::Pieces::markup_at))]
+fn markup_at(text: &[char], place: usize, missing: &mut Missing) -> Option<Piece>
+    requires place { place < length text.now }
+    requires known { IsMissing text.now missing.old place }
+    ensures exact { result ≡ markup_at text.now place }
+    ensures known { IsMissing text.now missing.new place }
+{
+    if let Some(piece) = Markup::Strong.piece(text, place, missing) {
+        return Some(piece);
+    }
+    if let Some(piece) = Markup::Emphasis.piece(text, place, missing) {
+        return Some(piece);
+    }
+    if let Some(piece) = Markup::Literal.piece(text, place, missing) {
+        return Some(piece);
+    }
+    if let Some(piece) = Markup::Target.piece(text, place, missing) {
+        return Some(piece);
+    }
+    if let Some(piece) = Markup::Substitution.piece(text, place, missing) {
+        return Some(piece);
+    }
+    if let Some(piece) = Markup::Interpreted.piece(text, place, missing) {
+        return Some(piece);
+    }
+    if let Some(piece) = label(text, place) {
+        return Some(piece);
+    }
+    if let Some(piece) = reference(text, place, missing) {
+        return Some(piece);
+    }
+    uri(text, place, missing)
+}
+
+/// Whether a start may stand at the place, which is escaped or not.
+#[tactic(auto, unfolding(crate::specs::Pieces::is_free))]
+fn is_free(text: &[char], place: usize, escaped: bool) -> bool
+    requires { place < length text.now }
+    ensures { (from : ℕ) → escaped ≡ is_escaped text.now from place → result ≡ is_free text.now from place }
+{
+    !escaped && (place == 0 || may_precede(text[place - 1]))
+}
+
+/// The piece that begins at the place, which is escaped or not, if a start stands there. The word that begins there ends at
+/// `end`.
+#[tactic(auto, unfolding(crate::specs::Pieces::piece_at))]
+fn piece_at(
+    text: &[char],
+    place: usize,
+    end: usize,
+    escaped: bool,
+    missing: &mut Missing,
+) -> Option<Piece>
+    requires place { place < length text.now }
+    requires word { IsWord text.now place end }
+    requires known { IsMissing text.now missing.old place }
+    ensures exact { (from : ℕ) → escaped ≡ is_escaped text.now from place → result ≡ piece_at text.now from place }
+    ensures known { IsMissing text.now missing.new place }
+{
+    if place < end && !goes_on(text, end) {
+        return None;
+    }
+    if is_free(text, place, escaped) {
+        markup_at(text, place, missing)
+    } else {
+        None
+    }
+}
+
+/// The pieces of the text, in order. Exactly one list is that of a text ([`super::one_list_of_pieces`]).
+///
+/// What a search that failed has shown is remembered, so that the time grows no faster than the text.
+pub fn pieces_of(alloc: Global, text: &[char]) -> Result<Vec<Piece>, AllocError>
+    ensures { IfOk result (λ pieces. IsPieces text.now 0 pieces.items) }
+{
+    pieces_by(alloc, text, b"")
+}
+
+/// The same of a text that is ASCII, which `bytes` is, too: the steps over what holds no markup are wider in bytes.
+pub fn pieces_of_ascii(alloc: Global, text: &[char], bytes: &[u8]) -> Result<Vec<Piece>, AllocError>
+    requires { bytes.now ≡ text.now }
+    ensures { IfOk result (λ pieces. IsPieces text.now 0 pieces.items) }
+{
+    pieces_by(alloc, text, bytes)
+}
+
+/// The same of any text; `bytes` is the text if that is ASCII, or nothing.
+fn pieces_by(alloc: Global, text: &[char], bytes: &[u8]) -> Result<Vec<Piece>, AllocError>
+    requires { 0 < length bytes.now → bytes.now ≡ text.now }
+    ensures { IfOk result (λ pieces. IsPieces text.now 0 pieces.items) }
+{
+    // Prose has less than a piece for each 32 characters.
+    let mut pieces = Vec::with_capacity(alloc, text.len() / 32 + 2)?;
+    let mut from = 0;
+    let mut place = 0;
+    let mut escaped = false;
+    let mut missing = Missing::of(text);
+    while place < text.len() {
+        let (start, start_escaped) = step(bytes, place, escaped);
+        let end = word_end(text, start);
+        match piece_at(text, start, end, start_escaped, &mut missing) {
+            Some(piece) => {
+                if from < start {
+                    pieces.push(plain_piece(from, start))?;
+                }
+                pieces.push(piece)?;
+                from = piece.to;
+                place = piece.to;
+                escaped = false;
+            }
+            None => {
+                // Nothing begins within a word or directly behind it.
+                if end == text.len() {
+                    place = end;
+                    escaped = false;
+                    continue;
+                }
+                escaped = escapes(text[end], start_escaped && start == end);
+                place = end + 1;
+            }
+        }
+    }
+    if from < place {
+        pieces.push(plain_piece(from, place))?;
+    }
+    Ok(pieces)
+}
+
+fn plain_piece(from: usize, to: usize) -> Piece
+    ensures { result ≡ plain_from from to }
+{
+    Piece {
+        kind: Kind::Plain,
+        from,
+        content_from: from,
+        content_to: to,
+        to,
+    }
+}

@@ -1,0 +1,259 @@
+//! Standalone URIs.
+ghost use Rattle.std.specs.Prelude.{◌≡◌, ◌<◌, ◌≤◌, ◌↔◌, ℕ, length, map, IsTrue};
+ghost use Rattle.std.specs.Char.{to_ascii_lowercase};
+ghost use Rattle.std.specs.Str.{chars, IsUtf8};
+ghost use Rattle.std.specs.List.{list_all};
+ghost use Rattle.rst_inline_scan.specs.Characters.{has};
+ghost use Rattle.rst_inline_scan.specs.Uri.{has_any_case, scheme_end, is_uri_char, is_uri_trail, uri_stop, uri_close, uri_end, uri, IsUri};
+ghost use Rattle.rst_inline_scan.specs.Missing.{IsMissing};
+
+use super::characters::is_free_behind;
+use super::missing::Missing;
+use super::piece::{Kind, Piece};
+
+/// Whether the character, which is in lower case, stands at the place in any case.
+#[tactic(auto, using(crate::proofs::UriLemmas::lower_has))]
+fn has_letter(text: &[char], place: usize, c: u8) -> bool
+    ensures { result ≡ has (map to_ascii_lowercase text.now) place c }
+{
+    match text.get(place) {
+        Some(letter) => letter.to_ascii_lowercase() == char::from(c),
+        None => false,
+    }
+}
+
+/// Whether the word, which is in lower case, stands at the place in any case.
+fn begins_at(text: &[char], place: usize, word: &[u8]) -> bool
+    requires { place ≤ length text.now }
+    ensures { result ≡ has_any_case text.now place word.now }
+{
+    let mut at = place;
+    for c in word {
+        if !has_letter(text, at, *c) {
+            return false;
+        }
+        at += 1;
+    }
+    true
+}
+
+/// The place behind the scheme that begins at the place.
+#[tactic(auto, unfolding(crate::specs::Uri::scheme_end))]
+fn scheme_end(text: &[char], place: usize) -> Option<usize>
+    requires { place ≤ length text.now }
+    ensures { result ≡ scheme_end text.now place }
+{
+    if begins_at(text, place, b"file://") {
+        return Some(place + 7);
+    }
+    if begins_at(text, place, b"ftp://") {
+        return Some(place + 6);
+    }
+    if begins_at(text, place, b"http://") {
+        return Some(place + 7);
+    }
+    if begins_at(text, place, b"https://") {
+        return Some(place + 8);
+    }
+    if begins_at(text, place, b"irc://") {
+        return Some(place + 6);
+    }
+    if begins_at(text, place, b"mailto:") {
+        return Some(place + 7);
+    }
+    if begins_at(text, place, b"news:") {
+        return Some(place + 5);
+    }
+    None
+}
+
+/// Whether a URI may hold the character.
+#[tactic(auto, unfolding(crate::specs::Uri::is_uri_char))]
+fn is_uri_char(c: char) -> bool
+    ensures { result ≡ is_uri_char c }
+{
+    c.is_ascii_alphanumeric()
+        || matches!(
+            c,
+            '-' | '_'
+                | '.'
+                | '~'
+                | '!'
+                | '*'
+                | '\''
+                | '('
+                | ')'
+                | ';'
+                | '/'
+                | '?'
+                | ':'
+                | '@'
+                | '&'
+                | '='
+                | '$'
+                | '+'
+                | ','
+                | '%'
+                | '#'
+                | '['
+                | ']'
+        )
+}
+
+/// Whether the character ends no URI.
+#[tactic(auto, unfolding(crate::specs::Uri::is_uri_trail))]
+fn is_uri_trail(c: char) -> bool
+    ensures { result ≡ is_uri_trail c }
+{
+    matches!(c, '.' | ',' | ':' | ';' | '!' | '?' | '\'' | ')' | ']')
+}
+
+/// The least place from the place on that holds no character of a URI, or the text's end.
+fn uri_stop(text: &[char], start: usize) -> usize
+    ensures exact { result ≡ uri_stop text.now start }
+    ensures below { result ≤ length text.now }
+{
+    for place in start..text.len() {
+        if !is_uri_char(text[place]) {
+            return place;
+        }
+    }
+    text.len()
+}
+
+/// The greatest end up to `stop` with no punctuation before it, that leaves something from `start` on.
+fn uri_close(text: &[char], start: usize, stop: usize) -> Option<usize>
+    requires { stop ≤ length text.now }
+    ensures { result ≡ uri_close text.now start stop }
+{
+    let mut end = stop;
+    while start < end {
+        if !is_uri_trail(text[end - 1]) {
+            return Some(end);
+        }
+        end -= 1;
+    }
+    None
+}
+
+/// The end of the URI that begins at the place, and the place below which none begins where there is none.
+pub(crate) fn uri_end(text: &[char], start: usize) -> (Option<usize>, usize)
+    requires { start ≤ length text.now }
+    ensures exact { result.0 ≡ uri_end text.now start }
+    ensures reach { result.0 ≡ None → (i : ℕ) → start ≤ i → i < result.1 → uri_end text.now i ≡ None }
+{
+    match scheme_end(text, start) {
+        None => (None, start),
+        Some(behind) => match uri_close(text, behind, uri_stop(text, behind)) {
+            None => (None, start),
+            Some(end) => if is_free_behind(text, end) {
+                (Some(end), end)
+            } else {
+                (None, end)
+            },
+        },
+    }
+}
+
+/// The URI that begins at the place.
+#[tactic(auto, unfolding(crate::specs::Uri::uri))]
+pub(crate) fn uri(text: &[char], place: usize, missing: &mut Missing) -> Option<Piece>
+    requires place { place < length text.now }
+    requires known { IsMissing text.now missing.old place }
+    ensures exact { result ≡ uri text.now place }
+    ensures known { IsMissing text.now missing.new place }
+{
+    let end = missing.uri_end(text, place)?;
+    Some(Piece {
+        kind: Kind::Uri,
+        from: place,
+        content_from: place,
+        content_to: end,
+        to: end,
+    })
+}
+
+/// Whether the whole text is one standalone URI (Markup Specification, 'Standalone Hyperlinks'): a scheme, one of file, ftp,
+/// http, https, irc, mailto and news, and some characters that a URI may hold, the last no punctuation that ends none.
+pub fn plain_uri(text: &str) -> bool
+    ensures { IsTrue result ↔ IsUri (chars text.now) }
+{
+    is_ascii_uri(text.as_bytes())
+}
+
+/// The same for the bytes of a text. Each character of a URI is one byte.
+fn is_ascii_uri(bytes: &[u8]) -> bool
+    ensures { IsUtf8 bytes.now → IsTrue result ↔ IsUri (chars bytes.now) }
+{
+    match ascii_scheme_end(bytes) {
+        Some(behind) => behind < bytes.len()
+            && are_uri_chars(bytes)
+            && !is_uri_trail(char::from(bytes[bytes.len() - 1])),
+        None => false,
+    }
+}
+
+fn are_uri_chars(bytes: &[u8]) -> bool
+    ensures { result ≡ list_all is_uri_char bytes.now }
+{
+    for byte in bytes {
+        if !is_uri_char(char::from(*byte)) {
+            return false;
+        }
+    }
+    true
+}
+
+/// The place behind the scheme that the bytes begin with.
+#[tactic(auto, unfolding(crate::specs::Uri::scheme_end))]
+fn ascii_scheme_end(bytes: &[u8]) -> Option<usize>
+    ensures { result ≡ scheme_end bytes.now 0 }
+{
+    if begins_with(bytes, b"file://") {
+        return Some(7);
+    }
+    if begins_with(bytes, b"ftp://") {
+        return Some(6);
+    }
+    if begins_with(bytes, b"http://") {
+        return Some(7);
+    }
+    if begins_with(bytes, b"https://") {
+        return Some(8);
+    }
+    if begins_with(bytes, b"irc://") {
+        return Some(6);
+    }
+    if begins_with(bytes, b"mailto:") {
+        return Some(7);
+    }
+    if begins_with(bytes, b"news:") {
+        return Some(5);
+    }
+    None
+}
+
+/// Whether the bytes begin with the word, which is in lower case, in any case.
+fn begins_with(bytes: &[u8], word: &[u8]) -> bool
+    ensures { result ≡ has_any_case bytes.now 0 word.now }
+{
+    let mut at = 0;
+    for c in word {
+        if !has_byte(bytes, at, *c) {
+            return false;
+        }
+        at += 1;
+    }
+    true
+}
+
+/// The same for bytes.
+#[tactic(auto, using(crate::proofs::UriLemmas::lower_has))]
+fn has_byte(bytes: &[u8], place: usize, c: u8) -> bool
+    ensures { result ≡ has (map to_ascii_lowercase bytes.now) place c }
+{
+    match bytes.get(place) {
+        Some(byte) => byte.to_ascii_lowercase() == c,
+        None => false,
+    }
+}

@@ -1,0 +1,39 @@
+//! Words: runs of ASCII letters and digits, inside which nothing begins.
+ghost use Rattle.std.specs.Prelude.{◌≡◌, ◌≤◌, length};
+ghost use Rattle.std.specs.Char.{is_ascii_alphanumeric};
+ghost use Rattle.rst_inline_scan.specs.Words.{IsWord, goes_on};
+
+use super::names::is_name_at;
+
+/// Whether a word may hold the character. Most are in lower case.
+fn is_letter(c: char) -> bool
+    ensures { result ≡ is_ascii_alphanumeric c }
+{
+    c.is_ascii_lowercase() || c.is_ascii_alphanumeric()
+}
+
+/// The end of the word that begins at the place, which may be empty.
+pub(crate) fn word_end(text: &[char], place: usize) -> usize
+    requires { place ≤ length text.now }
+    ensures { IsWord text.now place result }
+{
+    for at in place..text.len() {
+        if !is_letter(text[at]) {
+            return at;
+        }
+    }
+    text.len()
+}
+
+/// Whether a reference by name or a URI may begin at a word that ends at the place.
+#[tactic(auto, unfolding(crate::specs::Words::goes_on))]
+pub(crate) fn goes_on(text: &[char], place: usize) -> bool
+    ensures { result ≡ goes_on text.now place }
+{
+    match text.get(place) {
+        Some('_' | ':') => true,
+        Some(' ' | '\n') => false,
+        Some(_) => is_name_at(text, place),
+        None => false,
+    }
+}

@@ -1,9 +1,0 @@
-use Rattle.std.proofs.Common.{rules}
-use Rattle.rst_links.proofs.Settled.{next_turn}
-use Rattle.rst_links.proofs.settling.take_turns.Goals as goal
-
-pub loop-turn-preserved : goal.loop-turn-preserved
-loop-turn-preserved c = λ after settled rest.
-    c.loop-turn.invariant after settled
-    (next_turn c.args.turns.now c.loop-turn.turn-index _ c.loop-turn.work c.next_problematic.new.self after c.loop-turn.outcomes.items settled c.in_ok-problematic.problematic
-    c.loop-turn-test.true (search rules) c.in_ok-problematic.ensures (rw (c.put_at.ensures) at rest))

@@ -1,0 +1,336 @@
+-- Explicit markup: its parts stand in its block, and it ends where its size says.
+use Rattle.std.proofs.Common.{◌≡◌, ℕ, suc, ◌+◌, ◌-◌, ◌^◌, ◌<◌, ◌≤◌, Bool, true, false, cond, ◌&&◌, ◌||◌, List, [], ◌∷◌, min, length, take, drop, length-drop, Option, None, Some, arith, refl, sym, ap, ◌∙◌, leb, zero}
+use Rattle.std.proofs.lemmas.Bool.{le-leb}
+use Rattle.std.specs.Prelude.{option_map, unwrap_or}
+use Rattle.std.specs.Option.{option_and_then}
+use Rattle.rst_text.specs.Block.{Block, front_text, is_blank, indentation}
+use Rattle.rst_text.proofs.CutLaws.{take_of}
+use Rattle.rst_text.specs.Extent.{extent}
+use Rattle.rst_text.specs.Reach.{reach}
+use Rattle.rst_text.specs.MayCut.{is_indented}
+use Rattle.rst_text.proofs.Indented.{is_indented-drop, is_indented-take, is_indented-least}
+use Rattle.rst_markup_lines.specs.ExplicitMarks.{dots, underscores, label_of, target_of, substitution_of, directive_of}
+use Rattle.rst_markup_lines.specs.declared.explicit_marks.DirectiveMark.{DirectiveMark}
+use Rattle.rst_markup_lines.specs.declared.explicit_marks.LabelKind.{LabelKind}
+use Rattle.rst_markup_lines.specs.declared.explicit_marks.LabelKind.TheVariants.{Footnote as FootnoteLabel, Citation as CitationLabel}
+use Rattle.rst_markup_lines.specs.declared.explicit_marks.LabelMark.{LabelMark}
+use Rattle.rst_markup_lines.specs.declared.explicit_marks.SubstitutionMark.{SubstitutionMark}
+use Rattle.rst_markup_lines.specs.declared.explicit_marks.SubstitutionMark.TheVariants.{Named as NamedSubstitution, Unclosed, Tight}
+use Rattle.rst_markup_lines.specs.declared.explicit_marks.TargetMark.{TargetMark}
+use Rattle.rst_markup_lines.specs.declared.explicit_marks.TargetMark.TheVariants.{Named, Anonymous as AnonymousMark}
+use Rattle.rst_markup_lines.specs.declared.marker.Marker.{Marker}
+use Rattle.rst_markup_lines.specs.declared.place.Characters.{Characters}
+use Rattle.rst_markup_lines.specs.Place.{place_of}
+use Rattle.rst_markup_blocks.specs.Explicit.{target_part, call_of, call_by, held_of, label_with, substitution_with, explicit_by, dots_alone, behind_dots, cut_of, anonymous_of, explicit_with, explicit_of, explicit_size, explicit_end, IsHeld, IsExplicitIn, IsTargetShort}
+use Rattle.rst_markup_blocks.specs.ExplicitMarkup.{explicit_form, substitution_form, comment_cause, hanging_part, least_of}
+use Rattle.rst_markup_blocks.specs.Conditions.{next_text}
+use Rattle.rst_markup_blocks.specs.Lines.{lines_while}
+use Rattle.rst_markup_blocks.specs.Parts.{IsBlock, IsPlace, IsCall}
+use Rattle.rst_markup_blocks.specs.RowLaws.{below_le, while_le}
+use Rattle.rst_markup_blocks.specs.Sizes.{hanging_size, indented_size, run_size}
+use Rattle.rst_markup_blocks.specs.declared.explicit_markup.ExplicitForm.{ExplicitForm}
+use Rattle.rst_markup_blocks.specs.declared.explicit_markup.ExplicitForm.TheVariants.{Label, Target as TargetForm, Substitution as SubstitutionForm, Directive as DirectiveForm, Comment as CommentForm}
+use Rattle.rst_markup_blocks.specs.declared.forms.CommentCause.{CommentCause}
+use Rattle.rst_markup_blocks.specs.declared.forms.CommentCause.TheVariants.{Plain}
+use Rattle.rst_markup_blocks.specs.declared.forms.Explicit.{Explicit}
+use Rattle.rst_markup_blocks.specs.declared.forms.Explicit.TheVariants.{Comment, EmptyComment, Substitution}
+use Rattle.rst_markup_blocks.specs.declared.forms.Invocation.{Invocation}
+use Rattle.rst_markup_blocks.specs.declared.lines.LineTest.TheVariants.{Blank, Indented}
+use Rattle.rst_markup_blocks.specs.declared.part.Part.{Part}
+use Rattle.rst_markup_blocks.proofs.LineLemmas.{drop_one, drop_far}
+use Rattle.rst_markup_blocks.proofs.PartLemmas.{hanging_is}
+use Rattle.rst_markup_lines.proofs.MarkBounds.{TargetWithin, dots_within, label_within, target_within, substitution_within, directive_within}
+
+-- ---- the marks of a form stand within the text
+abbrev pub FormWithin : List ℕ → ExplicitForm → Type 0
+FormWithin t (Label l) = (1 + l.len ≤ length t) × (l.marker.cut ≤ length t)
+FormWithin t (TargetForm mark) = TargetWithin t mark
+FormWithin t (SubstitutionForm len m) = (1 + len ≤ length t) × (m.cut ≤ length t)
+FormWithin t (DirectiveForm d) = (d.len ≤ length t) × (d.marker.cut ≤ length t)
+FormWithin t (CommentForm cause) = Unit {0}
+
+-- the rows from the directive on, from the substitution definition on, and from the target on
+abbrev or_directive : List ℕ → ExplicitForm
+or_directive t = unwrap_or (option_map (λ d. DirectiveForm d) (directive_of true t)) (CommentForm (comment_cause t))
+
+abbrev or_substitution : List ℕ → ExplicitForm
+or_substitution t = unwrap_or (option_and_then substitution_form (substitution_of t)) (or_directive t)
+
+abbrev or_target : List ℕ → ExplicitForm
+or_target t = unwrap_or (option_map (λ m. TargetForm m) (target_of t)) (or_substitution t)
+
+within_directive : (t : List ℕ) (o : Option DirectiveMark) → directive_of true t ≡ o → FormWithin t (unwrap_or (option_map (λ d. DirectiveForm d) o) (CommentForm (comment_cause t)))
+within_directive t None e = tt
+within_directive t (Some d) e = directive_within true t d e
+
+within_substitution : (t : List ℕ) (o : Option SubstitutionMark) → substitution_of t ≡ o → FormWithin t (unwrap_or (option_and_then substitution_form o) (or_directive t))
+within_substitution t None e = within_directive t (directive_of true t) refl
+within_substitution t (Some (NamedSubstitution n m)) e = substitution_within t n m e
+within_substitution t (Some Unclosed) e = within_directive t (directive_of true t) refl
+within_substitution t (Some Tight) e = within_directive t (directive_of true t) refl
+
+within_target : (t : List ℕ) (o : Option TargetMark) → target_of t ≡ o → FormWithin t (unwrap_or (option_map (λ m. TargetForm m) o) (or_substitution t))
+within_target t None e = within_substitution t (substitution_of t) refl
+within_target t (Some m) e = target_within t m e
+
+within_label : (t : List ℕ) (o : Option LabelMark) → label_of t ≡ o → FormWithin t (unwrap_or (option_map (λ l. Label l) o) (or_target t))
+within_label t None e = within_target t (target_of t) refl
+within_label t (Some l) e = label_within t l e
+
+pub form_within : (t : List ℕ) → FormWithin t (explicit_form t)
+unfolding explicit_form
+form_within t = within_label t (label_of t) refl
+
+pub form_within_at : (t : List ℕ) (f : ExplicitForm) → f ≡ explicit_form t → FormWithin t f
+form_within_at t f e = rw e (form_within t)
+
+-- ---- extents are parts of the block
+pub hanging_le : (B : Block) (i : ℕ) → i < length B → i + hanging_size (drop i B) ≤ length B
+unfolding hanging_size
+hanging_le B i h = omega (arith, below_le 1 (drop i B) (omega (arith, length-drop i B)), length-drop i B)
+
+pub indented_le : (B : Block) (i : ℕ) → i < length B → i + indented_size (drop i B) ≤ length B
+unfolding indented_size run_size
+indented_le B i h = omega (arith, while_le Indented (drop 1 (drop i B)), length-drop 1 (drop i B), length-drop i B)
+
+-- the lines of a hanging block below its first, for the cut that they get
+below_indented : (i : ℕ) (B : Block) → is_indented (least_of (drop 1 (drop i B))) (take (extent 1 (drop 1 (drop i B))) (drop (i + 1) B)) ≡ true
+below_indented i B =
+    rw (drop_one i B) (is_indented-least (take (extent 1 (drop 1 (drop i B))) (drop 1 (drop i B))))
+
+indented_from : (r j n : ℕ) (Y : Block) → is_indented r (take n Y) ≡ true → is_indented r (take (n - j) (drop j Y)) ≡ true
+indented_from r j n Y h = by (n - j) refl
+  where
+    by : (m : ℕ) → n - j ≡ m → is_indented r (take m (drop j Y)) ≡ true
+    by zero e = refl
+    by (suc m) e =
+        ap (λ Z. is_indented r Z) (sym (take_of j (suc m) n Y (omega (arith, e))))
+        ∙ is_indented-take r (suc m) (drop j (take n Y)) (is_indented-drop r j (take n Y) h)
+
+text_block : (B : Block) (i cut : ℕ) → i < length B → IsBlock B (hanging_part i cut false (drop i B))
+unfolding hanging_part
+text_block B i cut h =
+    let X : Block = drop i B in
+    let lines : i + hanging_size X - (i + 1) ≡ extent 1 (drop 1 X) = omega (arith, hanging_is X) in
+    record {
+      ordered = omega arith;
+      within = hanging_le B i h;
+      indented = ap (λ m. is_indented (least_of (drop 1 X)) (take m (drop (i + 1) B))) lines ∙ below_indented i B;
+    }
+
+bare_block : (B : Block) (i cut : ℕ) → i < length B → IsBlock B (hanging_part i cut true (drop i B))
+unfolding hanging_part
+bare_block B i cut h =
+    let X : Block = drop i B in
+    let n : ℕ = extent 1 (drop 1 X) in
+    let k : ℕ = min (lines_while Blank (drop 1 X)) n in
+    let r : ℕ = least_of (drop 1 X) in
+    let few : k ≤ n = omega arith in
+    let lines : i + hanging_size X - (i + 1 + k + 1) ≡ n - (k + 1) = omega (arith, hanging_is X) in
+    let place : i + 1 + k + 1 ≡ i + 1 + (k + 1) = omega arith in
+    record {
+      ordered = omega (arith, hanging_is X);
+      within = hanging_le B i h;
+      indented = ap (λ m. is_indented r (take m (drop (i + 1 + k + 1) B))) lines
+          ∙ ap (λ j. is_indented r (take (n - (k + 1)) (drop j B))) place
+          ∙ ap (λ Y. is_indented r (take (n - (k + 1)) Y)) (drop_far (i + 1) (k + 1) B)
+          ∙ indented_from r (k + 1) n (drop (i + 1) B) (below_indented i B);
+    }
+
+pub hanging_block : (B : Block) (i cut : ℕ) (bare : Bool) → i < length B → IsBlock B (hanging_part i cut bare (drop i B))
+hanging_block B i cut true h = bare_block B i cut h
+hanging_block B i cut false h = text_block B i cut h
+
+uncut : (X : Block) → is_indented 0 X ≡ true
+uncut [] = refl
+uncut (l ∷ ls) = by (is_blank l.text) (uncut ls)
+  where
+    by : (b : Bool) → is_indented 0 ls ≡ true → ((b || leb 0 (indentation l.text)) && is_indented 0 ls) ≡ true
+    by true h = h
+    by false h = rw (le-leb 0 (indentation l.text) (omega arith)) h
+
+target_block : (B : Block) (i n : ℕ) → i < length B → IsBlock B (target_part i n (drop i B))
+target_block B i n h = record {
+  ordered = omega arith;
+  within = indented_le B i h;
+  indented = uncut (take (i + indented_size (drop i B) - (i + 1)) (drop (i + 1) B));
+}
+
+-- ---- labels, names and directives
+place_in : (t : List ℕ) (from len : ℕ) → from + len ≤ length t → IsPlace t (place_of from len)
+place_in t from len h = record { ordered = omega arith; within = h }
+
+call_in : (B : Block) (i n : ℕ) (d : DirectiveMark) → i < length B → n + d.len ≤ length (front_text (drop i B)) → IsCall B i (call_of i n d (drop i B))
+call_in B i n d h s = record { inside = h; ordered = omega arith; within = s; block = hanging_block B i (n + d.marker.cut) d.marker.bare h }
+
+held_by : (B : Block) (i n : ℕ) (o : Option DirectiveMark) → i < length B → n ≤ length (front_text (drop i B))
+    → directive_of false (drop n (front_text (drop i B))) ≡ o → IsHeld B i (call_by o i n (drop i B))
+held_by B i n None h s e = tt
+held_by B i n (Some d) h s e =
+    let t : List ℕ = front_text (drop i B) in
+    call_in B i n d h (omega (arith, (directive_within false (drop n t) d e).0, length-drop n t))
+
+held_in : (B : Block) (i n : ℕ) → i < length B → n ≤ length (front_text (drop i B)) → IsHeld B i (held_of i n (drop i B))
+unfolding held_of
+held_in B i n h s = held_by B i n (directive_of false (drop n (front_text (drop i B)))) h s refl
+
+label_in : (B : Block) (i : ℕ) (k : LabelKind) (label : Characters) (body : Part) → IsPlace (front_text (drop i B)) label → IsBlock B body → IsExplicitIn B i (label_with k label body)
+label_in B i FootnoteLabel label body p b = (p, b)
+label_in B i CitationLabel label body p b = (p, b)
+
+form_in : (B : Block) (i : ℕ) (m : Marker) (f : ExplicitForm) → i < length B → m.cut ≤ length (front_text (drop i B))
+    → FormWithin (drop m.cut (front_text (drop i B))) f → IsExplicitIn B i (explicit_by f i m (drop i B))
+form_in B i m (Label l) h s w =
+    let t : List ℕ = front_text (drop i B) in
+    label_in B i l.kind (place_of (m.cut + 1) l.len) (hanging_part i (m.cut + l.marker.cut) l.marker.bare (drop i B))
+    (place_in t (m.cut + 1) l.len (omega (arith, w.0, length-drop m.cut t))) (hanging_block B i (m.cut + l.marker.cut) l.marker.bare h)
+form_in B i m (TargetForm (Named from len x)) h s w =
+    let t : List ℕ = front_text (drop i B) in
+    (place_in t (m.cut + from) len (omega (arith, w.0, length-drop m.cut t)), target_block B i (m.cut + x.cut) h)
+form_in B i m (TargetForm (AnonymousMark x)) h s w = target_block B i (m.cut + x.cut) h
+form_in B i m (SubstitutionForm len x) h s w =
+    let t : List ℕ = front_text (drop i B) in
+    (place_in t (m.cut + 1) len (omega (arith, w.0, length-drop m.cut t)), held_in B i (m.cut + x.cut) h (omega (arith, w.1, length-drop m.cut t)))
+form_in B i m (DirectiveForm d) h s w =
+    let t : List ℕ = front_text (drop i B) in
+    call_in B i m.cut d h (omega (arith, w.0, length-drop m.cut t))
+form_in B i m (CommentForm cause) h s w = hanging_block B i m.cut false h
+
+alone_in : (B : Block) (i : ℕ) (m : Marker) → i < length B → IsExplicitIn B i (dots_alone i m (drop i B))
+alone_in B i m h = by (is_blank (next_text (drop i B)))
+  where
+    by : (b : Bool) → IsExplicitIn B i (cond b EmptyComment (Comment (hanging_part i m.cut true (drop i B)) Plain))
+    by true = tt
+    by false = hanging_block B i m.cut true h
+
+behind_in : (B : Block) (i : ℕ) (m : Marker) → i < length B → m.cut ≤ length (front_text (drop i B)) → IsExplicitIn B i (behind_dots i m (drop i B))
+unfolding behind_dots
+behind_in B i m h s = by m.bare
+  where
+    by : (b : Bool) → IsExplicitIn B i (cond b (dots_alone i m (drop i B)) (explicit_by (explicit_form (drop m.cut (front_text (drop i B)))) i m (drop i B)))
+    by true = alone_in B i m h
+    by false = form_in B i m (explicit_form (drop m.cut (front_text (drop i B)))) h s (form_within (drop m.cut (front_text (drop i B))))
+
+-- the parts of explicit markup stand in its block
+pub explicit_in : (B : Block) (i : ℕ) → i < length B → IsExplicitIn B i (explicit_of i (drop i B))
+unfolding explicit_of anonymous_of
+explicit_in B i h = by (dots (front_text (drop i B))) refl
+  where
+    by : (o : Option Marker) → dots (front_text (drop i B)) ≡ o → IsExplicitIn B i (explicit_with o i (drop i B))
+    by None e = target_block B i (cut_of (underscores (front_text (drop i B)))) h
+    by (Some m) e = behind_in B i m h (dots_within (front_text (drop i B)) m e)
+
+pub explicit_in_at : (B : Block) (i : ℕ) (x : Explicit) → i < length B → x ≡ explicit_of i (drop i B) → IsExplicitIn B i x
+explicit_in_at B i x h e = rw e (explicit_in B i h)
+
+-- ---- where it ends
+hanging_to : (i cut : ℕ) (bare : Bool) (X : Block) → (hanging_part i cut bare X).to ≡ i + hanging_size X
+unfolding hanging_part
+hanging_to i cut true X = refl
+hanging_to i cut false X = refl
+
+label_end : (i : ℕ) (k : LabelKind) (label : Characters) (body : Part) → explicit_end i (label_with k label body) ≡ body.to
+label_end i FootnoteLabel label body = refl
+label_end i CitationLabel label body = refl
+
+-- it ends as many lines behind its first as it does where it begins in line 0: for markup of a form
+form_end : (i : ℕ) (m : Marker) (f : ExplicitForm) (X : Block) → explicit_end i (explicit_by f i m X) ≡ i + explicit_end 0 (explicit_by f 0 m X)
+form_end i m (Label l) X =
+    let n : ℕ = m.cut + l.marker.cut in
+    omega (arith, label_end i l.kind (place_of (m.cut + 1) l.len) (hanging_part i n l.marker.bare X), label_end 0 l.kind (place_of (m.cut + 1) l.len) (hanging_part 0 n l.marker.bare X), hanging_to i n l.marker.bare X, hanging_to 0 n l.marker.bare X)
+form_end i m (TargetForm (Named from len x)) X = omega arith
+form_end i m (TargetForm (AnonymousMark x)) X = omega arith
+form_end i m (SubstitutionForm len x) X = omega arith
+form_end i m (DirectiveForm d) X = omega (arith, hanging_to i (m.cut + d.marker.cut) d.marker.bare X, hanging_to 0 (m.cut + d.marker.cut) d.marker.bare X)
+form_end i m (CommentForm cause) X = omega (arith, hanging_to i m.cut false X, hanging_to 0 m.cut false X)
+
+-- for dots alone
+alone_end : (i : ℕ) (m : Marker) (X : Block) → explicit_end i (dots_alone i m X) ≡ i + explicit_end 0 (dots_alone 0 m X)
+alone_end i m X = by (is_blank (next_text X))
+  where
+    by : (b : Bool) → explicit_end i (cond b EmptyComment (Comment (hanging_part i m.cut true X) Plain)) ≡ i + explicit_end 0 (cond b EmptyComment (Comment (hanging_part 0 m.cut true X) Plain))
+    by true = omega arith
+    by false = omega (arith, hanging_to i m.cut true X, hanging_to 0 m.cut true X)
+
+-- for what dots begin
+behind_end : (i : ℕ) (m : Marker) (X : Block) → explicit_end i (behind_dots i m X) ≡ i + explicit_end 0 (behind_dots 0 m X)
+unfolding behind_dots
+behind_end i m X = by m.bare
+  where
+    by : (b : Bool) → explicit_end i (cond b (dots_alone i m X) (explicit_by (explicit_form (drop m.cut (front_text X))) i m X))
+        ≡ i + explicit_end 0 (cond b (dots_alone 0 m X) (explicit_by (explicit_form (drop m.cut (front_text X))) 0 m X))
+    by true = alone_end i m X
+    by false = form_end i m (explicit_form (drop m.cut (front_text X))) X
+
+-- explicit markup ends where its size says
+pub explicit_ends : (i : ℕ) (X : Block) → explicit_end i (explicit_of i X) ≡ i + explicit_size X
+unfolding explicit_of explicit_size anonymous_of
+explicit_ends i X = by (dots (front_text X))
+  where
+    by : (o : Option Marker) → explicit_end i (explicit_with o i X) ≡ i + explicit_end 0 (explicit_with o 0 X)
+    by None = omega arith
+    by (Some m) = behind_end i m X
+
+pub explicit_ends_at : (i : ℕ) (X : Block) (x : Explicit) → x ≡ explicit_of i X → explicit_end i x ≡ i + explicit_size X
+explicit_ends_at i X x e = rw e (explicit_ends i X)
+
+-- ---- by its first line
+pub explicit_dots : (i : ℕ) (X : Block) (m : Marker) → dots (front_text X) ≡ Some m → explicit_of i X ≡ behind_dots i m X
+unfolding explicit_of
+explicit_dots i X m e = rw e refl
+
+pub explicit_other : (i : ℕ) (X : Block) → dots (front_text X) ≡ None → explicit_of i X ≡ anonymous_of i X
+unfolding explicit_of
+explicit_other i X e = rw e refl
+
+pub size_dots : (X : Block) (m : Marker) → dots (front_text X) ≡ Some m → explicit_size X ≡ explicit_end 0 (behind_dots 0 m X)
+unfolding explicit_size
+size_dots X m e = ap (explicit_end 0) (explicit_dots 0 X m e)
+
+pub size_other : (X : Block) → dots (front_text X) ≡ None → explicit_size X ≡ indented_size X
+unfolding explicit_size anonymous_of
+size_other X e = ap (explicit_end 0) (explicit_other 0 X e) ∙ omega arith
+
+pub indented_some : (X : Block) → 1 ≤ indented_size X
+unfolding indented_size run_size
+indented_some X = omega arith
+
+-- ---- what is read behind the dots
+pub substitution_some : (i n : ℕ) (name : Characters) (d : DirectiveMark) (call : Invocation) (X : Block) → directive_of false (drop n (front_text X)) ≡ Some d → call ≡ call_of i n d X
+    → Substitution name (Some call) call.block.to ≡ substitution_with i name n X
+unfolding held_of
+substitution_some i n name d call X e c =
+    rw (e, c) (ap (λ m. Substitution name (Some (call_of i n d X)) m) (hanging_to i (n + d.marker.cut) d.marker.bare X))
+
+pub target_short : (n : ℕ) (t : List ℕ) (mark : TargetMark) → TargetWithin (drop n t) mark → n ≤ length t → length t < 2 ^ 64 → IsTargetShort n mark
+target_short n t (Named from len m) w h s = (omega (arith, w.0, length-drop n t), omega (arith, w.1, length-drop n t))
+target_short n t (AnonymousMark m) w h s = omega (arith, w, length-drop n t)
+
+-- ---- how far the lines are looked at
+-- the end of a form that is this one
+pub end_reach : (n : ℕ) (f g : ExplicitForm) (m : Marker) (X : Block) → f ≡ g → explicit_end 0 (explicit_by g 0 m X) ≡ n → reach (explicit_end 0 (explicit_by f 0 m X)) X ≡ reach n X
+end_reach n f g m X e to = ap (λ x. reach (explicit_end 0 (explicit_by x 0 m X)) X) e ∙ ap (λ k. reach k X) to
+
+pub label_to : (l : LabelMark) (m : Marker) (X : Block) → explicit_end 0 (explicit_by (Label l) 0 m X) ≡ hanging_size X
+label_to l m X =
+    let n : ℕ = m.cut + l.marker.cut in
+    omega (arith, label_end 0 l.kind (place_of (m.cut + 1) l.len) (hanging_part 0 n l.marker.bare X), hanging_to 0 n l.marker.bare X)
+
+pub target_to : (mark : TargetMark) (m : Marker) (X : Block) → explicit_end 0 (explicit_by (TargetForm mark) 0 m X) ≡ indented_size X
+target_to (Named from len x) m X = omega arith
+target_to (AnonymousMark x) m X = omega arith
+
+pub directive_to : (d : DirectiveMark) (m : Marker) (X : Block) → explicit_end 0 (explicit_by (DirectiveForm d) 0 m X) ≡ hanging_size X
+directive_to d m X = omega (arith, hanging_to 0 (m.cut + d.marker.cut) d.marker.bare X)
+
+pub comment_to : (cause : CommentCause) (m : Marker) (X : Block) → explicit_end 0 (explicit_by (CommentForm cause) 0 m X) ≡ hanging_size X
+comment_to cause m X = omega (arith, hanging_to 0 m.cut false X)
+
+pub alone_reach : (m : Marker) (X : Block) → is_blank (next_text X) ≡ false → reach (explicit_end 0 (dots_alone 0 m X)) X ≡ reach (hanging_size X) X
+alone_reach m X e = rw e (ap (λ k. reach k X) (omega (arith, hanging_to 0 m.cut true X)))
+
+pub end_size : (n : ℕ) (f g : ExplicitForm) (m : Marker) (X : Block) → f ≡ g → explicit_end 0 (explicit_by g 0 m X) ≡ n → explicit_end 0 (explicit_by f 0 m X) ≡ n
+end_size n f g m X e to = ap (λ x. explicit_end 0 (explicit_by x 0 m X)) e ∙ to
+
+pub alone_size : (m : Marker) (X : Block) → is_blank (next_text X) ≡ false → explicit_end 0 (dots_alone 0 m X) ≡ hanging_size X
+alone_size m X e = rw e (omega (arith, hanging_to 0 m.cut true X))

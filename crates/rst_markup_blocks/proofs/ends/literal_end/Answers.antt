@@ -1,0 +1,115 @@
+use Rattle.std.proofs.Common.{◌≡◌, ℕ, ◌+◌, Some, None, true, false, drop, length-drop, ap, sym, ◌∙◌, arith}
+use Rattle.rst_text.specs.Block.{Block, front_text}
+use Rattle.rst_text.specs.Extent.{extent}
+use Rattle.rst_text.specs.Reach.{reach, through_text}
+use Rattle.rst_text.specs.Shown.{block_of}
+use Rattle.rst_markup_lines.specs.Front.{first}
+use Rattle.rst_markup_lines.specs.Adornment.{is_punctuation}
+use Rattle.rst_markup_blocks.specs.declared.lines.LineTest.TheVariants.{Blank, Begins}
+use Rattle.rst_markup_blocks.specs.Lines.{lines_while}
+use Rattle.rst_markup_blocks.specs.Sizes.{literal_size}
+use Rattle.rst_markup_blocks.proofs.LineLemmas.{drop_far}
+use Rattle.rst_markup_blocks.proofs.EndLemmas.{looked_le, literal_indented, literal_other, quoted_there, quoted_other, quoted_none, looked_indented, looked_none, reach_none, blank_reach, through_behind, looked_quoted}
+use Rattle.rst_markup_blocks.proofs.ends.literal_end.Goals as goal
+
+pub returns-then-from-indented-clause-end : goal.returns-then-from-indented-clause-end
+returns-then-from-indented-clause-end c =
+    let Y : Block = drop c.args.from (block_of c.args.view.now) in
+    let end : c.block_end-indented.result.end ≡ c.args.from + extent 1 Y = ap (λ e. e.end) c.block_end-indented.ensures.extent in
+    omega (arith, literal_indented Y (omega arith))
+
+pub returns-then-from-indented-clause-looks : goal.returns-then-from-indented-clause-looks
+returns-then-from-indented-clause-looks c =
+    let Y : Block = drop c.args.from (block_of c.args.view.now) in
+    let end : c.block_end-indented.result.end ≡ c.args.from + extent 1 Y = ap (λ e. e.end) c.block_end-indented.ensures.extent in
+    omega (arith, looked_indented Y (omega arith), c.block_end-indented.ensures.looks)
+
+pub lines_end-start-requires-clause-few : goal.lines_end-start-requires-clause-few
+lines_end-start-requires-clause-few c =
+    let Y : Block = drop c.args.from (block_of c.args.view.now) in
+    omega (arith, c.block_end-indented.ensures.looks, looked_le 1 Y, length-drop c.args.from (block_of c.args.view.now))
+
+pub text_at-requires : goal.text_at-requires
+text_at-requires c =
+    let Y : Block = drop c.args.from (block_of c.args.view.now) in
+    omega (arith, c.block_end-indented.ensures.looks, looked_le 1 Y, length-drop c.args.from (block_of c.args.view.now), c.lines_end-start.ensures.few, c.lines_end-start.ensures.end)
+
+-- the blank lines that were looked at, and the line behind them
+behind_blank : (from k b : ℕ) (B : Block) → k ≡ from + b → drop k B ≡ drop b (drop from B)
+behind_blank from k b B e = ap (λ j. drop j B) e ∙ drop_far from b B
+
+pub lines_end-requires-clause-few : goal.lines_end-requires-clause-few
+lines_end-requires-clause-few c =
+    let Y : Block = drop c.args.from (block_of c.args.view.now) in
+    omega (arith, c.block_end-indented.ensures.looks, looked_le 1 Y, length-drop c.args.from (block_of c.args.view.now), c.lines_end-start.ensures.few, c.lines_end-start.ensures.end, c.text_at.ensures.few)
+
+pub returns-in-Some-clause-end : goal.returns-in-Some-clause-end
+returns-in-Some-clause-end c =
+    let B : Block = block_of c.args.view.now in
+    let Y : Block = drop c.args.from B in
+    let b : ℕ = lines_while Blank Y in
+    let none : extent 1 Y ≡ 0 = omega (arith, ap (λ e. e.end) c.block_end-indented.ensures.extent) in
+    let place = behind_blank c.args.from c.lines_end-start.result b B c.lines_end-start.ensures.end in
+    let e : first (front_text (drop b Y)) ≡ Some c.in-Some.c = ap (λ Z. first (front_text Z)) (sym place) ∙ ap first (sym c.text_at.ensures.text) ∙ sym c.front.ensures ∙ c.in-Some.is in
+    let p : is_punctuation c.in-Some.c ≡ true = sym c.is_punctuation.ensures ∙ c.if-is_punctuation.true in
+    omega (arith, literal_other Y none, quoted_there b c.in-Some.c Y e p, c.lines_end.ensures.end, c.lines_end-start.ensures.end, ap (λ Z. lines_while (Begins c.in-Some.c) Z) place)
+
+pub returns-in-Some-clause-looks : goal.returns-in-Some-clause-looks
+returns-in-Some-clause-looks c =
+    let B : Block = block_of c.args.view.now in
+    let Y : Block = drop c.args.from B in
+    let b : ℕ = lines_while Blank Y in
+    let none : extent 1 Y ≡ 0 = omega (arith, ap (λ e. e.end) c.block_end-indented.ensures.extent) in
+    let place = behind_blank c.args.from c.lines_end-start.result b B c.lines_end-start.ensures.end in
+    let e : first (front_text (drop b Y)) ≡ Some c.in-Some.c = ap (λ Z. first (front_text Z)) (sym place) ∙ ap first (sym c.text_at.ensures.text) ∙ sym c.front.ensures ∙ c.in-Some.is in
+    let p : is_punctuation c.in-Some.c ≡ true = sym c.is_punctuation.ensures ∙ c.if-is_punctuation.true in
+    let Z : Block = drop b Y in
+    let k : ℕ = lines_while (Begins c.in-Some.c) Z in
+    let whole = looked_quoted c.in-Some.c Y none e p (through_text Y) 1 (reach k Z) (omega arith) (omega arith) (omega arith) in
+    omega (arith, whole, blank_reach Y, c.block_end-indented.ensures.looks, c.lines_end-start.ensures.looks, c.text_at.ensures.few, c.lines_end.ensures.looks, ap (λ X. reach (lines_while (Begins c.in-Some.c) X) X) place)
+
+pub returns-in_default-clause-end : goal.returns-in_default-clause-end
+returns-in_default-clause-end c =
+    let B : Block = block_of c.args.view.now in
+    let Y : Block = drop c.args.from B in
+    let b : ℕ = lines_while Blank Y in
+    let none : extent 1 Y ≡ 0 = omega (arith, ap (λ e. e.end) c.block_end-indented.ensures.extent) in
+    let place = behind_blank c.args.from c.lines_end-start.result b B c.lines_end-start.ensures.end in
+    let e : first (front_text (drop b Y)) ≡ Some c.in-Some.c = ap (λ Z. first (front_text Z)) (sym place) ∙ ap first (sym c.text_at.ensures.text) ∙ sym c.front.ensures ∙ c.in-Some.is in
+    let p : is_punctuation c.in-Some.c ≡ false = sym c.is_punctuation.ensures ∙ c.if-is_punctuation.false in
+    let zero : literal_size Y ≡ 0 = literal_other Y none ∙ quoted_other b c.in-Some.c Y e p in
+    omega (arith, zero)
+
+pub returns-in_default-clause-looks : goal.returns-in_default-clause-looks
+returns-in_default-clause-looks c =
+    let B : Block = block_of c.args.view.now in
+    let Y : Block = drop c.args.from B in
+    let b : ℕ = lines_while Blank Y in
+    let none : extent 1 Y ≡ 0 = omega (arith, ap (λ e. e.end) c.block_end-indented.ensures.extent) in
+    let place = behind_blank c.args.from c.lines_end-start.result b B c.lines_end-start.ensures.end in
+    let e : first (front_text (drop b Y)) ≡ Some c.in-Some.c = ap (λ Z. first (front_text Z)) (sym place) ∙ ap first (sym c.text_at.ensures.text) ∙ sym c.front.ensures ∙ c.in-Some.is in
+    let p : is_punctuation c.in-Some.c ≡ false = sym c.is_punctuation.ensures ∙ c.if-is_punctuation.false in
+    let zero : literal_size Y ≡ 0 = literal_other Y none ∙ quoted_other b c.in-Some.c Y e p in
+    omega (arith, reach_none Y zero, looked_none Y none, blank_reach Y, through_behind Y, c.block_end-indented.ensures.looks, c.lines_end-start.ensures.looks, c.text_at.ensures.looks, ap through_text place)
+
+pub returns-in_default-2-clause-end : goal.returns-in_default-2-clause-end
+returns-in_default-2-clause-end c =
+    let B : Block = block_of c.args.view.now in
+    let Y : Block = drop c.args.from B in
+    let b : ℕ = lines_while Blank Y in
+    let none : extent 1 Y ≡ 0 = omega (arith, ap (λ e. e.end) c.block_end-indented.ensures.extent) in
+    let place = behind_blank c.args.from c.lines_end-start.result b B c.lines_end-start.ensures.end in
+    let e : first (front_text (drop b Y)) ≡ None = ap (λ Z. first (front_text Z)) (sym place) ∙ ap first (sym c.text_at.ensures.text) ∙ sym c.front.ensures ∙ c.in_default.is in
+    let zero : literal_size Y ≡ 0 = literal_other Y none ∙ quoted_none b Y e in
+    omega (arith, zero)
+
+pub returns-in_default-2-clause-looks : goal.returns-in_default-2-clause-looks
+returns-in_default-2-clause-looks c =
+    let B : Block = block_of c.args.view.now in
+    let Y : Block = drop c.args.from B in
+    let b : ℕ = lines_while Blank Y in
+    let none : extent 1 Y ≡ 0 = omega (arith, ap (λ e. e.end) c.block_end-indented.ensures.extent) in
+    let place = behind_blank c.args.from c.lines_end-start.result b B c.lines_end-start.ensures.end in
+    let e : first (front_text (drop b Y)) ≡ None = ap (λ Z. first (front_text Z)) (sym place) ∙ ap first (sym c.text_at.ensures.text) ∙ sym c.front.ensures ∙ c.in_default.is in
+    let zero : literal_size Y ≡ 0 = literal_other Y none ∙ quoted_none b Y e in
+    omega (arith, reach_none Y zero, looked_none Y none, blank_reach Y, through_behind Y, c.block_end-indented.ensures.looks, c.lines_end-start.ensures.looks, c.text_at.ensures.looks, ap through_text place)

@@ -1,0 +1,58 @@
+use Rattle.std.proofs.Common.{◌≡◌, ℕ, ◌+◌, ◌-◌, ◌≤◌, true, false, List, drop, ap, sym, ◌∙◌, arith, refl}
+use Rattle.rst_text.specs.Block.{Block, front_text}
+use Rattle.rst_text.specs.Reach.{reach}
+use Rattle.rst_text.specs.Shown.{block_of}
+use Rattle.rst_markup_lines.specs.Closing.{ends_in_colons}
+use Rattle.rst_markup_blocks.specs.declared.lines.LineTest.TheVariants.{Plain}
+use Rattle.rst_markup_blocks.specs.Sizes.{literal_size, run_size}
+use Rattle.rst_markup_blocks.proofs.LineLemmas.{drop_far}
+use Rattle.rst_markup_blocks.proofs.EndLemmas.{paragraph_more, paragraph_only, paragraph_len_is, run_size_some, reach_more, reach_only}
+use Rattle.rst_markup_blocks.proofs.ends.paragraph_end.Goals as goal
+
+-- the text that was looked at is the last of the paragraph's own lines
+last : (i end n : ℕ) (B : Block) (text : List ℕ) → end ≡ i + n → 1 ≤ n → text ≡ front_text (drop (end - 1) B) → text ≡ front_text (drop (n - 1) (drop i B))
+last i end n B text e some t =
+    let k : end - 1 ≡ i + (n - 1) = omega arith in t ∙ ap (λ m. front_text (drop m B)) k ∙ ap front_text (drop_far i (n - 1) B)
+
+behind : (i end n : ℕ) (B : Block) → end ≡ i + n → drop end B ≡ drop n (drop i B)
+behind i end n B e = ap (λ m. drop m B) e ∙ drop_far i n B
+
+pub literal_end-requires-clause-few : goal.literal_end-requires-clause-few
+literal_end-requires-clause-few c = omega (arith, c.run_below_end-end.ensures.few, c.run_below_end-end.ensures.end, c.text_at.ensures.few)
+
+pub returns-then-ends_in_colons-clause-end : goal.returns-then-ends_in_colons-clause-end
+returns-then-ends_in_colons-clause-end c =
+    let B : Block = block_of c.args.view.now in
+    let X : Block = drop c.args.i B in
+    let n : ℕ = run_size Plain X in
+    let text = last c.args.i c.run_below_end-end.result n B _ c.run_below_end-end.ensures.end (run_size_some X) c.text_at.ensures.text in
+    let colons : ends_in_colons (front_text (drop (n - 1) X)) ≡ true = ap ends_in_colons (sym text) ∙ sym c.ends_in_colons.ensures ∙ c.if-ends_in_colons.true in
+    omega (arith, paragraph_more n X refl colons, c.literal_end.ensures.end, c.run_below_end-end.ensures.end, ap literal_size (behind c.args.i c.run_below_end-end.result n B c.run_below_end-end.ensures.end))
+
+pub returns-then-ends_in_colons-clause-looks : goal.returns-then-ends_in_colons-clause-looks
+returns-then-ends_in_colons-clause-looks c =
+    let B : Block = block_of c.args.view.now in
+    let X : Block = drop c.args.i B in
+    let n : ℕ = run_size Plain X in
+    let text = last c.args.i c.run_below_end-end.result n B _ c.run_below_end-end.ensures.end (run_size_some X) c.text_at.ensures.text in
+    let colons : ends_in_colons (front_text (drop (n - 1) X)) ≡ true = ap ends_in_colons (sym text) ∙ sym c.ends_in_colons.ensures ∙ c.if-ends_in_colons.true in
+    let whole = reach_more n X (paragraph_more n X refl colons) in
+    omega (arith, whole, run_size_some X, paragraph_len_is X, c.literal_end.ensures.looks, c.run_below_end-end.ensures.few, c.text_at.ensures.few, ap (λ Y. reach (literal_size Y) Y) (behind c.args.i c.run_below_end-end.result n B c.run_below_end-end.ensures.end))
+
+pub returns-clause-end : goal.returns-clause-end
+returns-clause-end c =
+    let B : Block = block_of c.args.view.now in
+    let X : Block = drop c.args.i B in
+    let n : ℕ = run_size Plain X in
+    let text = last c.args.i c.run_below_end-end.result n B _ c.run_below_end-end.ensures.end (run_size_some X) c.text_at.ensures.text in
+    let colons : ends_in_colons (front_text (drop (n - 1) X)) ≡ false = ap ends_in_colons (sym text) ∙ sym c.ends_in_colons.ensures ∙ c.if-ends_in_colons.false in
+    omega (arith, paragraph_only n X refl colons, c.run_below_end-end.ensures.end)
+
+pub returns-clause-looks : goal.returns-clause-looks
+returns-clause-looks c =
+    let B : Block = block_of c.args.view.now in
+    let X : Block = drop c.args.i B in
+    let n : ℕ = run_size Plain X in
+    let text = last c.args.i c.run_below_end-end.result n B _ c.run_below_end-end.ensures.end (run_size_some X) c.text_at.ensures.text in
+    let colons : ends_in_colons (front_text (drop (n - 1) X)) ≡ false = ap ends_in_colons (sym text) ∙ sym c.ends_in_colons.ensures ∙ c.if-ends_in_colons.false in
+    omega (arith, reach_only n X (paragraph_only n X refl colons), run_size_some X, paragraph_len_is X, c.run_below_end-end.ensures.few, c.text_at.ensures.few)

@@ -1,0 +1,51 @@
+use Rattle.std.proofs.Common.{◌≡◌, ◌∙◌, ◌+◌, true, false, sym, drop, arith, rules}
+use Rattle.rst_text.specs.Block.{Block, front_text}
+use Rattle.rst_text.specs.Shown.{block_of}
+use Rattle.rst_markup_blocks.specs.Lines.{passes, lines_while}
+use Rattle.rst_markup_blocks.proofs.LineLemmas.{while_more, while_stop, while_end, behind_while}
+use Rattle.rst_markup_blocks.proofs.lines.lines_end.Goals as goal
+
+pub loop-i-preserved : goal.loop-i-preserved
+loop-i-preserved c =
+    let B : Block = block_of c.args.view.now in
+    let pass : passes c.args.test (front_text (drop c.loop-i.i B)) ≡ true = cc in
+    let more = while_more c.loop-i.i c.args.test B (omega arith) pass in
+    record {
+      at_line = search rules;
+      place = sym more ∙ c.loop-i.invariant.place;
+      looks = omega (arith, c.line.ensures.looks, c.loop-i.invariant.looks);
+    }
+
+pub returns-after-loop-i-clause-end : goal.returns-after-loop-i-clause-end
+returns-after-loop-i-clause-end c =
+    let B : Block = block_of c.args.view.now in
+    let none = while_end c.loop-i.i c.args.test B (omega arith) in
+    omega (arith, c.loop-i.invariant.at_line, c.loop-i.invariant.place)
+
+pub returns-then-not-passes-clause-end : goal.returns-then-not-passes-clause-end
+returns-then-not-passes-clause-end c =
+    let B : Block = block_of c.args.view.now in
+    let fails : passes c.args.test (front_text (drop c.loop-i.i B)) ≡ false = cc in
+    let stop = while_stop c.loop-i.i c.args.test B (omega arith) fails in
+    omega (arith, stop.0, c.loop-i.invariant.at_line, c.loop-i.invariant.place)
+
+pub returns-then-not-passes-clause-looks : goal.returns-then-not-passes-clause-looks
+returns-then-not-passes-clause-looks c =
+    let B : Block = block_of c.args.view.now in
+    let fails : passes c.args.test (front_text (drop c.loop-i.i B)) ≡ false = cc in
+    let stop = while_stop c.loop-i.i c.args.test B (omega arith) fails in
+    let place : c.loop-i.i ≡ c.args.from + lines_while c.args.test (drop c.args.from B) = omega (arith, stop.0, c.loop-i.invariant.place) in
+    omega (arith, stop.1, behind_while c.args.from c.loop-i.i c.args.test B place, c.line.ensures.looks, c.loop-i.invariant.looks)
+
+pub returns-after-loop-i-clause-low : goal.returns-after-loop-i-clause-low
+returns-after-loop-i-clause-low c =
+    let B : Block = block_of c.args.view.now in
+    let none = while_end c.loop-i.i c.args.test B (omega arith) in
+    omega (arith, c.loop-i.invariant.place, c.loop-i.invariant.looks)
+
+pub returns-then-not-passes-clause-low : goal.returns-then-not-passes-clause-low
+returns-then-not-passes-clause-low c =
+    let B : Block = block_of c.args.view.now in
+    let fails : passes c.args.test (front_text (drop c.loop-i.i B)) ≡ false = cc in
+    let stop = while_stop c.loop-i.i c.args.test B (omega arith) fails in
+    omega (arith, stop.0, c.loop-i.invariant.place, c.loop-i.invariant.looks, c.line.ensures.looks)

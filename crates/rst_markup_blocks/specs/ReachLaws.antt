@@ -1,0 +1,60 @@
+-- The laws of the rows' reaches: a reach has the lines of its construct, and ends within the block. No rule of markup: a
+-- reach bounds the time.
+-- A reader of the standard may skip this file: its proofs stand here since the rows' contracts name its laws.
+use Rattle.std.specs.Prelude.{ℕ, suc, max, ◌<◌, ◌≤◌, Bool, true, false, cond, IsTrue, [], ◌∷◌, length, drop, Option, Some, None, IfSome, unwrap_or}
+use Rattle.std.proofs.Common.{arith, length-drop}
+use Rattle.std.proofs.Math.Nat.{le-max_left, max-le}
+use Rattle.rst_text.specs.Block.{Block, is_blank}
+use Rattle.rst_text.specs.Reach.{reach, through_text}
+use Rattle.rst_markup_blocks.specs.Rows.{own_reach}
+use Rattle.rst_markup_blocks.specs.TableRows.{through, grid_size, grid_scan, head_border, simple_bottom, simple_size, simple_scan, is_grid_row, is_simple_row, grid_reach, simple_reach}
+use Rattle.rst_markup_blocks.specs.TableLaws.{grid_within, border_below_within, simple_within}
+
+-- the lines through the first that isn't blank stand within the block
+through_text_le : (Y : Block) → through_text Y ≤ length Y
+unfolding through_text
+through_text_le [] = omega arith
+through_text_le (l ∷ ls) = by (is_blank l.text) (through_text_le ls)
+  where
+    by : (b : Bool) → through_text ls ≤ length ls → cond b (suc (through_text ls)) 1 ≤ suc (length ls)
+    by true h = omega arith
+    by false h = omega arith
+
+-- a reach of n lines has them, and ends within the block
+reach_within : (n : ℕ) (X : Block) → n ≤ length X → (n ≤ reach n X) × (reach n X ≤ length X)
+reach_within n X h = (omega arith, omega (arith, through_text_le (drop n X), length-drop n X))
+
+-- A construct that ends within the block has a reach that does, if it is looked at no further than through the first
+-- line after it that isn't blank.
+pub own_reaches : (holds : Block → Bool) (size : Bool → Block → ℕ)
+    → ((titles : Bool) (X : Block) → 1 ≤ length X → IsTrue (holds X) → (1 ≤ size titles X) × (size titles X ≤ length X))
+    → (titles : Bool) (X : Block) → 1 ≤ length X → IsTrue (holds X) → (size titles X ≤ own_reach size titles X) × (own_reach size titles X ≤ length X)
+own_reaches holds size within titles X some h = let w = within titles X some h in reach_within (size titles X) X w.1
+
+-- the reach of a table, which the lines of its scan may be
+wider : (n scan : ℕ) (X : Block) → n ≤ length X → scan ≤ length X → (n ≤ max (reach n X) scan) × (max (reach n X) scan ≤ length X)
+wider n scan X h s =
+    let r = reach_within n X h in
+    (omega (arith, r.0, le-max_left (reach n X) scan), max-le r.1 s)
+
+-- the scan for a grid table ends within the block
+pub grid_scan_le : (X : Block) → grid_scan X ≤ length X
+unfolding grid_scan
+grid_scan_le X = omega arith
+
+-- the scan for a simple table ends within the block
+pub simple_scan_le : (X : Block) → simple_scan X ≤ length X
+unfolding simple_scan
+simple_scan_le X = by (simple_bottom X) (border_below_within X (unwrap_or (head_border X) 0))
+  where
+    by : (o : Option ℕ) → IfSome o (λ j. (unwrap_or (head_border X) 0 < j) × (j < length X)) → through (length X) o ≤ length X
+    by (Some j) h = omega (arith, h.1)
+    by None h = omega arith
+
+-- The reach of a grid table has its lines, and ends within the block.
+pub grid_reaches : (titles : Bool) (X : Block) → 1 ≤ length X → IsTrue (is_grid_row X) → (grid_size X ≤ grid_reach X) × (grid_reach X ≤ length X)
+grid_reaches titles X some h = let w = grid_within titles X some h in wider (grid_size X) (grid_scan X) X w.1 (grid_scan_le X)
+
+-- The reach of a simple table has its lines, and ends within the block.
+pub simple_reaches : (titles : Bool) (X : Block) → 1 ≤ length X → IsTrue (is_simple_row X) → (simple_size X ≤ simple_reach X) × (simple_reach X ≤ length X)
+simple_reaches titles X some h = let w = simple_within titles X some h in wider (simple_size X) (simple_scan X) X w.1 (simple_scan_le X)

@@ -1,0 +1,256 @@
+-- The laws of the rows (Markup Specification, 'Body Elements'): what begins ends within its block, and a condition is on
+-- three lines alone.
+-- A reader of the standard may skip this file: its proofs stand here since the rows' contracts name its laws.
+use Rattle.std.specs.Prelude.{◌≡◌, ℕ, zero, suc, ◌≤◌, Bool, true, false, cond, is_some, IsTrue, List, [], ◌∷◌, length, take, drop, refl, Option, None, Some}
+use Rattle.std.proofs.Common.{ap, ap₂, sym, ◌∙◌, arith, leb, ltb, length-drop, ◌+◌}
+use Rattle.std.proofs.lemmas.Bool.{le-leb}
+use Rattle.std.specs.Option.{option_map_or}
+use Rattle.rst_markup_lines.specs.Front.{first}
+use Rattle.rst_markup_lines.specs.Closing.{ends_in_colons}
+use Rattle.rst_markup_lines.specs.Adornment.{adornment_of, is_punctuation}
+use Rattle.rst_markup_blocks.specs.Forms.{text_form}
+use Rattle.rst_markup_blocks.specs.declared.form.TextForm.{TextForm}
+use Rattle.rst_markup_blocks.specs.declared.form.TextForm.TheVariants.{Paragraph, ShortUnderline, Definition, Title}
+use Rattle.rst_text.specs.Block.{Block, front_text, is_blank, indentation}
+use Rattle.rst_text.specs.Extent.{extent, past_blank}
+use Rattle.rst_markup_lines.specs.Front.{begins_with}
+use Rattle.rst_markup_lines.specs.Marker.{bullet, doctest, line_bar}
+use Rattle.rst_markup_lines.specs.Field.{field_of}
+use Rattle.rst_markup_lines.specs.ExplicitMarks.{underscores}
+use Rattle.rst_markup_lines.specs.Enumerator.{enumerator_of}
+use Rattle.rst_markup_lines.specs.declared.marker.Marker.{Marker}
+use Rattle.rst_markup_lines.specs.declared.enumerator.Enumerator.{Enumerator}
+use Rattle.rst_markup_blocks.specs.declared.lines.LineTest.{LineTest}
+use Rattle.rst_markup_blocks.specs.declared.lines.LineTest.TheVariants.{Indented, Filled, Blank, Plain, Begins}
+use Rattle.rst_markup_blocks.specs.Lines.{passes, lines_while}
+use Rattle.rst_markup_blocks.specs.Conditions.{next_text, after_text, item_enumerator, item_option}
+use Rattle.rst_markup_blocks.specs.Sizes.{bullet_size, enumerator_size, item_size, hanging_size, run_size, indented_size, doctest_size, least_below, literal_size, quoted_size, quoted_by, last_text, paragraph_size, paragraph_len, text_size, form_size}
+use Rattle.rst_markup_blocks.specs.Rows.{is_blank_row, is_quote_row, is_bullet_row, is_enumerator_row, is_field_row, is_option_row, is_doctest_row, is_bar_row, is_anonymous_row, is_text_row, blank_size, quote_size}
+
+-- ---- the first lines
+
+-- blocks with the same first three lines have the same first one
+pub same_front : (X Y : Block) → take 3 X ≡ take 3 Y → front_text X ≡ front_text Y
+same_front [] [] h = refl
+same_front [] (k ∷ ks) h = cc
+same_front (l ∷ ls) [] h = cc
+same_front (l ∷ ls) (k ∷ ks) h = ap front_text h
+
+-- the second of a block's first three lines is that of the block
+front_taken : (X : Block) → front_text (drop 1 (take 3 X)) ≡ next_text X
+front_taken [] = refl
+front_taken (l ∷ []) = refl
+front_taken (l ∷ m ∷ ms) = refl
+
+-- the third of a block's first three lines is that of the block
+after_taken : (X : Block) → front_text (drop 2 (take 3 X)) ≡ after_text X
+after_taken [] = refl
+after_taken (l ∷ []) = refl
+after_taken (l ∷ m ∷ []) = refl
+after_taken (l ∷ m ∷ n ∷ ns) = refl
+
+-- blocks with the same first three lines have the same second one
+pub same_next : (X Y : Block) → take 3 X ≡ take 3 Y → next_text X ≡ next_text Y
+same_next X Y h = sym (front_taken X) ∙ ap (λ B. front_text (drop 1 B)) h ∙ front_taken Y
+
+-- blocks with the same first three lines have the same third one
+pub same_after : (X Y : Block) → take 3 X ≡ take 3 Y → after_text X ≡ after_text Y
+same_after X Y h = sym (after_taken X) ∙ ap (λ B. front_text (drop 2 B)) h ∙ after_taken Y
+
+-- each row's condition depends on the first three lines alone: that of a blank line
+pub blank_on_three : (X Y : Block) → take 3 X ≡ take 3 Y → is_blank_row X ≡ is_blank_row Y
+blank_on_three X Y h = ap is_blank (same_front X Y h)
+
+-- that of a block quote
+pub quote_on_three : (X Y : Block) → take 3 X ≡ take 3 Y → is_quote_row X ≡ is_quote_row Y
+quote_on_three X Y h = ap (λ t. begins_with 32 t) (same_front X Y h)
+
+-- that of an item of a bullet list
+pub bullet_on_three : (X Y : Block) → take 3 X ≡ take 3 Y → is_bullet_row X ≡ is_bullet_row Y
+bullet_on_three X Y h = ap (λ t. is_some (bullet t)) (same_front X Y h)
+
+-- that of an item of an enumerated list
+pub enumerator_on_three : (X Y : Block) → take 3 X ≡ take 3 Y → is_enumerator_row X ≡ is_enumerator_row Y
+enumerator_on_three X Y h = ap₂ (λ t n. is_some (item_enumerator t n)) (same_front X Y h) (same_next X Y h)
+
+-- that of a field
+pub field_on_three : (X Y : Block) → take 3 X ≡ take 3 Y → is_field_row X ≡ is_field_row Y
+field_on_three X Y h = ap (λ t. is_some (field_of t)) (same_front X Y h)
+
+-- that of an item of an option list
+pub option_on_three : (X Y : Block) → take 3 X ≡ take 3 Y → is_option_row X ≡ is_option_row Y
+option_on_three X Y h =
+    ap₂ (λ t n. is_some (item_option t n (after_text X))) (same_front X Y h) (same_next X Y h)
+    ∙ ap (λ a. is_some (item_option (front_text Y) (next_text Y) a)) (same_after X Y h)
+
+-- that of a doctest block
+pub doctest_on_three : (X Y : Block) → take 3 X ≡ take 3 Y → is_doctest_row X ≡ is_doctest_row Y
+doctest_on_three X Y h = ap (λ t. is_some (doctest t)) (same_front X Y h)
+
+-- that of a line of a line block
+pub bar_on_three : (X Y : Block) → take 3 X ≡ take 3 Y → is_bar_row X ≡ is_bar_row Y
+bar_on_three X Y h = ap (λ t. is_some (line_bar t)) (same_front X Y h)
+
+-- that of an anonymous target
+pub anonymous_on_three : (X Y : Block) → take 3 X ≡ take 3 Y → is_anonymous_row X ≡ is_anonymous_row Y
+anonymous_on_three X Y h = ap (λ t. is_some (underscores t)) (same_front X Y h)
+
+-- ---- the ends
+
+-- the lines of an extent stand within the block
+pub extent_le : (least : ℕ) (X : Block) → extent least X ≤ length X
+unfolding extent
+extent_le least [] = omega arith
+extent_le least (l ∷ ls) = two (is_blank l.text) (leb least (indentation l.text)) (extent least ls) (length ls) (extent_le least ls)
+  where
+    past : (n m : ℕ) → n ≤ m → past_blank n ≤ suc m
+    past zero m h = omega arith
+    past (suc n) m h = omega arith
+
+    two : (a b : Bool) (n m : ℕ) → n ≤ m → cond a (past_blank n) (cond b (suc n) 0) ≤ suc m
+    two true b n m h = past n m h
+    two false true n m h = omega arith
+    two false false n m h = omega arith
+
+-- lines that pass a test stand within the block
+pub while_le : (test : LineTest) (X : Block) → lines_while test X ≤ length X
+unfolding lines_while
+while_le test [] = omega arith
+while_le test (l ∷ ls) = by (passes test l.text) (while_le test ls)
+  where
+    by : (b : Bool) → lines_while test ls ≤ length ls → cond b (suc (lines_while test ls)) 0 ≤ suc (length ls)
+    by true h = omega arith
+    by false h = omega arith
+
+-- a line with those below it that are blank or indented ends within the block
+pub below_le : (least : ℕ) (X : Block) → 1 ≤ length X → suc (extent least (drop 1 X)) ≤ length X
+below_le least X h = omega (arith, extent_le least (drop 1 X), length-drop 1 X)
+
+-- a blank line is one line
+pub blank_within : (titles : Bool) (X : Block) → 1 ≤ length X → IsTrue (is_blank_row X) → (1 ≤ blank_size X) × (blank_size X ≤ length X)
+blank_within titles X some h = (omega arith, some)
+
+-- an indented line that is there isn't blank
+indented_extent : (X : Block) → begins_with 32 (front_text X) ≡ true → 1 ≤ extent 1 X
+unfolding extent
+indented_extent [] h = cc
+indented_extent (l ∷ ls) h = go l.text h
+  where
+    go : (t : List ℕ) → begins_with 32 t ≡ true → 1 ≤ cond (is_blank t) (past_blank (extent 1 ls)) (cond (leb 1 (indentation t)) (suc (extent 1 ls)) 0)
+    go [] h = cc
+    go (c ∷ cs) h =
+        let d : leb 1 (indentation (c ∷ cs)) ≡ true = rw h (le-leb 1 (suc (indentation cs)) (omega arith)) in
+        rw d (omega arith)
+
+-- a block quote has a line or more, and ends within the block
+pub quote_within : (titles : Bool) (X : Block) → 1 ≤ length X → IsTrue (is_quote_row X) → (1 ≤ quote_size X) × (quote_size X ≤ length X)
+quote_within titles X some h = (indented_extent X h, extent_le 1 X)
+
+-- so does an item with a marker
+item_within : (o : Option Marker) (X : Block) → 1 ≤ length X → (1 ≤ option_map_or (λ m. item_size m X) o 1) × (option_map_or (λ m. item_size m X) o 1 ≤ length X)
+item_within None X some = (omega arith, some)
+item_within (Some m) X some = (omega arith, below_le (least_below m) X some)
+
+-- so does an item of a bullet list
+pub bullet_within : (titles : Bool) (X : Block) → 1 ≤ length X → IsTrue (is_bullet_row X) → (1 ≤ bullet_size X) × (bullet_size X ≤ length X)
+unfolding bullet_size
+bullet_within titles X some h = item_within (bullet (front_text X)) X some
+
+-- so does an item with an enumerator
+listed_within : (o : Option Enumerator) (X : Block) → 1 ≤ length X → (1 ≤ option_map_or (λ e. item_size e.marker X) o 1) × (option_map_or (λ e. item_size e.marker X) o 1 ≤ length X)
+listed_within None X some = (omega arith, some)
+listed_within (Some e) X some = (omega arith, below_le (least_below e.marker) X some)
+
+-- so does an item of an enumerated list
+pub enumerator_within : (titles : Bool) (X : Block) → 1 ≤ length X → IsTrue (is_enumerator_row X) → (1 ≤ enumerator_size X) × (enumerator_size X ≤ length X)
+unfolding enumerator_size
+enumerator_within titles X some h = listed_within (enumerator_of (front_text X)) X some
+
+-- so does a field, and an item of an option list
+pub hanging_within : (holds : Block → Bool) (titles : Bool) (X : Block) → 1 ≤ length X → IsTrue (holds X) → (1 ≤ hanging_size X) × (hanging_size X ≤ length X)
+unfolding hanging_size
+hanging_within holds titles X some h = (omega arith, below_le 1 X some)
+
+-- so does a line of a line block, and an anonymous target
+pub indented_within : (holds : Block → Bool) (titles : Bool) (X : Block) → 1 ≤ length X → IsTrue (holds X) → (1 ≤ indented_size X) × (indented_size X ≤ length X)
+unfolding indented_size run_size
+indented_within holds titles X some h = (omega arith, omega (arith, while_le Indented (drop 1 X), length-drop 1 X))
+
+-- an empty line begins no doctest block
+no_doctest : is_some (doctest []) ≡ false
+unfolding doctest
+no_doctest = refl
+
+-- a doctest block has a line or more
+doctest_some : (X : Block) → is_some (doctest (front_text X)) ≡ true → 1 ≤ lines_while Filled X
+unfolding lines_while
+doctest_some [] h = let no : false ≡ true = sym no_doctest ∙ h in cc
+doctest_some (l ∷ ls) h = go l.text h
+  where
+    go : (t : List ℕ) → is_some (doctest t) ≡ true → 1 ≤ cond (passes Filled t) (suc (lines_while Filled ls)) 0
+    go [] h = let no : false ≡ true = sym no_doctest ∙ h in cc
+    go (c ∷ cs) h = omega arith
+
+-- it ends within the block
+pub doctest_within : (titles : Bool) (X : Block) → 1 ≤ length X → IsTrue (is_doctest_row X) → (1 ≤ doctest_size X) × (doctest_size X ≤ length X)
+unfolding doctest_size
+doctest_within titles X some h = (doctest_some X h, while_le Filled X)
+
+-- That any line may begin a text depends on no line.
+pub text_on_three : (X Y : Block) → take 3 X ≡ take 3 Y → is_text_row X ≡ is_text_row Y
+text_on_three X Y h = refl
+
+-- a quoted literal block ends within the block
+quoted_le : (o : Option ℕ) (b : ℕ) (Y : Block) → b ≤ length Y → quoted_by o b Y ≤ length Y
+quoted_le None b Y h = omega arith
+quoted_le (Some c) b Y h = by (is_punctuation c)
+  where
+    by : (p : Bool) → cond p (b + lines_while (Begins c) (drop b Y)) 0 ≤ length Y
+    by true = omega (arith, while_le (Begins c) (drop b Y), length-drop b Y)
+    by false = omega arith
+
+-- a literal block ends within the block
+pub literal_le : (Y : Block) → literal_size Y ≤ length Y
+unfolding literal_size quoted_size
+literal_le Y = by (ltb 0 (extent 1 Y))
+  where
+    by : (p : Bool) → cond p (extent 1 Y) (quoted_by (first (front_text (drop (lines_while Blank Y) Y))) (lines_while Blank Y) Y) ≤ length Y
+    by true = extent_le 1 Y
+    by false = quoted_le (first (front_text (drop (lines_while Blank Y) Y))) (lines_while Blank Y) Y (while_le Blank Y)
+
+-- a paragraph with its literal block has a line or more, and ends within the block
+pub paragraph_within : (X : Block) → 1 ≤ length X → (1 ≤ paragraph_size X) × (paragraph_size X ≤ length X)
+unfolding paragraph_size paragraph_len run_size
+paragraph_within X some =
+    let n : ℕ = suc (lines_while Plain (drop 1 X)) in
+    let own : n ≤ length X = omega (arith, while_le Plain (drop 1 X), length-drop 1 X) in
+    by (ends_in_colons (last_text X)) own
+  where
+    by : (p : Bool) → suc (lines_while Plain (drop 1 X)) ≤ length X
+        → (1 ≤ suc (lines_while Plain (drop 1 X)) + cond p (literal_size (drop (suc (lines_while Plain (drop 1 X))) X)) 0) × (suc (lines_while Plain (drop 1 X)) + cond p (literal_size (drop (suc (lines_while Plain (drop 1 X))) X)) 0 ≤ length X)
+    by true own = (omega arith, omega (arith, literal_le (drop (suc (lines_while Plain (drop 1 X))) X), length-drop (suc (lines_while Plain (drop 1 X))) X))
+    by false own = (omega arith, omega arith)
+
+-- a text with nothing below begins a paragraph
+nothing_below : (t : List ℕ) → text_form t [] ≡ Paragraph
+unfolding text_form adornment_of
+nothing_below t = refl
+
+-- a title has its underline below it, so its block has two lines or more
+two_lines : (X : Block) (t : List ℕ) (short : Bool) → text_form t (next_text X) ≡ Title short → 2 ≤ length X
+two_lines [] t short e = let no : Paragraph ≡ Title short = sym (nothing_below t) ∙ e in cc
+two_lines (l ∷ []) t short e = let no : Paragraph ≡ Title short = sym (nothing_below t) ∙ e in cc
+two_lines (l ∷ m ∷ ms) t short e = omega arith
+
+-- what a text begins has a line or more, and ends within the block, by its form
+form_within : (f : TextForm) (X : Block) → 1 ≤ length X → text_form (front_text X) (next_text X) ≡ f → (1 ≤ form_size f X) × (form_size f X ≤ length X)
+unfolding hanging_size
+form_within Paragraph X some e = paragraph_within X some
+form_within ShortUnderline X some e = paragraph_within X some
+form_within Definition X some e = (omega arith, below_le 1 X some)
+form_within (Title short) X some e = (omega arith, two_lines X (front_text X) short e)
+
+-- What a text begins has a line or more, and ends within the block.
+pub text_within : (titles : Bool) (X : Block) → 1 ≤ length X → IsTrue (is_text_row X) → (1 ≤ text_size X) × (text_size X ≤ length X)
+unfolding text_size
+text_within titles X some h = form_within (text_form (front_text X) (next_text X)) X some refl

@@ -1,0 +1,102 @@
+//! Lines of one punctuation character.
+ghost use Rattle.std.specs.Prelude.{◌≡◌, ◌+◌, ◌*◌, ◌^◌, ◌<◌, ◌≤◌, length, drop, Bool};
+ghost use Rattle.std.specs.Str.{chars};
+ghost use Rattle.rst_text.specs.Shown.{block_of};
+ghost use Rattle.rst_markup_blocks.specs.Forms.{adorned_form};
+ghost use Rattle.rst_markup_blocks.specs.Conditions.{next_text};
+ghost use Rattle.rst_markup_blocks.specs.Sizes as spec;
+
+use super::construct::Construct;
+use super::ends::text_end;
+use super::form::{Adorned, adorned_alone, adorned_below, adorned_over};
+use super::lines::below_text;
+use rst_markup_lines::{Adornment, adornment_of, is_blank};
+use rst_text::{Looks, View};
+
+/// What the line of one punctuation character at place `i` begins, where `next` is the line below it. It makes a look
+/// where that line isn't blank.
+#[tactic(auto, unfolding(crate::specs::Forms::adorned_form))]
+pub fn adorned_at(
+    view: &View<'_>,
+    i: usize,
+    titles: bool,
+    mark: Adornment,
+    next: &str,
+    looks: &mut Looks,
+) -> Adorned
+    requires inside { i < length (block_of view.now) }
+    requires next { chars next.now ≡ next_text (drop i (block_of view.now)) }
+    requires few { looks.old < 2 ^ 120 + 2 ^ 70 }
+    ensures form { result ≡ adorned_form titles mark (next_text (drop i (block_of view.now))) (spec.third_text (drop i (block_of view.now))) }
+    ensures looks { looks.new ≤ looks.old + spec.overline_looks (next_text (drop i (block_of view.now))) }
+    ensures low { looks.old ≤ looks.new }
+{
+    if !titles {
+        return adorned_below(mark);
+    }
+    if is_blank(next) {
+        return adorned_alone(mark);
+    }
+    if 2 < view.len() - i {
+        let after = view.line(i + 2, looks);
+        adorned_over(mark, next, Some(after))
+    } else {
+        adorned_over(mark, next, None)
+    }
+}
+
+/// How many lines a form takes whatever follows; none for one that is a text.
+fn fixed_size(form: Adorned) -> Option<usize>
+    ensures { result ≡ spec.fixed_size form }
+{
+    match form {
+        Adorned::Transition | Adorned::Unexpected => Some(1),
+        Adorned::InvalidMarker | Adorned::Incomplete | Adorned::MissingUnderline { blank: true } =>
+            Some(2),
+        Adorned::Title { .. } | Adorned::MissingUnderline { blank: false } | Adorned::Mismatch =>
+            Some(3),
+        Adorned::Text | Adorned::ShortOverline | Adorned::ShortAdornment => None,
+    }
+}
+
+/// A line of one punctuation character: a transition, a title with an overline, or a text.
+pub struct AdornmentLine;
+
+impl Construct for AdornmentLine {
+    ghost use Rattle.rst_markup_blocks.specs.Rows.{is_adornment_row, own_reach};
+    ghost use Rattle.rst_markup_blocks.specs.Sizes.{adornment_size};
+    ghost use Rattle.rst_markup_blocks.specs.AdornmentLaws.{adornment_within, adornment_on_three};
+    ghost use Rattle.rst_markup_blocks.specs.ReachLaws.{own_reaches};
+
+    ghost holds = { is_adornment_row };
+
+    ghost size = { adornment_size };
+
+    ghost reached = { own_reach adornment_size };
+
+    ghost first_looks = { 1 };
+
+    ghost within = { adornment_within };
+
+    ghost reaches = { own_reaches is_adornment_row adornment_size adornment_within };
+
+    ghost on_three = { adornment_on_three };
+
+    fn starts(&self, view: &View<'_>, i: usize, _titles: bool, looks: &mut Looks) -> bool {
+        adornment_of(view.line(i, looks)).is_some()
+    }
+
+    fn end(&self, view: &View<'_>, i: usize, titles: bool, looks: &mut Looks) -> usize {
+        prove!(i < view.len());
+        let text = view.line(i, looks);
+        let next = below_text(view, i, 1, looks);
+        let Some(mark) = adornment_of(text) else {
+            return text_end(view, i, text, next, looks);
+        };
+        let form = adorned_at(view, i, titles, mark, next, looks);
+        match fixed_size(form) {
+            Some(n) => i + n,
+            None => text_end(view, i, text, next, looks),
+        }
+    }
+}

@@ -1,0 +1,141 @@
+//! What begins at a line, with what its mark says.
+ghost use Rattle.std.specs.Prelude.{◌≡◌, ℕ, List, ◌+◌, ◌^◌, ◌<◌, ◌≤◌, length, drop};
+ghost use Rattle.std.specs.Str.{chars};
+ghost use Rattle.rst_text.specs.Block.{Block, front_text};
+ghost use Rattle.rst_text.specs.Shown.{block_of};
+ghost use Rattle.rst_markup_blocks.specs.Conditions.{next_text, after_text};
+ghost use Rattle.rst_markup_blocks.specs.Kinds.{first_kind, kind_at, kind_of, later_kinds};
+ghost use Rattle.rst_markup_blocks.specs.Begun as spec;
+
+use super::kind::Kind;
+use super::lines::below_text;
+use super::row::{item_enumerator, item_option};
+use rst_markup_lines::{
+    Adornment, Enumerator, FieldMark, Marker, adornment_of, begins_with, bullet, doctest, dots,
+    field_of, front, is_blank, is_grid_border, is_simple_border, line_bar, underscores,
+};
+use rst_text::{Looks, View};
+
+/// What begins at a line: its [`Kind`], with the mark by which it is of that kind.
+#[derive(Clone, Copy, Debug, PartialEq, Eq)]
+pub enum Begun {
+    Blank,
+    Quote,
+    Bullet { mark: char, marker: Marker },
+    Enumerator(Enumerator),
+    Field(FieldMark),
+    OptionItem(Marker),
+    Doctest,
+    Line(Marker),
+    Grid,
+    Simple,
+    Explicit,
+    Anonymous,
+    Adornment(Adornment),
+    Text,
+}
+
+impl Begun {
+    /// The kind of a line at which this begins.
+    pub fn kind(self) -> Kind
+        ensures { result ≡ spec.kind_in self }
+    {
+        match self {
+            Begun::Blank => Kind::Blank,
+            Begun::Quote => Kind::Quote,
+            Begun::Bullet { .. } => Kind::Bullet,
+            Begun::Enumerator(_) => Kind::Enumerator,
+            Begun::Field(_) => Kind::Field,
+            Begun::OptionItem(_) => Kind::OptionItem,
+            Begun::Doctest => Kind::Doctest,
+            Begun::Line(_) => Kind::Line,
+            Begun::Grid => Kind::Grid,
+            Begun::Simple => Kind::Simple,
+            Begun::Explicit => Kind::Explicit,
+            Begun::Anonymous => Kind::Anonymous,
+            Begun::Adornment(_) => Kind::Adornment,
+            Begun::Text => Kind::Text,
+        }
+    }
+}
+
+/// The kind of the line at place `i`. It makes at most three looks.
+pub fn kind_of(view: &View<'_>, i: usize, looks: &mut Looks) -> Kind
+    requires inside { i < length (block_of view.now) }
+    requires few { looks.old < 2 ^ 120 }
+    ensures kind { result ≡ kind_of (block_of view.now) i }
+    ensures looks { looks.new ≤ looks.old + 3 }
+{
+    begun_at(view, i, looks).kind()
+}
+
+/// What begins at the line at place `at`, in three looks.
+pub fn begun_at(view: &View<'_>, at: usize, looks: &mut Looks) -> Begun
+    requires inside { at < length (block_of view.now) }
+    requires few { looks.old < 2 ^ 120 }
+    ensures begun { spec.IsBegun (drop at (block_of view.now)) result }
+    ensures looks { looks.new ≤ looks.old + 3 }
+    ensures low { looks.old + 1 ≤ looks.new }
+{
+    let text = view.line(at, looks);
+    let next = below_text(view, at, 1, looks);
+    let after = below_text(view, at, 2, looks);
+    begun_by(text, next, after)
+}
+
+/// What begins at a line before the next two: the first row of the table of constructs whose condition holds.
+#[tactic(auto, using(crate::proofs::KindRows::bullet_is))]
+fn begun_by(text: &str, next: &str, after: &str) -> Begun
+    ensures kind { (X : Block) → front_text X ≡ chars text.now → next_text X ≡ chars next.now → after_text X ≡ chars after.now → spec.kind_in result ≡ kind_at X }
+    ensures mark { spec.IsMarked (chars text.now) (chars next.now) (chars after.now) result }
+{
+    if is_blank(text) {
+        return Begun::Blank;
+    }
+    if begins_with(' ', text) {
+        return Begun::Quote;
+    }
+    if let (Some(mark), Some(marker)) = (front(text), bullet(text)) {
+        return Begun::Bullet { mark, marker };
+    }
+    if let Some(enumerator) = item_enumerator(text, next) {
+        return Begun::Enumerator(enumerator);
+    }
+    if let Some(mark) = field_of(text) {
+        return Begun::Field(mark);
+    }
+    if let Some(marker) = item_option(text, next, after) {
+        return Begun::OptionItem(marker);
+    }
+    later_begun(text)
+}
+
+/// The same by those rows whose conditions look at the line alone, from the doctest block on.
+#[tactic(auto, using(crate::proofs::KindRows::later_kind_is))]
+fn later_begun(text: &str) -> Begun
+    ensures kind { (X : Block) → front_text X ≡ chars text.now → spec.kind_in result ≡ first_kind later_kinds X }
+    ensures mark { (next after : List ℕ) → spec.IsMarked (chars text.now) next after result }
+{
+    if doctest(text).is_some() {
+        return Begun::Doctest;
+    }
+    if let Some(marker) = line_bar(text) {
+        return Begun::Line(marker);
+    }
+    if is_grid_border(text) {
+        return Begun::Grid;
+    }
+    if is_simple_border(text) {
+        return Begun::Simple;
+    }
+    if dots(text).is_some() {
+        return Begun::Explicit;
+    }
+    if underscores(text).is_some() {
+        return Begun::Anonymous;
+    }
+    match adornment_of(text) {
+        Some(mark) => Begun::Adornment(mark),
+        None => Begun::Text,
+    }
+}

@@ -1,0 +1,88 @@
+//! Explicit markup blocks.
+ghost use Rattle.std.specs.Prelude.{◌≡◌, ◌+◌, ◌*◌, ◌^◌, ◌<◌, ◌≤◌, length, drop};
+ghost use Rattle.std.specs.Str.{chars};
+ghost use Rattle.rst_text.specs.Reach.{reach};
+ghost use Rattle.rst_text.specs.Shown.{block_of};
+ghost use Rattle.rst_markup_blocks.specs.ExplicitMarkup as spec;
+ghost use Rattle.rst_markup_blocks.specs.Sizes.{hanging_size};
+
+use super::forms::CommentCause;
+use super::lines::{LineTest, lines_end};
+use super::part::Part;
+use rst_markup_lines::{
+    DirectiveMark, LabelMark, Marker, SubstitutionMark, TargetMark, begins_with, directive_of,
+    label_of, substitution_of, target_of,
+};
+use rst_text::{Looks, View};
+
+/// What explicit markup is by the text behind its marker.
+#[derive(Clone, Copy, Debug, PartialEq, Eq)]
+pub enum ExplicitForm {
+    Label(LabelMark),
+    Target(TargetMark),
+    Substitution { len: usize, marker: Marker },
+    Directive(DirectiveMark),
+    Comment(CommentCause),
+}
+
+/// Why a text that has no other form is a comment.
+#[tactic(auto, unfolding(crate::specs::ExplicitMarkup::comment_cause))]
+fn comment_cause(text: &str) -> CommentCause
+    ensures { result ≡ spec.comment_cause (chars text.now) }
+{
+    if begins_with('_', text) {
+        return CommentCause::MalformedTarget;
+    }
+    match substitution_of(text) {
+        Some(SubstitutionMark::Unclosed) => CommentCause::MalformedSubstitution,
+        _ => CommentCause::Plain,
+    }
+}
+
+/// The form of explicit markup with this text behind its marker.
+#[tactic(auto, unfolding(crate::specs::ExplicitMarkup::explicit_form))]
+pub fn explicit_form(text: &str) -> ExplicitForm
+    ensures { result ≡ spec.explicit_form (chars text.now) }
+{
+    if let Some(label) = label_of(text) {
+        return ExplicitForm::Label(label);
+    }
+    if let Some(target) = target_of(text) {
+        return ExplicitForm::Target(target);
+    }
+    if let Some(SubstitutionMark::Named { len, marker }) = substitution_of(text) {
+        return ExplicitForm::Substitution { len, marker };
+    }
+    if let Some(directive) = directive_of(true, text) {
+        return ExplicitForm::Directive(directive);
+    }
+    ExplicitForm::Comment(comment_cause(text))
+}
+
+/// The hanging block of the line at place `i`: the line without `cut` characters, and the indented block below it.
+/// Where `bare` says that nothing is left of the line, the block begins below it, at the first line that isn't blank.
+pub fn hanging_part(view: &View<'_>, i: usize, cut: usize, bare: bool, looks: &mut Looks) -> Part
+    requires inside { i < length (block_of view.now) }
+    requires few { looks.old < 2 ^ 120 + 2 ^ 70 }
+    ensures part { result ≡ spec.hanging_part i cut bare (drop i (block_of view.now)) }
+    ensures looks { looks.new + 2 ≤ looks.old + 2 * reach (hanging_size (drop i (block_of view.now))) (drop i (block_of view.now)) }
+    ensures low { looks.old + hanging_size (drop i (block_of view.now)) ≤ looks.new + 1 }
+{
+    prove!(i < view.len());
+    let extent = view.block_end(i + 1, None, looks);
+    if !bare {
+        return Part {
+            from: i,
+            to: extent.end,
+            first_cut: cut,
+            rest_cut: extent.indent,
+        };
+    }
+    let start = lines_end(view, i + 1, LineTest::Blank, looks);
+    Part {
+        from: start.min(extent.end),
+        to: extent.end,
+        first_cut: extent.indent,
+        rest_cut: extent.indent,
+    }
+}

@@ -1,0 +1,260 @@
+//! Explicit markup with its extents.
+ghost use Rattle.std.specs.Prelude.{◌≡◌, ◌+◌, ◌*◌, ◌^◌, ◌<◌, ◌≤◌, Some, is_some, IsTrue, length, drop};
+ghost use Rattle.std.specs.Str.{chars};
+ghost use Rattle.rst_text.specs.Block.{front_text};
+ghost use Rattle.rst_text.specs.Reach.{reach};
+ghost use Rattle.rst_text.specs.Shown.{block_of};
+ghost use Rattle.rst_markup_lines.specs.ExplicitMarks as marks;
+ghost use Rattle.rst_markup_lines.specs.Place as places;
+ghost use Rattle.rst_markup_blocks.specs.Explicit as spec;
+ghost use Rattle.rst_markup_blocks.specs.ExplicitMarkup.{explicit_form, hanging_part};
+ghost use Rattle.rst_markup_blocks.specs.Kinds.{kind_of};
+ghost use Rattle.rst_markup_blocks.specs.Sizes.{hanging_size, indented_size};
+
+use super::ends::{hanging_end, indented_end};
+use super::explicit_markup::{ExplicitForm, explicit_form, hanging_part};
+use super::forms::{CommentCause, Explicit, Invocation};
+use super::lines::below_text;
+use super::part::Part;
+use rst_markup_lines::{
+    Characters, DirectiveMark, LabelKind, LabelMark, Marker, TargetMark, directive_of, dots,
+    is_blank, underscores,
+};
+use rst_text::{Looks, View, skip};
+
+/// The `len` characters behind `from` others.
+fn place_of(from: usize, len: usize) -> Characters
+    requires { from + len < 2 ^ 64 }
+    ensures { result ≡ places.place_of from len }
+{
+    Characters {
+        from,
+        to: from + len,
+    }
+}
+
+/// The text of a target, behind `n` characters of the line at place `i`.
+fn target_part(view: &View<'_>, i: usize, n: usize, looks: &mut Looks) -> Part
+    requires inside { i < length (block_of view.now) }
+    requires few { looks.old < 2 ^ 120 + 2 }
+    ensures part { result ≡ spec.target_part i n (drop i (block_of view.now)) }
+    ensures looks { looks.new ≤ looks.old + indented_size (drop i (block_of view.now)) }
+    ensures low { looks.old + indented_size (drop i (block_of view.now)) ≤ looks.new + 1 }
+{
+    Part {
+        from: i,
+        to: indented_end(view, i, looks),
+        first_cut: n,
+        rest_cut: 0,
+    }
+}
+
+/// The directive with this mark, behind `n` characters of the line at place `i`.
+fn call_of(
+    view: &View<'_>,
+    i: usize,
+    n: usize,
+    mark: DirectiveMark,
+    looks: &mut Looks,
+) -> Invocation
+    requires inside { i < length (block_of view.now) }
+    requires name { n + mark.len < 2 ^ 64 }
+    requires marker { n + mark.marker.cut < 2 ^ 64 }
+    requires few { looks.old < 2 ^ 120 + 2 }
+    ensures call { result ≡ spec.call_of i n mark (drop i (block_of view.now)) }
+    ensures looks { looks.new + 2 ≤ looks.old + 2 * reach (hanging_size (drop i (block_of view.now))) (drop i (block_of view.now)) }
+    ensures low { looks.old + hanging_size (drop i (block_of view.now)) ≤ looks.new + 1 }
+{
+    let marker = mark.marker;
+    Invocation {
+        name: place_of(n, mark.len),
+        block: hanging_part(view, i, n + marker.cut, marker.bare, looks),
+    }
+}
+
+/// The footnote or citation with this label, behind `n` characters of the line at place `i`.
+fn label_with(view: &View<'_>, i: usize, n: usize, mark: LabelMark, looks: &mut Looks) -> Explicit
+    requires inside { i < length (block_of view.now) }
+    requires label { n + 1 + mark.len < 2 ^ 64 }
+    requires marker { n + mark.marker.cut < 2 ^ 64 }
+    requires few { looks.old < 2 ^ 120 + 2 }
+    ensures explicit { result ≡ spec.label_with mark.kind (places.place_of (n + 1) mark.len) (hanging_part i (n + mark.marker.cut) mark.marker.bare (drop i (block_of view.now))) }
+    ensures looks { looks.new + 2 ≤ looks.old + 2 * reach (hanging_size (drop i (block_of view.now))) (drop i (block_of view.now)) }
+    ensures low { looks.old + hanging_size (drop i (block_of view.now)) ≤ looks.new + 1 }
+{
+    let label = place_of(n + 1, mark.len);
+    let marker = mark.marker;
+    let body = hanging_part(view, i, n + marker.cut, marker.bare, looks);
+    match mark.kind {
+        LabelKind::Footnote => Explicit::Footnote { label, body },
+        LabelKind::Citation => Explicit::Citation { label, body },
+    }
+}
+
+/// The target with this mark, behind `n` characters of the line at place `i`.
+fn target_with(view: &View<'_>, i: usize, n: usize, mark: TargetMark, looks: &mut Looks) -> Explicit
+    requires inside { i < length (block_of view.now) }
+    requires mark { spec.IsTargetShort n mark }
+    requires few { looks.old < 2 ^ 120 + 2 }
+    ensures explicit { result ≡ spec.target_with i n mark (drop i (block_of view.now)) }
+    ensures looks { looks.new ≤ looks.old + indented_size (drop i (block_of view.now)) }
+    ensures low { looks.old + indented_size (drop i (block_of view.now)) ≤ looks.new + 1 }
+{
+    match mark {
+        TargetMark::Named { from, len, marker } => Explicit::Target {
+            name: place_of(n + from, len),
+            text: target_part(view, i, n + marker.cut, looks),
+        },
+        TargetMark::Anonymous(marker) => Explicit::Anonymous {
+            text: target_part(view, i, n + marker.cut, looks),
+        },
+    }
+}
+
+/// The substitution definition with this name; `n` characters of the line at place `i` stand before what it holds.
+#[tactic(auto, unfolding(crate::specs::Explicit::held_of))]
+fn substitution_with(
+    view: &View<'_>,
+    i: usize,
+    text: &str,
+    name: Characters,
+    n: usize,
+    looks: &mut Looks,
+) -> Explicit
+    requires inside { i < length (block_of view.now) }
+    requires text { chars text.now ≡ front_text (drop i (block_of view.now)) }
+    requires behind { n ≤ length (chars text.now) }
+    requires few { looks.old < 2 ^ 120 + 2 }
+    ensures explicit { result ≡ spec.substitution_with i name n (drop i (block_of view.now)) }
+    ensures looks { looks.new + 1 ≤ looks.old + 2 * reach (hanging_size (drop i (block_of view.now))) (drop i (block_of view.now)) }
+    ensures low { looks.old + hanging_size (drop i (block_of view.now)) ≤ looks.new + 1 }
+{
+    match directive_of(false, skip(text, n)) {
+        Some(mark) => {
+            let call = call_of(view, i, n, mark, looks);
+            Explicit::Substitution {
+                name,
+                held: Some(call),
+                end_: call.block.to,
+            }
+        }
+        None => Explicit::Substitution {
+            name,
+            held: None,
+            end_: hanging_end(view, i, looks),
+        },
+    }
+}
+
+/// Dots with nothing behind them, in the line at place `i`.
+fn dots_alone(view: &View<'_>, i: usize, marker: Marker, looks: &mut Looks) -> Explicit
+    requires inside { i < length (block_of view.now) }
+    requires few { looks.old < 2 ^ 120 + 1 }
+    ensures explicit { result ≡ spec.dots_alone i marker (drop i (block_of view.now)) }
+    ensures looks { looks.new + 1 ≤ looks.old + 2 * reach (spec.explicit_end 0 (spec.dots_alone 0 marker (drop i (block_of view.now)))) (drop i (block_of view.now)) }
+    ensures low { looks.old + spec.explicit_end 0 (spec.dots_alone 0 marker (drop i (block_of view.now))) ≤ looks.new + 1 }
+{
+    if is_blank(below_text(view, i, 1, looks)) {
+        return Explicit::EmptyComment;
+    }
+    Explicit::Comment {
+        text: hanging_part(view, i, marker.cut, true, looks),
+        cause: CommentCause::Plain,
+    }
+}
+
+/// The explicit markup of a form in the line at place `i`, behind dots that make this marker.
+fn explicit_by(
+    view: &View<'_>,
+    i: usize,
+    text: &str,
+    form: ExplicitForm,
+    marker: Marker,
+    looks: &mut Looks,
+) -> Explicit
+    requires inside { i < length (block_of view.now) }
+    requires text { chars text.now ≡ front_text (drop i (block_of view.now)) }
+    requires form { form ≡ explicit_form (drop marker.cut (chars text.now)) }
+    requires marker { marker.cut ≤ length (chars text.now) }
+    requires few { looks.old < 2 ^ 120 + 1 }
+    ensures explicit { result ≡ spec.explicit_by form i marker (drop i (block_of view.now)) }
+    ensures looks { looks.new + 1 ≤ looks.old + 2 * reach (spec.explicit_end 0 (spec.explicit_by form 0 marker (drop i (block_of view.now)))) (drop i (block_of view.now)) }
+    ensures low { looks.old + spec.explicit_end 0 (spec.explicit_by form 0 marker (drop i (block_of view.now))) ≤ looks.new + 1 }
+{
+    let n = marker.cut;
+    match form {
+        ExplicitForm::Label(mark) => label_with(view, i, n, mark, looks),
+        ExplicitForm::Target(mark) => target_with(view, i, n, mark, looks),
+        ExplicitForm::Substitution { len, marker } => {
+            substitution_with(view, i, text, place_of(n + 1, len), n + marker.cut, looks)
+        }
+        ExplicitForm::Directive(mark) => Explicit::Directive(call_of(view, i, n, mark, looks)),
+        ExplicitForm::Comment(cause) => Explicit::Comment {
+            text: hanging_part(view, i, n, false, looks),
+            cause,
+        },
+    }
+}
+
+/// The explicit markup in the line at place `i`, behind dots that make this marker.
+#[tactic(auto, unfolding(crate::specs::Explicit::behind_dots))]
+pub(crate) fn behind_dots(
+    view: &View<'_>,
+    i: usize,
+    text: &str,
+    marker: Marker,
+    looks: &mut Looks,
+) -> Explicit
+    requires inside { i < length (block_of view.now) }
+    requires text { chars text.now ≡ front_text (drop i (block_of view.now)) }
+    requires marker { marker.cut ≤ length (chars text.now) }
+    requires few { looks.old < 2 ^ 120 + 1 }
+    ensures explicit { result ≡ spec.behind_dots i marker (drop i (block_of view.now)) }
+    ensures looks { looks.new + 1 ≤ looks.old + 2 * reach (spec.explicit_end 0 (spec.behind_dots 0 marker (drop i (block_of view.now)))) (drop i (block_of view.now)) }
+    ensures low { looks.old + spec.explicit_end 0 (spec.behind_dots 0 marker (drop i (block_of view.now))) ≤ looks.new + 1 }
+{
+    if marker.bare {
+        return dots_alone(view, i, marker, looks);
+    }
+    let form = explicit_form(skip(text, marker.cut));
+    explicit_by(view, i, text, form, marker, looks)
+}
+
+/// The anonymous target in the line at place `i`, which begins with `__`.
+#[tactic(auto, unfolding(crate::specs::Explicit::anonymous_of))]
+fn anonymous(view: &View<'_>, i: usize, text: &str, looks: &mut Looks) -> Explicit
+    requires inside { i < length (block_of view.now) }
+    requires text { chars text.now ≡ front_text (drop i (block_of view.now)) }
+    requires begins { IsTrue (is_some (marks.underscores (chars text.now))) }
+    requires few { looks.old < 2 ^ 120 + 2 }
+    ensures explicit { result ≡ spec.anonymous_of i (drop i (block_of view.now)) }
+    ensures looks { looks.new ≤ looks.old + indented_size (drop i (block_of view.now)) }
+    ensures low { looks.old + indented_size (drop i (block_of view.now)) ≤ looks.new + 1 }
+{
+    let Some(marker) = underscores(text) else {
+        unreachable!()
+    };
+    Explicit::Anonymous {
+        text: target_part(view, i, marker.cut, looks),
+    }
+}
+
+/// The explicit markup that begins in the line at place `i`: what it is, with its extents (Markup Specification,
+/// 'Explicit Markup Blocks'). Each extent is a part of the view, and each label or name stands in the line. It makes at
+/// most two looks for each line of the markup's reach.
+pub fn explicit(view: &View<'_>, i: usize, looks: &mut Looks) -> Explicit
+    requires inside { i < length (block_of view.now) }
+    requires kind { IsTrue (spec.is_explicit_kind (kind_of (block_of view.now) i)) }
+    requires few { looks.old < 2 ^ 120 }
+    ensures explicit { result ≡ spec.explicit_of i (drop i (block_of view.now)) }
+    ensures within { spec.IsExplicitIn (block_of view.now) i result }
+    ensures end { spec.explicit_end i result ≡ i + spec.explicit_size (drop i (block_of view.now)) }
+    ensures looks { looks.new ≤ looks.old + 2 * reach (spec.explicit_size (drop i (block_of view.now))) (drop i (block_of view.now)) }
+    ensures low { looks.old + spec.explicit_size (drop i (block_of view.now)) ≤ looks.new }
+{
+    let text = view.line(i, looks);
+    match dots(text) {
+        Some(marker) => behind_dots(view, i, text, marker, looks),
+        None => anonymous(view, i, text, looks),
+    }
+}

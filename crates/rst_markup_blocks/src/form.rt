@@ -1,0 +1,153 @@
+//! What a line of text, or of one punctuation character, begins.
+ghost use Rattle.std.specs.Prelude.{◌≡◌};
+ghost use Rattle.std.specs.Str.{chars};
+ghost use Rattle.rst_markup_blocks.specs.Forms as spec;
+
+use rst_markup_lines::{Adornment, adornment_of, begins_with, is_blank};
+use rst_text::columns;
+
+/// What a line of text begins.
+#[derive(Clone, Copy, Debug, PartialEq, Eq)]
+pub enum TextForm {
+    /// A paragraph.
+    Paragraph,
+    /// A paragraph whose second line is a possible underline that is too short.
+    ShortUnderline,
+    /// An item of a definition list.
+    Definition,
+    /// A title with its underline, which may be shorter than the title.
+    Title { short: bool },
+}
+
+/// What a line of one punctuation character begins.
+#[derive(Clone, Copy, Debug, PartialEq, Eq)]
+pub enum Adorned {
+    /// A text.
+    Text,
+    /// A text, since the line is too short for an overline, where titles may stand.
+    ShortOverline,
+    /// A text, since the line is too short for an overline or a transition, where none may stand.
+    ShortAdornment,
+    /// A transition.
+    Transition,
+    /// A title between its overline, which may be shorter than the title, and its underline.
+    Title { short: bool },
+    /// Two such lines, which are neither.
+    InvalidMarker,
+    /// An overline and a title at the end of the block.
+    Incomplete,
+    /// An overline and a title without an underline: a blank line follows, or another.
+    MissingUnderline { blank: bool },
+    /// An overline and a title with another underline.
+    Mismatch,
+    /// A title or transition where none may stand.
+    Unexpected,
+}
+
+/// The form of a text over an underline of this length.
+#[tactic(auto, unfolding(crate::specs::Forms::underlined))]
+fn underlined(len: usize, text: &str) -> TextForm
+    ensures { result ≡ spec.underlined len (chars text.now) }
+{
+    if len >= columns(text) {
+        return TextForm::Title { short: false };
+    }
+    if len < 4 {
+        return TextForm::ShortUnderline;
+    }
+    TextForm::Title { short: true }
+}
+
+/// The form of a text, where this is the next line.
+#[tactic(auto, unfolding(crate::specs::Forms::text_form))]
+pub fn text_form(text: &str, next: &str) -> TextForm
+    ensures { result ≡ spec.text_form (chars text.now) (chars next.now) }
+{
+    if begins_with(' ', next) {
+        return TextForm::Definition;
+    }
+    match adornment_of(next) {
+        Some(mark) => underlined(mark.len, text),
+        None => TextForm::Paragraph,
+    }
+}
+
+/// Whether two lines of one punctuation character are the same.
+fn is_same_adornment(a: Adornment, b: Adornment) -> bool
+    ensures { result ≡ spec.is_same_adornment a b }
+{
+    a.character == b.character && a.len == b.len
+}
+
+/// The form of an overline over a title that isn't blank, if it is long enough, where this is the line after the title.
+#[tactic(auto, unfolding(crate::specs::Forms::overlined))]
+fn overlined(mark: Adornment, next: &str, after: Option<&str>) -> Adorned
+    ensures { result ≡ spec.overlined mark (chars next.now) (spec.chars_if_any after.entry) }
+{
+    if adornment_of(next).is_some() {
+        return Adorned::InvalidMarker;
+    }
+    let Some(after) = after else {
+        return Adorned::Incomplete;
+    };
+    match adornment_of(after) {
+        None => Adorned::MissingUnderline {
+            blank: is_blank(after),
+        },
+        Some(under) => {
+            if is_same_adornment(mark, under) {
+                Adorned::Title {
+                    short: mark.len < columns(next),
+                }
+            } else {
+                Adorned::Mismatch
+            }
+        }
+    }
+}
+
+/// Whether a form is a title that is as long as its overline.
+fn is_whole_title(adorned: Adorned) -> bool
+    ensures { result ≡ spec.is_whole_title adorned }
+{
+    matches!(adorned, Adorned::Title { short: false })
+}
+
+/// The form of a line of one punctuation character over a blank line or none, where titles may stand.
+#[tactic(auto, unfolding(crate::specs::Forms::adorned_alone))]
+pub fn adorned_alone(mark: Adornment) -> Adorned
+    ensures { result ≡ spec.adorned_alone mark }
+{
+    if mark.len >= 4 {
+        Adorned::Transition
+    } else {
+        Adorned::Text
+    }
+}
+
+/// The form of a line of one punctuation character over a line that isn't blank, where titles may stand.
+#[tactic(auto, unfolding(crate::specs::Forms::adorned_over))]
+pub fn adorned_over(mark: Adornment, next: &str, after: Option<&str>) -> Adorned
+    ensures { result ≡ spec.adorned_over mark (chars next.now) (spec.chars_if_any after.entry) }
+{
+    let form = overlined(mark, next, after);
+    if mark.len >= 4 || is_whole_title(form) {
+        form
+    } else {
+        Adorned::ShortOverline
+    }
+}
+
+/// The form of a line of one punctuation character where no titles may stand.
+#[tactic(auto, unfolding(crate::specs::Forms::adorned_below))]
+pub fn adorned_below(mark: Adornment) -> Adorned
+    ensures { result ≡ spec.adorned_below mark }
+{
+    if mark.character == ':' && mark.len == 2 {
+        return Adorned::Text;
+    }
+    if mark.len >= 4 {
+        return Adorned::Unexpected;
+    }
+    Adorned::ShortAdornment
+}

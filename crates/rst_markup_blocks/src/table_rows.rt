@@ -1,0 +1,202 @@
+//! The rows of tables.
+ghost use Rattle.std.specs.Prelude.{◌≡◌, ◌+◌, ◌-◌, ◌^◌, ◌<◌, ◌≤◌, length, drop, IfSome};
+ghost use Rattle.std.specs.Option.{option_or};
+ghost use Rattle.rst_text.specs.Shown.{block_of};
+ghost use Rattle.rst_markup_blocks.specs.Lines.{lines_while};
+ghost use Rattle.rst_markup_blocks.specs.TableRows as spec;
+
+use super::construct::Construct;
+use super::lines::{LineTest, below_text, lines_end};
+use super::table_line::{border_len, is_lower_border};
+use rst_markup_lines::{is_blank, is_grid_border, is_simple_border};
+use rst_text::{Looks, View};
+
+/// The bottom border of the grid table at place `i`, counted from there, where `all` lines from there on begin with `+` or
+/// `|`. It looks at most once at each of them.
+fn grid_bottom(view: &View<'_>, i: usize, all: usize, looks: &mut Looks) -> Option<usize>
+    requires inside { i < length (block_of view.now) }
+    requires all { all ≡ lines_while LineTest.Drawn (drop i (block_of view.now)) }
+    requires few { looks.old < 2 ^ 120 + 2 ^ 81 }
+    ensures bottom { result ≡ spec.grid_bottom (drop i (block_of view.now)) }
+    ensures within { IfSome result (λ k. k < all) }
+    ensures looks { looks.new ≤ looks.old + all }
+{
+    let mut bottom = None;
+    for k in 2..all {
+        if is_grid_border(below_text(view, i, k, looks)) {
+            bottom = Some(k);
+            continue;
+        }
+    }
+    bottom
+}
+
+/// A grid table.
+pub struct GridTable;
+
+impl Construct for GridTable {
+    ghost use Rattle.rst_markup_blocks.specs.Rows.{anywhere};
+    ghost use Rattle.rst_markup_blocks.specs.TableRows.{is_grid_row, grid_size, grid_reach};
+    ghost use Rattle.rst_markup_blocks.specs.TableLaws.{grid_within, grid_on_three};
+    ghost use Rattle.rst_markup_blocks.specs.ReachLaws.{grid_reaches};
+
+    ghost holds = { is_grid_row };
+
+    ghost size = { anywhere grid_size };
+
+    ghost reached = { anywhere grid_reach };
+
+    ghost first_looks = { 1 };
+
+    ghost within = { grid_within };
+
+    ghost reaches = { grid_reaches };
+
+    ghost on_three = { grid_on_three };
+
+    fn starts(&self, view: &View<'_>, i: usize, _titles: bool, looks: &mut Looks) -> bool {
+        is_grid_border(view.line(i, looks))
+    }
+
+    fn end(&self, view: &View<'_>, i: usize, _titles: bool, looks: &mut Looks) -> usize {
+        prove!(i < view.len());
+        let end = lines_end(view, i, LineTest::Drawn, looks);
+        match grid_bottom(view, i, end - i, looks) {
+            Some(k) => i + k + 1,
+            None => end,
+        }
+    }
+}
+
+/// The first border of a simple table below line `k`, both counted from place `i`. It looks once at each line below that one
+/// and through the border.
+fn border_below(view: &View<'_>, i: usize, k: usize, looks: &mut Looks) -> Option<usize>
+    requires inside { i < length (block_of view.now) }
+    requires line { k < length (drop i (block_of view.now)) }
+    requires few { looks.old < 2 ^ 120 + 2 ^ 81 }
+    ensures border { result ≡ spec.border_below (drop i (block_of view.now)) k }
+    ensures looks { looks.new + k + 1 ≤ looks.old + spec.through (length (drop i (block_of view.now))) result }
+    ensures low { looks.old ≤ looks.new }
+{
+    let all = view.len() - i;
+    for j in k + 1..all {
+        if is_lower_border(below_text(view, i, j, looks)) {
+            return Some(j);
+        }
+    }
+    None
+}
+
+/// Whether the border `k` lines below place `i` is as long as the one there, in two looks.
+pub fn is_as_long(view: &View<'_>, i: usize, k: usize, looks: &mut Looks) -> bool
+    requires inside { i < length (block_of view.now) }
+    requires few { looks.old < 2 ^ 120 + 2 ^ 83 }
+    ensures value { result ≡ spec.is_as_long (drop i (block_of view.now)) k }
+    ensures looks { looks.new ≤ looks.old + 2 }
+    ensures low { looks.old + 1 ≤ looks.new }
+{
+    let top = view.line(i, looks);
+    let border = below_text(view, i, k, looks);
+    border_len(border) == border_len(top)
+}
+
+/// Whether the border `k` lines below the top one, at place `i`, closes a head, in three looks.
+fn closes_head(view: &View<'_>, i: usize, k: usize, looks: &mut Looks) -> bool
+    requires inside { i < length (block_of view.now) }
+    requires line { k < length (drop i (block_of view.now)) }
+    requires few { looks.old < 2 ^ 120 + 2 ^ 82 }
+    ensures value { result ≡ spec.closes_head (drop i (block_of view.now)) k }
+    ensures looks { looks.new ≤ looks.old + 3 }
+    ensures low { looks.old ≤ looks.new }
+{
+    prove!(i < view.len());
+    let next = below_text(view, i, k + 1, looks);
+    is_as_long(view, i, k, looks) && !is_blank(next)
+}
+
+/// Where the borders of a simple table stand that tell its end, counted from its top border.
+#[derive(Clone, Copy, Debug, PartialEq, Eq)]
+pub struct SimpleBorders {
+    /// The border that closes the head, if one does.
+    pub head: Option<usize>,
+    /// The bottom border, if there is one.
+    pub bottom: Option<usize>,
+}
+
+impl SimpleBorders {
+    ghost use Rattle.std.specs.Prelude.{◌≡◌, ◌<◌, IfSome};
+    ghost use Rattle.std.specs.Option.{option_or};
+    ghost use Rattle.rst_markup_blocks.specs.TableRows.{through};
+
+    /// How many lines the table has, where the block has `all` from the top border on.
+    pub fn size(self, all: usize) -> usize
+        requires { IfSome (option_or self.bottom self.head) (λ k. k < all) }
+        ensures { result ≡ through all (option_or self.bottom self.head) }
+    {
+        match self.bottom.or(self.head) {
+            Some(k) => k + 1,
+            None => all,
+        }
+    }
+}
+
+/// The borders of the simple table at place `i`, in at most two looks more than its scan has lines.
+pub fn simple_borders(view: &View<'_>, i: usize, looks: &mut Looks) -> SimpleBorders
+    requires inside { i < length (block_of view.now) }
+    requires few { looks.old < 2 ^ 120 }
+    ensures head { result.head ≡ spec.head_border (drop i (block_of view.now)) }
+    ensures bottom { result.bottom ≡ spec.simple_bottom (drop i (block_of view.now)) }
+    ensures within { IfSome (option_or result.bottom result.head) (λ k. k < length (drop i (block_of view.now))) }
+    ensures looks { looks.new ≤ looks.old + 2 + spec.simple_scan (drop i (block_of view.now)) }
+    ensures low { looks.old ≤ looks.new }
+{
+    let Some(first) = border_below(view, i, 0, looks) else {
+        return SimpleBorders {
+            head: None,
+            bottom: None,
+        };
+    };
+    if !closes_head(view, i, first, looks) {
+        return SimpleBorders {
+            head: None,
+            bottom: Some(first),
+        };
+    }
+    SimpleBorders {
+        head: Some(first),
+        bottom: border_below(view, i, first, looks),
+    }
+}
+
+/// A simple table.
+pub struct SimpleTable;
+
+impl Construct for SimpleTable {
+    ghost use Rattle.rst_markup_blocks.specs.Rows.{anywhere};
+    ghost use Rattle.rst_markup_blocks.specs.TableRows.{is_simple_row, simple_size, simple_reach};
+    ghost use Rattle.rst_markup_blocks.specs.TableLaws.{simple_within, simple_on_three};
+    ghost use Rattle.rst_markup_blocks.specs.ReachLaws.{simple_reaches};
+
+    ghost holds = { is_simple_row };
+
+    ghost size = { anywhere simple_size };
+
+    ghost reached = { anywhere simple_reach };
+
+    ghost first_looks = { 1 };
+
+    ghost within = { simple_within };
+
+    ghost reaches = { simple_reaches };
+
+    ghost on_three = { simple_on_three };
+
+    fn starts(&self, view: &View<'_>, i: usize, _titles: bool, looks: &mut Looks) -> bool {
+        is_simple_border(view.line(i, looks))
+    }
+
+    fn end(&self, view: &View<'_>, i: usize, _titles: bool, looks: &mut Looks) -> usize {
+        prove!(i < view.len());
+        i + simple_borders(view, i, looks).size(view.len() - i)
+    }
+}

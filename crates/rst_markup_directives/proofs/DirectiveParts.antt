@@ -1,0 +1,217 @@
+-- The parts of a directive are blocks of what its block is a part of.
+use Rattle.std.proofs.Common.{◌≡◌, ℕ, zero, suc, ◌+◌, ◌-◌, ◌≤◌, ◌==◌, Bool, true, false, not, cond, ◌&&◌, List, [], ◌∷◌, map, length, take, drop, length-drop, Option, None, Some, option_map, Result, Ok, Err, arith, refl, sym, ap, ◌∙◌, subst}
+use Rattle.std.specs.List.{prefix_len}
+use Rattle.std.proofs.lemmas.List.{drop-drop}
+use Rattle.rst_text.specs.Block.{Line, Block, cut, is_blank}
+use Rattle.rst_text.specs.MayCut.{is_indented}
+use Rattle.rst_text.specs.Names.{normalized_white}
+use Rattle.rst_text.proofs.CutLaws.{take_of}
+use Rattle.rst_text.proofs.Indented.{is_indented-drop, is_indented-take}
+use Rattle.rst_inline_scan.specs.Characters.{is_among}
+use Rattle.rst_markup_blocks.specs.Parts.{IsBlock}
+use Rattle.rst_markup_blocks.specs.declared.part.Part.{Part}
+use Rattle.rst_markup_blocks.specs.RowLaws.{while_le}
+use Rattle.rst_markup_blocks.specs.declared.lines.LineTest.TheVariants.{Blank}
+use Rattle.rst_markup_directives.specs.Argument.{Given, title, language, joined_lines, word_of, argument_by, argument_of}
+use Rattle.rst_markup_directives.specs.Call.{part_of, content_of, is_empty, IsContentIn, IsDirectiveIn}
+use Rattle.rst_markup_directives.specs.Characters.{Text}
+use Rattle.rst_markup_directives.specs.Directive.{Read, Outcome, found, wrong, run_in, is_code_name, options_of, read_parts, read_by, read_block, outcome_at, of_block, judged, outcome_of}
+use Rattle.rst_markup_directives.specs.Field.{begins_field}
+use Rattle.rst_markup_directives.specs.Judgement.{content_fault}
+use Rattle.rst_markup_directives.specs.Layout.{before_field, content_alone, parts_with_argument, parts_without_argument, layout_by, layout_at, layout_of}
+use Rattle.rst_markup_directives.specs.Lines.{first_run, blank_len, behind_blank}
+use Rattle.rst_markup_directives.specs.Name.{takes, holds}
+use Rattle.rst_markup_directives.specs.Options.{Choice}
+use Rattle.rst_markup_directives.specs.Wrong.{Wrong as WrongInside, and_then, unless, many_arguments, fault_in}
+use Rattle.rst_markup_directives.specs.declared.argument.Argument.TheVariants.{Absent, Title, Uri, Language}
+use Rattle.rst_markup_directives.specs.declared.fault.DirectiveFault.{DirectiveFault}
+use Rattle.rst_markup_directives.specs.declared.found.Content.{Content}
+use Rattle.rst_markup_directives.specs.declared.found.Directive.{Directive}
+use Rattle.rst_markup_directives.specs.declared.found.Directive.TheVariants.{Found, Wrong}
+use Rattle.rst_markup_directives.specs.declared.found.Place.{Place}
+use Rattle.rst_markup_directives.specs.declared.layout.Layout.{Layout}
+use Rattle.rst_markup_directives.specs.declared.name.Holds.{Holds}
+use Rattle.rst_markup_directives.specs.declared.name.Holds.TheVariants.{Required, Nothing as HoldsNothing, Figure, Paragraph}
+use Rattle.rst_markup_directives.specs.declared.name.Name.{Name}
+use Rattle.rst_markup_directives.specs.declared.name.Takes.{Takes}
+use Rattle.rst_markup_directives.specs.declared.name.Takes.TheVariants.{Nothing as TakesNothing, Title as TakesTitle, Uri as TakesUri, Language as TakesLanguage}
+use Rattle.rst_markup_directives.proofs.Parts.{length-cut}
+
+-- ---- lines of a block
+
+-- the lines but the first of a part, indented as the block's are
+indented_part : (r j k n : ℕ) (Y : Block) → k ≤ n → is_indented r (take n Y) ≡ true → is_indented r (take (k - j) (drop j Y)) ≡ true
+indented_part r j k n Y within h = by (k - j) refl
+  where
+    by : (m : ℕ) → k - j ≡ m → is_indented r (take m (drop j Y)) ≡ true
+    by zero e = refl
+    by (suc m) e =
+        ap (is_indented r) (sym (take_of j (suc m) n Y (omega (arith, e))))
+        ∙ is_indented-take r (suc m) (drop j (take n Y)) (is_indented-drop r j (take n Y) h)
+
+part_block : (B : Block) (block : Part) (from to : ℕ) → IsBlock B block → from ≤ to → block.from + to ≤ block.to → IsBlock B (part_of block from to)
+part_block B block from to b ordered within =
+    let Y : Block = drop (block.from + 1) B in
+    let place : drop (block.from + from + 1) B ≡ drop from Y =
+    ap (λ i. drop i B) (let e : block.from + from + 1 ≡ (block.from + 1) + from = omega arith in e) ∙ sym (drop-drop from (block.from + 1) B) in
+    let lines : block.from + to - (block.from + from + 1) ≡ (to - 1) - from = omega arith in
+    record {
+      ordered = omega arith;
+      within = omega (arith, b.within);
+      indented = rw place (rw lines (indented_part block.rest_cut from (to - 1) (block.to - (block.from + 1)) Y (omega arith) b.indented));
+    }
+
+-- where the parts of a block of `all` lines end
+record IsWithin (layout : Layout) (all : ℕ) : Type 0 where
+  argument : layout.argument ≤ all
+  first : layout.first ≤ all
+  second : layout.second ≤ all
+
+content_block : (B : Block) (block : Part) (layout : Layout) (all : ℕ) → IsBlock B block → IsWithin layout all → block.from + all ≤ block.to → IsContentIn B (content_of block layout all)
+content_block B block layout all b inside within = (
+  part_block B block 0 layout.first b (omega arith) (omega (arith, inside.first, within)),
+  part_block B block layout.second all b inside.second within,
+)
+
+-- ---- places in a block
+
+before_field-le : (run : List Text) → before_field run ≤ length run
+before_field-le [] = omega arith
+before_field-le (t ∷ ts) = by (begins_field t) (before_field-le ts)
+  where
+    by : (b : Bool) → before_field ts ≤ length ts → cond (not b) (1 + before_field ts) 0 ≤ suc (length ts)
+    by true h = omega arith
+    by false h = omega arith
+
+first_run-le : (B : Block) → length (first_run B) ≤ length B
+first_run-le [] = omega arith
+first_run-le (l ∷ ls) = by (is_blank l.text) (first_run-le ls)
+  where
+    by : (b : Bool) → length (first_run ls) ≤ length ls → length (map (λ (m : Line). m.text) (take (cond (not b) (1 + prefix_len (λ m. not (is_blank m.text)) ls) 0) (l ∷ ls))) ≤ suc (length ls)
+    by true h = omega arith
+    by false h =
+        let n : ℕ = prefix_len (λ (m : Line). not (is_blank m.text)) ls in
+        let one : suc n ≡ 1 + n = omega arith in
+        let more : suc (length (first_run ls)) ≤ suc (length ls) = omega arith in
+        subst (λ k. length (map (λ (m : Line). m.text) (take k (l ∷ ls))) ≤ suc (length ls)) one more
+
+blank_len-le : (B : Block) → blank_len B ≤ length B
+blank_len-le B = while_le Blank B
+
+run_in-le : (name : Name) (late : Bool) (H : Block) → length (run_in name late H) ≤ length H
+unfolding run_in
+run_in-le name late H = by (late && is_code_name name)
+  where
+    by : (b : Bool) → length (cond b [] (first_run H)) ≤ length H
+    by true = omega arith
+    by false = first_run-le H
+
+with_within : (run : List Text) (all rest : ℕ) → length run ≤ all → rest ≤ all → IsWithin (parts_with_argument run rest) all
+with_within run all rest h k = record { argument = omega (arith, before_field-le run); first = omega arith; second = omega arith }
+
+without_within : (run : List Text) (all rest : ℕ) → length run ≤ all → rest ≤ all → IsWithin (parts_without_argument run all rest) all
+without_within run all rest h k = by (before_field run == length run)
+  where
+    by : (b : Bool) → let parted : Layout = record { argument = 0; first = before_field run; options = before_field run; second = rest } in IsWithin (cond b (content_alone run all) parted) all
+    by true = record { argument = omega arith; first = omega arith; second = omega arith }
+    by false = record { argument = omega arith; first = omega (arith, before_field-le run); second = omega arith }
+
+takes_within : (t : Takes) (run : List Text) (all rest : ℕ) → length run ≤ all → rest ≤ all → IsWithin (layout_by Required t run all rest) all
+takes_within TakesNothing run all rest h k = without_within run all rest h k
+takes_within TakesTitle run all rest h k = with_within run all rest h k
+takes_within TakesUri run all rest h k = with_within run all rest h k
+takes_within TakesLanguage run all rest h k = with_within run all rest h k
+
+holds_within : (content : Holds) (t : Takes) (run : List Text) (all rest : ℕ) → length run ≤ all → rest ≤ all → IsWithin (layout_by content t run all rest) all
+holds_within Paragraph t run all rest h k = record { argument = omega arith; first = omega arith; second = omega arith }
+holds_within Required t run all rest h k = takes_within t run all rest h k
+holds_within HoldsNothing TakesNothing run all rest h k = without_within run all rest h k
+holds_within HoldsNothing TakesTitle run all rest h k = with_within run all rest h k
+holds_within HoldsNothing TakesUri run all rest h k = with_within run all rest h k
+holds_within HoldsNothing TakesLanguage run all rest h k = with_within run all rest h k
+holds_within Figure TakesNothing run all rest h k = without_within run all rest h k
+holds_within Figure TakesTitle run all rest h k = with_within run all rest h k
+holds_within Figure TakesUri run all rest h k = with_within run all rest h k
+holds_within Figure TakesLanguage run all rest h k = with_within run all rest h k
+
+layout_within : (name : Name) (run : List Text) (all rest : ℕ) → length run ≤ all → rest ≤ all → IsWithin (layout_at name run all rest) all
+unfolding layout_at
+layout_within name run all rest h k = holds_within (holds name) (takes name) run all rest h k
+
+-- ---- what is read
+
+abbrev IsGivenIn : Block → Given → Type 0
+IsGivenIn B (title part) = IsBlock B part
+IsGivenIn B given = Unit {0}
+
+abbrev MayBeGivenIn : Block → Result Given WrongInside → Type 0
+MayBeGivenIn B (Ok given) = IsGivenIn B given
+MayBeGivenIn B (Err w) = Unit {0}
+
+abbrev MayBeReadIn : Block → Result Read WrongInside → Type 0
+MayBeReadIn B (Ok read) = IsGivenIn B read.argument × IsContentIn B read.content
+MayBeReadIn B (Err w) = Unit {0}
+
+abbrev IsOutcomeIn : Block → Outcome → Type 0
+IsOutcomeIn B (found read) = IsGivenIn B read.argument × IsContentIn B read.content
+IsOutcomeIn B (wrong fault source) = Unit {0}
+
+word_in : (B : Block) (words : Text) → MayBeGivenIn B (word_of words)
+unfolding word_of
+word_in B words = by (is_among words 32)
+  where
+    by : (b : Bool) → MayBeGivenIn B (cond b (Err many_arguments) (Ok (language words)))
+    by true = tt
+    by false = tt
+
+argument_in : (B : Block) (t : Takes) (ts : List Text) (part : Part) → IsBlock B part → MayBeGivenIn B (argument_by t ts part)
+argument_in B TakesNothing ts part b = tt
+argument_in B TakesTitle [] part b = tt
+argument_in B TakesTitle (t ∷ ts) part b = b
+argument_in B TakesUri [] part b = tt
+argument_in B TakesUri (t ∷ ts) part b = tt
+argument_in B TakesLanguage [] part b = tt
+argument_in B TakesLanguage (t ∷ ts) part b = word_in B (normalized_white (joined_lines (t ∷ ts)))
+
+parts_in_block : (B : Block) (name : Name) (content : Content) (given : Result Given WrongInside) (choices : Result (List Choice) WrongInside)
+    → IsContentIn B content → MayBeGivenIn B given → MayBeReadIn B (read_parts name content given choices)
+parts_in_block B name content given (Err w) h k = tt
+parts_in_block B name content (Err w) (Ok choices) h k = tt
+parts_in_block B name content (Ok value) (Ok choices) h k = (k, h)
+
+read_in_block : (B : Block) (name : Name) (late : Bool) (block : Part) (H : Block) → IsBlock B block → length H ≡ block.to - block.from → MayBeReadIn B (read_block name late block H)
+unfolding read_block read_by
+read_in_block B name late block H b count =
+    let run : List Text = run_in name late H in
+    let rest : ℕ = behind_blank H (length run) in
+    let within = layout_within name run (length H) rest (run_in-le name late H) (omega (arith, run_in-le name late H, blank_len-le (drop (length run) H), length-drop (length run) H)) in
+    let layout : Layout = layout_of name run H in
+    let inside : block.from + length H ≤ block.to = omega (arith, b.ordered, count) in
+    parts_in_block B name (content_of block layout (length H)) (argument_of name (take layout.argument run) (part_of block 0 layout.argument)) (options_of name (drop layout.options run))
+    (content_block B block layout (length H) b within inside)
+    (argument_in B (takes name) (take layout.argument run) (part_of block 0 layout.argument) (part_block B block 0 layout.argument b (omega arith) (omega (arith, within.argument, inside))))
+
+-- ---- what a directive is
+
+judged_in : (B : Block) (place : Place) (paragraph : Bool) (source : Part) (read : Result Read WrongInside) → MayBeReadIn B read → IsOutcomeIn B (outcome_at source (and_then (judged place paragraph) (of_block read)))
+judged_in B place paragraph source (Err w) h = tt
+judged_in B place paragraph source (Ok read) h = by (content_fault read.name (is_empty read.content) place paragraph)
+  where
+    by : (fault : Option DirectiveFault) → IsOutcomeIn B (outcome_at source (unless (option_map fault_in fault) (Ok read)))
+    by (Some fault) = tt
+    by None = h
+
+kept_in : (B : Block) (directive : Directive) → IsOutcomeIn B (outcome_of directive) → IsDirectiveIn B directive
+kept_in B (Wrong fault source) h = tt
+kept_in B (Found name Absent options content) h = h
+kept_in B (Found name (Title part) options content) h = h
+kept_in B (Found name (Uri text) options content) h = h
+kept_in B (Found name (Language text) options content) h = h
+
+-- the parts of a directive whose block was read
+pub directive_in : (B : Block) (name : Name) (late : Bool) (block : Part) (place : Place) (paragraph : Bool) (source : Part) (read : Result Read WrongInside) (directive : Directive) → IsBlock B block
+    → read ≡ read_block name late block (cut B block.from block.to block.first_cut block.rest_cut) → outcome_of directive ≡ outcome_at source (and_then (judged place paragraph) (of_block read)) → IsDirectiveIn B directive
+directive_in B name late block place paragraph source read directive b same kept =
+    let H : Block = cut B block.from block.to block.first_cut block.rest_cut in
+    let inside = read_in_block B name late block H b (length-cut B block.from block.to block.first_cut block.rest_cut b.ordered b.within) in
+    kept_in B directive (subst (IsOutcomeIn B) (sym kept) (judged_in B place paragraph source read (subst (MayBeReadIn B) (sym same) inside)))

@@ -1,0 +1,140 @@
+-- Fields that are read one after the other.
+use Rattle.std.proofs.Common.{◌≡◌, ℕ, suc, zero, ◌+◌, ◌-◌, ◌<◌, ◌≤◌, length-drop, true, false, List, [], ◌∷◌, ◌++◌, take, drop, length, get_or, Option, Some, None, refl, sym, ap, ◌∙◌, inl, inr, arith}
+use Rattle.std.specs.List.{prefix_len}
+use Rattle.std.specs.declared.vec.Vec.{Vec}
+use Rattle.rst_text.proofs.PlacesLemmas.{cases_bool}
+use Rattle.rst_markup_lines.specs.Front.{begins_with}
+use Rattle.rst_markup_directives.specs.Characters.{Text}
+use Rattle.rst_markup_directives.specs.Lines.{texts_of}
+use Rattle.rst_markup_directives.specs.Options.{FieldText, field_in, Group, onto_groups, groups, onto_fields, fields_of, fields_in}
+
+-- how many lines at the front begin with a space
+abbrev pub deep_len : List Text → ℕ
+deep_len ts = prefix_len (begins_with 32) ts
+
+-- fields, and those that come behind them if these are right
+abbrev pub behind_fields : List FieldText → Option (List FieldText) → Option (List FieldText)
+behind_fields done (Some more) = Some (done ++ more)
+behind_fields done None = None
+
+deep-here : (t : Text) (ts : List Text) → begins_with 32 t ≡ true → deep_len (t ∷ ts) ≡ suc (deep_len ts)
+deep-here t ts h = let one : 1 + deep_len ts ≡ suc (deep_len ts) = omega arith in rw h one
+
+deep-none : (t : Text) (ts : List Text) → begins_with 32 t ≡ false → deep_len (t ∷ ts) ≡ 0
+deep-none t ts h = rw h refl
+
+onto-deep : (t : Text) (g : Group) (gs : List Group) → begins_with 32 g.0 ≡ true → onto_groups t (g ∷ gs) ≡ (t, g.0 ∷ g.1) ∷ gs
+onto-deep t g gs h = rw h refl
+
+onto-flat : (t : Text) (g : Group) (gs : List Group) → begins_with 32 g.0 ≡ false → onto_groups t (g ∷ gs) ≡ (t, []) ∷ g ∷ gs
+onto-flat t g gs h = rw h refl
+
+-- the first group of lines: the indented lines behind the first belong to it
+first_group : (t : Text) (ts : List Text) → groups (t ∷ ts) ≡ (t, take (deep_len ts) ts) ∷ groups (drop (deep_len ts) ts)
+first_group t [] = refl
+first_group t (u ∷ us) =
+    let rest : groups (u ∷ us) ≡ (u, take (deep_len us) us) ∷ groups (drop (deep_len us) us) = first_group u us in
+    elim (cases_bool (begins_with 32 u)) [
+      | inl h ↦ ap (onto_groups t) rest ∙ onto-deep t (u, take (deep_len us) us) (groups (drop (deep_len us) us)) h
+          ∙ sym (ap (λ n. (t, take n (u ∷ us)) ∷ groups (drop n (u ∷ us))) (deep-here u us h))
+      | inr h ↦ ap (onto_groups t) rest ∙ onto-flat t (u, take (deep_len us) us) (groups (drop (deep_len us) us)) h ∙ ap (λ gs. (t, []) ∷ gs) (sym rest)
+          ∙ sym (ap (λ n. (t, take n (u ∷ us)) ∷ groups (drop n (u ∷ us))) (deep-none u us h))
+    ]
+
+first_field : (t : Text) (ts : List Text) → fields_in (t ∷ ts) ≡ onto_fields (field_in t (take (deep_len ts) ts)) (fields_in (drop (deep_len ts) ts))
+first_field t ts = ap fields_of (first_group t ts)
+
+behind-onto : (done : List FieldText) (f : FieldText) (more : Option (List FieldText)) → behind_fields done (onto_fields (Some f) more) ≡ behind_fields (done ++ f ∷ []) more
+behind-onto done f None = refl
+behind-onto done f (Some more) = ap Some (sym (one done))
+  where
+    one : (xs : List FieldText) → (xs ++ f ∷ []) ++ more ≡ xs ++ (f ∷ more)
+    one [] = refl
+    one (x ∷ xs) = ap (λ l. x ∷ l) (one xs)
+
+-- one field more
+pub fields-more : (X : List Text) (t : Text) (ts : List Text) (done : List FieldText) (f : FieldText) (whole : Option (List FieldText)) → X ≡ t ∷ ts
+    → Some f ≡ field_in t (take (deep_len ts) ts) → behind_fields done (fields_in X) ≡ whole → behind_fields (done ++ f ∷ []) (fields_in (drop (deep_len ts) ts)) ≡ whole
+fields-more X t ts done f whole e found h =
+    sym (behind-onto done f (fields_in (drop (deep_len ts) ts))) ∙ ap (λ field. behind_fields done (onto_fields field (fields_in (drop (deep_len ts) ts)))) found
+    ∙ ap (behind_fields done) (sym (ap fields_in e ∙ first_field t ts)) ∙ h
+
+-- a line that begins no field
+pub fields-stop : (X : List Text) (t : Text) (ts : List Text) (done : List FieldText) (whole : Option (List FieldText)) → X ≡ t ∷ ts
+    → None ≡ field_in t (take (deep_len ts) ts) → behind_fields done (fields_in X) ≡ whole → None ≡ whole
+fields-stop X t ts done whole e none h =
+    ap (λ field. behind_fields done (onto_fields field (fields_in (drop (deep_len ts) ts)))) none ∙ ap (behind_fields done) (sym (ap fields_in e ∙ first_field t ts)) ∙ h
+
+-- ---- vectors of characters as texts
+
+pub texts-drop : {A : Type 0} (run : List (Vec ℕ A)) (i : ℕ) → texts_of (drop i run) ≡ drop i (texts_of run)
+texts-drop run zero = refl
+texts-drop [] (suc i) = refl
+texts-drop (v ∷ vs) (suc i) = texts-drop vs i
+
+pub texts-take : {A : Type 0} (run : List (Vec ℕ A)) (n : ℕ) → texts_of (take n run) ≡ take n (texts_of run)
+texts-take run zero = refl
+texts-take [] (suc n) = refl
+texts-take (v ∷ vs) (suc n) = ap (λ l. v.items ∷ l) (texts-take vs n)
+
+pub length_texts : {A : Type 0} (run : List (Vec ℕ A)) → length (texts_of run) ≡ length run
+length_texts [] = refl
+length_texts (v ∷ vs) = ap suc (length_texts vs)
+
+-- the line at a place, and those behind it
+pub texts-at : {A : Type 0} (run : List (Vec ℕ A)) (i : ℕ) (v : Vec ℕ A) → i < length run → v ≡ get_or run i v → drop i (texts_of run) ≡ v.items ∷ drop (i + 1) (texts_of run)
+texts-at [] i v h e = absurd (omega arith)
+texts-at (x ∷ xs) zero v h e = ap (λ w. w.items ∷ texts_of xs) (sym e)
+texts-at (x ∷ xs) (suc i) v h e = let s : suc i + 1 ≡ suc (i + 1) = omega arith in rw s (texts-at xs i v (omega arith) e)
+
+past-nil : {X : Type 0} (n : ℕ) (xs : List X) → xs ≡ [] → drop n xs ≡ []
+past-nil zero xs e = e
+past-nil (suc n) [] e = refl
+past-nil (suc n) (x ∷ xs) e = absurd (cc)
+
+-- a place behind a place
+pub drop-behind : (ts : List Text) (a b c : ℕ) → c ≡ a + b → drop c ts ≡ drop b (drop a ts)
+drop-behind ts zero b c e = let same : c ≡ b = omega arith in ap (λ n. drop n ts) same
+drop-behind [] (suc a) b c e = past-nil c [] refl ∙ sym (past-nil b [] refl)
+drop-behind (t ∷ ts) (suc a) b zero e = absurd (omega arith)
+drop-behind (t ∷ ts) (suc a) b (suc c) e = drop-behind ts a b c (omega arith)
+
+append-none : (xs : List FieldText) → xs ++ [] ≡ xs
+append-none [] = refl
+append-none (x ∷ xs) = ap (λ l. x ∷ l) (append-none xs)
+
+past-texts : (ts : List Text) (i : ℕ) → length ts ≤ i → drop i ts ≡ []
+past-texts [] i h = past-nil i [] refl
+past-texts (t ∷ ts) zero h = absurd (omega arith)
+past-texts (t ∷ ts) (suc i) h = past-texts ts i (omega arith)
+
+-- where no line is left
+pub fields-end : (ts : List Text) (i : ℕ) (done : List FieldText) (whole : Option (List FieldText)) → length ts ≤ i → behind_fields done (fields_in (drop i ts)) ≡ whole → Some done ≡ whole
+fields-end ts i done whole h e = ap Some (sym (append-none done)) ∙ ap (λ rest. behind_fields done (fields_in rest)) (sym (past-texts ts i h)) ∙ e
+
+-- ---- slices
+
+take-whole : {X : Type 0} (n : ℕ) (xs : List X) → length xs ≤ n → take n xs ≡ xs
+take-whole zero [] h = refl
+take-whole zero (x ∷ xs) h = absurd (omega arith)
+take-whole (suc n) [] h = refl
+take-whole (suc n) (x ∷ xs) h = ap (λ l. x ∷ l) (take-whole n xs (omega arith))
+
+pub rest-whole : {X : Type 0} (xs : List X) (a : ℕ) → take (length xs - a) (drop a xs) ≡ drop a xs
+rest-whole xs a = take-whole (length xs - a) (drop a xs) (omega (arith, length-drop a xs))
+
+length-front : {X : Type 0} (n : ℕ) (xs : List X) → n ≤ length xs → length (take n xs) ≡ n
+length-front zero xs h = refl
+length-front (suc n) [] h = absurd (omega arith)
+length-front (suc n) (x ∷ xs) h = ap suc (length-front n xs (omega arith))
+
+-- the indented lines behind a place
+pub below-texts : {A : Type 0} (run : List (Vec ℕ A)) (a n : ℕ) → n ≡ deep_len (texts_of (take (length run - a) (drop a run)))
+    → texts_of (take n (take (length run - a) (drop a run))) ≡ take (deep_len (drop a (texts_of run))) (drop a (texts_of run))
+below-texts run a n e =
+    let texts : texts_of (take (length run - a) (drop a run)) ≡ drop a (texts_of run) = ap texts_of (rest-whole run a) ∙ texts-drop run a in
+    texts-take (take (length run - a) (drop a run)) n ∙ ap (take n) texts ∙ ap (λ m. take m (drop a (texts_of run))) (e ∙ ap deep_len texts)
+
+pub below-len : {A : Type 0} (run : List (Vec ℕ A)) (a n : ℕ) → n ≡ deep_len (texts_of (take (length run - a) (drop a run))) → n ≤ length (take (length run - a) (drop a run))
+    → length (take n (take (length run - a) (drop a run))) ≡ deep_len (drop a (texts_of run))
+below-len run a n e h = length-front n (take (length run - a) (drop a run)) h ∙ e ∙ ap deep_len (ap texts_of (rest-whole run a) ∙ texts-drop run a)

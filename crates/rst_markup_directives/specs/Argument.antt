@@ -1,0 +1,71 @@
+-- The arguments of directives (Directives, 'Generic Admonition', 'Topic', 'Image', 'Figure', 'Code').
+use Rattle.std.specs.Prelude.{List, [], ◌∷◌, Result, Ok, Err, if◌then◌else◌}
+use Rattle.rst_text.specs.Names.{normalized_white}
+use Rattle.rst_text.specs.Text.{chars_of}
+use Rattle.rst_inline_scan.specs.Characters.{is_among, without_white}
+use Rattle.rst_markup_directives.specs.Characters.{Text}
+use Rattle.rst_markup_directives.specs.Name.{takes}
+use Rattle.rst_markup_directives.specs.Options.{joined}
+use Rattle.rst_markup_directives.specs.Wrong.{Wrong, no_argument, many_arguments, wrong_in}
+use Rattle.rst_markup_directives.specs.declared.argument.Argument.{Argument}
+use Rattle.rst_markup_directives.specs.declared.argument.Argument.TheVariants.{Absent, Title, Uri, Language}
+use Rattle.rst_markup_directives.specs.declared.fault.Detail.{Detail}
+use Rattle.rst_markup_directives.specs.declared.name.Name.{Name}
+use Rattle.rst_markup_directives.specs.declared.name.Takes.{Takes}
+use Rattle.rst_markup_directives.specs.declared.name.Takes.TheVariants.{Nothing as TakesNothing, Title as TakesTitle, Uri as TakesUri, Language as TakesLanguage}
+use Rattle.rst_markup_blocks.specs.declared.part.Part.{Part}
+
+-- what an argument means
+pub data Given : Type 0 where
+  nothing : Given
+  title : Part → Given
+  uri : Text → Given
+  language : Text → Given
+
+-- lines joined by line feeds
+abbrev pub joined_lines : List Text → Text
+joined_lines ts = joined [] ts 0
+
+-- a title, some lines
+abbrev pub title_of : List Text → Part → Result Given Wrong
+title_of [] part = Err no_argument
+title_of (t ∷ ts) part = Ok (title part)
+
+-- a URI, without white characters
+abbrev pub uri_of : List Text → Result Given Wrong
+uri_of [] = Err no_argument
+uri_of (t ∷ ts) = Ok (uri (without_white (joined_lines (t ∷ ts))))
+
+-- one word, of a text whose runs of white are one space each: a space in it parts two words
+unfoldable pub word_of : Text → Result Given Wrong
+word_of words = if is_among words 32 then Err many_arguments else Ok (language words)
+
+-- a language, one word, or none
+abbrev pub language_of : List Text → Result Given Wrong
+language_of [] = Ok nothing
+language_of (t ∷ ts) = word_of (normalized_white (joined_lines (t ∷ ts)))
+
+-- the argument of a directive that takes nothing, a title, a URI or a language
+abbrev pub argument_by : Takes → List Text → Part → Result Given Wrong
+argument_by TakesNothing ts part = Ok nothing
+argument_by TakesTitle ts part = title_of ts part
+argument_by TakesUri ts part = uri_of ts
+argument_by TakesLanguage ts part = language_of ts
+
+-- the argument that lines are, which stand at a part of a view
+abbrev pub argument_of : Name → List Text → Part → Result Given Wrong
+argument_of name ts part = argument_by (takes name) ts part
+
+-- ---- as it is kept
+
+-- the meaning of an argument
+abbrev pub given_in : Argument → Given
+given_in Absent = nothing
+given_in (Title part) = title part
+given_in (Uri text) = uri (chars_of text)
+given_in (Language text) = language (chars_of text)
+
+-- the meaning of an argument, or what is wrong with it
+abbrev pub argument_in : Result Argument Detail → Result Given Wrong
+argument_in (Ok argument) = Ok (given_in argument)
+argument_in (Err detail) = Err (wrong_in detail)

@@ -1,0 +1,55 @@
+-- Directives as they are called (Markup Specification, 'Directives').
+use Rattle.std.specs.Prelude.{ℕ, ◌+◌, Bool, ◌&&◌, ◌==◌, drop, slice_range, Option, if◌then◌else◌}
+use Rattle.rst_text.specs.Block.{Block, front_text}
+use Rattle.rst_markup_directives.specs.Characters.{Text}
+use Rattle.rst_markup_directives.specs.Name.{directive_named}
+use Rattle.rst_markup_directives.specs.declared.argument.Argument.{Argument}
+use Rattle.rst_markup_directives.specs.declared.argument.Argument.TheVariants.{Title}
+use Rattle.rst_markup_directives.specs.declared.found.Content.{Content}
+use Rattle.rst_markup_directives.specs.declared.found.Directive.{Directive}
+use Rattle.rst_markup_directives.specs.declared.found.Directive.TheVariants.{Found, Wrong}
+use Rattle.rst_markup_directives.specs.declared.layout.Layout.{Layout}
+use Rattle.rst_markup_directives.specs.declared.name.Name.{Name}
+use Rattle.rst_markup_blocks.specs.Parts.{IsBlock}
+use Rattle.rst_markup_blocks.specs.declared.forms.Invocation.{Invocation}
+use Rattle.rst_markup_blocks.specs.declared.part.Part.{Part}
+
+-- the name that a directive is called by
+abbrev pub name_text : Block → ℕ → Invocation → Text
+name_text B at call = slice_range (front_text (drop at B)) call.name.from call.name.to
+
+-- the directive that is called; `code` says whether the one for program code is among them
+abbrev pub called_at : Bool → Block → ℕ → Invocation → Option Name
+called_at code B at call = directive_named (name_text B at call) code
+
+-- how many characters the line at this place of a block loses, which may be another number for the first line
+abbrev pub first_cut : Part → ℕ → ℕ
+first_cut block from = if from == 0 then block.first_cut else block.rest_cut
+
+-- lines of a block as a part of what the block is a part of
+abbrev pub part_of : Part → ℕ → ℕ → Part
+part_of block from to = record { from = block.from + from; to = block.from + to; first_cut = first_cut block from; rest_cut = block.rest_cut }
+
+-- the two parts of a directive's content: before its options, and behind them
+abbrev pub content_of : Part → Layout → ℕ → Content
+content_of block layout all = record { first = part_of block 0 layout.first; second = part_of block layout.second all }
+
+-- no part of the content has a line
+abbrev pub is_empty : Content → Bool
+is_empty content = content.first.from == content.first.to && content.second.from == content.second.to
+
+-- ---- parts of a block
+
+-- the content of a directive
+abbrev pub IsContentIn : Block → Content → Type 0
+IsContentIn B content = IsBlock B content.first × IsBlock B content.second
+
+-- the argument of a directive
+abbrev pub IsArgumentIn : Block → Argument → Type 0
+IsArgumentIn B (Title part) = IsBlock B part
+IsArgumentIn B argument = Unit {0}
+
+-- the parts of a directive are those of a block
+abbrev pub IsDirectiveIn : Block → Directive → Type 0
+IsDirectiveIn B (Found name argument options content) = IsArgumentIn B argument × IsContentIn B content
+IsDirectiveIn B (Wrong fault source) = Unit {0}

@@ -1,0 +1,51 @@
+-- Where the parts of a directive's block stand (Markup Specification, 'Directives'). A part is told by the places of the lines
+-- that it begins and ends at.
+use Rattle.std.specs.Prelude.{ℕ, not, ◌==◌, List, length, if◌then◌else◌}
+use Rattle.std.specs.List.{prefix_len}
+use Rattle.rst_text.specs.Block.{Block}
+use Rattle.rst_markup_directives.specs.Characters.{Text}
+use Rattle.rst_markup_directives.specs.Field.{begins_field}
+use Rattle.rst_markup_directives.specs.Lines.{behind_blank}
+use Rattle.rst_markup_directives.specs.Name.{takes, holds}
+use Rattle.rst_markup_directives.specs.declared.layout.Layout.{Layout}
+use Rattle.rst_markup_directives.specs.declared.name.Name.{Name}
+use Rattle.rst_markup_directives.specs.declared.name.Takes.{Takes}
+use Rattle.rst_markup_directives.specs.declared.name.Takes.TheVariants.{Nothing}
+use Rattle.rst_markup_directives.specs.declared.name.Holds.{Holds}
+use Rattle.rst_markup_directives.specs.declared.name.Holds.TheVariants.{Paragraph}
+
+-- how many lines stand before the first that begins a field: the place where the options begin
+abbrev pub before_field : List Text → ℕ
+before_field ts = prefix_len (λ t. not (begins_field t)) ts
+
+-- A block of `all` lines that is content alone: its first part is the whole block, and the second is empty. The options, of
+-- which there are none, begin where the run of lines ends.
+abbrev pub content_alone : List Text → ℕ → Layout
+content_alone run all = record { argument = 0; first = all; options = length run; second = all }
+
+-- A block whose argument ends where the options begin. Its content begins at `rest`.
+abbrev pub parts_with_argument : List Text → ℕ → Layout
+parts_with_argument run rest = record { argument = before_field run; first = 0; options = before_field run; second = rest }
+
+-- A block without an argument: the lines before the options are content, and so are those from `rest` on. Without options it
+-- is content alone.
+abbrev pub parts_without_argument : List Text → ℕ → ℕ → Layout
+parts_without_argument run all rest =
+    if before_field run == length run then content_alone run all
+    else record { argument = 0; first = before_field run; options = before_field run; second = rest }
+
+-- a block by what its directive holds and takes: a paragraph alone leaves no room for options
+abbrev pub layout_by : Holds → Takes → List Text → ℕ → ℕ → Layout
+layout_by Paragraph takes run all rest = content_alone run all
+layout_by _ Nothing run all rest = parts_without_argument run all rest
+layout_by _ _ run all rest = parts_with_argument run rest
+
+-- the parts of a block of `all` lines that begins with this run; `rest` is the place of the first line behind the run that
+-- isn't blank
+unfoldable pub layout_at : Name → List Text → ℕ → ℕ → Layout
+layout_at name run all rest = layout_by (holds name) (takes name) run all rest
+
+-- The parts of a block that begins with this run of lines, which hold the argument and the options: the argument up to the
+-- first option, the options up to the end of the run, and the content behind the blank lines after it.
+abbrev pub layout_of : Name → List Text → Block → Layout
+layout_of name run H = layout_at name run (length H) (behind_blank H (length run))

@@ -1,0 +1,23 @@
+-- The lines of a directive's block (Markup Specification, 'Directives').
+use Rattle.std.specs.Prelude.{ℕ, ◌+◌, not, List, map, drop, take_while}
+use Rattle.std.specs.declared.vec.Vec.{Vec}
+use Rattle.rst_text.specs.Block.{Block, is_blank}
+use Rattle.rst_markup_blocks.specs.Lines.{lines_while}
+use Rattle.rst_markup_blocks.specs.declared.lines.LineTest.TheVariants.{Blank}
+use Rattle.rst_markup_directives.specs.Characters.{Text}
+
+-- the texts that vectors of characters hold
+abbrev pub texts_of : {A : Type 0} → List (Vec ℕ A) → List Text
+texts_of vectors = map (λ v. v.items) vectors
+
+-- the texts of the lines before the first blank one
+abbrev pub first_run : Block → List Text
+first_run X = map (λ l. l.text) (take_while (λ l. not (is_blank l.text)) X)
+
+-- how many blank lines a block begins with
+abbrev pub blank_len : Block → ℕ
+blank_len X = lines_while Blank X
+
+-- the place of the first line from this one on that isn't blank
+abbrev pub behind_blank : Block → ℕ → ℕ
+behind_blank H from = from + blank_len (drop from H)

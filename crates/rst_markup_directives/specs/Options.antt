@@ -1,0 +1,147 @@
+-- The options of a directive's block (Markup Specification, 'Directives', 'Field Lists').
+use Rattle.std.specs.Prelude.{ℕ, min, Bool, false, not, List, [], ◌∷◌, map, take, drop, length, slice_range, Option, Some, option_map, option_and_then, unwrap_or, ok_or, find, Result, Ok, Err, if◌then◌else◌}
+use Rattle.std.specs.List.{join_with_byte, list_any, reduce}
+use Rattle.std.specs.Option.{option_or, option_map_or}
+use Rattle.std.specs.declared.vec.Vec.{Vec}
+use Rattle.rst_text.specs.Block.{indentation}
+use Rattle.rst_text.specs.Places.{first_from}
+use Rattle.rst_markup_lines.specs.Field.{field_of}
+use Rattle.rst_markup_lines.specs.Front.{begins_with}
+use Rattle.rst_markup_directives.specs.Characters.{Text, is_same_word}
+use Rattle.rst_markup_directives.specs.Name.{has_option}
+use Rattle.rst_markup_directives.specs.OptionName.{option_named}
+use Rattle.rst_markup_directives.specs.Value.{Meaning, meaning_of, value_of}
+use Rattle.rst_markup_directives.specs.Wrong.{Wrong, and_then, unless, unknown, duplicate, invalid, wrong_in}
+use Rattle.rst_markup_directives.specs.declared.fault.Detail.{Detail}
+use Rattle.rst_markup_directives.specs.declared.name.Name.{Name}
+use Rattle.rst_markup_directives.specs.declared.option.OptionName.{OptionName}
+use Rattle.rst_markup_directives.specs.declared.options.Field.{Field}
+use Rattle.rst_markup_directives.specs.declared.options.Setting.{Setting}
+
+-- the least indentation of lines, 0 where there are none
+abbrev pub least_indentation : List Text → ℕ
+least_indentation ts = unwrap_or (reduce min (map indentation ts)) 0
+
+-- a text before lines, unless it is empty
+abbrev pub with_first : Text → List Text → List Text
+with_first [] ts = ts
+with_first (c ∷ cs) ts = (c ∷ cs) ∷ ts
+
+-- A text, unless it is empty, and lines without their first characters, as many as `cut`, joined by line feeds. What
+-- `join_with_byte` of the standard library joins here are lists of characters.
+unfoldable pub joined : Text → List Text → ℕ → Text
+joined first ts cut = join_with_byte 10 (with_first first (map (drop cut) ts))
+
+-- ---- fields
+
+-- a field among the options: its name as it is written, and its value
+abbrev pub FieldText : Type 0
+FieldText = Text × Text
+
+-- the field that a line begins, with the indented lines below it: the name between its colons, and the text behind its mark
+-- with these lines, their least indentation taken off
+unfoldable pub field_in : Text → List Text → Option FieldText
+field_in t below = option_map (λ mark. (slice_range t mark.name.from mark.name.to, joined (drop mark.marker.cut t) below (least_indentation below))) (field_of t)
+
+-- a line, and the indented lines directly below it
+abbrev pub Group : Type 0
+Group = Text × List Text
+
+-- a line before groups: the first of them belongs to it if that begins with an indented line
+abbrev pub onto_groups : Text → List Group → List Group
+onto_groups t [] = (t, []) ∷ []
+onto_groups t (g ∷ gs) = if begins_with 32 g.0 then (t, g.0 ∷ g.1) ∷ gs else (t, []) ∷ g ∷ gs
+
+-- the groups of lines
+abbrev pub groups : List Text → List Group
+groups [] = []
+groups (t ∷ ts) = onto_groups t (groups ts)
+
+-- a field before others, if it and they are fields
+abbrev pub onto_fields : Option FieldText → Option (List FieldText) → Option (List FieldText)
+onto_fields field fields = option_and_then (λ f. option_map (λ fs. f ∷ fs) fields) field
+
+-- the fields that groups are, if each is one
+abbrev pub fields_of : List Group → Option (List FieldText)
+fields_of [] = Some []
+fields_of (g ∷ gs) = onto_fields (field_in g.0 g.1) (fields_of gs)
+
+-- the fields of lines, if each of their groups is one
+abbrev pub fields_in : List Text → Option (List FieldText)
+fields_in ts = fields_of (groups ts)
+
+-- ---- what is wrong with them
+
+-- the directive has no option of this name
+abbrev pub is_unknown : Name → Text → Bool
+is_unknown directive name = not (option_map_or (has_option directive) (option_named name) false)
+
+-- the name of the first field that names no option of the directive
+abbrev pub first_unknown : Name → List FieldText → Option Text
+first_unknown directive fs = option_map (λ f. f.0) (find (λ f. is_unknown directive f.0) fs)
+
+-- the name is that of one of the fields
+abbrev pub is_field_name : Text → List FieldText → Bool
+is_field_name name fs = list_any (λ f. is_same_word f.0 name) fs
+
+-- the name of the first of some fields; where there is none it is empty
+abbrev pub front_name : List FieldText → Text
+front_name [] = []
+front_name (f ∷ fs) = f.0
+
+-- the field at the place has the name of one before it
+abbrev pub is_again : List FieldText → ℕ → Bool
+is_again fs i = is_field_name (front_name (drop i fs)) (take i fs)
+
+-- the name of the first field that one before it has
+abbrev pub first_again : List FieldText → Option Text
+first_again fs = option_map (λ i. front_name (drop i fs)) (first_from (is_again fs) 0 (length fs))
+
+-- an option and the meaning of its value
+abbrev pub Choice : Type 0
+Choice = OptionName × Meaning
+
+-- what a field chooses, if there is such an option, and it can have the value
+abbrev pub choice_of : Name → FieldText → Option Choice
+choice_of directive f = option_and_then (λ option. option_map (λ meaning. (option, meaning)) (value_of directive option f.1)) (option_named f.0)
+
+-- a choice before others; without one the value of the option of this name is invalid
+abbrev pub onto_choices : Option Choice → Text → Result (List Choice) Wrong → Result (List Choice) Wrong
+onto_choices choice name choices = and_then (λ first. and_then (λ others. Ok (first ∷ others)) choices) (ok_or choice (invalid name))
+
+-- what fields choose, or the first that can't have its value
+abbrev pub choices_of : Name → List FieldText → Result (List Choice) Wrong
+choices_of directive [] = Ok []
+choices_of directive (f ∷ fs) = onto_choices (choice_of directive f) f.0 (choices_of directive fs)
+
+-- what is wrong with the names of fields: of all of them an unknown one, then a duplicate one
+abbrev pub wrong_name : Name → List FieldText → Option Wrong
+wrong_name directive fs = option_or (option_map unknown (first_unknown directive fs)) (option_map duplicate (first_again fs))
+
+-- What the fields of a directive choose, or what is wrong: of all fields an unknown option, then a duplicate one, then a
+-- value that an option can't have.
+unfoldable pub settings_in : Name → List FieldText → Result (List Choice) Wrong
+settings_in directive fs = unless (wrong_name directive fs) (choices_of directive fs)
+
+-- ---- as they are kept
+
+-- a field's name and value
+abbrev pub field_text : Field → FieldText
+field_text field = (field.name.items, field.value.items)
+
+-- the names and values of fields
+abbrev pub field_texts : List Field → List FieldText
+field_texts fields = map field_text fields
+
+-- what a setting chooses
+abbrev pub choice_in : Setting → Choice
+choice_in setting = (setting.option, meaning_of setting.value)
+
+-- what settings choose
+abbrev pub choices_in : List Setting → List Choice
+choices_in settings = map choice_in settings
+
+-- what settings choose, or what is wrong with them
+abbrev pub settings_shown : {A : Type 0} → Result (Vec Setting A) Detail → Result (List Choice) Wrong
+settings_shown (Ok settings) = Ok (choices_in settings.items)
+settings_shown (Err detail) = Err (wrong_in detail)

@@ -1,0 +1,83 @@
+-- What the values of options mean (Directives, 'Common Options', 'Image', 'Figure').
+use Rattle.std.specs.Prelude.{ℕ, true, false, not, List, [], ◌∷◌, map, Option, Some, None, option_map, if◌then◌else◌}
+use Rattle.std.specs.List.{prefix_len}
+use Rattle.std.specs.declared.string.String.{String}
+use Rattle.rst_text.specs.Block.{is_blank}
+use Rattle.rst_text.specs.Characters.{is_white}
+use Rattle.rst_text.specs.Names.{words_of, id_of, name_of}
+use Rattle.rst_text.specs.Text.{chars_of}
+use Rattle.rst_markup_directives.specs.Characters.{Text}
+use Rattle.rst_markup_directives.specs.Measure.{measure_of, scale_of, alignment_of}
+use Rattle.rst_markup_directives.specs.Name.{has_vertical}
+use Rattle.rst_markup_directives.specs.Target.{Destination, destination_of, target_value}
+use Rattle.rst_markup_directives.specs.declared.measure.Alignment.{Alignment}
+use Rattle.rst_markup_directives.specs.declared.name.Name.{Name}
+use Rattle.rst_markup_directives.specs.declared.option.OptionName.{OptionName}
+use Rattle.rst_markup_directives.specs.declared.option.OptionName.TheVariants.{Alt, Height, Width, Scale, Align, Target, Class, Name as NameOption, FigureWidth, FigureClass}
+use Rattle.rst_markup_directives.specs.declared.value.OptionValue.{OptionValue}
+use Rattle.rst_markup_directives.specs.declared.value.OptionValue.TheVariants.{Text as TextValue, Measure, Number, Place, Classes, Link, Name as NameValue}
+
+-- the meaning of a value
+pub data Meaning : Type 0 where
+  plain : Text → Meaning
+  measured : Text → Meaning
+  numbered : ℕ → Meaning
+  placed : Alignment → Meaning
+  classed : List Text → Meaning
+  linked : Destination → Text → Meaning
+  called : Text → Meaning
+
+-- ---- classes
+
+-- how many characters stand before the first white one
+abbrev pub word_len : Text → ℕ
+word_len t = prefix_len (λ c. not (is_white c)) t
+
+-- the ids of all words, where none is empty
+abbrev pub all_ids : List Text → Option (List Text)
+all_ids [] = Some []
+all_ids (w ∷ ws) = if is_blank (id_of w) then None else option_map (λ ids. id_of w ∷ ids) (all_ids ws)
+
+-- the same, where there are some
+abbrev pub some_ids : List Text → Option (List Text)
+some_ids [] = None
+some_ids (w ∷ ws) = all_ids (w ∷ ws)
+
+-- the ids of the words of a text, where there are some and none is empty
+unfoldable pub ids_of : Text → Option (List Text)
+ids_of t = some_ids (words_of t)
+
+-- ---- values
+
+-- the name that a text gives: each run of white is one space, and case doesn't count
+abbrev pub called_by : Text → Meaning
+called_by t = called (name_of t)
+
+-- the meaning of an option's value, if the option can have it
+abbrev pub value_of : Name → OptionName → Text → Option Meaning
+value_of directive Alt t = Some (plain t)
+value_of directive Height t = option_map measured (measure_of t false false)
+value_of directive Width t = option_map measured (measure_of t true false)
+value_of directive Scale t = option_map numbered (scale_of t)
+value_of directive Align t = option_map placed (alignment_of t (has_vertical directive))
+value_of directive Target t = option_map (λ to. linked to t) (target_value t)
+value_of directive Class t = option_map classed (ids_of t)
+value_of directive NameOption t = Some (called_by t)
+value_of directive FigureWidth t = option_map measured (measure_of t true true)
+value_of directive FigureClass t = option_map classed (ids_of t)
+
+-- ---- as they are kept
+
+-- the characters of texts
+abbrev pub texts_in : {A : Type 0} → List (String A) → List Text
+texts_in texts = map chars_of texts
+
+-- the meaning of an option's value
+abbrev pub meaning_of : OptionValue → Meaning
+meaning_of (TextValue text) = plain (chars_of text)
+meaning_of (Measure text) = measured (chars_of text)
+meaning_of (Number number) = numbered number
+meaning_of (Place alignment) = placed alignment
+meaning_of (Classes ids) = classed (texts_in ids.items)
+meaning_of (Link to source) = linked (destination_of to) (chars_of source)
+meaning_of (NameValue name) = called (chars_of name)

@@ -1,0 +1,329 @@
+//! Directives as they are called.
+ghost use Rattle.std.specs.Prelude.{◌≡◌, true, ◌+◌, ◌*◌, ◌-◌, ◌≤◌, ◌<◌, ◌^◌, length, take, drop, IfOk};
+ghost use Rattle.rst_text.specs.Block.{cut};
+ghost use Rattle.rst_text.specs.Shown.{block_of};
+ghost use Rattle.rst_markup_blocks.specs.Parts.{IsBlock, IsCall};
+ghost use Rattle.rst_markup_directives.specs.Argument as arguments;
+ghost use Rattle.rst_markup_directives.specs.Faults.{Gives};
+ghost use Rattle.rst_markup_directives.specs.Call as spec;
+ghost use Rattle.rst_markup_directives.specs.Directive as directives;
+ghost use Rattle.rst_markup_directives.specs.Layout as layouts;
+ghost use Rattle.rst_markup_directives.specs.Lines.{texts_of};
+ghost use Rattle.rst_markup_directives.specs.Options as choices;
+ghost use Rattle.rst_markup_directives.specs.Wrong.{and_then};
+
+use super::argument::{Argument, argument_of};
+use super::fault::{Detail, DirectiveFault, MarkupFault};
+use super::found::{Content, Directive, Place};
+use super::judgement::{content_fault, permitted};
+use super::layout::{Layout, layout_of};
+use super::lines::{line_at, past_blank, run_of};
+use super::name::Name;
+use super::options::{Field, Setting, fields_of, settings_of};
+use rst_markup_blocks::{Invocation, Part};
+use rst_text::{Looks, View};
+use std::alloc::{AllocError, Global};
+
+/// The directive that is called at line `at` of a view, if there is one of that name.
+///
+/// The only refusal is [`MarkupFault::NoMemory`].
+pub fn called(
+    alloc: Global,
+    view: &View<'_>,
+    at: usize,
+    invocation: &Invocation,
+    looks: &mut Looks,
+) -> Result<Option<Name>, MarkupFault>
+    requires call { IsCall (block_of view.now) at invocation.now }
+    requires few { looks.old < 2 ^ 120 }
+    ensures name { Gives (λ name. name ≡ spec.called_at true (block_of view.now) at invocation.now) result }
+    ensures looks { looks.new ≡ looks.old + 1 }
+{
+    let line = line_at(alloc, view, at, looks)?;
+    Ok(Name::of(&line[invocation.name.from..invocation.name.to], true))
+}
+
+/// What the directive is that is called at line `at` of a view, or what is wrong with it. `paragraph` tells whether its
+/// block is a single paragraph, which counts for `replace` alone.
+///
+/// The only refusal is [`MarkupFault::NoMemory`].
+#[tactic(auto, unfolding(crate::specs::Directive::directive_at))]
+pub fn directive(
+    alloc: Global,
+    view: &View<'_>,
+    at: usize,
+    invocation: &Invocation,
+    place: Place,
+    paragraph: bool,
+    looks: &mut Looks,
+) -> Result<Directive, MarkupFault>
+    requires call { IsCall (block_of view.now) at invocation.now }
+    requires few { looks.old < 2 ^ 120 }
+    ensures outcome { Gives (λ found. directives.outcome_of found ≡ directives.directive_at true (block_of view.now) at invocation.now place paragraph) result }
+    ensures parts { Gives (λ found. spec.IsDirectiveIn (block_of view.now) found) result }
+    ensures looks { looks.new ≤ looks.old + 1 + 2 * (invocation.now.block.to - invocation.now.block.from) }
+{
+    let block = invocation.block;
+    let name = called(alloc, view, at, invocation, looks)?;
+    match permitted(name, place) {
+        Ok(name) => {
+            let reading = read(alloc, name, is_late(at, block), view, block, looks)?;
+            Ok(judged(reading, place, paragraph, source_of(at, block)))
+        }
+        Err(fault) => Ok(Directive::Wrong {
+            fault,
+            source: source_of(at, block),
+        }),
+    }
+}
+
+/// The lines that a directive at line `at` stands in.
+fn source_of(at: usize, block: Part) -> Part
+    ensures { result ≡ directives.lines_at at block }
+{
+    Part {
+        from: at,
+        to: block.to,
+        first_cut: 0,
+        rest_cut: 0,
+    }
+}
+
+/// Whether a block begins behind the line after the directive's.
+fn is_late(at: usize, block: Part) -> bool
+    ensures { result ≡ directives.is_late at block }
+{
+    at < block.from && 1 < block.from - at
+}
+
+/// A directive whose options and argument are right.
+#[derive(Drop)]
+struct Reading {
+    name: Name,
+    argument: Argument,
+    options: Vec<Setting>,
+    content: Content,
+}
+
+fn is_code(name: Name) -> bool
+    ensures { result ≡ directives.is_code_name name }
+{
+    matches!(name, Name::Code)
+}
+
+/// The first lines of a directive's block, up to the first blank one. Where the block of program code begins late, not in
+/// the line after the directive's, it is content.
+#[tactic(auto, unfolding(crate::specs::Directive::run_in))]
+fn first_run(
+    alloc: Global,
+    name: Name,
+    late: bool,
+    lines: &View<'_>,
+    looks: &mut Looks,
+) -> Result<Vec<Vec<char>>, AllocError>
+    requires few { looks.old + length (block_of lines.now) < 2 ^ 121 }
+    ensures texts { IfOk result (λ run. texts_of run.items ≡ directives.run_in name late (block_of lines.now)) }
+    ensures within { IfOk result (λ run. length run.items ≤ length (block_of lines.now)) }
+    ensures looks { looks.new ≤ looks.old + length (block_of lines.now) }
+{
+    if late && is_code(name) {
+        return Ok(Vec::new(alloc));
+    }
+    run_of(alloc, lines, looks)
+}
+
+/// The lines of a block.
+fn lines_of<'a>(view: &View<'a>, block: Part) -> View<'a>
+    requires { IsBlock (block_of view.now) block }
+    ensures lines { block_of result ≡ cut (block_of view.now) block.from block.to block.first_cut block.rest_cut }
+    ensures len { length (block_of result) ≡ block.to - block.from }
+{
+    view.part(block.from, block.to, block.first_cut, block.rest_cut)
+}
+
+/// Reads the block of a directive, up to the faults of its content.
+fn read(
+    alloc: Global,
+    name: Name,
+    late: bool,
+    view: &View<'_>,
+    block: Part,
+    looks: &mut Looks,
+) -> Result<Result<Reading, Detail>, MarkupFault>
+    requires block { IsBlock (block_of view.now) block }
+    requires few { looks.old < 2 ^ 120 + 1 }
+    ensures reading { Gives (λ reading. directives.reading_in reading ≡ directives.read_block name late block (cut (block_of view.now) block.from block.to block.first_cut block.rest_cut)) result }
+    ensures looks { looks.new ≤ looks.old + 2 * (block.to - block.from) }
+{
+    let lines = lines_of(view, block);
+    let run = first_run(alloc, name, late, &lines, looks)?;
+    let rest = past_blank(&lines, run.len(), looks);
+    read_run(alloc, name, block, &run, rest)
+}
+
+/// Reads a block by its first run of lines; `rest` is the place of the first line behind it that isn't blank.
+#[tactic(auto, unfolding(crate::specs::Directive::read_by))]
+fn read_run(
+    alloc: Global,
+    name: Name,
+    block: Part,
+    run: &[Vec<char>],
+    rest: usize,
+) -> Result<Result<Reading, Detail>, MarkupFault>
+    requires ordered { block.from ≤ block.to }
+    requires run { length run.now ≤ block.to - block.from }
+    requires rest { rest ≤ block.to - block.from }
+    ensures { Gives (λ reading. directives.reading_in reading ≡ directives.read_by name block (block.to - block.from) (texts_of run.now) (layouts.layout_at name (texts_of run.now) (block.to - block.from) rest)) result }
+{
+    let all = block.to - block.from;
+    let layout = layout_of(name, run, all, rest);
+    let content = content_of(block, layout, all);
+    let part = part_of(block, 0, layout.argument);
+    let before = front(run, layout.argument);
+    match fields_of(alloc, behind(run, layout.options))? {
+        Some(fields) => read_fields(alloc, name, content, before, part, &fields),
+        None => Ok(Err(Detail::InvalidOptionBlock)),
+    }
+}
+
+fn front(run: &[Vec<char>], n: usize) -> &[Vec<char>]
+    requires { n ≤ length run.now }
+    ensures { texts_of result.now ≡ take n (texts_of run.now) }
+{
+    &run[..n]
+}
+
+fn behind(run: &[Vec<char>], n: usize) -> &[Vec<char>]
+    requires { n ≤ length run.now }
+    ensures { texts_of result.now ≡ drop n (texts_of run.now) }
+{
+    &run[n..]
+}
+
+/// Reads the fields of a directive, and then its argument from some lines, which stand at `part`.
+fn read_fields(
+    alloc: Global,
+    name: Name,
+    content: Content,
+    lines: &[Vec<char>],
+    part: Part,
+    fields: &[Field],
+) -> Result<Result<Reading, Detail>, MarkupFault>
+    ensures { Gives (λ reading. directives.reading_in reading ≡ directives.read_parts name content (arguments.argument_of name (texts_of lines.now) part) (choices.settings_in name (choices.field_texts fields.now))) result }
+{
+    match settings_of(alloc, name, fields)? {
+        Ok(options) => read_argument(alloc, name, content, lines, part, options),
+        Err(detail) => Ok(Err(detail)),
+    }
+}
+
+/// Reads the argument of a directive from some lines, which stand at `part`.
+fn read_argument(
+    alloc: Global,
+    name: Name,
+    content: Content,
+    lines: &[Vec<char>],
+    part: Part,
+    options: Vec<Setting>,
+) -> Result<Result<Reading, Detail>, MarkupFault>
+    ensures { Gives (λ reading. directives.reading_in reading ≡ directives.with_argument name content (choices.choices_in options.items) (arguments.argument_of name (texts_of lines.now) part)) result }
+{
+    match argument_of(alloc, name, lines, part)? {
+        Ok(argument) => Ok(Ok(Reading {
+            name,
+            argument,
+            options,
+            content,
+        })),
+        Err(detail) => Ok(Err(detail)),
+    }
+}
+
+/// The lines at places `from` to `to - 1` of a block, as a part of the view that the block is a part of.
+fn part_of(block: Part, from: usize, to: usize) -> Part
+    requires ordered { from ≤ to }
+    requires within { block.from + to ≤ block.to }
+    ensures { result ≡ spec.part_of block from to }
+{
+    Part {
+        from: block.from + from,
+        to: block.from + to,
+        first_cut: first_cut(block, from),
+        rest_cut: block.rest_cut,
+    }
+}
+
+/// How many characters the line at place `from` of a block loses.
+fn first_cut(block: Part, from: usize) -> usize
+    ensures { result ≡ spec.first_cut block from }
+{
+    if from == 0 {
+        block.first_cut
+    } else {
+        block.rest_cut
+    }
+}
+
+/// The content of a block with `all` lines.
+fn content_of(block: Part, layout: Layout, all: usize) -> Content
+    requires all { block.from + all ≤ block.to }
+    requires first { layout.first ≤ all }
+    requires second { layout.second ≤ all }
+    ensures { result ≡ spec.content_of block layout all }
+{
+    Content {
+        first: part_of(block, 0, layout.first),
+        second: part_of(block, layout.second, all),
+    }
+}
+
+fn is_empty(content: Content) -> bool
+    ensures { result ≡ spec.is_empty content }
+{
+    content.first.from == content.first.to && content.second.from == content.second.to
+}
+
+/// What was read of a directive, judged by its content.
+fn judged(
+    reading: Result<Reading, Detail>,
+    place: Place,
+    paragraph: bool,
+    source: Part,
+) -> Directive
+    ensures { directives.outcome_of result ≡ directives.outcome_at source (and_then (directives.judged place paragraph) (directives.of_block (directives.reading_in reading))) }
+{
+    match reading {
+        Ok(reading) => by_content(reading, place, paragraph, source),
+        Err(detail) => Directive::Wrong {
+            fault: DirectiveFault::Inside(detail),
+            source,
+        },
+    }
+}
+
+/// A directive whose options and argument are right, judged by its content.
+fn by_content(reading: Reading, place: Place, paragraph: bool, source: Part) -> Directive
+    ensures { directives.outcome_of result ≡ directives.outcome_at source (directives.judged place paragraph (directives.read_in reading)) }
+{
+    match content_fault(reading.name, is_empty(reading.content), place, paragraph) {
+        Some(fault) => Directive::Wrong { fault, source },
+        None => found(reading),
+    }
+}
+
+fn found(reading: Reading) -> Directive
+    ensures { directives.outcome_of result ≡ directives.found (directives.read_in reading) }
+{
+    let Reading {
+        name,
+        argument,
+        options,
+        content,
+    } = reading;
+    Directive::Found {
+        name,
+        argument,
+        options,
+        content,
+    }
+}

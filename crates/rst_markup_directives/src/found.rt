@@ -1,0 +1,41 @@
+//! What a directive is.
+use super::argument::Argument;
+use super::fault::DirectiveFault;
+use super::name::Name;
+use super::options::Setting;
+use rst_markup_blocks::Part;
+
+/// Where a directive stands.
+#[derive(Clone, Copy, Debug, PartialEq, Eq)]
+pub enum Place {
+    /// At the level of sections.
+    Top,
+    /// In a body element.
+    Body,
+    /// In a substitution definition.
+    Substitution,
+}
+
+/// The content of a directive, in two parts, of which each may be empty: one before its options, and one after them.
+#[derive(Clone, Copy, Debug, PartialEq, Eq)]
+pub struct Content {
+    pub first: Part,
+    pub second: Part,
+}
+
+/// What a directive is.
+#[derive(Debug, Drop)]
+pub enum Directive {
+    /// A right one: its options stand in the order of the source.
+    Found {
+        name: Name,
+        argument: Argument,
+        options: Vec<Setting>,
+        content: Content,
+    },
+    /// A wrong one, and the lines that it stands in.
+    Wrong {
+        fault: DirectiveFault,
+        source: Part,
+    },
+}

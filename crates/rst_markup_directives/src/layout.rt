@@ -1,0 +1,96 @@
+//! Where the parts of a directive's block stand.
+ghost use Rattle.std.specs.Prelude.{◌≡◌, ◌≤◌, length};
+ghost use Rattle.rst_markup_directives.specs.Lines.{texts_of};
+ghost use Rattle.rst_markup_directives.specs.Layout as spec;
+
+use super::field::begins_field;
+use super::name::{Holds, Name, Takes};
+
+/// The parts of a block, by places of its lines: the argument has those before `argument`; the first part of the
+/// content those before `first`; the options those from `options` up to the first blank line; and the second part of
+/// the content those from `second` on.
+#[derive(Clone, Copy)]
+pub(crate) struct Layout {
+    pub argument: usize,
+    pub first: usize,
+    pub options: usize,
+    pub second: usize,
+}
+
+/// How many of some lines stand before the first that begins a field.
+fn before_field(run: &[Vec<char>]) -> usize
+    ensures value { result ≡ spec.before_field (texts_of run.now) }
+    ensures within { result ≤ length run.now }
+{
+    for (i, line) in run.iter().enumerate() {
+        if begins_field(line) {
+            return i;
+        }
+    }
+    run.len()
+}
+
+/// The parts of a block of `all` lines that begins with this run, up to a blank line; `rest` is the place of the first line
+/// behind the run that isn't blank.
+#[tactic(auto, unfolding(crate::specs::Layout::layout_at))]
+pub(crate) fn layout_of(name: Name, run: &[Vec<char>], all: usize, rest: usize) -> Layout
+    ensures value { result ≡ spec.layout_at name (texts_of run.now) all rest }
+    ensures argument { result.argument ≤ length run.now }
+    ensures options { result.options ≤ length run.now }
+    ensures first { length run.now ≤ all → result.first ≤ all }
+    ensures second { rest ≤ all → result.second ≤ all }
+{
+    match (name.holds(), name.takes()) {
+        (Holds::Paragraph, _) => content_alone(run, all),
+        (_, Takes::Nothing) => parts_without_argument(run, all, rest),
+        _ => parts_with_argument(run, rest),
+    }
+}
+
+/// A block that is content alone.
+#[tactic(auto, using(crate::proofs::FieldLemmas::length_texts))]
+fn content_alone(run: &[Vec<char>], all: usize) -> Layout
+    ensures value { result ≡ spec.content_alone (texts_of run.now) all }
+    ensures options { result.options ≡ length run.now }
+{
+    Layout {
+        argument: 0,
+        first: all,
+        options: run.len(),
+        second: all,
+    }
+}
+
+/// A block whose argument ends where the options begin.
+fn parts_with_argument(run: &[Vec<char>], rest: usize) -> Layout
+    ensures value { result ≡ spec.parts_with_argument (texts_of run.now) rest }
+    ensures argument { result.argument ≤ length run.now }
+{
+    let from = before_field(run);
+    Layout {
+        argument: from,
+        first: 0,
+        options: from,
+        second: rest,
+    }
+}
+
+/// A block without an argument, whose lines before the options are content.
+#[tactic(auto, using(crate::proofs::FieldLemmas::length_texts))]
+fn parts_without_argument(run: &[Vec<char>], all: usize, rest: usize) -> Layout
+    ensures value { result ≡ spec.parts_without_argument (texts_of run.now) all rest }
+    ensures options { result.options ≤ length run.now }
+    ensures first { length run.now ≤ all → result.first ≤ all }
+    ensures second { rest ≤ all → result.second ≤ all }
+{
+    let from = before_field(run);
+    if from == run.len() {
+        return content_alone(run, all);
+    }
+    Layout {
+        argument: 0,
+        first: from,
+        options: from,
+        second: rest,
+    }
+}

@@ -1,0 +1,223 @@
+//! The options of a directive's block.
+ghost use Rattle.std.specs.Prelude.{◌≡◌, ◌+◌, ◌≤◌, ◌<◌, [], length, drop, take_while, IfOk, option_map};
+ghost use Rattle.std.specs.List.{prefix_len};
+ghost use Rattle.rst_markup_lines.specs.Front.{begins_with};
+ghost use Rattle.rst_markup_directives.specs.Faults.{Gives};
+ghost use Rattle.rst_markup_directives.specs.Lines.{texts_of};
+ghost use Rattle.rst_markup_directives.specs.Options as spec;
+
+use super::characters::{is_blank, is_same_word, past, spaces, text_from};
+use super::fault::{Detail, MarkupFault};
+use super::field::field_mark;
+use super::name::Name;
+use super::option::OptionName;
+use super::value::{OptionValue, option_value};
+use std::alloc::{AllocError, Global};
+
+/// An option of a directive, with its value.
+#[derive(Debug, Drop)]
+pub struct Setting {
+    pub option: OptionName,
+    pub value: OptionValue,
+}
+
+/// A field among the options: its name as it is written, and its lines joined by line feeds.
+#[derive(Drop)]
+pub(crate) struct Field {
+    pub name: Vec<char>,
+    pub value: Vec<char>,
+}
+
+/// How many of some lines at the front begin with a space.
+fn deep_len(run: &[Vec<char>]) -> usize
+    ensures value { result ≡ prefix_len (begins_with 32) (texts_of run.now) }
+    ensures within { result ≤ length run.now }
+{
+    for (i, line) in run.iter().enumerate() {
+        if line.first() != Some(&' ') {
+            return i;
+        }
+    }
+    run.len()
+}
+
+/// The least indentation of some lines.
+fn least_indentation(lines: &[Vec<char>]) -> usize
+    ensures { result ≡ spec.least_indentation (texts_of lines.now) }
+{
+    let Some(first) = lines.first() else {
+        return 0;
+    };
+    let mut least = spaces(first);
+    for line in lines {
+        least = least.min(spaces(line));
+    }
+    least
+}
+
+/// A text, unless it is empty, and some lines without their first characters, as many as `cut`, joined by line feeds.
+pub(crate) fn joined(
+    alloc: Global,
+    first: &[char],
+    lines: &[Vec<char>],
+    cut: usize,
+) -> Result<Vec<char>, AllocError>
+    ensures { IfOk result (λ text. text.items ≡ spec.joined first.now (texts_of lines.now) cut) }
+{
+    let mut text = Vec::from_slice(alloc, first)?;
+    let mut due = !is_blank(first);
+    for line in lines {
+        if due {
+            text.push('\n')?;
+        }
+        text.extend_from_slice(past(line, cut))?;
+        due = true;
+    }
+    Ok(text)
+}
+
+/// The fields of some lines, of which none is blank; or none where a line neither begins a field nor is indented below
+/// one.
+pub(crate) fn fields_of(alloc: Global, run: &[Vec<char>]) -> Result<Option<Vec<Field>>, AllocError>
+    ensures { IfOk result (λ fields. option_map (λ v. spec.field_texts v.items) fields ≡ spec.fields_in (texts_of run.now)) }
+{
+    let mut fields = Vec::new(alloc);
+    let mut i = 0;
+    while i < run.len() {
+        let below = below_of(run, i);
+        let Some(field) = field_of(alloc, &run[i], below)? else {
+            return Ok(None);
+        };
+        fields.push(field)?;
+        i += 1 + below.len();
+    }
+    Ok(Some(fields))
+}
+
+/// The indented lines directly below a line.
+fn below_of(run: &[Vec<char>], i: usize) -> &[Vec<char>]
+    requires { i < length run.now }
+    ensures texts { texts_of result.now ≡ take_while (begins_with 32) (drop (i + 1) (texts_of run.now)) }
+    ensures len { length result.now ≡ prefix_len (begins_with 32) (drop (i + 1) (texts_of run.now)) }
+    ensures within { i + 1 + length result.now ≤ length run.now }
+{
+    let behind = &run[i + 1..];
+    &behind[..deep_len(behind)]
+}
+
+/// The field that a line begins, with the indented lines below it.
+#[tactic(auto, unfolding(crate::specs::Options::field_in))]
+fn field_of(alloc: Global, line: &[char], below: &[Vec<char>]) -> Result<Option<Field>, AllocError>
+    ensures { IfOk result (λ field. option_map spec.field_text field ≡ spec.field_in line.now (texts_of below.now)) }
+{
+    let Some(mark) = field_mark(line) else {
+        return Ok(None);
+    };
+    let name = Vec::from_slice(alloc, &line[mark.name.from..mark.name.to])?;
+    let value = joined(
+        alloc,
+        &line[mark.marker.cut..],
+        below,
+        least_indentation(below),
+    )?;
+    Ok(Some(Field { name, value }))
+}
+
+/// Whether a field names no option of a directive.
+fn is_unknown(directive: Name, field: &Field) -> bool
+    ensures { result ≡ spec.is_unknown directive field.now.name.items }
+{
+    match OptionName::of(&field.name) {
+        Some(option) => !directive.has_option(option),
+        None => true,
+    }
+}
+
+/// Whether a name is that of one of some fields.
+fn is_field_name(name: &[char], fields: &[Field]) -> bool
+    ensures { result ≡ spec.is_field_name name.now (spec.field_texts fields.now) }
+{
+    for field in fields {
+        if is_same_word(&field.name, name) {
+            return true;
+        }
+    }
+    false
+}
+
+/// The name of the first field that names no option of a directive.
+fn first_unknown(directive: Name, fields: &[Field]) -> Option<&[char]>
+    ensures { option_map (λ name. name.now) result ≡ spec.first_unknown directive (spec.field_texts fields.now) }
+{
+    for field in fields {
+        if is_unknown(directive, field) {
+            return Some(field.name.as_slice());
+        }
+    }
+    None
+}
+
+/// The name of the first field that one before it has.
+fn first_again(fields: &[Field]) -> Option<&[char]>
+    ensures { option_map (λ name. name.now) result ≡ spec.first_again (spec.field_texts fields.now) }
+{
+    for i in 0..fields.len() {
+        if is_field_name(&fields[i].name, &fields[..i]) {
+            return Some(fields[i].name.as_slice());
+        }
+    }
+    None
+}
+
+/// The settings of a directive's fields, or what is wrong: of all fields, an unknown option, then a duplicate one, then
+/// a wrong value.
+#[tactic(auto, unfolding(crate::specs::Options::settings_in))]
+pub(crate) fn settings_of(
+    alloc: Global,
+    directive: Name,
+    fields: &[Field],
+) -> Result<Result<Vec<Setting>, Detail>, MarkupFault>
+    ensures { Gives (λ settings. spec.settings_shown settings ≡ spec.settings_in directive (spec.field_texts fields.now)) result }
+{
+    if let Some(name) = first_unknown(directive, fields) {
+        let name = text_from(alloc, name)?;
+        return Ok(Err(Detail::UnknownOption(name)));
+    }
+    if let Some(name) = first_again(fields) {
+        let name = text_from(alloc, name)?;
+        return Ok(Err(Detail::DuplicateOption(name)));
+    }
+    choices_of(alloc, directive, fields)
+}
+
+/// The settings that fields make, or the first of them whose option can't have its value.
+fn choices_of(
+    alloc: Global,
+    directive: Name,
+    fields: &[Field],
+) -> Result<Result<Vec<Setting>, Detail>, MarkupFault>
+    ensures { Gives (λ settings. spec.settings_shown settings ≡ spec.choices_of directive (spec.field_texts fields.now)) result }
+{
+    let mut settings = Vec::new(alloc);
+    for field in fields {
+        let Some(setting) = setting_of(alloc, directive, field)? else {
+            let name = text_from(alloc, &field.name)?;
+            return Ok(Err(Detail::InvalidValue(name)));
+        };
+        settings.push(setting)?;
+    }
+    Ok(Ok(settings))
+}
+
+/// The setting that a field makes, or none where its option can't have its value.
+fn setting_of(alloc: Global, directive: Name, field: &Field) -> Result<Option<Setting>, MarkupFault>
+    ensures { Gives (λ setting. option_map spec.choice_in setting ≡ spec.choice_of directive (spec.field_text field.now)) result }
+{
+    let Some(option) = OptionName::of(&field.name) else {
+        return Ok(None);
+    };
+    match option_value(alloc, directive, option, &field.value)? {
+        Some(value) => Ok(Some(Setting { option, value })),
+        None => Ok(None),
+    }
+}

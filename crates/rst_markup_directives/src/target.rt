@@ -1,0 +1,189 @@
+//! What the text of a target means.
+ghost use Rattle.std.specs.Prelude.{◌≡◌, ◌+◌, ◌<◌, ◌≤◌, ◌&&◌, ◌==◌, not, IfOk, IsTrue, Some, option_map, length};
+ghost use Rattle.std.specs.Str.{chars};
+ghost use Rattle.rst_markup_directives.specs.Faults.{Gives};
+ghost use Rattle.rst_inline_scan.specs.Characters.{without_white};
+ghost use Rattle.rst_inline_scan.specs.Escapes.{unescaped};
+ghost use Rattle.rst_markup_directives.specs.Escapes as escapes;
+ghost use Rattle.rst_markup_directives.specs.Target as spec;
+
+use super::characters::text_from;
+use super::fault::MarkupFault;
+use rst_inline_scan::{escapes, has, is_dark, is_simple_name, unescaped};
+use rst_text::{characters_of, is_white};
+use std::alloc::{AllocError, Global};
+
+/// What a target leads to.
+#[derive(Debug, Drop)]
+pub enum Target {
+    /// Another target, by its name as it is written, without escapes.
+    Name(String),
+    /// A URI, without escapes and white characters.
+    Uri(String),
+}
+
+/// What the text of a target means, where something is left of it: a simple name and `_`, or a phrase in backquotes
+/// and `_`, is a name, and any other text is a URI. The lines of the text lose their indentation, and empty ones don't
+/// count.
+///
+/// The only refusal is [`MarkupFault::NoMemory`].
+pub fn target_value(alloc: Global, text: &str) -> Result<Option<Target>, MarkupFault>
+    ensures { Gives (λ target. option_map spec.destination_of target ≡ spec.target_value (chars text.now)) result }
+{
+    let characters = characters_of(alloc, text)?;
+    let text = target_text(alloc, &characters)?;
+    destination_in(alloc, &text)
+}
+
+/// What a text means as the text of a target.
+#[tactic(auto, unfolding(crate::specs::Target::destination_in, crate::specs::Target::phrase_in))]
+fn destination_in(alloc: Global, text: &[char]) -> Result<Option<Target>, MarkupFault>
+    ensures { Gives (λ target. option_map spec.destination_of target ≡ spec.destination_in text.now) result }
+{
+    if is_simple_reference(text) {
+        return named(alloc, &text[..text.len() - 1]);
+    }
+    if is_phrase_reference(text) {
+        return named_by_phrase(alloc, &text[1..text.len() - 2]);
+    }
+    located(alloc, text)
+}
+
+fn named(alloc: Global, name: &[char]) -> Result<Option<Target>, MarkupFault>
+    ensures { Gives (λ target. option_map spec.destination_of target ≡ Some (spec.named name.now)) result }
+{
+    let name = text_from(alloc, name)?;
+    Ok(Some(Target::Name(name)))
+}
+
+fn named_by_phrase(alloc: Global, phrase: &[char]) -> Result<Option<Target>, MarkupFault>
+    ensures { Gives (λ target. option_map spec.destination_of target ≡ Some (spec.named (unescaped phrase.now))) result }
+{
+    let bare = unescaped(alloc, phrase)?;
+    named(alloc, &bare)
+}
+
+fn located(alloc: Global, text: &[char]) -> Result<Option<Target>, MarkupFault>
+    ensures { Gives (λ target. option_map spec.destination_of target ≡ spec.located_if (without_white (unescaped text.now))) result }
+{
+    let bare = unescaped(alloc, text)?;
+    let uri = without_white(alloc, &bare)?;
+    located_if(alloc, &uri)
+}
+
+fn located_if(alloc: Global, uri: &[char]) -> Result<Option<Target>, MarkupFault>
+    ensures { Gives (λ target. option_map spec.destination_of target ≡ spec.located_if uri.now) result }
+{
+    if uri.is_empty() {
+        return Ok(None);
+    }
+    let uri = text_from(alloc, uri)?;
+    Ok(Some(Target::Uri(uri)))
+}
+
+/// The lines of a text without their indentation, joined by line feeds, empty ones left out.
+fn target_text(alloc: Global, text: &[char]) -> Result<Vec<char>, AllocError>
+    ensures { IfOk result (λ joined. joined.items ≡ spec.target_text text.now) }
+{
+    let mut joined = Vec::new(alloc);
+    let mut begun = false;
+    let mut fresh = true;
+    let mut due = false;
+    for c in text {
+        if *c == '\n' {
+            due = begun;
+            fresh = true;
+            continue;
+        }
+        if fresh && *c == ' ' {
+            continue;
+        }
+        if due {
+            joined.push('\n')?;
+            due = false;
+        }
+        joined.push(*c)?;
+        begun = true;
+        fresh = false;
+    }
+    Ok(joined)
+}
+
+/// Whether a character behind a text is escaped.
+fn ends_escaping(text: &[char]) -> bool
+    ensures { result ≡ escapes.ends_escaping text.now }
+{
+    let mut escaped = false;
+    for c in text {
+        escaped = escapes(*c, escaped);
+    }
+    escaped
+}
+
+/// Whether a text is a reference by a simple name.
+#[tactic(auto, unfolding(crate::specs::Target::is_simple_reference))]
+fn is_simple_reference(text: &[char]) -> bool
+    ensures value { result ≡ spec.is_simple_reference text.now }
+    ensures long { IsTrue result → 0 < length text.now }
+{
+    let n = text.len();
+    0 < n && (has(text, n - 1, '_') && is_simple_name(&text[..n - 1]))
+}
+
+/// Whether a text is a reference by a phrase in backquotes.
+#[tactic(auto, unfolding(crate::specs::Target::is_phrase_reference, crate::specs::Target::phrase_in))]
+fn is_phrase_reference(text: &[char]) -> bool
+    ensures value { result ≡ spec.is_phrase_reference text.now }
+    ensures long { IsTrue result → 4 ≤ length text.now }
+{
+    let n = text.len();
+    4 <= n
+        && (has(text, 0, '`')
+            && (has(text, n - 1, '_')
+                && (has(text, n - 2, '`')
+                    && (!ends_escaping(&text[..n - 2]) && is_phrase(&text[1..n - 2])))))
+}
+
+/// Whether a text may stand in backquotes as a phrase: it isn't empty, white stands at neither end, and each backquote
+/// in it is escaped.
+#[tactic(auto, unfolding(crate::specs::Target::is_phrase))]
+fn is_phrase(text: &[char]) -> bool
+    ensures { result ≡ spec.is_phrase text.now }
+{
+    is_dark(text, 0) && (is_dark(text, text.len() - 1) && !has_bare_backquote(text))
+}
+
+/// Whether a character is a backquote that isn't escaped.
+fn is_bare_backquote(c: char, escaped: bool) -> bool
+    ensures { result ≡ (c == 96 && not escaped) }
+{
+    c == '`' && !escaped
+}
+
+/// Whether a backquote in a text isn't escaped.
+fn has_bare_backquote(text: &[char]) -> bool
+    ensures { result ≡ escapes.has_bare_backquote text.now }
+{
+    let mut escaped = false;
+    for c in text {
+        if is_bare_backquote(*c, escaped) {
+            return true;
+        }
+        escaped = escapes(*c, escaped);
+    }
+    false
+}
+
+/// A text without its white characters.
+pub(crate) fn without_white(alloc: Global, text: &[char]) -> Result<Vec<char>, AllocError>
+    ensures { IfOk result (λ dark. dark.items ≡ without_white text.now) }
+{
+    let mut dark = Vec::new(alloc);
+    for c in text {
+        if is_white(*c) {
+            continue;
+        }
+        dark.push(*c)?;
+    }
+    Ok(dark)
+}

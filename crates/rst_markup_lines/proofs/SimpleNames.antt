@@ -1,0 +1,130 @@
+-- A simple name is read from its front.
+use Rattle.std.proofs.Common.{◌≡◌, ⊎_elim, ℕ, zero, suc, ◌+◌, ◌-◌, ◌<◌, ◌≤◌, Bool, true, false, not, ltb, ◌&&◌, ◌||◌, get_or, List, [], ◌∷◌, length, length-drop, drop, None, Some, arith, refl, sym, ap, ◌∙◌, subst}
+use Rattle.std.proofs.lemmas.Bool.{and_parts, lt-ltb, le-ltb}
+use Rattle.std.proofs.lemmas.List.{drop-drop}
+use Rattle.std.proofs.lemmas.Bool.Decides.{nat_tests}
+use Rattle.rst_text.specs.Characters.{is_alphanumeric}
+use Rattle.rst_text.proofs.PlacesLemmas.{cases_bool, lt_eq_gt}
+use Rattle.rst_inline_scan.specs.Characters.{is_alnum_at}
+use Rattle.rst_inline_scan.specs.Names.{is_joint, is_name_at, name_stop, simple_name}
+use Rattle.rst_inline_scan.proofs.NameLemmas.{name_stop-is}
+use Rattle.rst_markup_lines.specs.Front.{first}
+
+-- a letter or a number, or a joint with one of these behind it
+abbrev pub goes_on : ℕ → List ℕ → Bool
+goes_on c cs = is_alphanumeric c || (is_joint c && is_alnum_at cs 0)
+
+-- the first character of what stands behind n characters
+pub at-front : (t cs : List ℕ) (c n : ℕ) → drop n t ≡ cs → first cs ≡ Some c → get_or t n 0 ≡ c
+at-front t [] c n e h = cc
+at-front [] (d ∷ ds) c zero e h = cc
+at-front [] (d ∷ ds) c (suc n) e h = cc
+at-front (x ∷ xs) (d ∷ ds) c zero e h = cc
+at-front (x ∷ xs) (d ∷ ds) c (suc n) e h = at-front xs (d ∷ ds) c n e h
+
+-- where a character stands behind n characters, these are fewer than all
+pub inside : (t cs : List ℕ) (c n : ℕ) → drop n t ≡ cs → first cs ≡ Some c → n < length t
+inside t [] c n e h = cc
+inside t (d ∷ ds) c n e h = let behind : length t - n ≡ suc (length ds) = sym (length-drop n t) ∙ ap length e in omega arith
+
+alnum-here : (t cs : List ℕ) (c n : ℕ) → drop n t ≡ cs → first cs ≡ Some c → is_alnum_at t n ≡ is_alphanumeric c
+alnum-here t cs c n e h = rw (lt-ltb n (length t) (inside t cs c n e h), at-front t cs c n e h) refl
+
+-- what stands behind n characters begins with a letter or a number where one stands at the place
+alnum-drop : (t cs : List ℕ) (n : ℕ) → drop n t ≡ cs → is_alnum_at cs 0 ≡ is_alnum_at t n
+alnum-drop t [] n e = let behind : length t - n ≡ 0 = sym (length-drop n t) ∙ ap length e in rw (le-ltb n (length t) (omega arith)) refl
+alnum-drop t (d ∷ ds) n e = alnum-here (d ∷ ds) (d ∷ ds) d 0 refl refl ∙ sym (alnum-here t (d ∷ ds) d n e refl)
+
+alnum-behind : (t cs : List ℕ) (n : ℕ) → drop n t ≡ cs → is_alnum_at (drop 1 cs) 0 ≡ is_alnum_at t (n + 1)
+alnum-behind t cs n e = alnum-drop t (drop 1 cs) (n + 1) (sym (drop-drop 1 n t) ∙ ap (drop 1) e)
+
+or_right : (a b : Bool) → a ≡ false → (a || b) ≡ true → b ≡ true
+or_right true b e h = cc
+or_right false b e h = h
+
+-- a place of a simple name that holds no letter or number has one behind it
+joint_behind : (t : List ℕ) (m : ℕ) → is_name_at t m ≡ true → is_alnum_at t m ≡ false → is_alnum_at t (m + 1) ≡ true
+unfolding is_name_at
+joint_behind t m h none =
+    let joint = or_right (is_alnum_at t m) (is_joint (get_or t m 0) && (ltb 0 m && (is_alnum_at t (m - 1) && is_alnum_at t (m + 1)))) none h in
+    (and_parts (is_alnum_at t (m - 1)) (is_alnum_at t (m + 1)) (and_parts (ltb 0 m) (is_alnum_at t (m - 1) && is_alnum_at t (m + 1))
+    (and_parts (is_joint (get_or t m 0)) (ltb 0 m && (is_alnum_at t (m - 1) && is_alnum_at t (m + 1))) joint).1).1).1
+
+name-alnum : (t : List ℕ) (n : ℕ) → is_alnum_at t n ≡ true → is_name_at t n ≡ true
+unfolding is_name_at
+name-alnum t n h = rw h refl
+
+name-joint : (t : List ℕ) (m : ℕ) → is_joint (get_or t (suc m) 0) ≡ true → is_alnum_at t m ≡ true → is_alnum_at t (suc m + 1) ≡ true → is_name_at t (suc m) ≡ true
+unfolding is_name_at
+name-joint t m j before behind =
+    let one : suc m - 1 ≡ m = omega arith in
+    let front : is_alnum_at t (suc m - 1) ≡ true = ap (is_alnum_at t) one ∙ before in
+    rw (j, front, behind) (grind (arith, nat_tests))
+
+no-name : (t : List ℕ) (n : ℕ) → is_alnum_at t n ≡ false → (is_joint (get_or t n 0) && is_alnum_at t (n + 1)) ≡ false → is_name_at t n ≡ false
+unfolding is_name_at
+no-name t n none h = by (is_alnum_at t n) (is_joint (get_or t n 0)) (ltb 0 n) (is_alnum_at t (n - 1)) (is_alnum_at t (n + 1)) none h
+  where
+    by : (a j p q r : Bool) → a ≡ false → (j && r) ≡ false → (a || (j && (p && (q && r)))) ≡ false
+    by true j p q r e h = cc
+    by false false p q r e h = refl
+    by false true false q r e h = refl
+    by false true true false r e h = refl
+    by false true true true r e h = h
+
+-- The character reached goes on with the name,
+here : (t cs : List ℕ) (c n : ℕ) → drop n t ≡ cs → first cs ≡ Some c → is_alnum_at t 0 ≡ true → ((k : ℕ) → k < n → is_name_at t k ≡ true) → goes_on c (drop 1 cs) ≡ true → is_name_at t n ≡ true
+here t cs c n e f begun names h = ⊎_elim
+    (λ yes. name-alnum t n (alnum-here t cs c n e f ∙ yes))
+    (λ none.
+    let parts = and_parts (is_joint c) (is_alnum_at (drop 1 cs) 0) (or_right (is_alphanumeric c) (is_joint c && is_alnum_at (drop 1 cs) 0) none h) in
+    let behind : is_alnum_at t (n + 1) ≡ true = sym (alnum-behind t cs n e) ∙ parts.1 in
+    let joint : is_joint (get_or t n 0) ≡ true = ap is_joint (at-front t cs c n e f) ∙ parts.0 in
+    by n (alnum-here t cs c n e f ∙ none) joint behind names)
+    (cases_bool (is_alphanumeric c))
+  where
+    by : (n : ℕ) → is_alnum_at t n ≡ false → is_joint (get_or t n 0) ≡ true → is_alnum_at t (n + 1) ≡ true → ((k : ℕ) → k < n → is_name_at t k ≡ true) → is_name_at t n ≡ true
+    by zero none joint behind names = cc
+    by (suc m) none joint behind names = ⊎_elim
+        (λ yes. name-joint t m joint yes behind)
+        (λ other.
+        let next : is_alnum_at t (m + 1) ≡ true = joint_behind t m (names m (omega arith)) other in
+        let same : m + 1 ≡ suc m = omega arith in
+        let both : true ≡ false = sym next ∙ ap (is_alnum_at t) same ∙ none in cc)
+        (cases_bool (is_alnum_at t m))
+
+pub names-more : (t cs : List ℕ) (c n : ℕ) → drop n t ≡ cs → first cs ≡ Some c → is_alnum_at t 0 ≡ true → ((k : ℕ) → k < n → is_name_at t k ≡ true) → goes_on c (drop 1 cs) ≡ true
+    → (k : ℕ) → k < n + 1 → is_name_at t k ≡ true
+names-more t cs c n e f begun names h = λ k below. ⊎_elim
+    (λ less. names k less)
+    (λ rest. ⊎_elim (λ same. subst (λ k. is_name_at t k ≡ true) (sym same) (here t cs c n e f begun names h)) (λ more. absurd (omega arith)) rest)
+    (lt_eq_gt k n)
+
+-- or ends it,
+pub name-stops : (t cs : List ℕ) (c n : ℕ) → drop n t ≡ cs → first cs ≡ Some c → is_alnum_at t 0 ≡ true → ((k : ℕ) → k < n → is_name_at t k ≡ true) → goes_on c (drop 1 cs) ≡ false
+    → n ≡ simple_name t
+unfolding simple_name
+name-stops t cs c n e f begun names h =
+    let parts = neither (is_alphanumeric c) (is_joint c && is_alnum_at (drop 1 cs) 0) h in
+    let joint : (is_joint (get_or t n 0) && is_alnum_at t (n + 1)) ≡ false = ap (λ d. is_joint d && is_alnum_at t (n + 1)) (at-front t cs c n e f) ∙ ap (λ b. is_joint c && b) (sym (alnum-behind t cs n e)) ∙ parts.1 in
+    let stop : is_name_at t n ≡ false = no-name t n (alnum-here t cs c n e f ∙ parts.0) joint in
+    let found : Some n ≡ name_stop t 0 = name_stop-is t 0 (Some n) begun (omega arith, inside t cs c n e f, ap not stop, λ k above below. ap not (names k below)) in
+    rw (begun, ← found) refl
+  where
+    neither : (a b : Bool) → (a || b) ≡ false → (a ≡ false) × (b ≡ false)
+    neither true b h = cc
+    neither false b h = (refl, h)
+
+-- or there is none.
+pub name-ends : (t cs : List ℕ) (n : ℕ) → drop n t ≡ cs → first cs ≡ None → n ≤ length t → is_alnum_at t 0 ≡ true → ((k : ℕ) → k < n → is_name_at t k ≡ true) → n ≡ simple_name t
+unfolding simple_name
+name-ends t (d ∷ ds) n e f within begun names = cc
+name-ends t [] n e f within begun names =
+    let rest : length t - n ≡ 0 = sym (length-drop n t) ∙ ap length e in
+    let all : n ≡ length t = omega arith in
+    let found : None ≡ name_stop t 0 = name_stop-is t 0 None begun (λ k above below. ap not (names k (omega arith))) in
+    rw (begun, ← found) all
+
+pub name-none : (t : List ℕ) → is_alnum_at t 0 ≡ false → 0 ≡ simple_name t
+unfolding simple_name
+name-none t h = rw h refl

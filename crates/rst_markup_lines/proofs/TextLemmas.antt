@@ -1,0 +1,40 @@
+-- Texts that are read from their front.
+use Rattle.std.proofs.Common.{◌≡◌, ℕ, suc, ◌+◌, ◌<◌, ◌≤◌, List, [], ◌∷◌, ◌++◌, length, drop, refl, sym, ap, ◌∙◌, arith, length-append, length-drop, IsSome, is_some, None, Bool, true, false, cond, ◌==◌}
+use Rattle.std.specs.Str.{chars, IsUtf8}
+use Rattle.std.proofs.Math.Utf8.{encode}
+use Rattle.rst_markup_lines.specs.Front.{first, begins_with}
+use Rattle.std.proofs.lemmas.Str.{chars_past_char, length-encode, len_utf8_bounds, chars-nil, length-le-encodes, encodes-chars}
+use Rattle.rst_text.specs.Block.{indentation}
+
+pub behind_char : (text whole rest after : List ℕ) (c : ℕ) → IsUtf8 text → whole ≡ text → whole ≡ encode c ++ after → rest ≡ after → chars rest ≡ drop 1 (chars text)
+behind_char text whole rest after c good e s r = rw r (sym (ap (λ cs. drop 1 cs) (chars_past_char text after c good (sym e ∙ s))))
+
+pub shorter_behind : (text whole rest after : List ℕ) (c : ℕ) → whole ≡ text → whole ≡ encode c ++ after → rest ≡ after → length rest < length text
+shorter_behind text whole rest after c e s r = omega (arith, ap length r, ap length e, ap length s, length-append (encode c) after, length-encode c, len_utf8_bounds c)
+
+pub none_behind : (text : List ℕ) → length text ≡ 0 → chars text ≡ drop 1 (chars text)
+none_behind [] h = rw chars-nil refl
+none_behind (b ∷ bs) h = absurd (omega arith)
+
+pub none_first : (text : List ℕ) (P : Type 0) → length text ≡ 0 → IsSome (first (chars text)) → P
+none_first [] P h some = absurd (let e : first (chars []) ≡ None = rw chars-nil refl in let n : ℕ = 0 in let s : IsSome (first (chars [])) = some in let t : is_some {T = ℕ} None ≡ true = ap is_some (sym e) ∙ s in cc)
+none_first (b ∷ bs) P h some = absurd (omega arith)
+
+pub length-chars : (text : List ℕ) → IsUtf8 text → length (chars text) ≤ length text
+length-chars text good = omega (arith, length-le-encodes (chars text), ap length (encodes-chars text good))
+
+indentation_le : (cs : List ℕ) → indentation cs ≤ length cs
+indentation_le [] = omega arith
+indentation_le (c ∷ cs) = by (c == 32) (indentation_le cs)
+  where
+    by : (b : Bool) → indentation cs ≤ length cs → cond b (suc (indentation cs)) 0 ≤ suc (length cs)
+    by true h = omega arith
+    by false h = omega arith
+
+some_there : (cs : List ℕ) → begins_with 32 cs ≡ true → 1 ≤ length cs
+some_there [] h = cc
+some_there (c ∷ cs) h = omega arith
+
+-- spaces behind n characters stand within the text
+pub indent_within : (n : ℕ) (cs : List ℕ) → begins_with 32 (drop n cs) ≡ true → n + indentation (drop n cs) ≤ length cs
+indent_within n cs h = omega (arith, indentation_le (drop n cs), some_there (drop n cs) h, length-drop n cs)

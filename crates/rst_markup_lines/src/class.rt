@@ -1,0 +1,59 @@
+//! Classes of characters, and runs of them at the front of a text.
+ghost use Rattle.std.specs.Prelude.{◌≡◌, ◌≤◌, length};
+ghost use Rattle.std.specs.Str.{chars};
+ghost use Rattle.rst_markup_lines.specs.Class as spec;
+
+use super::text::{after_first, front};
+use rst_text::is_alphanumeric;
+
+/// A class of characters.
+#[derive(Clone, Copy, Debug, PartialEq, Eq)]
+pub enum Class {
+    /// This character.
+    Only(char),
+    /// One of these two.
+    Either(char, char),
+    /// ASCII digits.
+    Digit,
+    /// ASCII letters.
+    Letter,
+    /// Letters and numbers by general category, `_` and `-`.
+    Option,
+    /// What stands in an argument in angle brackets: anything but these.
+    Bracketed,
+    /// What stands in a label: anything but a closing bracket.
+    Unbracketed,
+}
+
+/// Whether a character is in a class.
+#[tactic(auto, unfolding(crate::specs::Class::is_in))]
+fn is_in(class: Class, c: char) -> bool
+    ensures { result ≡ spec.is_in class c }
+{
+    match class {
+        Class::Only(a) => c == a,
+        Class::Either(a, b) => c == a || c == b,
+        Class::Digit => matches!(c, '0'..='9'),
+        Class::Letter => matches!(c, 'a'..='z' | 'A'..='Z'),
+        Class::Option => is_alphanumeric(c) || matches!(c, '_' | '-'),
+        Class::Bracketed => !matches!(c, '<' | '>'),
+        Class::Unbracketed => c != ']',
+    }
+}
+
+/// How many characters at the front of a text are in a class.
+pub fn run(class: Class, text: &str) -> usize
+    ensures value { result ≡ spec.run class (chars text.now) }
+    ensures within { result ≤ length text.now }
+{
+    let mut rest = text;
+    let mut n = 0;
+    while let Some(c) = front(rest) {
+        if !is_in(class, c) {
+            break;
+        }
+        n += 1;
+        rest = after_first(rest);
+    }
+    n
+}

@@ -1,0 +1,98 @@
+//! Where what an opening mark began is closed.
+ghost use Rattle.std.specs.Prelude.{◌≡◌, ◌≤◌, ◌<◌, ◌-◌, ◌&&◌, ◌==◌, not, drop, length, slice_get, IfSome};
+ghost use Rattle.std.specs.Str.{chars};
+ghost use Rattle.rst_text.specs.Block as block;
+ghost use Rattle.rst_markup_lines.specs.Closing as spec;
+ghost use Rattle.rst_markup_lines.specs.Front as fronts;
+
+use super::text::{after_first, begins_with, front, is_blank, is_loose};
+use rst_inline_scan::escapes;
+use rst_text::{is_white, skip};
+
+/// What closes.
+#[derive(Clone, Copy, Debug, PartialEq, Eq)]
+pub enum Closing {
+    /// A colon with a space or the end behind it.
+    Colon,
+    /// A backquote with such a colon behind it.
+    QuotedColon,
+    /// A bar with a character before it that isn't white.
+    Bar,
+    /// Such a bar with a space behind it.
+    SpacedBar,
+}
+
+/// Whether a character closes, by whether it is escaped, and whether one that isn't white stands before it.
+#[tactic(auto, unfolding(crate::specs::Closing::is_closing))]
+fn closes(closing: Closing, escaped: bool, dark: bool, c: char, behind: &str) -> bool
+    ensures { result ≡ (not escaped && spec.is_closing closing dark c (chars behind.now)) }
+{
+    if escaped {
+        return false;
+    }
+    match closing {
+        Closing::Colon => c == ':' && is_loose(behind),
+        Closing::QuotedColon => {
+            c == '`' && begins_with(':', behind) && is_loose(skip(behind, 1))
+        }
+        Closing::Bar => c == '|' && dark,
+        Closing::SpacedBar => c == '|' && dark && begins_with(' ', behind),
+    }
+}
+
+/// How many characters stand before the first one that closes and isn't escaped.
+pub fn closed(closing: Closing, text: &str) -> Option<usize>
+    ensures value { result ≡ spec.closed closing (chars text.now) }
+    ensures within { IfSome result (λ n. n < length text.now) }
+{
+    let mut rest = text;
+    let mut n = 0;
+    let mut escaped = false;
+    let mut dark = false;
+    while let Some(letter) = front(rest) {
+        let behind = after_first(rest);
+        if closes(closing, escaped, dark, letter, behind) {
+            return Some(n);
+        }
+        n += 1;
+        escaped = escapes(letter, escaped);
+        dark = !is_white(letter);
+        rest = behind;
+    }
+    None
+}
+
+/// The last byte of a text.
+fn last_byte(text: &str) -> Option<u8>
+    ensures { result ≡ slice_get text.now (length text.now - 1) }
+{
+    text.as_bytes().last().copied()
+}
+
+/// Whether a text ends in two colons that aren't escaped.
+pub fn ends_in_colons(text: &str) -> bool
+    ensures { result ≡ spec.ends_in_colons (chars text.now) }
+{
+    // A walk from the front finds what is escaped. Few texts need it.
+    if last_byte(text) != Some(b':') {
+        return false;
+    }
+    let mut rest = text;
+    let mut escaped = false;
+    while let Some(c) = front(rest) {
+        let behind = after_first(rest);
+        if is_colon_pair(escaped, c, behind) {
+            return true;
+        }
+        escaped = escapes(c, escaped);
+        rest = behind;
+    }
+    false
+}
+
+/// Whether a character and what is behind it are two colons.
+fn is_colon_pair(escaped: bool, c: char, behind: &str) -> bool
+    ensures { result ≡ (not escaped && (c == 58 && (fronts.begins_with 58 (chars behind.now) && block.is_blank (drop 1 (chars behind.now))))) }
+{
+    !escaped && c == ':' && begins_with(':', behind) && is_blank(skip(behind, 1))
+}

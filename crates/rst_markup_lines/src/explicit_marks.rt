@@ -1,0 +1,293 @@
+//! Marks of explicit markup: `..` and `__`, and what stands behind `..`.
+ghost use Rattle.std.specs.Prelude.{◌≡◌, ◌<◌, ◌≤◌, ◌-◌, ◌^◌, ◌&&◌, ◌||◌, true, drop, take, length};
+ghost use Rattle.std.specs.Str.{chars};
+ghost use Rattle.rst_text.specs.Characters as characters;
+ghost use Rattle.rst_inline_scan.specs.Characters.{is_alnum_at};
+ghost use Rattle.rst_inline_scan.specs.Names as names;
+ghost use Rattle.rst_markup_lines.specs.ExplicitMarks as spec;
+ghost use Rattle.rst_markup_lines.specs.Front.{begins_with};
+
+use super::class::{Class, run};
+use super::closing::{Closing, closed};
+use super::marker::{Marker, marker_of};
+use super::text::{after_first, begins_with, front, is_blank};
+use rst_inline_scan::is_joint;
+use rst_text::{is_alphanumeric, is_white, skip};
+
+/// The marker of explicit markup: `..`.
+#[tactic(auto, unfolding(crate::specs::ExplicitMarks::dots))]
+pub fn dots(text: &str) -> Option<Marker>
+    ensures { result ≡ spec.dots (chars text.now) }
+{
+    if begins_with('.', text) && begins_with('.', skip(text, 1)) {
+        marker_of(2, text)
+    } else {
+        None
+    }
+}
+
+/// The marker of an anonymous target: `__`.
+#[tactic(auto, unfolding(crate::specs::ExplicitMarks::underscores))]
+pub fn underscores(text: &str) -> Option<Marker>
+    ensures { result ≡ spec.underscores (chars text.now) }
+{
+    if begins_with('_', text) && begins_with('_', skip(text, 1)) {
+        marker_of(2, text)
+    } else {
+        None
+    }
+}
+
+/// Whether a text begins with a letter or a number.
+fn begins_alphanumeric(text: &str) -> bool
+    ensures { result ≡ is_alnum_at (chars text.now) 0 }
+{
+    match front(text) {
+        Some(c) => is_alphanumeric(c),
+        None => false,
+    }
+}
+
+/// Whether a character behind those of a simple name goes on with it: a letter or a number does, and a joint with one
+/// of these behind it.
+fn goes_on(c: char, behind: &str) -> bool
+    ensures { result ≡ (characters.is_alphanumeric c || (names.is_joint c && is_alnum_at (chars behind.now) 0)) }
+{
+    is_alphanumeric(c) || (is_joint(c) && begins_alphanumeric(behind))
+}
+
+/// How many characters the simple name at the front of a text has; 0 where there is none.
+pub fn simple_name(text: &str) -> usize
+    ensures value { result ≡ names.simple_name (chars text.now) }
+    ensures within { result ≤ length text.now }
+{
+    if !begins_alphanumeric(text) {
+        return 0;
+    }
+    let mut rest = text;
+    let mut n = 0;
+    while let Some(c) = front(rest) {
+        let behind = after_first(rest);
+        if !goes_on(c, behind) {
+            break;
+        }
+        n += 1;
+        rest = behind;
+    }
+    n
+}
+
+/// What a label in brackets labels.
+#[derive(Clone, Copy, Debug, PartialEq, Eq)]
+pub enum LabelKind {
+    Footnote,
+    Citation,
+}
+
+/// A label in brackets: how many characters it has without them, and the marker that it is with them.
+#[derive(Clone, Copy, Debug, PartialEq, Eq)]
+pub struct LabelMark {
+    pub kind: LabelKind,
+    pub len: usize,
+    pub marker: Marker,
+}
+
+/// What the first `len` characters of a text label, which `]` stands behind: digits, `#`, `#` and a simple name, and `*` a
+/// footnote, another simple name a citation, all else nothing.
+#[tactic(auto, using(crate::proofs::LabelLemmas::kind_before))]
+fn label_kind(len: usize, text: &str) -> Option<LabelKind>
+    requires { begins_with 93 (drop len (chars text.now)) ≡ true }
+    ensures { result ≡ spec.label_kind (take len (chars text.now)) }
+{
+    if len == 0 {
+        return None;
+    }
+    if run(Class::Digit, text) == len {
+        return Some(LabelKind::Footnote);
+    }
+    if begins_with('*', text) && len == 1 {
+        return Some(LabelKind::Footnote);
+    }
+    if begins_with('#', text) && simple_name(skip(text, 1)) == len - 1 {
+        return Some(LabelKind::Footnote);
+    }
+    if simple_name(text) == len {
+        return Some(LabelKind::Citation);
+    }
+    None
+}
+
+/// The label in brackets at the front of a text.
+#[tactic(auto, unfolding(crate::specs::ExplicitMarks::label_of))]
+pub fn label_of(text: &str) -> Option<LabelMark>
+    ensures { result ≡ spec.label_of (chars text.now) }
+{
+    if !begins_with('[', text) {
+        return None;
+    }
+    let behind = skip(text, 1);
+    let len = run(Class::Unbracketed, behind);
+    if !begins_with(']', skip(behind, len)) {
+        return None;
+    }
+    let kind = label_kind(len, behind)?;
+    let marker = marker_of(len + 2, text)?;
+    Some(LabelMark { kind, len, marker })
+}
+
+/// A target's mark: where its name begins and how many characters that has, if it has one, and the marker.
+#[derive(Clone, Copy, Debug, PartialEq, Eq)]
+pub enum TargetMark {
+    Named {
+        from: usize,
+        len: usize,
+        marker: Marker,
+    },
+    Anonymous(Marker),
+}
+
+/// Whether a text begins with a white character.
+fn begins_white(text: &str) -> bool
+    ensures { result ≡ spec.begins_white (chars text.now) }
+{
+    match front(text) {
+        Some(c) => is_white(c),
+        None => false,
+    }
+}
+
+/// The target mark with its name in backquotes: `` _`name`: ``.
+#[tactic(auto, unfolding(crate::specs::ExplicitMarks::quoted_target))]
+fn quoted_target(text: &str) -> Option<TargetMark>
+    ensures { result ≡ spec.quoted_target (chars text.now) }
+{
+    let behind = skip(text, 2);
+    let len = closed(Closing::QuotedColon, behind)?;
+    if len == 0 || begins_white(behind) || begins_with('`', behind) {
+        return None;
+    }
+    let marker = marker_of(len + 4, text)?;
+    Some(TargetMark::Named {
+        from: 2,
+        len,
+        marker,
+    })
+}
+
+/// The target mark with a plain name: `_name:`.
+#[tactic(auto, unfolding(crate::specs::ExplicitMarks::plain_target))]
+fn plain_target(text: &str) -> Option<TargetMark>
+    ensures { result ≡ spec.plain_target (chars text.now) }
+{
+    let behind = skip(text, 1);
+    let len = closed(Closing::Colon, behind)?;
+    if len == 0 || begins_white(behind) {
+        return None;
+    }
+    let marker = marker_of(len + 2, text)?;
+    Some(TargetMark::Named {
+        from: 1,
+        len,
+        marker,
+    })
+}
+
+/// The target mark without a name: `__:`.
+#[tactic(auto, unfolding(crate::specs::ExplicitMarks::anonymous_target))]
+fn anonymous_target(text: &str) -> Option<TargetMark>
+    ensures { result ≡ spec.anonymous_target (chars text.now) }
+{
+    if !begins_with(':', skip(text, 2)) {
+        return None;
+    }
+    let marker = marker_of(3, text)?;
+    Some(TargetMark::Anonymous(marker))
+}
+
+/// The target mark at the front of a text.
+#[tactic(auto, unfolding(crate::specs::ExplicitMarks::target_of))]
+pub fn target_of(text: &str) -> Option<TargetMark>
+    ensures { result ≡ spec.target_of (chars text.now) }
+{
+    if !begins_with('_', text) {
+        return None;
+    }
+    let behind = skip(text, 1);
+    if begins_with('_', behind) {
+        return anonymous_target(text);
+    }
+    if begins_with('`', behind) {
+        return quoted_target(text);
+    }
+    plain_target(text)
+}
+
+/// What a text that begins with a bar and a character that isn't white is.
+#[derive(Clone, Copy, Debug, PartialEq, Eq)]
+pub enum SubstitutionMark {
+    /// A name between bars with a space behind them: how many characters it has, and the marker.
+    Named { len: usize, marker: Marker },
+    /// No bar closes the first.
+    Unclosed,
+    /// A bar closes the first, with something else than a space behind.
+    Tight,
+}
+
+/// The substitution mark at the front of a text; none where it doesn't begin with a bar and a character that isn't
+/// white.
+#[tactic(auto, unfolding(crate::specs::ExplicitMarks::substitution_of))]
+pub fn substitution_of(text: &str) -> Option<SubstitutionMark>
+    ensures { result ≡ spec.substitution_of (chars text.now) }
+{
+    if !begins_with('|', text) {
+        return None;
+    }
+    let behind = skip(text, 1);
+    if is_blank(behind) || begins_white(behind) {
+        return None;
+    }
+    if let Some(len) = closed(Closing::SpacedBar, behind) {
+        let marker = marker_of(len + 2, text)?;
+        return Some(SubstitutionMark::Named { len, marker });
+    }
+    match closed(Closing::Bar, behind) {
+        Some(_) => Some(SubstitutionMark::Tight),
+        None => Some(SubstitutionMark::Unclosed),
+    }
+}
+
+/// A directive's mark: how many characters its name has, and the marker.
+#[derive(Clone, Copy, Debug, PartialEq, Eq)]
+pub struct DirectiveMark {
+    pub len: usize,
+    pub marker: Marker,
+}
+
+/// The two colons behind the first `n` characters of a text, of which the first `len` are a directive's name.
+#[tactic(auto, unfolding(crate::specs::ExplicitMarks::colons))]
+fn colons(len: usize, n: usize, text: &str) -> Option<DirectiveMark>
+    requires { n < 2 ^ 64 - 2 }
+    ensures { result ≡ spec.colons len n (chars text.now) }
+{
+    if !begins_with(':', skip(text, n)) || !begins_with(':', skip(text, n + 1)) {
+        return None;
+    }
+    let marker = marker_of(n + 2, text)?;
+    Some(DirectiveMark { len, marker })
+}
+
+/// The directive mark at the front of a text: a simple name and `::`, between which a space may stand if `spaced` says
+/// so.
+#[tactic(auto, unfolding(crate::specs::ExplicitMarks::directive_of))]
+pub fn directive_of(spaced: bool, text: &str) -> Option<DirectiveMark>
+    ensures { result ≡ spec.directive_of spaced (chars text.now) }
+{
+    let len = simple_name(text);
+    if len == 0 {
+        return None;
+    }
+    if spaced && begins_with(' ', skip(text, len)) {
+        return colons(len, len + 1, text);
+    }
+    colons(len, len, text)
+}

@@ -1,0 +1,45 @@
+//! Fields.
+ghost use Rattle.std.specs.Prelude.{◌≡◌};
+ghost use Rattle.std.specs.Str.{chars};
+ghost use Rattle.rst_markup_lines.specs.Field as spec;
+
+use super::closing::{Closing, closed};
+use super::marker::{Marker, marker_of};
+use super::place::Characters;
+use super::text::begins_with;
+use rst_text::skip;
+
+/// A field's name, as it is written, and its marker.
+#[derive(Clone, Copy, Debug, PartialEq, Eq)]
+pub struct FieldMark {
+    pub name: Characters,
+    pub marker: Marker,
+}
+
+/// The field mark at the front of a line: a name between colons, up to the first unescaped one with a space or the end
+/// behind it. The name isn't empty, doesn't begin with a space or a colon, and doesn't end with a space.
+#[tactic(auto, unfolding(crate::specs::Field::field_of))]
+pub fn field_of(text: &str) -> Option<FieldMark>
+    ensures { result ≡ spec.field_of (chars text.now) }
+{
+    if !begins_with(':', text) {
+        return None;
+    }
+    let behind = skip(text, 1);
+    let len = closed(Closing::Colon, behind)?;
+    if len == 0
+        || begins_with(' ', behind)
+        || begins_with(':', behind)
+        || begins_with(' ', skip(behind, len - 1))
+    {
+        return None;
+    }
+    let marker = marker_of(len + 2, text)?;
+    Some(FieldMark {
+        name: Characters {
+            from: 1,
+            to: 1 + len,
+        },
+        marker,
+    })
+}

@@ -1,0 +1,78 @@
+//! Markers: a mark at the front of a line with the spaces behind it.
+ghost use Rattle.std.specs.Prelude.{◌≡◌};
+ghost use Rattle.std.specs.Str.{chars};
+ghost use Rattle.rst_markup_lines.specs.Marker as spec;
+
+use super::text::{begins_with, front, is_blank};
+use rst_text::{indentation, skip};
+
+/// A mark at the front of a line: how many characters it has with the spaces behind it, and whether nothing stands
+/// behind these.
+#[derive(Clone, Copy, Debug, PartialEq, Eq)]
+pub struct Marker {
+    pub cut: usize,
+    pub bare: bool,
+}
+
+/// The marker that the first `n` characters of a line are, if spaces or the line's end are behind them.
+#[tactic(auto, unfolding(crate::specs::Marker::marker_of))]
+pub fn marker_of(n: usize, text: &str) -> Option<Marker>
+    ensures { result ≡ spec.marker_of n (chars text.now) }
+{
+    let behind = skip(text, n);
+    if is_blank(behind) {
+        return Some(Marker { cut: n, bare: true });
+    }
+    if !begins_with(' ', behind) {
+        return None;
+    }
+    let spaces = indentation(behind);
+    Some(Marker {
+        cut: n + spaces,
+        bare: is_blank(skip(behind, spaces)),
+    })
+}
+
+fn is_bullet(c: char) -> bool
+    ensures { result ≡ spec.is_bullet c }
+{
+    matches!(c, '*' | '+' | '-' | '\u{2022}' | '\u{2023}' | '\u{2043}')
+}
+
+/// The marker of a bullet list's item.
+#[tactic(auto, unfolding(crate::specs::Marker::bullet))]
+pub fn bullet(text: &str) -> Option<Marker>
+    ensures { result ≡ spec.bullet (chars text.now) }
+{
+    match front(text) {
+        Some(c) if is_bullet(c) => marker_of(1, text),
+        _ => None,
+    }
+}
+
+/// The marker of a doctest block.
+#[tactic(auto, unfolding(crate::specs::Marker::doctest))]
+pub fn doctest(text: &str) -> Option<Marker>
+    ensures { result ≡ spec.doctest (chars text.now) }
+{
+    if begins_with('>', text)
+        && begins_with('>', skip(text, 1))
+        && begins_with('>', skip(text, 2))
+    {
+        marker_of(3, text)
+    } else {
+        None
+    }
+}
+
+/// The marker of a line of a line block.
+#[tactic(auto, unfolding(crate::specs::Marker::line_bar))]
+pub fn line_bar(text: &str) -> Option<Marker>
+    ensures { result ≡ spec.line_bar (chars text.now) }
+{
+    if begins_with('|', text) {
+        marker_of(1, text)
+    } else {
+        None
+    }
+}

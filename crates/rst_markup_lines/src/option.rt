@@ -1,0 +1,247 @@
+//! Option markers.
+ghost use Rattle.std.specs.Prelude.{◌≡◌, ◌≤◌, ◌<◌, ◌+◌, ◌-◌, ◌^◌, length, IfSome};
+ghost use Rattle.std.specs.Str.{chars};
+ghost use Rattle.rst_markup_lines.specs.OptionMarker as spec;
+
+use super::class::{Class, run};
+use super::marker::{Marker, marker_of};
+use super::text::{begins_with, front, is_blank};
+use rst_text::{is_letter, skip};
+
+/// What stands between an option and its argument.
+#[derive(Clone, Copy, Debug, PartialEq, Eq)]
+pub enum Delimiter {
+    Nothing,
+    Space,
+    Equals,
+}
+
+/// An option at the front of a text: how many characters it has without its argument, and the argument, if it has one:
+/// what stands before it, and how many characters it has.
+#[derive(Clone, Copy, Debug, PartialEq, Eq)]
+pub struct OptionMark {
+    pub string: usize,
+    pub argument: Option<Argument>,
+}
+
+/// An option's argument.
+#[derive(Clone, Copy, Debug, PartialEq, Eq)]
+pub struct Argument {
+    pub delimiter: Delimiter,
+    pub len: usize,
+}
+
+/// Whether a text begins with an ASCII letter or digit.
+fn begins_ascii_alphanumeric(text: &str) -> bool
+    ensures { result ≡ spec.begins_ascii_alphanumeric (chars text.now) }
+{
+    match front(text) {
+        Some(c) => c.is_ascii_alphanumeric(),
+        None => false,
+    }
+}
+
+/// Whether a text begins with a letter.
+fn begins_letter(text: &str) -> bool
+    ensures { result ≡ spec.begins_letter (chars text.now) }
+{
+    match front(text) {
+        Some(c) => is_letter(c),
+        None => false,
+    }
+}
+
+/// How many characters the argument at the front of a text has; 0 where there is none. It is a letter and
+/// alphanumerics, `_` and `-` after it, or something in angle brackets.
+#[tactic(auto, unfolding(crate::specs::OptionMarker::argument_len))]
+fn argument_len(text: &str) -> usize
+    ensures value { result ≡ spec.argument_len (chars text.now) }
+    ensures short { result < 2 ^ 63 + 2 }
+{
+    if begins_letter(text) {
+        return run(Class::Option, text);
+    }
+    if !begins_with('<', text) {
+        return 0;
+    }
+    let inside = run(Class::Bracketed, skip(text, 1));
+    if inside == 0 || !begins_with('>', skip(text, inside + 1)) {
+        return 0;
+    }
+    inside + 2
+}
+
+/// The argument behind a delimiter of a character, or of none.
+#[tactic(auto, unfolding(crate::specs::OptionMarker::argument_behind))]
+fn argument_behind(delimiter: Delimiter, text: &str) -> Option<Argument>
+    ensures value { result ≡ spec.argument_behind delimiter (chars text.now) }
+    ensures short { IfSome result (λ argument. argument.len < 2 ^ 63 + 2) }
+{
+    let len = argument_len(text);
+    if len == 0 {
+        return None;
+    }
+    Some(Argument { delimiter, len })
+}
+
+/// The argument of an option of one character, which may follow it directly or behind a space.
+#[tactic(auto, unfolding(crate::specs::OptionMarker::short_argument))]
+fn short_argument(text: &str) -> Option<Argument>
+    ensures value { result ≡ spec.short_argument (chars text.now) }
+    ensures short { IfSome result (λ argument. argument.len < 2 ^ 63 + 2) }
+{
+    if begins_with(' ', text) {
+        return argument_behind(Delimiter::Space, skip(text, 1));
+    }
+    argument_behind(Delimiter::Nothing, text)
+}
+
+/// The argument of a long option, which may follow it behind a space or `=`.
+#[tactic(auto, unfolding(crate::specs::OptionMarker::long_argument))]
+fn long_argument(text: &str) -> Option<Argument>
+    ensures value { result ≡ spec.long_argument (chars text.now) }
+    ensures short { IfSome result (λ argument. argument.len < 2 ^ 63 + 2) }
+{
+    if begins_with(' ', text) {
+        return argument_behind(Delimiter::Space, skip(text, 1));
+    }
+    if begins_with('=', text) {
+        return argument_behind(Delimiter::Equals, skip(text, 1));
+    }
+    None
+}
+
+/// The option at the front of a text that begins with a mark of `n` characters, which a name of any length follows.
+#[tactic(auto, unfolding(crate::specs::OptionMarker::long_option))]
+fn long_option(n: usize, text: &str) -> Option<OptionMark>
+    requires { n ≤ 2 }
+    ensures value { result ≡ spec.long_option n (chars text.now) }
+    ensures short { IfSome result (λ option. option.string < 2 ^ 63 + 2) }
+{
+    let name = skip(text, n);
+    if !begins_ascii_alphanumeric(name) {
+        return None;
+    }
+    let string = n + 1 + run(Class::Option, skip(name, 1));
+    Some(OptionMark {
+        string,
+        argument: long_argument(skip(text, string)),
+    })
+}
+
+/// The option at the front of a text that begins with a mark of a character, which a name of a character follows.
+#[tactic(auto, unfolding(crate::specs::OptionMarker::short_option))]
+fn short_option(text: &str) -> Option<OptionMark>
+    ensures value { result ≡ spec.short_option (chars text.now) }
+    ensures short { IfSome result (λ option. option.string < 2 ^ 63 + 2) }
+{
+    if !begins_ascii_alphanumeric(skip(text, 1)) {
+        return None;
+    }
+    Some(OptionMark {
+        string: 2,
+        argument: short_argument(skip(text, 2)),
+    })
+}
+
+/// The option at the front of a text: `-` or `+` and a character, or `--` or `/` and a name, and maybe an argument.
+#[tactic(auto, unfolding(crate::specs::OptionMarker::option_at))]
+pub fn option_at(text: &str) -> Option<OptionMark>
+    ensures value { result ≡ spec.option_at (chars text.now) }
+    ensures short { IfSome result (λ option. option.string < 2 ^ 63 + 2) }
+{
+    if begins_with('/', text) {
+        return long_option(1, text);
+    }
+    if begins_with('-', text) && begins_with('-', skip(text, 1)) {
+        return long_option(2, text);
+    }
+    if begins_with('-', text) || begins_with('+', text) {
+        return short_option(text);
+    }
+    None
+}
+
+/// How many characters an argument has with what stands before it.
+fn argument_width(argument: Option<Argument>) -> usize
+    requires { IfSome argument (λ a. a.len < 2 ^ 63 + 2) }
+    ensures value { result ≡ spec.argument_width argument }
+    ensures short { result < 2 ^ 63 + 3 }
+{
+    match argument {
+        None => 0,
+        Some(
+            Argument {
+                delimiter: Delimiter::Nothing,
+                len,
+            },
+        ) => len,
+        Some(Argument { len, .. }) => len + 1,
+    }
+}
+
+/// What stands behind an option.
+#[derive(Clone, Copy, Debug, PartialEq, Eq)]
+pub enum OptionTail {
+    /// Nothing, or two or more spaces: the option is the last, and the marker it makes.
+    Last(Marker),
+    /// A comma and a space: how many characters stand before the next option.
+    Next(usize),
+    /// Something else, or there is no option.
+    Wrong,
+}
+
+/// What stands behind the first `n` characters of a text, which are an option.
+#[tactic(auto, unfolding(crate::specs::OptionMarker::tail_at))]
+fn tail_at(n: usize, text: &str) -> OptionTail
+    requires { n < 2 ^ 64 - 2 }
+    ensures { result ≡ spec.tail_at n (chars text.now) }
+{
+    let behind = skip(text, n);
+    let more = skip(behind, 1);
+    if begins_with(',', behind) && begins_with(' ', more) {
+        return OptionTail::Next(n + 2);
+    }
+    if begins_with(' ', behind) && !begins_with(' ', more) {
+        return OptionTail::Wrong;
+    }
+    match marker_of(n, text) {
+        Some(marker) => OptionTail::Last(marker),
+        None => OptionTail::Wrong,
+    }
+}
+
+/// What stands behind the option at the front of a text.
+#[tactic(auto, unfolding(crate::specs::OptionMarker::option_tail))]
+pub fn option_tail(text: &str) -> OptionTail
+    ensures { result ≡ spec.option_tail (chars text.now) }
+{
+    match option_at(text) {
+        Some(option) => tail_at(option.string + argument_width(option.argument), text),
+        None => OptionTail::Wrong,
+    }
+}
+
+/// The marker at the front of a line that options joined by a comma and a space make, with two or more spaces or the
+/// line's end behind them.
+pub fn option_marker(text: &str) -> Option<Marker>
+    ensures { result ≡ spec.option_marker (chars text.now) }
+{
+    let mut rest = text;
+    let mut before = 0;
+    loop {
+        match option_tail(rest) {
+            OptionTail::Last(marker) => {
+                return Some(Marker {
+                    cut: before + marker.cut,
+                    bare: marker.bare,
+                });
+            }
+            OptionTail::Next(n) => {
+                before += n;
+                rest = skip(rest, n);
+            }
+            OptionTail::Wrong => return None,
+        }
+    }
+}

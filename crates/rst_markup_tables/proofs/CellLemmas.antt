@@ -1,0 +1,120 @@
+-- The lines of a cell.
+use Rattle.std.proofs.Common.{◌≡◌, ℕ, zero, suc, ◌+◌, ◌-◌, ◌<◌, ◌≤◌, true, false, cond, ◌&&◌, eqb, List, [], ◌∷◌, ◌++◌, length, drop, take, get_or, refl, sym, ap, ◌∙◌, subst, arith, Option, Some, None, length-append}
+use Rattle.std.specs.Char.{is_whitespace}
+use Rattle.std.specs.List.{list_any}
+use Rattle.std.specs.Str.{drop_trailing_whitespace, all_scalars}
+use Rattle.std.proofs.lemmas.List.{take_more}
+use Rattle.std.proofs.lemmas.Bool.{ne_eqb, and_right, and_parts, and_from, cond_both}
+use Rattle.std.proofs.Math.Utf8.{scalar}
+use Rattle.rst_markup_tables.specs.Places.{places_of, is_double}
+use Rattle.rst_markup_tables.specs.Cells.{characters, cut_places}
+use Rattle.rst_markup_tables.specs.declared.places.Place.{Place}
+use Rattle.rst_markup_tables.specs.declared.places.Place.TheVariants.{Character, Second}
+use Rattle.rst_text.specs.Block.{Line, Block, indentation, is_blank}
+use Rattle.rst_text.proofs.Least.{least_from, lower}
+use Rattle.rst_text.specs.Lines.{is_line_end, is_line_text, are_lines}
+use Rattle.rst_text.proofs.LineTexts.{unended-take, unended-drop}
+
+pub least_from-blank : (m : Option ℕ) (l : Line) (ls : Block) → is_blank l.text ≡ true → least_from m (l ∷ ls) ≡ least_from m ls
+unfolding least_from
+least_from-blank m l ls e = rw e refl
+
+pub least_from-dark : (m : Option ℕ) (l : Line) (ls : Block) → is_blank l.text ≡ false → least_from m (l ∷ ls) ≡ least_from (Some (lower m (indentation l.text))) ls
+unfolding least_from
+least_from-dark m l ls e = rw e refl
+
+pub least_from-none : (m : Option ℕ) → least_from m [] ≡ m
+unfolding least_from
+least_from-none m = refl
+
+-- a white character at the end is dropped, and nothing is behind another one
+dropped-white : (xs : List ℕ) (c : ℕ) → is_whitespace c ≡ true → drop_trailing_whitespace (xs ++ c ∷ []) ≡ drop_trailing_whitespace xs
+dropped-white [] c e = rw e refl
+dropped-white (x ∷ xs) c e = ap (λ l. cond (is_whitespace x && eqb (length l) 0) [] (x ∷ l)) (dropped-white xs c e)
+
+stays : (x c : ℕ) (xs rest : List ℕ) → rest ≡ xs ++ c ∷ [] → cond (is_whitespace x && eqb (length rest) 0) [] (x ∷ rest) ≡ x ∷ rest
+stays x c xs rest e =
+    let some : eqb (length rest) 0 ≡ false = ne_eqb (length rest) 0 (λ none. omega (arith, ap length e, length-append xs (c ∷ []))) in
+    let test : (is_whitespace x && eqb (length rest) 0) ≡ false = and_right _ _ some in
+    rw test refl
+
+dropped-dark : (xs : List ℕ) (c : ℕ) → is_whitespace c ≡ false → drop_trailing_whitespace (xs ++ c ∷ []) ≡ xs ++ c ∷ []
+dropped-dark [] c e = rw e refl
+dropped-dark (x ∷ xs) c e = stays x c xs (drop_trailing_whitespace (xs ++ c ∷ [])) (dropped-dark xs c e) ∙ ap (λ l. x ∷ l) (dropped-dark xs c e)
+
+-- ---- characters that a text can hold
+
+pub scalars-drop : (cs : List ℕ) (n : ℕ) → all_scalars cs ≡ true → all_scalars (drop n cs) ≡ true
+scalars-drop cs zero h = h
+scalars-drop [] (suc n) h = refl
+scalars-drop (c ∷ cs) (suc n) h = scalars-drop cs n (and_parts (scalar c) (all_scalars cs) h).1
+
+pub scalars-trimmed : (cs : List ℕ) → all_scalars cs ≡ true → all_scalars (drop_trailing_whitespace cs) ≡ true
+scalars-trimmed [] h = refl
+scalars-trimmed (c ∷ cs) h =
+    let parts = and_parts (scalar c) (all_scalars cs) h in
+    cond_both (is_whitespace c && eqb (length (drop_trailing_whitespace cs)) 0) [] (c ∷ drop_trailing_whitespace cs) (λ l. all_scalars l ≡ true)
+    (λ e. refl)
+    (λ e. and_from (scalar c) (all_scalars (drop_trailing_whitespace cs)) parts.0 (scalars-trimmed cs parts.1))
+
+pub characters-places : (cs : List ℕ) → characters (places_of cs) ≡ cs
+characters-places [] = refl
+characters-places (c ∷ cs) = ap (λ l. c ∷ l) (cond_both (is_double c) (Second ∷ places_of cs) (places_of cs) (λ l. characters l ≡ cs) (λ e. characters-places cs) (λ e. characters-places cs))
+
+scalars-take : (cs : List ℕ) (n : ℕ) → all_scalars cs ≡ true → all_scalars (take n cs) ≡ true
+scalars-take cs zero h = refl
+scalars-take [] (suc n) h = refl
+scalars-take (c ∷ cs) (suc n) h =
+    let parts = and_parts (scalar c) (all_scalars cs) h in
+    and_from (scalar c) (all_scalars (take n cs)) parts.0 (scalars-take cs n parts.1)
+
+-- the characters at the first places are the first characters, and those behind them the others
+characters-take : (n : ℕ) (ps : List Place) → (m : ℕ) × (characters (take n ps) ≡ take m (characters ps))
+characters-take zero ps = (0, refl)
+characters-take (suc n) [] = (0, refl)
+characters-take (suc n) (Character c ∷ ps) = let rest = characters-take n ps in (suc rest.0, ap (λ l. c ∷ l) rest.1)
+characters-take (suc n) (Second ∷ ps) = characters-take n ps
+
+characters-drop : (n : ℕ) (ps : List Place) → (m : ℕ) × (characters (drop n ps) ≡ drop m (characters ps))
+characters-drop zero ps = (0, refl)
+characters-drop (suc n) [] = (0, refl)
+characters-drop (suc n) (Character c ∷ ps) = let rest = characters-drop n ps in (suc rest.0, rest.1)
+characters-drop (suc n) (Second ∷ ps) = characters-drop n ps
+
+-- what holds of each front and each rest of a text holds of the characters between two places
+cut-keeps : (P : List ℕ → Type 0) → ((n : ℕ) (cs : List ℕ) → P cs → P (take n cs)) → ((n : ℕ) (cs : List ℕ) → P cs → P (drop n cs))
+    → (left : ℕ) (right : Option ℕ) (ps : List Place) → P (characters ps) → P (characters (cut_places left right ps))
+cut-keeps P fronts rests left (Some right) ps h =
+    let front = characters-take (right - left) (drop left ps) in
+    let rest = characters-drop left ps in
+    subst P (sym front.1) (fronts front.0 (characters (drop left ps)) (subst P (sym rest.1) (rests rest.0 (characters ps) h)))
+cut-keeps P fronts rests left None ps h = let rest = characters-drop left ps in subst P (sym rest.1) (rests rest.0 (characters ps) h)
+
+pub scalars-cut : (left : ℕ) (right : Option ℕ) (ps : List Place) → all_scalars (characters ps) ≡ true → all_scalars (characters (cut_places left right ps)) ≡ true
+scalars-cut left right ps h = cut-keeps (λ cs. all_scalars cs ≡ true) (λ n cs. scalars-take cs n) (λ n cs. scalars-drop cs n) left right ps h
+
+-- ---- characters of a line
+
+pub unended-cut : (left : ℕ) (right : Option ℕ) (ps : List Place) → list_any is_line_end (characters ps) ≡ false → list_any is_line_end (characters (cut_places left right ps)) ≡ false
+unended-cut left right ps h = cut-keeps (λ cs. list_any is_line_end cs ≡ false) unended-take unended-drop left right ps h
+
+-- a line more at the end
+pub are_lines-push : (B : Block) (l : Line) → are_lines B ≡ true → is_line_text l.text ≡ true → are_lines (B ++ l ∷ []) ≡ true
+are_lines-push [] l h e = rw e refl
+are_lines-push (b ∷ B) l h e =
+    let parts = and_parts (is_line_text b.text) (are_lines B) h in
+    and_from (is_line_text b.text) (are_lines (B ++ l ∷ [])) parts.0 (are_lines-push B l parts.1 e)
+
+-- ---- trimming from the end
+
+pub trimmed-white : (xs : List ℕ) (n c : ℕ) → 0 < n → n ≤ length xs → c ≡ get_or xs (n - 1) 0 → is_whitespace c ≡ true → drop_trailing_whitespace (take n xs) ≡ drop_trailing_whitespace (take (n - 1) xs)
+trimmed-white xs n c some fits is e =
+    let same : n ≡ (n - 1) + 1 = omega arith in
+    ap (λ m. drop_trailing_whitespace (take m xs)) same ∙ ap drop_trailing_whitespace (take_more xs (n - 1) 0 (omega arith))
+    ∙ dropped-white (take (n - 1) xs) (get_or xs (n - 1) 0) (ap is_whitespace (sym is) ∙ e)
+
+pub trimmed-dark : (xs : List ℕ) (n c : ℕ) → 0 < n → n ≤ length xs → c ≡ get_or xs (n - 1) 0 → is_whitespace c ≡ false → drop_trailing_whitespace (take n xs) ≡ take n xs
+trimmed-dark xs n c some fits is e =
+    let same : n ≡ (n - 1) + 1 = omega arith in
+    let split : take n xs ≡ take (n - 1) xs ++ get_or xs (n - 1) 0 ∷ [] = ap (λ m. take m xs) same ∙ take_more xs (n - 1) 0 (omega arith) in
+    ap drop_trailing_whitespace split ∙ dropped-dark (take (n - 1) xs) (get_or xs (n - 1) 0) (ap is_whitespace (sym is) ∙ e) ∙ sym split

@@ -1,0 +1,62 @@
+-- Where tables end.
+use Rattle.std.proofs.Common.{◌≡◌, ℕ, ◌+◌, ◌*◌, ◌≤◌, List, length, drop, take, length-take, refl, sym, ap, ◌∙◌, arith, Option, Some, None}
+use Rattle.std.proofs.lemmas.List.{length-map, take-map}
+use Rattle.rst_text.specs.Block.{Block}
+use Rattle.std.specs.Prelude.{unwrap_or, IfNone}
+use Rattle.std.specs.Option.{option_or}
+use Rattle.rst_markup_blocks.specs.TableRows.{through, head_border, simple_bottom, simple_size, simple_scan}
+use Rattle.rst_markup_blocks.proofs.TableLemmas.{border_below-below, scan-is, scan_some, simple_size-is}
+use Rattle.rst_markup_tables.specs.Places.{Grid, row_of, rows_of}
+use Rattle.rst_markup_tables.specs.GridTable.{head_of, with_dashes, tiled, IsOfRows}
+use Rattle.rst_markup_tables.specs.Ends.{end_of}
+use Rattle.rst_markup_tables.specs.declared.drawn.Rectangle.{Rectangle}
+use Rattle.rst_markup_tables.specs.declared.results.TableDetail.{TableDetail}
+use Rattle.rst_markup_tables.specs.declared.results.TableResult.{TableResult}
+use Rattle.rst_markup_tables.proofs.RowLemmas.{dashes-length}
+use Rattle.rst_markup_tables.specs.SimpleTable.{simple_by, border_fault}
+use Rattle.rst_markup_tables.proofs.GridLemmas.{drop_rows}
+
+pub rows_end : (line i : ℕ) (T : Grid) (fault : Option TableDetail) (r : TableResult) → IsOfRows line i T fault r → end_of r ≡ i + length T
+rows_end line i T (Some detail) r h = ap end_of h
+rows_end line i T None r h = ap end_of h.2 ∙ by h.0 ∙ ap (λ n. i + n) (dashes-length T (head_of T))
+  where
+    by : (found : Option (List Rectangle)) → end_of (tiled line i (head_of T) (with_dashes T (head_of T)) found) ≡ i + length (with_dashes T (head_of T))
+    by None = refl
+    by (Some rs) = refl
+
+pub simple_by_end : (line i : ℕ) (head : Option ℕ) (T : Grid) (fault : Option TableDetail) → end_of (simple_by line i head T fault) ≡ i + length T
+simple_by_end line i head T (Some detail) = refl
+simple_by_end line i head T None = refl
+
+-- how many rows the first n lines of a block are
+pub rows-size : (n : ℕ) (X : Block) → n ≤ length X → length (rows_of (take n X)) ≡ n
+rows-size n X h = omega (arith, length-map (take n X) row_of, length-take n X)
+
+-- the rows of a block's n lines from line i on
+pub rows-taken : (B : Block) (i n : ℕ) → take n (drop i (rows_of B)) ≡ rows_of (take n (drop i B))
+rows-taken B i n = ap (take n) (drop_rows B i) ∙ take-map row_of n (drop i B)
+
+-- how many lines a simple table has, by its borders
+pub table-size : (X : Block) (n all : ℕ) (head bottom : Option ℕ) → n ≡ through all (option_or bottom head) → all ≡ length X → head ≡ head_border X → bottom ≡ simple_bottom X → n ≡ simple_size X
+table-size X n all head bottom is e h b = is ∙ ap (λ m. through m (option_or bottom head)) e ∙ simple_size-is X head bottom h b
+
+-- one whose borders have no fault has its bottom border below the top one
+bottom-there : (X : Block) (bottom : Option ℕ) → None ≡ border_fault X bottom → bottom ≡ simple_bottom X → (2 ≤ simple_scan X) × (simple_size X ≡ simple_scan X)
+bottom-there X None sound b = cc
+bottom-there X (Some k) sound b =
+    let below = border_below-below X (unwrap_or (head_border X) 0) k b in
+    let scan : simple_scan X ≡ k + 1 = scan-is X (Some k) b in
+    let size : k + 1 ≡ simple_size X = simple_size-is X (head_border X) (Some k) refl b in
+    (omega (arith, below.0, scan), sym size ∙ sym scan)
+
+-- looks at the borders, where they have a fault
+pub looks-borders : (X : Block) (bottom : Option ℕ) (l0 l1 l2 : ℕ) → 1 ≤ length X → bottom ≡ simple_bottom X → l1 ≤ l0 + 2 + simple_scan X → l2 ≤ l1 + 2 → IfNone bottom (l2 ≤ l1) → l2 ≤ l0 + 4 * simple_scan X
+looks-borders X None l0 l1 l2 some b h k none = omega (arith, scan_some X some, none)
+looks-borders X (Some k) l0 l1 l2 some b h m none =
+    let below = border_below-below X (unwrap_or (head_border X) 0) k b in
+    let scan : simple_scan X ≡ k + 1 = scan-is X (Some k) b in
+    omega (arith, below.0, scan)
+
+-- looks at them and at the lines of the table
+pub looks-lines : (X : Block) (bottom : Option ℕ) (l0 l1 l2 l3 size : ℕ) → None ≡ border_fault X bottom → bottom ≡ simple_bottom X → l1 ≤ l0 + 2 + simple_scan X → l2 ≤ l1 + 2 → l3 ≤ l2 + size → size ≡ simple_size X → l3 ≤ l0 + 4 * simple_scan X
+looks-lines X bottom l0 l1 l2 l3 size sound b h k m is = let there = bottom-there X bottom sound b in omega (arith, there.0, there.1)

@@ -1,0 +1,119 @@
+-- The lines of a grid table.
+use Rattle.std.proofs.Common.{◌≡◌, ℕ, suc, ◌+◌, ◌-◌, ◌<◌, ◌≤◌, Bool, true, false, cond, ◌&&◌, ◌||◌, List, [], ◌∷◌, ◌++◌, length, take, drop, length-take, get_or, map, refl, sym, ap, ap₂, ◌∙◌, arith, append-nil, eqb, leb, Option, Some, None}
+use Rattle.std.proofs.lemmas.List.{drop_more, drop-drop, get_or_read, drop-map, length-map, take-map, take-take}
+use Rattle.std.proofs.lemmas.Bool.{cond_both, and_from, and_parts, leb-true, leb-false}
+use Rattle.std.proofs.Math.Nat.{le-min}
+use Rattle.std.proofs.Math.Utf8.{scalar}
+use Rattle.std.specs.List.{list_any}
+use Rattle.std.specs.Str.{all_scalars}
+use Rattle.rst_text.specs.Block.{Line, Block, front_text, first_number}
+use Rattle.rst_text.specs.Lines.{is_line_end}
+use Rattle.rst_text.specs.Places.{IsLast}
+use Rattle.rst_text.proofs.PlacesLemmas.{IsLast-new, IsLast-one, NoneFrom-nothing}
+use Rattle.rst_markup_lines.specs.Border.{is_grid_border}
+use Rattle.rst_markup_blocks.specs.declared.lines.LineTest.TheVariants.{Drawn}
+use Rattle.rst_markup_blocks.specs.TableLines.{is_drawn}
+use Rattle.rst_markup_blocks.specs.Lines.{lines_while}
+use Rattle.rst_markup_blocks.specs.RowLaws.{while_le}
+use Rattle.rst_markup_blocks.specs.TableLaws.{grid_size_le}
+use Rattle.rst_markup_blocks.specs.TableRows.{through, is_border_at, grid_bottom, grid_size, grid_scan}
+use Rattle.rst_markup_blocks.proofs.LineLemmas.{drop_one}
+use Rattle.rst_markup_blocks.proofs.TableLemmas.{grid_size-is}
+use Rattle.rst_markup_tables.specs.Places.{Row, Grid, no_row, row_of, rows_of, row_at}
+use Rattle.rst_markup_tables.specs.Cells.{characters}
+use Rattle.rst_markup_tables.specs.GridTable.{dash}
+use Rattle.rst_markup_tables.specs.declared.places.Place.{Place}
+use Rattle.rst_markup_tables.specs.declared.places.Place.TheVariants.{Character, Second}
+
+-- ---- a line that was read
+
+pub row_read : (G : Grid) (i : ℕ) (r : Row) → i < length G → r ≡ get_or G i r → r.places ≡ row_at G i
+row_read G i r below is = ap (λ (x : Row). x.places) (get_or_read G i r below is no_row)
+
+pub rows_more : (B : Block) (k : ℕ) (r : Row) → k < length B → r ≡ row_of (record { number = first_number (drop k B); text = front_text (drop k B) }) → rows_of (drop k B) ≡ r ∷ rows_of (drop (k + 1) B)
+rows_more B k r below is =
+    let none : Line = record { number = 0; text = [] } in
+    let e : drop k B ≡ get_or B k none ∷ drop (k + 1) B = drop_more B k none below in
+    let same : row_of (record { number = first_number (drop k B); text = front_text (drop k B) }) ≡ row_of (get_or B k none) = ap (λ (X : Block). row_of (record { number = first_number X; text = front_text X })) e in
+    ap rows_of e ∙ ap (λ x. x ∷ rows_of (drop (k + 1) B)) (sym same ∙ sym is)
+
+-- ---- the lines that begin with `+` or `|`
+
+-- their rows
+abbrev pub drawn_rows : Block → Grid
+drawn_rows X = rows_of (take (lines_while Drawn X) X)
+
+drawn-one : (X : Block) (r : Row) → rows_of X ≡ r ∷ rows_of (drop 1 X) → is_drawn (front_text X) ≡ true → drawn_rows X ≡ r ∷ drawn_rows (drop 1 X)
+unfolding lines_while
+drawn-one [] r e h = cc
+drawn-one (l ∷ ls) r e h =
+    let first : row_of l ≡ r = ap (λ G. get_or G 0 no_row) e in
+    rw h (ap (λ x. x ∷ drawn_rows ls) first)
+
+pub drawn-row : (B : Block) (k : ℕ) (r : Row) → rows_of (drop k B) ≡ r ∷ rows_of (drop (k + 1) B) → is_drawn (front_text (drop k B)) ≡ true → drawn_rows (drop k B) ≡ r ∷ drawn_rows (drop (k + 1) B)
+drawn-row B k r e h =
+    let behind : drop (k + 1) B ≡ drop 1 (drop k B) = drop_one k B in
+    drawn-one (drop k B) r (e ∙ ap (λ Y. r ∷ rows_of Y) behind) h ∙ ap (λ Y. r ∷ drawn_rows Y) (sym behind)
+
+-- no line is left
+pub drawn-none : (X : Block) (front all : Grid) → lines_while Drawn X ≡ 0 → front ++ drawn_rows X ≡ all → front ≡ all
+drawn-none X front all none e = sym (append-nil front) ∙ sym (ap (λ n. front ++ rows_of (take n X)) none) ∙ e
+
+-- the bottom border so far, where one line more is looked at
+border-by : (p : ℕ → Bool) (n : ℕ) (o : Option ℕ) (a b : Bool) → leb 2 n ≡ a → p n ≡ b → IsLast p 2 n o → IsLast p 2 (n + 1) (cond (a && b) (Some n) o)
+border-by p n o true true two hit h = IsLast-new p 2 n (leb-true 2 n two) hit
+border-by p n o true false two miss h = IsLast-one p 2 n o miss h
+border-by p n (Some j) false b two is h = absurd (omega (arith, leb-false 2 n two, h.0, h.1))
+border-by p n None false b two is h = NoneFrom-nothing p 2 (n + 1) (omega (arith, leb-false 2 n two))
+
+pub border-more : (B : Block) (i k : ℕ) (o : Option ℕ) → i ≤ k → IsLast (is_border_at (drop i B)) 2 (k - i) o
+    → IsLast (is_border_at (drop i B)) 2 (k + 1 - i) (cond (leb 2 (k - i) && is_grid_border (front_text (drop k B))) (Some (k - i)) o)
+border-more B i k o above h =
+    let here : drop (k - i) (drop i B) ≡ drop k B = drop-drop (k - i) i B ∙ ap (λ n. drop n B) (let e : i + (k - i) ≡ k = omega arith in e) in
+    let next : k + 1 - i ≡ k - i + 1 = omega arith in
+    rw next (border-by (is_border_at (drop i B)) (k - i) o (leb 2 (k - i)) (is_grid_border (front_text (drop k B))) refl (ap (λ Y. is_grid_border (front_text Y)) here) h)
+
+-- lines that the scan goes over
+pub scan-over : (X : Block) (m : ℕ) → m ≤ suc (lines_while Drawn X) → m ≤ length X → m ≤ grid_scan X
+unfolding grid_scan
+scan-over X m above inside = le-min above inside
+
+-- the lines of the table are those through its bottom border, or all where there is none
+pub table_rows-are : (X : Block) (L : Grid) (o : Option ℕ) → L ≡ drawn_rows X → o ≡ grid_bottom X → take (through (length L) o) L ≡ rows_of (take (grid_size X) X)
+table_rows-are X L o rows bottom =
+    let n : ℕ = lines_while Drawn X in
+    let all : length L ≡ n = ap length rows ∙ omega (arith, length-map (take n X) row_of, length-take n X, while_le Drawn X) in
+    let size : through (length L) o ≡ grid_size X = ap (λ m. through m o) all ∙ sym (grid_size-is X o bottom) in
+    ap₂ (λ (m : ℕ) (G : Grid). take m G) size rows ∙ take-map row_of (grid_size X) (take n X) ∙ ap rows_of (take-take (grid_size X) n X (grid_size_le X))
+
+-- ---- the rule between head and body
+
+pub scalars-dashed : (ps : List Place) → all_scalars (characters ps) ≡ true → all_scalars (characters (map dash ps)) ≡ true
+scalars-dashed [] h = refl
+scalars-dashed (Character c ∷ ps) h =
+    let parts = and_parts (scalar c) (all_scalars (characters ps)) h in
+    cond_both (eqb c 61) (Character 45) (Character c) (λ p. all_scalars (characters (p ∷ map dash ps)) ≡ true)
+    (λ e. scalars-dashed ps parts.1)
+    (λ e. and_from (scalar c) (all_scalars (characters (map dash ps))) parts.0 (scalars-dashed ps parts.1))
+scalars-dashed (Second ∷ ps) h = scalars-dashed ps h
+
+pub unended-dashed : (ps : List Place) → list_any is_line_end (characters ps) ≡ false → list_any is_line_end (characters (map dash ps)) ≡ false
+unended-dashed [] h = refl
+unended-dashed (Character c ∷ ps) h =
+    let parts = or_parts (is_line_end c) (list_any is_line_end (characters ps)) h in
+    cond_both (eqb c 61) (Character 45) (Character c) (λ p. list_any is_line_end (characters (p ∷ map dash ps)) ≡ false)
+    (λ e. unended-dashed ps parts.1)
+    (λ e. rw parts.0 (unended-dashed ps parts.1))
+  where
+    or_parts : (a b : Bool) → (a || b) ≡ false → (a ≡ false) × (b ≡ false)
+    or_parts true b h = cc
+    or_parts false b h = (refl, h)
+unended-dashed (Second ∷ ps) h = unended-dashed ps h
+
+-- ---- rows of a block by their places
+
+pub drop_rows : (B : Block) (k : ℕ) → drop k (rows_of B) ≡ rows_of (drop k B)
+drop_rows B k = drop-map row_of k B
+
+pub rows_here : (B : Block) (k : ℕ) (r : Row) → rows_of (drop k B) ≡ r ∷ rows_of (drop (k + 1) B) → drop k (rows_of B) ≡ r ∷ drop (k + 1) (rows_of B)
+rows_here B k r e = drop_rows B k ∙ e ∙ ap (λ rs. r ∷ rs) (sym (drop_rows B (k + 1)))

@@ -1,0 +1,86 @@
+-- Lists that are read an item at a time.
+use Rattle.std.proofs.Common.{◌≡◌, ℕ, zero, suc, ◌+◌, ◌-◌, ◌<◌, ◌≤◌, Bool, true, false, cond, List, [], ◌∷◌, ◌++◌, get_or, length, drop, take, map, filter, count_by, refl, sym, ap, ap₂, ◌∙◌, arith, append_assoc, add-one, Some, None}
+use Rattle.std.proofs.lemmas.List.{drop_more}
+use Rattle.std.proofs.lemmas.List.Sums.{sum_by_push}
+use Rattle.std.proofs.Math.Seq.{take-append_seam}
+use Rattle.rst_text.specs.Block.{is_blank}
+use Rattle.rst_text.specs.Places.{first_from}
+use Rattle.std.specs.List.{range_with_len}
+use Rattle.rst_markup_tables.specs.Counts.{below}
+
+-- what is left of a list whose item at place i was read
+pub read_more : {X : Type 0} (xs : List X) (i : ℕ) (x : X) → i < length xs → x ≡ get_or xs i x → drop i xs ≡ x ∷ drop (i + 1) xs
+read_more xs i x below is = drop_more xs i x below ∙ ap (λ y. y ∷ drop (i + 1) xs) (sym is)
+
+pub blank_from : (t u : List ℕ) → t ≡ u → length t ≡ 0 → is_blank u ≡ true
+blank_from t [] e h = refl
+blank_from t (c ∷ u) e h = absurd (omega (arith, ap length e))
+
+pub dark_from : (t u : List ℕ) → t ≡ u → (length t ≡ 0 → ⊥) → is_blank u ≡ false
+dark_from t [] e h = absurd (h (ap length e))
+dark_from t (c ∷ u) e h = refl
+
+-- ---- numbers that pass
+
+left_more : (k high : ℕ) → k < high → high - k ≡ suc (high - (k + 1))
+left_more k high h = omega arith
+
+pub first_from-stop : (p : ℕ → Bool) (k high : ℕ) → k < high → p k ≡ true → first_from p k (high - k) ≡ Some k
+first_from-stop p k high h e = ap (first_from p k) (left_more k high h) ∙ rw e refl
+
+pub first_from-more : (p : ℕ → Bool) (k high : ℕ) → k < high → p k ≡ false → first_from p k (high - k) ≡ first_from p (k + 1) (high - (k + 1))
+first_from-more p k high h e = ap (first_from p k) (left_more k high h) ∙ rw e refl
+
+pub first_from-end : (p : ℕ → Bool) (k high : ℕ) → high ≤ k → first_from p k (high - k) ≡ None
+first_from-end p k high h = let e : high - k ≡ 0 = omega arith in ap (first_from p k) e
+
+pub all_from-take : (p : ℕ → Bool) (k high : ℕ) → k < high → p k ≡ true → filter p (range_with_len k (high - k)) ≡ k ∷ filter p (range_with_len (k + 1) (high - (k + 1)))
+all_from-take p k high h e = ap (λ n. filter p (range_with_len k n)) (left_more k high h) ∙ rw e refl
+
+pub all_from-more : (p : ℕ → Bool) (k high : ℕ) → k < high → p k ≡ false → filter p (range_with_len k (high - k)) ≡ filter p (range_with_len (k + 1) (high - (k + 1)))
+all_from-more p k high h e = ap (λ n. filter p (range_with_len k n)) (left_more k high h) ∙ rw e refl
+
+pub all_from-end : (p : ℕ → Bool) (k high : ℕ) → high ≤ k → filter p (range_with_len k (high - k)) ≡ []
+all_from-end p k high h = let e : high - k ≡ 0 = omega arith in ap (λ n. filter p (range_with_len k n)) e
+
+pub each_from-more : {X : Type 0} (f : ℕ → X) (k high : ℕ) → k < high → map f (range_with_len k (high - k)) ≡ f k ∷ map f (range_with_len (k + 1) (high - (k + 1)))
+each_from-more f k high h = ap (λ n. map f (range_with_len k n)) (left_more k high h)
+
+pub each_from-end : {X : Type 0} (f : ℕ → X) (k high : ℕ) → high ≤ k → map f (range_with_len k (high - k)) ≡ []
+each_from-end f k high h = let e : high - k ≡ 0 = omega arith in ap (λ n. map f (range_with_len k n)) e
+
+range_more : (a n j : ℕ) → a + n ≡ j → range_with_len a (suc n) ≡ range_with_len a n ++ j ∷ []
+range_more a zero j e = let same : a ≡ j = omega arith in ap (λ k. k ∷ []) same
+range_more a (suc n) j e = ap (λ l. a ∷ l) (range_more (a + 1) n j (omega arith))
+
+pub below_more : (p : ℕ → Bool) (k : ℕ) → below p (suc k) ≡ below p k + cond (p k) 1 0
+below_more p k = ap (count_by p) (range_more 0 k k (omega arith)) ∙ sum_by_push (λ j. cond (p j) 1 0) (range_with_len 0 k) k
+
+pub below_yes : (p : ℕ → Bool) (k : ℕ) → p k ≡ true → below p (k + 1) ≡ below p k + 1
+below_yes p k e = ap (below p) (add-one k) ∙ below_more p k ∙ ap (λ b. below p k + cond b 1 0) e
+
+pub below_no : (p : ℕ → Bool) (k : ℕ) → p k ≡ false → below p (k + 1) ≡ below p k
+below_no p k e = let none : below p k + 0 ≡ below p k = omega arith in ap (below p) (add-one k) ∙ below_more p k ∙ ap (λ b. below p k + cond b 1 0) e ∙ none
+
+-- tests that agree on the numbers that are looked at
+pub all_from-same : (p q : ℕ → Bool) (low n : ℕ) → ((k : ℕ) → low ≤ k → k < low + n → p k ≡ q k) → filter p (range_with_len low n) ≡ filter q (range_with_len low n)
+all_from-same p q low zero same = refl
+all_from-same p q low (suc n) same =
+    let rest : filter p (range_with_len (low + 1) n) ≡ filter q (range_with_len (low + 1) n) = all_from-same p q (low + 1) n (λ k above under. same k (omega arith) (omega arith)) in
+    let here : p low ≡ q low = same low (omega arith) (omega arith) in
+    ap (λ b. cond b (low ∷ filter p (range_with_len (low + 1) n)) (filter p (range_with_len (low + 1) n))) here ∙ ap (λ l. cond (q low) (low ∷ l) l) rest
+
+pub below_same : (p q : ℕ → Bool) (n : ℕ) → ((k : ℕ) → k < n → p k ≡ q k) → below p n ≡ below q n
+below_same p q zero same = refl
+below_same p q (suc n) same =
+    let rest : below p n ≡ below q n = below_same p q n (λ k under. same k (omega arith)) in
+    let here : p n ≡ q n = same n (omega arith) in
+    below_more p n ∙ ap₂ (λ a b. a + cond b 1 0) rest here ∙ sym (below_more q n)
+
+-- pushed onto what stands before
+pub onto : {X : Type 0} (front rest new all : List X) (x : X) → new ≡ front ++ x ∷ [] → front ++ (x ∷ rest) ≡ all → new ++ rest ≡ all
+onto front rest new all x is e = ap (λ l. l ++ rest) is ∙ append_assoc front (x ∷ []) rest ∙ e
+
+-- what a `Vec` holds after a write to all of it
+pub whole : {X : Type 0} (n : ℕ) (xs ys : List X) → n ≡ length xs → take n (xs ++ ys) ≡ xs
+whole n xs ys e = ap (λ m. take m (xs ++ ys)) e ∙ take-append_seam xs ys

@@ -1,0 +1,121 @@
+-- What drawn rectangles cover, and that a grid has at most one tiling.
+use Rattle.std.proofs.Common.{⊎_elim, List, [], ◌∷◌, subst, ◌≡◌, ℕ, ◌+◌, ◌<◌, ◌≤◌, true, ◌&&◌, leb, ltb, length, refl, sym, ap, ◌∙◌, arith}
+use Rattle.std.proofs.lemmas.List.{get_or_past}
+use Rattle.rst_markup_tables.specs.Places.{Row}
+use Rattle.rst_markup_tables.specs.declared.places.Place.TheVariants.{Second}
+use Rattle.std.proofs.lemmas.Bool.{le-leb, lt-ltb, leb-true, ltb-true, and_parts, and_from, cases_lt, cases_order, cases_Bool}
+use Rattle.rst_markup_tables.specs.declared.drawn.Rectangle.{Rectangle}
+use Rattle.rst_markup_tables.specs.Places.{Grid, width, place, row_at, mark_at, mark_of, no_row}
+use Rattle.rst_markup_tables.specs.Drawn.{IsEven, IsFrame, IsDrawn, covers, one_if, times, BeginsFrom, AreDrawn, IsTiling}
+
+-- ---- places
+
+pub place_within : (G : Grid) (i j c : ℕ) → place G i j ≡ c → 0 < c → (i < length G) × (j < length (row_at G i))
+place_within G i j c h some =
+    let inside : j < length (row_at G i) =
+    ⊎_elim (λ k. k) (λ past. absurd (let e : mark_at (row_at G i) j ≡ 0 = ap mark_of (get_or_past (row_at G i) j Second past) in omega arith)) (cases_lt j (length (row_at G i))) in
+    ⊎_elim
+    (λ k. (k, inside))
+    (λ past. absurd (let e : length (row_at G i) ≡ 0 = ap (λ (r : Row). length r.places) (get_or_past G i no_row past) in omega arith))
+    (cases_lt i (length G))
+
+pub frame_within : (G : Grid) (r : Rectangle) → IsEven G → IsFrame G r → (r.bottom < length G) × (r.right < width G)
+frame_within G r even f =
+    let corner = place_within G r.bottom r.right 43 f.bottom_right (omega arith) in
+    (corner.0, let e = even r.bottom corner.0 in let k = corner.1 in omega arith)
+
+-- ---- covering
+
+pub covers_yes : (r : Rectangle) (i j : ℕ) → r.top ≤ i → i < r.bottom → r.left ≤ j → j < r.right → one_if (covers r i j) ≡ 1
+unfolding covers
+covers_yes r i j a b c d = ap one_if (and_from _ _ (le-leb r.top i a) (and_from _ _ (lt-ltb i r.bottom b) (and_from _ _ (le-leb r.left j c) (lt-ltb j r.right d))))
+
+pub covers_parts : (r : Rectangle) (i j : ℕ) → covers r i j ≡ true → (r.top ≤ i) × (i < r.bottom) × (r.left ≤ j) × (j < r.right)
+unfolding covers
+covers_parts r i j h =
+    let h1 = and_parts (leb r.top i) (ltb i r.bottom && (leb r.left j && ltb j r.right)) h in
+    let h2 = and_parts (ltb i r.bottom) (leb r.left j && ltb j r.right) h1.1 in
+    let h3 = and_parts (leb r.left j) (ltb j r.right) h2.1 in
+    (leb-true _ _ h1.0, ltb-true _ _ h2.0, leb-true _ _ h3.0, ltb-true _ _ h3.1)
+
+pub covers_no : (r : Rectangle) (i j : ℕ) → (r.top ≤ i → i < r.bottom → r.left ≤ j → j < r.right → ⊥) → one_if (covers r i j) ≡ 0
+covers_no r i j h = ⊎_elim
+    (λ yes. let p = covers_parts r i j yes in absurd (h p.0 p.1 p.2 p.3))
+    (λ no. ap one_if no)
+    (cases_Bool (covers r i j))
+
+-- a square before the first of the rectangles lies in none
+pub times_before : (G : Grid) (i j x y : ℕ) (rs : List Rectangle) → AreDrawn G i j rs → x ≤ i → (x ≡ i → y < j) → times rs x y ≡ 0
+times_before G i j x y [] a up left = refl
+times_before G i j x y (r ∷ rs) a up left =
+    let from : BeginsFrom i j r = a.0 in
+    let here : one_if (covers r x y) ≡ 0 = covers_no r x y (λ p q s t. omega (arith, from.0, from.1)) in
+    let rest : times rs x y ≡ 0 = times_before G r.top (r.left + 1) x y rs a.2 (omega (arith, from.0)) (λ e. omega (arith, from.0, from.1)) in
+    omega arith
+
+-- ---- a drawn rectangle is known by its corner
+
+same_corners : (r q : Rectangle) → r.top ≡ q.top → r.left ≡ q.left → r.bottom ≡ q.bottom → r.right ≡ q.right → r ≡ q
+same_corners r q t l b e =
+    let make : ℕ → ℕ → ℕ → ℕ → Rectangle = λ x y z w. record { top = x; left = y; bottom = z; right = w } in
+    ap (λ x. make x r.left r.bottom r.right) t ∙ ap (λ y. make q.top y r.bottom r.right) l ∙ ap (λ z. make q.top q.left z r.right) b ∙ ap (make q.top q.left q.bottom) e
+
+pub drawn_same : (G : Grid) (r q : Rectangle) → IsDrawn G r → IsDrawn G q → r.top ≡ q.top → r.left ≡ q.left → r ≡ q
+drawn_same G r q a b top left =
+    let right : r.right ≡ q.right = omega (arith, a.least_right q b.frame (sym top) (sym left), b.least_right r a.frame top left) in
+    let bottom : r.bottom ≡ q.bottom = omega (arith, a.least_bottom q b.frame (sym top) (sym left) (sym right), b.least_bottom r a.frame top left right) in
+    same_corners r q top left bottom right
+
+-- ---- uniqueness
+
+-- the square at the corner of the first rectangle lies in it
+pub times_corner : (G : Grid) (r : Rectangle) (rs : List Rectangle) → IsDrawn G r → 1 ≤ times (r ∷ rs) r.top r.left
+times_corner G r rs d =
+    let here = covers_yes r r.top r.left (omega arith) d.frame.high (omega arith) d.frame.wide in omega arith
+
+-- lists of drawn rectangles that cover the same squares equally often are the same
+pub same_lists : (G : Grid) (i j : ℕ) (rs qs : List Rectangle) → IsEven G → AreDrawn G i j rs → AreDrawn G i j qs
+    → ((x y : ℕ) → x + 1 < length G → y + 1 < width G → times rs x y ≡ times qs x y) → rs ≡ qs
+same_lists G i j [] [] even a b same = refl
+same_lists G i j (r ∷ rs) [] even a b same =
+    let d : IsDrawn G r = a.1 in
+    let w = frame_within G r even d.frame in
+    absurd (omega (arith, d.frame.high, d.frame.wide, w.0, w.1, times_corner G r rs d, same r.top r.left))
+same_lists G i j [] (q ∷ qs) even a b same =
+    let d : IsDrawn G q = b.1 in
+    let w = frame_within G q even d.frame in
+    absurd (omega (arith, d.frame.high, d.frame.wide, w.0, w.1, times_corner G q qs d, same q.top q.left))
+same_lists G i j (r ∷ rs) (q ∷ qs) even a b same =
+    let d : IsDrawn G r = a.1 in
+    let e : IsDrawn G q = b.1 in
+    let v = frame_within G r even d.frame in
+    let w = frame_within G q even e.frame in
+    let high_r : r.top < r.bottom = d.frame.high in
+    let wide_r : r.left < r.right = d.frame.wide in
+    let high_q : q.top < q.bottom = e.frame.high in
+    let wide_q : q.left < q.right = e.frame.wide in
+    let in_r = times_corner G r rs d in
+    let in_q = times_corner G q qs e in
+    let same_r : times (r ∷ rs) r.top r.left ≡ times (q ∷ qs) r.top r.left = same r.top r.left (omega arith) (omega arith) in
+    let same_q : times (r ∷ rs) q.top q.left ≡ times (q ∷ qs) q.top q.left = same q.top q.left (omega arith) (omega arith) in
+    let not_before : r.top ≤ q.top → (r.top ≡ q.top → r.left < q.left) → ⊥ = λ up left.
+    let none : times (q ∷ qs) r.top r.left ≡ 0 = times_before G q.top q.left r.top r.left (q ∷ qs) ((omega arith, λ x. omega arith), b.1, b.2) up left in
+    omega arith in
+    let not_behind : q.top ≤ r.top → (q.top ≡ r.top → q.left < r.left) → ⊥ = λ up left.
+    let none : times (r ∷ rs) q.top q.left ≡ 0 = times_before G r.top r.left q.top q.left (r ∷ rs) ((omega arith, λ x. omega arith), a.1, a.2) up left in
+    omega arith in
+    let top : r.top ≡ q.top = ⊎_elim (λ h. h) (λ ne. ⊎_elim
+    (λ less. absurd (not_before (omega arith) (λ x. absurd (omega arith))))
+    (λ more. absurd (not_behind (omega arith) (λ x. absurd (omega arith)))) ne) (cases_order r.top q.top) in
+    let left : r.left ≡ q.left = ⊎_elim (λ h. h) (λ ne. ⊎_elim
+    (λ less. absurd (not_before (omega arith) (λ x. less)))
+    (λ more. absurd (not_behind (omega arith) (λ x. more))) ne) (cases_order r.left q.left) in
+    let one : r ≡ q = drawn_same G r q d e top left in
+    let b2 : AreDrawn G r.top (r.left + 1) qs = subst (λ (z : Rectangle). AreDrawn G z.top (z.left + 1) qs) (sym one) b.2 in
+    let rest : rs ≡ qs = same_lists G r.top (r.left + 1) rs qs even a.2 b2
+    (λ x y h k. let s = same x y h k in let o : one_if (covers r x y) ≡ one_if (covers q x y) = ap (λ z. one_if (covers z x y)) one in omega arith) in
+    cc
+
+pub one_tiling_of : (G : Grid) → IsEven G → (rs qs : List Rectangle) → IsTiling G rs → IsTiling G qs → rs ≡ qs
+one_tiling_of G even rs qs a b =
+    same_lists G 0 0 rs qs even a.drawn b.drawn (λ x y h k. a.once x y h k ∙ sym (b.once x y h k))

@@ -1,0 +1,212 @@
+-- The scan of the unit squares in reading order.
+use Rattle.std.proofs.Common.{◌⊎◌, inl, inr, ⊎_elim, List, [], ◌∷◌, ◌++◌, append_assoc, append-nil, None, subst, ◌≡◌, ℕ, ◌+◌, ◌-◌, ◌<◌, ◌≤◌, true, false, get_or, length, refl, sym, ap, ◌∙◌, arith}
+use Rattle.std.proofs.lemmas.Bool.{cases_lt}
+use Rattle.rst_markup_tables.specs.declared.drawn.Rectangle.{Rectangle}
+use Rattle.rst_markup_tables.specs.Places.{Grid, width}
+use Rattle.rst_markup_tables.specs.Drawn.{IsEven, IsDrawn, covers, one_if, times, BeginsFrom, AreDrawn, IsTiling, Tiles}
+use Rattle.rst_markup_tables.specs.Search.{Draws, Fills}
+use Rattle.rst_markup_tables.proofs.Rectangles.{frame_within, covers_yes, covers_no, times_before, drawn_same}
+
+-- the rectangles that were found before the unit square (i, j); `depths` says of each column of unit squares how far down they cover it
+pub record Stands (G : Grid) (i j : ℕ) (depths : List ℕ) (rs : List Rectangle) : Type 0 where
+  pub size : length depths ≡ width G - 1
+  pub above : (k : ℕ) → k < j → k < length depths → i < get_or depths k 0
+  pub here : (k : ℕ) → j ≤ k → k < length depths → i ≤ get_or depths k 0
+  pub covered : (x y : ℕ) → y < length depths → x < get_or depths y 0 → times rs x y ≡ 1
+  pub free : (x y : ℕ) → y < length depths → get_or depths y 0 ≤ x → times rs x y ≡ 0
+  pub drawn : (qs : List Rectangle) → AreDrawn G i j qs → AreDrawn G 0 0 (rs ++ qs)
+  pub rest : (qs : List Rectangle) → IsTiling G qs → (ps : List Rectangle) × (qs ≡ rs ++ ps) × AreDrawn G i j ps
+
+times_append : (rs qs : List Rectangle) (x y : ℕ) → times (rs ++ qs) x y ≡ times rs x y + times qs x y
+times_append [] qs x y = omega arith
+times_append (r ∷ rs) qs x y = omega (arith, times_append rs qs x y)
+
+-- a later place allows less
+weaken : (G : Grid) (i j k l : ℕ) (qs : List Rectangle) → i ≤ k → (i ≡ k → j ≤ l) → AreDrawn G k l qs → AreDrawn G i j qs
+weaken G i j k l [] up left a = a
+weaken G i j k l (q ∷ qs) up left a =
+    let from : BeginsFrom k l q = a.0 in
+    ((omega (arith, from.0), λ e. omega (arith, from.0, from.1)), a.1, a.2)
+
+-- the first of the rectangles, where the unit square from which they come lies in one of them
+record Head (G : Grid) (i j : ℕ) (ps : List Rectangle) : Type 0 where
+  first : Rectangle
+  others : List Rectangle
+  is : ps ≡ first ∷ others
+  top : first.top ≡ i
+  left : first.left ≡ j
+  drawn : IsDrawn G first
+  rest : AreDrawn G i (j + 1) others
+
+head_at : (G : Grid) (i j : ℕ) (ps : List Rectangle) → AreDrawn G i j ps → times ps i j ≡ 1 → Head G i j ps
+head_at G i j [] a once = absurd (omega arith)
+head_at G i j (p ∷ ps) a once =
+    let from : BeginsFrom i j p = a.0 in
+    let not_before : i ≤ p.top → (i ≡ p.top → j < p.left) → ⊥ = λ up left.
+    let none : times (p ∷ ps) i j ≡ 0 = times_before G p.top p.left i j (p ∷ ps) ((omega arith, λ x. omega arith), a.1, a.2) up left in
+    omega arith in
+    let top : p.top ≡ i = ⊎_elim (λ less. absurd (not_before (omega arith) (λ x. absurd (omega arith)))) (λ more. omega (arith, from.0)) (cases_lt i p.top) in
+    let left : p.left ≡ j = ⊎_elim (λ less. absurd (not_before (omega arith) (λ x. less))) (λ more. omega (arith, from.0, from.1)) (cases_lt j p.left) in
+    let rest : AreDrawn G i (j + 1) ps = weaken G i (j + 1) p.top (p.left + 1) ps (omega arith) (λ x. omega arith) a.2 in
+    record { first = p; others = ps; is = refl; top = top; left = left; drawn = a.1; rest = rest }
+
+-- a unit square in none of the rectangles is passed
+pass : (G : Grid) (i j : ℕ) (ps : List Rectangle) → AreDrawn G i j ps → times ps i j ≡ 0 → AreDrawn G i (j + 1) ps
+pass G i j [] a none = a
+pass G i j (p ∷ ps) a none =
+    let from : BeginsFrom i j p = a.0 in
+    let d : IsDrawn G p = a.1 in
+    let later : i ≡ p.top → j + 1 ≤ p.left = λ top. ⊎_elim
+    (λ less. absurd (let yes = covers_yes p i j (omega arith) (omega (arith, d.frame.high)) (omega (arith, from.1)) (omega (arith, d.frame.wide, from.1)) in omega arith))
+    (λ more. more) (cases_lt p.left (j + 1)) in
+    ((from.0, later), a.1, a.2)
+
+pub skip : (G : Grid) (i j : ℕ) (depths : List ℕ) (rs : List Rectangle) → Stands G i j depths rs
+    → i + 1 < length G → j < length depths → (get_or depths j 0 ≡ i → ⊥) → Stands G i (j + 1) depths rs
+skip G i j depths rs s high wide ne =
+    let at : i ≤ get_or depths j 0 = s.here j (omega arith) wide in
+    let deep : i < get_or depths j 0 = omega (arith, ne) in
+    let size : length depths ≡ width G - 1 = s.size in
+    record {
+      size = size;
+      above = λ k below within. ⊎_elim (λ less. s.above k less within) (λ more. let e : j ≡ k = omega arith in subst (λ k. i < get_or depths k 0) e deep) (cases_lt k j);
+      here = λ k behind within. s.here k (omega arith) within;
+      covered = s.covered;
+      free = s.free;
+      drawn = λ qs a. s.drawn qs (weaken G i j i (j + 1) qs (omega arith) (λ x. omega arith) a);
+      rest = λ qs t.
+          let p = s.rest qs t in
+          let one : times qs i j ≡ 1 = t.once i j high (omega arith) in
+          let both : times qs i j ≡ times rs i j + times p.0 i j = ap (λ z. times z i j) p.1 ∙ times_append rs p.0 i j in
+          let had : times rs i j ≡ 1 = s.covered i j wide deep in
+          (p.0, p.1, pass G i j p.0 p.2 (omega arith));
+    }
+
+-- where the unit square is free, the rest of each tiling begins there
+next_of : (G : Grid) (i j : ℕ) (depths : List ℕ) (rs : List Rectangle) (qs : List Rectangle) → (s : Stands G i j depths rs)
+    → i + 1 < length G → j < length depths → get_or depths j 0 ≡ i → (t : IsTiling G qs) → Head G i j (s.rest qs t).0
+next_of G i j depths rs qs s high wide here t =
+    let p = s.rest qs t in
+    let size : length depths ≡ width G - 1 = s.size in
+    let one : times qs i j ≡ 1 = t.once i j high (omega arith) in
+    let both : times qs i j ≡ times rs i j + times p.0 i j = ap (λ z. times z i j) p.1 ∙ times_append rs p.0 i j in
+    let none : times rs i j ≡ 0 = s.free i j wide (omega arith) in
+    head_at G i j p.0 p.2 (omega arith)
+
+pub none_drawn : (G : Grid) (i j : ℕ) (depths : List ℕ) (rs : List Rectangle) → Stands G i j depths rs
+    → i + 1 < length G → j < length depths → get_or depths j 0 ≡ i → Draws G i j None → Tiles G None
+none_drawn G i j depths rs s high wide here none qs t =
+    let h = next_of G i j depths rs qs s high wide here t in
+    none h.first h.drawn.frame h.top h.left
+
+pub overlap : (G : Grid) (i j : ℕ) (depths new : List ℕ) (rs : List Rectangle) (r : Rectangle) → IsEven G → Stands G i j depths rs
+    → i + 1 < length G → j < length depths → get_or depths j 0 ≡ i → IsDrawn G r → r.top ≡ i → r.left ≡ j → Fills r depths new false → Tiles G None
+overlap G i j depths new rs r even s high wide here d top left bad qs t =
+    let h = next_of G i j depths rs qs s high wide here t in
+    let p = s.rest qs t in
+    let k : ℕ = bad.0 in
+    let size : length depths ≡ width G - 1 = s.size in
+    let same : r ≡ h.first = drawn_same G r h.first d h.drawn (top ∙ sym h.top) (left ∙ sym h.left) in
+    let inside = frame_within G r even d.frame in
+    let low : r.left ≤ k = bad.1 in
+    let less : k < r.right = bad.2 in
+    let within : k < length depths = omega (arith, inside.1) in
+    let at : i ≤ get_or depths k 0 = s.here k (omega arith) within in
+    let had : times rs i k ≡ 1 = s.covered i k within (omega (arith, bad.3)) in
+    let one : times qs i k ≡ 1 = t.once i k high (omega arith) in
+    let both : times qs i k ≡ times rs i k + times p.0 i k = ap (λ z. times z i k) p.1 ∙ times_append rs p.0 i k in
+    let parts : times p.0 i k ≡ one_if (covers r i k) + times h.others i k = ap (λ z. times z i k) h.is ∙ ap (λ z. one_if (covers z i k) + times h.others i k) (sym same) in
+    let yes : one_if (covers r i k) ≡ 1 = covers_yes r i k (omega arith) (omega (arith, d.frame.high)) low less in
+    omega arith
+
+pub add : (G : Grid) (i j : ℕ) (depths new : List ℕ) (rs : List Rectangle) (r : Rectangle) → IsEven G → Stands G i j depths rs
+    → i + 1 < length G → j < length depths → get_or depths j 0 ≡ i → IsDrawn G r → r.top ≡ i → r.left ≡ j → Fills r depths new true → Stands G i (j + 1) new (rs ++ r ∷ [])
+add G i j depths new rs r even s high wide here d top left good =
+    let size : length depths ≡ width G - 1 = s.size in
+    let same_size : length new ≡ length depths = good.0 in
+    let tall : r.top < r.bottom = d.frame.high in
+    let broad : r.left < r.right = d.frame.wide in
+    let count : (x y : ℕ) → times (rs ++ r ∷ []) x y ≡ times rs x y + one_if (covers r x y) = λ x y. omega (arith, times_append rs (r ∷ []) x y) in
+    -- a column is one of the rectangle's or it isn't
+    let cases : (k : ℕ) → ((r.left ≤ k) × (k < r.right)) ⊎ (r.left ≤ k → k < r.right → ⊥) = λ k. ⊎_elim
+    (λ before. inr (λ a b. omega arith))
+    (λ behind. ⊎_elim (λ within. inl (behind, within)) (λ past. inr (λ a b. omega arith)) (cases_lt k r.right))
+    (cases_lt k r.left) in
+    record {
+      size = same_size ∙ size;
+      above = λ k below within. ⊎_elim
+          (λ w. omega (arith, good.1 k w.0 w.1))
+          (λ out. let before : k < j = ⊎_elim (λ less. less) (λ more. absurd (out (omega arith) (omega arith))) (cases_lt k j) in omega (arith, good.2 k out, s.above k before (omega arith)))
+          (cases k);
+      here = λ k behind within. ⊎_elim
+          (λ w. omega (arith, good.1 k w.0 w.1))
+          (λ out. omega (arith, good.2 k out, s.here k (omega arith) (omega arith)))
+          (cases k);
+      covered = λ x y within below. ⊎_elim
+          (λ w.
+          let was = good.1 y w.0 w.1 in
+          ⊎_elim
+          (λ less.
+          let had : times rs x y ≡ 1 = s.covered x y (omega arith) (omega (arith, was.0)) in
+          let no : one_if (covers r x y) ≡ 0 = covers_no r x y (λ a b c e. omega arith) in
+          omega (arith, count x y))
+          (λ more.
+          let had : times rs x y ≡ 0 = s.free x y (omega arith) (omega (arith, was.0)) in
+          let yes : one_if (covers r x y) ≡ 1 = covers_yes r x y more (omega (arith, was.1)) w.0 w.1 in
+          omega (arith, count x y))
+          (cases_lt x r.top))
+          (λ out.
+          let had : times rs x y ≡ 1 = s.covered x y (omega arith) (omega (arith, good.2 y out)) in
+          let no : one_if (covers r x y) ≡ 0 = covers_no r x y (λ a b c e. out c e) in
+          omega (arith, count x y))
+          (cases y);
+      free = λ x y within below. ⊎_elim
+          (λ w.
+          let was = good.1 y w.0 w.1 in
+          let had : times rs x y ≡ 0 = s.free x y (omega arith) (omega (arith, was.0, was.1)) in
+          let no : one_if (covers r x y) ≡ 0 = covers_no r x y (λ a b c e. omega (arith, was.1)) in
+          omega (arith, count x y))
+          (λ out.
+          let had : times rs x y ≡ 0 = s.free x y (omega arith) (omega (arith, good.2 y out)) in
+          let no : one_if (covers r x y) ≡ 0 = covers_no r x y (λ a b c e. out c e) in
+          omega (arith, count x y))
+          (cases y);
+      drawn = λ qs a. subst (AreDrawn G 0 0) (sym (append_assoc rs (r ∷ []) qs))
+          (s.drawn (r ∷ qs) ((omega arith, λ x. omega arith), d, weaken G r.top (r.left + 1) i (j + 1) qs (omega arith) (λ x. omega arith) a));
+      rest = λ qs t.
+          let p = s.rest qs t in
+          let h = next_of G i j depths rs qs s high wide here t in
+          let same : h.first ≡ r = drawn_same G h.first r h.drawn d (h.top ∙ sym top) (h.left ∙ sym left) in
+          let is : qs ≡ rs ++ (r ∷ h.others) = p.1 ∙ ap (λ z. rs ++ z) (h.is ∙ ap (λ z. z ∷ h.others) same) in
+          (h.others, is ∙ sym (append_assoc rs (r ∷ []) h.others), h.rest);
+    }
+
+pub next_row : (G : Grid) (i j : ℕ) (depths : List ℕ) (rs : List Rectangle) → IsEven G → Stands G i j depths rs → length depths ≤ j → Stands G (i + 1) 0 depths rs
+next_row G i j depths rs even s all =
+    let size : length depths ≡ width G - 1 = s.size in
+    record {
+      size = size;
+      above = λ k below within. absurd (omega arith);
+      here = λ k behind within. omega (arith, s.above k (omega arith) within);
+      covered = s.covered;
+      free = s.free;
+      drawn = λ qs a. s.drawn qs (weaken G i j (i + 1) 0 qs (omega arith) (λ x. absurd (omega arith)) a);
+      rest = λ qs t. let p = s.rest qs t in (p.0, p.1, below_row G i j p.0 even (omega arith) p.2);
+    }
+  where
+    below_row : (G : Grid) (i j : ℕ) (ps : List Rectangle) → IsEven G → width G - 1 ≤ j → AreDrawn G i j ps → AreDrawn G (i + 1) 0 ps
+    below_row G i j [] even past a = a
+    below_row G i j (p ∷ ps) even past a =
+        let from : BeginsFrom i j p = a.0 in
+        let d : IsDrawn G p = a.1 in
+        let inside = frame_within G p even d.frame in
+        let later : i + 1 ≤ p.top = ⊎_elim (λ less. absurd (omega (arith, from.0, from.1, d.frame.wide, inside.1))) (λ more. more) (cases_lt p.top (i + 1)) in
+        ((later, λ x. omega arith), a.1, a.2)
+
+pub finish : (G : Grid) (i : ℕ) (depths : List ℕ) (rs : List Rectangle) → Stands G i 0 depths rs → length G - 1 ≤ i → IsTiling G rs
+finish G i depths rs s all =
+    let size : length depths ≡ width G - 1 = s.size in
+    record {
+      drawn = subst (AreDrawn G 0 0) (append-nil rs) (s.drawn [] tt);
+      once = λ x y high wide. s.covered x y (omega arith) (let deep : i ≤ get_or depths y 0 = s.here y (omega arith) (omega arith) in omega arith);
+    }

@@ -1,0 +1,130 @@
+-- Simple tables.
+use Rattle.std.proofs.Common.{◌≡◌, ℕ, suc, ◌+◌, ◌-◌, ◌<◌, ◌≤◌, max, Bool, true, false, cond, ltb, List, [], ◌∷◌, ◌++◌, get_or, length, drop, take, append_assoc, option_map, map, filter, zero, fold, slice_range, drop_of_length-le, ⊎_elim, refl, sym, ap, ap₂, ◌∙◌, arith, Option, Some, None}
+use Rattle.std.proofs.lemmas.Bool.{eq-eqb, ne_eqb, lt-ltb, ltb-true}
+use Rattle.std.proofs.lemmas.Bool.{cases_lt}
+use Rattle.std.proofs.lemmas.List.{drop_more, map-append, get_or_past}
+use Rattle.std.proofs.lemmas.List.Sums.{position_or_len_is, fold-append}
+use Rattle.std.specs.Prelude.{position, option_and_then, flat_map}
+use Rattle.std.specs.List.{position_or_len, range_with_len}
+use Rattle.rst_markup_tables.specs.Neighbours.{neighbours}
+use Rattle.rst_markup_tables.specs.declared.simple_rows.RowLines.{RowLines}
+use Rattle.rst_markup_tables.proofs.Lists.{all_from-take, all_from-more, all_from-end}
+use Rattle.rst_markup_tables.specs.Places.{Grid, Row, no_row, row_at}
+use Rattle.rst_markup_tables.specs.declared.places.Place.{Place}
+use Rattle.rst_markup_tables.specs.SimpleTable.{begins_row, row_lines, row_between, section, lines_of_row, longest, last_joined, joining, spread}
+use Rattle.rst_markup_tables.specs.declared.spans.Span.{Span}
+
+left_more : (k high : ℕ) → k < high → high - k ≡ suc (high - (k + 1))
+left_more k high h = omega arith
+
+-- ---- the place of the first item that passes
+
+pub position_at : {X : Type 0} (p : X → Bool) (xs : List X) (i : ℕ) (d : X) → i < length xs → p (get_or xs i d) ≡ true → ((k : ℕ) → k < i → p (get_or xs k d) ≡ false) → position p xs ≡ Some i
+position_at p xs i d inside hit before =
+    let e : position_or_len p xs ≡ i = position_or_len_is p xs i d (omega arith) before (λ there. hit) in rw (e, lt-ltb i (length xs) inside) refl
+
+pub position_none : {X : Type 0} (p : X → Bool) (xs : List X) (d : X) → ((k : ℕ) → k < length xs → p (get_or xs k d) ≡ false) → position p xs ≡ None
+position_none p xs d fails =
+    let e : position_or_len p xs ≡ length xs = position_or_len_is p xs (length xs) d (omega arith) fails (λ there. absurd (omega (arith, there))) in
+    ap (λ n. cond (ltb n (length xs)) (Some n) None) e ∙ by (ltb (length xs) (length xs)) refl
+  where
+    by : (b : Bool) → ltb (length xs) (length xs) ≡ b → cond b (Some (length xs)) None ≡ None
+    by true less = absurd (omega (arith, ltb-true (length xs) (length xs) less))
+    by false less = refl
+
+-- ---- the spans of a rule
+
+pub spread_more : (wide new left : List Span) (s : Span) (ss : List Span) (last : ℕ) → last_joined left s ≡ Some last → new ≡ wide ++ joining s (last + 1) ∷ []
+    → option_map (λ others. new ++ others) (spread (drop (last + 1) left) ss) ≡ option_map (λ others. wide ++ others) (spread left (s ∷ ss))
+spread_more wide new left s ss last e is =
+    by (spread (drop (last + 1) left) ss)
+    ∙ sym (ap (λ o. option_map (λ others. wide ++ others) (option_and_then (λ k. option_map (λ others. joining s (k + 1) ∷ others) (spread (drop (k + 1) left) ss)) o)) e)
+  where
+    by : (o : Option (List Span)) → option_map (λ others. new ++ others) o ≡ option_map (λ others. wide ++ others) (option_map (λ others. joining s (last + 1) ∷ others) o)
+    by None = refl
+    by (Some others) = ap Some (ap (λ l. l ++ others) is ∙ append_assoc wide (joining s (last + 1) ∷ []) others)
+
+-- ---- rows
+
+-- the rows from place `from` on, where the lines before place `to` begin no other
+abbrev pub rows_left : Grid → ℕ → ℕ → ℕ → List RowLines
+rows_left T from to rule = map (row_between rule) (neighbours (from ∷ (filter (begins_row T) (range_with_len to (rule - to)) ++ rule ∷ [])))
+
+pub rows_left-take : (T : Grid) (from to rule : ℕ) → to < rule → begins_row T to ≡ true → rows_left T from to rule ≡ row_lines from to 0 ∷ rows_left T to (to + 1) rule
+rows_left-take T from to rule h e =
+    ap (λ l. map (row_between rule) (neighbours (from ∷ (l ++ rule ∷ [])))) (all_from-take (begins_row T) to rule h e)
+    ∙ ap (λ b. row_lines from to (cond b rule 0) ∷ rows_left T to (to + 1) rule) (ne_eqb to rule (λ same. absurd (omega (arith, same, h))))
+
+pub rows_left-more : (T : Grid) (from to rule : ℕ) → to < rule → begins_row T to ≡ false → rows_left T from to rule ≡ rows_left T from (to + 1) rule
+rows_left-more T from to rule h e = ap (λ l. map (row_between rule) (neighbours (from ∷ (l ++ rule ∷ [])))) (all_from-more (begins_row T) to rule h e)
+
+pub rows_left-end : (T : Grid) (from to rule : ℕ) → rule ≤ to → rows_left T from to rule ≡ row_lines from rule rule ∷ []
+rows_left-end T from to rule h =
+    ap (λ l. map (row_between rule) (neighbours (from ∷ (l ++ rule ∷ [])))) (all_from-end (begins_row T) to rule h)
+    ∙ ap (λ b. row_lines from rule (cond b rule 0) ∷ []) (eq-eqb rule rule refl)
+
+-- the rows of the lines from `low` on, cut at rules
+abbrev pub sections_left : Grid → ℕ → List ℕ → List RowLines
+sections_left T low rules = flat_map (λ (p : ℕ × ℕ). section T (p.0 + 1) p.1) (neighbours ((low - 1) ∷ rules))
+
+pub sections_left-more : (T : Grid) (low rule : ℕ) (rules : List ℕ) → 1 ≤ low → sections_left T low (rule ∷ rules) ≡ section T low rule ++ sections_left T (rule + 1) rules
+sections_left-more T low rule rules h =
+    let before : low - 1 + 1 ≡ low = omega arith in
+    let behind : rule ≡ rule + 1 - 1 = omega arith in
+    ap₂ (λ n m. section T n rule ++ flat_map (λ (p : ℕ × ℕ). section T (p.0 + 1) p.1) (neighbours (m ∷ rules))) before behind
+
+-- ---- the longest line
+
+-- how many places the longest of some lines has, or n if that is more
+abbrev pub longest_with : ℕ → Grid → ℕ
+longest_with n lines = fold max n (map (λ (line : Row). length line.places) lines)
+
+max_regroup : (a b c : ℕ) → max (max a b) c ≡ max a (max b c)
+max_regroup a b c = grind arith
+
+longest-is : (n : ℕ) (lines : Grid) → longest_with n lines ≡ max n (longest lines)
+longest-is n [] = omega arith
+longest-is n (r ∷ rs) =
+    longest-is (max n (length r.places)) rs ∙ max_regroup n (length r.places) (longest rs) ∙ ap (max n) (sym (longest-is (length r.places) rs) ∙ ap (λ m. longest_with m rs) (none (length r.places)))
+  where
+    none : (m : ℕ) → m ≡ max 0 m
+    none m = omega arith
+
+-- the lines from a place up to another, read one by one
+slice-some : (T : Grid) (k to : ℕ) → k < to → k < length T → slice_range T k to ≡ get_or T k no_row ∷ slice_range T (k + 1) to
+slice-some T k to h inside = ap (λ n. take n (drop k T)) (left_more k to h) ∙ ap (take (suc (to - (k + 1)))) (drop_more T k no_row inside)
+
+slice-none : (T : Grid) (k to : ℕ) → length T ≤ k → slice_range T k to ≡ []
+slice-none T k to h = ap (take (to - k)) (drop_of_length-le T h) ∙ by (to - k)
+  where
+    none : Grid
+    none = []
+
+    by : (n : ℕ) → take n none ≡ []
+    by zero = refl
+    by (suc n) = refl
+
+pub longest-more : (T : Grid) (k to n : ℕ) → k < to → longest_with (max n (length (row_at T k))) (slice_range T (k + 1) to) ≡ longest_with n (slice_range T k to)
+longest-more T k to n h = ⊎_elim
+    (λ inside. sym (ap (longest_with n) (slice-some T k to h inside)))
+    (λ past. let none : row_at T k ≡ [] = ap (λ (r : Row). r.places) (get_or_past T k no_row past) in
+    ap₂ longest_with (ap (λ (row : List Place). max n (length row)) none ∙ least n) (slice-none T (k + 1) to (omega arith)) ∙ sym (ap (longest_with n) (slice-none T k to past)))
+    (cases_lt k (length T))
+  where
+    least : (m : ℕ) → max m 0 ≡ m
+    least m = omega arith
+
+pub longest-end : (T : Grid) (k to n : ℕ) → to ≤ k → n ≡ longest_with n (slice_range T k to)
+longest-end T k to n h = let none : to - k ≡ 0 = omega arith in sym (ap (λ m. longest_with n (take m (drop k T))) none)
+
+-- the lines of one row more
+pub longest-row : (T : Grid) (n : ℕ) (r : RowLines) (rs : List RowLines) → longest_with (max n (longest (lines_of_row T r))) (flat_map (lines_of_row T) rs) ≡ longest_with n (flat_map (lines_of_row T) (r ∷ rs))
+longest-row T n r rs =
+    let size : Row → ℕ = λ line. length line.places in
+    ap (λ m. longest_with m (flat_map (lines_of_row T) rs)) (sym (longest-is n (lines_of_row T r)))
+    ∙ sym (ap (fold max n) (map-append size (lines_of_row T r) (flat_map (lines_of_row T) rs)) ∙ fold-append max n (map size (lines_of_row T r)) (map size (flat_map (lines_of_row T) rs)))
+
+-- ---- lines that were read
+
+pub take-more : (G : Grid) (k to : ℕ) (r : Row) → k < to → drop k G ≡ r ∷ drop (k + 1) G → take (to - k) (drop k G) ≡ r ∷ take (to - (k + 1)) (drop (k + 1) G)
+take-more G k to r h e = ap (λ n. take n (drop k G)) (left_more k to h) ∙ ap (take (suc (to - (k + 1)))) e

@@ -1,0 +1,79 @@
+use Rattle.std.proofs.Common.{◌≡◌, ◌+◌, ◌-◌, ◌∙◌, ◌++◌, ◌&&◌, true, false, cond, leb, Some, Option, ℕ, List, ap, sym, subst, drop, length-drop, arith}
+use Rattle.rst_text.specs.Block.{Block, front_text}
+use Rattle.rst_text.specs.Places.{IsLast}
+use Rattle.rst_text.specs.Shown.{block_of}
+use Rattle.rst_markup_lines.specs.Border.{is_grid_border}
+use Rattle.rst_markup_blocks.specs.declared.lines.LineTest.TheVariants.{Drawn}
+use Rattle.rst_markup_blocks.specs.TableLines.{is_drawn}
+use Rattle.rst_markup_blocks.specs.TableRows.{is_border_at}
+use Rattle.rst_markup_blocks.specs.Lines.{lines_while}
+use Rattle.rst_markup_blocks.proofs.LineLemmas.{while_more, while_stop, while_end}
+use Rattle.rst_markup_blocks.proofs.TableLemmas.{grid_bottom-is}
+use Rattle.rst_markup_tables.proofs.Lists.{onto}
+use Rattle.rst_markup_tables.proofs.GridLemmas.{drawn_rows, drawn-row, drawn-none, border-more, scan-over}
+use Rattle.rst_markup_tables.proofs.grid_lines.drawn_lines.Goals as goal
+
+pub returns-then-not-is_drawn-clause-lines : goal.returns-then-not-is_drawn-clause-lines
+returns-then-not-is_drawn-clause-lines c =
+    let B : Block = block_of c.args.view.now in
+    let stop : is_drawn (front_text (drop c.loop-k.k B)) ≡ false = sym (c.is_drawn.ensures ∙ ap is_drawn c.line-text.ensures.text) ∙ c.if-not-is_drawn.true in
+    drawn-none (drop c.loop-k.k B) c.loop-k.lines.items (drawn_rows (drop c.args.i B)) (while_stop c.loop-k.k Drawn B (omega arith) stop).0 c.loop-k.invariant.lines
+
+pub returns-then-not-is_drawn-clause-bottom : goal.returns-then-not-is_drawn-clause-bottom
+returns-then-not-is_drawn-clause-bottom c =
+    let B : Block = block_of c.args.view.now in
+    let X : Block = drop c.args.i B in
+    let stop : is_drawn (front_text (drop c.loop-k.k B)) ≡ false = sym (c.is_drawn.ensures ∙ ap is_drawn c.line-text.ensures.text) ∙ c.if-not-is_drawn.true in
+    let all : c.loop-k.k - c.args.i - 2 ≡ lines_while Drawn X - 2 = omega (arith, c.loop-k.invariant.among, (while_stop c.loop-k.k Drawn B (omega arith) stop).0) in
+    grid_bottom-is X (c.loop-k.k - c.args.i) c.loop-k.bottom all c.loop-k.invariant.last
+
+pub returns-then-not-is_drawn-clause-looks : goal.returns-then-not-is_drawn-clause-looks
+returns-then-not-is_drawn-clause-looks c =
+    let B : Block = block_of c.args.view.now in
+    let X : Block = drop c.args.i B in
+    let over = scan-over X (c.loop-k.k + 1 - c.args.i) (omega (arith, c.loop-k.invariant.among)) (omega (arith, length-drop c.args.i B)) in
+    omega (arith, over, c.loop-k.invariant.looks, c.line-text.ensures.looks)
+
+pub returns-in_err-line-clause-looks : goal.returns-in_err-line-clause-looks
+returns-in_err-line-clause-looks c =
+    let B : Block = block_of c.args.view.now in
+    let X : Block = drop c.args.i B in
+    let over = scan-over X (c.loop-k.k + 1 - c.args.i) (omega (arith, c.loop-k.invariant.among)) (omega (arith, length-drop c.args.i B)) in
+    omega (arith, over, c.loop-k.invariant.looks, c.line-text.ensures.looks)
+
+pub returns-in_err-push-clause-looks : goal.returns-in_err-push-clause-looks
+returns-in_err-push-clause-looks c =
+    let B : Block = block_of c.args.view.now in
+    let X : Block = drop c.args.i B in
+    let over = scan-over X (c.loop-k.k + 1 - c.args.i) (omega (arith, c.loop-k.invariant.among)) (omega (arith, length-drop c.args.i B)) in
+    omega (arith, over, c.loop-k.invariant.looks, c.line-text.ensures.looks)
+
+pub loop-k-preserved : goal.loop-k-preserved
+loop-k-preserved c =
+    let B : Block = block_of c.args.view.now in
+    let n : ℕ = c.loop-k.k - c.args.i in
+    let drawn : is_drawn (front_text (drop c.loop-k.k B)) ≡ true = sym (c.is_drawn.ensures ∙ ap is_drawn c.line-text.ensures.text) ∙ c.if-not-is_drawn.false in
+    let rows = drawn-row B c.loop-k.k c.in_ok-line.line c.in_ok-line.ensures drawn in
+    let more = while_more c.loop-k.k Drawn B (omega arith) drawn in
+    let step = border-more B c.args.i c.loop-k.k c.loop-k.bottom (omega arith) c.loop-k.invariant.last in
+    let new = c.with_border-bottom.ensures ∙ ap (λ (t : List ℕ). cond (leb 2 n && is_grid_border t) (Some n) c.loop-k.bottom) c.line-text.ensures.text in
+    record {
+      lines = onto _ _ _ _ _ c.in_ok-push.ensures.items (sym (ap (λ l. c.loop-k.lines.items ++ l) rows) ∙ c.loop-k.invariant.lines);
+      among = sym more ∙ c.loop-k.invariant.among;
+      last = subst (λ (o : Option ℕ). IsLast (is_border_at (drop c.args.i B)) 2 (c.loop-k.k + 1 - c.args.i) o) (sym new) step;
+      looks = omega (arith, c.loop-k.invariant.looks, c.line-text.ensures.looks);
+    }
+
+pub returns-clause-bottom : goal.returns-clause-bottom
+returns-clause-bottom c =
+    let B : Block = block_of c.args.view.now in
+    let X : Block = drop c.args.i B in
+    let all : c.loop-k.k - c.args.i - 2 ≡ lines_while Drawn X - 2 = omega (arith, c.loop-k.invariant.among, while_end c.loop-k.k Drawn B (omega arith)) in
+    grid_bottom-is X (c.loop-k.k - c.args.i) c.loop-k.bottom all c.loop-k.invariant.last
+
+pub returns-clause-looks : goal.returns-clause-looks
+returns-clause-looks c =
+    let B : Block = block_of c.args.view.now in
+    let X : Block = drop c.args.i B in
+    let over = scan-over X (c.loop-k.k - c.args.i) (omega (arith, c.loop-k.invariant.among)) (omega (arith, length-drop c.args.i B)) in
+    omega (arith, over, c.loop-k.invariant.looks)

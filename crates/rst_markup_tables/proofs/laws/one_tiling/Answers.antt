@@ -1,0 +1,5 @@
+use Rattle.rst_markup_tables.proofs.Rectangles.{one_tiling_of}
+use Rattle.rst_markup_tables.proofs.laws.one_tiling.Goals as goal
+
+pub returns : goal.returns
+returns c G even rs qs a b = one_tiling_of G even rs qs a b

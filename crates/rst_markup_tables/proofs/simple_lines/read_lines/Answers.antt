@@ -1,0 +1,17 @@
+use Rattle.std.proofs.Common.{◌∙◌, ◌++◌, sym, ap, arith}
+use Rattle.rst_text.specs.Shown.{block_of}
+use Rattle.rst_text.specs.Block.{Block}
+use Rattle.rst_markup_tables.specs.Places.{rows_of}
+use Rattle.rst_markup_tables.proofs.Lists.{onto}
+use Rattle.rst_markup_tables.proofs.GridLemmas.{rows_here}
+use Rattle.rst_markup_tables.proofs.SimpleLemmas.{take-more}
+use Rattle.rst_markup_tables.proofs.simple_lines.read_lines.Goals as goal
+
+pub loop-k-preserved : goal.loop-k-preserved
+loop-k-preserved c =
+    let B : Block = block_of c.args.view.now in
+    let step = take-more (rows_of B) c.loop-k.k c.args.to c.in_ok-line.line (omega arith) (rows_here B c.loop-k.k c.in_ok-line.line c.in_ok-line.ensures) in
+    record {
+      lines = onto _ _ _ _ c.in_ok-line.line c.in_ok-push.ensures.items (sym (ap (λ l. c.loop-k.lines.items ++ l) step) ∙ c.loop-k.invariant.lines);
+      looks = omega (arith, c.loop-k.invariant.looks, c.line-text.ensures.looks);
+    }

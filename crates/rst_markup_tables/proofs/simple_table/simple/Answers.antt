@@ -1,0 +1,106 @@
+use Rattle.std.proofs.Common.{◌≡◌, ◌∙◌, ◌+◌, ◌-◌, ap, ap₂, sym, drop, take, length, length-drop, arith, ℕ, Option, Some}
+use Rattle.std.specs.Option.{option_or}
+use Rattle.rst_text.specs.Block.{Block, first_number}
+use Rattle.rst_text.specs.Shown.{block_of}
+use Rattle.rst_markup_blocks.specs.ReachLaws.{simple_scan_le}
+use Rattle.rst_markup_blocks.specs.TableRows.{head_border, simple_size}
+use Rattle.rst_markup_blocks.specs.TableLaws.{simple_size_le}
+use Rattle.rst_markup_tables.specs.Places.{Grid, rows_of}
+use Rattle.rst_markup_tables.specs.Ends.{end_of}
+use Rattle.rst_markup_tables.specs.GridTable.{malformed}
+use Rattle.rst_markup_tables.specs.SimpleTable.{border_fault, lines_fault, simple_fault, simple_by}
+use Rattle.rst_markup_tables.proofs.EndLemmas.{rows-size, rows-taken, table-size, looks-borders, looks-lines, simple_by_end}
+use Rattle.rst_markup_tables.proofs.simple_table.simple.Goals as goal
+
+pub border_fault-requires-clause-few : goal.border_fault-requires-clause-few
+border_fault-requires-clause-few c =
+    let B : Block = block_of c.args.view.now in
+    omega (arith, c.simple_borders-borders.ensures.looks, simple_scan_le (drop c.args.i B), length-drop c.args.i B)
+
+pub returns-in-Some-clause-table : goal.returns-in-Some-clause-table
+returns-in-Some-clause-table c =
+    let B : Block = block_of c.args.view.now in
+    let X : Block = drop c.args.i B in
+    let T : Grid = rows_of (take (simple_size X) X) in
+    let all : c.len-2.result - c.args.i ≡ length X = omega (arith, length-drop c.args.i B) in
+    let size = table-size X c.size-size.result (c.len-2.result - c.args.i) c.simple_borders-borders.result.head c.simple_borders-borders.result.bottom c.size-size.ensures all c.simple_borders-borders.ensures.head c.simple_borders-borders.ensures.bottom in
+    let fault : simple_fault X T ≡ Some c.in-Some.detail = ap (λ o. option_or o (lines_fault T)) (ap (border_fault X) (sym c.simple_borders-borders.ensures.bottom) ∙ sym c.in-Some.ensures.fault) in
+    c.malformed.ensures ∙ ap₂ (λ (n m : ℕ). malformed n c.args.i m c.in-Some.detail) c.number-line.ensures (size ∙ sym (rows-size (simple_size X) X (simple_size_le X)))
+    ∙ sym (ap (simple_by (first_number X) c.args.i (head_border X) T) fault)
+
+pub returns-in-Some-clause-end : goal.returns-in-Some-clause-end
+returns-in-Some-clause-end c =
+    let B : Block = block_of c.args.view.now in
+    let X : Block = drop c.args.i B in
+    let all : c.len-2.result - c.args.i ≡ length X = omega (arith, length-drop c.args.i B) in
+    let size = table-size X c.size-size.result (c.len-2.result - c.args.i) c.simple_borders-borders.result.head c.simple_borders-borders.result.bottom c.size-size.ensures all c.simple_borders-borders.ensures.head c.simple_borders-borders.ensures.bottom in
+    ap end_of c.malformed.ensures ∙ ap (λ n. c.args.i + n) size
+
+pub returns-in-Some-clause-looks : goal.returns-in-Some-clause-looks
+returns-in-Some-clause-looks c =
+    let B : Block = block_of c.args.view.now in
+    let X : Block = drop c.args.i B in
+    looks-borders X c.simple_borders-borders.result.bottom c.args.looks.now c.simple_borders-borders.new.looks c.border_fault.new.looks (omega (arith, length-drop c.args.i B)) c.simple_borders-borders.ensures.bottom
+    c.simple_borders-borders.ensures.looks c.border_fault.ensures.looks c.border_fault.ensures.none
+
+pub read_lines-requires-clause-few : goal.read_lines-requires-clause-few
+read_lines-requires-clause-few c =
+    let B : Block = block_of c.args.view.now in
+    omega (arith, c.simple_borders-borders.ensures.looks, c.border_fault.ensures.looks, simple_scan_le (drop c.args.i B), length-drop c.args.i B)
+
+pub returns-in_err-lines-clause-looks : goal.returns-in_err-lines-clause-looks
+returns-in_err-lines-clause-looks c =
+    let B : Block = block_of c.args.view.now in
+    let X : Block = drop c.args.i B in
+    let all : c.len-2.result - c.args.i ≡ length X = omega (arith, length-drop c.args.i B) in
+    let size = table-size X c.size-size.result (c.len-2.result - c.args.i) c.simple_borders-borders.result.head c.simple_borders-borders.result.bottom c.size-size.ensures all c.simple_borders-borders.ensures.head c.simple_borders-borders.ensures.bottom in
+    looks-lines X c.simple_borders-borders.result.bottom c.args.looks.now c.simple_borders-borders.new.looks c.border_fault.new.looks c.read_lines.new.looks c.size-size.result c.in_default.ensures.fault c.simple_borders-borders.ensures.bottom
+    c.simple_borders-borders.ensures.looks c.border_fault.ensures.looks (omega (arith, c.read_lines.ensures.looks)) size
+
+pub returns-in_err-table-clause-looks : goal.returns-in_err-table-clause-looks
+returns-in_err-table-clause-looks c =
+    let B : Block = block_of c.args.view.now in
+    let X : Block = drop c.args.i B in
+    let all : c.len-2.result - c.args.i ≡ length X = omega (arith, length-drop c.args.i B) in
+    let size = table-size X c.size-size.result (c.len-2.result - c.args.i) c.simple_borders-borders.result.head c.simple_borders-borders.result.bottom c.size-size.ensures all c.simple_borders-borders.ensures.head c.simple_borders-borders.ensures.bottom in
+    looks-lines X c.simple_borders-borders.result.bottom c.args.looks.now c.simple_borders-borders.new.looks c.border_fault.new.looks c.read_lines.new.looks c.size-size.result c.in_default.ensures.fault c.simple_borders-borders.ensures.bottom
+    c.simple_borders-borders.ensures.looks c.border_fault.ensures.looks (omega (arith, c.read_lines.ensures.looks)) size
+
+pub returns-clause-table : goal.returns-clause-table
+returns-clause-table c =
+    let B : Block = block_of c.args.view.now in
+    let X : Block = drop c.args.i B in
+    let T : Grid = rows_of (take (simple_size X) X) in
+    let L : Grid = c.deref.result.now in
+    let all : c.len-2.result - c.args.i ≡ length X = omega (arith, length-drop c.args.i B) in
+    let size = table-size X c.size-size.result (c.len-2.result - c.args.i) c.simple_borders-borders.result.head c.simple_borders-borders.result.bottom c.size-size.ensures all c.simple_borders-borders.ensures.head c.simple_borders-borders.ensures.bottom in
+    let taken : c.args.i + c.size-size.result - c.args.i ≡ simple_size X = omega (arith, size) in
+    let lines : L ≡ T = c.deref.ensures.value ∙ c.in_ok-lines.ensures.lines ∙ ap (λ n. take n (drop c.args.i (rows_of B))) taken ∙ rows-taken B c.args.i (simple_size X) in
+    let fault : simple_fault X T ≡ lines_fault T = ap (λ o. option_or o (lines_fault T)) (ap (border_fault X) (sym c.simple_borders-borders.ensures.bottom) ∙ sym c.in_default.ensures.fault) in
+    c.in_ok-table.ensures
+    ∙ ap (λ n. simple_by n c.args.i c.simple_borders-borders.result.head L (lines_fault L)) c.number-line.ensures
+    ∙ ap (λ (h : Option ℕ). simple_by (first_number X) c.args.i h L (lines_fault L)) c.simple_borders-borders.ensures.head
+    ∙ ap (λ (G : Grid). simple_by (first_number X) c.args.i (head_border X) G (lines_fault G)) lines
+    ∙ sym (ap (simple_by (first_number X) c.args.i (head_border X) T) fault)
+
+pub returns-clause-end : goal.returns-clause-end
+returns-clause-end c =
+    let B : Block = block_of c.args.view.now in
+    let X : Block = drop c.args.i B in
+    let T : Grid = rows_of (take (simple_size X) X) in
+    let L : Grid = c.deref.result.now in
+    let all : c.len-2.result - c.args.i ≡ length X = omega (arith, length-drop c.args.i B) in
+    let size = table-size X c.size-size.result (c.len-2.result - c.args.i) c.simple_borders-borders.result.head c.simple_borders-borders.result.bottom c.size-size.ensures all c.simple_borders-borders.ensures.head c.simple_borders-borders.ensures.bottom in
+    let taken : c.args.i + c.size-size.result - c.args.i ≡ simple_size X = omega (arith, size) in
+    let lines : L ≡ T = c.deref.ensures.value ∙ c.in_ok-lines.ensures.lines ∙ ap (λ n. take n (drop c.args.i (rows_of B))) taken ∙ rows-taken B c.args.i (simple_size X) in
+    ap end_of c.in_ok-table.ensures ∙ simple_by_end c.number-line.result c.args.i c.simple_borders-borders.result.head L (lines_fault L)
+    ∙ ap (λ n. c.args.i + n) (ap length lines ∙ rows-size (simple_size X) X (simple_size_le X))
+
+pub returns-clause-looks : goal.returns-clause-looks
+returns-clause-looks c =
+    let B : Block = block_of c.args.view.now in
+    let X : Block = drop c.args.i B in
+    let all : c.len-2.result - c.args.i ≡ length X = omega (arith, length-drop c.args.i B) in
+    let size = table-size X c.size-size.result (c.len-2.result - c.args.i) c.simple_borders-borders.result.head c.simple_borders-borders.result.bottom c.size-size.ensures all c.simple_borders-borders.ensures.head c.simple_borders-borders.ensures.bottom in
+    looks-lines X c.simple_borders-borders.result.bottom c.args.looks.now c.simple_borders-borders.new.looks c.border_fault.new.looks c.read_lines.new.looks c.size-size.result c.in_default.ensures.fault c.simple_borders-borders.ensures.bottom
+    c.simple_borders-borders.ensures.looks c.border_fault.ensures.looks (omega (arith, c.read_lines.ensures.looks)) size

@@ -1,0 +1,97 @@
+//! The bounds of a grid's columns and rows.
+ghost use Rattle.std.specs.Prelude.{◌≡◌, ◌∷◌, ◌<◌, ◌||◌, ◌==◌, length, IfOk};
+ghost use Rattle.rst_markup_tables.specs.Places.{place, width};
+ghost use Rattle.rst_markup_tables.specs.Marks.{Marks, AreMarked};
+ghost use Rattle.rst_markup_tables.specs.Drawn.{IsEven, IsTiling};
+ghost use Rattle.rst_markup_tables.specs.GridTable.{gaps, is_column, is_row};
+
+use super::drawn::Rectangle;
+use super::places::{TableLine, mark, width};
+use std::alloc::{AllocError, Global};
+
+/// Marks the columns in which a `+` of the rectangle's top or bottom side stands.
+fn mark_columns(marks: &mut [bool], lines: &[TableLine], rectangle: Rectangle)
+    requires wide { rectangle.left < rectangle.right }
+    requires within { rectangle.right < length marks.old }
+    ensures { Marks (λ k. place lines.now rectangle.top k == 43 || place lines.now rectangle.bottom k == 43) rectangle.left rectangle.right marks.old marks.new }
+{
+    for column in rectangle.left..rectangle.right + 1 {
+        if mark(lines, rectangle.top, column) == '+'
+            || mark(lines, rectangle.bottom, column) == '+'
+        {
+            marks[column] = true;
+            continue;
+        }
+    }
+}
+
+/// Marks the rows in which a `+` of the rectangle's left or right side stands.
+fn mark_rows(marks: &mut [bool], lines: &[TableLine], rectangle: Rectangle)
+    requires high { rectangle.top < rectangle.bottom }
+    requires within { rectangle.bottom < length marks.old }
+    ensures { Marks (λ k. place lines.now k rectangle.left == 43 || place lines.now k rectangle.right == 43) rectangle.top rectangle.bottom marks.old marks.new }
+{
+    for row in rectangle.top..rectangle.bottom + 1 {
+        if mark(lines, row, rectangle.left) == '+' || mark(lines, row, rectangle.right) == '+' {
+            marks[row] = true;
+            continue;
+        }
+    }
+}
+
+/// Which places of a row are bounds of columns.
+pub(crate) fn column_marks(
+    alloc: Global,
+    lines: &[TableLine],
+    rectangles: &[Rectangle],
+) -> Result<Vec<bool>, AllocError>
+    requires even { IsEven lines.now }
+    requires tiling { IsTiling lines.now rectangles.now }
+    ensures { IfOk result (λ marks. AreMarked (is_column lines.now rectangles.now) (width lines.now) marks.items) }
+{
+    let mut marks = vec![in alloc; false; width(lines)]?;
+    for rectangle in rectangles {
+        mark_columns(&mut marks, lines, *rectangle);
+    }
+    Ok(marks)
+}
+
+/// Which rows are bounds of rows.
+pub(crate) fn row_marks(
+    alloc: Global,
+    lines: &[TableLine],
+    rectangles: &[Rectangle],
+) -> Result<Vec<bool>, AllocError>
+    requires even { IsEven lines.now }
+    requires tiling { IsTiling lines.now rectangles.now }
+    ensures { IfOk result (λ marks. AreMarked (is_row lines.now rectangles.now) (length lines.now) marks.items) }
+{
+    let mut marks = vec![in alloc; false; lines.len()]?;
+    for rectangle in rectangles {
+        mark_rows(&mut marks, lines, *rectangle);
+    }
+    Ok(marks)
+}
+
+/// How many places lie between neighbouring bounds, `first` standing before the others.
+fn gaps_from(alloc: Global, first: usize, others: &[usize]) -> Result<Vec<usize>, AllocError>
+    ensures { IfOk result (λ found. found.items ≡ gaps (first ∷ others.now)) }
+{
+    let mut gaps = Vec::new(alloc);
+    let mut before = first;
+    for bound in others {
+        gaps.push(bound.saturating_sub(before).saturating_sub(1))?;
+        before = *bound;
+    }
+    Ok(gaps)
+}
+
+/// How many places lie between neighbouring bounds.
+pub(crate) fn gaps(alloc: Global, bounds: &[usize]) -> Result<Vec<usize>, AllocError>
+    ensures { IfOk result (λ found. found.items ≡ gaps bounds.now) }
+{
+    match bounds {
+        [] => Ok(Vec::new(alloc)),
+        [first, others @ ..] => gaps_from(alloc, *first, others),
+    }
+}

@@ -1,0 +1,39 @@
+//! Which numbers are marked, and how many.
+ghost use Rattle.std.specs.Prelude.{◌≡◌, false, get_or, length, IfOk, filter};
+ghost use Rattle.std.specs.List.{range_with_len};
+ghost use Rattle.rst_markup_tables.specs.Counts.{below};
+ghost use Rattle.rst_markup_tables.specs.Marks.{AreRanks};
+
+use std::alloc::{AllocError, Global};
+
+/// The places of the marks that are set.
+pub(crate) fn marked(alloc: Global, marks: &[bool]) -> Result<Vec<usize>, AllocError>
+    ensures { IfOk result (λ numbers. numbers.items ≡ filter (λ k. get_or marks.now k false) (range_with_len 0 (length marks.now))) }
+{
+    let mut numbers = Vec::new(alloc);
+    for place in 0..marks.len() {
+        if marks[place] {
+            numbers.push(place)?;
+            continue;
+        }
+    }
+    Ok(numbers)
+}
+
+/// For each place and the one past the end how many marks before it are set.
+#[tactic(auto, using(crate::proofs::Lists::below_yes, crate::proofs::Lists::below_no))]
+pub(crate) fn ranks(alloc: Global, marks: &[bool]) -> Result<Vec<usize>, AllocError>
+    ensures { IfOk result (λ ranks. AreRanks (below (λ j. get_or marks.now j false)) (length marks.now) ranks.items) }
+{
+    let mut ranks = Vec::new(alloc);
+    let mut count = 0;
+    for place in 0..marks.len() {
+        ranks.push(count)?;
+        if marks[place] {
+            count += 1;
+            continue;
+        }
+    }
+    ranks.push(count)?;
+    Ok(ranks)
+}

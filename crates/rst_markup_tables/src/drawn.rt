@@ -1,0 +1,213 @@
+//! The rectangles that a grid table draws, and the tiling by them.
+ghost use Rattle.std.specs.Prelude.{◌≡◌, ◌<◌, ◌≤◌, ◌^◌, IfOk, option_map, vec_items, length};
+ghost use Rattle.rst_markup_tables.specs.Places.{Grid, width, place};
+ghost use Rattle.rst_markup_tables.specs.Drawn.{is_across, is_upright, IsEven, IsAcross, Tiles};
+ghost use Rattle.rst_markup_tables.specs.Search.{are_upright, lists_of, begin_at, IsBottom, Tells, Closes, AreBegins, HasBegins, next_begin, Draws, Fills};
+
+use super::places::{Place, TableLine, mark, mark_at, width};
+use std::alloc::{AllocError, Global};
+
+/// A rectangle, by the places of its corners.
+#[derive(Clone, Copy)]
+pub(crate) struct Rectangle {
+    pub(crate) top: usize,
+    pub(crate) left: usize,
+    pub(crate) bottom: usize,
+    pub(crate) right: usize,
+}
+
+#[tactic(auto, unfolding(crate::specs::Drawn::is_across))]
+fn is_across(c: char) -> bool
+    ensures { result ≡ is_across c }
+{
+    c == '-' || c == '+'
+}
+
+#[tactic(auto, unfolding(crate::specs::Drawn::is_upright))]
+pub(crate) fn is_upright(c: char) -> bool
+    ensures { result ≡ is_upright c }
+{
+    c == '|' || c == '+'
+}
+
+// Whether both sides go on in the row.
+#[tactic(auto, unfolding(crate::specs::Search::are_upright))]
+fn are_upright(rows: &[TableLine], row: usize, left: usize, right: usize) -> bool
+    ensures { result ≡ are_upright rows.now row left right }
+{
+    is_upright(mark(rows, row, left)) && is_upright(mark(rows, row, right))
+}
+
+// Where the run of `-` and `+` begins that ends behind the column.
+#[tactic(auto, unfolding(crate::specs::Search::next_begin))]
+fn next_begin(c: char, begin: usize, column: usize) -> usize
+    requires { column < 2 ^ 63 }
+    ensures { result ≡ next_begin c begin column }
+{
+    if is_across(c) { begin } else { column + 1 }
+}
+
+// For each place of the row where the run of `-` and `+` that ends there begins.
+fn begins_of(alloc: Global, row: &[Place]) -> Result<Vec<usize>, AllocError>
+    ensures { IfOk result (λ begins. AreBegins row.now begins.items) }
+{
+    let mut begins = Vec::new(alloc);
+    let mut begin = 0;
+    for column in 0..row.len() {
+        begin = next_begin(mark_at(row, column), begin, column);
+        begins.push(begin)?;
+    }
+    Ok(begins)
+}
+
+fn all_begins(alloc: Global, rows: &[TableLine]) -> Result<Vec<Vec<usize>>, AllocError>
+    ensures { IfOk result (λ all. HasBegins rows.now (lists_of all.items)) }
+{
+    let mut all = Vec::new(alloc);
+    for line in rows {
+        let begins = begins_of(alloc, line.places())?;
+        all.push(begins)?;
+    }
+    Ok(all)
+}
+
+// The number at a place of the table of runs.
+#[tactic(auto, unfolding(crate::specs::Search::begin_at))]
+fn begin_at(rows: &[Vec<usize>], row: usize, column: usize) -> usize
+    ensures { result ≡ begin_at (lists_of rows.now) row column }
+{
+    match rows.get(row) {
+        Some(numbers) => match numbers.get(column) {
+            Some(n) => *n,
+            None => 0,
+        },
+        None => 0,
+    }
+}
+
+// Whether the row has a bottom side between the columns.
+fn is_bottom(
+    rows: &[TableLine],
+    begins: &[Vec<usize>],
+    row: usize,
+    left: usize,
+    right: usize,
+) -> bool
+    requires { HasBegins rows.now (lists_of begins.now) }
+    ensures { Tells result (IsBottom rows.now row left right) }
+{
+    if mark(rows, row, left) != '+' {
+        return false;
+    }
+    if mark(rows, row, right) != '+' {
+        return false;
+    }
+    if begin_at(begins, row, right) > left {
+        return false;
+    }
+    true
+}
+
+// The least bottom edge of a rectangle with these other edges.
+fn bottom(
+    rows: &[TableLine],
+    begins: &[Vec<usize>],
+    top: usize,
+    left: usize,
+    right: usize,
+) -> Option<usize>
+    requires begun { HasBegins rows.now (lists_of begins.now) }
+    requires top_left { place rows.now top left ≡ 43 }
+    requires top_right { place rows.now top right ≡ 43 }
+    ensures { Closes rows.now top left right result }
+{
+    let height = rows.len();
+    for row in top + 1..height {
+        if !are_upright(rows, row, left, right) {
+            return None;
+        }
+        if is_bottom(rows, begins, row, left, right) {
+            return Some(row);
+        }
+    }
+    None
+}
+
+// The rectangle that is drawn from the place.
+fn drawn_from(
+    rows: &[TableLine],
+    begins: &[Vec<usize>],
+    top: usize,
+    left: usize,
+) -> Option<Rectangle>
+    requires even { IsEven rows.now }
+    requires begun { HasBegins rows.now (lists_of begins.now) }
+    ensures { Draws rows.now top left result }
+{
+    if mark(rows, top, left) != '+' {
+        return None;
+    }
+    let columns = width(rows);
+    for right in left + 1..columns {
+        let mark = mark(rows, top, right);
+        if !is_across(mark) {
+            return None;
+        }
+        if mark != '+' {
+            continue;
+        }
+        if let Some(bottom) = bottom(rows, begins, top, left, right) {
+            return Some(Rectangle {
+                top,
+                left,
+                bottom,
+                right,
+            });
+        }
+    }
+    None
+}
+
+// Covers the rectangle's columns down to its bottom, if each is covered down to its top.
+fn fill(depths: &mut [usize], rectangle: Rectangle) -> bool
+    requires wide { rectangle.left < rectangle.right }
+    requires within { rectangle.right ≤ length depths.old }
+    ensures { Fills rectangle depths.old depths.new result }
+{
+    for column in rectangle.left..rectangle.right {
+        if depths[column] != rectangle.top {
+            return false;
+        }
+        depths[column] = rectangle.bottom;
+    }
+    true
+}
+
+/// The rectangles that tile the grid, in reading order, if it is well formed.
+pub(crate) fn tiling(
+    alloc: Global,
+    rows: &[TableLine],
+) -> Result<Option<Vec<Rectangle>>, AllocError>
+    requires { IsEven rows.now }
+    ensures { IfOk result (λ found. Tiles rows.now (option_map vec_items found)) }
+{
+    let begins = all_begins(alloc, rows)?;
+    let mut rectangles = Vec::new(alloc);
+    let columns = width(rows).saturating_sub(1);
+    let mut depths = vec![in alloc; 0; columns]?;
+    for top in 0..rows.len().saturating_sub(1) {
+        for left in 0..depths.len() {
+            if depths[left] != top {
+                continue;
+            }
+            let Some(rectangle) = drawn_from(rows, &begins, top, left) else {
+                return Ok(None);
+            };
+            if !fill(&mut depths, rectangle) {
+                return Ok(None);
+            }
+            rectangles.push(rectangle)?;
+        }
+    }
+    Ok(Some(rectangles))
+}

@@ -1,0 +1,218 @@
+//! Grid tables: which lines they are, and what is wrong with them.
+ghost use Rattle.std.specs.Prelude.{◌≡◌, ◌+◌, ◌-◌, ◌^◌, ◌<◌, ◌≤◌, ◌&&◌, nat_le, length, drop, take, if◌then◌else◌, Some, IfOk, OnOk, IfSome};
+ghost use Rattle.std.specs.List.{list_all};
+ghost use Rattle.std.specs.Str.{chars};
+ghost use Rattle.rst_text.specs.Shown.{block_of};
+ghost use Rattle.rst_markup_lines.specs.Border.{is_grid_border};
+ghost use Rattle.rst_markup_blocks.specs.Lines.{lines_while};
+ghost use Rattle.rst_markup_blocks.specs.TableRows.{grid_bottom, grid_size, grid_scan};
+ghost use Rattle.rst_markup_blocks.specs.declared.lines.LineTest.TheVariants.{Drawn};
+ghost use Rattle.rst_markup_tables.specs.Places.{rows_of};
+ghost use Rattle.rst_markup_tables.specs.GridTable as spec;
+
+use super::drawn::is_upright;
+use super::places::{Place, TableLine, line_of, mark_at, width};
+use super::results::TableDetail;
+use rst_markup_blocks::is_drawn;
+use rst_markup_lines::is_grid_border;
+use rst_text::{Looks, View};
+use std::alloc::{AllocError, Global};
+
+/// The bottom border so far, counted from the top one, where line `n` has this text: it may be one from the third line on.
+fn with_border(bottom: Option<usize>, n: usize, text: &str) -> Option<usize>
+    ensures { result ≡ (if nat_le 2 n && is_grid_border (chars text.now) then Some n else bottom) }
+{
+    if n >= 2 && is_grid_border(text) {
+        Some(n)
+    } else {
+        bottom
+    }
+}
+
+/// Lines of a grid table, and its bottom border, counted from the top one.
+#[derive(Drop)]
+pub(crate) struct GridLines {
+    pub(crate) lines: Vec<TableLine>,
+    pub(crate) bottom: Option<usize>,
+}
+
+/// The lines from a place on up to the first that doesn't begin with `+` or `|`, and the bottom border among them.
+fn drawn_lines(
+    alloc: Global,
+    view: &View<'_>,
+    i: usize,
+    looks: &mut Looks,
+) -> Result<GridLines, AllocError>
+    requires there { i < length (block_of view.now) }
+    requires few { looks.old < 2 ^ 120 }
+    ensures lines { IfOk result (λ found. found.lines.items ≡ rows_of (take (lines_while Drawn (drop i (block_of view.now))) (drop i (block_of view.now)))) }
+    ensures bottom { IfOk result (λ found. found.bottom ≡ grid_bottom (drop i (block_of view.now))) }
+    ensures looks { looks.new ≤ looks.old + grid_scan (drop i (block_of view.now)) }
+{
+    let mut lines = Vec::new(alloc);
+    let mut bottom = None;
+    for k in i..view.len() {
+        let text = view.line(k, looks);
+        if !is_drawn(text) {
+            return Ok(GridLines { lines, bottom });
+        }
+        bottom = with_border(bottom, k - i, text);
+        let line = line_of(alloc, view, k, text)?;
+        lines.push(line)?;
+    }
+    Ok(GridLines { lines, bottom })
+}
+
+/// The lines of the grid table at place `i`, and its bottom border. It looks once at each line of its scan.
+pub(crate) fn grid_lines(
+    alloc: Global,
+    view: &View<'_>,
+    i: usize,
+    looks: &mut Looks,
+) -> Result<GridLines, AllocError>
+    requires there { i < length (block_of view.now) }
+    requires few { looks.old < 2 ^ 120 }
+    ensures fits { IfOk result (λ found. i + length found.lines.items < 2 ^ 64) }
+    ensures lines { IfOk result (λ found. found.lines.items ≡ rows_of (take (grid_size (drop i (block_of view.now))) (drop i (block_of view.now)))) }
+    ensures bottom { IfOk result (λ found. found.bottom ≡ grid_bottom (drop i (block_of view.now))) }
+    ensures looks { looks.new ≤ looks.old + grid_scan (drop i (block_of view.now)) }
+{
+    prove!(i < view.len());
+    let drawn = drawn_lines(alloc, view, i, looks)?;
+    let Some(k) = drawn.bottom else {
+        return Ok(drawn);
+    };
+    let mut lines = drawn.lines;
+    lines.truncate(k + 1);
+    Ok(GridLines {
+        lines,
+        bottom: Some(k),
+    })
+}
+
+/// Whether a place holds `=` or `+`.
+#[tactic(auto, unfolding(crate::specs::GridTable::is_part))]
+fn is_part(place: Place) -> bool
+    ensures { result ≡ spec.is_part place }
+{
+    place.mark() == '=' || place.mark() == '+'
+}
+
+/// Whether all places hold `=` or `+`.
+fn are_parts(row: &[Place]) -> bool
+    ensures { result ≡ list_all spec.is_part row.now }
+{
+    for place in row {
+        if !is_part(*place) {
+            return false;
+        }
+    }
+    true
+}
+
+/// Whether a row begins with `+=` and ends with `=+`.
+#[tactic(auto, unfolding(crate::specs::GridTable::has_ends))]
+fn has_ends(row: &[Place]) -> bool
+    ensures { result ≡ spec.has_ends row.now }
+{
+    mark_at(row, 0) == '+'
+        && mark_at(row, 1) == '='
+        && mark_at(row, row.len().saturating_sub(2)) == '='
+        && mark_at(row, row.len().saturating_sub(1)) == '+'
+}
+
+#[tactic(auto, unfolding(crate::specs::GridTable::is_head_rule))]
+fn is_head_rule(row: &[Place]) -> bool
+    ensures { result ≡ spec.is_head_rule row.now }
+{
+    row.len() >= 4 && has_ends(row) && are_parts(row)
+}
+
+#[tactic(auto, unfolding(crate::specs::GridTable::is_whole))]
+fn is_whole(wide: usize, row: &[Place]) -> bool
+    ensures { result ≡ spec.is_whole wide row.now }
+{
+    row.len() == wide && is_upright(mark_at(row, row.len().saturating_sub(1)))
+}
+
+/// Whether each line has the first one's width and ends in `+` or `|`.
+fn is_square(lines: &[TableLine]) -> bool
+    ensures { result ≡ spec.is_square lines.now }
+{
+    let wide = width(lines);
+    for line in lines {
+        if !is_whole(wide, line.places()) {
+            return false;
+        }
+    }
+    true
+}
+
+/// The first line from place `low` on that is a rule between head and body.
+pub(crate) fn head_from(lines: &[TableLine], low: usize) -> Option<usize>
+    ensures value { result ≡ spec.head_from lines.now low }
+    ensures within { IfSome result (λ k. k < length lines.now) }
+{
+    for k in low..lines.len() {
+        if is_head_rule(lines[k].places()) {
+            return Some(k);
+        }
+    }
+    None
+}
+
+/// The first fault of the table's lines.
+pub(crate) fn row_fault(lines: &[TableLine]) -> Option<TableDetail>
+    ensures { result ≡ spec.row_fault lines.now }
+{
+    if !is_square(lines) {
+        return Some(TableDetail::RightEdgeBroken);
+    }
+    let Some(first) = head_from(lines, 0) else {
+        return None;
+    };
+    let Some(second) = head_from(lines, first + 1) else {
+        return None;
+    };
+    Some(TableDetail::TwoHeadRules {
+        first: first + 1,
+        second: second + 1,
+    })
+}
+
+fn dash(place: Place) -> Place
+    ensures { result ≡ spec.dash place }
+{
+    if place.mark() == '=' {
+        Place::Character('-')
+    } else {
+        place
+    }
+}
+
+/// A line with `-` for each `=`.
+fn dashed(alloc: Global, line: &TableLine) -> Result<TableLine, AllocError>
+    ensures { IfOk result (λ new. new ≡ spec.dashed line.now) }
+{
+    let mut places = Vec::new(alloc);
+    for place in line.places() {
+        places.push(dash(*place))?;
+    }
+    Ok(TableLine::with(line.number(), places))
+}
+
+/// Makes the rule between head and body one of `-`, if there is one.
+pub(crate) fn put_dashes(
+    alloc: Global,
+    lines: &mut Vec<TableLine>,
+    head: Option<usize>,
+) -> Result<(), AllocError>
+    requires { IfSome head (λ k. k < length lines.old.items) }
+    ensures { OnOk result (lines.new.items ≡ spec.with_dashes lines.old.items head) }
+{
+    if let Some(k) = head {
+        let line = dashed(alloc, &lines[k])?;
+        lines[k] = line;
+    }
+    Ok(())
+}

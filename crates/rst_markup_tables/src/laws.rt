@@ -1,0 +1,23 @@
+//! Laws on the definitions, each by a function that does nothing and whose contract is the law.
+ghost use Rattle.rst_markup_tables.specs.Laws.{HaveOneTiling, NoGridBehind, NoSimpleBehind, TilingIsFound, GridIsFound};
+
+/// A grid whose rows are equally wide has at most one tiling by drawn rectangles.
+pub fn one_tiling()
+    ensures { HaveOneTiling }
+{}
+
+/// No grid table begins at a line that the scan for one went over behind it.
+pub fn no_grid_behind()
+    ensures { NoGridBehind }
+{}
+
+/// No simple table begins at a line that the scan for the last border of one went over behind it.
+pub fn no_simple_behind()
+    ensures { NoSimpleBehind }
+{}
+
+/// The tiling that is found square by square is the tiling of a grid.
+pub fn tiling_is_found()
+    ensures tiling { TilingIsFound }
+    ensures table { GridIsFound }
+{}

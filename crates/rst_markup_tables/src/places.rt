@@ -1,0 +1,174 @@
+//! Lines of a table as rows of places.
+ghost use Rattle.std.specs.Prelude.{◌≡◌, ◌+◌, ◌<◌, ◌∷◌, length, drop, IfOk};
+ghost use Rattle.std.specs.Str.{chars};
+ghost use Rattle.rst_markup_tables.specs.Places.{mark_of, is_double, places_of, mark_at, place, width, rows_of};
+ghost use Rattle.rst_text.specs.Block.{front_text};
+ghost use Rattle.rst_text.specs.Shown.{block_of};
+
+use rst_text::{View, characters_of};
+use std::alloc::{AllocError, Global};
+use std::marker::Model;
+use unicode_width::UnicodeWidthChar;
+
+/// A place of a line: the character that begins there, or the second place of one that is two columns wide.
+#[derive(Clone, Copy)]
+pub(crate) enum Place {
+    Character(char),
+    Second,
+}
+
+impl Place {
+    /// The character that begins at the place, or `'\0'`.
+    pub(crate) fn mark(self) -> char
+        ensures { result ≡ mark_of self }
+    {
+        match self {
+            Place::Character(c) => c,
+            Place::Second => '\0',
+        }
+    }
+}
+
+/// A line of a table: its number and its places.
+#[derive(Drop)]
+pub(crate) struct TableLine {
+    number: usize,
+    places: Vec<Place>,
+}
+
+impl Model for TableLine {
+    ghost use Rattle.rst_markup_tables.specs.Places.{Row};
+
+    ghost Value = { Row };
+
+    ghost view = { λ l. record { number = l.number; places = l.places.items } };
+
+    ghost use Rattle.std.specs.Prelude.{◌≡◌, true, false};
+    ghost use Rattle.std.specs.List.{list_any};
+    ghost use Rattle.std.specs.Str.{all_scalars};
+    ghost use Rattle.rst_text.specs.Lines.{is_line_end};
+    ghost use Rattle.rst_markup_tables.specs.Cells.{characters};
+
+    // The characters are some that a text can hold, and none of them ends a line.
+    ghost invariant = { λ l. (all_scalars (characters l.places.items) ≡ true) × (list_any is_line_end (characters l.places.items) ≡ false) };
+}
+
+impl TableLine {
+    ghost use Rattle.std.specs.Prelude.{true, false, IsTrue};
+    ghost use Rattle.std.specs.List.{list_any};
+    ghost use Rattle.std.specs.Str.{all_scalars};
+    ghost use Rattle.rst_text.specs.Lines.{is_line_end, is_line_text};
+    ghost use Rattle.rst_markup_tables.specs.Cells.{characters};
+    ghost use Rattle.rst_markup_tables.specs.Places.{row_of};
+
+    /// The line with this number and text.
+    pub(crate) fn of(alloc: Global, number: usize, text: &str) -> Result<TableLine, AllocError>
+        requires { IsTrue (is_line_text (chars text.now)) }
+        ensures { IfOk result (λ line. line ≡ row_of (record { number = number; text = chars text.now })) }
+    {
+        let places = places_of(alloc, text)?;
+        Ok(TableLine { number, places })
+    }
+
+    /// The line with this number and these places.
+    pub(crate) fn with(number: usize, places: Vec<Place>) -> TableLine
+        requires scalars { all_scalars (characters places.items) ≡ true }
+        requires unended { list_any is_line_end (characters places.items) ≡ false }
+        ensures { result ≡ record { number = number; places = places.items } }
+    {
+        TableLine { number, places }
+    }
+
+    /// The line's number in its document.
+    pub(crate) fn number(&self) -> usize
+        ensures { result ≡ self.now.number }
+    {
+        self.number
+    }
+
+    /// The line's places.
+    pub(crate) fn places(&self) -> &[Place]
+        ensures value { result.now ≡ self.now.places }
+        ensures scalars { all_scalars (characters result.now) ≡ true }
+        ensures unended { list_any is_line_end (characters result.now) ≡ false }
+    {
+        self.places.as_slice()
+    }
+}
+
+/// Whether a character takes two places. Widths are those of characters by themselves, whatever stands beside them.
+#[tactic(auto, unfolding(crate::specs::Places::is_double))]
+fn is_double(c: char) -> bool
+    ensures { result ≡ is_double c }
+{
+    c.width().unwrap_or(0) == 2
+}
+
+/// The places of a text.
+fn places_of(alloc: Global, text: &str) -> Result<Vec<Place>, AllocError>
+    ensures { IfOk result (λ places. places.items ≡ places_of (chars text.now)) }
+{
+    let characters = characters_of(alloc, text)?;
+    places_from(alloc, &characters)
+}
+
+/// The places of characters.
+fn places_from(alloc: Global, characters: &[char]) -> Result<Vec<Place>, AllocError>
+    ensures { IfOk result (λ places. places.items ≡ places_of characters.now) }
+{
+    let mut places = Vec::with_capacity(alloc, characters.len())?;
+    for c in characters {
+        places.push(Place::Character(*c))?;
+        if is_double(*c) {
+            places.push(Place::Second)?;
+            continue;
+        }
+    }
+    Ok(places)
+}
+
+/// The line at place `k` of a view, by its text.
+pub(crate) fn line_of(
+    alloc: Global,
+    view: &View<'_>,
+    k: usize,
+    text: &str,
+) -> Result<TableLine, AllocError>
+    requires inside { k < length (block_of view.now) }
+    requires text { chars text.now ≡ front_text (drop k (block_of view.now)) }
+    ensures { IfOk result (λ line. rows_of (drop k (block_of view.now)) ≡ line ∷ rows_of (drop (k + 1) (block_of view.now))) }
+{
+    let line = TableLine::of(alloc, view.number(k), text)?;
+    Ok(line)
+}
+
+/// The character that begins at a place of a row, or `'\0'`.
+pub(crate) fn mark_at(row: &[Place], column: usize) -> char
+    ensures { result ≡ mark_at row.now column }
+{
+    match row.get(column) {
+        Some(Place::Character(c)) => *c,
+        _ => '\0',
+    }
+}
+
+/// The character that begins at a place of a table, or `'\0'`.
+pub(crate) fn mark(lines: &[TableLine], row: usize, column: usize) -> char
+    ensures { result ≡ place lines.now row column }
+{
+    match lines.get(row) {
+        Some(line) => mark_at(line.places(), column),
+        None => '\0',
+    }
+}
+
+/// How many places the first line has.
+#[tactic(auto, unfolding(crate::specs::Places::width))]
+pub(crate) fn width(lines: &[TableLine]) -> usize
+    ensures { result ≡ width lines.now }
+{
+    match lines.first() {
+        Some(line) => line.places().len(),
+        None => 0,
+    }
+}

@@ -1,0 +1,170 @@
+//! What a table is, or what is wrong with it.
+ghost use Rattle.std.specs.Prelude.{◌≡◌};
+
+use std::marker::Model;
+
+/// The lines of a cell: their numbers in the document and their texts, in which no character ends a line and no white
+/// one is the last. Contracts see them as a block.
+#[derive(Debug, Drop)]
+pub struct CellLines {
+    lines: Vec<(usize, String)>,
+}
+
+impl Model for CellLines {
+    ghost use Rattle.rst_text.specs.Block.{Block};
+
+    ghost Value = { Block };
+
+    ghost use Rattle.rst_text.specs.Source.{block_with};
+
+    ghost view = { λ l. block_with l.lines.items };
+
+    ghost use Rattle.std.specs.Prelude.{IsTrue};
+    ghost use Rattle.rst_text.specs.Lines.{are_lines};
+
+    ghost invariant = { λ l. IsTrue (are_lines (block_with l.lines.items)) };
+}
+
+impl CellLines {
+    ghost use Rattle.std.specs.Prelude.{IsTrue};
+    ghost use Rattle.rst_text.specs.Lines.{are_lines};
+    ghost use Rattle.rst_text.specs.Source.{block_with};
+
+    /// These lines.
+    pub(crate) fn of(lines: Vec<(usize, String)>) -> CellLines
+        requires { IsTrue (are_lines (block_with lines.items)) }
+        ensures { result ≡ block_with lines.items }
+    {
+        CellLines { lines }
+    }
+
+    /// The lines as they are kept: a number and a text each, in which no character ends a line and no white one is the
+    /// last (Markup Specification, 'Whitespace').
+    pub fn as_slice(&self) -> &[(usize, String)]
+        ensures value { block_with result.now ≡ self.now }
+        ensures lines { IsTrue (are_lines (block_with result.now)) }
+    {
+        self.lines.as_slice()
+    }
+}
+
+/// A cell: how many rows and columns it takes beside its first, and its lines.
+#[derive(Debug, Drop)]
+pub struct Cell {
+    pub morerows: usize,
+    pub morecols: usize,
+    pub lines: CellLines,
+}
+
+/// The widths of a table's columns, in places.
+#[derive(Debug, Drop)]
+pub struct Widths {
+    widths: Vec<usize>,
+}
+
+impl Model for Widths {
+    ghost use Rattle.std.specs.Prelude.{List, ℕ};
+
+    ghost Value = { List ℕ };
+
+    ghost view = { λ w. w.widths.items };
+}
+
+impl Widths {
+    /// These widths.
+    pub(crate) fn of(widths: Vec<usize>) -> Widths
+        ensures { result ≡ widths.items }
+    {
+        Widths { widths }
+    }
+
+    /// The widths, from the left column to the right one.
+    pub fn as_slice(&self) -> &[usize]
+        ensures { result.now ≡ self.now }
+    {
+        self.widths.as_slice()
+    }
+}
+
+/// The rows of a table, each with the cells that begin in it, from left to right.
+#[derive(Debug, Drop)]
+pub struct Rows {
+    rows: Vec<Vec<Cell>>,
+}
+
+impl Model for Rows {
+    ghost use Rattle.std.specs.Prelude.{List};
+    ghost use Rattle.rst_markup_tables.specs.declared.results.Cell.{Cell};
+
+    ghost Value = { List (List Cell) };
+
+    ghost use Rattle.rst_markup_tables.specs.Results.{cells_of};
+
+    ghost view = { λ r. cells_of r.rows.items };
+}
+
+impl Rows {
+    ghost use Rattle.rst_markup_tables.specs.Results.{cells_of};
+
+    /// These rows.
+    pub(crate) fn of(rows: Vec<Vec<Cell>>) -> Rows
+        ensures { result ≡ cells_of rows.items }
+    {
+        Rows { rows }
+    }
+
+    /// The rows as they are kept.
+    pub fn as_slice(&self) -> &[Vec<Cell>]
+        ensures { cells_of result.now ≡ self.now }
+    {
+        self.rows.as_slice()
+    }
+}
+
+/// What is wrong with a table. Lines of a table are counted from 1.
+#[derive(Clone, Copy, Debug, PartialEq, Eq)]
+pub enum TableDetail {
+    /// No line from the third on is a border.
+    BottomBorderMissing,
+    /// A line of another width than the first, or one that doesn't end in `+` or `|`.
+    RightEdgeBroken,
+    /// Two lines part a head from a body.
+    TwoHeadRules { first: usize, second: usize },
+    /// The drawn rectangles don't tile the grid.
+    ParseIncomplete,
+    /// A border of another length than the top one.
+    BorderMismatch,
+    /// No border ends the table.
+    BottomMissing,
+    /// The spans of a rule don't begin and end where columns do.
+    ColumnSpan { line: usize },
+    /// A line has text between two columns.
+    Margin { line: usize },
+}
+
+/// What is wrong with a table, the number of its first line, and the places of its lines: from `first` on, before
+/// `end`.
+#[derive(Clone, Copy, Debug, PartialEq, Eq)]
+pub struct TableFault {
+    pub line: usize,
+    pub detail: TableDetail,
+    pub first: usize,
+    pub end: usize,
+}
+
+/// A table, or what is wrong with it. Either way `end` is the place after its last line.
+#[derive(Debug, Drop)]
+pub enum TableResult {
+    /// The widths of the columns, how many rows are the head's, and the rows, those of the head among them.
+    Table {
+        cols: Widths,
+        head: usize,
+        rows: Rows,
+        end: usize,
+    },
+    /// The table's lines are no table.
+    Malformed {
+        end: usize,
+        note: TableFault,
+    },
+}

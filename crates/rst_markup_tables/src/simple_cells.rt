@@ -1,0 +1,172 @@
+//! The widths and cells of a simple table.
+ghost use Rattle.std.specs.Prelude.{◌≡◌, ◌+◌, ◌-◌, ◌<◌, ◌≤◌, Option, option_map, map, drop, take, length, IfOk};
+ghost use Rattle.rst_markup_tables.specs.Places.{row_at};
+ghost use Rattle.rst_markup_tables.specs.Results.{cells_of};
+ghost use Rattle.rst_markup_tables.specs.SimpleTable as spec;
+
+use super::cells::cell_lines;
+use super::places::TableLine;
+use super::results::{Cell, Rows, Widths};
+use super::simple_rows::{RowLines, row_spans};
+use super::spans::Span;
+use std::alloc::{AllocError, Global};
+
+/// How many places a line of the table has.
+fn width_at(lines: &[TableLine], k: usize) -> usize
+    ensures { result ≡ length (row_at lines.now k) }
+{
+    match lines.get(k) {
+        Some(line) => line.places().len(),
+        None => 0,
+    }
+}
+
+/// How many places the longest line of a row has.
+fn longest_in(lines: &[TableLine], row: RowLines) -> usize
+    ensures { result ≡ spec.longest (spec.lines_of_row lines.now row) }
+{
+    let mut longest = 0usize;
+    for k in row.from..row.to {
+        longest = longest.max(width_at(lines, k));
+    }
+    longest
+}
+
+/// How many places the longest line of the rows has.
+fn longest_of(lines: &[TableLine], rows: &[RowLines]) -> usize
+    ensures { result ≡ spec.longest_of lines.now rows.now }
+{
+    let mut longest = 0usize;
+    for row in rows {
+        longest = longest.max(longest_in(lines, *row));
+    }
+    longest
+}
+
+fn span_of(spans: &[Span], k: usize) -> Span
+    ensures { result ≡ spec.span_of spans.now k }
+{
+    match spans.get(k) {
+        Some(span) => *span,
+        None => Span {
+            from: 0,
+            to: 0,
+            columns: 0,
+        },
+    }
+}
+
+/// How wide a column is.
+fn width_of(columns: &[Span], longest: usize, k: usize) -> usize
+    requires { k < length columns.now }
+    ensures { result ≡ spec.width_of columns.now longest k }
+{
+    let column = span_of(columns, k);
+    let width = column.to.saturating_sub(column.from);
+    if k + 1 == columns.len() {
+        width.max(longest.saturating_sub(column.from))
+    } else {
+        width
+    }
+}
+
+/// The widths of the columns.
+pub(crate) fn widths(
+    alloc: Global,
+    lines: &[TableLine],
+    columns: &[Span],
+    rows: &[RowLines],
+) -> Result<Widths, AllocError>
+    requires columns { columns.now ≡ spec.columns_of lines.now }
+    requires rows { rows.now ≡ spec.simple_rows lines.now }
+    ensures { IfOk result (λ widths. widths ≡ spec.simple_widths lines.now) }
+{
+    let longest = longest_of(lines, rows);
+    let mut widths = Vec::new(alloc);
+    for k in 0..columns.len() {
+        widths.push(width_of(columns, longest, k))?;
+    }
+    Ok(Widths::of(widths))
+}
+
+/// Where a span of a row ends: the last has no end.
+fn right_of(spans: &[Span], k: usize) -> Option<usize>
+    requires { k < length spans.now }
+    ensures { result ≡ spec.right_of spans.now k }
+{
+    if k + 1 == spans.len() {
+        None
+    } else {
+        Some(span_of(spans, k).to)
+    }
+}
+
+/// The cell in a span of a row.
+fn entry(alloc: Global, lines: &[TableLine], spans: &[Span], k: usize) -> Result<Cell, AllocError>
+    requires { k < length spans.now }
+    ensures { IfOk result (λ cell. cell ≡ spec.entry lines.now spans.now k) }
+{
+    let span = span_of(spans, k);
+    let lines = cell_lines(alloc, lines, span.from, right_of(spans, k))?;
+    Ok(Cell {
+        morerows: 0,
+        morecols: span.columns.saturating_sub(1),
+        lines,
+    })
+}
+
+/// The cells of a row.
+fn entries(alloc: Global, lines: &[TableLine], spans: &[Span]) -> Result<Vec<Cell>, AllocError>
+    ensures { IfOk result (λ cells. cells.items ≡ spec.entries lines.now spans.now) }
+{
+    let mut cells = Vec::with_capacity(alloc, spans.len())?;
+    for k in 0..spans.len() {
+        cells.push(entry(alloc, lines, spans, k)?)?;
+    }
+    Ok(cells)
+}
+
+/// The lines of a row.
+fn lines_of(lines: &[TableLine], row: RowLines) -> &[TableLine]
+    ensures { result.now ≡ spec.lines_of_row lines.now row }
+{
+    let end = row.to.min(lines.len());
+    let begin = row.from.min(end);
+    &lines[begin..end]
+}
+
+/// The cells of all rows.
+pub(crate) fn all_entries(
+    alloc: Global,
+    lines: &[TableLine],
+    columns: &[Span],
+    rows: &[RowLines],
+) -> Result<Rows, AllocError>
+    requires { columns.now ≡ spec.columns_of lines.now }
+    ensures { IfOk result (λ all. all ≡ map (spec.row_entries lines.now) rows.now) }
+{
+    let mut all = Vec::new(alloc);
+    for row in rows {
+        let spans = row_spans(alloc, lines, columns, *row)?;
+        let cells = entries(alloc, lines_of(lines, *row), &spans)?;
+        all.push(cells)?;
+    }
+    Ok(Rows::of(all))
+}
+
+/// How many rows end above the border that closes the head.
+pub(crate) fn head_size(head: Option<usize>, rows: &[RowLines]) -> usize
+    ensures { result ≡ spec.simple_head head rows.now }
+{
+    let Some(border) = head else {
+        return 0;
+    };
+    let mut count = 0;
+    for row in rows {
+        if row.to <= border {
+            count += 1;
+            continue;
+        }
+    }
+    count
+}

@@ -1,0 +1,93 @@
+//! The lines of a simple table: which of them are rules, and the fault of its borders.
+ghost use Rattle.std.specs.Prelude.{◌≡◌, ◌+◌, ◌-◌, ◌^◌, ◌<◌, ◌≤◌, length, drop, take, IfOk, IfNone};
+ghost use Rattle.std.specs.List.{list_all};
+ghost use Rattle.rst_text.specs.Shown.{block_of};
+ghost use Rattle.rst_markup_tables.specs.Places.{rows_of};
+ghost use Rattle.rst_markup_tables.specs.SimpleTable as spec;
+
+use super::places::{Place, TableLine, line_of, mark_at};
+use super::results::TableDetail;
+use rst_markup_blocks::is_as_long;
+use rst_text::{Looks, View};
+use std::alloc::{AllocError, Global};
+
+#[tactic(auto, unfolding(crate::specs::SimpleTable::is_stroke))]
+fn is_stroke(mark: char, place: Place) -> bool
+    ensures { result ≡ spec.is_stroke mark place }
+{
+    place.mark() == mark || place.mark() == ' '
+}
+
+fn are_strokes(mark: char, row: &[Place]) -> bool
+    ensures { result ≡ list_all (spec.is_stroke mark) row.now }
+{
+    for place in row {
+        if !is_stroke(mark, *place) {
+            return false;
+        }
+    }
+    true
+}
+
+/// Whether a row begins with the mark, and holds only it and spaces.
+#[tactic(auto, unfolding(crate::specs::SimpleTable::is_ruled))]
+fn is_ruled(mark: char, row: &[Place]) -> bool
+    ensures { result ≡ spec.is_ruled mark row.now }
+{
+    mark_at(row, 0) == mark && are_strokes(mark, row)
+}
+
+/// Whether a row is a border or a span rule.
+#[tactic(auto, unfolding(crate::specs::SimpleTable::is_rule))]
+pub(crate) fn is_rule(row: &[Place]) -> bool
+    ensures { result ≡ spec.is_rule row.now }
+{
+    is_ruled('=', row) || is_ruled('-', row)
+}
+
+/// The fault of the borders of the table at place `i`, by its bottom border, which is counted from there. It makes at most two
+/// looks, and none where there is no such border.
+pub(crate) fn border_fault(
+    view: &View<'_>,
+    i: usize,
+    bottom: Option<usize>,
+    looks: &mut Looks,
+) -> Option<TableDetail>
+    requires there { i < length (block_of view.now) }
+    requires few { looks.old < 2 ^ 120 + 2 ^ 68 }
+    ensures fault { result ≡ spec.border_fault (drop i (block_of view.now)) bottom }
+    ensures looks { looks.new ≤ looks.old + 2 }
+    ensures none { IfNone bottom (looks.new ≤ looks.old) }
+{
+    let Some(k) = bottom else {
+        return Some(TableDetail::BottomMissing);
+    };
+    if is_as_long(view, i, k, looks) {
+        None
+    } else {
+        Some(TableDetail::BorderMismatch)
+    }
+}
+
+/// The lines from place `from` on before place `to`, at the price of one look each.
+pub(crate) fn read_lines(
+    alloc: Global,
+    view: &View<'_>,
+    from: usize,
+    to: usize,
+    looks: &mut Looks,
+) -> Result<Vec<TableLine>, AllocError>
+    requires in_order { from ≤ to }
+    requires in_range { to ≤ length (block_of view.now) }
+    requires few { looks.old < 2 ^ 120 + 2 ^ 69 }
+    ensures lines { IfOk result (λ lines. lines.items ≡ take (to - from) (drop from (rows_of (block_of view.now)))) }
+    ensures looks { looks.new + from ≤ looks.old + to }
+{
+    let mut lines = Vec::new(alloc);
+    for k in from..to {
+        let text = view.line(k, looks);
+        let line = line_of(alloc, view, k, text)?;
+        lines.push(line)?;
+    }
+    Ok(lines)
+}

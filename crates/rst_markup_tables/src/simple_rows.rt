@@ -1,0 +1,293 @@
+//! The rows of a simple table.
+ghost use Rattle.std.specs.Prelude.{◌≡◌, ◌++◌, ◌∷◌, ◌+◌, ◌-◌, ◌^◌, ◌<◌, ◌≤◌, ℕ, Bool, not, get_or, length, IfOk, IfSome, option_map, find, vec_items};
+ghost use Rattle.std.specs.List.{list_all};
+ghost use Rattle.rst_markup_tables.specs.Places.{row_at};
+ghost use Rattle.rst_text.specs.Places.{first_from};
+ghost use Rattle.rst_markup_tables.specs.SimpleTable as spec;
+
+use super::places::{Place, TableLine};
+use super::simple_lines::is_rule;
+use super::spans::{Span, spans_of, spread};
+use std::alloc::{AllocError, Global};
+
+/// The lines of a row: from place `from` of the table on, before place `to`. Its columns are those of the rule at place
+/// `rule`, the top border being at 0.
+#[derive(Clone, Copy)]
+pub(crate) struct RowLines {
+    pub(crate) from: usize,
+    pub(crate) to: usize,
+    pub(crate) rule: usize,
+}
+
+/// The places of a line of the table.
+fn row_is_rule(lines: &[TableLine], k: usize) -> bool
+    requires { k < length lines.now }
+    ensures { result ≡ spec.is_rule (row_at lines.now k) }
+{
+    is_rule(lines[k].places())
+}
+
+/// The rules below the top border.
+pub(crate) fn rules_of(alloc: Global, lines: &[TableLine]) -> Result<Vec<usize>, AllocError>
+    ensures value { IfOk result (λ rules. rules.items ≡ spec.rules_of lines.now) }
+    ensures within { IfOk result (λ rules. (n : ℕ) → n < length rules.items → get_or rules.items n 0 < length lines.now) }
+{
+    let mut rules = Vec::new(alloc);
+    for k in 1..lines.len() {
+        if row_is_rule(lines, k) {
+            rules.push(k)?;
+            continue;
+        }
+    }
+    Ok(rules)
+}
+
+/// The runs of marks in a line of the table.
+fn line_spans(alloc: Global, lines: &[TableLine], k: usize) -> Result<Vec<Span>, AllocError>
+    ensures { IfOk result (λ spans. spans.items ≡ spec.spans_of (row_at lines.now k)) }
+{
+    match lines.get(k) {
+        Some(line) => spans_of(alloc, line.places()),
+        None => spans_of(alloc, &[]),
+    }
+}
+
+/// The columns of the table.
+pub(crate) fn columns_of(alloc: Global, lines: &[TableLine]) -> Result<Vec<Span>, AllocError>
+    ensures { IfOk result (λ columns. columns.items ≡ spec.columns_of lines.now) }
+{
+    line_spans(alloc, lines, 0)
+}
+
+/// The spans of a rule, if they cover all columns.
+fn rule_spans(
+    alloc: Global,
+    lines: &[TableLine],
+    columns: &[Span],
+    rule: usize,
+) -> Result<Option<Vec<Span>>, AllocError>
+    requires { columns.now ≡ spec.columns_of lines.now }
+    ensures { IfOk result (λ found. option_map vec_items found ≡ spec.rule_spans lines.now rule) }
+{
+    let spans = line_spans(alloc, lines, rule)?;
+    let found = spread(alloc, columns, &spans)?;
+    Ok(found)
+}
+
+/// The first of the rules whose spans don't cover the columns.
+pub(crate) fn first_unaligned(
+    alloc: Global,
+    lines: &[TableLine],
+    columns: &[Span],
+    rules: &[usize],
+) -> Result<Option<usize>, AllocError>
+    requires columns { columns.now ≡ spec.columns_of lines.now }
+    requires within { (n : ℕ) → n < length rules.now → get_or rules.now n 0 < length lines.now }
+    ensures value { IfOk result (λ found. found ≡ find (spec.is_unaligned lines.now) rules.now) }
+    ensures within { IfOk result (λ found. IfSome found (λ k. k < length lines.now)) }
+{
+    for rule in rules {
+        if rule_spans(alloc, lines, columns, *rule)?.is_none() {
+            return Ok(Some(*rule));
+        }
+    }
+    Ok(None)
+}
+
+/// The spans of a row.
+pub(crate) fn row_spans(
+    alloc: Global,
+    lines: &[TableLine],
+    columns: &[Span],
+    row: RowLines,
+) -> Result<Vec<Span>, AllocError>
+    requires { columns.now ≡ spec.columns_of lines.now }
+    ensures { IfOk result (λ spans. spans.items ≡ spec.row_spans lines.now row) }
+{
+    match rule_spans(alloc, lines, columns, row.rule)? {
+        Some(spans) => Ok(spans),
+        None => Ok(Vec::new(alloc)),
+    }
+}
+
+#[tactic(auto, unfolding(crate::specs::SimpleTable::is_white_place))]
+fn is_white_place(place: Place) -> bool
+    ensures { result ≡ spec.is_white_place place }
+{
+    match place {
+        Place::Character(c) => c.is_whitespace(),
+        Place::Second => false,
+    }
+}
+
+fn are_white(places: &[Place]) -> bool
+    ensures { result ≡ list_all spec.is_white_place places.now }
+{
+    for place in places {
+        if !is_white_place(*place) {
+            return false;
+        }
+    }
+    true
+}
+
+/// Whether nothing but white stands from one place up to another.
+fn is_clear(row: &[Place], from: usize, to: usize) -> bool
+    ensures { result ≡ spec.is_clear from to row.now }
+{
+    let end = to.min(row.len());
+    let begin = from.min(end);
+    are_white(&row[begin..end])
+}
+
+/// Whether the line at a place begins a row: its first column isn't blank.
+fn begins_row(lines: &[TableLine], column: Span, k: usize) -> bool
+    requires { column ≡ get_or (spec.columns_of lines.now) 0 spec.no_span }
+    ensures { result ≡ spec.begins_row lines.now k }
+{
+    match lines.get(k) {
+        Some(line) => !is_clear(line.places(), column.from, column.to),
+        None => !is_clear(&[], column.from, column.to),
+    }
+}
+
+/// Whether a line isn't blank.
+fn has_text(lines: &[TableLine], k: usize) -> bool
+    ensures { result ≡ not (spec.is_empty_row (row_at lines.now k)) }
+{
+    match lines.get(k) {
+        Some(line) => !line.places().is_empty(),
+        None => false,
+    }
+}
+
+/// The first line that isn't blank, from place `low` on and before place `end`.
+fn text_start(lines: &[TableLine], low: usize, end: usize) -> Option<usize>
+    ensures value { result ≡ first_from (λ k. not (spec.is_empty_row (row_at lines.now k))) low (end - low) }
+    ensures within { IfSome result (λ k. k < end) }
+{
+    for k in low..end {
+        if has_text(lines, k) {
+            return Some(k);
+        }
+    }
+    None
+}
+
+/// Adds the rows of the lines from place `low` on before a rule.
+fn with_section(
+    rows: Vec<RowLines>,
+    lines: &[TableLine],
+    column: Span,
+    low: usize,
+    rule: usize,
+) -> Result<Vec<RowLines>, AllocError>
+    requires column { column ≡ get_or (spec.columns_of lines.now) 0 spec.no_span }
+    requires within { rule < length lines.now }
+    ensures { IfOk result (λ all. all.items ≡ rows.items ++ spec.section lines.now low rule) }
+{
+    let mut rows = rows;
+    let Some(begin) = text_start(lines, low, rule) else {
+        return Ok(rows);
+    };
+    let mut from = begin;
+    for to in begin + 1..rule {
+        if begins_row(lines, column, to) {
+            rows.push(RowLines { from, to, rule: 0 })?;
+            from = to;
+            continue;
+        }
+    }
+    rows.push(RowLines {
+        from,
+        to: rule,
+        rule,
+    })?;
+    Ok(rows)
+}
+
+/// The rows of the table.
+pub(crate) fn simple_rows(
+    alloc: Global,
+    lines: &[TableLine],
+    column: Span,
+    rules: &[usize],
+) -> Result<Vec<RowLines>, AllocError>
+    requires column { column ≡ get_or (spec.columns_of lines.now) 0 spec.no_span }
+    requires within { (n : ℕ) → n < length rules.now → get_or rules.now n 0 < length lines.now }
+    ensures { IfOk result (λ rows. rows.items ≡ spec.sections lines.now rules.now) }
+{
+    let mut rows = Vec::new(alloc);
+    let mut low = 1;
+    for rule in rules {
+        rows = with_section(rows, lines, column, low, *rule)?;
+        low = *rule + 1;
+    }
+    Ok(rows)
+}
+
+/// Whether nothing but white stands between neighbouring spans, the first of which stands before the others.
+fn margins_from(row: &[Place], first: Span, others: &[Span]) -> bool
+    ensures { result ≡ spec.are_clear (first ∷ others.now) row.now }
+{
+    let mut before = first;
+    for span in others {
+        if !is_clear(row, before.to, span.from) {
+            return false;
+        }
+        before = *span;
+    }
+    true
+}
+
+fn are_clear(row: &[Place], spans: &[Span]) -> bool
+    ensures { result ≡ spec.are_clear spans.now row.now }
+{
+    match spans {
+        [] => true,
+        [first, others @ ..] => margins_from(row, *first, others),
+    }
+}
+
+/// Whether nothing but white stands between the columns of a line.
+fn line_is_clear(lines: &[TableLine], spans: &[Span], k: usize) -> bool
+    ensures { result ≡ spec.are_clear spans.now (row_at lines.now k) }
+{
+    match lines.get(k) {
+        Some(line) => are_clear(line.places(), spans),
+        None => are_clear(&[], spans),
+    }
+}
+
+/// The first line of a row with text between its columns.
+fn text_in_margin(lines: &[TableLine], spans: &[Span], row: RowLines) -> Option<usize>
+    ensures value { result ≡ spec.text_in_margin lines.now spans.now row.from row.to }
+    ensures fits { IfSome result (λ k. k + 1 < 2 ^ 64) }
+{
+    for k in row.from..row.to {
+        if !line_is_clear(lines, spans, k) {
+            return Some(k);
+        }
+    }
+    None
+}
+
+/// The first line of all rows with text between its columns.
+pub(crate) fn first_in_margin(
+    alloc: Global,
+    lines: &[TableLine],
+    columns: &[Span],
+    rows: &[RowLines],
+) -> Result<Option<usize>, AllocError>
+    requires { columns.now ≡ spec.columns_of lines.now }
+    ensures value { IfOk result (λ found. found ≡ spec.first_in_margin lines.now rows.now) }
+    ensures fits { IfOk result (λ found. IfSome found (λ k. k + 1 < 2 ^ 64)) }
+{
+    for row in rows {
+        let spans = row_spans(alloc, lines, columns, *row)?;
+        if let Some(k) = text_in_margin(lines, &spans, *row) {
+            return Ok(Some(k));
+        }
+    }
+    Ok(None)
+}

@@ -1,0 +1,92 @@
+//! Simple tables.
+ghost use Rattle.std.specs.Prelude.{◌≡◌, ◌+◌, ◌*◌, ◌^◌, ◌<◌, ◌≤◌, drop, get_or, length, IfOk};
+ghost use Rattle.rst_text.specs.Shown.{block_of};
+ghost use Rattle.rst_markup_tables.specs.Ends.{end_of};
+ghost use Rattle.rst_markup_tables.specs.SimpleTable as spec;
+ghost use Rattle.rst_markup_blocks.specs.TableRows.{simple_size, simple_scan};
+
+use super::places::TableLine;
+use super::results::{TableDetail, TableResult};
+use super::simple_cells::{all_entries, head_size, widths};
+use super::simple_lines::{border_fault, read_lines};
+use super::simple_rows::{columns_of, first_in_margin, first_unaligned, rules_of, simple_rows};
+use super::spans::Span;
+use super::table::malformed;
+use rst_markup_blocks::simple_borders;
+use rst_text::{Looks, View};
+use std::alloc::{AllocError, Global};
+
+/// The first column.
+fn first_column(columns: &[Span]) -> Span
+    ensures { result ≡ get_or columns.now 0 spec.no_span }
+{
+    match columns.first() {
+        Some(column) => *column,
+        None => Span {
+            from: 0,
+            to: 0,
+            columns: 0,
+        },
+    }
+}
+
+/// What the lines of a table are. The first has this number and stands at place `first`; the line at place `head` of the
+/// table closes its head.
+fn simple_of(
+    alloc: Global,
+    line: usize,
+    first: usize,
+    head: Option<usize>,
+    lines: &[TableLine],
+) -> Result<TableResult, AllocError>
+    requires { first + length lines.now < 2 ^ 64 }
+    ensures { IfOk result (λ table. table ≡ spec.simple_by line first head lines.now (spec.lines_fault lines.now)) }
+{
+    let size = lines.len();
+    let columns = columns_of(alloc, lines)?;
+    let rules = rules_of(alloc, lines)?;
+    if let Some(rule) = first_unaligned(alloc, lines, &columns, &rules)? {
+        let detail = TableDetail::ColumnSpan { line: rule + 1 };
+        return Ok(malformed(line, first, size, detail));
+    }
+    let rows = simple_rows(alloc, lines, first_column(&columns), &rules)?;
+    if let Some(k) = first_in_margin(alloc, lines, &columns, &rows)? {
+        let detail = TableDetail::Margin { line: k + 1 };
+        return Ok(malformed(line, first, size, detail));
+    }
+    Ok(TableResult::Table {
+        cols: widths(alloc, lines, &columns, &rows)?,
+        head: head_size(head, &rows),
+        rows: all_entries(alloc, lines, &columns, &rows)?,
+        end: first + size,
+    })
+}
+
+/// The simple table whose top border is the line at place `i` of a view: a table with its rows, or malformed with its
+/// first fault (Markup Specification, 'Simple Tables'). It ends where the row of simple tables says. It looks at most four
+/// times at each line of the table, and of those after it through the one that stops the scan for a border.
+///
+/// The only error is want of memory, which leaves all but `looks` as it was.
+pub fn simple(
+    alloc: Global,
+    view: &View<'_>,
+    i: usize,
+    looks: &mut Looks,
+) -> Result<TableResult, AllocError>
+    requires there { i < length (block_of view.now) }
+    requires few { looks.old < 2 ^ 120 }
+    ensures table { IfOk result (λ table. table ≡ spec.simple_table (block_of view.now) i) }
+    ensures end { IfOk result (λ table. end_of table ≡ i + simple_size (drop i (block_of view.now))) }
+    ensures looks { looks.new ≤ looks.old + 4 * simple_scan (drop i (block_of view.now)) }
+{
+    prove!(i < view.len());
+    let line = view.number(i);
+    let borders = simple_borders(view, i, looks);
+    let size = borders.size(view.len() - i);
+    if let Some(detail) = border_fault(view, i, borders.bottom, looks) {
+        return Ok(malformed(line, i, size, detail));
+    }
+    let lines = read_lines(alloc, view, i, i + size, looks)?;
+    let table = simple_of(alloc, line, i, borders.head, &lines)?;
+    Ok(table)
+}

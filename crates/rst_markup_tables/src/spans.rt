@@ -1,0 +1,126 @@
+//! The spans of a simple table's rules.
+ghost use Rattle.std.specs.Prelude.{◌≡◌, ◌+◌, ◌^◌, ◌<◌, ◌==◌, drop, length, position, IfOk, IfSome, option_map, vec_items};
+ghost use Rattle.rst_markup_tables.specs.SimpleTable as spec;
+
+use super::places::{Place, mark_at};
+use std::alloc::{AllocError, Global};
+
+/// A run of marks in a rule: its places from `from` on, before `to`, and how many of the table's columns it joins.
+#[derive(Clone, Copy)]
+pub(crate) struct Span {
+    pub(crate) from: usize,
+    pub(crate) to: usize,
+    pub(crate) columns: usize,
+}
+
+fn is_space(row: &[Place], place: usize) -> bool
+    ensures { result ≡ spec.is_space row.now place }
+{
+    mark_at(row, place) == ' '
+}
+
+/// Whether a run of marks begins at a place.
+#[tactic(auto, unfolding(crate::specs::SimpleTable::begins_span))]
+fn begins_span(row: &[Place], place: usize) -> bool
+    ensures { result ≡ spec.begins_span row.now place }
+{
+    !is_space(row, place) && (place == 0 || is_space(row, place.saturating_sub(1)))
+}
+
+/// Where the run ends that begins at a place.
+fn span_end(row: &[Place], from: usize) -> usize
+    ensures { result ≡ spec.span_end row.now from }
+{
+    for place in from..row.len() {
+        if is_space(row, place) {
+            return place;
+        }
+    }
+    row.len()
+}
+
+/// The runs of marks in a row, each as one column.
+pub(crate) fn spans_of(alloc: Global, row: &[Place]) -> Result<Vec<Span>, AllocError>
+    ensures { IfOk result (λ spans. spans.items ≡ spec.spans_of row.now) }
+{
+    let mut spans = Vec::new(alloc);
+    for from in 0..row.len() {
+        if begins_span(row, from) {
+            let to = span_end(row, from);
+            spans.push(Span {
+                from,
+                to,
+                columns: 1,
+            })?;
+            continue;
+        }
+    }
+    Ok(spans)
+}
+
+/// The place of the first column that ends at a place.
+fn ending(columns: &[Span], to: usize) -> Option<usize>
+    ensures value { result ≡ position (λ c. c.to == to) columns.now }
+    ensures fits { IfSome result (λ k. k + 1 < 2 ^ 64) }
+{
+    for place in 0..columns.len() {
+        if columns[place].to == to {
+            return Some(place);
+        }
+    }
+    None
+}
+
+/// The place of the last column that a span joins, if it begins where the first does and ends where a column does.
+fn last_joined(columns: &[Span], span: Span) -> Option<usize>
+    ensures value { result ≡ spec.last_joined columns.now span }
+    ensures fits { IfSome result (λ k. k + 1 < 2 ^ 64) }
+{
+    match columns.first() {
+        Some(first) => {
+            if first.from == span.from {
+                ending(columns, span.to)
+            } else {
+                None
+            }
+        }
+        None => None,
+    }
+}
+
+/// The spans behind the first `n`; of fewer nothing is left.
+fn behind(spans: &[Span], n: usize) -> &[Span]
+    ensures { result.now ≡ drop n spans.now }
+{
+    let begin = n.min(spans.len());
+    &spans[begin..]
+}
+
+/// The spans with how many columns each joins, if they join all, one after the other.
+pub(crate) fn spread(
+    alloc: Global,
+    columns: &[Span],
+    spans: &[Span],
+) -> Result<Option<Vec<Span>>, AllocError>
+    ensures { IfOk result (λ found. option_map vec_items found ≡ spec.spread columns.now spans.now) }
+{
+    let mut wide = Vec::new(alloc);
+    let mut left = columns;
+    for span in spans {
+        let Some(last) = last_joined(left, *span) else {
+            return Ok(None);
+        };
+        let columns = last + 1;
+        wide.push(Span {
+            from: span.from,
+            to: span.to,
+            columns,
+        })?;
+        left = behind(left, columns);
+    }
+    if left.is_empty() {
+        Ok(Some(wide))
+    } else {
+        Ok(None)
+    }
+}

@@ -1,0 +1,95 @@
+//! Grid tables.
+ghost use Rattle.std.specs.Prelude.{◌≡◌, ◌+◌, ◌^◌, ◌<◌, ◌≤◌, length, drop, IfOk};
+ghost use Rattle.rst_text.specs.Shown.{block_of};
+ghost use Rattle.rst_markup_tables.specs.Ends.{end_of};
+ghost use Rattle.rst_markup_tables.specs.GridTable as spec;
+ghost use Rattle.rst_markup_blocks.specs.TableRows.{grid_size, grid_scan};
+
+use super::drawn::tiling;
+use super::grid_cells::tiled;
+use super::grid_lines::{GridLines, grid_lines, head_from, put_dashes, row_fault};
+use super::places::TableLine;
+use super::results::{TableDetail, TableFault, TableResult};
+use rst_text::{Looks, View};
+use std::alloc::{AllocError, Global};
+
+/// So many lines from place `first` on that are no table; `line` is the number of the first.
+pub(crate) fn malformed(line: usize, first: usize, size: usize, detail: TableDetail) -> TableResult
+    requires { first + size < 2 ^ 64 }
+    ensures { result ≡ spec.malformed line first size detail }
+{
+    let end = first + size;
+    TableResult::Malformed {
+        end,
+        note: TableFault {
+            line,
+            detail,
+            first,
+            end,
+        },
+    }
+}
+
+/// What the lines of a table are. The first has this number and stands at place `first`.
+fn grid_of_rows(
+    alloc: Global,
+    line: usize,
+    first: usize,
+    lines: Vec<TableLine>,
+) -> Result<TableResult, AllocError>
+    requires { first + length lines.items < 2 ^ 64 }
+    ensures { IfOk result (spec.IsOfRows line first lines.items (spec.row_fault lines.items)) }
+{
+    let mut lines = lines;
+    let size = lines.len();
+    if let Some(detail) = row_fault(&lines) {
+        return Ok(malformed(line, first, size, detail));
+    }
+    let head = head_from(&lines, 0);
+    put_dashes(alloc, &mut lines, head)?;
+    let Some(rectangles) = tiling(alloc, &lines)? else {
+        return Ok(malformed(line, first, size, TableDetail::ParseIncomplete));
+    };
+    let table = tiled(alloc, &lines, &rectangles, head, first + size)?;
+    Ok(table)
+}
+
+/// What the lines of a table are, by whether its bottom border is there.
+fn grid_of(
+    alloc: Global,
+    line: usize,
+    first: usize,
+    found: GridLines,
+) -> Result<TableResult, AllocError>
+    requires { first + length found.lines.items < 2 ^ 64 }
+    ensures { IfOk result (spec.IsOfRows line first found.lines.items (spec.grid_fault found.bottom found.lines.items)) }
+{
+    if found.bottom.is_none() {
+        let size = found.lines.len();
+        return Ok(malformed(line, first, size, TableDetail::BottomBorderMissing));
+    }
+    let table = grid_of_rows(alloc, line, first, found.lines)?;
+    Ok(table)
+}
+
+/// The grid table whose top border is the line at place `i` of a view: a table with the cells of the tiling by its
+/// drawn rectangles, or malformed with its first fault (Markup Specification, 'Grid Tables'). It ends where the row of grid
+/// tables says. It looks once at each line of the table, and at those after it through the one that stops the scan.
+///
+/// The only error is want of memory, which leaves all but `looks` as it was.
+pub fn grid(
+    alloc: Global,
+    view: &View<'_>,
+    i: usize,
+    looks: &mut Looks,
+) -> Result<TableResult, AllocError>
+    requires there { i < length (block_of view.now) }
+    requires few { looks.old < 2 ^ 120 }
+    ensures table { IfOk result (spec.IsGridTable (block_of view.now) i) }
+    ensures end { IfOk result (λ table. end_of table ≡ i + grid_size (drop i (block_of view.now))) }
+    ensures looks { looks.new ≤ looks.old + grid_scan (drop i (block_of view.now)) }
+{
+    let found = grid_lines(alloc, view, i, looks)?;
+    let table = grid_of(alloc, view.number(i), i, found)?;
+    Ok(table)
+}

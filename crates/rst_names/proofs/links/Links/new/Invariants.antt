@@ -1,5 +1,0 @@
-use Rattle.std.proofs.Common.{◌≡◌, [], None, replicate}
-use Rattle.rst_names.proofs.links.Links.new.Given as goal
-
-abbrev pub invariant-loop-done : goal.invariant-loop-done
-invariant-loop-done l = (l.links.numbers.items ≡ []) × (l.links.messages.items ≡ replicate l._done (record { id = None; problematics = [] }))

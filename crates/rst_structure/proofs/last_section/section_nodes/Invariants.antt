@@ -1,7 +1,0 @@
-use Rattle.std.proofs.Common.{◌∷◌}
-use Rattle.rst_structure.specs.LastSection.{heading, own_nodes}
-use Rattle.rst_structure.proofs.LastNodes.{Handing}
-use Rattle.rst_structure.proofs.last_section.section_nodes.Given as goal
-
-abbrev pub invariant-loop-i : goal.invariant-loop-i
-invariant-loop-i l = Handing l.initial.reports.items l.reports.items (heading ∷ own_nodes l.initial.reports.items) l.nodes l.i

@@ -1,5 +1,0 @@
-use Rattle.rst_structure.specs.Targets.{Passes}
-use Rattle.rst_structure.proofs.targets.pass.Given as goal
-
-abbrev pub invariant-loop-name : goal.invariant-loop-name
-invariant-loop-name l = Passes l.yielded l.initial.names l.names

@@ -1,7 +1,0 @@
-use Rattle.std.proofs.Common.{rules}
-use Rattle.rst_substitutions.proofs.Defining.{known_more}
-use Rattle.rst_substitutions.proofs.definitions.Definitions.add.Goals as goal
-
-pub returns : goal.returns
-returns c = λ all known.
-    known_more all c.args.self.now _ c.args.name.now c.args.content.now c.len-place.result known (search rules) (search rules) (search rules) (search rules)

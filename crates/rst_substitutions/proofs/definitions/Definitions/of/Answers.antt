@@ -1,6 +1,0 @@
-use Rattle.std.proofs.Common.{rules}
-use Rattle.rst_substitutions.proofs.Defining.{known_next}
-use Rattle.rst_substitutions.proofs.definitions.Definitions.of.Goals as goal
-
-pub loop-one-preserved : goal.loop-one-preserved
-loop-one-preserved c = known_next _ c.loop-one.one-index c.one-item.result c.add.new.self c.loop-one-test.true (search rules) (c.in_ok-add.ensures _ c.loop-one.invariant)

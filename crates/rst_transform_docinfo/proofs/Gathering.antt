@@ -1,0 +1,169 @@
+-- The fields of a bibliography, taken in one after another.
+use Rattle.std.proofs.Common.{◌≡◌, ◌∙◌, ℕ, suc, ◌<◌, ◌≤◌, List, [], ◌∷◌, ◌++◌, length, get_or, take, drop, Option, Some, None, Bor, refl, ap, sym, drop-cons, arith}
+use Rattle.std.specs.Prelude.{slice_index_or, is_some, nat_eq, slice_get, unwrap_or, Bool, true, false, if◌then◌else◌, map, option_map, string_bytes, encode_utf8_all}
+use Rattle.std.specs.declared.string.String.{String}
+use Rattle.std.proofs.lemmas.Str.{encodes-chars, IsUtf8-string_bytes}
+use Rattle.rst_text.specs.Text.{chars_of}
+use Rattle.std.specs.List.{flat_map, prefix_len, remove}
+use Rattle.std.specs.Str.{trim}
+use Rattle.std.proofs.lemmas.Grind.{common_steps, flat_map-append}
+use Rattle.std.proofs.lemmas.List.{append-nil, map-append}
+use Rattle.rst_tree.proofs.Changes.{nodes_of-forest_of}
+use Rattle.rst_transform_docinfo.specs.declared.bibliography.Row.{Row}
+use Rattle.rst_transform_docinfo.specs.declared.field.Field.{Field}
+use Rattle.rst_transform_docinfo.specs.Authors.{all_paragraphs, and_author, author_named}
+use Rattle.rst_transform_docinfo.specs.Bibliography.{made, row_of}
+use Rattle.rst_transform_docinfo.specs.Docinfo.{behind_titles, is_field_list, leading_list, list_in, list_place, nodes_with, replaced}
+use Rattle.rst_transform_docinfo.specs.Gathered.{Gathered, by_form, gathered, is_further, noted, with_fault, with_field, with_node, with_row}
+use Rattle.rst_transform_work.specs.Reading.{is_title}
+use Rattle.rst_transform_work.specs.declared.work.Report.{Report}
+use Rattle.std.proofs.lemmas.Option.{unwrap_or-slice_get}
+use Rattle.rst_tree.specs.Faults.{Gives}
+use Rattle.rst_tree.specs.declared.fault.TreeFault.{TreeFault}
+use Rattle.rst_tree.specs.declared.fault.TreeFault.TheVariants.{NoMemory}
+use Rattle.std.specs.Prelude.{Result, Ok, Err}
+use Rattle.rst_tree.specs.declared.attrs.Attr.{Attr}
+use Rattle.rst_tree.specs.declared.node.Node.{Node}
+use Rattle.rst_tree.specs.declared.node.Node.TheVariants.{Element, Text}
+use Rattle.rst_tree.specs.Forest.{Forest, bare, element, words}
+use Rattle.rst_tree.specs.Nodes.{forest_of, nodes_of}
+use Rattle.rst_transform_docinfo.specs.Fields.{field, field_of, is_bare, is_paragraph, last_in, lone, name_of, nodes_in, one_paragraph, paragraph_in}
+
+-- two nodes are the name and the body of a field
+pub two_parts : (a : List Attr) (xs : List Node) (l : ℕ) (name body : Node) → length xs ≡ 2 → body ≡ slice_index_or xs 1 body → name ≡ slice_index_or (remove xs 1) 0 name
+    → field_of a xs l ≡ Some (field a name body l)
+two_parts a [] l name body two b n = absurd (omega arith)
+two_parts a (x ∷ []) l name body two b n = absurd (omega arith)
+two_parts a (x ∷ y ∷ []) l name body two b n = rw (n, b) refl
+two_parts a (x ∷ y ∷ z ∷ zs) l name body two b n = absurd (omega arith)
+
+-- any other number of nodes is no field
+pub no_parts : (a : List Attr) (xs : List Node) (l : ℕ) → (length xs ≡ 2 → ⊥) → field_of a xs l ≡ None
+no_parts a [] l other = refl
+no_parts a (x ∷ []) l other = refl
+no_parts a (x ∷ y ∷ []) l other = absurd (other refl)
+no_parts a (x ∷ y ∷ z ∷ zs) l other = refl
+
+-- what stands in the last of some nodes
+last_of : (xs : List Node) (n : Node) → last_in (forest_of (xs ++ n ∷ [])) ≡ nodes_in n
+last_of [] (Element t a c l) = refl
+last_of [] (Text t) = refl
+last_of (Element t a c l ∷ []) (Element u b d m) = refl
+last_of (Element t a c l ∷ []) (Text u) = refl
+last_of (Text t ∷ []) (Element u b d m) = refl
+last_of (Text t ∷ []) (Text u) = refl
+last_of (Element t a c l ∷ Element u b d m ∷ xs) n = last_of (Element u b d m ∷ xs) n
+last_of (Element t a c l ∷ Text u ∷ xs) n = last_of (Text u ∷ xs) n
+last_of (Text t ∷ Element u b d m ∷ xs) n = last_of (Element u b d m ∷ xs) n
+last_of (Text t ∷ Text u ∷ xs) n = last_of (Text u ∷ xs) n
+
+pub in_the_last : (f : Forest) (xs : List Node) (n : Node) → f ≡ forest_of (xs ++ n ∷ []) → last_in f ≡ nodes_in n
+in_the_last f xs n e = ap last_in e ∙ last_of xs n
+
+-- the only one of some nodes
+pub lone_one : (f : Forest) (xs : List Node) (n : Node) → f ≡ forest_of xs → length xs ≡ 1 → n ≡ slice_index_or xs 0 n → lone f ≡ Some n
+lone_one f [] n e one at = absurd (omega arith)
+lone_one f (Element t a c l ∷ []) n e one at = rw (e, at) refl
+lone_one f (Text t ∷ []) n e one at = rw (e, at) refl
+lone_one f (x ∷ y ∷ zs) n e one at = absurd (omega arith)
+
+pub lone_none : (f : Forest) (xs : List Node) → f ≡ forest_of xs → (length xs ≡ 1 → ⊥) → lone f ≡ None
+lone_none f [] e other = ap lone e
+lone_none f (x ∷ []) e other = absurd (other refl)
+lone_none f (Element t a c l ∷ Element u b d m ∷ zs) e other = ap lone e
+lone_none f (Element t a c l ∷ Text u ∷ zs) e other = ap lone e
+lone_none f (Text t ∷ Element u b d m ∷ zs) e other = ap lone e
+lone_none f (Text t ∷ Text u ∷ zs) e other = ap lone e
+
+pub bare_by_count : (f : Forest) → is_bare f ≡ nat_eq (length (nodes_of f)) 0
+bare_by_count bare = refl
+bare_by_count (element t a c l r) = grind arith
+bare_by_count (words t r) = grind arith
+
+-- a paragraph that stands alone is the last of the nodes
+pub in_paragraph : (f : Forest) → is_some (one_paragraph f) ≡ true → one_paragraph f ≡ Some (last_in f)
+in_paragraph (element t a c l bare) =
+    elim (is_paragraph t) as (λ b. is_some (if b then Some c else None) ≡ true → (if b then Some c else None) ≡ Some c) [ true ↦ λ e. refl | false ↦ λ e. grind (arith, e) ]
+in_paragraph bare = λ e. grind (arith, e)
+in_paragraph (words t bare) = λ e. grind (arith, e)
+in_paragraph (words t (words u r)) = λ e. grind (arith, e)
+in_paragraph (words t (element u b d m r)) = λ e. grind (arith, e)
+in_paragraph (element t a c l (words u r)) = λ e. grind (arith, e)
+in_paragraph (element t a c l (element u b d m r)) = λ e. grind (arith, e)
+
+-- ---- the authors that a field names
+
+-- one more text between semicolons or commas
+pub named_more : (line : ℕ) (xs : List (Bor (List ℕ))) (x : Bor (List ℕ)) (nodes new : List Node) (name : List ℕ) → nodes ≡ flat_map (λ piece. author_named line (trim piece)) (map (λ (y : Bor (List ℕ)). y.now) xs) → name ≡ trim x.now
+    → new ≡ nodes ++ author_named line name → new ≡ flat_map (λ piece. author_named line (trim piece)) (map (λ (y : Bor (List ℕ)). y.now) (xs ++ x ∷ []))
+named_more line xs x nodes new name so_far is more =
+    more ∙ ap (λ z. z ++ author_named line name) so_far ∙ ap (λ z. flat_map (λ piece. author_named line (trim piece)) (map (λ (y : Bor (List ℕ)). y.now) xs) ++ author_named line z) is
+    ∙ ap (λ z. flat_map (λ piece. author_named line (trim piece)) (map (λ (y : Bor (List ℕ)). y.now) xs) ++ z) (sym (append-nil (author_named line (trim x.now))))
+    ∙ sym (flat_map-append (λ piece. author_named line (trim piece)) (map (λ (y : Bor (List ℕ)). y.now) xs) (x.now ∷ []))
+    ∙ ap (flat_map (λ piece. author_named line (trim piece))) (sym (map-append (λ (y : Bor (List ℕ)). y.now) xs (x ∷ [])))
+
+-- each item of a list has been seen
+pub items_seen : (line : ℕ) (f : Forest) (xs nodes : List Node) (i : ℕ) → f ≡ forest_of xs → length xs ≤ i → option_map (λ more. nodes ++ more) (all_paragraphs line (drop i xs)) ≡ all_paragraphs line xs
+    → all_paragraphs line (nodes_of f) ≡ Some nodes
+items_seen line f xs nodes i e all h =
+    let over : drop i xs ≡ [] = grind (arith, common_steps) in
+    ap (λ z. all_paragraphs line (nodes_of z)) e ∙ ap (all_paragraphs line) (nodes_of-forest_of xs) ∙ sym h
+    ∙ ap (λ z. option_map (λ more. nodes ++ more) (all_paragraphs line z)) over ∙ ap Some (append-nil nodes)
+
+-- one of the items isn't one paragraph
+pub item_refused : (line : ℕ) (f : Forest) (xs nodes : List Node) (i : ℕ) (n : Node) → f ≡ forest_of xs → i < length xs → n ≡ get_or xs i n → paragraph_in n ≡ None
+    → option_map (λ more. nodes ++ more) (all_paragraphs line (drop i xs)) ≡ all_paragraphs line xs → all_paragraphs line (nodes_of f) ≡ None
+item_refused line f xs nodes i n e fits at none h =
+    let d : drop i xs ≡ n ∷ drop (suc i) xs = drop-cons xs i n fits ∙ ap (λ m. m ∷ drop (suc i) xs) (sym at) in
+    ap (λ z. all_paragraphs line (nodes_of z)) e ∙ ap (all_paragraphs line) (nodes_of-forest_of xs) ∙ sym h
+    ∙ ap (λ z. option_map (λ more. nodes ++ more) (all_paragraphs line z)) d
+    ∙ ap (λ z. option_map (λ more. nodes ++ more) (and_author line z (all_paragraphs line (drop (suc i) xs)))) none
+
+-- ---- one more field
+
+-- of a topic that had one
+pub further_field : (first : ℕ) (f : Field) (g : Gathered) (name : List ℕ) (row : Row) → name ≡ name_of f → row ≡ row_of name → is_further row g ≡ true → with_field first f g ≡ with_fault first name f g
+further_field first f g name row is at h =
+    ap (λ z. with_row first (row_of z) z f g) (sym is) ∙ ap (λ z. with_row first z name f g) (sym at)
+    ∙ ap (λ (b : Bool). if b then with_fault first name f g else by_form first row name f (made row name f) (noted row g)) h
+
+-- that isn't in its form
+pub refused_field : (first : ℕ) (f : Field) (g : Gathered) (name : List ℕ) (row : Row) → name ≡ name_of f → row ≡ row_of name → is_further row g ≡ false → made row name f ≡ None
+    → with_field first f g ≡ with_fault first name f (noted row g)
+refused_field first f g name row is at h m =
+    ap (λ z. with_row first (row_of z) z f g) (sym is) ∙ ap (λ z. with_row first z name f g) (sym at)
+    ∙ ap (λ (b : Bool). if b then with_fault first name f g else by_form first row name f (made row name f) (noted row g)) h
+    ∙ ap (λ o. by_form first row name f o (noted row g)) m
+
+-- one more node of the list
+pub gathered_more : (first : ℕ) (g : Gathered) (xs : List Node) (n : Node) → gathered first g (xs ++ n ∷ []) ≡ with_node first n (gathered first g xs)
+gathered_more first g [] n = refl
+gathered_more first g (x ∷ xs) n = gathered_more first (with_node first x g) xs n
+
+-- what holds of a value that a call gives, if it follows from what the call says of it
+pub given : {A : Type 0} (P Q : A → Type 0) (r : Result A TreeFault) → ((x : A) → P x → Q x) → Gives P r → Gives Q r
+given P Q (Ok x) implied h = implied x h
+given P Q (Err NoMemory) implied h = tt
+
+-- ---- the document
+
+-- a field list at a place
+found_list : (o : Option Node) (n : Node) → is_some (list_in o) ≡ true → n ≡ unwrap_or o n → list_in o ≡ Some n
+found_list None n is at = grind (arith, is)
+found_list (Some (Text t)) n is at = grind (arith, is)
+found_list (Some (Element t a c l)) n is at =
+    elim (is_field_list t) as (λ b. is_some (if b then Some (Element t a c l) else None) ≡ true → (if b then Some (Element t a c l) else None) ≡ Some n) [
+      | true ↦ λ e. ap Some (sym at)
+      | false ↦ λ e. grind (arith, e)
+    ] is
+
+pub list_there : (nodes : List Node) (place : ℕ) (n : Node) → place ≡ list_place nodes → is_some (list_in (slice_get nodes place)) ≡ true → n ≡ get_or nodes place n → leading_list nodes ≡ Some n
+list_there nodes place n there is at =
+    ap (λ i. list_in (slice_get nodes i)) (sym there) ∙ found_list (slice_get nodes place) n is (at ∙ sym (unwrap_or-slice_get nodes place n))
+
+-- what it became stands behind the titles
+pub list_replaced : (first : ℕ) (reports : List Report) (nodes rest made all : List Node) (place count : ℕ) (n : Node) → leading_list nodes ≡ Some n → place ≡ list_place nodes → rest ≡ remove nodes place
+    → made ≡ replaced first reports n → count ≡ prefix_len is_title rest → all ≡ take count rest ++ (made ++ drop count rest) → all ≡ nodes_with first reports (leading_list nodes) nodes
+list_replaced first reports nodes rest made all place count n list there left is titles put =
+    put ∙ ap (λ k. take k rest ++ (made ++ drop k rest)) titles ∙ ap (λ m. behind_titles m rest) is ∙ ap (behind_titles (replaced first reports n)) (left ∙ ap (remove nodes) there)
+    ∙ sym (ap (λ o. nodes_with first reports o nodes) list)

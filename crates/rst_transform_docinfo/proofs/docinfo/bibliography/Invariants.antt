@@ -1,0 +1,10 @@
+use Rattle.std.proofs.Common.{◌≡◌}
+use Rattle.rst_transform_docinfo.specs.Gathered.{gathered, none_yet, so_far}
+use Rattle.rst_transform_work.specs.Reports.{KeepsRest}
+use Rattle.rst_transform_docinfo.proofs.docinfo.bibliography.Given as goal
+
+abbrev pub invariant-loop-node : goal.invariant-loop-node
+invariant-loop-node l = record {
+  taken : so_far l.bibliography l.work.reports.items ≡ gathered l.initial.work.first_number (none_yet l.initial.work.reports.items) l.yielded;
+  rest : KeepsRest l.initial.work l.work;
+}

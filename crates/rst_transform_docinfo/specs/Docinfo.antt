@@ -1,0 +1,93 @@
+-- The document whose leading field list became its bibliography (reStructuredText Markup Specification, 'Bibliographic Fields'; Document
+-- Tree, 'docinfo').
+use Rattle.std.specs.Prelude.{◌≡◌, ℕ, Bool, true, false, ◌||◌, List, [], ◌∷◌, ◌++◌, take, drop, slice_get, Option, Some, None, if◌then◌else◌}
+use Rattle.std.specs.List.{prefix_len, remove}
+use Rattle.rst_tree.specs.declared.attrs.Attr.{Attr}
+use Rattle.rst_tree.specs.declared.node.Node.{Node}
+use Rattle.rst_tree.specs.declared.node.Node.TheVariants.{Element, Text}
+use Rattle.rst_tree.specs.declared.tag.Tag.{Tag}
+use Rattle.rst_tree.specs.declared.tag.Tag.TheVariants.{FieldList}
+use Rattle.rst_tree.specs.Forest.{Forest}
+use Rattle.rst_tree.specs.Nodes.{forest_of, nodes_of}
+use Rattle.rst_transform_work.specs.declared.work.Report.{Report}
+use Rattle.rst_transform_work.specs.declared.work.Work.{Work}
+use Rattle.rst_transform_docinfo.specs.Gathered.{Gathered, docinfo_nodes, gathered, none_yet}
+use Rattle.rst_transform_work.specs.Lists.{with_names}
+use Rattle.rst_transform_work.specs.Reading.{may_precede}
+use Rattle.rst_transform_work.specs.Reading.{is_title}
+use Rattle.rst_transform_names.specs.Names.{KnowsTheSame}
+use Rattle.rst_transform_work.specs.Lists.{named}
+
+-- the nodes, the first of them with more ids and names
+abbrev pub first_named : List Attr → List Node → List Node
+first_named from [] = []
+first_named from (n ∷ ns) = named from n ∷ ns
+
+-- what the fields of a list became, and the messages then
+abbrev pub list_gathered : ℕ → List Report → Forest → Gathered
+list_gathered first reports fields = gathered first (none_yet reports) (nodes_of fields)
+
+-- what becomes of a field list; the first node has the list's ids and names, too
+abbrev pub replaced : ℕ → List Report → Node → List Node
+replaced first reports (Element t a c l) = first_named a (docinfo_nodes l (list_gathered first reports c))
+replaced first reports (Text t) = []
+
+-- the messages then
+abbrev pub told : ℕ → List Report → Node → List Report
+told first reports (Element t a c l) = (list_gathered first reports c).reports
+told first reports (Text t) = reports
+
+-- whether a node may stand before the field list: a title, a subtitle, a comment, a target, a substitution definition or a message
+abbrev pub may_lead : Node → Bool
+may_lead n = is_title n || may_precede n
+
+-- the place of the first node that may not
+abbrev pub list_place : List Node → ℕ
+list_place nodes = prefix_len may_lead nodes
+
+abbrev pub is_field_list : Tag → Bool
+is_field_list FieldList = true
+is_field_list _ = false
+
+-- a field list, if the node is one
+abbrev pub list_in : Option Node → Option Node
+list_in (Some (Element t a c l)) = if is_field_list t then Some (Element t a c l) else None
+list_in (Some (Text t)) = None
+list_in None = None
+
+-- the field list of a document's nodes, if the first that may not stand before one is one
+abbrev pub leading_list : List Node → Option Node
+leading_list nodes = list_in (slice_get nodes (list_place nodes))
+
+-- nodes with others behind the titles that stand first
+abbrev pub behind_titles : List Node → List Node → List Node
+behind_titles more nodes = let titles = prefix_len is_title nodes in take titles nodes ++ (more ++ drop titles nodes)
+
+-- the nodes of a document with this leading list, if there is one, and the messages then
+abbrev pub nodes_with : ℕ → List Report → Option Node → List Node → List Node
+nodes_with first reports None nodes = nodes
+nodes_with first reports (Some list) nodes = behind_titles (replaced first reports list) (remove nodes (list_place nodes))
+
+abbrev pub reports_with : ℕ → List Report → Option Node → List Report
+reports_with first reports None = reports
+reports_with first reports (Some list) = told first reports list
+
+-- the document whose leading field list became its bibliography, and the messages then
+abbrev pub with_docinfo : ℕ → List Report → Node → Node
+with_docinfo first reports (Element t a c l) = Element t a (forest_of (nodes_with first reports (leading_list (nodes_of c)) (nodes_of c))) l
+with_docinfo first reports (Text t) = Text t
+
+abbrev pub docinfo_reports : ℕ → List Report → Node → List Report
+docinfo_reports first reports (Element t a c l) = reports_with first reports (leading_list (nodes_of c))
+docinfo_reports first reports (Text t) = reports
+
+-- all but the messages and the names is as it was
+abbrev pub KeepsOthers : Work → Work → Type 0
+KeepsOthers old new = new ≡ record old { names = new.names; reports = new.reports }
+
+-- the document before and after
+pub record HasDocinfo (before after : Work) : Type 0 where
+  pub root : after.root ≡ with_docinfo before.first_number before.reports.items before.root
+  pub reports : after.reports.items ≡ docinfo_reports before.first_number before.reports.items before.root
+  pub names : KnowsTheSame before.names after.names
+  pub rest : after ≡ record before { root = after.root; names = after.names; reports = after.reports }

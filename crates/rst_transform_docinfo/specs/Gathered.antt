@@ -1,0 +1,94 @@
+-- The fields of a document's bibliography, one after another (reStructuredText Markup Specification, 'Bibliographic Fields'; Document Tree,
+-- 'docinfo').
+use Rattle.std.specs.Prelude.{ℕ, Bool, true, false, List, [], ◌∷◌, ◌++◌, Option, Some, None, if◌then◌else◌}
+use Rattle.std.specs.Option.{option_to_list}
+use Rattle.rst_tree.specs.declared.node.Node.{Node}
+use Rattle.rst_tree.specs.declared.node.Node.TheVariants.{Element}
+use Rattle.rst_tree.specs.declared.tag.Tag.TheVariants.{Docinfo}
+use Rattle.rst_tree.specs.Nodes.{forest_of}
+use Rattle.rst_transform_docinfo.specs.declared.bibliography.Bibliography.{Bibliography}
+use Rattle.rst_transform_docinfo.specs.declared.bibliography.Row.{Row}
+use Rattle.rst_transform_docinfo.specs.declared.bibliography.Row.TheVariants.{Topic}
+use Rattle.rst_transform_docinfo.specs.declared.bibliography.TopicKind.TheVariants.{Dedication, Abstract}
+use Rattle.rst_transform_docinfo.specs.declared.field.Field.{Field}
+use Rattle.rst_transform_work.specs.declared.work.Report.{Report}
+use Rattle.rst_transform_docinfo.specs.Bibliography.{fault_node, fault_report, made, row_of}
+use Rattle.rst_transform_docinfo.specs.Fields.{field_in, name_of}
+
+-- What the fields became so far: the elements of the `docinfo`, and the topics, and whether there was a field for each; and the messages so far.
+pub record Gathered : Type 0 where
+  pub info : List Node
+  pub had_dedication : Bool
+  pub dedication : Option Node
+  pub had_abstract : Bool
+  pub abstract : Option Node
+  pub reports : List Report
+
+abbrev pub so_far : Bibliography → List Report → Gathered
+so_far b reports =
+    record { info = b.info.items; had_dedication = b.has_dedication; dedication = b.dedication; had_abstract = b.has_abstract; abstract = b.abstract_; reports = reports }
+
+-- no field yet
+abbrev pub none_yet : List Report → Gathered
+none_yet reports = record { info = []; had_dedication = false; dedication = None; had_abstract = false; abstract = None; reports = reports }
+
+-- whether there was a field of this row before, where only the first may become a topic
+abbrev pub is_further : Row → Gathered → Bool
+is_further (Topic Dedication) g = g.had_dedication
+is_further (Topic Abstract) g = g.had_abstract
+is_further _ g = false
+
+-- now there was one
+abbrev pub noted : Row → Gathered → Gathered
+noted (Topic Dedication) g = record g { had_dedication = true }
+noted (Topic Abstract) g = record g { had_abstract = true }
+noted _ g = g
+
+-- one more node in the `docinfo`
+abbrev pub with_info : Node → Gathered → Gathered
+with_info n g = record g { info = g.info ++ n ∷ [] }
+
+-- what a field of a row became, at its place
+abbrev pub with_element : Row → Node → Gathered → Gathered
+with_element (Topic Dedication) n g = record g { dedication = Some n }
+with_element (Topic Abstract) n g = record g { abstract = Some n }
+with_element _ n g = with_info n g
+
+-- a field that isn't in its form, which the next message tells of
+abbrev pub with_fault : ℕ → List ℕ → Field → Gathered → Gathered
+with_fault first name f g =
+    let next = fault_report first g.reports name f.line in record g { info = g.info ++ fault_node name next f ∷ []; reports = g.reports ++ next ∷ [] }
+
+abbrev pub by_form : ℕ → Row → List ℕ → Field → Option Node → Gathered → Gathered
+by_form first row name f (Some n) g = with_element row n g
+by_form first row name f None g = with_fault first name f g
+
+-- one more field, of a row with this name
+abbrev pub with_row : ℕ → Row → List ℕ → Field → Gathered → Gathered
+with_row first row name f g =
+    if is_further row g then with_fault first name f g else by_form first row name f (made row name f) (noted row g)
+
+abbrev pub with_field : ℕ → Field → Gathered → Gathered
+with_field first f g = with_row first (row_of (name_of f)) (name_of f) f g
+
+-- one more node of the field list, which is a field or stays as it is
+abbrev pub if_field : ℕ → Node → Option Field → Gathered → Gathered
+if_field first n (Some f) g = with_field first f g
+if_field first n None g = with_info n g
+
+abbrev pub with_node : ℕ → Node → Gathered → Gathered
+with_node first n g = if_field first n (field_in n) g
+
+-- all of them
+abbrev pub gathered : ℕ → Gathered → List Node → Gathered
+gathered first g [] = g
+gathered first g (n ∷ more) = gathered first (with_node first n g) more
+
+-- the `docinfo`, if there are elements for it
+abbrev pub info_nodes : ℕ → List Node → List Node
+info_nodes line [] = []
+info_nodes line (n ∷ ns) = Element Docinfo [] (forest_of (n ∷ ns)) line ∷ []
+
+-- the `docinfo`, the dedication and the abstract, as far as they are there
+abbrev pub docinfo_nodes : ℕ → Gathered → List Node
+docinfo_nodes line g = (info_nodes line g.info ++ option_to_list g.dedication) ++ option_to_list g.abstract

@@ -1,0 +1,263 @@
+//! A leading field list becomes the bibliography of the document.
+ghost use Rattle.std.specs.Prelude.{◌≡◌, ◌≤◌, ◌++◌, take, drop, vec_len, slice_get, is_some};
+ghost use Rattle.std.specs.List.{prefix_len};
+ghost use Rattle.rst_transform_names.specs.Names.{KnowsTheSame};
+ghost use Rattle.rst_tree.specs.Faults.{Gives};
+ghost use Rattle.rst_tree.specs.Nodes.{forest_of, nodes_of};
+ghost use Rattle.rst_transform_docinfo.specs.Docinfo.{behind_titles, docinfo_reports, first_named, is_field_list, leading_list, list_gathered, list_in, list_place, may_lead, nodes_with, replaced, reports_with, told, with_docinfo, KeepsOthers, HasDocinfo};
+ghost use Rattle.rst_transform_docinfo.specs.Gathered.{docinfo_nodes};
+ghost use Rattle.rst_transform_work.specs.Reports.{KeepsRest};
+ghost use Rattle.rst_transform_work.specs.Reading.{is_title};
+
+use crate::bibliography::Bibliography;
+use rst_transform_names::Names;
+use rst_transform_work::reading::{is_title, may_precede};
+use rst_transform_work::texts::add_names;
+use rst_transform_work::work::Work;
+use rst_tree::{Attrs, Children, Key, Node, Said, Tag, TreeFault};
+use std::alloc::Global;
+use std::mem;
+
+/// Whether a node may stand before the field list.
+fn may_lead(node: &Node) -> bool
+    ensures { result ≡ may_lead node.now }
+{
+    is_title(node) || may_precede(node)
+}
+
+/// How many nodes stand before the first that may not precede the field list.
+fn list_place(nodes: &[Node]) -> usize
+    ensures { result ≡ list_place nodes.now }
+{
+    for (i, node) in nodes.iter().enumerate() {
+        if !may_lead(node) {
+            return i;
+        }
+    }
+    nodes.len()
+}
+
+/// How many titles stand first.
+fn title_count(nodes: &[Node]) -> usize
+    ensures { result ≡ prefix_len is_title nodes.now }
+{
+    for (i, node) in nodes.iter().enumerate() {
+        if !is_title(node) {
+            return i;
+        }
+    }
+    nodes.len()
+}
+
+/// Whether a field list is at a place.
+fn is_list_at(nodes: &[Node], place: usize) -> bool
+    ensures { result ≡ is_some (list_in (slice_get nodes.now place)) }
+{
+    match nodes.get(place) {
+        Some(Node::Element { tag, .. }) => is_field_list(*tag),
+        _ => false,
+    }
+}
+
+/// Whether an element of a kind is a field list.
+fn is_field_list(tag: Tag) -> bool
+    ensures { result ≡ is_field_list tag }
+{
+    matches!(tag, Tag::FieldList)
+}
+
+/// Keeps where the names of the targets in a node lead that have a URI: a field's name may leave the document.
+fn keep_uris(alloc: Global, node: &Node, names: &mut Names) -> Result<(), TreeFault>
+    ensures { Gives (λ _. KnowsTheSame names.old names.new) result }
+{
+    if let Node::Element {
+        tag,
+        attrs,
+        children,
+        ..
+    } = node
+    {
+        if matches!(tag, Tag::Target) {
+            keep_uri(alloc, attrs, names)?;
+        }
+        for child in children.as_slice() {
+            keep_uris(alloc, child, names)?;
+        }
+    }
+    Ok(())
+}
+
+/// Keeps where the names of a target lead, if it has a URI.
+fn keep_uri(alloc: Global, target: &Attrs, names: &mut Names) -> Result<(), TreeFault>
+    ensures { Gives (λ _. KnowsTheSame names.old names.new) result }
+{
+    if let (Some(Said::Text(uri)), Some(Said::List(list))) = (
+        target.get(Key::Refuri),
+        target.get(Key::Names),
+    ) {
+        for name in list {
+            names.keep_uri(alloc, name.as_str(), uri.as_str())?;
+        }
+    }
+    Ok(())
+}
+
+/// Keeps where the names of the targets in the names of fields lead that have a URI.
+fn keep_field_uris(alloc: Global, fields: &[Node], names: &mut Names) -> Result<(), TreeFault>
+    ensures { Gives (λ _. KnowsTheSame names.old names.new) result }
+{
+    for field in fields {
+        if let Node::Element { children, .. } = field {
+            if let Some(name) = children.as_slice().first() {
+                keep_uris(alloc, name, names)?;
+            }
+        }
+    }
+    Ok(())
+}
+
+/// What the fields of a list become.
+fn bibliography(
+    alloc: Global,
+    fields: Children,
+    line: usize,
+    work: &mut Work,
+) -> Result<Vec<Node>, TreeFault>
+    ensures nodes { let all = list_gathered work.old.first_number work.old.reports.items fields in Gives (λ nodes. nodes.items ≡ docinfo_nodes line all) result }
+    ensures reports { let all = list_gathered work.old.first_number work.old.reports.items fields in Gives (λ _. work.new.reports.items ≡ all.reports) result }
+    ensures rest { Gives (λ _. KeepsRest work.old work.new) result }
+{
+    let mut bibliography = Bibliography::new(alloc);
+    for node in fields.into_list() {
+        bibliography.add_node(alloc, node, work)?;
+    }
+    bibliography.into_nodes(alloc, line)
+}
+
+/// The nodes, the first of them with more ids and names.
+fn with_names(alloc: Global, mut nodes: Vec<Node>, attrs: &Attrs) -> Result<Vec<Node>, TreeFault>
+    ensures { Gives (λ all. all.items ≡ first_named attrs.now nodes.items) result }
+{
+    if nodes.is_empty() {
+        return Ok(nodes);
+    }
+    let mut first = nodes.remove(0);
+    add_names(alloc, &mut first, attrs)?;
+    nodes.insert(0, first)?;
+    Ok(nodes)
+}
+
+/// What the fields of a field list become, the first of it with the list's ids and names, too.
+fn replaced(alloc: Global, list: Node, work: &mut Work) -> Result<Vec<Node>, TreeFault>
+    ensures nodes { Gives (λ nodes. nodes.items ≡ replaced work.old.first_number work.old.reports.items list) result }
+    ensures reports { Gives (λ _. work.new.reports.items ≡ told work.old.first_number work.old.reports.items list) result }
+    ensures names { Gives (λ _. KnowsTheSame work.old.names work.new.names) result }
+    ensures rest { Gives (λ _. KeepsOthers work.old work.new) result }
+{
+    match list {
+        Node::Element {
+            tag: _tag,
+            attrs,
+            children,
+            line,
+        } => {
+            keep_field_uris(alloc, children.as_slice(), &mut work.names)?;
+            let nodes = bibliography(alloc, children, line, work)?;
+            with_names(alloc, nodes, &attrs)
+        }
+        Node::Text(_text) => Ok(Vec::new(alloc)),
+    }
+}
+
+/// The nodes with more of them from a place on.
+fn with_nodes_at(
+    mut nodes: Vec<Node>,
+    place: usize,
+    mut more: Vec<Node>,
+) -> Result<Vec<Node>, TreeFault>
+    requires { place ≤ vec_len nodes }
+    ensures { Gives (λ all. all.items ≡ take place nodes.items ++ (more.items ++ drop place nodes.items)) result }
+{
+    while let Some(node) = more.pop() {
+        nodes.insert(place, node)?;
+    }
+    Ok(nodes)
+}
+
+/// The document's nodes with the bibliography in the place of a leading field list.
+fn with_bibliography(
+    alloc: Global,
+    children: Children,
+    work: &mut Work,
+) -> Result<Children, TreeFault>
+    ensures nodes { let list = leading_list (nodes_of children) in Gives (λ all. all ≡ forest_of (nodes_with work.old.first_number work.old.reports.items list (nodes_of children))) result }
+    ensures reports { let list = leading_list (nodes_of children) in Gives (λ _. work.new.reports.items ≡ reports_with work.old.first_number work.old.reports.items list) result }
+    ensures names { Gives (λ _. KnowsTheSame work.old.names work.new.names) result }
+    ensures rest { Gives (λ _. KeepsOthers work.old work.new) result }
+{
+    let mut nodes = children.into_list();
+    let place = list_place(&nodes);
+    if !is_list_at(&nodes, place) {
+        return Ok(Children::of(nodes));
+    }
+    let made = replaced(alloc, nodes.remove(place), work)?;
+    let first = title_count(&nodes);
+    Ok(Children::of(with_nodes_at(nodes, first, made)?))
+}
+
+/// Takes a field list out that is the first node of the document but for titles, comments, targets, substitution definitions
+/// and messages. What its fields become stands directly behind the titles: the `docinfo`, the dedication and the abstract
+/// (Markup Specification, 'Bibliographic Fields').
+///
+/// A bibliographic field that isn't in its form stays a field, with a WARNING as the last node in its body. Any other field
+/// stays one, too. What a field becomes has the field's ids and names, and the first of all has the list's.
+///
+/// Before:
+///
+/// ```text
+/// <document>
+///     <field_list>
+///         <field>
+///             <field_name>
+///                 Author
+///             <field_body>
+///                 <paragraph>
+///                     Ann
+/// ```
+///
+/// After:
+///
+/// ```text
+/// <document>
+///     <docinfo>
+///         <author>
+///             Ann
+/// ```
+///
+/// The only refusal is [`TreeFault::NoMemory`].
+pub fn docinfo(alloc: Global, mut work: Work) -> Result<Work, TreeFault>
+    ensures { Gives (HasDocinfo work) result }
+{
+    let empty = Node::element(alloc, Tag::Document, 0);
+    match mem::replace(&mut work.root, empty) {
+        Node::Text(text) => {
+            work.root = Node::Text(text);
+            Ok(work)
+        }
+        Node::Element {
+            tag,
+            attrs,
+            children,
+            line,
+        } => {
+            let children = with_bibliography(alloc, children, &mut work)?;
+            work.root = Node::Element {
+                tag,
+                attrs,
+                children,
+                line,
+            };
+            Ok(work)
+        }
+    }
+}

@@ -1,0 +1,155 @@
+-- Footnotes, and the references that find them by the order (Markup Specification, 'Footnotes').
+use Rattle.std.specs.Prelude.{◌≡◌, ℕ, ◌+◌, ◌&&◌, Bool, true, false, List, [], ◌∷◌, ◌++◌, codes, decimal, length, if◌then◌else◌, is_none, slice_get, Option, Some, None}
+use Rattle.rst_transform_names.specs.declared.names.Held.{Held as KnownName}
+use Rattle.rst_transform_names.specs.declared.names.Holder.TheVariants.{Element as HeldBy}
+use Rattle.rst_transform_names.specs.declared.names.Names.{Names as KnownNames}
+use Rattle.rst_transform_names.specs.declared.names.Strength.TheVariants.{Explicit}
+use Rattle.rst_transform_names.specs.Names.{held_by, Knows, SameUris}
+use Rattle.rst_tree.specs.declared.attrs.Attr.{Attr}
+use Rattle.rst_tree.specs.declared.attrs.Value.TheVariants.{List as Listed}
+use Rattle.rst_tree.specs.declared.key.Key.TheVariants.{Ids, Names, Serial}
+use Rattle.rst_tree.specs.declared.node.Node.{Node}
+use Rattle.rst_tree.specs.declared.node.Node.TheVariants.{Element}
+use Rattle.rst_tree.specs.declared.note.Level.TheVariants.{Error}
+use Rattle.rst_tree.specs.declared.tag.Tag.TheVariants.{Label}
+use Rattle.rst_tree.specs.Attributes.{attr}
+use Rattle.rst_transform_links.specs.declared.links.Outcome.{Outcome}
+use Rattle.rst_transform_links.specs.declared.links.Outcome.TheVariants.{Stays, Fails}
+use Rattle.rst_transform_links.specs.declared.note_order.Order.{Order}
+use Rattle.rst_transform_links.specs.declared.note_order.Order.TheVariants.{Numbers, Symbols}
+use Rattle.rst_transform_work.specs.declared.work.Work.{Work}
+use Rattle.rst_transform_links.specs.Holders.{lead_to_id}
+use Rattle.rst_transform_links.specs.Linkings.{Held, linked_of}
+use Rattle.rst_transform_links.specs.Links.{changed_root}
+use Rattle.rst_transform_footnotes.specs.NoteLabels.{labels}
+use Rattle.rst_transform_links.specs.NoteOrders.{footnote_order, found_by_order, in_order, is_order, order_name, reference_order}
+use Rattle.rst_transform_links.specs.Outcomes.{adds}
+use Rattle.rst_transform_work.specs.Reading.{line_of, list_said, number_said}
+use Rattle.rst_transform_work.specs.Reports.{next_report, KeepsRest}
+use Rattle.rst_transform_links.specs.Settling.{Settles}
+use Rattle.rst_transform_work.specs.Lists.{at_place}
+
+-- ---- the numbers as names
+
+-- the number that an element gets as a name: its label, if it is a footnote that was written with `#` alone
+abbrev pub own_number : Node → Option (List ℕ) → Option (List ℕ)
+own_number node label = if is_order Numbers (footnote_order node) then label else None
+
+-- an element holds a name, by what is known of the name, and by the element's serial number and its id; where the name is known, or
+-- the element has no such number or id, nothing changes
+abbrev pub HoldsName : List ℕ → Option KnownName → Option ℕ → Option (List ℕ) → KnownNames → KnownNames → Type 0
+HoldsName name None (Some serial) (Some id) before after = Knows name (Some (record { holder = HeldBy serial; strength = Explicit; id = id })) before after × SameUris before after
+HoldsName name _ _ _ before after = after ≡ before
+
+-- an element holds its number, if it gets one
+abbrev pub HoldsNumber : Option (List ℕ) → Node → KnownNames → KnownNames → Type 0
+HoldsNumber None node before after = after ≡ before
+HoldsNumber (Some number) node before after = HoldsName number (held_by before number) (number_said Serial node) (slice_get (list_said Ids node) 0) before after
+
+-- each of some elements, of which the first is at a place, holds its number
+abbrev pub HoldNumbers : ℕ → List (Option (List ℕ)) → List Held → KnownNames → KnownNames → Type 0
+HoldNumbers place labels [] before after = after ≡ before
+HoldNumbers place labels (one ∷ more) before after =
+    (next : KnownNames) × HoldsNumber (own_number one.0 (at_place labels place)) one.0 before next × HoldNumbers (place + 1) labels more next after
+
+-- ---- the references that find no footnote
+
+abbrev pub is_left_over : Order → Node → Option ℕ → Bool
+is_left_over order node found = is_order order (reference_order node) && is_none found
+
+-- the line of the first reference of an order that finds none, among elements of which the first is at a place
+abbrev pub first_left_over : Order → ℕ → List (Option ℕ) → List Held → Option ℕ
+first_left_over order place found [] = None
+first_left_over order place found (one ∷ more) =
+    if is_left_over order one.0 (at_place found place) then Some (line_of one.0) else first_left_over order (place + 1) found more
+
+-- what is told of such, where there are so many footnotes of the order
+abbrev pub too_many : Order → ℕ → List ℕ
+too_many order footnotes = codes "Too many " ++ (order_name order ++ (codes " footnote references: only " ++ (decimal footnotes ++ codes " corresponding footnotes available.")))
+
+-- one ERROR is told of them, on the line of the first, behind the other messages; its place is given
+abbrev pub TellsLeftOver : Option ℕ → Order → ℕ → Work → Work → Option ℕ → Type 0
+TellsLeftOver None order footnotes before after report = (after ≡ before) × (report ≡ None)
+TellsLeftOver (Some line) order footnotes before after report =
+    (report ≡ Some (length before.reports.items)) ×
+    (after.reports.items ≡ before.reports.items ++ next_report before.first_number before.reports.items Error line (too_many order footnotes) true ∷ []) ×
+    KeepsRest before after
+
+-- the message on the references of an order, by those on the two
+abbrev pub report_of : Option Order → Option ℕ → Option ℕ → Option ℕ
+report_of (Some Numbers) numbers symbols = numbers
+report_of (Some Symbols) numbers symbols = symbols
+report_of None numbers symbols = None
+
+-- ---- what becomes of the elements
+
+-- a reference leads to the id of its footnote
+abbrev pub lead_to_note : Option Held → Option Attr
+lead_to_note None = None
+lead_to_note (Some note) = lead_to_id (slice_get (list_said Ids note.0) 0)
+
+-- and shows the label of the footnote at a place
+abbrev pub referring : List Held → List (Option (List ℕ)) → ℕ → Outcome
+referring linked labels footnote = Stays (record { attr = lead_to_note (slice_get linked footnote); shown = at_place labels footnote })
+
+abbrev pub is_label : Node → Bool
+is_label (Element Label a c l) = true
+is_label _ = false
+
+-- a label shows that of the footnote that it stands in
+abbrev pub label_in : List (Option (List ℕ)) → Option ℕ → Option (List ℕ)
+label_in labels None = None
+label_in labels (Some footnote) = at_place labels footnote
+
+-- the names of an element with its number
+abbrev pub with_number : Node → Option (List ℕ) → Option Attr
+with_number node None = None
+with_number node (Some number) = Some (attr Names (Listed (list_said Names node ++ number ∷ [])))
+
+-- what becomes of a label, a footnote and any other element, at a place, that is no reference by the order
+abbrev pub labelled : List (Option (List ℕ)) → ℕ → Held → Outcome
+labelled labels place one =
+    if is_label one.0 then Stays (record { attr = None; shown = label_in labels one.1 })
+    else adds (with_number one.0 (own_number one.0 (at_place labels place)))
+
+-- what becomes of an element, by the footnote that it finds and the message on it
+abbrev pub outcome_by : List Held → List (Option (List ℕ)) → ℕ → Held → Option ℕ → Option ℕ → Outcome
+outcome_by linked labels place one (Some footnote) report = referring linked labels footnote
+outcome_by linked labels place one None (Some report) = Fails report
+outcome_by linked labels place one None None = labelled labels place one
+
+-- what becomes of some elements, of which the first is at a place, by what they find and the messages on the two orders
+abbrev pub outcomes_from : List Held → List (Option (List ℕ)) → List (Option ℕ) → Option ℕ → Option ℕ → ℕ → List Held → List Outcome
+outcomes_from linked labels found numbers symbols place [] = []
+outcomes_from linked labels found numbers symbols place (one ∷ more) =
+    outcome_by linked labels place one (at_place found place) (report_of (reference_order one.0) numbers symbols) ∷ outcomes_from linked labels found numbers symbols (place + 1) more
+
+abbrev pub outcomes : List Held → Option ℕ → Option ℕ → List Outcome
+outcomes linked numbers symbols = outcomes_from linked (labels linked) (found_by_order linked) numbers symbols 0 linked
+
+-- ---- the whole
+
+-- the references of an order that find none are told of
+abbrev pub TellsOf : Order → List Held → Work → Work → Option ℕ → Type 0
+TellsOf order linked before after report = TellsLeftOver (first_left_over order 0 (found_by_order linked) linked) order (length (in_order order linked)) before after report
+
+-- What becomes of the linked elements, and the document before and after: the numbers are held as names, then the references left over
+-- are told of, those to numbered footnotes first, and then what fails becomes a problematic.
+pub record ChangesFootnotes (linked : List Held) (before after : Work) (changes : List Outcome) : Type 0 where
+  pub names : KnownNames
+  pub numbers : Option ℕ
+  pub symbols : Option ℕ
+  pub between : Work
+  pub told : Work
+  pub hold : HoldNumbers 0 (labels linked) linked before.names names
+  pub tells_numbers : TellsOf Numbers linked (record before { names = names }) between numbers
+  pub tells_symbols : TellsOf Symbols linked between told symbols
+  pub settles : Settles linked (outcomes linked numbers symbols) told after changes
+
+-- the document before and after; its root is taken out, and put back as it changed
+pub record NumbersFootnotes (before after : Work) : Type 0 where
+  pub out : Node
+  pub settled : Work
+  pub changes : List Outcome
+  pub become : ChangesFootnotes (linked_of before.root) (record before { root = out }) settled changes
+  pub back : after ≡ record settled { root = changed_root changes before.root }

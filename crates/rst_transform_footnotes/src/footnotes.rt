@@ -1,0 +1,384 @@
+//! Footnotes.
+ghost use Rattle.std.specs.Prelude.{◌≡◌, MatchOption, None, Some, length, map, slice_get};
+ghost use Rattle.rst_transform_names.specs.Names.{held_by};
+ghost use Rattle.rst_tree.specs.declared.key.Key.TheVariants.{Ids, Serial};
+ghost use Rattle.rst_tree.specs.Faults.{Gives};
+ghost use Rattle.rst_transform_footnotes.specs.Footnotes.{first_left_over, is_label, label_in, labelled, lead_to_note, outcome_by, outcomes_from, own_number, referring, report_of, too_many, with_number, ChangesFootnotes, HoldNumbers, HoldsName, HoldsNumber, NumbersFootnotes, TellsLeftOver};
+ghost use Rattle.rst_transform_links.specs.Linkings.{held, linked_of};
+ghost use Rattle.rst_transform_links.specs.NoteOrders.{in_order, reference_order};
+ghost use Rattle.rst_transform_work.specs.Reading.{list_said, number_said};
+ghost use Rattle.rst_transform_work.specs.Lists.{at_place};
+
+use crate::note_labels::labels;
+use rst_transform_links::holders::text_attr;
+use rst_transform_links::links::{Addition, Changes, Linked, Outcome, linked_in, put_back};
+use rst_transform_links::note_order::{
+    Order, footnote_order, found_by_order, in_order, reference_order,
+};
+use rst_transform_links::settling::settled;
+use rst_transform_names::{Held, Holder, Names, Strength};
+use rst_transform_work::lists::at_place;
+use rst_transform_work::reading::{first_said, line_of, list_said, number_said};
+use rst_transform_work::work::{Work, take_root};
+use rst_tree::{Entry, Key, Level, Node, Tag, Text, TreeFault, Value};
+use std::alloc::Global;
+
+/// Numbers the footnotes, and lets the references find those that they find by the order (Markup Specification,
+/// 'Footnotes').
+///
+/// Before:
+///
+/// ```text
+/// <paragraph>
+///     <footnote_reference auto="1" ids="footnote-reference-1">
+/// <footnote auto="1" ids="footnote-1">
+///     <label>
+///     <paragraph>
+///         x
+/// <footnote ids="footnote-2" names="1">
+///     <label>
+///         1
+///     <paragraph>
+///         y
+/// ```
+///
+/// After:
+///
+/// ```text
+/// <paragraph>
+///     <footnote_reference auto="1" ids="footnote-reference-1" refid="footnote-1">
+///         2
+/// <footnote auto="1" ids="footnote-1" names="2">
+///     <label>
+///         2
+///     <paragraph>
+///         x
+/// <footnote ids="footnote-2" names="1">
+///     <label>
+///         1
+///     <paragraph>
+///         y
+/// ```
+///
+/// References left over become problematics of one ERROR for each of the two numberings.
+pub fn footnotes(alloc: Global, mut work: Work) -> Result<Work, TreeFault>
+    ensures { Gives (NumbersFootnotes work) result }
+{
+    let root = take_root(alloc, &mut work);
+    let changes = changes_of(alloc, &mut work, &root)?;
+    put_back(alloc, &mut work, root, changes)?;
+    Ok(work)
+}
+
+/// The changes of a tree's linked elements.
+fn changes_of(alloc: Global, work: &mut Work, root: &Node) -> Result<Changes, TreeFault>
+    ensures { Gives (ChangesFootnotes (linked_of root.now) work.old work.new) result }
+{
+    let linked = linked_in(alloc, root)?;
+    let labels = labels(alloc, linked.as_slice())?;
+    let found = found_by_order(alloc, linked.as_slice())?;
+    hold_numbers(alloc, &mut work.names, linked.as_slice(), labels.as_slice())?;
+    let numbers = leftover(
+        alloc,
+        work,
+        linked.as_slice(),
+        found.as_slice(),
+        Order::Numbers,
+    )?;
+    let symbols = leftover(
+        alloc,
+        work,
+        linked.as_slice(),
+        found.as_slice(),
+        Order::Symbols,
+    )?;
+    let outcomes = outcomes(
+        alloc,
+        linked.as_slice(),
+        labels.as_slice(),
+        found.as_slice(),
+        numbers,
+        symbols,
+    )?;
+    let changes = settled(alloc, work, linked.as_slice(), outcomes)?;
+    Ok(changes)
+}
+
+/// The label of the footnote at a place, if there is one.
+fn label_at<'l>(labels: &'l [Option<Text>], place: usize) -> Option<&'l str>
+    ensures { MatchOption result (at_place labels.now place ≡ None) (λ label. at_place labels.now place ≡ Some label.now) }
+{
+    match labels.get(place) {
+        Some(Some(label)) => Some(label.as_str()),
+        _ => None,
+    }
+}
+
+/// The number that the element at a place gets as a name: its label, if it is a footnote that was written with `#` alone.
+fn own_number<'l>(node: &Node, labels: &'l [Option<Text>], place: usize) -> Option<&'l str>
+    ensures { MatchOption result (own_number node.now (at_place labels.now place) ≡ None) (λ number. own_number node.now (at_place labels.now place) ≡ Some number.now) }
+{
+    if !Order::Numbers.is(footnote_order(node)) {
+        return None;
+    }
+    label_at(labels, place)
+}
+
+/// Lets the footnotes that were to be numbered and not named hold their numbers as names.
+fn hold_numbers(
+    alloc: Global,
+    names: &mut Names,
+    linked: &[Linked<'_>],
+    labels: &[Option<Text>],
+) -> Result<(), TreeFault>
+    ensures { Gives (λ _. HoldNumbers 0 labels.now (map held linked.now) names.old names.new) result }
+{
+    for (place, one) in linked.iter().enumerate() {
+        hold_own(alloc, names, one.element, labels, place)?;
+    }
+    Ok(())
+}
+
+/// Lets the element at a place hold its number as a name, if it gets one.
+fn hold_own(
+    alloc: Global,
+    names: &mut Names,
+    element: &Node,
+    labels: &[Option<Text>],
+    place: usize,
+) -> Result<(), TreeFault>
+    ensures { Gives (λ _. HoldsNumber (own_number element.now (at_place labels.now place)) element.now names.old names.new) result }
+{
+    let Some(number) = own_number(element, labels, place) else {
+        return Ok(());
+    };
+    hold_number(alloc, names, number, element)
+}
+
+/// Lets a footnote hold its number as a name, unless an element was written with that name.
+fn hold_number(
+    alloc: Global,
+    names: &mut Names,
+    number: &str,
+    footnote: &Node,
+) -> Result<(), TreeFault>
+    ensures { Gives (λ _. HoldsName number.now (held_by names.old number.now) (number_said Serial footnote.now) (slice_get (list_said Ids footnote.now) 0) names.old names.new) result }
+{
+    if let Some(_) = names.get(number) {
+        return Ok(());
+    }
+    let Some(serial) = number_said(footnote, Key::Serial) else {
+        return Ok(());
+    };
+    let Some(id) = first_said(footnote, Key::Ids) else {
+        return Ok(());
+    };
+    let held = Held {
+        holder: Holder::Element(serial),
+        strength: Strength::Explicit,
+        id: Text::from_str(alloc, id)?,
+    };
+    names.hold(alloc, number, held)
+}
+
+/// The line of the first reference of an order that finds no footnote, if there is such.
+fn first_left_over(linked: &[Linked<'_>], found: &[Option<usize>], order: Order) -> Option<usize>
+    ensures { result ≡ first_left_over order 0 found.now (map held linked.now) }
+{
+    for (place, one) in linked.iter().enumerate() {
+        if order.is(reference_order(one.element)) && at_place(found, place).is_none() {
+            return Some(line_of(one.element));
+        }
+    }
+    None
+}
+
+/// That there are too many references of an order, in words.
+fn too_many(alloc: Global, order: Order, footnotes: usize) -> Result<Text, TreeFault>
+    ensures { Gives (λ text. text ≡ too_many order footnotes) result }
+{
+    let text = format!(in alloc;
+        "Too many {} footnote references: only {footnotes} corresponding footnotes available.",
+        order.name()
+    )?;
+    Ok(Text::new(text))
+}
+
+/// The message on the references of an order for which no footnote is left, if there are such.
+fn leftover(
+    alloc: Global,
+    work: &mut Work,
+    linked: &[Linked<'_>],
+    found: &[Option<usize>],
+    order: Order,
+) -> Result<Option<usize>, TreeFault>
+    ensures { Gives (TellsLeftOver (first_left_over order 0 found.now (map held linked.now)) order (length (in_order order (map held linked.now))) work.old work.new) result }
+{
+    let Some(line) = first_left_over(linked, found, order) else {
+        return Ok(None);
+    };
+    let footnotes = in_order(alloc, linked, order)?;
+    let text = too_many(alloc, order, footnotes.len())?;
+    let place = work.report(alloc, Level::Error, line, text, true)?;
+    Ok(Some(place))
+}
+
+/// The message on a reference, by those on the two orders.
+fn report_of(node: &Node, numbers: Option<usize>, symbols: Option<usize>) -> Option<usize>
+    ensures { result ≡ report_of (reference_order node.now) numbers symbols }
+{
+    match reference_order(node) {
+        Some(Order::Numbers) => numbers,
+        Some(Order::Symbols) => symbols,
+        None => None,
+    }
+}
+
+/// What becomes of the linked elements.
+fn outcomes(
+    alloc: Global,
+    linked: &[Linked<'_>],
+    labels: &[Option<Text>],
+    found: &[Option<usize>],
+    numbers: Option<usize>,
+    symbols: Option<usize>,
+) -> Result<Vec<Outcome>, TreeFault>
+    ensures { Gives (λ list. list.items ≡ outcomes_from (map held linked.now) labels.now found.now numbers symbols 0 (map held linked.now)) result }
+{
+    let mut list = Vec::with_capacity(alloc, linked.len())?;
+    for (place, one) in linked.iter().enumerate() {
+        let report = report_of(one.element, numbers, symbols);
+        let outcome = outcome(
+            alloc,
+            linked,
+            labels,
+            place,
+            one,
+            at_place(found, place),
+            report,
+        )?;
+        list.push(outcome)?;
+    }
+    Ok(list)
+}
+
+/// What becomes of the element at a place, by the footnote that it finds and the message on it.
+fn outcome(
+    alloc: Global,
+    linked: &[Linked<'_>],
+    labels: &[Option<Text>],
+    place: usize,
+    one: &Linked<'_>,
+    found: Option<usize>,
+    report: Option<usize>,
+) -> Result<Outcome, TreeFault>
+    ensures { Gives (λ outcome. outcome ≡ outcome_by (map held linked.now) labels.now place (held one.now) found report) result }
+{
+    if let Some(footnote) = found {
+        return referring(alloc, linked, labels, footnote);
+    }
+    if let Some(report) = report {
+        return Ok(Outcome::Fails(report));
+    }
+    labelled(alloc, one, labels, place)
+}
+
+/// A copy of the label of the footnote at a place, if there is one.
+fn shown_at(alloc: Global, labels: &[Option<Text>], place: usize) -> Result<Option<Text>, TreeFault>
+    ensures { Gives (λ shown. shown ≡ at_place labels.now place) result }
+{
+    match label_at(labels, place) {
+        Some(label) => Ok(Some(Text::from_str(alloc, label)?)),
+        None => Ok(None),
+    }
+}
+
+/// A copy of the label of the footnote that a label stands in, if there is one.
+fn label_in(
+    alloc: Global,
+    labels: &[Option<Text>],
+    outer: Option<usize>,
+) -> Result<Option<Text>, TreeFault>
+    ensures { Gives (λ shown. shown ≡ label_in labels.now outer) result }
+{
+    match outer {
+        Some(footnote) => shown_at(alloc, labels, footnote),
+        None => Ok(None),
+    }
+}
+
+/// What a reference says of the footnote at a place: its id.
+fn lead_to_note(
+    alloc: Global,
+    linked: &[Linked<'_>],
+    footnote: usize,
+) -> Result<Option<Entry>, TreeFault>
+    ensures { Gives (λ lead. lead ≡ lead_to_note (slice_get (map held linked.now) footnote)) result }
+{
+    let Some(note) = linked.get(footnote) else {
+        return Ok(None);
+    };
+    match first_said(note.element, Key::Ids) {
+        Some(id) => Ok(Some(text_attr(alloc, Key::Refid, id)?)),
+        None => Ok(None),
+    }
+}
+
+/// What becomes of a reference to the footnote at a place.
+fn referring(
+    alloc: Global,
+    linked: &[Linked<'_>],
+    labels: &[Option<Text>],
+    footnote: usize,
+) -> Result<Outcome, TreeFault>
+    ensures { Gives (λ outcome. outcome ≡ referring (map held linked.now) labels.now footnote) result }
+{
+    let attr = lead_to_note(alloc, linked, footnote)?;
+    let shown = shown_at(alloc, labels, footnote)?;
+    Ok(Outcome::Stays(Addition { attr, shown }))
+}
+
+/// Whether a node is a label.
+fn is_label(node: &Node) -> bool
+    ensures { result ≡ is_label node.now }
+{
+    match node {
+        Node::Element { tag, .. } => matches!(tag, Tag::Label),
+        Node::Text(_) => false,
+    }
+}
+
+/// The names of the element at a place with its number, if it gets one as a name.
+fn with_number(
+    alloc: Global,
+    node: &Node,
+    labels: &[Option<Text>],
+    place: usize,
+) -> Result<Option<Entry>, TreeFault>
+    ensures { Gives (λ names. names ≡ with_number node.now (own_number node.now (at_place labels.now place))) result }
+{
+    let Some(number) = own_number(node, labels, place) else {
+        return Ok(None);
+    };
+    let mut names = list_said(alloc, node, Key::Names)?;
+    names.push(Text::from_str(alloc, number)?)?;
+    Ok(Some(Entry::new(Key::Names, Value::List(names))))
+}
+
+/// What becomes of an element that is no reference by the order: a label shows what its footnote is labelled with, and a
+/// footnote that was to be numbered gets its number as a name.
+fn labelled(
+    alloc: Global,
+    one: &Linked<'_>,
+    labels: &[Option<Text>],
+    place: usize,
+) -> Result<Outcome, TreeFault>
+    ensures { Gives (λ outcome. outcome ≡ labelled labels.now place (held one.now)) result }
+{
+    if is_label(one.element) {
+        let shown = label_in(alloc, labels, one.outer)?;
+        return Ok(Outcome::Stays(Addition { attr: None, shown }));
+    }
+    let names = with_number(alloc, one.element, labels, place)?;
+    Ok(Outcome::adds(names))
+}

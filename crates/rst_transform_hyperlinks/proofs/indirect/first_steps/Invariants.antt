@@ -1,0 +1,9 @@
+use Rattle.std.proofs.Common.{◌≡◌, ◌++◌, map, drop}
+use Rattle.rst_transform_links.specs.Holders.{place_at}
+use Rattle.rst_transform_hyperlinks.specs.Indirect.{own_step, steps_of}
+use Rattle.rst_transform_links.specs.Linkings.{held}
+use Rattle.rst_transform_hyperlinks.proofs.indirect.first_steps.Given as goal
+
+abbrev pub invariant-loop-one : goal.invariant-loop-one
+invariant-loop-one l =
+    l.steps.items ++ map (λ one. own_step l.names (place_at l.holders.places.items) (map held l.linked) one.0) (map held (drop l.one-index l.linked)) ≡ steps_of l.fn.names (place_at l.fn.holders.places.items) (map held l.fn.linked)

@@ -1,0 +1,117 @@
+-- Anonymous references and the targets that they refer to (Markup Specification, 'Anonymous Hyperlinks').
+use Rattle.std.specs.Prelude.{◌≡◌, ◌&&◌, ℕ, Bool, true, false, List, [], ◌∷◌, ◌++◌, codes, decimal, drop, filter, length, map, nat_eq, if◌then◌else◌, is_some, slice_get, Option, Some, None}
+use Rattle.rst_tree.specs.declared.attrs.Attr.{Attr}
+use Rattle.rst_tree.specs.declared.key.Key.TheVariants.{Anonymous, Ids, Refid, Refname, Refuri}
+use Rattle.rst_tree.specs.declared.attrs.Value.TheVariants.{Text as Words}
+use Rattle.rst_tree.specs.declared.node.Node.{Node}
+use Rattle.rst_tree.specs.declared.node.Node.TheVariants.{Element, Text}
+use Rattle.rst_tree.specs.declared.tag.Tag.{Tag}
+use Rattle.rst_tree.specs.declared.tag.Tag.TheVariants.{Reference}
+use Rattle.rst_tree.specs.Attributes.{attr, value_of}
+use Rattle.rst_tree.specs.Paths.{node_value}
+use Rattle.rst_tree_index.specs.Held.{is_target}
+use Rattle.rst_tree.specs.declared.note.Level.TheVariants.{Error}
+use Rattle.rst_transform_links.specs.declared.links.Outcome.{Outcome}
+use Rattle.rst_transform_links.specs.declared.links.Outcome.TheVariants.{Fails}
+use Rattle.rst_transform_work.specs.declared.work.Work.{Work}
+use Rattle.rst_transform_links.specs.Linkings.{Held, linked_of}
+use Rattle.rst_transform_links.specs.Links.{changed_root}
+use Rattle.rst_transform_links.specs.Outcomes.{adds}
+use Rattle.rst_transform_work.specs.Reading.{line_of, list_said, text_said}
+use Rattle.rst_transform_work.specs.Reports.{next_report, KeepsRest}
+use Rattle.rst_transform_links.specs.Settling.{Settles}
+use Rattle.rst_transform_links.specs.Holders.{lead_of, lead_to_id}
+
+abbrev pub is_reference : Tag → Bool
+is_reference Reference = true
+is_reference _ = false
+
+abbrev pub is_anonymous_reference : Node → Bool
+is_anonymous_reference (Element t a c l) = is_reference t && is_some (value_of Anonymous a)
+is_anonymous_reference (Text t) = false
+
+abbrev pub is_anonymous_target : Node → Bool
+is_anonymous_target (Element t a c l) = is_target t && is_some (value_of Anonymous a)
+is_anonymous_target (Text t) = false
+
+-- the first lead, or else the second
+abbrev pub lead_or : Option Attr → Option Attr → Option Attr
+lead_or (Some lead) other = Some lead
+lead_or None other = other
+
+-- to the target itself, unless it is an indirect one
+abbrev pub lead_to_itself : Node → Option Attr
+lead_to_itself target = if is_some (node_value Refname target) then None else lead_to_id (slice_get (list_said Ids target) 0)
+
+-- what a reference says of its target
+abbrev pub lead_to : Node → Option Attr
+lead_to target = lead_or (lead_of target) (lead_to_itself target)
+
+-- the lead to the first of some targets, if there is one
+abbrev pub first_lead : List Held → Option Attr
+first_lead [] = None
+first_lead (target ∷ more) = lead_to target.0
+
+-- each anonymous reference takes the next target; all others stay as they are
+abbrev pub taken : List Held → List Held → List Outcome
+taken [] targets = []
+taken (one ∷ more) targets =
+    if is_anonymous_reference one.0 then adds (first_lead targets) ∷ taken more (drop 1 targets)
+    else adds None ∷ taken more targets
+
+-- the anonymous references and targets in a document
+abbrev pub references_in : Node → List Held
+references_in root = filter (λ one. is_anonymous_reference one.0) (linked_of root)
+
+abbrev pub targets_in : Node → List Held
+targets_in root = filter (λ one. is_anonymous_target one.0) (linked_of root)
+
+-- there are as many of the ones as of the others
+abbrev pub Agrees : Node → Type 0
+Agrees root = length (references_in root) ≡ length (targets_in root)
+
+-- what becomes of the linked elements, where there are
+abbrev pub agreed : Node → List Outcome
+agreed root = taken (linked_of root) (targets_in root)
+
+-- a document whose references took their targets
+abbrev pub with_anonymous : Work → Work
+with_anonymous work = record work { root = changed_root (agreed work.root) work.root }
+
+-- whether there are
+abbrev pub agree : Node → Bool
+agree root = nat_eq (length (references_in root)) (length (targets_in root))
+
+-- the line of the first reference, or else target
+abbrev pub first_line : List Held → List Held → ℕ
+first_line (one ∷ more) targets = line_of one.0
+first_line [] (one ∷ more) = line_of one.0
+first_line [] [] = 0
+
+-- what is told where there aren't
+abbrev pub mismatch : ℕ → ℕ → List ℕ
+mismatch references targets = codes "Anonymous hyperlink mismatch: " ++ (decimal references ++ (codes " references but " ++ (decimal targets ++ codes " targets.")))
+
+-- the one ERROR of that, on a line, comes behind the other messages
+abbrev pub IsComplaint : ℕ → ℕ → ℕ → Work → Work → Type 0
+IsComplaint line references targets before after =
+    (after.reports.items ≡ before.reports.items ++ next_report before.first_number before.reports.items Error line (mismatch references targets) true ∷ []) × KeepsRest before after
+
+-- each anonymous reference fails for a message
+abbrev pub failing : ℕ → Node → Outcome
+failing report node = if is_anonymous_reference node then Fails report else adds None
+
+-- what becomes of the linked elements of a tree, by whether there are as many, and the document before and after
+abbrev pub ChangesAnonymous : Bool → Node → Work → Work → List Outcome → Type 0
+ChangesAnonymous true root before after changes = (changes ≡ agreed root) × (after ≡ before)
+ChangesAnonymous false root before after changes =
+    (between : Work) × IsComplaint (first_line (references_in root) (targets_in root)) (length (references_in root)) (length (targets_in root)) before between ×
+    Settles (linked_of root) (map (λ one. failing (length before.reports.items) one.0) (linked_of root)) between after changes
+
+-- the document before and after; its root is taken out, and put back as it changed
+pub record IsAnonymous (before after : Work) : Type 0 where
+  pub out : Node
+  pub settled : Work
+  pub changes : List Outcome
+  pub become : ChangesAnonymous (agree before.root) before.root (record before { root = out }) settled changes
+  pub back : after ≡ record settled { root = changed_root changes before.root }

@@ -1,0 +1,235 @@
+//! Anonymous references.
+ghost use Rattle.std.specs.Prelude.{◌≡◌, drop, filter, length, map};
+ghost use Rattle.rst_tree.specs.Faults.{Gives};
+ghost use Rattle.rst_transform_hyperlinks.specs.Anonymous.{agree, agreed, failing, first_lead, first_line, is_anonymous_reference, is_anonymous_target, lead_to, mismatch, taken, with_anonymous, Agrees, ChangesAnonymous, IsAnonymous, IsComplaint};
+ghost use Rattle.rst_transform_links.specs.Linkings.{held};
+
+use rst_transform_links::holders::{lead_of, text_attr};
+use rst_transform_links::links::{Changes, Linked, Outcome, linked_in, put_back};
+use rst_transform_links::settling::settled;
+use rst_transform_work::reading::{first_said, has, line_of};
+use rst_transform_work::work::{Work, take_root};
+use rst_tree::{Entry, Key, Level, Node, Tag, Text, TreeFault};
+use std::alloc::Global;
+
+/// Lets the n-th anonymous reference refer to the n-th anonymous target (Markup Specification, 'Anonymous Hyperlinks').
+///
+/// Before:
+///
+/// ```text
+/// <paragraph>
+///     <reference anonymous="1" name="here">
+///         here
+/// <target anonymous="1" ids="target-1" refuri="https://x.org/">
+/// ```
+///
+/// After:
+///
+/// ```text
+/// <paragraph>
+///     <reference anonymous="1" name="here" refuri="https://x.org/">
+///         here
+/// <target anonymous="1" ids="target-1" refuri="https://x.org/">
+/// ```
+///
+/// One through an indirect target is left to the next transform. If there are more of the ones than of the others, there is
+/// one ERROR, and each reference becomes a problematic.
+pub fn anonymous(alloc: Global, mut work: Work) -> Result<Work, TreeFault>
+    ensures done { Gives (IsAnonymous work) result }
+    ensures agrees { Agrees work.root → Gives (λ done. done ≡ with_anonymous work) result }
+{
+    let root = take_root(alloc, &mut work);
+    let changes = changes_of(alloc, &mut work, &root)?;
+    put_back(alloc, &mut work, root, changes)?;
+    Ok(work)
+}
+
+/// The changes of a tree's linked elements.
+#[tactic(auto, using(crate::proofs::Taking::taken_stay))]
+fn changes_of(alloc: Global, work: &mut Work, root: &Node) -> Result<Changes, TreeFault>
+    ensures done { Gives (ChangesAnonymous (agree root.now) root.now work.old work.new) result }
+    ensures changes { Agrees root.now → Gives (λ changes. changes ≡ agreed root.now) result }
+    ensures work { Agrees root.now → work.new ≡ work.old }
+{
+    let linked = linked_in(alloc, root)?;
+    let references = anonymous_references(alloc, linked.as_slice())?;
+    let targets = anonymous_targets(alloc, linked.as_slice())?;
+    if references.len() == targets.len() {
+        let outcomes = taken(alloc, linked.as_slice(), targets.as_slice())?;
+        return settled(alloc, work, linked.as_slice(), outcomes);
+    }
+    let report = complain(alloc, work, references.as_slice(), targets.as_slice())?;
+    let outcomes = mismatched(alloc, linked.as_slice(), report)?;
+    settled(alloc, work, linked.as_slice(), outcomes)
+}
+
+/// Whether a node is an anonymous reference.
+pub fn is_anonymous_reference(node: &Node) -> bool
+    ensures { result ≡ is_anonymous_reference node.now }
+{
+    match node {
+        Node::Element { tag, attrs, .. } => {
+            matches!(tag, Tag::Reference) && attrs.has(Key::Anonymous)
+        }
+        Node::Text(_) => false,
+    }
+}
+
+/// Whether a node is an anonymous target.
+pub fn is_anonymous_target(node: &Node) -> bool
+    ensures { result ≡ is_anonymous_target node.now }
+{
+    match node {
+        Node::Element { tag, attrs, .. } => {
+            matches!(tag, Tag::Target) && attrs.has(Key::Anonymous)
+        }
+        Node::Text(_) => false,
+    }
+}
+
+/// The anonymous references among linked elements, in order.
+fn anonymous_references<'a>(
+    alloc: Global,
+    linked: &[Linked<'a>],
+) -> Result<Vec<Linked<'a>>, TreeFault>
+    ensures { Gives (λ list. map held list.items ≡ filter (λ one. is_anonymous_reference one.0) (map held linked.now)) result }
+{
+    let mut list = Vec::new(alloc);
+    for one in linked {
+        if is_anonymous_reference(one.element) {
+            list.push(*one)?;
+        }
+    }
+    Ok(list)
+}
+
+/// The anonymous targets among linked elements, in order.
+fn anonymous_targets<'a>(alloc: Global, linked: &[Linked<'a>]) -> Result<Vec<Linked<'a>>, TreeFault>
+    ensures { Gives (λ list. map held list.items ≡ filter (λ one. is_anonymous_target one.0) (map held linked.now)) result }
+{
+    let mut list = Vec::new(alloc);
+    for one in linked {
+        if is_anonymous_target(one.element) {
+            list.push(*one)?;
+        }
+    }
+    Ok(list)
+}
+
+/// The line of the first reference, or else target.
+fn first_line(references: &[Linked<'_>], targets: &[Linked<'_>]) -> usize
+    ensures { result ≡ first_line (map held references.now) (map held targets.now) }
+{
+    if let Some(one) = references.first() {
+        return line_of(one.element);
+    }
+    match targets.first() {
+        Some(one) => line_of(one.element),
+        None => 0,
+    }
+}
+
+/// That there are more of the ones than of the others, in words.
+fn mismatch(alloc: Global, references: usize, targets: usize) -> Result<Text, TreeFault>
+    ensures { Gives (λ text. text ≡ mismatch references targets) result }
+{
+    let text = format!(in alloc;
+        "Anonymous hyperlink mismatch: {references} references but {targets} targets."
+    )?;
+    Ok(Text::new(text))
+}
+
+/// The ERROR that there are.
+fn complain(
+    alloc: Global,
+    work: &mut Work,
+    references: &[Linked<'_>],
+    targets: &[Linked<'_>],
+) -> Result<usize, TreeFault>
+    ensures place { Gives (λ place. place ≡ length work.old.reports.items) result }
+    ensures told { Gives (λ _. IsComplaint (first_line (map held references.now) (map held targets.now)) (length references.now) (length targets.now) work.old work.new) result }
+{
+    let line = first_line(references, targets);
+    let text = mismatch(alloc, references.len(), targets.len())?;
+    let place = work.report(alloc, Level::Error, line, text, true)?;
+    Ok(place)
+}
+
+/// Each reference takes the target that is its own by the order.
+fn taken(
+    alloc: Global,
+    linked: &[Linked<'_>],
+    targets: &[Linked<'_>],
+) -> Result<Vec<Outcome>, TreeFault>
+    ensures { Gives (λ outcomes. outcomes.items ≡ taken (map held linked.entry.now) (map held targets.entry.now)) result }
+{
+    let mut left = targets;
+    let mut outcomes = Vec::new(alloc);
+    for one in linked {
+        if is_anonymous_reference(one.element) {
+            outcomes.push(Outcome::adds(first_lead(alloc, left)?))?;
+            left = behind_first(left);
+            continue;
+        }
+        outcomes.push(Outcome::same())?;
+    }
+    Ok(outcomes)
+}
+
+/// All but the first.
+fn behind_first<'t, 'a>(targets: &'t [Linked<'a>]) -> &'t [Linked<'a>]
+    ensures { result.now ≡ drop 1 targets.now }
+{
+    &targets[targets.len().min(1)..]
+}
+
+/// What a reference says of the first of some targets, if there is one.
+fn first_lead(alloc: Global, targets: &[Linked<'_>]) -> Result<Option<Entry>, TreeFault>
+    ensures { Gives (λ lead. lead ≡ first_lead (map held targets.entry.now)) result }
+{
+    match targets.first() {
+        Some(target) => lead_to(alloc, target.element),
+        None => Ok(None),
+    }
+}
+
+/// What a reference says of its target: where that leads, or its id, unless it is an indirect one.
+fn lead_to(alloc: Global, target: &Node) -> Result<Option<Entry>, TreeFault>
+    ensures { Gives (λ lead. lead ≡ lead_to target.now) result }
+{
+    if let Some(attr) = lead_of(alloc, target)? {
+        return Ok(Some(attr));
+    }
+    if has(target, Key::Refname) {
+        return Ok(None);
+    }
+    match first_said(target, Key::Ids) {
+        Some(id) => Ok(Some(text_attr(alloc, Key::Refid, id)?)),
+        None => Ok(None),
+    }
+}
+
+/// All anonymous references fail.
+fn mismatched(
+    alloc: Global,
+    linked: &[Linked<'_>],
+    report: usize,
+) -> Result<Vec<Outcome>, TreeFault>
+    ensures { Gives (λ outcomes. outcomes.items ≡ map (λ one. failing report one.0) (map held linked.now)) result }
+{
+    let mut outcomes = Vec::with_capacity(alloc, linked.len())?;
+    for one in linked {
+        outcomes.push(failing(report, one.element))?;
+    }
+    Ok(outcomes)
+}
+
+/// What becomes of an element where all anonymous references fail for a report.
+fn failing(report: usize, element: &Node) -> Outcome
+    ensures { result ≡ failing report element.now }
+{
+    if is_anonymous_reference(element) {
+        return Outcome::Fails(report);
+    }
+    Outcome::same()
+}

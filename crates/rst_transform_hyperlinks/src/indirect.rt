@@ -1,0 +1,450 @@
+//! Indirect targets.
+ghost use Rattle.std.specs.Prelude.{◌≡◌, ◌++◌, ℕ, drop, is_none, is_some, length, map, slice_get, unwrap_or, MatchOption, None, Some, [], true};
+ghost use Rattle.std.specs.List.{list_all};
+ghost use Rattle.rst_tree.specs.Faults.{Gives};
+ghost use Rattle.rst_tree.specs.declared.key.Key.TheVariants.{OwnName};
+ghost use Rattle.rst_transform_names.specs.Names.{held_by, kept_for};
+ghost use Rattle.rst_transform_links.specs.Holders.{holding, place_at};
+ghost use Rattle.rst_transform_hyperlinks.specs.Indirect.{anonymous_from, circle_told, ends_at_name, failure_of, first_step, has_holder, indirect_name, is_reference_node, led, missing_told, named_place, next_count, outcome_at, outcome_through, outcomes_from, outcomes_in, own_step, report_place, reports_from, step_to, steps_of, targets_from, targets_of, told_from, with_indirect, with_report, ChangesIndirect, IsIndirect, NoneFails};
+ghost use Rattle.rst_transform_hyperlinks.specs.declared.ways.Answer.TheVariants.{Missing};
+ghost use Rattle.rst_transform_hyperlinks.specs.declared.ways.Step.TheVariants.{Ends};
+ghost use Rattle.rst_transform_links.specs.Linkings.{held};
+ghost use Rattle.rst_transform_work.specs.Reading.{text_said};
+ghost use Rattle.rst_transform_work.specs.Reports.{KeepsRest};
+ghost use Rattle.rst_transform_work.specs.Lists.{at_place};
+
+use crate::anonymous::{is_anonymous_reference, is_anonymous_target};
+use crate::ways::{Answer, Step, answer_at, answers};
+use rst_transform_links::holders::{Holders, is_target, lead_by_name};
+use rst_transform_links::links::{Changes, Linked, Outcome, linked_in, put_back};
+use rst_transform_links::settling::settled;
+use rst_transform_names::{Held, Holder, Names};
+use rst_transform_work::lists::at_place;
+use rst_transform_work::reading::{has, line_of, text_said};
+use rst_transform_work::work::{Work, take_root};
+use rst_tree::{Key, Level, Node, Tag, Text, TreeFault};
+use std::alloc::Global;
+
+/// Lets each target that refers to a name lead where that name leads, through further such targets (Markup Specification,
+/// 'Hyperlink Targets', indirect ones).
+///
+/// Before:
+///
+/// ```text
+/// <paragraph>
+///     <reference anonymous="1">
+///         x
+/// <target anonymous="1" ids="target-1">             refers to `a`
+/// <target ids="a" names="a">                        refers to `b`
+/// <target ids="b" names="b" refuri="https://x.org/">
+/// ```
+///
+/// After:
+///
+/// ```text
+/// <paragraph>
+///     <reference anonymous="1" refuri="https://x.org/">
+///         x
+/// <target anonymous="1" ids="target-1" refuri="https://x.org/">
+/// <target ids="a" names="a" refuri="https://x.org/">
+/// <target ids="b" names="b" refuri="https://x.org/">
+/// ```
+///
+/// References by name are left to the last of these transforms. A target whose way is a circle, or ends at a name that no
+/// element holds, gives an ERROR, and the references through it become problematics of that message: message by message,
+/// under each in the order of the document.
+pub fn indirect(alloc: Global, mut work: Work) -> Result<Work, TreeFault>
+    ensures done { Gives (IsIndirect work) result }
+    ensures led { NoneFails work.root work → Gives (λ done. done ≡ with_indirect work) result }
+{
+    let root = take_root(alloc, &mut work);
+    let changes = changes_of(alloc, &mut work, &root)?;
+    put_back(alloc, &mut work, root, changes)?;
+    Ok(work)
+}
+
+/// The changes of a tree's linked elements.
+fn changes_of(alloc: Global, work: &mut Work, root: &Node) -> Result<Changes, TreeFault>
+    ensures done { Gives (ChangesIndirect root.now work.old work.new) result }
+    ensures changes { NoneFails root.now work.old → Gives (λ changes. changes ≡ outcomes_in root.now work.old) result }
+    ensures work { NoneFails root.now work.old → Gives (λ _. work.new ≡ work.old) result }
+{
+    let linked = linked_in(alloc, root)?;
+    let holders = Holders::of(alloc, linked.as_slice(), work.serials)?;
+    let steps = first_steps(alloc, &work.names, &holders, linked.as_slice())?;
+    let targets = targets_of(alloc, &work.names, &holders, linked.as_slice())?;
+    let answers = answers(alloc, steps.as_slice())?;
+    let reports = reports(alloc, work, linked.as_slice(), answers.as_slice())?;
+    let outcomes = outcomes(
+        alloc,
+        linked.as_slice(),
+        answers.as_slice(),
+        reports.as_slice(),
+        targets.as_slice(),
+    )?;
+    let changes = settled(alloc, work, linked.as_slice(), outcomes)?;
+    Ok(changes)
+}
+
+/// The name that an indirect target refers to.
+fn indirect_name<'a>(node: &'a Node) -> Option<&'a str>
+    ensures { MatchOption result (indirect_name node.now ≡ None) (λ name. indirect_name node.now ≡ Some name.now) }
+{
+    if !is_target(node) {
+        return None;
+    }
+    text_said(node, Key::Refname)
+}
+
+/// Whether a node is an indirect target.
+fn is_indirect(node: &Node) -> bool
+    ensures { result ≡ is_some (indirect_name node.now) }
+{
+    indirect_name(node).is_some()
+}
+
+/// Whether an element holds what is known of a name.
+fn has_holder(known: &Held) -> bool
+    ensures { result ≡ has_holder known.now.holder }
+{
+    !matches!(known.holder, Holder::Nobody)
+}
+
+/// A way that ends where a name leads.
+fn ends_at_name(
+    alloc: Global,
+    names: &Names,
+    name: &str,
+    known: &Held,
+    holder: Option<&Node>,
+) -> Result<Step, TreeFault>
+    ensures { Gives (λ step. step ≡ ends_at_name (holding holder.entry) (kept_for names.now name.now) known.now.id) result }
+{
+    let attr = lead_by_name(alloc, names, name, known, holder)?;
+    Ok(Step::Ends(Answer::Leads(attr)))
+}
+
+/// The first step to the holder of a name, at a place, if it is a linked element.
+fn step_to(
+    alloc: Global,
+    names: &Names,
+    linked: &[Linked<'_>],
+    name: &str,
+    known: &Held,
+    place: Option<usize>,
+) -> Result<Step, TreeFault>
+    ensures { Gives (λ step. step ≡ step_to (map held linked.now) place (kept_for names.now name.now) known.now.id) result }
+{
+    let Some(place) = place else {
+        return ends_at_name(alloc, names, name, known, None);
+    };
+    let Some(holder) = linked.get(place) else {
+        return ends_at_name(alloc, names, name, known, None);
+    };
+    if is_indirect(holder.element) {
+        return Ok(Step::To(place));
+    }
+    ends_at_name(alloc, names, name, known, Some(holder.element))
+}
+
+/// The first step to what a name means.
+fn first_step(
+    alloc: Global,
+    names: &Names,
+    holders: &Holders,
+    linked: &[Linked<'_>],
+    name: &str,
+) -> Result<Step, TreeFault>
+    ensures { Gives (λ step. step ≡ first_step names.now (place_at holders.now.places.items) (map held linked.now) name.now) result }
+{
+    let Some(known) = names.get(name) else {
+        return missing(alloc, name);
+    };
+    if !has_holder(known) {
+        return missing(alloc, name);
+    }
+    let step = step_to(
+        alloc,
+        names,
+        linked,
+        name,
+        known,
+        holders.place(known.holder),
+    )?;
+    Ok(step)
+}
+
+/// A way that ends at a name which no element holds.
+fn missing(alloc: Global, name: &str) -> Result<Step, TreeFault>
+    ensures { Gives (λ step. step ≡ Ends (Missing name.now)) result }
+{
+    let name = Text::from_str(alloc, name)?;
+    Ok(Step::Ends(Answer::Missing(name)))
+}
+
+/// The first step from an element, if it is an indirect target.
+fn own_step(
+    alloc: Global,
+    names: &Names,
+    holders: &Holders,
+    linked: &[Linked<'_>],
+    node: &Node,
+) -> Result<Option<Step>, TreeFault>
+    ensures { Gives (λ step. step ≡ own_step names.now (place_at holders.now.places.items) (map held linked.now) node.now) result }
+{
+    match indirect_name(node) {
+        Some(name) => Ok(Some(first_step(alloc, names, holders, linked, name)?)),
+        None => Ok(None),
+    }
+}
+
+/// The first step from each indirect target, by its place; there is nothing for the other elements.
+fn first_steps(
+    alloc: Global,
+    names: &Names,
+    holders: &Holders,
+    linked: &[Linked<'_>],
+) -> Result<Vec<Option<Step>>, TreeFault>
+    ensures { Gives (λ steps. steps.items ≡ steps_of names.now (place_at holders.now.places.items) (map held linked.now)) result }
+{
+    let mut steps = Vec::with_capacity(alloc, linked.len())?;
+    for one in linked {
+        let step = own_step(alloc, names, holders, linked, one.element)?;
+        steps.push(step)?;
+    }
+    Ok(steps)
+}
+
+/// The name that the message on a target calls it.
+fn own_name(node: &Node) -> &str
+    ensures { result.now ≡ unwrap_or (text_said OwnName node.now) [] }
+{
+    match text_said(node, Key::OwnName) {
+        Some(name) => name,
+        None => "",
+    }
+}
+
+/// What is told of a target whose way ends at a name that no element holds.
+fn missing_told(alloc: Global, name: &str, missing: &str) -> Result<Text, TreeFault>
+    ensures { Gives (λ text. text ≡ missing_told name.now missing.now) result }
+{
+    let text = format!(in alloc;
+        "Indirect hyperlink target \"{name}\" refers to target \"{missing}\", which does not exist."
+    )?;
+    Ok(Text::new(text))
+}
+
+/// What is told of a target whose way is a circle.
+fn circle_told(alloc: Global, name: &str) -> Result<Text, TreeFault>
+    ensures { Gives (λ text. text ≡ circle_told name.now) result }
+{
+    let text = format!(in alloc; "Indirect hyperlink target \"{name}\" is circular.")?;
+    Ok(Text::new(text))
+}
+
+/// What is told of the element at a place, if it fails.
+fn failure_at(
+    alloc: Global,
+    node: &Node,
+    answers: &[Option<Answer>],
+    place: usize,
+) -> Result<Option<Text>, TreeFault>
+    ensures { Gives (λ text. text ≡ failure_of node.now (at_place answers.now place)) result }
+{
+    match answer_at(answers, place) {
+        Some(Answer::Missing(missing)) => {
+            Ok(Some(missing_told(alloc, own_name(node), missing.as_str())?))
+        }
+        Some(Answer::Circular) => Ok(Some(circle_told(alloc, own_name(node))?)),
+        Some(Answer::Leads(_)) | None => Ok(None),
+    }
+}
+
+/// Tells of an element, if there is something to tell, and gives the place of the message.
+fn told(
+    alloc: Global,
+    work: &mut Work,
+    node: &Node,
+    failure: Option<Text>,
+) -> Result<Option<usize>, TreeFault>
+    ensures place { Gives (λ place. place ≡ report_place (length work.old.reports.items) failure) result }
+    ensures reports { Gives (λ _. work.new.reports.items ≡ with_report work.old.first_number work.old.reports.items node.now failure) result }
+    ensures count { Gives (λ _. length work.new.reports.items ≡ next_count (length work.old.reports.items) failure) result }
+    ensures rest { Gives (λ _. KeepsRest work.old work.new) result }
+    ensures same { Gives (λ place. place ≡ None → work.new ≡ work.old) result }
+{
+    let Some(text) = failure else {
+        return Ok(None);
+    };
+    let place = work.report(alloc, Level::Error, line_of(node), text, true)?;
+    Ok(Some(place))
+}
+
+/// The message of each target that fails, by its place.
+fn reports(
+    alloc: Global,
+    work: &mut Work,
+    linked: &[Linked<'_>],
+    answers: &[Option<Answer>],
+) -> Result<Vec<Option<usize>>, TreeFault>
+    ensures places { Gives (λ reports. reports.items ≡ reports_from (at_place answers.now) (length work.old.reports.items) 0 (map held linked.now)) result }
+    ensures reports { Gives (λ _. work.new.reports.items ≡ told_from (at_place answers.now) work.old.first_number work.old.reports.items 0 (map held linked.now)) result }
+    ensures rest { Gives (λ _. KeepsRest work.old work.new) result }
+    ensures same { Gives (λ reports. list_all is_none reports.items ≡ true → work.new ≡ work.old) result }
+{
+    let mut reports = Vec::with_capacity(alloc, linked.len())?;
+    for (place, one) in linked.iter().enumerate() {
+        let failure = failure_at(alloc, one.element, answers, place)?;
+        let report = told(alloc, work, one.element, failure)?;
+        reports.push(report)?;
+    }
+    Ok(reports)
+}
+
+/// The places of the anonymous targets, in order.
+fn anonymous_places(alloc: Global, linked: &[Linked<'_>]) -> Result<Vec<usize>, TreeFault>
+    ensures { Gives (λ places. places.items ≡ anonymous_from 0 (map held linked.now)) result }
+{
+    let mut places = Vec::new(alloc);
+    for (place, one) in linked.iter().enumerate() {
+        if is_anonymous_target(one.element) {
+            places.push(place)?;
+        }
+    }
+    Ok(places)
+}
+
+/// Whether a node is a reference.
+fn is_reference(node: &Node) -> bool
+    ensures { result ≡ is_reference_node node.now }
+{
+    match node {
+        Node::Element { tag, .. } => matches!(tag, Tag::Reference),
+        Node::Text(_) => false,
+    }
+}
+
+/// The place of the element that a reference means by its name, if it does.
+fn named_place(names: &Names, holders: &Holders, node: &Node) -> Option<usize>
+    ensures { result ≡ named_place names.now (place_at holders.now.places.items) node.now }
+{
+    if !is_reference(node) {
+        return None;
+    }
+    let name = text_said(node, Key::Refname)?;
+    let known = names.get(name)?;
+    holders.place(known.holder)
+}
+
+/// All but the first.
+fn behind_first(places: &[usize]) -> &[usize]
+    ensures { result.now ≡ drop 1 places.now }
+{
+    &places[places.len().min(1)..]
+}
+
+/// For each reference the place of the target that it means, by its name or by the order.
+fn targets_of(
+    alloc: Global,
+    names: &Names,
+    holders: &Holders,
+    linked: &[Linked<'_>],
+) -> Result<Vec<Option<usize>>, TreeFault>
+    ensures { Gives (λ targets. targets.items ≡ targets_of names.now (place_at holders.now.places.items) (map held linked.now)) result }
+{
+    let anonymous = anonymous_places(alloc, linked)?;
+    let targets = targets_by(alloc, names, holders, linked, anonymous.as_slice())?;
+    Ok(targets)
+}
+
+/// The same, by the places of the anonymous targets.
+fn targets_by(
+    alloc: Global,
+    names: &Names,
+    holders: &Holders,
+    linked: &[Linked<'_>],
+    anonymous: &[usize],
+) -> Result<Vec<Option<usize>>, TreeFault>
+    ensures { Gives (λ targets. targets.items ≡ targets_from names.now (place_at holders.now.places.items) anonymous.entry.now (map held linked.now)) result }
+{
+    let mut left = anonymous;
+    let mut targets = Vec::with_capacity(alloc, linked.len())?;
+    for one in linked {
+        if is_anonymous_reference(one.element) {
+            targets.push(left.first().copied())?;
+            left = behind_first(left);
+            continue;
+        }
+        targets.push(named_place(names, holders, one.element))?;
+    }
+    Ok(targets)
+}
+
+/// What becomes of an element that leads where an answer says.
+fn led(alloc: Global, answer: &Answer) -> Result<Outcome, TreeFault>
+    ensures { Gives (λ outcome. outcome ≡ led answer.now) result }
+{
+    match answer {
+        Answer::Leads(attr) => Ok(Outcome::says(attr.copy(alloc)?)),
+        Answer::Missing(_) | Answer::Circular => Ok(Outcome::same()),
+    }
+}
+
+/// What becomes of a reference through the target at a place.
+fn outcome_through(
+    alloc: Global,
+    node: &Node,
+    answers: &[Option<Answer>],
+    reports: &[Option<usize>],
+    target: Option<usize>,
+) -> Result<Outcome, TreeFault>
+    ensures { Gives (λ outcome. outcome ≡ outcome_through (at_place answers.now) (at_place reports.now) node.now target) result }
+{
+    let Some(target) = target else {
+        return Ok(Outcome::same());
+    };
+    if let Some(report) = at_place(reports, target) {
+        return Ok(Outcome::Fails(report));
+    }
+    match answer_at(answers, target) {
+        Some(answer) if has(node, Key::Anonymous) => led(alloc, answer),
+        _ => Ok(Outcome::same()),
+    }
+}
+
+/// What becomes of the element at a place, with the place of the target that it means if it is a reference.
+fn outcome_at(
+    alloc: Global,
+    node: &Node,
+    answers: &[Option<Answer>],
+    reports: &[Option<usize>],
+    target: Option<usize>,
+    place: usize,
+) -> Result<Outcome, TreeFault>
+    ensures { Gives (λ outcome. outcome ≡ outcome_at (at_place answers.now) (at_place reports.now) node.now target place) result }
+{
+    match answer_at(answers, place) {
+        Some(answer) => led(alloc, answer),
+        None => outcome_through(alloc, node, answers, reports, target),
+    }
+}
+
+/// What becomes of the linked elements.
+fn outcomes(
+    alloc: Global,
+    linked: &[Linked<'_>],
+    answers: &[Option<Answer>],
+    reports: &[Option<usize>],
+    targets: &[Option<usize>],
+) -> Result<Vec<Outcome>, TreeFault>
+    ensures { Gives (λ outcomes. outcomes.items ≡ outcomes_from (at_place answers.now) (at_place reports.now) (at_place targets.now) 0 (map held linked.now)) result }
+{
+    let mut outcomes = Vec::with_capacity(alloc, linked.len())?;
+    for (place, one) in linked.iter().enumerate() {
+        let target = at_place(targets, place);
+        let outcome = outcome_at(alloc, one.element, answers, reports, target, place)?;
+        outcomes.push(outcome)?;
+    }
+    Ok(outcomes)
+}

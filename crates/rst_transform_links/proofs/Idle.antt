@@ -1,0 +1,49 @@
+-- Where every element stays as it is, the tree does.
+use Rattle.std.proofs.Common.{◌≡◌, ℕ, List, [], ◌∷◌, drop, refl, ap, Bool, true, false, Option}
+use Rattle.std.specs.Prelude.{◌&&◌, if◌then◌else◌, Some, None}
+use Rattle.std.specs.List.{list_all}
+use Rattle.rst_tree.specs.declared.attrs.Attr.{Attr}
+use Rattle.rst_tree.specs.declared.node.Node.{Node}
+use Rattle.rst_tree.specs.declared.node.Node.TheVariants.{Element, Text}
+use Rattle.rst_tree.specs.declared.rewriting.Rewrite.TheVariants.{Keep}
+use Rattle.rst_tree.specs.declared.tag.Tag.{Tag}
+use Rattle.rst_tree.specs.Forest.{Forest, bare, element, words}
+use Rattle.rst_tree.specs.Rewritten.{rewritten}
+use Rattle.rst_tree_index.specs.Linked.{is_linked}
+use Rattle.rst_transform_links.specs.declared.links.Outcome.{Outcome}
+use Rattle.rst_transform_links.specs.declared.links.Outcome.TheVariants.{Stays, Fails, Failed}
+use Rattle.rst_transform_links.specs.Links.{change_next, change_of, changed_by, changed_root, is_idle, is_nothing, shown_as, with_more}
+
+-- nothing is said or shown, and the rest is idle
+nothing : (more : Option Attr) (text : Option (List ℕ)) (rest : Bool) (t : Tag) (a : List Attr) (l : ℕ) → (is_nothing more text && rest) ≡ true → (shown_as text t (with_more more a) l ≡ Keep t a l) × (rest ≡ true)
+nothing None None rest t a l h = (refl, h)
+nothing None (Some text) rest t a l h = absurd (cc)
+nothing (Some more) None rest t a l h = absurd (cc)
+nothing (Some more) (Some text) rest t a l h = absurd (cc)
+
+-- a linked element stays
+idle_first : (s : List Outcome) (t : Tag) (a : List Attr) (l : ℕ) → list_all is_idle s ≡ true → (changed_by s t a l ≡ Keep t a l) × (list_all is_idle (drop 1 s) ≡ true)
+idle_first [] t a l h = (refl, refl)
+idle_first (Stays more ∷ rest) t a l h = nothing more.attr more.shown (list_all is_idle rest) t a l h
+idle_first (Fails report ∷ rest) t a l h = (refl, h)
+idle_first (Failed p ∷ rest) t a l h = absurd (cc)
+
+-- any element stays
+idle_element : (linked : Bool) (s : List Outcome) (t : Tag) (a : List Attr) (l : ℕ) → list_all is_idle s ≡ true
+    → ((if linked then changed_by s t a l else Keep t a l) ≡ Keep t a l) × (list_all is_idle (if linked then drop 1 s else s) ≡ true)
+idle_element true s t a l h = idle_first s t a l h
+idle_element false s t a l h = (refl, h)
+
+idle_nodes : (s : List Outcome) (f : Forest) → list_all is_idle s ≡ true → ((rewritten change_next change_of s f).0 ≡ f) × (list_all is_idle (rewritten change_next change_of s f).1 ≡ true)
+idle_nodes s bare h = (refl, h)
+idle_nodes s (words t r) h = let behind = idle_nodes s r h in (ap (words t) behind.0, behind.1)
+idle_nodes s (element t a c l r) h =
+    let own = idle_element (is_linked t) s t a l h in
+    let s' : List Outcome = change_next s (Element t a c l) in
+    let inside = idle_nodes s' c own.1 in
+    let behind = idle_nodes (rewritten change_next change_of s' c).1 r inside.1 in
+    rw (own.0) (rw (inside.0, behind.0) refl, behind.1)
+
+pub idle_root : (s : List Outcome) (root : Node) → list_all is_idle s ≡ true → changed_root s root ≡ root
+idle_root s (Element t a c l) h = let nodes = idle_nodes s c h in ap (λ f. Element t a f l) nodes.0
+idle_root s (Text t) h = refl

@@ -1,0 +1,39 @@
+-- The elements that references join, in preorder, each with the place of the innermost one of them that it stands in (Markup
+-- Specification, 'Hyperlink References').
+use Rattle.std.specs.Prelude.{ℕ, ◌+◌, List, [], ◌∷◌, ◌++◌, length, if◌then◌else◌, Option, Some, None}
+use Rattle.rst_tree.specs.declared.node.Node.{Node}
+use Rattle.rst_tree.specs.declared.node.Node.TheVariants.{Element, Text}
+use Rattle.rst_tree.specs.declared.tag.Tag.{Tag}
+use Rattle.rst_tree.specs.Forest.{Forest, bare, element, words}
+use Rattle.rst_tree_index.specs.Linked.{is_linked}
+use Rattle.rst_transform_links.specs.declared.links.Linked.{Linked}
+
+-- an element, and the place of the one that it stands in
+abbrev pub Held : Type 0
+Held = Node × Option ℕ
+
+-- what a list of them holds
+abbrev pub held : Linked → Held
+held one = (one.element.now, one.outer)
+
+-- a node that stands in the one at a place, if it is linked itself
+abbrev pub own_linked : Option ℕ → Tag → Node → List Held
+own_linked outer tag node = if is_linked tag then ((node, outer) ∷ []) else []
+
+-- the innermost linked element that the nodes in one stand in, which comes behind so many
+abbrev pub inner_of : ℕ → Option ℕ → Tag → Option ℕ
+inner_of before outer tag = if is_linked tag then (Some before) else outer
+
+-- those among some nodes that stand in the one at a place, behind so many others
+abbrev pub linked_among : ℕ → Option ℕ → Forest → List Held
+linked_among before outer bare = []
+linked_among before outer (words t r) = linked_among before outer r
+linked_among before outer (element t a c l r) =
+    let own : List Held = own_linked outer t (Element t a c l) in
+    let inside : List Held = linked_among (before + length own) (inner_of before outer t) c in
+    own ++ (inside ++ linked_among (before + length own + length inside) outer r)
+
+-- those in a document
+abbrev pub linked_of : Node → List Held
+linked_of (Element t a c l) = linked_among 0 None c
+linked_of (Text t) = []

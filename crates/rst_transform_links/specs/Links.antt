@@ -1,0 +1,64 @@
+-- What the outcomes of linked elements, taken in turn, make of the elements of a tree.
+use Rattle.std.specs.Prelude.{◌≡◌, Bool, true, false, ℕ, List, [], ◌∷◌, drop, if◌then◌else◌, Option, Some, None}
+use Rattle.rst_tree.specs.declared.attrs.Attr.{Attr}
+use Rattle.rst_tree.specs.declared.node.Node.{Node}
+use Rattle.rst_tree.specs.declared.node.Node.TheVariants.{Element, Text}
+use Rattle.rst_tree.specs.declared.rewriting.Rewrite.{Rewrite}
+use Rattle.rst_tree.specs.declared.rewriting.Rewrite.TheVariants.{Keep, Replace}
+use Rattle.rst_tree.specs.declared.tag.Tag.{Tag}
+use Rattle.rst_tree.specs.declared.tag.Tag.TheVariants.{Problematic}
+use Rattle.rst_tree.specs.Attributes.{with_attr}
+use Rattle.rst_tree.specs.Forest.{Forest, bare, words}
+use Rattle.rst_tree.specs.Rewritten.{kept, rewritten}
+use Rattle.rst_tree_index.specs.Linked.{is_linked}
+use Rattle.rst_transform_links.specs.declared.links.Outcome.{Outcome}
+use Rattle.rst_transform_links.specs.declared.links.Outcome.TheVariants.{Stays, Fails, Failed}
+use Rattle.rst_transform_work.specs.Reading.{source_said}
+
+-- the attributes, and one more if there is one
+abbrev pub with_more : Option Attr → List Attr → List Attr
+with_more None attrs = attrs
+with_more (Some more) attrs = with_attr more.key more.value attrs
+
+-- an element that stays, or shows a text in place of what stood in it
+abbrev pub shown_as : Option (List ℕ) → Tag → List Attr → ℕ → Rewrite
+shown_as None t a l = Keep t a l
+shown_as (Some text) t a l = Replace (Element t a (words text bare) l)
+
+-- what stands in an element that may show a text in its place, and whether that stays
+abbrev pub Shows : Option (List ℕ) → Forest → Forest → Bool → Type 0
+Shows None old new stays = (new ≡ old) × (stays ≡ true)
+Shows (Some text) old new stays = (new ≡ words text bare) × (stays ≡ false)
+
+-- what the first outcome makes of an element; what failed becomes a problematic of its source text
+abbrev pub changed_by : List Outcome → Tag → List Attr → ℕ → Rewrite
+changed_by [] t a l = Keep t a l
+changed_by (Stays x ∷ more) t a l = shown_as x.shown t (with_more x.attr a) l
+changed_by (Fails report ∷ more) t a l = Keep t a l
+changed_by (Failed p ∷ more) t a l = Replace (Element Problematic p (words (source_said a) bare) l)
+
+-- what becomes of an element
+abbrev pub change_of : List Outcome → Node → Rewrite
+change_of s (Element t a c l) = if is_linked t then changed_by s t a l else Keep t a l
+change_of s (Text t) = kept (Text t)
+
+-- the outcomes that are left behind an element
+abbrev pub change_next : List Outcome → Node → List Outcome
+change_next s (Element t a c l) = if is_linked t then drop 1 s else s
+change_next s (Text t) = s
+
+-- nothing is said, and no text is shown
+abbrev pub is_nothing : Option Attr → Option (List ℕ) → Bool
+is_nothing None None = true
+is_nothing _ _ = false
+
+-- an element of which this becomes stays as it is
+abbrev pub is_idle : Outcome → Bool
+is_idle (Stays x) = is_nothing x.attr x.shown
+is_idle (Fails report) = true
+is_idle (Failed p) = false
+
+-- the tree of a root, changed
+abbrev pub changed_root : List Outcome → Node → Node
+changed_root s (Element t a c l) = Element t a (rewritten change_next change_of s c).0 l
+changed_root s (Text t) = Text t

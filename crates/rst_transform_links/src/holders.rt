@@ -1,0 +1,147 @@
+//! The holders of names among the elements that references join.
+ghost use Rattle.std.specs.Prelude.{◌≡◌, map, replicate, None};
+ghost use Rattle.rst_tree.specs.declared.attrs.Value.TheVariants.{Text as Words};
+ghost use Rattle.rst_tree.specs.declared.key.Key.TheVariants.{Serial};
+ghost use Rattle.rst_tree.specs.Attributes.{attr};
+ghost use Rattle.rst_tree.specs.Faults.{Gives};
+ghost use Rattle.rst_tree.specs.Told.{given};
+ghost use Rattle.rst_transform_names.specs.declared.names.Holder.{Holder};
+ghost use Rattle.rst_transform_names.specs.Names.{kept_for};
+ghost use Rattle.rst_transform_links.specs.Holders.{lead_of};
+ghost use Rattle.rst_transform_links.specs.Holders.{holder_place, holding, is_target_node, kept_lead, name_lead, noted, place_at, target_lead};
+ghost use Rattle.rst_transform_links.specs.Linkings.{held};
+ghost use Rattle.rst_transform_work.specs.Reading.{number_said};
+
+use crate::links::Linked;
+use rst_transform_names::{Held, Holder, Names};
+use rst_transform_work::reading::{number_said, text_said};
+use rst_tree::{Entry, Key, Node, Tag, Text, TreeFault, Value};
+use std::alloc::Global;
+
+/// The places of linked elements in the list of all, by their numbers.
+#[derive(Drop)]
+pub struct Holders {
+    places: Vec<Option<usize>>,
+}
+
+impl Holders {
+    /// The places of some elements, whose numbers are below `serials`.
+    pub fn of(alloc: Global, linked: &[Linked<'_>], serials: u64) -> Result<Holders, TreeFault>
+        ensures { Gives (λ holders. (holder : Holder) → place_at holders.places.items holder ≡ holder_place serials (map held linked.now) holder) result }
+    {
+        let mut places = nowhere(alloc, serials)?;
+        for (place, one) in linked.iter().enumerate() {
+            note(&mut places, place, one.element);
+        }
+        Ok(Holders { places })
+    }
+
+    /// The place of a holder, if it is a linked element.
+    pub fn place(&self, holder: Holder) -> Option<usize>
+        ensures { result ≡ place_at self.now.places.items holder }
+    {
+        match holder {
+            Holder::Element(serial) => *self.places.get(serial as usize)?,
+            Holder::Nobody | Holder::Unregistered => None,
+        }
+    }
+}
+
+/// No place for each number below this.
+fn nowhere(alloc: Global, serials: u64) -> Result<Vec<Option<usize>>, TreeFault>
+    ensures { Gives (λ places. places.items ≡ replicate serials None) result }
+{
+    let mut places = Vec::new(alloc);
+    for _ in 0..serials {
+        places.push(None)?;
+    }
+    Ok(places)
+}
+
+/// Puts the place of an element at its number, if it has one below the number of places.
+fn note(places: &mut Vec<Option<usize>>, place: usize, element: &Node)
+    ensures { places.new.items ≡ noted place (number_said Serial element.now) places.old.items }
+{
+    let Some(serial) = number_said(element, Key::Serial) else {
+        return;
+    };
+    let serial = serial as usize;
+    if serial >= places.len() {
+        return;
+    }
+    places[serial] = Some(place);
+}
+
+/// An attribute that is a text.
+pub fn text_attr(alloc: Global, key: Key, text: &str) -> Result<Entry, TreeFault>
+    ensures { Gives (λ entry. entry ≡ attr key (Words text.now)) result }
+{
+    let text = Text::from_str(alloc, text)?;
+    Ok(Entry::new(key, Value::Text(text)))
+}
+
+/// Where a target leads that isn't a place of its own: its `refuri` or else its `refid`, as an attribute for what refers to
+/// it.
+pub fn lead_of(alloc: Global, target: &Node) -> Result<Option<Entry>, TreeFault>
+    ensures { Gives (λ lead. lead ≡ lead_of target.now) result }
+{
+    if let Some(uri) = text_said(target, Key::Refuri) {
+        return Ok(Some(text_attr(alloc, Key::Refuri, uri)?));
+    }
+    match text_said(target, Key::Refid) {
+        Some(id) => Ok(Some(text_attr(alloc, Key::Refid, id)?)),
+        None => Ok(None),
+    }
+}
+
+/// Where the target that holds a name leads, if a target holds it and leads somewhere.
+fn target_lead(alloc: Global, holder: Option<&Node>) -> Result<Option<Entry>, TreeFault>
+    ensures { Gives (λ lead. lead ≡ target_lead (holding holder.entry)) result }
+{
+    let Some(element) = holder else {
+        return Ok(None);
+    };
+    if !is_target(element) {
+        return Ok(None);
+    }
+    let lead = lead_of(alloc, element)?;
+    Ok(lead)
+}
+
+/// Whether a node is a target.
+pub fn is_target(node: &Node) -> bool
+    ensures { result ≡ is_target_node node.now }
+{
+    match node {
+        Node::Element { tag, .. } => matches!(tag, Tag::Target),
+        Node::Text(_) => false,
+    }
+}
+
+/// Where a name leads that no target leads for: to the URI that was kept for it, or else to an id.
+fn kept_lead(alloc: Global, uri: Option<&str>, id: &str) -> Result<Entry, TreeFault>
+    ensures { Gives (λ lead. lead ≡ kept_lead (given uri.entry) id.now) result }
+{
+    match uri {
+        Some(uri) => text_attr(alloc, Key::Refuri, uri),
+        None => text_attr(alloc, Key::Refid, id),
+    }
+}
+
+/// Where a name leads by which another target isn't meant: to where its holder leads if that is a target, and else to the
+/// id of the element that brought the name. A target with a URI leads there though it has left the document.
+pub fn lead_by_name(
+    alloc: Global,
+    names: &Names,
+    name: &str,
+    held: &Held,
+    holder: Option<&Node>,
+) -> Result<Entry, TreeFault>
+    ensures { Gives (λ lead. lead ≡ name_lead (holding holder.entry) (kept_for names.now name.now) held.now.id) result }
+{
+    if let Some(lead) = target_lead(alloc, holder)? {
+        return Ok(lead);
+    }
+    let lead = kept_lead(alloc, names.kept_uri(name), held.id.as_str())?;
+    Ok(lead)
+}

@@ -1,0 +1,277 @@
+//! The elements that references join, and what the transforms of references make of them.
+ghost use Rattle.std.specs.Prelude.{◌≡◌, ◌++◌, map, length, true, None, Some};
+ghost use Rattle.std.specs.List.{list_all};
+ghost use Rattle.rst_tree.specs.Faults.{Gives};
+ghost use Rattle.rst_transform_links.specs.Linkings.{held, inner_of, linked_among, linked_of, own_linked};
+ghost use Rattle.rst_transform_links.specs.Links.{Shows, changed_root, is_idle, with_more};
+ghost use Rattle.rst_transform_links.specs.Outcomes.{adds, fails, stays};
+
+use rst_transform_work::problematics::ProblematicAttrs;
+use rst_transform_work::texts::take_source;
+use rst_transform_work::work::Work;
+use rst_tree::{Attrs, Children, Entry, Node, Rewriter, Tag, Text, TreeFault, rewrite_in};
+use rst_tree_index::is_linked;
+use std::alloc::Global;
+use std::collections::VecDeque;
+use std::marker::Model;
+
+/// An element at one of the two ends of a link.
+#[derive(Clone, Copy)]
+pub struct Linked<'a> {
+    pub element: &'a Node,
+    /// The place, in the list of all, of the innermost of these elements that it stands in.
+    pub outer: Option<usize>,
+}
+
+/// What an element that stays has more in the end.
+#[derive(Drop)]
+pub struct Addition {
+    /// This attribute, if there is one.
+    pub attr: Option<Entry>,
+    /// This text in place of what stood in it, if there is one. What gets one, a label or a reference to a footnote, holds
+    /// no linked element.
+    pub shown: Option<Text>,
+}
+
+/// What becomes of a linked element.
+#[derive(Drop)]
+pub enum Outcome {
+    /// It stays.
+    Stays(Addition),
+    /// It becomes a problematic of the message at this place among the reports once its turn comes, and stays till then.
+    Fails(usize),
+    /// It has become a problematic that tells this.
+    Failed(ProblematicAttrs),
+}
+
+impl Outcome {
+    /// It stays as it is.
+    pub fn same() -> Outcome
+        ensures { result ≡ adds None }
+    {
+        Outcome::adds(None)
+    }
+
+    /// It stays, and says this.
+    pub fn says(attr: Entry) -> Outcome
+        ensures { result ≡ adds (Some attr) }
+    {
+        Outcome::adds(Some(attr))
+    }
+
+    /// It stays, and says this, if there is something.
+    pub fn adds(attr: Option<Entry>) -> Outcome
+        ensures { result ≡ adds attr }
+    {
+        Outcome::Stays(Addition { attr, shown: None })
+    }
+
+    /// Whether it becomes a problematic once its turn comes.
+    pub fn fails(&self) -> bool
+        ensures { result ≡ fails self.now }
+    {
+        matches!(self, Outcome::Fails(_))
+    }
+
+    /// Whether it stays.
+    pub fn stays(&self) -> bool
+        ensures { result ≡ stays self.now }
+    {
+        matches!(self, Outcome::Stays(_))
+    }
+}
+
+/// The linked elements in a document, in preorder.
+pub fn linked_in<'a>(alloc: Global, root: &'a Node) -> Result<Vec<Linked<'a>>, TreeFault>
+    ensures { Gives (λ list. map held list.items ≡ linked_of root.now) result }
+{
+    let mut list = Vec::new(alloc);
+    if let Node::Element { children, .. } = root {
+        add_linked(children, None, &mut list)?;
+    }
+    Ok(list)
+}
+
+/// Adds the linked elements among nodes, and in them, that stand in the one at the place `outer`.
+fn add_linked<'a>(
+    nodes: &'a Children,
+    outer: Option<usize>,
+    list: &mut Vec<Linked<'a>>,
+) -> Result<(), TreeFault>
+    ensures { Gives (λ _. map held list.new.items ≡ map held list.old.items ++ linked_among (length list.old.items) outer nodes.now) result }
+{
+    for node in nodes.as_slice() {
+        match node {
+            Node::Text(_) => continue,
+            Node::Element { tag, children, .. } => {
+                let inner = inner_of(*tag, outer, list.len());
+                add_own(node, *tag, outer, list)?;
+                add_linked(children, inner, list)?;
+            }
+        }
+    }
+    Ok(())
+}
+
+/// Adds an element, if it is linked, that stands in the one at the place `outer`.
+fn add_own<'a>(
+    node: &'a Node,
+    tag: Tag,
+    outer: Option<usize>,
+    list: &mut Vec<Linked<'a>>,
+) -> Result<(), TreeFault>
+    ensures { Gives (λ _. map held list.new.items ≡ map held list.old.items ++ own_linked outer tag node.now) result }
+{
+    if is_linked(tag) {
+        list.push(Linked {
+            element: node,
+            outer,
+        })?;
+    }
+    Ok(())
+}
+
+/// The place of the innermost linked element that the nodes in one stand in: its own, behind so many, if it is linked, or else that of
+/// the one around it.
+fn inner_of(tag: Tag, outer: Option<usize>, before: usize) -> Option<usize>
+    ensures { result ≡ inner_of before outer tag }
+{
+    if is_linked(tag) { Some(before) } else { outer }
+}
+
+/// What becomes of the linked elements of a tree, in the order in which they are met, which contracts see as the list of
+/// that.
+#[derive(Drop)]
+pub struct Changes {
+    left: VecDeque<Outcome>,
+}
+
+impl Model for Changes {
+    ghost use Rattle.std.specs.Prelude.{List};
+    ghost use Rattle.rst_transform_links.specs.declared.links.Outcome.{Outcome};
+
+    ghost Value = { List Outcome };
+
+    ghost use Rattle.std.specs.Coded.{codes};
+    ghost use Rattle.rst_transform_links.specs.contracts.links.Outcome as outcome;
+
+    ghost coded = { Prim.hlevel (codes, outcome.the_row.coded) };
+
+    ghost view = { λ s. s.left.items };
+}
+
+impl Changes {
+    /// The changes that a list tells.
+    pub fn of(list: Vec<Outcome>) -> Changes
+        ensures { result ≡ list.items }
+    {
+        Changes {
+            left: VecDeque::from_vec(list),
+        }
+    }
+
+    /// Whether every element stays as it is.
+    fn are_idle(&self) -> bool
+        ensures { result ≡ list_all is_idle self.now }
+    {
+        self.left.iter().all(|change| is_idle(change))
+    }
+}
+
+/// Whether an element of which this becomes stays as it is.
+fn is_idle(outcome: &Outcome) -> bool
+    ensures { result ≡ is_idle outcome.now }
+{
+    match outcome {
+        Outcome::Stays(addition) => addition.attr.is_none() && addition.shown.is_none(),
+        Outcome::Fails(_) => true,
+        Outcome::Failed(_) => false,
+    }
+}
+
+/// Adds an attribute, if there is one.
+fn add(attrs: &mut Attrs, more: Option<Entry>) -> Result<(), TreeFault>
+    ensures { Gives (λ _. attrs.new ≡ with_more more attrs.old) result }
+{
+    if let Some(attr) = more {
+        attrs.set(attr.key(), attr.into_value())?;
+    }
+    Ok(())
+}
+
+/// Puts a text in the place of some nodes, if there is one, and tells whether the nodes stay.
+fn show(nodes: &mut Children, text: Option<Text>) -> Result<bool, TreeFault>
+    ensures { Gives (λ stays. Shows text nodes.old nodes.new stays) result }
+{
+    match text {
+        Some(text) => {
+            nodes.set_lone(Node::Text(text))?;
+            Ok(false)
+        }
+        None => Ok(true),
+    }
+}
+
+impl Rewriter for Changes {
+    ghost use Rattle.rst_transform_links.specs.Links.{change_next, change_of};
+
+    ghost entered = { change_next };
+
+    ghost becomes = { change_of };
+
+    fn turn(&mut self, alloc: Global, element: &mut Node) -> Result<bool, TreeFault> {
+        if let Node::Element {
+            tag,
+            attrs,
+            children,
+            ..
+        } = element
+        {
+            if !is_linked(*tag) {
+                return Ok(true);
+            }
+            match self.left.pop_front() {
+                None | Some(Outcome::Fails(_)) => return Ok(true),
+                Some(Outcome::Stays(addition)) => {
+                    add(attrs, addition.attr)?;
+                    return show(children, addition.shown);
+                }
+                Some(Outcome::Failed(problematic)) => {
+                    let source = take_source(alloc, attrs)?;
+                    *tag = Tag::Problematic;
+                    problematic.tell(alloc, attrs)?;
+                    children.set_lone(Node::Text(source))?;
+                }
+            }
+        }
+        Ok(false)
+    }
+}
+
+/// Puts the root of a document back, in which its linked elements changed.
+#[tactic(auto, using(crate::proofs::Idle::idle_root))]
+pub fn put_back(
+    alloc: Global,
+    work: &mut Work,
+    root: Node,
+    changes: Changes,
+) -> Result<(), TreeFault>
+    ensures { Gives (λ _. work.new ≡ record work.old { root = changed_root changes root }) result }
+{
+    if changes.are_idle() {
+        work.root = root;
+        return Ok(());
+    }
+    work.root = with_changes(alloc, root, changes)?;
+    Ok(())
+}
+
+/// A tree in which its linked elements changed.
+fn with_changes(alloc: Global, mut root: Node, mut changes: Changes) -> Result<Node, TreeFault>
+    ensures { Gives (λ node. node ≡ changed_root changes root) result }
+{
+    if let Node::Element { children, .. } = &mut root {
+        rewrite_in(alloc, children, &mut changes)?;
+    }
+    Ok(root)
+}

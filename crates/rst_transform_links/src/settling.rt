@@ -1,0 +1,184 @@
+//! What failing elements come to: which of them become problematics, in which order, and which elements are still met in the end.
+ghost use Rattle.std.specs.Prelude.{◌≡◌, [], map, true, is_none, slice_set};
+ghost use Rattle.std.specs.List.{list_all};
+ghost use Rattle.rst_tree.specs.Faults.{Gives};
+ghost use Rattle.rst_transform_links.specs.Linkings.{held};
+ghost use Rattle.rst_transform_links.specs.Outcomes.{stays};
+ghost use Rattle.rst_transform_links.specs.Settling.{earlier, first_in, firsts, met_from, still_stands, turn_of, turns_from, AreTurns, Settles, TakesTurns};
+ghost use Rattle.rst_transform_work.specs.Lists.{at_place};
+
+use crate::links::{Changes, Linked, Outcome};
+use rst_transform_work::lists::at_place;
+use rst_transform_work::work::Work;
+use rst_tree::TreeFault;
+use std::alloc::Global;
+
+/// The outcomes of linked elements settled: what becomes of each that is still met in preorder.
+///
+/// Those that fail become problematics here, message by message, and take their ids in this order. An element inside one that became a
+/// problematic is gone: it becomes none afterwards, and isn't met in the end.
+pub fn settled(
+    alloc: Global,
+    work: &mut Work,
+    linked: &[Linked<'_>],
+    mut outcomes: Vec<Outcome>,
+) -> Result<Changes, TreeFault>
+    ensures settles { Gives (Settles (map held linked.now) outcomes.items work.old work.new) result }
+    ensures stay { list_all stays outcomes.items ≡ true → Gives (λ changes. changes ≡ outcomes.items) result }
+    ensures work { list_all stays outcomes.items ≡ true → work.new ≡ work.old }
+{
+    if all_stay(outcomes.as_slice()) {
+        return Ok(Changes::of(outcomes));
+    }
+    let around = first_around(alloc, linked, outcomes.as_slice())?;
+    let turns = turns(
+        alloc,
+        work.reports.len(),
+        outcomes.as_slice(),
+        around.as_slice(),
+    )?;
+    take_turns(alloc, work, turns.as_slice(), &mut outcomes)?;
+    let changes = met(alloc, outcomes, around.as_slice())?;
+    Ok(changes)
+}
+
+/// Whether no element becomes a problematic.
+fn all_stay(outcomes: &[Outcome]) -> bool
+    ensures { result ≡ list_all stays outcomes.now }
+{
+    outcomes.iter().all(|outcome| outcome.stays())
+}
+
+/// For each element the first report for which one that it stands in becomes a problematic.
+fn first_around(
+    alloc: Global,
+    linked: &[Linked<'_>],
+    outcomes: &[Outcome],
+) -> Result<Vec<Option<usize>>, TreeFault>
+    ensures { Gives (λ around. around.items ≡ firsts [] outcomes.now (map held linked.now)) result }
+{
+    let mut around: Vec<Option<usize>> = Vec::with_capacity(alloc, linked.len())?;
+    for one in linked {
+        let first = first_in(around.as_slice(), outcomes, one.outer);
+        around.push(first)?;
+    }
+    Ok(around)
+}
+
+/// The first report for which an element becomes a problematic that one stands in: the one at the place `outer`, or one that this
+/// stands in.
+fn first_in(around: &[Option<usize>], outcomes: &[Outcome], outer: Option<usize>) -> Option<usize>
+    ensures { result ≡ first_in around.now outcomes.now outer }
+{
+    let outer = outer?;
+    let outcome = outcomes.get(outer)?;
+    earlier(*around.get(outer)?, outcome)
+}
+
+/// The earlier of a report and that of an outcome, where there are such.
+fn earlier(first: Option<usize>, outcome: &Outcome) -> Option<usize>
+    ensures { result ≡ earlier first outcome.now }
+{
+    match (first, outcome) {
+        (Some(first), Outcome::Fails(report)) => Some(first.min(*report)),
+        (None, Outcome::Fails(report)) => Some(*report),
+        (first, _) => first,
+    }
+}
+
+/// Whether an element still stands when the turn of a report comes: one inside another is gone once that one became a
+/// problematic.
+fn still_stands(report: usize, around: Option<usize>) -> bool
+    ensures { result ≡ still_stands report around }
+{
+    match around {
+        Some(first) => report < first,
+        None => true,
+    }
+}
+
+/// The report, of so many, at whose turn an element becomes a problematic, if it does.
+fn turn_of(reports: usize, outcome: &Outcome, around: Option<usize>) -> Option<usize>
+    ensures { result ≡ turn_of reports outcome.now around }
+{
+    match outcome {
+        Outcome::Fails(report) if *report < reports && still_stands(*report, around) => {
+            Some(*report)
+        }
+        _ => None,
+    }
+}
+
+/// The elements that become problematics, each by its report and its place: report by report, under each in preorder.
+fn turns(
+    alloc: Global,
+    reports: usize,
+    outcomes: &[Outcome],
+    around: &[Option<usize>],
+) -> Result<Vec<(usize, usize)>, TreeFault>
+    ensures { Gives (λ turns. AreTurns (turns_from 0 reports around.now outcomes.now) turns.items) result }
+{
+    let mut turns = Vec::with_capacity(alloc, outcomes.len())?;
+    for (place, outcome) in outcomes.iter().enumerate() {
+        if let Some(report) = turn_of(reports, outcome, at_place(around, place)) {
+            turns.push((report, place))?;
+        }
+    }
+    // Mostly they are found in this order.
+    turns.sort()?;
+    Ok(turns)
+}
+
+/// Lets each element at its turn become its problematic.
+fn take_turns(
+    alloc: Global,
+    work: &mut Work,
+    turns: &[(usize, usize)],
+    outcomes: &mut Vec<Outcome>,
+) -> Result<(), TreeFault>
+    ensures { Gives (λ _. TakesTurns turns.now work.old outcomes.old.items work.new outcomes.new.items) result }
+{
+    for turn in turns {
+        let problematic = work.next_problematic(alloc, turn.0)?;
+        put_at(outcomes, turn.1, Outcome::Failed(problematic));
+    }
+    Ok(())
+}
+
+/// Puts an outcome in the place of another one, if there is that.
+fn put_at(outcomes: &mut Vec<Outcome>, place: usize, outcome: Outcome)
+    ensures { outcomes.new.items ≡ slice_set outcomes.old.items place outcome }
+{
+    if place >= outcomes.len() {
+        return;
+    }
+    outcomes[place] = outcome;
+}
+
+/// Whether no element stands in one that becomes a problematic.
+fn are_all_met(around: &[Option<usize>]) -> bool
+    ensures { result ≡ list_all is_none around.now }
+{
+    around.iter().all(|first| first.is_none())
+}
+
+/// What becomes of the elements that are met in the end.
+#[tactic(auto, using(crate::proofs::Settled::all_met))]
+fn met(
+    alloc: Global,
+    outcomes: Vec<Outcome>,
+    around: &[Option<usize>],
+) -> Result<Changes, TreeFault>
+    ensures { Gives (λ changes. changes ≡ met_from 0 around.now outcomes.items) result }
+{
+    if are_all_met(around) {
+        return Ok(Changes::of(outcomes));
+    }
+    let mut left = Vec::with_capacity(alloc, outcomes.len())?;
+    for (place, outcome) in outcomes.into_iter().enumerate() {
+        if at_place(around, place).is_none() {
+            left.push(outcome)?;
+        }
+    }
+    Ok(Changes::of(left))
+}

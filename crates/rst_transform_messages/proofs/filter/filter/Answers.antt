@@ -1,0 +1,8 @@
+use Rattle.std.proofs.Common.{◌∙◌, ap}
+use Rattle.rst_transform_messages.proofs.Showing.{filtered_shown}
+use Rattle.rst_transform_messages.specs.Messages.{marked}
+use Rattle.rst_transform_messages.specs.Shown.{are_shown}
+use Rattle.rst_transform_messages.proofs.filter.filter.Goals as goal
+
+pub returns-after-inside-clause-shown : goal.returns-after-inside-clause-shown
+returns-after-inside-clause-shown c = ap (are_shown c.args.report) c.in_ok-inside-in-Element.ensures.nodes ∙ filtered_shown c.args.report (marked c.args.shown.now) c.in-Element.children

@@ -1,0 +1,32 @@
+use Rattle.std.proofs.Common.{rules, arith, ◌+◌, ◌≤◌, sym, ◌∙◌}
+use Rattle.rst_tree.specs.Forest.{height}
+use Rattle.rst_tree.proofs.PrintedParts.{inside_lower}
+use Rattle.rst_transform_messages.proofs.Listing.{past_text, past_message, past_element}
+use Rattle.rst_transform_messages.proofs.messages.Messages.+add_all.Goals as goal
+
+pub add_all-requires : goal.add_all-requires
+add_all-requires t c =
+    let h : height c.in-Element.children + 1 ≤ height c.args.nodes.now =
+    inside_lower c.node-item.result c.in-Element.tag c.in-Element.attrs c.in-Element.children c.args.nodes.now c.in-Element.line c.as_slice-node-items.result.now c.loop-node.node-index
+    c.in-Element.is c.as_slice-node-items.ensures c.node-item.is (omega arith) in
+    search (rules, h)
+
+pub loop-node-preserved-in-Text : goal.loop-node-preserved-in-Text
+loop-node-preserved-in-Text t c = record {
+  levels = c.loop-node.invariant.levels;
+  adds = past_text c.as_slice-node-items.result.now c.loop-node.node-index c.node-item.result _ _ c.loop-node.self c.loop-node-test.true c.node-item.is c.in-Text.is c.loop-node.invariant.adds;
+}
+
+pub loop-node-preserved-then-is_message : goal.loop-node-preserved-then-is_message
+loop-node-preserved-then-is_message t c = record {
+  levels = search rules;
+  adds = past_message c.as_slice-node-items.result.now c.loop-node.node-index c.node-item.result c.in-Element.tag c.in-Element.attrs c.in-Element.children c.in-Element.line _ c.loop-node.self c.add.new.self
+      c.loop-node-test.true c.node-item.is c.in-Element.is (sym c.if-is_message.true ∙ c.is_message.ensures) c.loop-node.invariant.adds c.in_ok-add-in-Element.ensures.adds;
+}
+
+pub loop-node-preserved : goal.loop-node-preserved
+loop-node-preserved t c = record {
+  levels = search rules;
+  adds = past_element c.as_slice-node-items.result.now c.loop-node.node-index c.node-item.result c.in-Element.tag c.in-Element.attrs c.in-Element.children c.in-Element.line _ c.loop-node.self c.add_all.new.self
+      c.loop-node-test.true c.node-item.is c.in-Element.is (sym c.if-is_message.false ∙ c.is_message.ensures) c.loop-node.invariant.adds c.in_ok-add_all-in-Element.ensures.adds;
+}

@@ -1,0 +1,40 @@
+-- What of a finished document is shown (Configuration, `report_level`).
+use Rattle.std.specs.Prelude.{ℕ, min, List, Bool, true, false, not, nat_le, ◌&&◌}
+use Rattle.rst_settings.specs.declared.Threshold.{Threshold}
+use Rattle.rst_settings.specs.Threshold.{is_reached}
+use Rattle.rst_tree.specs.declared.attrs.Attr.{Attr}
+use Rattle.rst_tree.specs.declared.node.Node.{Node}
+use Rattle.rst_tree.specs.declared.node.Node.TheVariants.{Element, Text}
+use Rattle.rst_tree.specs.declared.tag.Tag.{Tag}
+use Rattle.rst_tree.specs.declared.tag.Tag.TheVariants.{SystemMessage}
+use Rattle.rst_tree.specs.Forest.{Forest, bare, element, words, height}
+use Rattle.rst_tree.specs.Tree.{is_sound}
+use Rattle.rst_transform_messages.specs.Messages.{level_said}
+
+-- whether an element that tells this number of a level is a message below the report level
+abbrev pub is_low : Threshold → Tag → ℕ → Bool
+is_low report SystemMessage level = not (is_reached report (min level 4))
+is_low report _ level = false
+
+abbrev pub is_below : Threshold → Tag → List Attr → Bool
+is_below report tag attrs = is_low report tag (level_said attrs)
+
+-- whether a node isn't such a message
+abbrev pub may_stay : Threshold → Node → Bool
+may_stay report (Element t a c l) = not (is_below report t a)
+may_stay report (Text t) = true
+
+-- no element of the nodes, or in them, is a message below the report level
+abbrev pub are_shown : Threshold → Forest → Bool
+are_shown report bare = true
+are_shown report (element t a c l r) = not (is_below report t a) && (are_shown report c && are_shown report r)
+are_shown report (words t r) = are_shown report r
+
+-- the same for what stands in a document
+abbrev pub is_shown_in : Threshold → Node → Bool
+is_shown_in report (Element t a c l) = are_shown report c
+is_shown_in report (Text t) = true
+
+-- the nodes fit in a tree at so many levels: they nest no deeper, the attributes are in order, and the texts hold no line end but LF
+abbrev pub are_within : ℕ → Forest → Bool
+are_within levels nodes = nat_le (height nodes) levels && is_sound nodes

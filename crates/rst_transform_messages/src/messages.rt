@@ -1,0 +1,273 @@
+//! The list of messages, and the levels at which they count.
+ghost use Rattle.std.specs.Prelude.{◌≡◌, ◌≤◌, ◌==◌, ◌&&◌, ◌||◌, min, ℕ};
+ghost use Rattle.rst_tree_index.specs.Held.{is_message};
+ghost use Rattle.rst_settings.specs.Threshold.{is_reached};
+ghost use Rattle.rst_tree.specs.Faults.{Gives};
+ghost use Rattle.rst_tree.specs.Tree.{text_in};
+ghost use Rattle.rst_transform_messages.specs.Messages.{has_halt, EndsAtHalt, highest_level, level_said, has_number, marked};
+ghost use Rattle.rst_transform_messages.specs.MessagesIn.{note_said};
+
+use rst_settings::Threshold;
+use rst_transform_names::Registered;
+use rst_transform_work::work::Report;
+use rst_tree::{Attrs, Children, Key, Level, Node, Note, Tag, Text, TreeFault};
+use rst_tree_index::Kinds;
+use std::alloc::Global;
+
+/// Whether a level of that number is at or above a threshold; a number above 4 counts as 4.
+pub fn reaches(level: u64, threshold: Threshold) -> bool
+    ensures { result ≡ is_reached threshold (min level 4) }
+{
+    threshold.is_reached(level.min(4) as u8)
+}
+
+/// The level of a `system_message` by its number.
+pub fn level_number(attrs: &Attrs) -> u64
+    ensures { result ≡ level_said attrs.now }
+{
+    attrs.number(Key::Level).unwrap_or(0)
+}
+
+/// The messages of a run in order, up to the first that halts it (Configuration, `halt_level`), and which of all are shown
+/// (Configuration, `report_level`).
+#[derive(Drop)]
+pub struct Messages {
+    notes: Vec<Note>,
+    /// From which level on a message halts the run.
+    halt: Threshold,
+    /// Whether the last message does.
+    halted: bool,
+    /// From which level on a message is shown.
+    report: Threshold,
+    /// Whether the message of each number is shown.
+    shown: Vec<bool>,
+    pub ghost halted_is: { halted ≡ has_halt halt notes.items },
+    pub ghost ends: { EndsAtHalt halt notes.items },
+}
+
+impl Messages {
+    ghost use Rattle.std.specs.Prelude.{[], ◌∷◌, List, map};
+    ghost use Rattle.rst_tree.specs.declared.node.Node.{Node};
+    ghost use Rattle.rst_tree.specs.Walk.{node_items};
+    ghost use Rattle.rst_tree_index.specs.Held.{kinds_of};
+    ghost use Rattle.rst_transform_names.specs.Registering.{IsRegistered};
+    ghost use Rattle.rst_transform_messages.specs.Messages.{until_halt, notes_of, is_number_shown, Numbered};
+    ghost use Rattle.rst_transform_messages.specs.MessagesIn.{message_said, messages_among, messages_in};
+    ghost use Rattle.rst_transform_messages.specs.Listed.{report_said, Adds, Lists, KeepsLevels};
+
+    /// No message, in a list with room for so many, of a run that halts at a threshold and shows messages from another one on.
+    pub fn with_room(
+        alloc: Global,
+        room: u64,
+        halt: Threshold,
+        report: Threshold,
+    ) -> Result<Messages, TreeFault>
+        ensures halt { Gives (λ messages. messages.halt ≡ halt) result }
+        ensures report { Gives (λ messages. messages.report ≡ report) result }
+        ensures none { Gives (λ messages. Lists [] messages) result }
+    {
+        Ok(Messages {
+            notes: Vec::with_capacity(alloc, room as usize)?,
+            halt,
+            halted: false,
+            report,
+            shown: Vec::with_capacity(alloc, room as usize)?,
+        })
+    }
+
+    /// Adds a message with a number, if it has one: to the list only if no earlier one halts the run.
+    fn push(&mut self, note: Note, number: Option<u64>) -> Result<(), TreeFault>
+        ensures levels { KeepsLevels self.old self.new }
+        ensures adds { Gives (λ _. Adds ((note, number) ∷ []) self.old self.new) result }
+    {
+        let level = note.level.number();
+        mark_shown(&mut self.shown, self.report.is_reached(level), number)?;
+        if self.halted {
+            return Ok(());
+        }
+        let halts = self.halt.is_reached(level);
+        self.notes.push(note)?;
+        self.halted = halts;
+        Ok(())
+    }
+
+    /// Adds the message that a `system_message` with these attributes and nodes tells.
+    fn add(
+        &mut self,
+        alloc: Global,
+        attrs: &Attrs,
+        children: &Children,
+        line: usize,
+    ) -> Result<(), TreeFault>
+        ensures levels { KeepsLevels self.old self.new }
+        ensures adds { Gives (λ _. Adds (message_said attrs.now children.now line ∷ []) self.old self.new) result }
+    {
+        let note = note_of(alloc, attrs, children, line)?;
+        self.push(note, attrs.number(Key::Message))
+    }
+
+    /// Adds the messages in a registered document, whose elements are of some kinds, but for those that registration put in. Where
+    /// there is none, nobody looks for them.
+    pub fn add_registered(
+        &mut self,
+        alloc: Global,
+        registered: &Registered,
+        kinds: Kinds,
+    ) -> Result<(), TreeFault>
+        ensures levels { KeepsLevels self.old self.new }
+        ensures adds { Gives (λ _. (numbers : ℕ) (document : Node) → IsRegistered numbers document registered.now → kinds ≡ kinds_of (node_items document) → Adds (messages_in registered.now.root) self.old self.new) result }
+    {
+        if !kinds.messages && !registered.noticed {
+            return Ok(());
+        }
+        self.add_those_in(alloc, &registered.root)
+    }
+
+    /// Adds the messages in a document, in preorder.
+    fn add_those_in(&mut self, alloc: Global, root: &Node) -> Result<(), TreeFault>
+        ensures levels { KeepsLevels self.old self.new }
+        ensures adds { Gives (λ _. Adds (messages_in root.now) self.old self.new) result }
+    {
+        if let Node::Element { children, .. } = root {
+            self.add_all(alloc, children)?;
+        }
+        Ok(())
+    }
+
+    /// Adds those among nodes and in them. A message holds no other.
+    fn add_all(&mut self, alloc: Global, nodes: &Children) -> Result<(), TreeFault>
+        ensures levels { KeepsLevels self.old self.new }
+        ensures adds { Gives (λ _. Adds (messages_among nodes.now) self.old self.new) result }
+    {
+        for node in nodes.as_slice() {
+            match node {
+                Node::Text(_) => continue,
+                Node::Element {
+                    tag,
+                    attrs,
+                    children,
+                    line,
+                } => {
+                    if is_message(*tag) {
+                        self.add(alloc, attrs, children, *line)?;
+                        continue;
+                    }
+                    self.add_all(alloc, children)?;
+                }
+            }
+        }
+        Ok(())
+    }
+
+    /// Adds the messages of the transforms, which are the last.
+    pub fn add_reports(&mut self, reports: Vec<Report>) -> Result<(), TreeFault>
+        ensures levels { KeepsLevels self.old self.new }
+        ensures adds { Gives (λ _. Adds (map report_said reports.items) self.old self.new) result }
+    {
+        self.notes.reserve(reports.len())?;
+        for report in reports {
+            let number = report.number;
+            self.push(report.into_note(), Some(number))?;
+        }
+        Ok(())
+    }
+
+    /// Whether the message of each number is shown, once all messages were added. No transform takes a message out of a
+    /// document, so those that are stand in it.
+    pub fn shown(&self) -> &[bool]
+        ensures { (all : List Numbered) → Lists all self.now → (n : ℕ) → marked result.now n ≡ is_number_shown self.now.report all n }
+    {
+        self.shown.as_slice()
+    }
+
+    /// The messages, and the number of their highest level, 0 where there are none.
+    pub fn end(self) -> (Vec<Note>, u8)
+        ensures notes { (all : List Numbered) → Lists all self → result.0.items ≡ until_halt self.halt (notes_of all) }
+        ensures halt { EndsAtHalt self.halt result.0.items }
+        ensures highest { result.1 ≡ highest_level result.0.items }
+        ensures few { result.1 ≤ 4 }
+    {
+        let mut highest = 0;
+        for note in &self.notes {
+            if note.level.number() > highest {
+                highest = note.level.number();
+            }
+        }
+        (self.notes, highest)
+    }
+}
+
+/// Whether an element is a message.
+fn is_message(tag: Tag) -> bool
+    ensures { result ≡ is_message tag }
+{
+    matches!(tag, Tag::SystemMessage)
+}
+
+/// Marks the number of a message that is shown, if it has one.
+fn mark_shown(marks: &mut Vec<bool>, is_shown: bool, number: Option<u64>) -> Result<(), TreeFault>
+    ensures { Gives (λ _. (n : ℕ) → marked marks.new.items n ≡ (marked marks.old.items n || (is_shown && has_number n number))) result }
+{
+    if !is_shown {
+        return Ok(());
+    }
+    match number {
+        Some(number) => mark(marks, number as usize),
+        None => Ok(()),
+    }
+}
+
+/// Marks a number among those up to it or more.
+fn mark(marks: &mut Vec<bool>, number: usize) -> Result<(), TreeFault>
+    ensures { Gives (λ _. (n : ℕ) → marked marks.new.items n ≡ (marked marks.old.items n || (n == number))) result }
+{
+    for _ in marks.len()..number {
+        marks.push(false)?;
+    }
+    if let Some(mark) = marks.get_mut(number) {
+        *mark = true;
+        return Ok(());
+    }
+    marks.push(true)?;
+    Ok(())
+}
+
+/// What a `system_message` with these attributes and nodes on a line tells.
+fn note_of(
+    alloc: Global,
+    attrs: &Attrs,
+    children: &Children,
+    line: usize,
+) -> Result<Note, TreeFault>
+    ensures { Gives (λ note. note ≡ note_said attrs.now children.now line) result }
+{
+    let text = match children.get(0) {
+        Some(paragraph) => words_of(alloc, paragraph)?,
+        None => Text::from_str(alloc, "")?,
+    };
+    let block = match children.get(1) {
+        Some(block) => Some(words_of(alloc, block)?),
+        None => None,
+    };
+    Ok(Note {
+        // One that tells no level is as grave as the first.
+        level: Level::of_number(level_number(attrs).max(1)),
+        line,
+        text,
+        block,
+    })
+}
+
+/// The texts in an element, joined; mostly there is one.
+fn words_of(alloc: Global, element: &Node) -> Result<Text, TreeFault>
+    ensures { Gives (λ text. text ≡ text_in element.now) result }
+{
+    if let Node::Element { children, .. } = element {
+        if children.len() == 1 {
+            if let Some(Node::Text(text)) = children.get(0) {
+                return text.copy();
+            }
+        }
+    }
+    element.text_of(alloc)
+}

@@ -1,0 +1,393 @@
+-- Ids with numbers, as they are read, given and taken.
+use Rattle.std.proofs.Common.{◌≡◌, ◌≢◌, ℕ, zero, suc, ◌+◌, ◌^◌, ◌<◌, Bool, true, false, not, ◌&&◌, ◌||◌, List, [], ◌∷◌, ◌++◌, length, get_or, drop, Option, Some, None, option_map, option_and_then, unwrap_or, nat_le, nat_lt, decimal, codes, bytes_eq, MatchOption, Result, Ok, Err, ◌≤◌, take, refl, sym, ap, ap₂, subst, ◌∙◌, arith, append_assoc, length-append, string_bytes, string_cmp, nat_cmp, encode_utf8_all, ⊎_elim, lt-ltb, ltb-true, le-leb, leb-true, leb-false, ltb-false, true≢false, ◌==◌, eqb-true, take-append-drop, chars}
+use Rattle.std.specs.Prelude.{if◌then◌else◌}
+use Rattle.std.specs.declared.string.String.{String}
+use Rattle.std.specs.BTreeSet.{BTreeSet, contains_text, UpdatesBy}
+use Rattle.std.specs.Cmp.Lexicographic.{slice_cmp, nat_list_eq_equiv}
+use Rattle.std.proofs.lemmas.Map.Text.{btree_set_updates_text}
+use Rattle.std.specs.Borrow.{Bor}
+use Rattle.std.specs.Result.{OkIff}
+use Rattle.std.specs.Str.Parse.{AllDigits, digits_value, ParsesUnsigned}
+use Rattle.std.specs.Str.{NoCharPasses}
+use Rattle.std.specs.Str.Pattern.{RFindsChar}
+use Rattle.std.proofs.lemmas.Str.Pattern.{NoCharPasses-char, drop_at_char}
+use Rattle.std.proofs.lemmas.Bool.{lt-leb, eqb-false, cases_Bool, cond-true, cond-false, and_parts}
+use Rattle.std.proofs.lemmas.Fmt.{decimal_is_IsNumeral, first_decimal, decimal-digits_value}
+use Rattle.std.proofs.lemmas.Str.{encodes-chars, IsUtf8-string_bytes, digit_value_digit}
+use Rattle.std.proofs.lemmas.Str.Parse.{IsNumeralModel, numerals_by_value, tells_digits, parse_plain, digit_from_value, digits_value-take-le}
+use Rattle.std.specs.Cmp.Lexicographic.{bytes_decides}
+use lib.Seq.{get_or-append_seam}
+use Rattle.rst_text.specs.Names.{id_of}
+use Rattle.rst_text.specs.Text.{chars_of}
+use Rattle.rst_tree.specs.declared.fault.TreeFault.{TreeFault}
+use Rattle.rst_tree.specs.declared.fault.TreeFault.TheVariants.{NoMemory}
+use Rattle.rst_tree.specs.declared.tag.Tag.{Tag}
+use Rattle.rst_transform_names.specs.declared.ids.Ids.{Ids}
+use Rattle.rst_transform_names.specs.Ids.{numbered, number_in, parts_from, parts_of, numbered_part, number_of, last_of, taken_by, is_taken, IsLeastFree, IsNumbered, IsFreed, IsIdBy, Takes, TakesNone, UsesUp, wanted_id, GivesId, GivesNumbered}
+
+-- what the empty name gives, and what another one does
+pub nothing_wanted : (name : List ℕ) → (length name == 0) ≡ true → [] ≡ wanted_id name
+nothing_wanted [] none = refl
+nothing_wanted (c ∷ cs) none = absurd (omega (arith, eqb-true (length (c ∷ cs)) 0 none))
+
+pub something_wanted : {A : Type 0} (s : String A) (name : List ℕ) → (length name == 0) ≡ false → chars_of s ≡ id_of (chars name) → string_bytes s ≡ wanted_id name
+something_wanted s [] some is = absurd (cc)
+something_wanted s (c ∷ cs) some is = sym (encodes-chars (string_bytes s) (IsUtf8-string_bytes s)) ∙ ap encode_utf8_all is
+
+-- ---- an id with a number, and the number in it
+
+-- no character is c
+abbrev Lacks : ℕ → List ℕ → Type 0
+Lacks c text = (i : ℕ) → i < length text → get_or text i 0 ≢ c
+
+lacks_hyphen : (ds : List ℕ) → AllDigits 10 ds → Lacks 45 ds
+lacks_hyphen [] d i l e = omega arith
+lacks_hyphen (c ∷ cs) d zero l e = omega (arith, digit_from_value c d.0)
+lacks_hyphen (c ∷ cs) d (suc i) l e = lacks_hyphen cs d.1 i (omega arith) e
+
+-- a text is cut at its last c in one way
+one_split : (c : ℕ) (xs ys ps qs : List ℕ) → xs ++ (c ∷ ps) ≡ ys ++ (c ∷ qs) → Lacks c ps → Lacks c qs → (xs ≡ ys) × (ps ≡ qs)
+one_split c [] [] ps qs e p q = (refl, ap (drop 1) e)
+one_split c [] (y ∷ ys) ps qs e p q =
+    let tail = ap (drop 1) e in
+    absurd (p (length ys) (omega (arith, ap length tail, length-append ys (c ∷ qs))) (ap (λ l. get_or l (length ys) 0) tail ∙ get_or-append_seam ys c qs 0))
+one_split c (x ∷ xs) [] ps qs e p q =
+    let tail = sym (ap (drop 1) e) in
+    absurd (q (length xs) (omega (arith, ap length tail, length-append xs (c ∷ ps))) (ap (λ l. get_or l (length xs) 0) tail ∙ get_or-append_seam xs c ps 0))
+one_split c (x ∷ xs) (y ∷ ys) ps qs e p q =
+    let rest = one_split c xs ys ps qs (ap (drop 1) e) p q in
+    (ap₂ (λ a l. a ∷ l) (ap (λ l. get_or l 0 0) e) rest.0, rest.1)
+
+abbrev AreParts : List ℕ → Option (List ℕ × List ℕ) → Type 0
+AreParts text r = MatchOption r (Lacks 45 text) (λ parts. (text ≡ parts.0 ++ (45 ∷ parts.1)) × Lacks 45 parts.1)
+
+are_parts : (text : List ℕ) → AreParts text (parts_of text)
+are_parts [] = λ i l e. omega arith
+are_parts (c ∷ cs) = from (parts_of cs) (are_parts cs)
+  where
+    here : (b : Bool) → (c == 45) ≡ b → Lacks 45 cs → AreParts (c ∷ cs) (if b then Some ([], cs) else None)
+    here true e lacks = (ap (λ x. x ∷ cs) (eqb-true c 45 e), lacks)
+    here false e lacks = none
+      where
+        none : Lacks 45 (c ∷ cs)
+        none zero l is = eqb-false c 45 e is
+        none (suc i) l is = lacks i (omega arith) is
+
+    from : (r : Option (List ℕ × List ℕ)) → AreParts cs r → AreParts (c ∷ cs) (parts_from c cs r)
+    from None lacks = here (c == 45) refl lacks
+    from (Some parts) h = (ap (λ l. c ∷ l) h.0, h.1)
+
+parts_at : (text front back : List ℕ) → text ≡ front ++ (45 ∷ back) → Lacks 45 back → parts_of text ≡ Some (front, back)
+parts_at text front back is lacks = from (parts_of text) (are_parts text)
+  where
+    from : (r : Option (List ℕ × List ℕ)) → AreParts text r → r ≡ Some (front, back)
+    from None h = absurd (h (length front) (omega (arith, ap length is, length-append front (45 ∷ back))) (ap (λ l. get_or l (length front) 0) is ∙ get_or-append_seam front 45 back 0))
+    from (Some parts) h =
+        let same = one_split 45 parts.0 front parts.1 back (sym h.0 ∙ is) h.1 lacks in
+        ap₂ (λ x y. Some (x, y)) same.0 same.1
+
+no_parts : (text : List ℕ) → Lacks 45 text → parts_of text ≡ None
+no_parts text lacks = from (parts_of text) (are_parts text)
+  where
+    from : (r : Option (List ℕ × List ℕ)) → AreParts text r → r ≡ None
+    from None h = refl
+    from (Some parts) h = absurd (lacks (length parts.0) (omega (arith, ap length h.0, length-append parts.0 (45 ∷ parts.1))) (ap (λ l. get_or l (length parts.0) 0) h.0 ∙ get_or-append_seam parts.0 45 parts.1 0))
+
+numbered_is : (base : List ℕ) (n : ℕ) → numbered base n ≡ base ++ (45 ∷ decimal n)
+numbered_is base n = append_assoc base (codes "-") (decimal n)
+
+reads_back : (n : ℕ) → 0 < n → n < 2 ^ 64 → number_in (decimal n) ≡ Some n
+reads_back n some small =
+    let value : digits_value 10 (decimal n) ≡ n = (decimal_is_IsNumeral n small).1 in
+    let same : bytes_eq (decimal n) (decimal n) ≡ true = (bytes_decides (decimal n) (decimal n)).1 refl in
+    rw value (rw (same, lt-ltb 0 n some, lt-ltb n (2 ^ 64) small) refl)
+
+pub number_of-numbered : (base : List ℕ) (n : ℕ) → 0 < n → n < 2 ^ 64 → number_of (numbered base n) ≡ Some (base, n)
+number_of-numbered base n some small =
+    ap (option_and_then numbered_part)
+    (parts_at (numbered base n) base (decimal n) (numbered_is base n) (lacks_hyphen (decimal n) (decimal_is_IsNumeral n small).0.1))
+    ∙ ap (option_map (λ k. (base, k))) (reads_back n some small)
+
+told : (P : ℕ → Type 0) (t : Bool) (v n : ℕ) → (t ≡ true → P v) → (if t then Some v else None) ≡ Some n → P n
+told P true v n p h = subst P (ap (λ o. unwrap_or o 0) h) (p refl)
+told P false v n p h = absurd (cc)
+
+number_in-is : (d : List ℕ) (n : ℕ) → number_in d ≡ Some n → (d ≡ decimal n) × (0 < n) × (n < 2 ^ 64)
+number_in-is d n h =
+    let v = digits_value 10 d in
+    told (λ k. (d ≡ decimal k) × (0 < k) × (k < 2 ^ 64)) (bytes_eq d (decimal v) && (nat_lt 0 v && nat_lt v (2 ^ 64))) v n
+    (λ t.
+    let outer = and_parts (bytes_eq d (decimal v)) _ t in
+    let inner = and_parts (nat_lt 0 v) (nat_lt v (2 ^ 64)) outer.1 in
+    ((bytes_decides d (decimal v)).0 outer.0, ltb-true 0 v inner.0, ltb-true v (2 ^ 64) inner.1)) h
+
+some_same : (p q : List ℕ × ℕ) → ◌≡◌ {A = Option (List ℕ × ℕ)} (Some p) (Some q) → p ≡ q
+some_same p q e = ap (λ (o : Option (List ℕ × ℕ)). unwrap_or o p) e
+
+pub number_of-is : (id base : List ℕ) (n : ℕ) → number_of id ≡ Some (base, n) → (id ≡ numbered base n) × (0 < n) × (n < 2 ^ 64)
+number_of-is id base n h = from (parts_of id) (are_parts id) h
+  where
+    Read : List ℕ × ℕ → Type 0
+    Read p = (id ≡ numbered p.0 p.1) × (0 < p.1) × (p.1 < 2 ^ 64)
+
+    through : (front back : List ℕ) (o : Option ℕ) → id ≡ front ++ (45 ∷ back) → number_in back ≡ o → option_map {U = List ℕ × ℕ} (λ k. (front, k)) o ≡ Some (base, n) → Read (base, n)
+    through front back None is e h = absurd (cc)
+    through front back (Some k) is e h =
+        let read = number_in-is back k e in
+        subst Read (some_same (front, k) (base, n) h) (is ∙ ap (λ l. front ++ (45 ∷ l)) read.0 ∙ sym (numbered_is front k), read.1, read.2)
+
+    from : (r : Option (List ℕ × List ℕ)) → AreParts id r → option_and_then numbered_part r ≡ Some (base, n) → Read (base, n)
+    from None parts h = absurd (cc)
+    from (Some split) parts h = through split.0 split.1 (number_in split.1) parts.0 refl h
+
+-- ---- a number that is read
+
+number_by : (digits : List ℕ) → (bytes_eq digits (decimal (digits_value 10 digits)) ≡ true) → 0 < digits_value 10 digits → digits_value 10 digits < 2 ^ 64 → number_in digits ≡ Some (digits_value 10 digits)
+number_by digits same some small = rw (same, lt-ltb 0 (digits_value 10 digits) some, lt-ltb (digits_value 10 digits) (2 ^ 64) small) refl
+
+none_by : (t : Bool) (v : ℕ) → (t ≡ true → ⊥) → (if t then Some v else None) ≡ None
+none_by true v never = absurd (never refl)
+none_by false v never = refl
+
+-- digits that are none of a number from 1
+no_number : (digits : List ℕ) → ((n : ℕ) → digits ≡ decimal n → 0 < n → n < 2 ^ 64 → ⊥) → number_in digits ≡ None
+no_number digits never =
+    let v = digits_value 10 digits in
+    none_by (bytes_eq digits (decimal v) && (nat_lt 0 v && nat_lt v (2 ^ 64))) v
+    (λ t.
+    let outer = and_parts (bytes_eq digits (decimal v)) _ t in
+    let inner = and_parts (nat_lt 0 v) (nat_lt v (2 ^ 64)) outer.1 in
+    never v ((bytes_decides digits (decimal v)).0 outer.0) (ltb-true 0 v inner.0) (ltb-true v (2 ^ 64) inner.1))
+
+own : IsNumeralModel (AllDigits 10) (digits_value 10)
+own = numerals_by_value (AllDigits 10) tells_digits
+
+first_digit : (ds : List ℕ) → 0 < length ds → AllDigits 10 ds → get_or ds 0 0 ≤ 57
+first_digit [] some d = absurd (omega arith)
+first_digit (c ∷ cs) some d = omega (arith, digit_from_value c d.0)
+
+and_true : (a b : Bool) → a ≡ true → b ≡ true → (a && b) ≡ true
+and_true a b h k = rw (h, k) refl
+
+value_pos : (ds : List ℕ) → 49 ≤ get_or ds 0 0 → AllDigits 10 ds → 0 < digits_value 10 ds
+value_pos [] first d = absurd (omega arith)
+value_pos (c ∷ cs) first d =
+    let value = digit_value_digit c (digit_from_value c d.0) in
+    omega (arith, value, digits_value-take-le 10 (c ∷ cs) 1 (omega arith))
+
+module _ (digits : List ℕ) where
+  first_range : (nat_le 49 (get_or digits 0 0) && nat_le (get_or digits 0 0) 57) ≡ true → (49 ≤ get_or digits 0 0) × (get_or digits 0 0 ≤ 57)
+  first_range h =
+      let parts = and_parts (nat_le 49 (get_or digits 0 0)) (nat_le (get_or digits 0 0) 57) h in
+      (leb-true 49 (get_or digits 0 0) parts.0, leb-true (get_or digits 0 0) 57 parts.1)
+
+  -- what stands first in a number from 1
+  pub no_first : (nat_le 49 (get_or digits 0 0) && nat_le (get_or digits 0 0) 57) ≡ false → number_in digits ≡ None
+  no_first h = no_number digits (λ n is some small.
+      let first : 48 < get_or digits 0 0 = subst (λ l. 48 < get_or l 0 0) (sym is) (first_decimal n some small) in
+      let numeral = (decimal_is_IsNumeral n small).0 in
+      let last : get_or digits 0 0 ≤ 57 = subst (λ l. get_or l 0 0 ≤ 57) (sym is) (first_digit (decimal n) numeral.0 numeral.1) in
+      absurd (true≢false (sym (and_true _ _ (le-leb 49 (get_or digits 0 0) (omega arith)) (le-leb (get_or digits 0 0) 57 last)) ∙ h)))
+
+  module _ (range : (nat_le 49 (get_or digits 0 0) && nat_le (get_or digits 0 0) 57) ≡ true) where
+    parsed : {E : Type 0} (r : Result ℕ E) → ParsesUnsigned 64 10 digits r → OkIff r (AllDigits 10 digits × (0 < length digits) × (digits_value 10 digits < 2 ^ 64)) (digits_value 10 digits)
+    parsed r h = parse_plain own 64 digits r h (λ plus. let first = first_range range in absurd (omega arith))
+
+    pub reads : (n : ℕ) → ParsesUnsigned {E = Unit {0}} 64 10 digits (Ok n) → number_in digits ≡ Some n
+    reads n h =
+        let first = first_range range in
+        let read = parsed {E = Unit {0}} (Ok n) h in
+        let back : decimal (digits_value 10 digits) ≡ digits = decimal-digits_value own digits read.0.0 read.0.1 (λ zero. absurd (omega arith)) read.0.2 in
+        let some : 0 < digits_value 10 digits = value_pos digits (omega arith) read.0.0 in
+        number_by digits ((bytes_decides digits _).1 (sym back)) some read.0.2 ∙ ap Some (sym read.1)
+
+    pub unread : {E : Type 0} (e : E) → ParsesUnsigned 64 10 digits (Err e) → number_in digits ≡ None
+    unread e h = no_number digits (λ n is some small.
+        let numeral = decimal_is_IsNumeral n small in
+        parsed (Err e) h (subst (AllDigits 10) (sym is) numeral.0.1, subst (λ l. 0 < length l) (sym is) numeral.0.0, subst (λ l. digits_value 10 l < 2 ^ 64) (sym is) (subst (λ m. m < 2 ^ 64) (sym numeral.1) small)))
+
+-- the parts of an id, as they are split
+pub number_of-split : (id : List ℕ) (r : Option (Bor (List ℕ) × Bor (List ℕ)))
+    → MatchOption r (RFindsChar 45 id None) (λ x. (i : ℕ) × (j : ℕ) × RFindsChar 45 id (Some (i, j)) × (x.0.now ≡ take i id) × (x.1.now ≡ drop j id) × (i ≤ j) × (length x.0.now ≡ i) × (length x.1.now + j ≡ length id))
+    → number_of id ≡ option_and_then numbered_part (option_map (λ x. (x.0.now, x.1.now)) r)
+number_of-split id None h = ap (option_and_then numbered_part) (no_parts id (λ i l e. NoCharPasses-char 45 id i h (omega arith) l e))
+number_of-split id (Some x) h =
+    let i = h.0 in
+    let j = h.1 in
+    let whole : id ≡ x.0.now ++ (45 ∷ x.1.now) = sym (take-append-drop i id) ∙ ap₂ (λ l m. l ++ m) (sym h.3) (drop_at_char 45 id i j h.2.1 (omega arith) ∙ ap (λ l. 45 ∷ l) (sym h.4)) in
+    ap (option_and_then numbered_part) (parts_at id x.0.now x.1.now whole (λ k l e. NoCharPasses-char 45 x.1.now k (subst (NoCharPasses (λ d. d == 45)) (sym h.4) h.2.0) (omega arith) l e))
+
+-- ---- ids taken
+
+differ : (xs ys : List ℕ) → xs ≢ ys → bytes_eq xs ys ≡ false
+differ xs ys apart = ⊎_elim (λ t. absurd (apart ((bytes_decides xs ys).0 t))) (λ f. f) (cases_Bool (bytes_eq xs ys))
+
+-- two ids of which other things are read aren't the same
+read_apart : (xs ys : List ℕ) (p q : Option (List ℕ × ℕ)) → number_of xs ≡ p → number_of ys ≡ q → p ≢ q → bytes_eq xs ys ≡ false
+read_apart xs ys p q x y apart = differ xs ys (λ e. apart (sym x ∙ ap number_of e ∙ y))
+
+none_some : (p : List ℕ × ℕ) → ◌≢◌ {A = Option (List ℕ × ℕ)} None (Some p)
+none_some p e = absurd (cc)
+
+-- a text put into a set, and whether it wasn't there
+pub added : {Y : Type 0} (old new : BTreeSet (String Y)) (id : List ℕ) → UpdatesBy string_cmp (λ k. slice_cmp nat_cmp id (string_bytes k)) old new true
+    → (other : List ℕ) → contains_text new other ≡ (if bytes_eq other id then true else contains_text old other)
+added old new id h other = btree_set_updates_text id old new true h other ∙ ap (λ b. if b then true else contains_text old other) (nat_list_eq_equiv.symm id other)
+
+pub was_there : (there free : Bool) → free ≡ not there → there ≡ (if free then false else true)
+was_there true free e = rw e refl
+was_there false free e = rw e refl
+
+module _ (old new : Ids) (id : List ℕ) where
+  -- an id without a number
+  pub took_named : number_of id ≡ None → ((other : List ℕ) → contains_text new.named other ≡ (if bytes_eq other id then true else contains_text old.named other))
+      → new.hindering ≡ old.hindering → new.last ≡ old.last → Takes id old new
+  took_named none named hindering last other = by (number_of other) refl
+    where
+      by : (o : Option (List ℕ × ℕ)) → number_of other ≡ o → taken_by new other o ≡ (if bytes_eq other id then true else taken_by old other o)
+      by None e = named other
+      by (Some p) e =
+          let apart = read_apart other id (Some p) None e none (λ s. none_some p (sym s)) in
+          rw (apart, hindering, last) refl
+
+  -- an id with a number above those that were given
+  pub took_hindering : (base : List ℕ) (n : ℕ) → number_of id ≡ Some (base, n) → ((other : List ℕ) → contains_text new.hindering other ≡ (if bytes_eq other id then true else contains_text old.hindering other))
+      → new.named ≡ old.named → new.last ≡ old.last → Takes id old new
+  took_hindering base n read hindering named last other = by (number_of other) refl
+    where
+      both : (a b c : Bool) → (a || (if b then true else c)) ≡ (if b then true else (a || c))
+      both true true c = refl
+      both true false c = refl
+      both false b c = refl
+
+      by : (o : Option (List ℕ × ℕ)) → number_of other ≡ o → taken_by new other o ≡ (if bytes_eq other id then true else taken_by old other o)
+      by None e =
+          let apart = read_apart other id None (Some (base, n)) e read (none_some (base, n)) in
+          rw (apart, named) refl
+      by (Some p) e = rw (last, hindering other) (both (nat_le p.1 (last_of old p.0)) (bytes_eq other id) (contains_text old.hindering other))
+
+-- nothing is taken with one that was
+took_taken : (ids : Ids) (id : List ℕ) → is_taken ids id ≡ true → Takes id ids ids
+took_taken ids id taken other = ⊎_elim same apart (cases_Bool (bytes_eq other id))
+  where
+    same : bytes_eq other id ≡ true → is_taken ids other ≡ (if bytes_eq other id then true else is_taken ids other)
+    same t = ap (is_taken ids) ((bytes_decides other id).0 t) ∙ taken ∙ sym (cond-true _ _ _ t)
+
+    apart : bytes_eq other id ≡ false → is_taken ids other ≡ (if bytes_eq other id then true else is_taken ids other)
+    apart f = sym (cond-false _ _ _ f)
+
+or_true : (a : Bool) → (a || true) ≡ true
+or_true true = refl
+or_true false = refl
+
+or_left : (a b : Bool) → (a || b) ≡ false → a ≡ false
+or_left true b h = h
+or_left false b h = refl
+
+-- the id of a text and a number is taken up to the last number, and where a name gave it
+module _ (ids : Ids) (base : List ℕ) (n : ℕ) (some : 0 < n) (small : n < 2 ^ 64) where
+  taken_as : (a b : Bool) → nat_le n (last_of ids base) ≡ a → contains_text ids.hindering (numbered base n) ≡ b → is_taken ids (numbered base n) ≡ (a || b)
+  taken_as a b up_to hinders = ap (taken_by ids (numbered base n)) (number_of-numbered base n some small) ∙ ap₂ (λ x y. x || y) up_to hinders
+
+  pub taken_up_to : n ≤ last_of ids base → is_taken ids (numbered base n) ≡ true
+  taken_up_to l = taken_as true _ (le-leb n (last_of ids base) l) refl
+
+  pub taken_by_name : contains_text ids.hindering (numbered base n) ≡ true → is_taken ids (numbered base n) ≡ true
+  taken_by_name h = taken_as _ true refl h ∙ or_true (nat_le n (last_of ids base))
+
+  pub free_behind : last_of ids base < n → contains_text ids.hindering (numbered base n) ≡ false → is_taken ids (numbered base n) ≡ false
+  free_behind l h = taken_as false false (lt-leb n (last_of ids base) l) h
+
+-- the ids of a text up to a number and that with the number itself
+pub one_more : (ids : Ids) (base : List ℕ) (n : ℕ) → ((m : ℕ) → 0 < m → m < n → is_taken ids (numbered base m) ≡ true) → is_taken ids (numbered base n) ≡ true
+    → (m : ℕ) → 0 < m → m < n + 1 → is_taken ids (numbered base m) ≡ true
+one_more ids base n below here m some less =
+    ⊎_elim (λ t. below m some (ltb-true m n t))
+    (λ f. let at : m ≡ n = omega (arith, ltb-false m n f) in ap (λ k. is_taken ids (numbered base k)) at ∙ here) (cases_Bool (nat_lt m n))
+
+-- the least free number of a text, when all up to it are used up
+module _ (old new : Ids) (base : List ℕ) (n : ℕ) (free : IsLeastFree (is_taken old) base n) (small : n < 2 ^ 64) (used : UsesUp base n old new) where
+  read_id : number_of (numbered base n) ≡ Some (base, n)
+  read_id = number_of-numbered base n free.from_one small
+
+  -- it is behind the last one
+  behind : last_of old base < n
+  behind =
+      let not_up_to = or_left (nat_le n (last_of old base)) _ (sym (ap (taken_by old (numbered base n)) read_id) ∙ free.is_free) in
+      ⊎_elim (λ t. absurd (cc)) (λ f. omega (arith, leb-false n (last_of old base) f)) (cases_Bool (nat_le n (last_of old base)))
+
+  abbrev Wanted : List ℕ → Option (List ℕ × ℕ) → Type 0
+  Wanted other o = taken_by new other o ≡ (if bytes_eq other (numbered base n) then true else taken_by old other o)
+
+  -- the id of another text
+  of_other : (other b : List ℕ) (m : ℕ) → number_of other ≡ Some (b, m) → bytes_eq b base ≡ false → Wanted other (Some (b, m))
+  of_other other b m e f =
+      let apart = read_apart other (numbered base n) (Some (b, m)) (Some (base, n)) e read_id (λ s. absurd (true≢false (sym ((bytes_decides b base).1 (ap (λ (q : List ℕ × ℕ). q.0) (some_same (b, m) (base, n) s))) ∙ f))) in
+      rw (apart, used.last b ∙ cond-false _ _ _ f, used.hindering) refl
+
+  -- the text's ids up to the number
+  up_to : (other : List ℕ) (m : ℕ) → number_of other ≡ Some (base, m) → m ≤ n → Wanted other (Some (base, m))
+  up_to other m e low = ⊎_elim same apart (cases_Bool (bytes_eq other (numbered base n)))
+    where
+      now : taken_by new other (Some (base, m)) ≡ true
+      now = rw (used.last base ∙ cond-true _ _ _ ((bytes_decides base base).1 refl), le-leb m n low) refl
+
+      same : bytes_eq other (numbered base n) ≡ true → Wanted other (Some (base, m))
+      same t = now ∙ sym (cond-true _ _ _ t)
+
+      apart : bytes_eq other (numbered base n) ≡ false → Wanted other (Some (base, m))
+      apart f =
+          let is = number_of-is other base m e in
+          let below : m < n = ⊎_elim (λ t. ltb-true m n t)
+          (λ g.
+          let at : m ≡ n = omega (arith, ltb-false m n g) in
+          absurd (true≢false (sym ((bytes_decides other (numbered base n)).1 (is.0 ∙ ap (numbered base) at)) ∙ f))) (cases_Bool (nat_lt m n)) in
+          let before : is_taken old other ≡ true = ap (is_taken old) is.0 ∙ free.is_least m is.1 below in
+          now ∙ sym (cond-false _ _ _ f ∙ sym (ap (taken_by old other) e) ∙ before)
+
+  -- and those beyond it
+  beyond : (other : List ℕ) (m : ℕ) → number_of other ≡ Some (base, m) → n < m → Wanted other (Some (base, m))
+  beyond other m e high =
+      let apart = read_apart other (numbered base n) (Some (base, m)) (Some (base, n)) e read_id (λ s. let at : m ≡ n = ap (λ (q : List ℕ × ℕ). q.1) (some_same (base, m) (base, n) s) in absurd (omega arith)) in
+      rw (apart, used.last base ∙ cond-true _ _ _ ((bytes_decides base base).1 refl), used.hindering, lt-leb m n high, lt-leb m (last_of old base) (omega (arith, behind))) refl
+
+  pub used_up : Takes (numbered base n) old new
+  used_up other = by (number_of other) refl
+    where
+      by : (o : Option (List ℕ × ℕ)) → number_of other ≡ o → Wanted other o
+      by None e =
+          let apart = read_apart other (numbered base n) None (Some (base, n)) e read_id (none_some (base, n)) in
+          rw (apart, used.named) refl
+      by (Some (b, m)) e = ⊎_elim
+          (λ t.
+          let at : b ≡ base = (bytes_decides b base).0 t in
+          let read : number_of other ≡ Some (base, m) = e ∙ ap (λ l. Some (l, m)) at in
+          subst (λ l. Wanted other (Some (l, m))) (sym at) (⊎_elim (λ l. up_to other m read (leb-true m n l)) (λ f. beyond other m read (omega (arith, leb-false m n f))) (cases_Bool (nat_le m n))))
+          (λ f. of_other other b m e f) (cases_Bool (bytes_eq b base))
+
+-- ---- ids given
+
+-- ids of which the same are taken have the same free numbers
+same_least : (a b : Ids) (base : List ℕ) (n : ℕ) → TakesNone a b → IsLeastFree (is_taken b) base n → IsLeastFree (is_taken a) base n
+same_least a b base n same free = record { from_one = free.from_one; is_free = sym (same (numbered base n)) ∙ free.is_free; is_least = λ m some less. sym (same (numbered base m)) ∙ free.is_least m some less }
+
+-- an id that was taken is taken, and no other
+none_by_taken : (a b : Ids) (id : List ℕ) → is_taken a id ≡ true → Takes id a b → TakesNone a b
+none_by_taken a b id taken takes other = takes other ∙ sym (took_taken a id taken other)
+
+takes_after : (a b c : Ids) (id : List ℕ) → TakesNone a b → Takes id b c → Takes id a c
+takes_after a b c id same takes other = takes other ∙ ap (λ t. if bytes_eq other id then true else t) (same other)
+
+-- the wanted id with a number, where it is taken
+given_numbered : (taken : List ℕ → Bool) (tag : Tag) (wanted id : List ℕ) → 0 < length wanted → taken wanted ≡ true → IsNumbered taken wanted id → IsIdBy taken tag wanted id
+given_numbered taken tag [] id some is numbered = absurd (omega arith)
+given_numbered taken tag (c ∷ cs) id some is numbered = subst (λ t. IsFreed t taken (c ∷ cs) id) (sym is) numbered
+
+-- the id of a name whose own one is taken
+pub given_after : (tag : Tag) (name wanted : List ℕ) (old mid new : Ids) (r : Result (List ℕ) TreeFault) → wanted ≡ wanted_id name → 0 < length wanted
+    → is_taken old wanted ≡ true → Takes wanted old mid → GivesNumbered wanted mid new r → GivesId tag name old new r
+given_after tag name wanted old mid new (Ok id) is some taken takes h =
+    let same = none_by_taken old mid wanted taken takes in
+    let given = given_numbered (is_taken old) tag wanted id some taken (h.0.0, h.0.1, same_least old mid wanted h.0.0 same h.0.2) in
+    (subst (λ w. IsIdBy (is_taken old) tag w id) is given, takes_after old mid new id same h.1)
+given_after tag name wanted old mid new (Err NoMemory) is some taken takes h = λ other. h other ∙ none_by_taken old mid wanted taken takes other

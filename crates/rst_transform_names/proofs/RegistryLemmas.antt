@@ -1,0 +1,67 @@
+-- Standings and what becomes of them.
+use Rattle.std.proofs.Common.{◌≡◌, ℕ, zero, suc, ◌<◌, ◌≤◌, true, List, [], ◌∷◌, length, Option, refl, sym, ap, subst, arith, slice_set}
+use Rattle.std.proofs.Common.{◌∙◌, Bool, false, not, Vec, String, BTreeMap, bytes_eq, string_bytes, string_cmp, nat_cmp}
+use Rattle.std.specs.BTreeMap.{get_by_text, UpdatesBy}
+use Rattle.std.specs.Cmp.Lexicographic.{slice_cmp, nat_list_eq_equiv}
+use Rattle.std.proofs.lemmas.Map.Text.{btree_map_updates_text}
+use Rattle.std.proofs.lemmas.List.{with_items_is}
+use Rattle.std.specs.Prelude.{if◌then◌else◌, slice_index_or}
+use Rattle.std.specs.Vec.{with_items}
+use Rattle.rst_tree.specs.Paths.{map_at}
+use Rattle.rst_tree.specs.Walk.{Item}
+use Rattle.rst_transform_names.specs.declared.names.Held.{Held}
+use Rattle.rst_transform_names.specs.declared.names.Holder.{Holder}
+use Rattle.rst_transform_names.specs.declared.names.Holder.TheVariants.{Nobody as Lost, Element, Unregistered}
+use Rattle.rst_transform_names.specs.declared.registry.Registry.{Registry}
+use Rattle.rst_transform_names.specs.declared.registry.Standing.{Standing}
+use Rattle.rst_transform_names.specs.declared.rulings.Ruling.{Ruling}
+use Rattle.rst_transform_names.specs.Registry.{without_name, losing, rule_by, rule_named, IsNamed}
+
+-- a list changed at a place in it, and at one behind it
+pub changed_there : {X : Type 0} (change : X → X) (n : ℕ) (xs : List X) (d now : X) → n < length xs → now ≡ change (slice_index_or xs n d) → slice_set xs n now ≡ map_at change n xs
+changed_there change n [] d now l is = absurd (omega arith)
+changed_there change zero (x ∷ xs) d now l is = ap (λ y. y ∷ xs) is
+changed_there change (suc n) (x ∷ xs) d now l is = ap (λ t. x ∷ t) (changed_there change n xs d now (omega arith) is)
+
+pub changed_behind : {X : Type 0} (change : X → X) (n : ℕ) (xs : List X) → length xs ≤ n → xs ≡ map_at change n xs
+changed_behind change n [] l = refl
+changed_behind change zero (x ∷ xs) l = absurd (omega arith)
+changed_behind change (suc n) (x ∷ xs) l = ap (λ t. x ∷ t) (changed_behind change n xs (omega arith))
+
+-- the rule for an element with a name
+pub rule_with : (name : List ℕ) (earlier : List Item) (held : Option Held) (new : Item) → 0 < length name → rule_by earlier held new ≡ rule_named name earlier held new
+rule_with [] earlier held new some = absurd (omega arith)
+rule_with (c ∷ cs) earlier held new some = refl
+
+-- what became of an element by a rule, by the same rule in other words
+pub named_by : (rule other : Ruling) (new : Item) (before after : Registry) (s : Standing) → rule ≡ other → IsNamed rule new before after s → IsNamed other new before after s
+named_by rule other new before after s e h = subst (λ r. IsNamed r new before after s) e h
+
+-- no item is lost on the way
+map_at-length : {X : Type 0} (change : X → X) (n : ℕ) (xs : List X) → length (map_at change n xs) ≡ length xs
+map_at-length change n [] = refl
+map_at-length change zero (x ∷ xs) = refl
+map_at-length change (suc n) (x ∷ xs) = ap suc (map_at-length change n xs)
+
+losing-length : (h : Holder) (ss : List Standing) → length (losing h ss) ≡ length ss
+losing-length (Element n) ss = map_at-length without_name n ss
+losing-length Lost ss = refl
+losing-length Unregistered ss = refl
+
+-- the standings of which one lost its name, put in place of those before
+pub put_lost : {Z : Type 0} (v : Vec Standing Z) (now : List Standing) (h : Holder) → now ≡ losing h v.items → (with_items v now).items ≡ losing h v.items
+put_lost v now h is = with_items_is v now (ap length is ∙ losing-length h v.items ∙ sym v.ok.0) ∙ is
+
+pub put_lost_if : {Z : Type 0} (v : Vec Standing Z) (now : List Standing) (loses : Bool) (h : Holder) → now ≡ (if loses then losing h v.items else v.items)
+    → (with_items v now).items ≡ (if loses then losing h v.items else v.items)
+put_lost_if v now true h is = put_lost v now h is
+put_lost_if v now false h is = put_lost v now Unregistered is
+
+-- what a map tells of texts once one of them tells something else
+pub entered : {X Y : Type 0} (old new : BTreeMap (String Y) X) (name : List ℕ) (w : Option X) → UpdatesBy string_cmp (λ k. slice_cmp nat_cmp name (string_bytes k)) old new w
+    → (other : List ℕ) → get_by_text new other ≡ (if bytes_eq other name then w else get_by_text old other)
+entered old new name w h other = btree_map_updates_text name old new w h other ∙ ap (λ b. if b then w else get_by_text old other) (nat_list_eq_equiv.symm name other)
+
+pub not_false : (b : Bool) → not b ≡ false → b ≡ true
+not_false true h = refl
+not_false false h = absurd (cc)

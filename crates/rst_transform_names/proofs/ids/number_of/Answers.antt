@@ -1,0 +1,12 @@
+use Rattle.std.proofs.Common.{arith}
+use Rattle.rst_transform_names.proofs.IdLemmas.{number_of-split}
+use Rattle.rst_transform_names.proofs.ids.number_of.Goals as goal
+
+pub returns-in_err-base : goal.returns-in_err-base
+returns-in_err-base c = grind (arith, number_of-split c.args.id.now c.rsplit_once.result c.rsplit_once.ensures.cases, c.from_residual.ensures, c.in_err-base.is, c.in_err-base.was)
+
+pub returns-in_err-number_in : goal.returns-in_err-number_in
+returns-in_err-number_in c = grind (arith, number_of-split c.args.id.now c.rsplit_once.result c.rsplit_once.ensures.cases)
+
+pub returns : goal.returns
+returns c = grind (arith, number_of-split c.args.id.now c.rsplit_once.result c.rsplit_once.ensures.cases)

@@ -1,0 +1,112 @@
+-- Ids: which are taken, and which one an element gets (Document Tree, attribute `ids`).
+use Rattle.std.specs.Prelude.{◌≡◌, ℕ, ◌<◌, ◌^◌, Bool, true, false, ◌==◌, ◌&&◌, ◌||◌, if◌then◌else◌, List, [], ◌∷◌, ◌++◌, codes, decimal, Option, Some, None, option_map, option_and_then, unwrap_or, nat_le, nat_lt, Result, Ok, Err, encode_utf8_all}
+use Rattle.std.specs.BTreeMap.{get_by_text}
+use Rattle.std.specs.BTreeSet.{contains_text}
+use Rattle.std.specs.Str.{bytes_eq, chars}
+use Rattle.std.specs.Str.Parse.{digits_value}
+use Rattle.rst_text.specs.Names.{id_of}
+use Rattle.rst_tree.specs.TagNames.{hyphenated, tag_name}
+use Rattle.rst_tree.specs.declared.fault.TreeFault.{TreeFault}
+use Rattle.rst_tree.specs.declared.fault.TreeFault.TheVariants.{NoMemory}
+use Rattle.rst_tree.specs.declared.tag.Tag.{Tag}
+use Rattle.rst_transform_names.specs.declared.ids.Ids.{Ids}
+
+-- the id of a text and a number
+abbrev pub numbered : List ℕ → ℕ → List ℕ
+numbered base n = (base ++ codes "-") ++ decimal n
+
+-- the number from 1 that digits write, if they are its decimal digits; the largest is that of 64 bits
+abbrev pub number_in : List ℕ → Option ℕ
+number_in digits = let n = digits_value 10 digits in if bytes_eq digits (decimal n) && (nat_lt 0 n && nat_lt n (2 ^ 64)) then Some n else None
+
+-- what stands before the last hyphen of an id, and what stands behind it, if it has one
+abbrev pub parts_from : ℕ → List ℕ → Option (List ℕ × List ℕ) → Option (List ℕ × List ℕ)
+parts_from c cs None = if c == 45 then Some ([], cs) else None
+parts_from c cs (Some parts) = Some (c ∷ parts.0, parts.1)
+
+abbrev pub parts_of : List ℕ → Option (List ℕ × List ℕ)
+parts_of [] = None
+parts_of (c ∷ cs) = parts_from c cs (parts_of cs)
+
+-- the same where a number stands behind it
+abbrev pub numbered_part : List ℕ × List ℕ → Option (List ℕ × ℕ)
+numbered_part parts = option_map (λ n. (parts.0, n)) (number_in parts.1)
+
+abbrev pub number_of : List ℕ → Option (List ℕ × ℕ)
+number_of id = option_and_then numbered_part (parts_of id)
+
+-- the last number that was given with a text; 0 where none was
+abbrev pub last_of : Ids → List ℕ → ℕ
+last_of ids base = unwrap_or (get_by_text ids.last base) 0
+
+-- an id with a number is taken up to the last number of its text, and where a name gave it; any other where a name gave it
+abbrev pub taken_by : Ids → List ℕ → Option (List ℕ × ℕ) → Bool
+taken_by ids id None = contains_text ids.named id
+taken_by ids id (Some (base, n)) = nat_le n (last_of ids base) || contains_text ids.hindering id
+
+abbrev pub is_taken : Ids → List ℕ → Bool
+is_taken ids id = taken_by ids id (number_of id)
+
+-- the least number from 1 with which the id of a text is free, by which ids are taken
+pub record IsLeastFree (taken : List ℕ → Bool) (base : List ℕ) (n : ℕ) : Type 0 where
+  pub from_one : 0 < n
+  pub is_free : taken (numbered base n) ≡ false
+  pub is_least : (m : ℕ) → 0 < m → m < n → taken (numbered base m) ≡ true
+
+-- the id of a text and that number
+abbrev pub IsNumbered : (List ℕ → Bool) → List ℕ → List ℕ → Type 0
+IsNumbered taken base id = (n : ℕ) × (id ≡ numbered base n) × IsLeastFree taken base n
+
+-- what a text gives, unless that is taken; then it with a number
+abbrev pub IsFreed : Bool → (List ℕ → Bool) → List ℕ → List ℕ → Type 0
+IsFreed false taken wanted id = id ≡ wanted
+IsFreed true taken wanted id = IsNumbered taken wanted id
+
+-- the id of an element of a kind by what its name gives; where that is nothing, the kind's name with a number
+abbrev pub IsIdBy : (List ℕ → Bool) → Tag → List ℕ → List ℕ → Type 0
+IsIdBy taken tag [] id = IsNumbered taken (hyphenated (tag_name tag)) id
+IsIdBy taken tag (c ∷ cs) id = IsFreed (taken (c ∷ cs)) taken (c ∷ cs) id
+
+-- what a name gives; the empty name is none
+abbrev pub wanted_id : List ℕ → List ℕ
+wanted_id [] = []
+wanted_id (c ∷ cs) = encode_utf8_all (id_of (chars (c ∷ cs)))
+
+abbrev pub IsIdFor : (List ℕ → Bool) → Tag → List ℕ → List ℕ → Type 0
+IsIdFor taken tag name id = IsIdBy taken tag (wanted_id name) id
+
+-- one more id is taken, or none
+abbrev pub Takes : List ℕ → Ids → Ids → Type 0
+Takes id old new = (other : List ℕ) → is_taken new other ≡ (if bytes_eq other id then true else is_taken old other)
+
+abbrev pub TakesNone : Ids → Ids → Type 0
+TakesNone old new = (other : List ℕ) → is_taken new other ≡ is_taken old other
+
+-- an id that a name gave is taken, and it is told whether it was free; or memory ran out and none is
+abbrev pub Tries : List ℕ → Ids → Ids → Result Bool TreeFault → Type 0
+Tries id old new (Ok was_free) = (is_taken old id ≡ (if was_free then false else true)) × Takes id old new
+Tries id old new (Err NoMemory) = TakesNone old new
+
+-- the element's id is given and taken, or memory ran out and none is
+abbrev pub GivesId : Tag → List ℕ → Ids → Ids → Result (List ℕ) TreeFault → Type 0
+GivesId tag name old new (Ok id) = IsIdFor (is_taken old) tag name id × Takes id old new
+GivesId tag name old new (Err NoMemory) = TakesNone old new
+
+-- the same of the id of a text and a number, and of the number alone
+abbrev pub GivesNumbered : List ℕ → Ids → Ids → Result (List ℕ) TreeFault → Type 0
+GivesNumbered base old new (Ok id) = IsNumbered (is_taken old) base id × Takes id old new
+GivesNumbered base old new (Err NoMemory) = TakesNone old new
+
+abbrev pub GivesNumber : List ℕ → Ids → Ids → Result ℕ TreeFault → Type 0
+GivesNumber base old new (Ok n) = IsLeastFree (is_taken old) base n × Takes (numbered base n) old new
+GivesNumber base old new (Err NoMemory) = TakesNone old new
+
+-- the ids of a text up to a number are used up, or memory ran out and nothing changed
+pub record UsesUp (base : List ℕ) (n : ℕ) (old new : Ids) : Type 0 where
+  pub named : new.named ≡ old.named
+  pub hindering : new.hindering ≡ old.hindering
+  pub last : (other : List ℕ) → last_of new other ≡ (if bytes_eq other base then n else last_of old other)
+
+abbrev pub UsesUpOrFails : {A : Type 0} → List ℕ → ℕ → Ids → Ids → Result A TreeFault → Type 0
+UsesUpOrFails base n old new (Ok done) = UsesUp base n old new
+UsesUpOrFails base n old new (Err NoMemory) = TakesNone old new

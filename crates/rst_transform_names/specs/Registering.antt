@@ -1,0 +1,119 @@
+-- The registration of all elements, one after the other, in preorder (Document Tree, attributes `ids`, `names`, `dupnames`,
+-- `refid` and `backrefs`).
+use Rattle.std.specs.Prelude.{◌≡◌, ℕ, Bool, true, false, if◌then◌else◌, List, [], ◌∷◌, ◌++◌, Option, Some, None, length, filter, not, ◌==◌, replicate}
+use Rattle.std.specs.BTreeMap.{get_by_text}
+use Rattle.std.specs.VecDeque.{deque_items}
+use Rattle.rst_tree.specs.declared.key.Key.TheVariants.{Message}
+use Rattle.rst_tree.specs.declared.tag.Tag.{Tag}
+use Rattle.rst_tree.specs.declared.tag.Tag.TheVariants.{Problematic, SystemMessage, SubstitutionDefinition}
+use Rattle.rst_tree.specs.Paths.{map_at}
+use Rattle.rst_tree.specs.TagNames.{hyphenated, tag_name}
+use Rattle.rst_tree.specs.declared.node.Node.{Node}
+use Rattle.rst_tree.specs.Walk.{Item, node_items, walked_node}
+use Rattle.rst_tree_index.specs.Marks.{heeded_next, heeded_out}
+use Rattle.rst_tree_index.specs.Registered.{is_registered}
+use Rattle.rst_transform_names.specs.declared.links.Linked.{Linked}
+use Rattle.rst_transform_names.specs.declared.registration.Registered.{Registered}
+use Rattle.rst_transform_names.specs.declared.registry.Registry.{Registry}
+use Rattle.rst_transform_names.specs.declared.registry.Standing.{Standing}
+use Rattle.rst_transform_names.specs.Gathered.{number_at, own_name}
+use Rattle.rst_transform_names.specs.Ids.{is_taken, numbered, IsLeastFree, Takes}
+use Rattle.rst_transform_names.specs.Names.{held_by, kept_for}
+use Rattle.rst_transform_names.specs.Registry.{held_in, rule_named, IsDefined, IsNamed}
+use Rattle.rst_transform_names.specs.Written.{given, left_behind, problematic_id, with_given}
+
+-- what is known of a message once one of its problematics has come, or the message itself, with the number in its id
+abbrev pub linked_by : Tag → ℕ → Linked → Linked
+linked_by Problematic number l = record { id = l.id; problematics = l.problematics ++ problematic_id number ∷ [] }
+linked_by _ number l = record { id = Some number; problematics = l.problematics }
+
+-- what is known of messages, where that changes of the one that an element says
+abbrev pub linking : Option ℕ → (Linked → Linked) → List Linked → List Linked
+linking None change messages = messages
+linking (Some message) change messages = map_at change message messages
+
+-- a message or a problematic gets a number
+pub record IsLinked (new : Item) (before after : Registry) : Type 0 where
+  pub number : ℕ
+  pub is_number : IsLeastFree (is_taken before.ids) (hyphenated (tag_name new.tag)) number
+  pub is_taken_now : Takes (numbered (hyphenated (tag_name new.tag)) number) before.ids after.ids
+  pub numbers : after.links.numbers.items ≡ before.links.numbers.items ++ number ∷ []
+  pub messages : after.links.messages.items ≡ linking (number_at Message new.attrs) (linked_by new.tag number) before.links.messages.items
+  pub names : after.names ≡ before.names
+  pub definitions : after.definitions ≡ before.definitions
+  pub standings : after.standings.items ≡ before.standings.items
+  pub notices : deque_items after.notices.queue ≡ deque_items before.notices.queue
+
+-- any other element gets a standing, by the names of those that came before
+abbrev pub Stands : Tag → List Item → Item → Registry → Registry → Standing → Type 0
+Stands SubstitutionDefinition earlier new before after s = IsDefined new before after s
+Stands _ earlier new before after s = IsNamed (rule_named (own_name new) earlier (held_in before new) new) new before after s
+
+-- a standing behind those of the elements before
+pub record IsPut (s : Standing) (before after : Registry) : Type 0 where
+  pub standings : after.standings.items ≡ before.standings.items ++ s ∷ []
+  pub ids : after.ids ≡ before.ids
+  pub names : after.names ≡ before.names
+  pub definitions : after.definitions ≡ before.definitions
+  pub links : after.links ≡ before.links
+  pub notices : after.notices ≡ before.notices
+
+pub record IsAdded (earlier : List Item) (new : Item) (before after : Registry) : Type 0 where
+  pub s : Standing
+  pub between : Registry
+  pub stands : Stands new.tag earlier new before between s
+  pub put : IsPut s between after
+
+-- messages and problematics, which have no names
+abbrev pub is_linked : Tag → Bool
+is_linked Problematic = true
+is_linked SystemMessage = true
+is_linked _ = false
+
+abbrev pub RegistersBy : Bool → List Item → Item → Registry → Registry → Type 0
+RegistersBy true earlier new before after = IsLinked new before after
+RegistersBy false earlier new before after = IsAdded earlier new before after
+
+abbrev pub Registers : List Item → Item → Registry → Registry → Type 0
+Registers earlier new before after = RegistersBy (is_linked new.tag) earlier new before after
+
+-- the elements that may have names, up to one
+abbrev pub with_named : List Item → Item → List Item
+with_named earlier new = if is_linked new.tag then earlier else (earlier ++ new ∷ [])
+
+-- one element after the other
+abbrev pub AllRegistered : List Item → List Item → Registry → Registry → Type 0
+AllRegistered earlier [] before after = after ≡ before
+AllRegistered earlier (x ∷ xs) before after = (between : Registry) × Registers earlier x before between × AllRegistered (with_named earlier x) xs between after
+
+-- what is known before the first element; so many numbers were given to messages
+pub record KnowsNothing (messages : ℕ) (first : Registry) : Type 0 where
+  pub ids : (id : List ℕ) → is_taken first.ids id ≡ false
+  pub names : (name : List ℕ) → held_by first.names name ≡ None
+  pub uris : (name : List ℕ) → kept_for first.names name ≡ None
+  pub definitions : (name : List ℕ) → get_by_text first.definitions name ≡ None
+  pub standings : first.standings.items ≡ []
+  pub numbers : first.links.numbers.items ≡ []
+  pub links : first.links.messages.items ≡ replicate messages (record { id = None; problematics = [] })
+  pub notices : deque_items first.notices.queue ≡ []
+
+pub record IsRegistry (messages : ℕ) (elements : List Item) (after : Registry) : Type 0 where
+  pub first : Registry
+  pub knows_nothing : KnowsNothing messages first
+  pub all : AllRegistered [] elements first after
+
+-- the document with what its elements got
+abbrev pub written : Registry → Node → Node
+written registry document =
+    walked_node (heeded_next is_registered left_behind) (heeded_out is_registered with_given)
+    (given registry.standings.items registry.links.numbers.items registry.links.messages.items) document
+
+-- a document is registered; where there are messages on equal names they stand in it as well
+pub record IsRegistered (messages : ℕ) (document : Node) (done : Registered) : Type 0 where
+  pub registry : Registry
+  pub is_registry : IsRegistry messages (filter is_registered (node_items document)) registry
+  pub ids : done.ids ≡ registry.ids
+  pub names : done.names ≡ registry.names
+  pub serials : done.serials ≡ length registry.standings.items
+  pub noticed : done.noticed ≡ not (length (deque_items registry.notices.queue) == 0)
+  pub root : done.noticed ≡ false → done.root ≡ written registry document

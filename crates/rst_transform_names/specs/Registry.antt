@@ -1,0 +1,139 @@
+-- Registration, one element after the other, in preorder (Document Tree, attributes `ids`, `names` and `dupnames`;
+-- reStructuredText Markup Specification, 'Implicit Hyperlink Targets').
+use Rattle.std.specs.Prelude.{◌≡◌, ℕ, Bool, true, false, ◌&&◌, if◌then◌else◌, List, [], ◌∷◌, ◌++◌, length, Option, Some, None, slice_get}
+use Rattle.std.specs.VecDeque.{deque_items}
+use Rattle.std.specs.BTreeMap.{get_by_text}
+use Rattle.std.specs.Str.{bytes_eq}
+use Rattle.rst_tree.specs.declared.key.Key.TheVariants.{Refuri}
+use Rattle.rst_tree.specs.declared.node.Node.{Node}
+use Rattle.rst_tree.specs.declared.tag.Tag.{Tag}
+use Rattle.rst_tree.specs.declared.tag.Tag.TheVariants.{Section, Target}
+use Rattle.rst_tree.specs.Paths.{map_at}
+use Rattle.rst_tree.specs.Walk.{Item}
+use Rattle.rst_transform_names.specs.declared.names.Held.{Held}
+use Rattle.rst_transform_names.specs.declared.names.Holder.{Holder}
+use Rattle.rst_transform_names.specs.declared.names.Holder.TheVariants.{Nobody as Lost, Element, Unregistered}
+use Rattle.rst_transform_names.specs.declared.names.Names.{Names}
+use Rattle.rst_transform_names.specs.declared.names.Strength.{Strength}
+use Rattle.rst_transform_names.specs.declared.names.Strength.TheVariants.{Implicit, Explicit}
+use Rattle.rst_transform_names.specs.declared.registry.Registry.{Registry}
+use Rattle.rst_transform_names.specs.declared.registry.Standing.{Standing}
+use Rattle.rst_transform_names.specs.declared.rulings.Complaint.{Complaint}
+use Rattle.rst_transform_names.specs.declared.rulings.Now.{Now}
+use Rattle.rst_transform_names.specs.declared.rulings.Now.TheVariants.{Old, New, Nobody}
+use Rattle.rst_transform_names.specs.declared.rulings.Ruling.{Ruling}
+use Rattle.rst_transform_names.specs.Gathered.{own_name, text_at}
+use Rattle.rst_transform_names.specs.Ids.{is_taken, IsIdFor, Takes}
+use Rattle.rst_transform_names.specs.Names.{held_by, moved, Knows, SameUris}
+use Rattle.rst_transform_names.specs.Notices.{duplicate_definition, duplicate_name}
+use Rattle.rst_transform_names.specs.Rulings.{ruling_for}
+
+-- how elements of a kind give their names
+abbrev pub strength_of : Tag → Strength
+strength_of Section = Implicit
+strength_of _ = Explicit
+
+-- both say a text, and it is the same
+abbrev pub is_same_text : Option (List ℕ) → Option (List ℕ) → Bool
+is_same_text None b = false
+is_same_text (Some a) None = false
+is_same_text (Some a) (Some b) = bytes_eq a b
+
+abbrev pub is_target : Tag → Bool
+is_target Target = true
+is_target _ = false
+
+-- two targets that refer to one URI
+abbrev pub is_same_target : Item → Item → Bool
+is_same_target old new = (is_target old.tag && is_target new.tag) && is_same_text (text_at Refuri old.attrs) (text_at Refuri new.attrs)
+
+abbrev pub is_shared_by : Option Item → Item → Bool
+is_shared_by None new = false
+is_shared_by (Some old) new = is_same_target old new
+
+-- the holder of a name is a target that refers to the URI of a new one
+abbrev pub is_shared : List Item → Holder → Item → Bool
+is_shared earlier (Element n) new = is_shared_by (slice_get earlier n) new
+is_shared earlier Lost new = false
+is_shared earlier Unregistered new = false
+
+-- the rule for the name of a new element, by what is known of the name
+abbrev pub rule_by : List Item → Option Held → Item → Ruling
+rule_by earlier None new = ruling_for None (strength_of new.tag) false
+rule_by earlier (Some held) new = ruling_for (Some (held.strength, held.holder)) (strength_of new.tag) (is_shared earlier held.holder new)
+
+-- what is known of the name from now on; the element has a number and an id
+abbrev pub known_by : Now → ℕ → Item → List ℕ → Option Held → Option Held
+known_by Old number new id held = held
+known_by Nobody number new id held = moved Lost held
+known_by New number new id held = Some (record { holder = Element number; strength = strength_of new.tag; id = id })
+
+-- what an element got that loses its name
+abbrev pub without_name : Standing → Standing
+without_name s = record { serial = s.serial; id = s.id; lost = true }
+
+-- the elements' standings, where the holder of a name has it as a duplicate one only
+abbrev pub losing : Holder → List Standing → List Standing
+losing (Element n) standings = map_at without_name n standings
+losing Lost standings = standings
+losing Unregistered standings = standings
+
+abbrev pub holder_in : Option Held → Holder
+holder_in None = Lost
+holder_in (Some held) = held.holder
+
+-- the message on the name of an element, with the element's number, if the rule asks for one
+abbrev pub notices_by : Option Complaint → ℕ → Item → List ℕ → List (ℕ × Node)
+notices_by None number new id = []
+notices_by (Some complaint) number new id = (number, duplicate_name complaint new id) ∷ []
+
+-- nothing becomes of a name
+abbrev pub no_rule : Ruling
+no_rule = record { now = Old; old_loses = false; new_loses = false; complaint = None }
+
+-- the rule for a new element by the name it was written with; the empty name is none
+abbrev pub rule_named : List ℕ → List Item → Option Held → Item → Ruling
+rule_named [] earlier held new = no_rule
+rule_named (c ∷ cs) earlier held new = rule_by earlier held new
+
+abbrev pub standing : ℕ → Option (List ℕ) → Bool → Standing
+standing number id lost = record { serial = number; id = id; lost = lost }
+
+-- the number of the next element that may have a name
+abbrev pub next_number : Registry → ℕ
+next_number registry = length registry.standings.items
+
+abbrev pub held_in : Registry → Item → Option Held
+held_in registry new = held_by registry.names (own_name new)
+
+-- an element gets its id, and its name by the rule for it, if it has one; the elements before it that may have names are known
+pub record IsNamed (rule : Ruling) (new : Item) (before after : Registry) (s : Standing) : Type 0 where
+  pub id : List ℕ
+  pub is_id : IsIdFor (is_taken before.ids) new.tag (own_name new) id
+  pub is_taken_now : Takes id before.ids after.ids
+  pub stands : s ≡ standing (next_number before) (Some id) rule.new_loses
+  pub names : Knows (own_name new) (known_by rule.now (next_number before) new id (held_in before new)) before.names after.names
+  pub uris : SameUris before.names after.names
+  pub others : after.standings.items ≡ (if rule.old_loses then losing (holder_in (held_in before new)) before.standings.items else before.standings.items)
+  pub notices : deque_items after.notices.queue ≡ deque_items before.notices.queue ++ notices_by rule.complaint (next_number before) new id
+  pub definitions : after.definitions ≡ before.definitions
+  pub links : after.links ≡ before.links
+
+-- the substitution definition that had a name
+abbrev pub definer : Option ℕ → Holder
+definer None = Lost
+definer (Some number) = Element number
+
+abbrev pub definition_notices : Option ℕ → ℕ → Item → List (ℕ × Node)
+definition_notices None number new = []
+definition_notices (Some earlier) number new = (number, duplicate_definition new) ∷ []
+
+-- of substitution definitions with one name the last has it
+pub record IsDefined (new : Item) (before after : Registry) (s : Standing) : Type 0 where
+  pub stands : s ≡ standing (next_number before) None false
+  pub definitions : (other : List ℕ) → get_by_text after.definitions other ≡ (if bytes_eq other (own_name new) then Some (next_number before) else get_by_text before.definitions other)
+  pub others : after.standings.items ≡ losing (definer (get_by_text before.definitions (own_name new))) before.standings.items
+  pub notices : deque_items after.notices.queue ≡ deque_items before.notices.queue ++ definition_notices (get_by_text before.definitions (own_name new)) (next_number before) new
+  pub ids : after.ids ≡ before.ids
+  pub names : after.names ≡ before.names
+  pub links : after.links ≡ before.links

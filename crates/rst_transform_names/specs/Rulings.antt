@@ -1,0 +1,56 @@
+-- Equal names: what becomes of a name with which one more element was written (reStructuredText Markup Specification,
+-- 'Implicit Hyperlink Targets').
+use Rattle.std.specs.Prelude.{Bool, true, false, if◌then◌else◌, Option, Some, None}
+use Rattle.rst_tree.specs.declared.note.Level.TheVariants.{Info, Warning}
+use Rattle.rst_transform_names.specs.declared.names.Holder.{Holder}
+use Rattle.rst_transform_names.specs.declared.names.Holder.TheVariants.{Nobody as Lost, Element, Unregistered}
+use Rattle.rst_transform_names.specs.declared.names.Strength.{Strength}
+use Rattle.rst_transform_names.specs.declared.names.Strength.TheVariants.{Implicit, Explicit}
+use Rattle.rst_transform_names.specs.declared.rulings.Now.TheVariants.{Old, New, Nobody}
+use Rattle.rst_transform_names.specs.declared.rulings.Complaint.{Complaint}
+use Rattle.rst_transform_names.specs.declared.rulings.Ruling.{Ruling}
+
+abbrev pub info : Strength → Option Complaint
+info strength = Some (record { level = Info; strength = strength })
+
+abbrev pub warning : Option Complaint
+warning = Some (record { level = Warning; strength = Explicit })
+
+-- no element had the name before, or all that had it were sections that lost it: the new one has it
+abbrev pub new_has_it : Ruling
+new_has_it = record { now = New; old_loses = false; new_loses = false; complaint = None }
+
+-- a section has the name, and another element takes it
+abbrev pub new_takes_it : Ruling
+new_takes_it = record { now = New; old_loses = true; new_loses = false; complaint = info Implicit }
+
+-- the element that has the name keeps it
+abbrev pub old_keeps_it : Strength → Ruling
+old_keeps_it strength = record { now = Old; old_loses = false; new_loses = true; complaint = info strength }
+
+-- neither has the name
+abbrev pub both_lose_it : Option Complaint → Ruling
+both_lose_it complaint = record { now = Nobody; old_loses = true; new_loses = true; complaint = complaint }
+
+-- it stays that no element has the name
+abbrev pub nobody_has_it : Option Complaint → Ruling
+nobody_has_it complaint = record { now = Nobody; old_loses = false; new_loses = true; complaint = complaint }
+
+-- by who holds the name and how it was given, and how it is given now; `same`: two targets with the same URI
+abbrev pub held_ruling : Strength → Holder → Strength → Bool → Ruling
+held_ruling Implicit Lost Explicit same = new_has_it
+held_ruling Implicit (Element n) Explicit same = new_takes_it
+held_ruling Implicit Unregistered Explicit same = new_takes_it
+held_ruling Explicit Lost Explicit same = nobody_has_it warning
+held_ruling Explicit (Element n) Explicit same = if same then old_keeps_it Explicit else both_lose_it warning
+held_ruling Explicit Unregistered Explicit same = if same then old_keeps_it Explicit else both_lose_it warning
+held_ruling Implicit Lost Implicit same = nobody_has_it (info Implicit)
+held_ruling Implicit (Element n) Implicit same = both_lose_it (info Implicit)
+held_ruling Implicit Unregistered Implicit same = both_lose_it (info Implicit)
+held_ruling Explicit Lost Implicit same = nobody_has_it (info Implicit)
+held_ruling Explicit (Element n) Implicit same = old_keeps_it Implicit
+held_ruling Explicit Unregistered Implicit same = old_keeps_it Implicit
+
+abbrev pub ruling_for : Option (Strength × Holder) → Strength → Bool → Ruling
+ruling_for None new same = new_has_it
+ruling_for (Some (old, holder)) new same = held_ruling old holder new same

@@ -1,0 +1,216 @@
+//! Ids.
+ghost use Rattle.std.specs.Prelude.{◌≡◌, ◌++◌, ◌<◌, ◌^◌, Bool, List, ℕ, false, MatchOption, None, Some, decimal, string_bytes, nat_le, slice_index, ◌&&◌};
+ghost use Rattle.rst_tree.specs.Faults.{Gives};
+ghost use Rattle.rst_tree.specs.TagNames.{hyphenated, tag_name};
+ghost use Rattle.std.specs.BTreeSet.{contains_text};
+ghost use Rattle.rst_transform_names.specs.Ids.{is_taken, last_of, wanted_id, GivesId, GivesNumber, GivesNumbered, IsLeastFree, Tries, UsesUpOrFails};
+ghost use Rattle.rst_transform_names.specs.Ids as spec;
+ghost use Rattle.rst_transform_names.specs.Written as written;
+
+use rst_text::id_of;
+use rst_tree::{Tag, Text, TreeFault};
+use std::alloc::Global;
+use std::collections::{BTreeMap, BTreeSet};
+
+/// The ids that are taken (Document Tree, 'ids').
+#[derive(Drop)]
+pub struct Ids {
+    /// Those that names gave and that have no number behind a hyphen.
+    named: BTreeSet<String>,
+    /// Those that names gave and that have one, which alone can hinder ids with a number.
+    hindering: BTreeSet<String>,
+    /// For each text that ids with a number were made of the last number. With each from 1 to it the id is taken.
+    last: BTreeMap<String, u64>,
+}
+
+impl Ids {
+    /// No id is taken.
+    pub fn new(alloc: Global) -> Ids
+        ensures { (id : List ℕ) → is_taken result id ≡ false }
+    {
+        Ids {
+            named: BTreeSet::new(alloc),
+            hindering: BTreeSet::new(alloc),
+            last: BTreeMap::new(alloc),
+        }
+    }
+
+    /// A free id for an element of a kind and a name, the empty name where it has none; it is taken from now on.
+    ///
+    /// It is the id that the name gives. If that is taken: it, a hyphen and the least number from 1 that makes it free. If
+    /// there is none: the kind's name with hyphens, a hyphen and the least such number.
+    ///
+    /// The only refusal is want of memory; then the same ids are taken as before.
+    pub fn give(&mut self, alloc: Global, tag: Tag, name: &str) -> Result<Text, TreeFault>
+        ensures { GivesId tag name.now self.old self.new result }
+    {
+        let wanted = id_text(alloc, name)?;
+        if wanted.is_empty() {
+            return self.give_kind(alloc, tag);
+        }
+        let id = Text::from_str(alloc, wanted.as_str())?;
+        if self.take(wanted)? {
+            return Ok(id);
+        }
+        self.give_numbered(alloc, id.as_str())
+    }
+
+    /// A free id for an element of a kind without a name: the kind's name with hyphens, a hyphen and the least number from 1 that
+    /// makes it free. It is taken from now on.
+    ///
+    /// The only refusal is want of memory; then the same ids are taken as before.
+    pub fn give_kind(&mut self, alloc: Global, tag: Tag) -> Result<Text, TreeFault>
+        ensures { GivesNumbered (hyphenated (tag_name tag)) self.old self.new result }
+    {
+        self.give_numbered(alloc, tag.hyphenated())
+    }
+
+    /// Takes the first free id of a kind's name, a hyphen and a number from 1, and gives that number.
+    ///
+    /// The only refusal is want of memory; then the same ids are taken as before.
+    pub fn give_number(&mut self, alloc: Global, tag: Tag) -> Result<u64, TreeFault>
+        ensures { GivesNumber (hyphenated (tag_name tag)) self.old self.new result }
+    {
+        let base = tag.hyphenated();
+        let number = self.free_number(alloc, base)?;
+        self.use_up(alloc, base, number)?;
+        Ok(number)
+    }
+
+    /// Takes an id that a name gave, unless it is taken, and tells whether it was free.
+    fn take(&mut self, id: String) -> Result<bool, TreeFault>
+        ensures { Tries (string_bytes id) self.old self.new result }
+    {
+        match number_of(id.as_str()) {
+            None => Ok(self.named.insert(id)?),
+            Some((base, number)) => {
+                if number <= self.last_of(base) {
+                    return Ok(false);
+                }
+                Ok(self.hindering.insert(id)?)
+            }
+        }
+    }
+
+    /// Takes the first free id of a text, a hyphen and a number from 1.
+    fn give_numbered(&mut self, alloc: Global, base: &str) -> Result<Text, TreeFault>
+        ensures { GivesNumbered base.now self.old self.new result }
+    {
+        let number = self.free_number(alloc, base)?;
+        let id = numbered(alloc, base, number)?;
+        self.use_up(alloc, base, number)?;
+        Ok(id)
+    }
+
+    /// The last number of ids of a text; 0 where there is none.
+    fn last_of(&self, base: &str) -> u64
+        ensures { result ≡ last_of self.now base.now }
+    {
+        match self.last.get(base) {
+            Some(last) => *last,
+            None => 0,
+        }
+    }
+
+    /// The least number from 1 with which the id of a text is free.
+    ///
+    /// Each hindering id hinders one number at most, so no more steps than there are of these come before the last. Ids stay
+    /// taken, so a number that was passed over need never be looked at again.
+    fn free_number(&self, alloc: Global, base: &str) -> Result<u64, TreeFault>
+        ensures { Gives (λ number. IsLeastFree (is_taken self.now) base.now number) result }
+    {
+        for number in self.last_of(base).saturating_add(1)..u64::MAX {
+            if !self.hinders(alloc, base, number)? {
+                return Ok(number);
+            }
+        }
+        Err(TreeFault::NoMemory)
+    }
+
+    /// Whether a name gave the id of a text and a number.
+    fn hinders(&self, alloc: Global, base: &str, number: u64) -> Result<bool, TreeFault>
+        ensures { Gives (λ hinders. hinders ≡ contains_text self.now.hindering (spec.numbered base.now number)) result }
+    {
+        if self.hindering.is_empty() {
+            return Ok(false);
+        }
+        let wanted = numbered(alloc, base, number)?;
+        Ok(self.hindering.contains(wanted.as_str()))
+    }
+
+    /// Takes the ids of a text with all numbers up to one.
+    fn use_up(&mut self, alloc: Global, base: &str, number: u64) -> Result<(), TreeFault>
+        ensures { UsesUpOrFails base.now number self.old self.new result }
+    {
+        if let Some(last) = self.last.get_mut(base) {
+            *last = number;
+            return Ok(());
+        }
+        self.last.insert(String::from_str(alloc, base)?, number)?;
+        Ok(())
+    }
+}
+
+/// What stands before the last hyphen of an id, and the number behind it, if there is one: from 1, without a 0 in front.
+fn number_of(id: &str) -> Option<(&str, u64)>
+    ensures { MatchOption result (spec.number_of id.now ≡ None) (λ parts. spec.number_of id.now ≡ Some (parts.0.now, parts.1)) }
+{
+    let (base, digits) = id.rsplit_once('-')?;
+    Some((base, number_in(digits)?))
+}
+
+/// The number from 1 that decimal digits write without a 0 in front.
+fn number_in(digits: &str) -> Option<u64>
+    ensures { result ≡ spec.number_in digits.now }
+{
+    if !begins_from_one(digits) {
+        return None;
+    }
+    match digits.parse::<u64>() {
+        Ok(number) => Some(number),
+        Err(_) => None,
+    }
+}
+
+/// Whether a text begins with a digit from 1 to 9.
+fn begins_from_one(digits: &str) -> bool
+    ensures { result ≡ nat_le 49 (slice_index digits.now 0) && nat_le (slice_index digits.now 0) 57 }
+{
+    matches!(digits.as_bytes(), [b'1'..=b'9', ..])
+}
+
+/// The id that a name gives; it may be empty, as that of the empty name is.
+fn id_text(alloc: Global, name: &str) -> Result<String, TreeFault>
+    ensures { Gives (λ id. string_bytes id ≡ wanted_id name.now) result }
+{
+    if name.is_empty() {
+        return Ok(String::new(alloc));
+    }
+    match id_of(alloc, name) {
+        Ok(id) => Ok(id),
+        // The call has no other refusal than want of memory.
+        Err(_) => Err(TreeFault::NoMemory),
+    }
+}
+
+/// The id of a text and a number.
+fn numbered(alloc: Global, base: &str, number: u64) -> Result<Text, TreeFault>
+    ensures { Gives (λ id. id ≡ spec.numbered base.now number) result }
+{
+    let mut buffer = itoa::Buffer::new();
+    Text::of_three(alloc, base, "-", buffer.format(number))
+}
+
+/// The id of a problematic by its number.
+pub fn problematic_id(alloc: Global, number: u64) -> Result<Text, TreeFault>
+    ensures { Gives (λ id. id ≡ written.problematic_id number) result }
+{
+    numbered(alloc, "problematic", number)
+}
+
+/// The id of a message by its number.
+pub fn message_id(alloc: Global, number: u64) -> Result<Text, TreeFault>
+    ensures { Gives (λ id. id ≡ written.message_id number) result }
+{
+    numbered(alloc, "system-message", number)
+}

@@ -1,0 +1,86 @@
+//! Messages and their problematics.
+ghost use Rattle.std.specs.Prelude.{◌≡◌, ◌++◌, [], ◌∷◌, None, replicate, Bool, true, false};
+ghost use Rattle.rst_tree.specs.Faults.{Gives};
+ghost use Rattle.rst_tree.specs.declared.key.Key.TheVariants.{Message};
+ghost use Rattle.rst_tree_index.specs.Registered.{item_of};
+ghost use Rattle.rst_transform_names.specs.Gathered.{number_at};
+ghost use Rattle.rst_transform_names.specs.Registering.{is_linked, linked_by, linking};
+
+use super::ids::problematic_id;
+use rst_tree::{Key, Tag, Texts, TreeFault};
+use rst_tree_index::Element;
+use std::alloc::Global;
+
+/// What is known of a message.
+#[derive(Drop)]
+pub struct Linked {
+    /// The number in its id, if it is in the document.
+    pub id: Option<u64>,
+    /// The ids of its problematics, in document order.
+    pub problematics: Texts,
+}
+
+/// What is known of messages and problematics. They have no names; of their ids the numbers are enough.
+#[derive(Drop)]
+pub struct Links {
+    /// The numbers in their ids, in preorder.
+    pub numbers: Vec<u64>,
+    /// What is known of each message, by the number that it and its problematics carry.
+    pub messages: Vec<Linked>,
+}
+
+impl Links {
+    /// What is known before the first of so many messages and problematics; so many numbers were given to messages.
+    pub fn new(alloc: Global, linked: usize, messages: u64) -> Result<Links, TreeFault>
+        ensures numbers { Gives (λ links. links.numbers.items ≡ []) result }
+        ensures messages { Gives (λ links. links.messages.items ≡ replicate messages (record { id = None; problematics = [] })) result }
+    {
+        let mut links = Links {
+            numbers: Vec::with_capacity(alloc, linked)?,
+            messages: Vec::with_capacity(alloc, messages as usize)?,
+        };
+        for _done in 0..messages {
+            links.messages.push(Linked {
+                id: None,
+                problematics: Texts::new(alloc),
+            })?;
+        }
+        Ok(links)
+    }
+
+    /// Adds one more message or problematic, whose id has a number.
+    pub fn add(&mut self, alloc: Global, new: Element<'_>, number: u64) -> Result<(), TreeFault>
+        ensures numbers { Gives (λ _. self.new.numbers.items ≡ self.old.numbers.items ++ number ∷ []) result }
+        ensures messages { Gives (λ _. self.new.messages.items ≡ linking (number_at Message (item_of new.entry).attrs) (linked_by (item_of new.entry).tag number) self.old.messages.items) result }
+    {
+        self.numbers.push(number)?;
+        let Some(message) = new.attrs.number(Key::Message) else {
+            return Ok(());
+        };
+        let message = message as usize;
+        if message < self.messages.len() {
+            self.messages[message].add(alloc, new.tag, number)?;
+        }
+        Ok(())
+    }
+}
+
+impl Linked {
+    /// Adds a problematic of the message, or the message itself, whose id has a number.
+    fn add(&mut self, alloc: Global, tag: Tag, number: u64) -> Result<(), TreeFault>
+        ensures { Gives (λ _. self.new ≡ linked_by tag number self.old) result }
+    {
+        if matches!(tag, Tag::Problematic) {
+            return self.problematics.push(problematic_id(alloc, number)?);
+        }
+        self.id = Some(number);
+        Ok(())
+    }
+}
+
+/// Whether elements of a kind are messages or problematics.
+pub fn is_linked(tag: Tag) -> bool
+    ensures { result ≡ is_linked tag }
+{
+    matches!(tag, Tag::Problematic | Tag::SystemMessage)
+}

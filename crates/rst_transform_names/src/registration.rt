@@ -1,0 +1,74 @@
+//! The registration of a document's elements.
+ghost use Rattle.rst_tree.specs.Faults.{Gives};
+ghost use Rattle.rst_transform_names.specs.Registering.{IsRegistered};
+
+use super::ids::Ids;
+use super::names::Names;
+use super::placing::place_notices;
+use super::registry::{Registry, registry_of};
+use super::writing::Writing;
+use rst_tree::{Node, TreeFault};
+use rst_tree_index::Marked;
+use std::alloc::Global;
+
+/// A document whose elements have their ids and names.
+#[derive(Drop)]
+pub struct Registered {
+    /// The document.
+    pub root: Node,
+    /// The ids of its elements.
+    pub ids: Ids,
+    /// The names of its elements.
+    pub names: Names,
+    /// How many of the registered elements may have names; their numbers (`Key::Serial`) are those below it.
+    pub serials: u64,
+    /// Whether there are messages on equal names, which stand in the document.
+    pub noticed: bool,
+}
+
+/// Registers a document's elements in preorder: each gets a number, unless it is a message or a problematic, which have no names, those of 'ids'
+/// (Document Tree) their id, those with a name the name, or the duplicate name where another one has it, and equal names
+/// their messages.
+///
+/// Sections give their names implicitly, other elements explicitly; of an element that holds two equal names the rules of
+/// 'Implicit Hyperlink Targets' (reStructuredText Markup Specification) say who keeps it. Of substitution definitions with
+/// equal names the last keeps it.
+///
+/// ```text
+/// <section>               <section dupnames="a" ids="a">
+///     <title>                 <title>
+///         A                       A
+///     <target>                <system_message backrefs="target-1" level="1" ..>
+///                                 <paragraph>
+///                                     Duplicate implicit target name: "a".
+///                             <target ids="target-1" names="a">
+/// ```
+///
+/// `messages` numbers were given to its messages, from 0 on.
+///
+/// The only refusal is want of memory.
+pub fn register(alloc: Global, document: Marked, messages: u64) -> Result<Registered, TreeFault>
+    ensures { Gives (λ done. IsRegistered messages document done) result }
+{
+    let elements = document.elements(alloc)?;
+    let Registry {
+        ids,
+        names,
+        standings,
+        links,
+        notices,
+        ..
+    } = registry_of(alloc, &elements, messages)?;
+    drop(elements);
+    let serials = standings.len() as u64;
+    let noticed = !notices.is_empty();
+    let mut writing = Writing::of(alloc, standings, links);
+    let written = document.visit(&mut writing)?;
+    Ok(Registered {
+        root: place_notices(alloc, written, notices)?,
+        ids,
+        names,
+        serials,
+        noticed,
+    })
+}

@@ -1,0 +1,346 @@
+//! Names and ids, given one element after the other.
+ghost use Rattle.std.specs.Prelude.{◌≡◌, ◌++◌, if◌then◌else◌, map};
+ghost use Rattle.std.specs.VecDeque.{deque_items};
+ghost use Rattle.rst_tree.specs.Faults.{Gives};
+ghost use Rattle.rst_tree.specs.declared.key.Key.TheVariants.{Refuri};
+ghost use Rattle.rst_tree_index.specs.Registered.{item_of};
+ghost use Rattle.rst_transform_names.specs.Gathered.{text_at};
+ghost use Rattle.rst_transform_names.specs.Gathered as spec;
+ghost use Rattle.rst_transform_names.specs.Names.{held_by, Knows, SameUris};
+ghost use Rattle.rst_transform_names.specs.Registering.{with_named, IsAdded, IsLinked, IsRegistry, KnowsNothing, Registers, Stands};
+ghost use Rattle.rst_transform_names.specs.Registry.{strength_of, is_same_text, is_shared, rule_by, known_by, losing, holder_in, held_in, next_number, notices_by, rule_named, definer, definition_notices, IsNamed, IsDefined};
+
+use super::ids::Ids;
+use super::links::{Links, is_linked};
+use super::names::{Held, Holder, Names, Strength};
+use super::notices::{duplicate_definition, duplicate_name};
+use super::placing::Notices;
+use super::registrants::own_name;
+use super::rulings::{Complaint, Now, Ruling, ruling_for};
+use rst_tree::{Key, Tag, Text, TreeFault};
+use rst_tree_index::Element;
+use std::alloc::Global;
+use std::collections::BTreeMap;
+
+/// What registration gave an element that may have a name: any but messages and problematics.
+#[derive(Drop)]
+pub struct Standing {
+    /// Its number: how many of these elements stand before it.
+    pub serial: u64,
+    /// Its id; a substitution definition has none.
+    pub id: Option<Text>,
+    /// Whether its name is a duplicate one.
+    pub lost: bool,
+}
+
+/// What is known after some elements.
+#[derive(Drop)]
+pub struct Registry {
+    pub ids: Ids,
+    pub names: Names,
+    /// The number of the last substitution definition of each name.
+    definitions: BTreeMap<String, u64>,
+    /// What each element got that may have a name, by its number.
+    pub standings: Vec<Standing>,
+    /// What is known of messages and problematics.
+    pub links: Links,
+    /// The messages on the elements' names.
+    pub notices: Notices,
+}
+
+impl Registry {
+    /// What is known before the first element, with room for so many that may have names, and so many messages and
+    /// problematics; so many numbers were given to messages.
+    fn new(alloc: Global, named: usize, linked: usize, messages: u64) -> Result<Registry, TreeFault>
+        ensures { Gives (λ first. KnowsNothing messages first) result }
+    {
+        Ok(Registry {
+            ids: Ids::new(alloc),
+            names: Names::new(alloc),
+            definitions: BTreeMap::new(alloc),
+            standings: Vec::with_capacity(alloc, named)?,
+            links: Links::new(alloc, linked, messages)?,
+            notices: Notices::new(alloc),
+        })
+    }
+
+    /// Registers one more element; `earlier` are those before it that may have names.
+    fn register<'e>(
+        &mut self,
+        alloc: Global,
+        earlier: &mut Vec<Element<'e>>,
+        new: Element<'e>,
+    ) -> Result<(), TreeFault>
+        ensures registry { Gives (λ _. Registers (map item_of earlier.old.items) (item_of new.entry) self.old self.new) result }
+        ensures earlier { Gives (λ _. map item_of earlier.new.items ≡ with_named (map item_of earlier.old.items) (item_of new.entry)) result }
+    {
+        if is_linked(new.tag) {
+            return self.add_linked(alloc, new);
+        }
+        self.add(alloc, earlier, new)?;
+        earlier.push(new)?;
+        Ok(())
+    }
+
+    /// Registers one more message or problematic.
+    fn add_linked(&mut self, alloc: Global, new: Element<'_>) -> Result<(), TreeFault>
+        ensures { Gives (λ _. IsLinked (item_of new.entry) self.old self.new) result }
+    {
+        let number = self.ids.give_number(alloc, new.tag)?;
+        self.links.add(alloc, new, number)
+    }
+
+    /// Registers one more element that may have a name, which follows those that have a standing.
+    fn add(
+        &mut self,
+        alloc: Global,
+        earlier: &[Element<'_>],
+        new: Element<'_>,
+    ) -> Result<(), TreeFault>
+        ensures { Gives (λ _. IsAdded (map item_of earlier.entry.now) (item_of new.entry) self.old self.new) result }
+    {
+        let standing = self.stand(alloc, earlier, new)?;
+        self.standings.push(standing)?;
+        Ok(())
+    }
+
+    /// What a new element gets that may have a name.
+    fn stand(
+        &mut self,
+        alloc: Global,
+        earlier: &[Element<'_>],
+        new: Element<'_>,
+    ) -> Result<Standing, TreeFault>
+        ensures { Gives (λ s. Stands (item_of new.entry).tag (map item_of earlier.entry.now) (item_of new.entry) self.old self.new s) result }
+    {
+        if matches!(new.tag, Tag::SubstitutionDefinition) {
+            return self.define(alloc, new);
+        }
+        self.name(alloc, earlier, new)
+    }
+
+    /// The number of the element that is registered.
+    fn serial(&self) -> u64
+        ensures { result ≡ next_number self.now }
+    {
+        self.standings.len() as u64
+    }
+
+    /// Gives an element its id, and its name if it has one.
+    fn name(
+        &mut self,
+        alloc: Global,
+        earlier: &[Element<'_>],
+        new: Element<'_>,
+    ) -> Result<Standing, TreeFault>
+        ensures { Gives (λ s. IsNamed (rule_named (spec.own_name (item_of new.entry)) (map item_of earlier.entry.now) (held_in self.old (item_of new.entry)) (item_of new.entry)) (item_of new.entry) self.old self.new s) result }
+    {
+        let serial = self.serial();
+        let name = own_name(new);
+        let id = self.ids.give(alloc, new.tag, name)?;
+        if name.is_empty() {
+            return Ok(Standing {
+                serial,
+                id: Some(id),
+                lost: false,
+            });
+        }
+        let ruling = ruling_on(&self.names, earlier, new);
+        complain(alloc, &mut self.notices, ruling.complaint, serial, new, &id)?;
+        let holder = holder_of(&self.names, name);
+        lose_if(&mut self.standings, ruling.old_loses, holder);
+        follow(alloc, &mut self.names, ruling.now, new, serial, &id)?;
+        Ok(Standing {
+            serial,
+            id: Some(id),
+            lost: ruling.new_loses,
+        })
+    }
+
+    /// Registers a substitution definition: of those with equal names the last has it.
+    fn define(&mut self, alloc: Global, new: Element<'_>) -> Result<Standing, TreeFault>
+        ensures { Gives (λ s. IsDefined (item_of new.entry) self.old self.new s) result }
+    {
+        let serial = self.serial();
+        let name = String::from_str(alloc, own_name(new))?;
+        let before = self.definitions.insert(name, serial)?;
+        lose(&mut self.standings, definer(before));
+        complain_of_definition(alloc, &mut self.notices, before, serial, new)?;
+        Ok(Standing {
+            serial,
+            id: None,
+            lost: false,
+        })
+    }
+}
+
+/// The substitution definition that had a name.
+fn definer(before: Option<u64>) -> Holder
+    ensures { result ≡ definer before }
+{
+    match before {
+        Some(serial) => Holder::Element(serial),
+        None => Holder::Nobody,
+    }
+}
+
+/// Keeps the message on a substitution definition, which has a number, if another one had its name.
+fn complain_of_definition(
+    alloc: Global,
+    notices: &mut Notices,
+    before: Option<u64>,
+    serial: u64,
+    new: Element<'_>,
+) -> Result<(), TreeFault>
+    ensures { Gives (λ _. deque_items notices.new.queue ≡ deque_items notices.old.queue ++ definition_notices before serial (item_of new.entry)) result }
+{
+    match before {
+        Some(_) => notices.push(serial, duplicate_definition(alloc, new)?),
+        None => Ok(()),
+    }
+}
+
+/// The rule for the name of a new element, among the elements that were registered.
+fn ruling_on(names: &Names, earlier: &[Element<'_>], new: Element<'_>) -> Ruling
+    ensures { result ≡ rule_by (map item_of earlier.entry.now) (held_by names.now (spec.own_name (item_of new.entry))) (item_of new.entry) }
+{
+    let strength = strength_of(new.tag);
+    match names.get(own_name(new)) {
+        None => ruling_for(None, strength, false),
+        Some(held) => {
+            let same = is_same_refuri(held.holder, earlier, new);
+            ruling_for(Some((held.strength, held.holder)), strength, same)
+        }
+    }
+}
+
+/// Keeps the message on the name of a new element, which has a number and an id, if a rule asks for one.
+fn complain(
+    alloc: Global,
+    notices: &mut Notices,
+    complaint: Option<Complaint>,
+    serial: u64,
+    new: Element<'_>,
+    id: &Text,
+) -> Result<(), TreeFault>
+    ensures { Gives (λ _. deque_items notices.new.queue ≡ deque_items notices.old.queue ++ notices_by complaint serial (item_of new.entry) id.now) result }
+{
+    match complaint {
+        Some(complaint) => notices.push(serial, duplicate_name(alloc, complaint, new, id)?),
+        None => Ok(()),
+    }
+}
+
+/// Lets a name be held as a rule says; the new element has a number and an id.
+fn follow(
+    alloc: Global,
+    names: &mut Names,
+    now: Now,
+    new: Element<'_>,
+    serial: u64,
+    id: &Text,
+) -> Result<(), TreeFault>
+    ensures names { Gives (λ _. Knows (spec.own_name (item_of new.entry)) (known_by now serial (item_of new.entry) id.now (held_by names.old (spec.own_name (item_of new.entry)))) names.old names.new) result }
+    ensures uris { Gives (λ _. SameUris names.old names.new) result }
+{
+    match now {
+        Now::Old => Ok(()),
+        Now::Nobody => {
+            names.move_to(own_name(new), Holder::Nobody);
+            Ok(())
+        }
+        Now::New => {
+            let held = Held {
+                holder: Holder::Element(serial),
+                strength: strength_of(new.tag),
+                id: id.copy()?,
+            };
+            names.hold(alloc, own_name(new), held)
+        }
+    }
+}
+
+/// Who holds a name.
+fn holder_of(names: &Names, name: &str) -> Holder
+    ensures { result ≡ holder_in (held_by names.now name.now) }
+{
+    match names.get(name) {
+        Some(held) => held.holder,
+        None => Holder::Nobody,
+    }
+}
+
+/// Lets the holder of a name have it as a duplicate one only, if it loses it.
+fn lose_if(standings: &mut [Standing], loses: bool, holder: Holder)
+    ensures { standings.new ≡ (if loses then losing holder standings.old else standings.old) }
+{
+    if loses {
+        lose(standings, holder);
+    }
+}
+
+/// Lets an element have its name as a duplicate one only.
+fn lose(standings: &mut [Standing], holder: Holder)
+    ensures { standings.new ≡ losing holder standings.old }
+{
+    if let Holder::Element(serial) = holder {
+        let place = serial as usize;
+        if place < standings.len() {
+            standings[place].lost = true;
+        }
+    }
+}
+
+/// How elements of a kind give their names.
+fn strength_of(tag: Tag) -> Strength
+    ensures { result ≡ strength_of tag }
+{
+    if matches!(tag, Tag::Section) {
+        Strength::Implicit
+    } else {
+        Strength::Explicit
+    }
+}
+
+/// Whether a name's holder is a target with the URI of a new target.
+fn is_same_refuri(holder: Holder, earlier: &[Element<'_>], new: Element<'_>) -> bool
+    ensures { result ≡ is_shared (map item_of earlier.entry.now) holder (item_of new.entry) }
+{
+    let Holder::Element(serial) = holder else {
+        return false;
+    };
+    match earlier.get(serial as usize) {
+        Some(old) => {
+            matches!((old.tag, new.tag), (Tag::Target, Tag::Target)) && is_equal_refuri(*old, new)
+        }
+        None => false,
+    }
+}
+
+/// Whether both elements refer to one URI.
+fn is_equal_refuri(old: Element<'_>, new: Element<'_>) -> bool
+    ensures { result ≡ is_same_text (text_at Refuri (item_of old.entry).attrs) (text_at Refuri (item_of new.entry).attrs) }
+{
+    match (old.attrs.text(Key::Refuri), new.attrs.text(Key::Refuri)) {
+        (Some(old), Some(new)) => old.as_str() == new.as_str(),
+        _ => false,
+    }
+}
+
+/// Registers elements, in preorder, among which `messages` numbers were given to messages.
+pub fn registry_of(
+    alloc: Global,
+    elements: &[Element<'_>],
+    messages: u64,
+) -> Result<Registry, TreeFault>
+    ensures { Gives (λ registry. IsRegistry messages (map item_of elements.entry.now) registry) result }
+{
+    let linked = elements.iter().filter(|new| is_linked(new.tag)).count();
+    let named = elements.len().saturating_sub(linked);
+    let mut registry = Registry::new(alloc, named, linked, messages)?;
+    let mut earlier = Vec::with_capacity(alloc, named)?;
+    for new in elements {
+        registry.register(alloc, &mut earlier, *new)?;
+    }
+    Ok(registry)
+}

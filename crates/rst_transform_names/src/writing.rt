@@ -1,0 +1,195 @@
+//! The attributes that registration gives, written at the elements.
+ghost use Rattle.std.specs.Prelude.{◌≡◌, MatchOption, None, Some};
+ghost use Rattle.rst_tree.specs.Faults.{Gives};
+ghost use Rattle.rst_tree.specs.declared.key.Key.TheVariants.{OwnName};
+ghost use Rattle.rst_transform_names.specs.Gathered.{text_at};
+ghost use Rattle.rst_transform_names.specs.Written.{given, with_id, with_name, with_standing, linked_of, with_problematic, with_refid, with_message, with_backrefs, left_behind, with_given};
+
+use super::ids::{message_id, problematic_id};
+use super::links::{Linked, Links};
+use super::registry::Standing;
+use rst_tree::{Attrs, Key, Tag, Text, Texts, TreeFault, Value, Visitor};
+use std::alloc::Global;
+use std::collections::VecDeque;
+use std::marker::Model;
+
+/// Lets attributes tell an element's id, if it has one.
+fn write_id(alloc: Global, attrs: &mut Attrs, id: Option<Text>) -> Result<(), TreeFault>
+    ensures { Gives (λ _. attrs.new ≡ with_id id attrs.old) result }
+{
+    match id {
+        Some(id) => attrs.set(Key::Ids, Value::List(Texts::lone(alloc, id))),
+        None => Ok(()),
+    }
+}
+
+/// Lets attributes tell an element's name, if it has one, as a duplicate one where it lost it.
+fn write_name(
+    alloc: Global,
+    attrs: &mut Attrs,
+    lost: bool,
+    name: Option<Text>,
+) -> Result<(), TreeFault>
+    ensures { Gives (λ _. attrs.new ≡ with_name lost name attrs.old) result }
+{
+    match name {
+        Some(name) if !name.as_bytes().is_empty() => {
+            let key = if lost { Key::Dupnames } else { Key::Names };
+            attrs.set(key, Value::List(Texts::lone(alloc, name)))
+        }
+        _ => Ok(()),
+    }
+}
+
+/// A copy of the name that an element was written with, if it was with one.
+fn copied_name(attrs: &Attrs) -> Result<Option<Text>, TreeFault>
+    ensures { Gives (λ name. name ≡ text_at OwnName attrs.now) result }
+{
+    match attrs.text(Key::OwnName) {
+        Some(name) => Ok(Some(name.copy()?)),
+        None => Ok(None),
+    }
+}
+
+/// How many attributes tell what an element got that has a name or none.
+fn count_of(standing: &Standing, name: &Option<Text>) -> usize {
+    let parts = [true, standing.id.is_some(), name.is_some()];
+    parts.iter().filter(|part| **part).count()
+}
+
+/// Lets the attributes of an element tell what registration gave it.
+fn write(alloc: Global, attrs: &mut Attrs, standing: Standing) -> Result<(), TreeFault>
+    ensures { Gives (λ _. attrs.new ≡ with_standing standing attrs.old) result }
+{
+    let name = copied_name(attrs)?;
+    attrs.reserve(count_of(&standing, &name))?;
+    let Standing { serial, id, lost } = standing;
+    attrs.set(Key::Serial, Value::Number(serial))?;
+    write_name(alloc, attrs, lost, name)?;
+    write_id(alloc, attrs, id)
+}
+
+/// What is known of the message whose number an element's attributes say, if they say one.
+fn linked_of<'a>(messages: &'a [Linked], attrs: &Attrs) -> Option<&'a Linked>
+    ensures { MatchOption result (linked_of messages.now attrs.now ≡ None) (λ l. linked_of messages.now attrs.now ≡ Some l.now) }
+{
+    match attrs.number(Key::Message) {
+        Some(number) => messages.get(number as usize),
+        None => None,
+    }
+}
+
+/// Lets the attributes of a problematic tell its id, which has a number, and its message.
+fn write_problematic(
+    alloc: Global,
+    attrs: &mut Attrs,
+    number: u64,
+    messages: &[Linked],
+) -> Result<(), TreeFault>
+    ensures { Gives (λ _. attrs.new ≡ with_problematic messages.now number attrs.old) result }
+{
+    attrs.reserve(2)?;
+    if let Some(linked) = linked_of(messages, attrs) {
+        write_refid(alloc, attrs, linked.id)?;
+    }
+    write_id(alloc, attrs, Some(problematic_id(alloc, number)?))
+}
+
+/// Lets the attributes of a problematic tell the id of its message, which has a number, if there is that.
+fn write_refid(alloc: Global, attrs: &mut Attrs, message: Option<u64>) -> Result<(), TreeFault>
+    ensures { Gives (λ _. attrs.new ≡ with_refid message attrs.old) result }
+{
+    match message {
+        Some(number) => attrs.set(Key::Refid, Value::Text(message_id(alloc, number)?)),
+        None => Ok(()),
+    }
+}
+
+/// Lets the attributes of a message tell its id, which has a number, and its problematics.
+fn write_message(
+    alloc: Global,
+    attrs: &mut Attrs,
+    number: u64,
+    messages: &[Linked],
+) -> Result<(), TreeFault>
+    ensures { Gives (λ _. attrs.new ≡ with_message messages.now number attrs.old) result }
+{
+    attrs.reserve(2)?;
+    if let Some(linked) = linked_of(messages, attrs) {
+        write_backrefs(alloc, attrs, &linked.problematics)?;
+    }
+    write_id(alloc, attrs, Some(message_id(alloc, number)?))
+}
+
+/// Lets the attributes of a message tell the ids of its problematics, if it has some.
+fn write_backrefs(alloc: Global, attrs: &mut Attrs, ids: &Texts) -> Result<(), TreeFault>
+    ensures { Gives (λ _. attrs.new ≡ with_backrefs ids.now attrs.old) result }
+{
+    if ids.as_slice().is_empty() {
+        return Ok(());
+    }
+    attrs.set(Key::Backrefs, Value::List(ids.copy(alloc)?))
+}
+
+/// Writes at each element what it got.
+#[derive(Drop)]
+pub struct Writing {
+    alloc: Global,
+    /// What the elements got that are still to come and may have names, in preorder.
+    standings: VecDeque<Standing>,
+    /// The numbers in the ids of the messages and problematics that are still to come, in preorder.
+    numbers: VecDeque<u64>,
+    /// What is known of each message, by the number that it and its problematics carry.
+    messages: Vec<Linked>,
+}
+
+impl Model for Writing {
+    ghost use Rattle.rst_transform_names.specs.Written.{Given, given};
+
+    ghost Value = { Given };
+
+    ghost view = { λ w. given w.standings.items w.numbers.items w.messages.items };
+}
+
+impl Writing {
+    /// Before the first element.
+    pub fn of(alloc: Global, standings: Vec<Standing>, links: Links) -> Writing
+        ensures { result ≡ given standings.items links.numbers.items links.messages.items }
+    {
+        let Links { numbers, messages } = links;
+        Writing {
+            alloc,
+            standings: VecDeque::from_vec(standings),
+            numbers: VecDeque::from_vec(numbers),
+            messages,
+        }
+    }
+}
+
+impl Visitor for Writing {
+    ghost next = { left_behind };
+
+    ghost out = { with_given };
+
+    fn visit(
+        &mut self,
+        tag: &mut Tag,
+        attrs: &mut Attrs,
+        _line: &mut usize,
+    ) -> Result<(), TreeFault> {
+        match *tag {
+            Tag::Problematic => match self.numbers.pop_front() {
+                Some(number) => write_problematic(self.alloc, attrs, number, &self.messages),
+                None => Ok(()),
+            },
+            Tag::SystemMessage => match self.numbers.pop_front() {
+                Some(number) => write_message(self.alloc, attrs, number, &self.messages),
+                None => Ok(()),
+            },
+            _ => match self.standings.pop_front() {
+                Some(standing) => write(self.alloc, attrs, standing),
+                None => Ok(()),
+            },
+        }
+    }
+}

@@ -1,0 +1,86 @@
+-- What names mean to the references by name (Markup Specification, 'Hyperlink References', 'Footnotes', 'Citations').
+use Rattle.std.specs.Prelude.{ℕ, ◌&&◌, Bool, true, false, not, List, if◌then◌else◌, is_some, slice_get, Option, Some, None}
+use Rattle.std.specs.Option.{option_map}
+use Rattle.rst_transform_names.specs.declared.names.Held.{Held as NameHeld}
+use Rattle.rst_transform_names.specs.declared.names.Holder.{Holder}
+use Rattle.rst_transform_names.specs.declared.names.Holder.TheVariants.{Nobody}
+use Rattle.rst_transform_names.specs.declared.names.Names.{Names}
+use Rattle.rst_transform_names.specs.Names.{held_by, kept_for}
+use Rattle.rst_tree.specs.declared.key.Key.TheVariants.{Refname}
+use Rattle.rst_tree.specs.declared.node.Node.{Node}
+use Rattle.rst_tree.specs.declared.node.Node.TheVariants.{Element, Text}
+use Rattle.rst_tree.specs.declared.tag.Tag.{Tag}
+use Rattle.rst_tree.specs.declared.tag.Tag.TheVariants.{Citation, CitationReference, Footnote, FootnoteReference, Reference}
+use Rattle.rst_tree.specs.Attributes.{said_text, value_of}
+use Rattle.rst_transform_references.specs.declared.meanings.Meaning.{Meaning}
+use Rattle.rst_transform_references.specs.declared.meanings.Meaning.TheVariants.{Leads, Unknown, Duplicate}
+use Rattle.rst_transform_links.specs.Holders.{name_lead}
+use Rattle.rst_transform_links.specs.Linkings.{Held}
+
+-- a footnote or a citation
+abbrev pub is_note : Tag → Bool
+is_note Footnote = true
+is_note Citation = true
+is_note _ = false
+
+-- a reference to a footnote or a citation
+abbrev pub refers_to_note : Tag → Bool
+refers_to_note FootnoteReference = true
+refers_to_note CitationReference = true
+refers_to_note _ = false
+
+-- a reference that may have a name
+abbrev pub refers_by_name : Tag → Bool
+refers_by_name Reference = true
+refers_by_name tag = refers_to_note tag
+
+abbrev pub is_note_node : Node → Bool
+is_note_node (Element t a c l) = is_note t
+is_note_node (Text t) = false
+
+abbrev pub is_note_reference : Node → Bool
+is_note_reference (Element t a c l) = refers_to_note t
+is_note_reference (Text t) = false
+
+-- the name of a reference by name
+abbrev pub reference_name : Node → Option (List ℕ)
+reference_name (Element t a c l) = if refers_by_name t then said_text (value_of Refname a) else None
+reference_name (Text t) = None
+
+abbrev pub is_nobody : Holder → Bool
+is_nobody Nobody = true
+is_nobody _ = false
+
+-- the place of a note, if there is an element and it is one
+abbrev pub note_place : Option Node → Option ℕ → Option ℕ
+note_place (Some node) place = if is_note_node node then place else None
+note_place None place = None
+
+-- the linked element at a place, if there is one
+abbrev pub element_at : List Held → Option ℕ → Option Node
+element_at linked None = None
+element_at linked (Some place) = option_map (λ one. one.0) (slice_get linked place)
+
+-- the places of holders among the linked elements of a document, these, and its names
+module _ (places : Holder → Option ℕ) (linked : List Held) (names : Names) where
+  -- What a name means that some element was written with. A reference to footnotes and citations means nothing else.
+  abbrev pub held_meaning : List ℕ → Bool → NameHeld → Meaning
+  held_meaning name to_note held =
+      let place : Option ℕ = places held.holder in
+      let element : Option Node = element_at linked place in
+      let note : Option ℕ = note_place element place in
+      if is_nobody held.holder then Duplicate
+      else if to_note && not (is_some note) then Unknown
+      else Leads (name_lead element (kept_for names name) held.id) note
+
+  abbrev pub known_meaning : List ℕ → Bool → Option NameHeld → Meaning
+  known_meaning name to_note None = Unknown
+  known_meaning name to_note (Some held) = held_meaning name to_note held
+
+  abbrev pub meaning_of : Node → Option (List ℕ) → Option Meaning
+  meaning_of node None = None
+  meaning_of node (Some name) = Some (known_meaning name (is_note_reference node) (held_by names name))
+
+  -- what its name means to a reference by name
+  abbrev pub meaning_to : Node → Option Meaning
+  meaning_to node = meaning_of node (reference_name node)

@@ -1,0 +1,178 @@
+//! What footnotes and citations tell of the references to them.
+ghost use Rattle.std.specs.Prelude.{◌≡◌, [], map, replicate, slice_get};
+ghost use Rattle.std.specs.List.{list_any};
+ghost use Rattle.rst_tree.specs.Faults.{Gives};
+ghost use Rattle.rst_tree.specs.declared.key.Key.TheVariants.{Ids};
+ghost use Rattle.rst_transform_references.specs.Backrefs.{first_found, gathered, note_meant, note_of, notes_of, referred_by, told_back, with_backrefs, with_reference};
+ghost use Rattle.rst_transform_links.specs.Holders.{place_at};
+ghost use Rattle.rst_transform_links.specs.Linkings.{held};
+ghost use Rattle.rst_transform_references.specs.Meanings.{is_note_reference};
+ghost use Rattle.rst_transform_work.specs.Reading.{list_said};
+
+use crate::meanings::{Lookup, Meaning, is_note_reference};
+use rst_transform_links::links::{Linked, Outcome};
+use rst_transform_links::note_order::found_by_order;
+use rst_transform_work::reading::first_said;
+use rst_tree::{Entry, Key, Node, Text, Texts, TreeFault, Value};
+use std::alloc::Global;
+use std::collections::VecDeque;
+
+/// The footnote or citation that a name means, or else that which is found by the order.
+fn note_meant(meaning: Option<Meaning>, found: Option<usize>) -> Option<usize>
+    ensures { result ≡ note_meant meaning found }
+{
+    match meaning {
+        Some(Meaning::Leads { note, .. }) => note,
+        Some(Meaning::Unknown | Meaning::Duplicate) | None => found,
+    }
+}
+
+/// The first of some places, if there is one.
+fn first_found(found: &[Option<usize>]) -> Option<usize>
+    ensures { result ≡ first_found found.now }
+{
+    *found.first()?
+}
+
+/// The place of the footnote or citation that an element refers to, by its name or by the order.
+fn note_of(
+    alloc: Global,
+    lookup: &Lookup<'_>,
+    element: &Node,
+    found: Option<usize>,
+) -> Result<Option<usize>, TreeFault>
+    ensures { Gives (λ note. note ≡ note_of (place_at lookup.now.holders.places.items) (map held lookup.now.linked.now) lookup.now.names.now element.now found) result }
+{
+    if !is_note_reference(element) {
+        return Ok(None);
+    }
+    let meaning = lookup.meaning_to(alloc, element)?;
+    Ok(note_meant(meaning, found))
+}
+
+/// For each linked element the place of the footnote or citation that it refers to.
+fn notes_of(alloc: Global, lookup: &Lookup<'_>) -> Result<Vec<Option<usize>>, TreeFault>
+    ensures { Gives (λ notes. notes.items ≡ notes_of (place_at lookup.now.holders.places.items) (map held lookup.now.linked.now) lookup.now.names.now) result }
+{
+    let linked = lookup.linked;
+    let by_order = found_by_order(alloc, linked)?;
+    let mut found = by_order.as_slice();
+    let mut notes = Vec::with_capacity(alloc, linked.len())?;
+    for one in linked {
+        notes.push(note_of(alloc, lookup, one.element, first_found(found))?)?;
+        found = &found[found.len().min(1)..];
+    }
+    Ok(notes)
+}
+
+/// No id for each of so many elements.
+fn no_ids(alloc: Global, count: usize) -> Result<Vec<Texts>, TreeFault>
+    ensures { Gives (λ lists. lists.items ≡ replicate count []) result }
+{
+    let mut lists = Vec::with_capacity(alloc, count)?;
+    for _ in 0..count {
+        lists.push(Texts::new(alloc))?;
+    }
+    Ok(lists)
+}
+
+/// Puts the id of a reference behind those of the note that it refers to, if there is one.
+#[tactic(auto, using(crate::proofs::Referring::put_past, crate::proofs::Referring::put_within))]
+fn add_reference(
+    alloc: Global,
+    lists: &mut Vec<Texts>,
+    note: Option<usize>,
+    reference: &Node,
+) -> Result<(), TreeFault>
+    ensures { Gives (λ _. lists.new.items ≡ with_reference note (slice_get (list_said Ids reference.now) 0) lists.old.items) result }
+{
+    let Some(note) = note else {
+        return Ok(());
+    };
+    let Some(id) = first_said(reference, Key::Ids) else {
+        return Ok(());
+    };
+    if note >= lists.len() {
+        return Ok(());
+    }
+    let id = Text::from_str(alloc, id)?;
+    lists[note].push(id)?;
+    Ok(())
+}
+
+/// For each of so many elements the ids of the references to it, in order.
+fn gathered(
+    alloc: Global,
+    linked: &[Linked<'_>],
+    notes: &[Option<usize>],
+    count: usize,
+) -> Result<Vec<Texts>, TreeFault>
+    ensures { Gives (λ lists. lists.items ≡ gathered notes.now (map held linked.now) (replicate count [])) result }
+{
+    let mut lists = no_ids(alloc, count)?;
+    for (place, note) in notes.iter().enumerate() {
+        let Some(one) = linked.get(place) else {
+            return Ok(lists);
+        };
+        add_reference(alloc, &mut lists, *note, one.element)?;
+    }
+    Ok(lists)
+}
+
+/// What becomes of an element that the references with these ids refer to.
+fn referred_by(ids: Option<Texts>, outcome: Outcome) -> Outcome
+    ensures { result ≡ referred_by ids outcome }
+{
+    let Some(ids) = ids else {
+        return outcome;
+    };
+    if ids.as_slice().is_empty() {
+        return outcome;
+    }
+    Outcome::says(Entry::new(Key::Backrefs, Value::List(ids)))
+}
+
+/// What becomes of elements, each with the ids of the references to it.
+fn told_back(
+    alloc: Global,
+    lists: Vec<Texts>,
+    outcomes: Vec<Outcome>,
+) -> Result<Vec<Outcome>, TreeFault>
+    ensures { Gives (λ told. told.items ≡ told_back lists.items outcomes.items) result }
+{
+    let mut lists = VecDeque::from_vec(lists);
+    let mut told = Vec::with_capacity(alloc, outcomes.len())?;
+    for outcome in outcomes {
+        told.push(referred_by(lists.pop_front(), outcome))?;
+    }
+    Ok(told)
+}
+
+/// Whether an element refers to a footnote or a citation.
+fn refers_to_note(linked: &[Linked<'_>]) -> bool
+    ensures { result ≡ list_any (λ one. is_note_reference one.0) (map held linked.now) }
+{
+    for one in linked {
+        if is_note_reference(one.element) {
+            return true;
+        }
+    }
+    false
+}
+
+/// What becomes of the linked elements, where each footnote and citation tells the ids of the references to it, in order.
+pub fn with_backrefs(
+    alloc: Global,
+    lookup: &Lookup<'_>,
+    outcomes: Vec<Outcome>,
+) -> Result<Vec<Outcome>, TreeFault>
+    ensures { let notes = notes_of (place_at lookup.now.holders.places.items) (map held lookup.now.linked.now) lookup.now.names.now in Gives (λ told. told.items ≡ with_backrefs notes (map held lookup.now.linked.now) outcomes.items) result }
+{
+    if !refers_to_note(lookup.linked) {
+        return Ok(outcomes);
+    }
+    let notes = notes_of(alloc, lookup)?;
+    let lists = gathered(alloc, lookup.linked, notes.as_slice(), outcomes.len())?;
+    let told = told_back(alloc, lists, outcomes)?;
+    Ok(told)
+}

@@ -1,0 +1,137 @@
+//! What names mean to the references by name.
+ghost use Rattle.std.specs.Prelude.{◌≡◌, map, slice_get, MatchOption, None, Some};
+ghost use Rattle.rst_tree.specs.Faults.{Gives};
+ghost use Rattle.rst_transform_names.specs.declared.names.Holder.{Holder};
+ghost use Rattle.rst_transform_links.specs.Holders.{holding, holder_place, place_at};
+ghost use Rattle.rst_transform_links.specs.Linkings.{held};
+ghost use Rattle.rst_transform_references.specs.Meanings.{element_at, held_meaning, is_nobody, is_note_node, is_note_reference, meaning_to, note_place, reference_name};
+
+use rst_transform_links::holders::{Holders, lead_by_name};
+use rst_transform_links::links::Linked;
+use rst_transform_names::{Held, Holder, Names};
+use rst_tree::{Entry, Key, Node, Tag, TreeFault};
+use std::alloc::Global;
+
+/// What a name means to a reference (Markup Specification, 'Hyperlink References').
+#[derive(Drop)]
+pub enum Meaning {
+    /// It leads where the attribute says: to the footnote or citation at this place, if it is one.
+    Leads { attr: Entry, note: Option<usize> },
+    /// No element of the kind that is looked for has it.
+    Unknown,
+    /// Elements with equal names lost it.
+    Duplicate,
+}
+
+/// What the names of a document are looked up in.
+#[derive(Drop)]
+pub struct Lookup<'a> {
+    pub linked: &'a [Linked<'a>],
+    pub names: &'a Names,
+    pub holders: Holders,
+}
+
+/// Whether a node is a footnote or a citation.
+fn is_note(node: &Node) -> bool
+    ensures { result ≡ is_note_node node.now }
+{
+    match node {
+        Node::Element { tag, .. } => matches!(tag, Tag::Footnote | Tag::Citation),
+        Node::Text(_) => false,
+    }
+}
+
+/// Whether a node is a reference to a footnote or a citation.
+pub fn is_note_reference(node: &Node) -> bool
+    ensures { result ≡ is_note_reference node.now }
+{
+    match node {
+        Node::Element { tag, .. } => {
+            matches!(tag, Tag::FootnoteReference | Tag::CitationReference)
+        }
+        Node::Text(_) => false,
+    }
+}
+
+/// The name of a reference by name.
+pub fn reference_name<'n>(node: &'n Node) -> Option<&'n str>
+    ensures { MatchOption result (reference_name node.now ≡ None) (λ name. reference_name node.now ≡ Some name.now) }
+{
+    match node {
+        Node::Element { tag, attrs, .. }
+            if matches!(
+                tag,
+                Tag::Reference | Tag::FootnoteReference | Tag::CitationReference
+            ) => {
+            match attrs.text(Key::Refname) {
+                Some(name) => Some(name.as_str()),
+                None => None,
+            }
+        }
+        _ => None,
+    }
+}
+
+/// Whether no element holds a name.
+fn is_nobody(holder: Holder) -> bool
+    ensures { result ≡ is_nobody holder }
+{
+    matches!(holder, Holder::Nobody)
+}
+
+/// The place of a footnote or a citation, if the element there is one.
+fn note_place(element: Option<&Node>, place: Option<usize>) -> Option<usize>
+    ensures { result ≡ note_place (holding element.entry) place }
+{
+    match element {
+        Some(node) if is_note(node) => place,
+        _ => None,
+    }
+}
+
+/// The linked element at a place, if there is one.
+pub fn element_at<'a>(linked: &[Linked<'a>], place: Option<usize>) -> Option<&'a Node>
+    ensures { holding result ≡ element_at (map held linked.now) place }
+{
+    let one = linked.get(place?)?;
+    Some(one.element)
+}
+
+impl<'a> Lookup<'a> {
+    /// What its name means to a reference by name; there is nothing for another element.
+    pub fn meaning_to(&self, alloc: Global, element: &Node) -> Result<Option<Meaning>, TreeFault>
+        ensures { Gives (λ meaning. meaning ≡ meaning_to (place_at self.now.holders.places.items) (map held self.now.linked.now) self.now.names.now element.now) result }
+    {
+        let Some(name) = reference_name(element) else {
+            return Ok(None);
+        };
+        let Some(known) = self.names.get(name) else {
+            return Ok(Some(Meaning::Unknown));
+        };
+        let meaning = self.held_meaning(alloc, name, is_note_reference(element), known)?;
+        Ok(Some(meaning))
+    }
+
+    /// What a name means that some element was written with, to a reference which may be one to footnotes and citations alone.
+    fn held_meaning(
+        &self,
+        alloc: Global,
+        name: &str,
+        to_note: bool,
+        known: &Held,
+    ) -> Result<Meaning, TreeFault>
+        ensures { Gives (λ meaning. meaning ≡ held_meaning (place_at self.now.holders.places.items) (map held self.now.linked.now) self.now.names.now name.now to_note known.now) result }
+    {
+        if is_nobody(known.holder) {
+            return Ok(Meaning::Duplicate);
+        }
+        let place = self.holders.place(known.holder);
+        let holder = element_at(self.linked, place);
+        let note = note_place(holder, place);
+        if to_note && note.is_none() {
+            return Ok(Meaning::Unknown);
+        }
+        let attr = lead_by_name(alloc, self.names, name, known, holder)?;
+        Ok(Meaning::Leads { attr, note })
+    }
+}

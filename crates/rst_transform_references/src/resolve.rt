@@ -1,0 +1,279 @@
+//! References by name.
+ghost use Rattle.std.specs.Prelude.{◌≡◌, ◌||◌, length, map};
+ghost use Rattle.rst_tree.specs.Faults.{Gives};
+ghost use Rattle.rst_transform_links.specs.declared.links.Outcome.TheVariants.{Fails};
+ghost use Rattle.rst_transform_links.specs.Holders.{place_at};
+ghost use Rattle.rst_transform_links.specs.Linkings.{held};
+ghost use Rattle.rst_transform_references.specs.Meanings.{meaning_to};
+ghost use Rattle.rst_transform_links.specs.Outcomes.{fails};
+ghost use Rattle.rst_transform_work.specs.Reports.{KeepsRest};
+ghost use Rattle.rst_transform_references.specs.Resolved.{outcomes_among, resolved_among, ChangesReferences, IsResolved};
+ghost use Rattle.rst_transform_references.specs.Resolving.{duplicate, is_gone, label_of, name_of, outcome_of, reports_behind, reports_with, resolved, shown_for, shows_label, unknown, what_becomes, with_error};
+
+use crate::backrefs::with_backrefs;
+use crate::meanings::{Lookup, Meaning, element_at, is_note_reference};
+use rst_transform_links::holders::Holders;
+use rst_transform_links::links::{Addition, Changes, Linked, Outcome, linked_in, put_back};
+use rst_transform_links::settling::settled;
+use rst_transform_names::Names;
+use rst_transform_work::reading::{has, line_of, text_said};
+use rst_transform_work::work::{Work, take_root};
+use rst_tree::{Key, Level, Node, Text, TreeFault};
+use std::alloc::Global;
+use std::mem;
+
+/// Lets each reference by name refer to what the name means, and each footnote and citation tell its references (Markup
+/// Specification, 'Hyperlink References').
+///
+/// Before:
+///
+/// ```text
+/// <paragraph>
+///     <reference name="here">                       refers to `here`
+///         here
+///     <footnote_reference ids="footnote-reference-1">   refers to `1`
+///         1
+/// <target ids="here" names="here" refuri="https://x.org/">
+/// <footnote ids="footnote-1" names="1">
+///     <label>
+///         1
+/// ```
+///
+/// After:
+///
+/// ```text
+/// <paragraph>
+///     <reference name="here" refuri="https://x.org/">
+///         here
+///     <footnote_reference ids="footnote-reference-1" refid="footnote-1">
+///         1
+/// <target ids="here" names="here" refuri="https://x.org/">
+/// <footnote backrefs="footnote-reference-1" ids="footnote-1" names="1">
+///     <label>
+///         1
+/// ```
+///
+/// A name that means nothing gives an ERROR, and the reference becomes a problematic; the references inside it are gone, and
+/// give no message.
+pub fn resolve(alloc: Global, mut work: Work) -> Result<Work, TreeFault>
+    ensures { Gives (IsResolved work) result }
+{
+    let root = take_root(alloc, &mut work);
+    let changes = changes_of(alloc, &mut work, &root)?;
+    put_back(alloc, &mut work, root, changes)?;
+    Ok(work)
+}
+
+/// The changes of a tree's linked elements.
+fn changes_of(alloc: Global, work: &mut Work, root: &Node) -> Result<Changes, TreeFault>
+    ensures { Gives (ChangesReferences root.now work.old work.new) result }
+{
+    let linked = linked_in(alloc, root)?;
+    let outcomes = outcomes_of(alloc, work, linked.as_slice())?;
+    let changes = settled(alloc, work, linked.as_slice(), outcomes)?;
+    Ok(changes)
+}
+
+/// What becomes of linked elements, where the messages of those that fail are made, and each footnote and citation tells the references
+/// to it.
+fn outcomes_of(
+    alloc: Global,
+    work: &mut Work,
+    linked: &[Linked<'_>],
+) -> Result<Vec<Outcome>, TreeFault>
+    ensures outcomes { Gives (λ outcomes. outcomes.items ≡ outcomes_among (map held linked.now) work.old) result }
+    ensures reports { Gives (λ _. work.new.reports.items ≡ (resolved_among (map held linked.now) work.old).1) result }
+    ensures rest { Gives (λ _. KeepsRest work.old work.new) result }
+{
+    let names = mem::replace(&mut work.names, Names::new(alloc));
+    let outcomes = looked_up(alloc, work, &names, linked)?;
+    work.names = names;
+    Ok(outcomes)
+}
+
+/// The same by names that were taken out of the document.
+fn looked_up<'a>(
+    alloc: Global,
+    work: &mut Work,
+    names: &'a Names,
+    linked: &'a [Linked<'a>],
+) -> Result<Vec<Outcome>, TreeFault>
+    ensures outcomes { Gives (λ outcomes. outcomes.items ≡ outcomes_among (map held linked.now) (record work.old { names = names.now })) result }
+    ensures reports { Gives (λ _. work.new.reports.items ≡ (resolved_among (map held linked.now) (record work.old { names = names.now })).1) result }
+    ensures rest { Gives (λ _. KeepsRest work.old work.new) result }
+{
+    let holders = Holders::of(alloc, linked, work.serials)?;
+    let lookup = Lookup {
+        linked,
+        names,
+        holders,
+    };
+    let outcomes = outcomes(alloc, work, &lookup)?;
+    let outcomes = with_backrefs(alloc, &lookup, outcomes)?;
+    Ok(outcomes)
+}
+
+/// The label that a footnote or a citation shows.
+fn label_of(alloc: Global, note: &Node) -> Result<Option<Text>, TreeFault>
+    ensures { Gives (λ label. label ≡ label_of note.now) result }
+{
+    let Node::Element { children, .. } = note else {
+        return Ok(None);
+    };
+    let Some(label) = children.get(0) else {
+        return Ok(None);
+    };
+    let text = label.text_of(alloc)?;
+    Ok(Some(text))
+}
+
+/// Whether a reference shows the label of the footnote that it refers to.
+fn shows_label(reference: &Node) -> bool
+    ensures { result ≡ shows_label reference.now }
+{
+    is_note_reference(reference) && has(reference, Key::Auto)
+}
+
+/// What a reference shows in place of what it holds, if it shows the label of the footnote or citation at a place.
+fn shown_for(
+    alloc: Global,
+    linked: &[Linked<'_>],
+    reference: &Node,
+    note: Option<usize>,
+) -> Result<Option<Text>, TreeFault>
+    ensures { Gives (λ shown. shown ≡ shown_for (map held linked.now) reference.now note) result }
+{
+    if !shows_label(reference) {
+        return Ok(None);
+    }
+    let Some(note) = element_at(linked, note) else {
+        return Ok(None);
+    };
+    let label = label_of(alloc, note)?;
+    Ok(label)
+}
+
+/// What is told of a name that means nothing.
+fn unknown(alloc: Global, name: &str) -> Result<Text, TreeFault>
+    ensures { Gives (λ text. text ≡ unknown name.now) result }
+{
+    let text = Text::of_three(alloc, "Unknown target name: \"", name, "\".")?;
+    Ok(text)
+}
+
+/// What is told of a name that elements with equal names lost.
+fn duplicate(alloc: Global, name: &str) -> Result<Text, TreeFault>
+    ensures { Gives (λ text. text ≡ duplicate name.now) result }
+{
+    let before = "Duplicate target name, cannot be used as a unique reference: \"";
+    let text = Text::of_three(alloc, before, name, "\".")?;
+    Ok(text)
+}
+
+/// The name of a reference, or the empty name.
+fn name_of(reference: &Node) -> &str
+    ensures { result.now ≡ name_of reference.now }
+{
+    text_said(reference, Key::Refname).unwrap_or("")
+}
+
+/// A reference that fails for an ERROR of its own.
+fn failing(
+    alloc: Global,
+    work: &mut Work,
+    reference: &Node,
+    text: Text,
+) -> Result<Outcome, TreeFault>
+    ensures outcome { Gives (λ outcome. outcome ≡ Fails (length work.old.reports.items)) result }
+    ensures reports { Gives (λ _. work.new.reports.items ≡ with_error work.old.first_number work.old.reports.items reference.now text) result }
+    ensures rest { Gives (λ _. KeepsRest work.old work.new) result }
+{
+    let line = line_of(reference);
+    let report = work.report(alloc, Level::Error, line, text, true)?;
+    Ok(Outcome::Fails(report))
+}
+
+/// What becomes of a reference whose name means this.
+fn outcome_of(
+    alloc: Global,
+    work: &mut Work,
+    linked: &[Linked<'_>],
+    reference: &Node,
+    meaning: Meaning,
+) -> Result<Outcome, TreeFault>
+    ensures outcome { Gives (λ outcome. outcome ≡ outcome_of (map held linked.now) (length work.old.reports.items) reference.now meaning) result }
+    ensures reports { Gives (λ _. work.new.reports.items ≡ reports_with work.old.first_number work.old.reports.items reference.now meaning) result }
+    ensures rest { Gives (λ _. KeepsRest work.old work.new) result }
+{
+    match meaning {
+        Meaning::Leads { attr, note } => {
+            let shown = shown_for(alloc, linked, reference, note)?;
+            let attr = Some(attr);
+            Ok(Outcome::Stays(Addition { attr, shown }))
+        }
+        Meaning::Unknown => {
+            let text = unknown(alloc, name_of(reference))?;
+            failing(alloc, work, reference, text)
+        }
+        Meaning::Duplicate => {
+            let text = duplicate(alloc, name_of(reference))?;
+            failing(alloc, work, reference, text)
+        }
+    }
+}
+
+/// Whether an element is gone: the one that it stands in is gone or fails.
+fn is_gone(ended: &[bool], outer: Option<usize>) -> bool
+    ensures { result ≡ is_gone ended.now outer }
+{
+    match outer {
+        Some(outer) => ended.get(outer).copied().unwrap_or(false),
+        None => false,
+    }
+}
+
+/// What becomes of an element that may be gone.
+fn what_becomes(
+    alloc: Global,
+    work: &mut Work,
+    lookup: &Lookup<'_>,
+    element: &Node,
+    gone: bool,
+) -> Result<Outcome, TreeFault>
+    ensures outcome { let meaning = meaning_to (place_at lookup.now.holders.places.items) (map held lookup.now.linked.now) lookup.now.names.now element.now in Gives (λ outcome. outcome ≡ what_becomes (map held lookup.now.linked.now) gone (length work.old.reports.items) element.now meaning) result }
+    ensures reports { let meaning = meaning_to (place_at lookup.now.holders.places.items) (map held lookup.now.linked.now) lookup.now.names.now element.now in Gives (λ _. work.new.reports.items ≡ reports_behind gone work.old.first_number work.old.reports.items element.now meaning) result }
+    ensures rest { Gives (λ _. KeepsRest work.old work.new) result }
+{
+    if gone {
+        return Ok(Outcome::same());
+    }
+    let Some(meaning) = lookup.meaning_to(alloc, element)? else {
+        return Ok(Outcome::same());
+    };
+    outcome_of(alloc, work, lookup.linked, element, meaning)
+}
+
+/// Whether an element that may be gone, and of which this becomes, is gone or fails.
+fn ends(gone: bool, outcome: &Outcome) -> bool
+    ensures { result ≡ (gone || fails outcome.now) }
+{
+    gone || outcome.fails()
+}
+
+/// What becomes of all linked elements, where the messages of those that fail are made.
+fn outcomes(alloc: Global, work: &mut Work, lookup: &Lookup<'_>) -> Result<Vec<Outcome>, TreeFault>
+    ensures outcomes { let all = resolved (place_at lookup.now.holders.places.items) (map held lookup.now.linked.now) lookup.now.names.now work.old.first_number work.old.reports.items in Gives (λ outcomes. outcomes.items ≡ all.0) result }
+    ensures reports { let all = resolved (place_at lookup.now.holders.places.items) (map held lookup.now.linked.now) lookup.now.names.now work.old.first_number work.old.reports.items in Gives (λ _. work.new.reports.items ≡ all.1) result }
+    ensures rest { Gives (λ _. KeepsRest work.old work.new) result }
+{
+    let linked = lookup.linked;
+    let mut outcomes = Vec::with_capacity(alloc, linked.len())?;
+    let mut ended: Vec<bool> = Vec::with_capacity(alloc, linked.len())?;
+    for one in linked {
+        let gone = is_gone(ended.as_slice(), one.outer);
+        let outcome = what_becomes(alloc, work, lookup, one.element, gone)?;
+        ended.push(ends(gone, &outcome))?;
+        outcomes.push(outcome)?;
+    }
+    Ok(outcomes)
+}

@@ -1,0 +1,167 @@
+-- Transitions that get their places, one node after another.
+use Rattle.std.proofs.Common.{◌≡◌, ℕ, suc, ◌+◌, ◌-◌, ◌<◌, List, [], ◌∷◌, ◌++◌, length, drop, get_or, Bool, true, false, not, nat_eq, nat_lt, refl, ap, sym, subst, ◌∙◌, arith, add-one, drop-cons, length-drop}
+use Rattle.std.specs.Prelude.{◌&&◌, ◌||◌, if◌then◌else◌}
+use Rattle.rst_tree.proofs.Changes.{forest_of-nodes_of}
+use Rattle.rst_tree.specs.declared.attrs.Attr.{Attr}
+use Rattle.rst_tree.specs.declared.node.Node.{Node}
+use Rattle.rst_tree.specs.declared.node.Node.TheVariants.{Element, Text}
+use Rattle.rst_tree.specs.declared.tag.Tag.{Tag}
+use Rattle.rst_tree.specs.Forest.{Forest, bare, element, words}
+use Rattle.rst_tree.specs.Nodes.{forest_of, nodes_of, join_node}
+use Rattle.rst_transform_structure.specs.declared.transitions.Placed.{Placed}
+use Rattle.rst_transform_work.specs.declared.work.Report.{Report}
+use Rattle.rst_transform_work.specs.declared.work.Work.{Work}
+use Rattle.rst_transform_work.specs.Reports.{KeepsRest}
+use Rattle.rst_transform_structure.specs.Transitions.{Siblings, behind, further, holds, is_last, is_section, is_transition, none_yet, place_in, put_element, put_transition, so_far, with_node}
+
+keeps_first : (old new : Work) → KeepsRest old new → new.first_number ≡ old.first_number
+keeps_first old new kept = ap (λ w. w.first_number) kept
+
+pub keeps_more : (old now new : Work) → KeepsRest old now → KeepsRest now new → KeepsRest old new
+keeps_more old now new h k = k ∙ ap (λ (w : Work). record w { reports = new.reports }) h
+
+drops : (ns : List Node) (i : ℕ) (n : Node) → i < length ns → n ≡ get_or ns i n → drop i ns ≡ n ∷ drop (i + 1) ns
+drops ns i n fits at = rw add-one (drop-cons ns i n fits ∙ ap (λ m. m ∷ drop (suc i) ns) (sym at))
+
+last_of : (ns : List Node) → is_last (forest_of ns) ≡ nat_eq (length ns) 0
+last_of [] = refl
+last_of (Element t a c l ∷ ns) = grind arith
+last_of (Text t ∷ ns) = grind arith
+
+-- places the nodes of an element: what is left of them gives what all give
+pub record Placing (old : Work) (escape : Bool) (nodes : Forest) (left i : ℕ) (placed : Placed) (work : Work) : Type 0 where
+  pub same : place_in old.first_number escape (so_far placed work) (forest_of (drop i (nodes_of nodes))) ≡ place_in old.first_number escape (none_yet old.reports.items) nodes
+  pub kept : KeepsRest old work
+  pub counted : left + i ≡ length (nodes_of nodes)
+
+abbrev made : List Node → List Node → List Report → Siblings
+made placed moving reports = record { placed = placed; moving = moving; reports = reports }
+
+siblings : (s : Siblings) (u : Siblings) → s.placed ≡ u.placed → s.moving ≡ u.moving → s.reports ≡ u.reports → s ≡ u
+siblings s u p m r = ap (λ x. made x s.moving s.reports) p ∙ ap (λ y. made u.placed y s.reports) m ∙ ap (made u.placed u.moving) r
+
+pub Placing-init : (old : Work) (escape : Bool) (nodes : Forest) (left : ℕ) (placed : Placed) → placed.nodes.items ≡ [] → placed.moving.items ≡ [] → left ≡ length (nodes_of nodes)
+    → Placing old escape nodes left 0 placed old
+Placing-init old escape nodes left placed none still all =
+    record {
+      same = ap (λ s. place_in old.first_number escape s (forest_of (nodes_of nodes))) (siblings (so_far placed old) (none_yet old.reports.items) none still refl)
+          ∙ ap (place_in old.first_number escape (none_yet old.reports.items)) (forest_of-nodes_of nodes);
+      kept = refl;
+      counted = omega (arith, all);
+    }
+
+-- one more node that has its place
+record Met (nodes : Forest) (left less i j : ℕ) (n : Node) (ns : List Node) : Type 0 where
+  pub items : ns ≡ nodes_of nodes
+  pub fits : i < length ns
+  pub at : n ≡ get_or ns i n
+  pub one : less ≡ left - 1
+  pub next : j ≡ i + 1
+
+met_drops : (nodes : Forest) (left less i j : ℕ) (n : Node) (ns : List Node) → Met nodes left less i j n ns → drop i (nodes_of nodes) ≡ n ∷ drop (i + 1) (nodes_of nodes)
+met_drops nodes left less i j n ns m = subst (λ xs. drop i xs ≡ n ∷ drop (i + 1) xs) m.items (drops ns i n m.fits m.at)
+
+met_left : (nodes : Forest) (left less i j : ℕ) (n : Node) (ns : List Node) → Met nodes left less i j n ns → left + i ≡ length (nodes_of nodes) → less + (i + 1) ≡ length (nodes_of nodes)
+met_left nodes left less i j n ns m counted = let e : length ns ≡ length (nodes_of nodes) = ap length m.items in let k = m.fits in let o = m.one in omega (arith, e, k, o)
+
+rest_length : (xs : List Node) (i less : ℕ) → less + i ≡ length xs → length (drop i xs) ≡ less
+rest_length xs i less e = let k = length-drop i xs in omega (arith, k, e)
+
+step_more : (first : ℕ) (escape : Bool) (s s' start : Siblings) (nodes : Forest) (xs : List Node) (i less : ℕ) (n : Node) → place_in first escape s (forest_of (drop i xs)) ≡ place_in first escape start nodes
+    → drop i xs ≡ n ∷ drop (i + 1) xs → less + (i + 1) ≡ length xs
+    → ((r : Forest) → is_last r ≡ nat_eq less 0 → place_in first escape s (join_node n r) ≡ place_in first escape s' r)
+    → place_in first escape s' (forest_of (drop (i + 1) xs)) ≡ place_in first escape start nodes
+step_more first escape s s' start nodes xs i less n same cut counted step =
+    let last : is_last (forest_of (drop (i + 1) xs)) ≡ nat_eq less 0 = last_of (drop (i + 1) xs) ∙ ap (λ k. nat_eq k 0) (rest_length xs (i + 1) less counted) in
+    sym (step (forest_of (drop (i + 1) xs)) last) ∙ ap (λ ys. place_in first escape s (forest_of ys)) (sym cut) ∙ same
+
+Placing-more : (old : Work) (escape : Bool) (nodes : Forest) (left less i j : ℕ) (placed placed' : Placed) (work work' : Work) (n : Node) (ns : List Node) → Placing old escape nodes left i placed work
+    → Met nodes left less i j n ns → KeepsRest work work'
+    → ((r : Forest) → is_last r ≡ nat_eq less 0 → place_in old.first_number escape (so_far placed work) (join_node n r) ≡ place_in old.first_number escape (so_far placed' work') r)
+    → Placing old escape nodes less j placed' work'
+Placing-more old escape nodes left less i j placed placed' work work' n ns p m kept step =
+    subst (λ k. Placing old escape nodes less k placed' work') (sym m.next) (record {
+      same = step_more old.first_number escape (so_far placed work) (so_far placed' work') (none_yet old.reports.items) nodes (nodes_of nodes) i less n p.same (met_drops nodes left less i j n ns m)
+          (met_left nodes left less i j n ns m p.counted) step;
+      kept = keeps_more old work work' p.kept kept;
+      counted = met_left nodes left less i j n ns m p.counted;
+    })
+
+step_text : (first : ℕ) (escape : Bool) (s : Siblings) (t : List ℕ) (r : Forest) → place_in first escape s (words t r) ≡ place_in first escape (with_node (Text t) s) r
+unfolding place_in
+step_text first escape s t r = refl
+
+step_transition : (first : ℕ) (escape : Bool) (s : Siblings) (t : Tag) (a : List Attr) (c : Forest) (l : ℕ) (r : Forest) → is_transition t ≡ true
+    → place_in first escape s (element t a c l r) ≡ place_in first escape (put_transition first (is_last r) escape (Element t a c l) l s) r
+unfolding place_in
+step_transition first escape s t a c l r is =
+    ap (λ (b : Bool). place_in first escape (if b then put_transition first (is_last r) escape (Element t a c l) l s else put_element (holds t r) t a l (place_in first (holds t r || escape) (none_yet s.reports) c) s) r) is
+
+step_element : (first : ℕ) (escape : Bool) (s : Siblings) (t : Tag) (a : List Attr) (c : Forest) (l : ℕ) (r : Forest) → is_transition t ≡ false
+    → place_in first escape s (element t a c l r) ≡ place_in first escape (put_element (holds t r) t a l (place_in first (holds t r || escape) (none_yet s.reports) c) s) r
+unfolding place_in
+step_element first escape s t a c l r is =
+    ap (λ (b : Bool). place_in first escape (if b then put_transition first (is_last r) escape (Element t a c l) l s else put_element (holds t r) t a l (place_in first (holds t r || escape) (none_yet s.reports) c) s) r) is
+
+pub Placing-text : (old : Work) (escape : Bool) (nodes : Forest) (left less i j : ℕ) (placed placed' : Placed) (work : Work) (n : Node) (ns : List Node) (t : List ℕ) → Placing old escape nodes left i placed work
+    → ns ≡ nodes_of nodes → i < length ns → n ≡ get_or ns i n → less ≡ left - 1 → j ≡ i + 1
+    → n ≡ Text t → placed'.nodes.items ≡ placed.nodes.items ++ Text t ∷ [] → placed'.moving.items ≡ placed.moving.items
+    → Placing old escape nodes less j placed' work
+Placing-text old escape nodes left less i j placed placed' work n ns t p items fits at one next is put still =
+    Placing-more old escape nodes left less i j placed placed' work work n ns p (record { items = items; fits = fits; at = at; one = one; next = next }) refl
+    (λ r last. ap (λ m. place_in old.first_number escape (so_far placed work) (join_node m r)) is ∙ step_text old.first_number escape (so_far placed work) t r
+    ∙ ap (λ s. place_in old.first_number escape s r) (siblings (with_node (Text t) (so_far placed work)) (so_far placed' work) (sym put) (sym still) refl))
+
+pub Placing-transition : (old : Work) (escape : Bool) (nodes : Forest) (left less i j : ℕ) (placed placed' : Placed) (work work' : Work) (n : Node) (ns : List Node) (t : Tag) (a : List Attr) (c : Forest) (l : ℕ)
+    → Placing old escape nodes left i placed work → ns ≡ nodes_of nodes → i < length ns → n ≡ get_or ns i n → less ≡ left - 1 → j ≡ i + 1
+    → n ≡ Element t a c l → is_transition t ≡ true → KeepsRest work work'
+    → so_far placed' work' ≡ put_transition work.first_number (nat_eq less 0) escape (Element t a c l) l (so_far placed work)
+    → Placing old escape nodes less j placed' work'
+Placing-transition old escape nodes left less i j placed placed' work work' n ns t a c l p items fits at one next is kind kept put =
+    Placing-more old escape nodes left less i j placed placed' work work' n ns p (record { items = items; fits = fits; at = at; one = one; next = next }) kept
+    (λ r last. ap (λ m. place_in old.first_number escape (so_far placed work) (join_node m r)) is ∙ step_transition old.first_number escape (so_far placed work) t a c l r kind
+    ∙ ap (λ b. place_in old.first_number escape (put_transition old.first_number b escape (Element t a c l) l (so_far placed work)) r) last
+    ∙ ap (λ k. place_in old.first_number escape (put_transition k (nat_eq less 0) escape (Element t a c l) l (so_far placed work)) r) (sym (keeps_first old work p.kept))
+    ∙ ap (λ s. place_in old.first_number escape s r) (sym put))
+
+above_none : (n : ℕ) → not (nat_eq n 0) ≡ nat_lt 0 n
+above_none n = grind arith
+
+holds_when : (t : Tag) (r : Forest) (less : ℕ) → is_last r ≡ nat_eq less 0 → holds t r ≡ (is_section t && nat_lt 0 less)
+holds_when t r less last = ap (λ b. is_section t && not b) last ∙ ap (λ b. is_section t && b) (above_none less)
+
+element_put : (h : Bool) (t : Tag) (a : List Attr) (l : ℕ) (inside s u : Siblings) → u.placed ≡ s.placed ++ Element t a (forest_of inside.placed) l ∷ behind h inside.moving
+    → u.moving ≡ s.moving ++ further h inside.moving → u.reports ≡ inside.reports → put_element h t a l inside s ≡ u
+unfolding put_element
+element_put h t a l inside s u p m r = siblings (put_element h t a l inside s) u (sym p) (sym m) (sym r)
+
+pub Placing-element : (old : Work) (escape : Bool) (nodes : Forest) (left less i j : ℕ) (placed placed' inner : Placed) (work work' : Work) (n : Node) (ns : List Node) (t : Tag) (a : List Attr) (c : Forest) (l : ℕ) (h : Bool)
+    → Placing old escape nodes left i placed work → ns ≡ nodes_of nodes → i < length ns → n ≡ get_or ns i n → less ≡ left - 1 → j ≡ i + 1
+    → n ≡ Element t a c l → is_transition t ≡ false → h ≡ (is_section t && nat_lt 0 less)
+    → so_far inner work' ≡ place_in work.first_number (h || escape) (none_yet work.reports.items) c → KeepsRest work work'
+    → placed'.nodes.items ≡ placed.nodes.items ++ Element t a (forest_of inner.nodes.items) l ∷ behind h inner.moving.items
+    → placed'.moving.items ≡ placed.moving.items ++ further h inner.moving.items
+    → Placing old escape nodes less j placed' work'
+Placing-element old escape nodes left less i j placed placed' inner work work' n ns t a c l h p items fits at one next is kind held inside kept put more =
+    Placing-more old escape nodes left less i j placed placed' work work' n ns p (record { items = items; fits = fits; at = at; one = one; next = next }) kept
+    (λ r last. ap (λ m. place_in old.first_number escape (so_far placed work) (join_node m r)) is ∙ step_element old.first_number escape (so_far placed work) t a c l r kind
+    ∙ ap (λ b. place_in old.first_number escape (put_element b t a l (place_in old.first_number (b || escape) (none_yet work.reports.items) c) (so_far placed work)) r) (holds_when t r less last ∙ sym held)
+    ∙ ap (λ k. place_in old.first_number escape (put_element h t a l (place_in k (h || escape) (none_yet work.reports.items) c) (so_far placed work)) r) (sym (keeps_first old work p.kept))
+    ∙ ap (λ s. place_in old.first_number escape (put_element h t a l s (so_far placed work)) r) (sym inside)
+    ∙ ap (λ s. place_in old.first_number escape s r) (element_put h t a l (so_far inner work') (so_far placed work) (so_far placed' work') put more refl))
+
+place_none : (first : ℕ) (escape : Bool) (s : Siblings) → place_in first escape s bare ≡ s
+unfolding place_in
+place_none first escape s = refl
+
+none_left : (xs : List Node) → length xs ≡ 0 → xs ≡ []
+none_left [] e = refl
+none_left (x ∷ xs) e = absurd (omega (arith, e))
+
+drop_all : (xs : List Node) (i : ℕ) → i ≡ length xs → drop i xs ≡ []
+drop_all xs i e = none_left (drop i xs) (rest_length xs i 0 (omega (arith, e)))
+
+pub Placing-all : (old : Work) (escape : Bool) (nodes : Forest) (left i : ℕ) (placed : Placed) (work : Work) (ns : List Node) → Placing old escape nodes left i placed work → ns ≡ nodes_of nodes → i ≡ length ns
+    → so_far placed work ≡ place_in old.first_number escape (none_yet old.reports.items) nodes
+Placing-all old escape nodes left i placed work ns p items all =
+    sym (place_none old.first_number escape (so_far placed work)) ∙ ap (λ ys. place_in old.first_number escape (so_far placed work) (forest_of ys)) (sym (drop_all (nodes_of nodes) i (all ∙ ap length items))) ∙ p.same

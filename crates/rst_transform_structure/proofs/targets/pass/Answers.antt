@@ -1,0 +1,10 @@
+use Rattle.rst_transform_structure.proofs.Retargeting.{Passes-more}
+use Rattle.rst_transform_structure.proofs.targets.pass.Goals as goal
+
+pub loop-name-preserved-in-Some : goal.loop-name-preserved-in-Some
+loop-name-preserved-in-Some c =
+    Passes-more c.loop-name.yielded (c.in-Some.name, c.in-Some.number) c.as_str.result.now c.holder.result c.args.names.now c.loop-name.names c.move_to.new.self c.loop-name.invariant c.as_str.ensures c.holder.ensures c.move_to.ensures.held c.move_to.ensures.uris
+
+pub loop-name-preserved : goal.loop-name-preserved
+loop-name-preserved c =
+    Passes-more c.loop-name.yielded (c.in-Some.name, c.in-Some.number) c.as_str.result.now c.holder.result c.args.names.now c.loop-name.names c.move_to.new.self c.loop-name.invariant c.as_str.ensures c.holder.ensures c.move_to.ensures.held c.move_to.ensures.uris

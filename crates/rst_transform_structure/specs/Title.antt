@@ -1,0 +1,99 @@
+-- The title and the subtitle of a document (reStructuredText Markup Specification, 'Document Title').
+use Rattle.std.specs.Prelude.{◌≡◌, ℕ, List, [], ◌++◌, Option, Some, None, Bool, true, false, if◌then◌else◌, option_map}
+use Rattle.std.specs.List.{list_any}
+use Rattle.std.specs.Str.{bytes_eq}
+use Rattle.rst_transform_names.specs.Names.{held_by, moved, SameUris}
+use Rattle.rst_transform_names.specs.declared.names.Holder.TheVariants.{Unregistered}
+use Rattle.rst_transform_names.specs.declared.names.Names.{Names}
+use Rattle.rst_tree.specs.declared.attrs.Attr.{Attr}
+use Rattle.rst_tree.specs.declared.attrs.Value.TheVariants.{Text as Says}
+use Rattle.rst_tree.specs.declared.key.Key.TheVariants.{Names as OfNames, Title}
+use Rattle.rst_tree.specs.declared.node.Node.{Node}
+use Rattle.rst_tree.specs.declared.node.Node.TheVariants.{Element, Text}
+use Rattle.rst_tree.specs.declared.tag.Tag.TheVariants.{Comment, Target, SubstitutionDefinition, SystemMessage, Subtitle, Section as IsSection}
+use Rattle.rst_tree.specs.Attributes.{with_attr}
+use Rattle.rst_tree.specs.Forest.{Forest, bare, element, words}
+use Rattle.rst_tree.specs.Nodes.{join_node}
+use Rattle.rst_tree.specs.Tree.{text_in}
+use Rattle.rst_transform_structure.specs.declared.title.Section.{Section}
+use Rattle.rst_transform_work.specs.Lists.{listed, with_names}
+use Rattle.rst_transform_work.specs.declared.work.Work.{Work}
+use Rattle.rst_transform_work.specs.Reading.{may_precede}
+
+-- a section's attributes, its title, and its body: the nodes behind the title
+abbrev pub section : List Attr → Node → Forest → Section
+section a title body = record { attrs = a; title = title; body = body }
+
+-- the section with these attributes and nodes, if it has a title
+abbrev pub section_of : List Attr → Forest → Option Section
+section_of a bare = None
+section_of a (element t b c l body) = Some (section a (Element t b c l) body)
+section_of a (words t body) = Some (section a (Text t) body)
+
+-- a node as a section with a title, if it is one
+abbrev pub section_in : Node → Option Section
+section_in (Element IsSection a c l) = section_of a c
+section_in (Element _ a c l) = None
+section_in (Text t) = None
+
+-- the section with one more node in front of its body
+abbrev pub behind : Node → Section → Section
+behind n s = section s.attrs s.title (join_node n s.body)
+
+-- The lone section of some nodes, if they have one: the last node, where each node before it may precede it. Those stand in front of its body.
+abbrev pub lone_section : Forest → Option Section
+lone_section bare = None
+lone_section (words t r) = None
+lone_section (element t a c l bare) = section_in (Element t a c l)
+lone_section (element t a c l r) = if may_precede (Element t a c l) then option_map (behind (Element t a c l)) (lone_section r) else None
+
+-- a title with these attributes as a subtitle
+abbrev pub subtitle : List Attr → Node → Node
+subtitle a (Element t b c l) = Element Subtitle a c l
+subtitle a (Text t) = Text t
+
+-- the nodes behind a document's title: if they have a lone section, its title becomes the subtitle, with the section's ids and names
+abbrev pub subtitled_by : Option Section → Forest → Forest
+subtitled_by None nodes = nodes
+subtitled_by (Some s) nodes = join_node (subtitle (with_names s.attrs []) s.title) s.body
+
+-- the nodes of a document: if they have a lone section, its title comes first
+abbrev pub titled_by : Option Section → Forest → Forest
+titled_by None nodes = nodes
+titled_by (Some s) nodes = join_node s.title (subtitled_by (lone_section s.body) s.body)
+
+-- the attributes of a document: if it has a lone section, the text of its title, and the section's ids and names behind its own
+abbrev pub title_attrs : Option Section → List Attr → List Attr
+title_attrs None a = a
+title_attrs (Some s) a = with_names s.attrs (with_attr Title (Says (text_in s.title)) a)
+
+-- the document with its title and its subtitle, if it gets them
+abbrev pub titled : Node → Node
+titled (Element t a c l) = Element t (title_attrs (lone_section c) a) (titled_by (lone_section c) c) l
+titled (Text t) = Text t
+
+-- the names that the subtitle gets
+abbrev pub subtitle_names : Option Section → List (List ℕ)
+subtitle_names None = []
+subtitle_names (Some s) = listed OfNames s.attrs
+
+-- the names that the document and its subtitle get
+abbrev pub title_names : Option Section → List (List ℕ)
+title_names None = []
+title_names (Some s) = listed OfNames s.attrs ++ subtitle_names (lone_section s.body)
+
+abbrev pub names_got : Node → List (List ℕ)
+names_got (Element t a c l) = title_names (lone_section c)
+names_got (Text t) = []
+
+-- an element without number holds each of these names that is known; of the others the same is known as before, and of all where they lead
+-- that is kept
+abbrev pub Moves : List (List ℕ) → Names → Names → Type 0
+Moves names old new =
+    ((name : List ℕ) → held_by new name ≡ (if list_any (bytes_eq name) names then moved Unregistered (held_by old name) else held_by old name)) × SameUris old new
+
+-- the document before and after
+pub record IsTitled (before after : Work) : Type 0 where
+  pub root : after.root ≡ titled before.root
+  pub names : Moves (names_got before.root) before.names after.names
+  pub rest : after ≡ record before { root = after.root; names = after.names }

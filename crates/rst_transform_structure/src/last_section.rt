@@ -1,0 +1,116 @@
+//! The last section of a document, with the messages of the transforms.
+ghost use Rattle.std.specs.Prelude.{◌≡◌, ◌∷◌, ◌++◌, [], map};
+ghost use Rattle.std.specs.List.{list_any};
+ghost use Rattle.rst_tree.specs.Faults.{Gives};
+ghost use Rattle.rst_tree.specs.Nodes.{forest_of, nodes_of};
+ghost use Rattle.rst_tree.specs.Paths.{with_child};
+ghost use Rattle.rst_transform_structure.specs.LastSection.{handed, heading, is_shown, own_nodes, section_of, HasLastSection};
+
+use rst_settings::Threshold;
+use rst_transform_work::work::{Report, Work};
+use rst_tree::{Attrs, Children, Key, Node, Tag, Text, Texts, TreeFault, Value};
+use std::alloc::Global;
+
+/// Puts a last section with the transforms' own messages behind the document's nodes, if one of them is at or above the report
+/// level (Document Tree, 'system_message').
+///
+///     <section classes="system-messages">
+///         <title>
+///             Docutils System Messages
+///         <system_message ..>
+pub fn last_section(alloc: Global, mut work: Work, report: Threshold) -> Result<Work, TreeFault>
+    ensures { Gives (HasLastSection report work) result }
+{
+    if !is_any_shown(work.reports.as_slice(), report) {
+        return Ok(work);
+    }
+    let section = section(alloc, &mut work.reports)?;
+    put_last(&mut work.root, section)?;
+    Ok(work)
+}
+
+/// Puts a node behind the last in a document.
+fn put_last(root: &mut Node, node: Node) -> Result<(), TreeFault>
+    ensures { Gives (λ _. root.new ≡ with_child node root.old) result }
+{
+    match root {
+        Node::Element { children, .. } => children.push(node)?,
+        Node::Text(_) => {}
+    }
+    Ok(())
+}
+
+/// Whether one of some messages stands in the last section and is at or above the report level.
+fn is_any_shown(reports: &[Report], threshold: Threshold) -> bool
+    ensures { result ≡ list_any (is_shown threshold) reports.now }
+{
+    for report in reports {
+        if is_shown(report, threshold) {
+            return true;
+        }
+    }
+    false
+}
+
+/// Whether a message stands in the last section and is at or above the report level.
+fn is_shown(report: &Report, threshold: Threshold) -> bool
+    ensures { result ≡ is_shown threshold report.now }
+{
+    report.own && threshold.is_reached(report.level.number())
+}
+
+/// The section with the messages that stand in it.
+fn section(alloc: Global, reports: &mut Vec<Report>) -> Result<Node, TreeFault>
+    ensures section { Gives (λ section. section ≡ section_of reports.old.items) result }
+    ensures reports { Gives (λ _. reports.new.items ≡ map handed reports.old.items) result }
+{
+    let children = section_nodes(alloc, reports)?;
+    let classes = Texts::lone(alloc, Text::from_str(alloc, "system-messages")?);
+    let attrs = Attrs::lone(alloc, Key::Classes, Value::List(classes))?;
+    Ok(Node::Element {
+        tag: Tag::Section,
+        attrs,
+        children,
+        line: 0,
+    })
+}
+
+/// The title of the section, and the messages that stand in it.
+fn section_nodes(alloc: Global, reports: &mut Vec<Report>) -> Result<Children, TreeFault>
+    ensures nodes { Gives (λ nodes. nodes ≡ forest_of (heading ∷ own_nodes reports.old.items)) result }
+    ensures reports { Gives (λ _. reports.new.items ≡ map handed reports.old.items) result }
+{
+    let mut nodes = Children::with_room(alloc, reports.len().saturating_add(1))?;
+    nodes.push(heading(alloc)?)?;
+    for i in 0..reports.len() {
+        add_own(alloc, &mut reports[i], &mut nodes)?;
+    }
+    Ok(nodes)
+}
+
+/// Adds a message, if it stands in the section, and hands over its ids.
+fn add_own(alloc: Global, report: &mut Report, nodes: &mut Children) -> Result<(), TreeFault>
+    ensures nodes { Gives (λ _. nodes.new ≡ forest_of (nodes_of nodes.old ++ own_nodes (report.old ∷ []))) result }
+    ensures report { Gives (λ _. report.new ≡ handed report.old) result }
+{
+    if !report.own {
+        return Ok(());
+    }
+    let node = report.node(alloc)?;
+    nodes.push(node)?;
+    Ok(())
+}
+
+/// The section's title.
+fn heading(alloc: Global) -> Result<Node, TreeFault>
+    ensures { Gives (λ node. node ≡ heading) result }
+{
+    let title = Node::text(alloc, "Docutils System Messages")?;
+    let children = Children::lone(alloc, title)?;
+    Ok(Node::Element {
+        tag: Tag::Title,
+        attrs: Attrs::new(alloc),
+        children,
+        line: 0,
+    })
+}

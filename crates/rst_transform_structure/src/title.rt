@@ -1,0 +1,243 @@
+//! The title and the subtitle of a document.
+ghost use Rattle.std.specs.Prelude.{◌≡◌, ◌++◌, [], Some, None, MatchResult};
+ghost use Rattle.std.specs.List.{list_all};
+ghost use Rattle.rst_tree.specs.declared.key.Key.TheVariants.{Names as OfNames};
+ghost use Rattle.rst_tree.specs.Faults.{Gives};
+ghost use Rattle.rst_tree.specs.Nodes.{forest_of, join_node, nodes_of};
+ghost use Rattle.rst_transform_work.specs.Lists.{with_names, listed};
+ghost use Rattle.rst_transform_structure.specs.Title.{lone_section, names_got, section_in, subtitle, subtitle_names, subtitled_by, title_attrs, title_names, titled, titled_by, Moves, IsTitled};
+ghost use Rattle.rst_transform_work.specs.Reading.{may_precede};
+
+use rst_transform_names::{Holder, Names};
+use rst_transform_work::lists::{append_names, joined};
+use rst_transform_work::reading::may_precede;
+use rst_transform_work::work::Work;
+use rst_tree::{Attrs, Children, Key, Node, Said, Tag, Text, TreeFault, Value};
+use std::alloc::Global;
+
+/// Makes the title of a document's lone section the document's, and then that of a lone subsection its subtitle (Markup
+/// Specification, 'Document Title').
+///
+/// Before:
+///
+///     <document>
+///         <comment>
+///         <section ids="a" names="a">
+///             <title>
+///             <paragraph>
+///
+/// After:
+///
+///     <document ids="a" names="a" title="A">
+///         <title>
+///         <comment>
+///         <paragraph>
+///
+/// Comments, targets, substitution definitions and messages may stand before the section.
+pub fn title(alloc: Global, work: Work) -> Result<Work, TreeFault>
+    ensures { Gives (IsTitled work) result }
+{
+    let Work {
+        root,
+        ids,
+        mut names,
+        reports,
+        first_number,
+        serials,
+    } = work;
+    let root = match root {
+        Node::Element {
+            tag,
+            mut attrs,
+            children,
+            line,
+        } => {
+            let children = titled(alloc, &mut attrs, children, &mut names)?;
+            Node::Element {
+                tag,
+                attrs,
+                children,
+                line,
+            }
+        }
+        Node::Text(text) => Node::Text(text),
+    };
+    Ok(Work {
+        root,
+        ids,
+        names,
+        reports,
+        first_number,
+        serials,
+    })
+}
+
+/// The nodes of a document with these attributes, once it has a title and a subtitle, if it gets them.
+fn titled(
+    alloc: Global,
+    attrs: &mut Attrs,
+    nodes: Children,
+    names: &mut Names,
+) -> Result<Children, TreeFault>
+    ensures attrs { Gives (λ _. attrs.new ≡ title_attrs (lone_section nodes) attrs.old) result }
+    ensures nodes { Gives (λ all. all ≡ titled_by (lone_section nodes) nodes) result }
+    ensures names { Gives (λ _. Moves (title_names (lone_section nodes)) names.old names.new) result }
+{
+    match lone_section(nodes)? {
+        Ok(section) => {
+            attrs.set(Key::Title, Value::Text(section.title.text_of(alloc)?))?;
+            take_names(alloc, attrs, &section.attrs, names)?;
+            let body = subtitled(alloc, section.body, names)?;
+            with_first(section.title, body)
+        }
+        Err(nodes) => Ok(nodes),
+    }
+}
+
+/// The nodes behind a document's title, once the subtitle is the first of them, if it gets one.
+fn subtitled(alloc: Global, nodes: Children, names: &mut Names) -> Result<Children, TreeFault>
+    ensures nodes { Gives (λ all. all ≡ subtitled_by (lone_section nodes) nodes) result }
+    ensures names { Gives (λ _. Moves (subtitle_names (lone_section nodes)) names.old names.new) result }
+{
+    match lone_section(nodes)? {
+        Ok(section) => {
+            let mut attrs = Attrs::new(alloc);
+            take_names(alloc, &mut attrs, &section.attrs, names)?;
+            with_first(subtitle(attrs, section.title), section.body)
+        }
+        Err(nodes) => Ok(nodes),
+    }
+}
+
+/// The nodes behind one more.
+fn with_first(first: Node, nodes: Children) -> Result<Children, TreeFault>
+    ensures { Gives (λ all. all ≡ join_node first nodes) result }
+{
+    let mut nodes = nodes.into_list();
+    nodes.insert(0, first)?;
+    Ok(Children::of(nodes))
+}
+
+/// A section in its parts.
+#[derive(Drop)]
+struct Section {
+    attrs: Attrs,
+    title: Node,
+    /// What stands behind the title. That of a lone section begins with what stands before the section.
+    body: Children,
+}
+
+impl Section {
+    /// A section with a title, in its parts, or the node back where it is none.
+    fn of(node: Node) -> Result<Section, Node>
+        ensures { MatchResult result (λ section. section_in node ≡ Some section) (λ back. (back ≡ node) × (section_in node ≡ None)) }
+    {
+        match node {
+            Node::Element {
+                tag: Tag::Section,
+                attrs,
+                children,
+                line,
+            } => {
+                let mut content = children.into_list();
+                if content.is_empty() {
+                    return Err(Node::Element {
+                        tag: Tag::Section,
+                        attrs,
+                        children: Children::of(content),
+                        line,
+                    });
+                }
+                let title = content.remove(0);
+                Ok(Section {
+                    attrs,
+                    title,
+                    body: Children::of(content),
+                })
+            }
+            node => Err(node),
+        }
+    }
+
+    /// The section with these nodes in front of its body.
+    fn behind(self, before: Vec<Node>) -> Result<Section, TreeFault>
+        ensures { Gives (λ section. section ≡ record self { body = forest_of (before.items ++ nodes_of self.body) }) result }
+    {
+        let Section { attrs, title, body } = self;
+        let body = joined(before, body.into_list())?;
+        Ok(Section {
+            attrs,
+            title,
+            body: Children::of(body),
+        })
+    }
+}
+
+/// Whether all of these nodes may.
+fn all_may_precede(nodes: &[Node]) -> bool
+    ensures { result ≡ list_all may_precede nodes.now }
+{
+    nodes.iter().all(|node| may_precede(node))
+}
+
+/// The lone section of some nodes, or the nodes back where they have none: the last node, if all before may precede it.
+fn lone_section(nodes: Children) -> Result<Result<Section, Children>, TreeFault>
+    ensures { Gives (λ found. MatchResult found (λ section. lone_section nodes ≡ Some section) (λ back. (back ≡ nodes) × (lone_section nodes ≡ None))) result }
+{
+    let mut before = nodes.into_list();
+    let Some(last) = before.pop() else {
+        return Ok(Err(Children::of(before)));
+    };
+    if !all_may_precede(before.as_slice()) {
+        before.push(last)?;
+        return Ok(Err(Children::of(before)));
+    }
+    match Section::of(last) {
+        Ok(section) => Ok(Ok(section.behind(before)?)),
+        Err(last) => {
+            before.push(last)?;
+            Ok(Err(Children::of(before)))
+        }
+    }
+}
+
+/// Adds a section's ids, names and lost names to those of the element that takes its title.
+fn take_names(
+    alloc: Global,
+    attrs: &mut Attrs,
+    section: &Attrs,
+    names: &mut Names,
+) -> Result<(), TreeFault>
+    ensures attrs { Gives (λ _. attrs.new ≡ with_names section.now attrs.old) result }
+    ensures names { Gives (λ _. Moves (listed OfNames section.now) names.old names.new) result }
+{
+    append_names(alloc, attrs, section)?;
+    if let Some(Said::List(held)) = section.get(Key::Names) {
+        move_names(held, names);
+    }
+    Ok(())
+}
+
+/// Lets an element without number hold names.
+fn move_names(held: &[Text], names: &mut Names)
+    ensures { Moves held.now names.old names.new }
+{
+    for name in held {
+        names.move_to(name.as_str(), Holder::Unregistered);
+    }
+}
+
+/// The subtitle with these attributes that a title becomes.
+fn subtitle(attrs: Attrs, title: Node) -> Node
+    ensures { result ≡ subtitle attrs title }
+{
+    match title {
+        Node::Element { children, line, .. } => Node::Element {
+            tag: Tag::Subtitle,
+            attrs,
+            children,
+            line,
+        },
+        Node::Text(text) => Node::Text(text),
+    }
+}

@@ -1,0 +1,295 @@
+//! The places of transitions.
+ghost use Rattle.std.specs.Prelude.{◌≡◌, ◌++◌, ◌∷◌, [], ◌&&◌, nat_lt, None, Some, MatchOption};
+ghost use Rattle.std.specs.List.{list_all};
+ghost use Rattle.rst_tree.specs.Faults.{Gives};
+ghost use Rattle.rst_tree.specs.Nodes.{forest_of};
+ghost use Rattle.rst_tree.specs.declared.node.Node.TheVariants.{Element};
+ghost use Rattle.rst_transform_work.specs.Reports.{KeepsRest, report_node};
+ghost use Rattle.rst_transform_structure.specs.Transitions.{behind, ends_in_transition, fault_before, further, is_section, is_transition, none_yet, place_in, put_last, put_transition, so_far, transition_report, with_fault, with_message, with_places, with_reports, HasTransitions};
+ghost use Rattle.rst_transform_work.specs.Reading.{is_title};
+
+use rst_transform_work::reading::is_title;
+use rst_transform_work::work::Work;
+use rst_tree::{Attrs, Children, Level, Node, Tag, Text, TreeFault};
+use std::alloc::Global;
+use std::mem;
+
+/// Looks at the places of the transitions in document order (Markup Specification, 'Transitions'): each that begins a section
+/// or follows another one gets a message before it, and each that ends a section moves behind it.
+///
+/// Before:
+///
+///     <section>
+///         <title>
+///         <paragraph>
+///         <transition>
+///     <section>
+///
+/// After:
+///
+///     <section>
+///         <title>
+///         <paragraph>
+///     <transition>
+///     <section>
+///
+/// One that would move behind the end of the document stays, and a message follows it.
+pub fn transitions(alloc: Global, mut work: Work) -> Result<Work, TreeFault>
+    ensures { Gives (HasTransitions work) result }
+{
+    let root = mem::replace(&mut work.root, Node::element(alloc, Tag::Document, 0));
+    match root {
+        Node::Element {
+            tag,
+            attrs,
+            children,
+            line,
+        } => {
+            let Placed { nodes, moving: _ } = place_in(alloc, children, false, &mut work)?;
+            work.root = Node::Element {
+                tag,
+                attrs,
+                children: Children::of(nodes),
+                line,
+            };
+            Ok(work)
+        }
+        Node::Text(text) => {
+            work.root = Node::Text(text);
+            Ok(work)
+        }
+    }
+}
+
+/// The nodes of an element, whose transitions have their places.
+#[derive(Drop)]
+struct Placed {
+    nodes: Vec<Node>,
+    /// The transitions that move further out, in document order.
+    moving: Vec<Node>,
+}
+
+/// Gives the transitions among nodes and in them their places. They `escape` if a section round them isn't last in what holds
+/// it, so that a transition at the end of the nodes can move behind it.
+fn place_in(
+    alloc: Global,
+    nodes: Children,
+    escape: bool,
+    work: &mut Work,
+) -> Result<Placed, TreeFault>
+    ensures placed { Gives (λ placed. so_far placed work.new ≡ place_in work.old.first_number escape (none_yet work.old.reports.items) nodes) result }
+    ensures rest { Gives (λ _. KeepsRest work.old work.new) result }
+{
+    let mut left = nodes.len();
+    let mut placed = Placed::with_room(alloc, left)?;
+    for node in nodes.into_list() {
+        left = left.saturating_sub(1);
+        match node {
+            Node::Text(text) => {
+                placed.nodes.push(Node::Text(text))?;
+                continue;
+            }
+            Node::Element {
+                tag,
+                attrs,
+                children,
+                line,
+            } => {
+                if is_transition(tag) {
+                    let transition = Node::Element {
+                        tag,
+                        attrs,
+                        children,
+                        line,
+                    };
+                    placed.put_transition(alloc, transition, line, left == 0, escape, work)?;
+                    continue;
+                }
+                let holds = holds(tag, left);
+                let inner = place_in(alloc, children, holds || escape, work)?;
+                placed.put_element(tag, attrs, line, inner, holds)?;
+                continue;
+            }
+        }
+    }
+    Ok(placed)
+}
+
+/// Whether transitions that move out of an element of a kind, which so many nodes follow, stand behind it: out of a section that
+/// isn't the last node.
+fn holds(tag: Tag, left: usize) -> bool
+    ensures { result ≡ (is_section tag && nat_lt 0 left) }
+{
+    matches!(tag, Tag::Section) && left > 0
+}
+
+impl Placed {
+    /// No node, in a list with room for so many.
+    fn with_room(alloc: Global, room: usize) -> Result<Placed, TreeFault>
+        ensures nodes { Gives (λ placed. placed.nodes.items ≡ []) result }
+        ensures moving { Gives (λ placed. placed.moving.items ≡ []) result }
+    {
+        Ok(Placed {
+            nodes: Vec::with_capacity(alloc, room)?,
+            moving: Vec::new(alloc),
+        })
+    }
+
+    /// Puts a message on a transition behind the nodes.
+    #[tactic(auto, unfolding(crate::specs::Transitions::with_message))]
+    fn put_message(
+        &mut self,
+        alloc: Global,
+        line: usize,
+        words: &str,
+        work: &mut Work,
+    ) -> Result<(), TreeFault>
+        ensures siblings { Gives (λ _. so_far self.new work.new ≡ with_message work.old.first_number line words.now (so_far self.old work.old)) result }
+        ensures rest { Gives (λ _. KeepsRest work.old work.new) result }
+    {
+        let message = message(alloc, line, words, work)?;
+        self.nodes.push(message)?;
+        Ok(())
+    }
+
+    /// Puts the message on what is wrong with a transition behind the nodes there, if anything is.
+    #[tactic(auto, unfolding(crate::specs::Transitions::with_fault))]
+    fn put_fault(&mut self, alloc: Global, line: usize, work: &mut Work) -> Result<(), TreeFault>
+        ensures siblings { Gives (λ _. so_far self.new work.new ≡ with_fault work.old.first_number line (fault_before self.old.nodes.items) (so_far self.old work.old)) result }
+        ensures rest { Gives (λ _. KeepsRest work.old work.new) result }
+    {
+        match fault_before(self.nodes.as_slice()) {
+            Some(words) => self.put_message(alloc, line, words, work),
+            None => Ok(()),
+        }
+    }
+
+    /// Puts a transition that is the last node to its place: it moves further out if it can escape, and else stays, with a
+    /// message behind it.
+    #[tactic(auto, unfolding(crate::specs::Transitions::put_last))]
+    fn put_last(
+        &mut self,
+        alloc: Global,
+        transition: Node,
+        line: usize,
+        escape: bool,
+        work: &mut Work,
+    ) -> Result<(), TreeFault>
+        ensures siblings { Gives (λ _. so_far self.new work.new ≡ put_last work.old.first_number escape transition line (so_far self.old work.old)) result }
+        ensures rest { Gives (λ _. KeepsRest work.old work.new) result }
+    {
+        if escape {
+            self.moving.push(transition)?;
+            return Ok(());
+        }
+        self.nodes.push(transition)?;
+        self.put_message(alloc, line, AT_END, work)
+    }
+
+    /// Puts a transition, which is the last node or not, to its place, with the messages on it.
+    #[tactic(auto, unfolding(crate::specs::Transitions::put_transition))]
+    fn put_transition(
+        &mut self,
+        alloc: Global,
+        transition: Node,
+        line: usize,
+        last: bool,
+        escape: bool,
+        work: &mut Work,
+    ) -> Result<(), TreeFault>
+        ensures siblings { Gives (λ _. so_far self.new work.new ≡ put_transition work.old.first_number last escape transition line (so_far self.old work.old)) result }
+        ensures rest { Gives (λ _. KeepsRest work.old work.new) result }
+    {
+        self.put_fault(alloc, line, work)?;
+        if last {
+            return self.put_last(alloc, transition, line, escape, work);
+        }
+        self.nodes.push(transition)?;
+        Ok(())
+    }
+
+    /// Puts an element to its place. The transitions that move out of it stand behind it if they needn't move further, the last
+    /// of them first, since each moved directly behind the section.
+    fn put_element(
+        &mut self,
+        tag: Tag,
+        attrs: Attrs,
+        line: usize,
+        inner: Placed,
+        holds: bool,
+    ) -> Result<(), TreeFault>
+        ensures nodes { Gives (λ _. self.new.nodes.items ≡ self.old.nodes.items ++ Element tag attrs (forest_of inner.nodes.items) line ∷ behind holds inner.moving.items) result }
+        ensures moving { Gives (λ _. self.new.moving.items ≡ self.old.moving.items ++ further holds inner.moving.items) result }
+    {
+        let Placed { nodes, mut moving } = inner;
+        self.nodes.push(Node::Element {
+            tag,
+            attrs,
+            children: Children::of(nodes),
+            line,
+        })?;
+        if holds {
+            moving.reverse();
+            self.nodes.append(&mut moving)?;
+            return Ok(());
+        }
+        self.moving.append(&mut moving)?;
+        Ok(())
+    }
+}
+
+/// The message on a transition that only titles come before.
+const AT_BEGINNING: &str = "Document or section may not begin with a transition.";
+/// The message on a transition that follows another one.
+const ADJACENT: &str =
+    "At least one body element must separate transitions; adjacent transitions are not allowed.";
+/// The message on a transition that nothing follows.
+const AT_END: &str = "Document may not end with a transition.";
+
+/// What is wrong with a transition behind these siblings, if anything is.
+#[tactic(auto, unfolding(crate::specs::Transitions::fault_before))]
+fn fault_before(before: &[Node]) -> Option<&'static str>
+    ensures { MatchOption result (fault_before before.now ≡ None) (λ words. fault_before before.now ≡ Some words.now) }
+{
+    if only_titles(before) {
+        return Some(AT_BEGINNING);
+    }
+    if ends_in_transition(before) {
+        return Some(ADJACENT);
+    }
+    None
+}
+
+/// Whether the nodes are titles and subtitles.
+fn only_titles(nodes: &[Node]) -> bool
+    ensures { result ≡ list_all is_title nodes.now }
+{
+    nodes.iter().all(|node| is_title(node))
+}
+
+/// Whether the last of these nodes is a transition.
+fn ends_in_transition(nodes: &[Node]) -> bool
+    ensures { result ≡ ends_in_transition nodes.now }
+{
+    match nodes.last() {
+        Some(Node::Element { tag, .. }) => is_transition(*tag),
+        Some(Node::Text(_)) | None => false,
+    }
+}
+
+/// Whether an element of a kind is a transition.
+fn is_transition(tag: Tag) -> bool
+    ensures { result ≡ is_transition tag }
+{
+    matches!(tag, Tag::Transition)
+}
+
+/// An ERROR on a transition, which is noted in the list of messages, too.
+fn message(alloc: Global, line: usize, words: &str, work: &mut Work) -> Result<Node, TreeFault>
+    ensures node { let next = transition_report work.old.first_number work.old.reports.items line words.now in Gives (λ node. node ≡ report_node next) result }
+    ensures reports { let next = transition_report work.old.first_number work.old.reports.items line words.now in Gives (λ _. work.new.reports.items ≡ work.old.reports.items ++ next ∷ []) result }
+    ensures rest { Gives (λ _. KeepsRest work.old work.new) result }
+{
+    let text = Text::from_str(alloc, words)?;
+    work.report_in_place(alloc, Level::Error, line, text)
+}

@@ -1,0 +1,121 @@
+-- What stands for a substitution reference (Markup Specification, 'Substitution References', 'Substitution Definitions'). How much may be met
+-- for one is no rule of markup.
+use Rattle.std.specs.Prelude.{◌≡◌, ℕ, zero, suc, ◌+◌, ◌-◌, ◌==◌, nat_le, Bool, true, false, List, [], ◌∷◌, ◌++◌, codes, length, if◌then◌else◌, unwrap_or, Option, Some, None, Result, Ok, Err}
+use Rattle.std.specs.List.{list_any}
+use Rattle.std.specs.Str.{chars}
+use Rattle.rst_tree.specs.declared.attrs.Attr.{Attr}
+use Rattle.rst_tree.specs.declared.key.Key.TheVariants.{Refname, Serial}
+use Rattle.rst_tree.specs.declared.node.Node.{Node}
+use Rattle.rst_tree.specs.declared.node.Node.TheVariants.{Element, Text}
+use Rattle.rst_tree.specs.declared.tag.Tag.{Tag}
+use Rattle.rst_tree.specs.declared.tag.Tag.TheVariants.{SubstitutionReference}
+use Rattle.rst_tree.specs.Attributes.{said_text, value_of, without_key}
+use Rattle.rst_tree.specs.Forest.{Forest, bare, element, words}
+use Rattle.rst_tree.specs.Nodes.{forest_of}
+use Rattle.rst_transform_substitutions.specs.declared.expansion.ExpansionFault.{ExpansionFault}
+use Rattle.rst_transform_substitutions.specs.declared.expansion.ExpansionFault.TheVariants.{Undefined, Circular, TooLarge}
+use Rattle.rst_transform_substitutions.specs.declared.expansion.Halted.{Halted}
+use Rattle.rst_transform_substitutions.specs.declared.expansion.Halted.TheVariants.{By, NoMemory}
+
+-- the most definitions that are gone into for one reference, each met in the one before
+abbrev pub most_nested : ℕ
+most_nested = 100
+
+-- the most nodes and characters that are met for one reference
+abbrev pub most_met : ℕ
+most_met = 10000
+
+abbrev pub is_reference : Tag → Bool
+is_reference SubstitutionReference = true
+is_reference _ = false
+
+-- the name that a reference says
+abbrev pub name_said : List Attr → List ℕ
+name_said a = unwrap_or (said_text (value_of Refname a)) []
+
+-- what a node counts for, without the nodes in it: one, and a text one more for each character
+abbrev pub size_of : Node → ℕ
+size_of (Element t a c l) = 1
+size_of (Text t) = length (chars t) + 1
+
+-- the element around other nodes: the registered one stays the one that was copied
+abbrev pub copied : Tag → List Attr → List Node → ℕ → Node
+copied t a nodes l = Element t (without_key Serial a) (forest_of nodes) l
+
+-- what an expansion comes to: nodes, and how many nodes and characters may still be met, or why it fails
+abbrev pub Expansion : Type 0
+Expansion = Result (List Node × ℕ) ExpansionFault
+
+-- so much is met, if so much may still be, and then the rest
+abbrev pub meeting : ℕ → ℕ → (ℕ → Expansion) → Expansion
+meeting size left rest = if nat_le size left then rest (left - size) else Err TooLarge
+
+-- some nodes, and then those of an expansion
+abbrev pub behind : List Node → Expansion → Expansion
+behind nodes (Ok done) = Ok (nodes ++ done.0, done.1)
+behind nodes (Err fault) = Err fault
+
+-- an expansion, and then one with what may still be met
+abbrev pub and_then : Expansion → (ℕ → Expansion) → Expansion
+and_then (Ok done) rest = behind done.0 (rest done.1)
+and_then (Err fault) rest = Err fault
+
+-- an element around the nodes of an expansion
+abbrev pub inside : Tag → List Attr → ℕ → Expansion → Expansion
+inside t a l (Ok done) = Ok (copied t a done.0 l ∷ [], done.1)
+inside t a l (Err fault) = Err fault
+
+-- what copies of nodes come to, while so much may be met, where it is told what a reference to a name does
+abbrev pub expanded : (List ℕ → ℕ → Expansion) → Forest → ℕ → Expansion
+expanded given bare left = Ok ([], left)
+expanded given (words t r) left = meeting (size_of (Text t)) left (λ more. behind (Text t ∷ []) (expanded given r more))
+expanded given (element t a c l r) left =
+    meeting (size_of (Element t a c l)) left (λ more. and_then (if is_reference t then given (name_said a) more else inside t a l (expanded given c more)) (λ then_more. expanded given r then_more))
+
+-- the path of a reference that stands in the definition at a place, or in none
+abbrev pub path_from : Option ℕ → List ℕ
+path_from None = []
+path_from (Some place) = place ∷ []
+
+-- the nodes of an expansion
+abbrev pub nodes_in : Expansion → Result (List Node) ExpansionFault
+nodes_in (Ok done) = Ok done.0
+nodes_in (Err fault) = Err fault
+
+-- what a reference to a name comes to by its definition, if there is one that isn't gone into already, as those at the places of a path are
+abbrev pub entering : List ℕ → List ℕ → Option (ℕ × Forest) → (ℕ × Forest → Expansion) → Expansion
+entering path name None content = Err (Undefined name)
+entering path name (Some one) content = if list_any (λ place. place == one.0) path then Err (Circular name) else content one
+
+-- where it is told which definition a name finds
+module _ (found : List ℕ → Option (ℕ × Forest)) where
+  -- what a reference to a name comes to behind the definitions on a path, where so many more may be gone into
+  unfoldable pub given_within : ℕ → List ℕ → List ℕ → ℕ → Expansion
+  given_within zero path name left = entering path name (found name) (λ one. Err TooLarge)
+  given_within (suc more) path name left = entering path name (found name) (λ one. expanded (given_within more (path ++ one.0 ∷ [])) one.1 left)
+
+  -- the same, where that many may be in all
+  abbrev pub given : List ℕ → List ℕ → ℕ → Expansion
+  given path = given_within (most_nested - length path) path
+
+  -- the nodes for a reference to a name, which stands in the definition at a place or in none
+  abbrev pub nodes_for : Option ℕ → List ℕ → Result (List Node) ExpansionFault
+  nodes_for within name = nodes_in (given (path_from within) name most_met)
+
+-- what is told of a reference to a name that isn't replaced
+abbrev pub told : List ℕ → ExpansionFault → List ℕ
+told name (Undefined inner) = codes "Undefined substitution referenced: \"" ++ (inner ++ codes "\".")
+told name (Circular inner) = codes "Circular substitution definition referenced: \"" ++ (inner ++ codes "\".")
+told name TooLarge = codes "Substitution expansion too large: \"" ++ (name ++ codes "\".")
+
+-- the call comes to the same, or tells want of memory
+abbrev pub ComesTo : {A B : Type 0} → Result B ExpansionFault → (A → B) → Result A Halted → Type 0
+ComesTo wanted given (Ok done) = wanted ≡ Ok (given done)
+ComesTo wanted given (Err (By fault)) = wanted ≡ Err fault
+ComesTo wanted given (Err NoMemory) = Unit {0}
+
+-- the call goes into the definition that a reference finds: the reference comes to what the nodes there do
+abbrev pub Enters : {A : Type 0} → (ℕ → Expansion) → (A → ℕ → Expansion) → Result A Halted → Type 0
+Enters reference content (Ok done) = (left : ℕ) → reference left ≡ content done left
+Enters reference content (Err (By fault)) = (left : ℕ) → reference left ≡ Err fault
+Enters reference content (Err NoMemory) = Unit {0}

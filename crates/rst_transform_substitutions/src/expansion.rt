@@ -1,0 +1,278 @@
+//! What stands for one substitution reference.
+ghost use Rattle.std.specs.Prelude.{◌≡◌, ◌+◌, ◌++◌, ◌==◌, ◌≤◌, nat_le, true, take, vec_len, ◌-◌, OnOk};
+ghost use Rattle.std.specs.List.{list_any};
+ghost use Rattle.rst_tree.specs.Faults.{Gives};
+ghost use Rattle.rst_transform_substitutions.specs.declared.expansion.ExpansionFault.TheVariants.{Undefined};
+ghost use Rattle.rst_transform_substitutions.specs.declared.expansion.Halted.TheVariants.{By as HaltedBy, NoMemory as HaltedByMemory};
+ghost use Rattle.rst_transform_substitutions.specs.Definitions.{found_by};
+ghost use Rattle.rst_transform_substitutions.specs.Expansion.{behind, copied, expanded, given, is_reference, most_met, nodes_for, path_from, size_of, told, ComesTo, Enters};
+
+use crate::definitions::Definitions;
+use rst_transform_work::reading::said;
+use rst_tree::{Attrs, Children, Key, Node, Tag, Text, TreeFault};
+use std::alloc::{AllocError, AllocFailed, Global};
+
+/// The most definitions that are gone into for one reference, each met in the one before.
+const MOST_NESTED: usize = 100;
+
+/// The most nodes and characters that are met for one reference.
+const MOST_MET: usize = 10_000;
+
+/// Why a reference isn't replaced.
+#[derive(Drop)]
+pub enum ExpansionFault {
+    /// There is no definition of this name.
+    Undefined(Text),
+    /// The definition of this name is being replaced already.
+    Circular(Text),
+    /// Too many definitions, nodes and characters are met.
+    TooLarge,
+}
+
+impl ExpansionFault {
+    /// What is told of a reference to a name that isn't replaced.
+    pub fn told(&self, alloc: Global, name: &str) -> Result<Text, TreeFault>
+        ensures { Gives (λ text. text ≡ told name.now self.now) result }
+    {
+        match self {
+            ExpansionFault::Undefined(inner) => {
+                let before = "Undefined substitution referenced: \"";
+                Text::of_three(alloc, before, inner.as_str(), "\".")
+            }
+            ExpansionFault::Circular(inner) => {
+                let before = "Circular substitution definition referenced: \"";
+                Text::of_three(alloc, before, inner.as_str(), "\".")
+            }
+            ExpansionFault::TooLarge => {
+                Text::of_three(alloc, "Substitution expansion too large: \"", name, "\".")
+            }
+        }
+    }
+}
+
+/// Why an expansion came to no end.
+#[derive(Drop)]
+pub enum Halted {
+    /// The reference isn't replaced.
+    By(ExpansionFault),
+    /// A growth was refused.
+    NoMemory,
+}
+
+impl From<ExpansionFault> for Halted {
+    ghost from_gives = { λ fault halted. halted ≡ HaltedBy fault };
+
+    fn from(fault: ExpansionFault) -> Halted {
+        Halted::By(fault)
+    }
+}
+
+impl<T: Drop> From<AllocFailed<T>> for Halted {
+    ghost from_gives = { λ _ halted. halted ≡ HaltedByMemory };
+
+    fn from(_error: AllocFailed<T>) -> Halted {
+        Halted::NoMemory
+    }
+}
+
+impl From<TreeFault> for Halted {
+    ghost from_gives = { λ _ halted. halted ≡ HaltedByMemory };
+
+    fn from(_error: TreeFault) -> Halted {
+        Halted::NoMemory
+    }
+}
+
+/// How far the expansion of one reference has come.
+#[derive(Drop)]
+struct Progress {
+    /// The places of the definitions that stand one in another here, the outermost first.
+    path: Vec<usize>,
+    /// How many more nodes and characters may be met.
+    left: usize,
+}
+
+impl Progress {
+    /// At the reference that is to be replaced; `within` is the definition that it stands in.
+    fn start(alloc: Global, within: Option<usize>) -> Result<Progress, TreeFault>
+        ensures path { Gives (λ progress. progress.path.items ≡ path_from within) result }
+        ensures left { Gives (λ progress. progress.left ≡ most_met) result }
+    {
+        Ok(Progress {
+            path: path_from(alloc, within)?,
+            left: MOST_MET,
+        })
+    }
+
+    /// Counts a node that is met, and the characters of a text, if so many may still be met.
+    fn meet(&mut self, node: &Node) -> bool
+        ensures met { result ≡ nat_le (size_of node.now) self.old.left }
+        ensures left { result ≡ true → self.new.left + size_of node.now ≡ self.old.left }
+        ensures path { self.new.path ≡ self.old.path }
+    {
+        let characters = characters_in(node);
+        if characters >= self.left {
+            return false;
+        }
+        self.left -= characters + 1;
+        true
+    }
+
+    /// Whether a definition at a place has been gone into.
+    fn is_inside(&self, place: usize) -> bool
+        ensures { result ≡ list_any (λ entered. entered == place) self.now.path.items }
+    {
+        self.path.iter().any(|entered| *entered == place)
+    }
+
+    /// Leaves the definition that was entered last.
+    fn leave(&mut self)
+        ensures left { self.new.left ≡ self.old.left }
+        ensures path { self.new.path.items ≡ take (vec_len self.old.path - 1) self.old.path.items }
+    {
+        self.path.pop();
+    }
+}
+
+/// The path of a reference that stands in a definition, or in none.
+fn path_from(alloc: Global, within: Option<usize>) -> Result<Vec<usize>, TreeFault>
+    ensures { Gives (λ path. path.items ≡ path_from within) result }
+{
+    let mut path = Vec::new(alloc);
+    if let Some(place) = within {
+        path.push(place)?;
+    }
+    Ok(path)
+}
+
+/// How many characters a text has; an element has none of its own.
+fn characters_in(node: &Node) -> usize
+    ensures { result + 1 ≡ size_of node.now }
+{
+    match node {
+        Node::Text(text) => text.as_str().chars().count(),
+        Node::Element { .. } => 0,
+    }
+}
+
+/// Whether an element of a kind is a reference.
+pub fn is_reference(tag: Tag) -> bool
+    ensures { result ≡ is_reference tag }
+{
+    matches!(tag, Tag::SubstitutionReference)
+}
+
+/// Puts copies of the nodes behind those that are there, with the references in them replaced in turn.
+fn add_expanded(
+    alloc: Global,
+    definitions: &Definitions,
+    content: &Children,
+    progress: &mut Progress,
+    nodes: &mut Vec<Node>,
+) -> Result<(), Halted>
+    ensures nodes { let wanted = expanded (given (found_by definitions.now) progress.old.path.items) content.now progress.old.left in ComesTo (behind nodes.old.items wanted) (λ _. (nodes.new.items, progress.new.left)) result }
+    ensures path { OnOk result (progress.new.path.items ≡ progress.old.path.items) }
+    ensures left { OnOk result (progress.new.left ≤ progress.old.left) }
+{
+    for node in content.as_slice() {
+        if !progress.meet(node) {
+            return Err(Halted::By(ExpansionFault::TooLarge));
+        }
+        match node {
+            Node::Text(text) => {
+                nodes.push(Node::Text(text.copy()?))?;
+                continue;
+            }
+            Node::Element {
+                tag,
+                attrs,
+                children,
+                line,
+            } => {
+                if is_reference(*tag) {
+                    let inner = entered(alloc, definitions, said(attrs, Key::Refname), progress)?;
+                    add_expanded(alloc, definitions, inner, progress, nodes)?;
+                    progress.leave();
+                    continue;
+                }
+                let mut inner = Vec::new(alloc);
+                add_expanded(alloc, definitions, children, progress, &mut inner)?;
+                nodes.push(copied(alloc, *tag, attrs, inner, *line)?)?;
+                continue;
+            }
+        }
+    }
+    Ok(())
+}
+
+/// A copy of an element around other nodes: the registered element stays the one that was copied.
+fn copied(
+    alloc: Global,
+    tag: Tag,
+    attrs: &Attrs,
+    children: Vec<Node>,
+    line: usize,
+) -> Result<Node, TreeFault>
+    ensures { Gives (λ node. node ≡ copied tag attrs.now children.items line) result }
+{
+    let mut attrs = attrs.copy(alloc)?;
+    attrs.remove(Key::Serial);
+    Ok(Node::Element {
+        tag,
+        attrs,
+        children: Children::of(children),
+        line,
+    })
+}
+
+/// The content of the definition that a name finds, which is gone into.
+fn entered<'a>(
+    alloc: Global,
+    definitions: &'a Definitions,
+    name: &str,
+    progress: &mut Progress,
+) -> Result<&'a Children, Halted>
+    ensures content { let reference = given (found_by definitions.now) progress.old.path.items name.now in Enters reference (λ content. expanded (given (found_by definitions.now) progress.new.path.items) content.now) result }
+    ensures path { OnOk result (take (vec_len progress.new.path - 1) progress.new.path.items ≡ progress.old.path.items) }
+    ensures left { progress.new.left ≡ progress.old.left }
+{
+    let Some(place) = definitions.find(alloc, name)? else {
+        return Err(undefined(alloc, name)?);
+    };
+    let Some(content) = definitions.content(place) else {
+        return Err(undefined(alloc, name)?);
+    };
+    if progress.is_inside(place) {
+        let name = Text::from_str(alloc, name)?;
+        return Err(Halted::By(ExpansionFault::Circular(name)));
+    }
+    if progress.path.len() >= MOST_NESTED {
+        return Err(Halted::By(ExpansionFault::TooLarge));
+    }
+    progress.path.push(place)?;
+    Ok(content)
+}
+
+/// The end of an expansion at a name without definition.
+fn undefined(alloc: Global, name: &str) -> Result<Halted, TreeFault>
+    ensures { Gives (λ halted. halted ≡ HaltedBy (Undefined name.now)) result }
+{
+    let name = Text::from_str(alloc, name)?;
+    Ok(Halted::By(ExpansionFault::Undefined(name)))
+}
+
+/// The nodes for a reference of a name; `within` is the definition that it stands in.
+pub fn expansion(
+    alloc: Global,
+    definitions: &Definitions,
+    name: &str,
+    within: Option<usize>,
+) -> Result<Vec<Node>, Halted>
+    ensures { ComesTo (nodes_for (found_by definitions.now) within name.now) (λ nodes. nodes.items) result }
+{
+    let mut progress = Progress::start(alloc, within)?;
+    let content = entered(alloc, definitions, name, &mut progress)?;
+    let mut nodes = Vec::new(alloc);
+    add_expanded(alloc, definitions, content, &mut progress, &mut nodes)?;
+    Ok(nodes)
+}

@@ -1,5 +1,0 @@
-use Rattle.rst_tree.specs.Nodes.{node_height}
-use Rattle.rst_transform_tests.proofs.outline.+hold_names.Given as goal
-
-abbrev pub decreases-hold_names : goal.decreases-hold_names
-decreases-hold_names l = node_height l.node.now

@@ -1,0 +1,69 @@
+//! Lists of texts among the attributes, lists of nodes, and lists of places.
+ghost use Rattle.std.specs.Prelude.{◌≡◌, ◌++◌};
+ghost use Rattle.rst_tree.specs.Attributes.{without_key};
+ghost use Rattle.rst_tree.specs.Faults.{Gives};
+ghost use Rattle.rst_transform_work.specs.Lists.{at_place, listed, with_listed, with_list_of, with_names};
+
+use rst_tree::{Attrs, Key, Node, Said, Text, Texts, TreeFault, Value};
+use std::alloc::Global;
+
+/// Takes out an attribute, and gives the texts that it lists; none where it is missing or no list.
+pub fn take_list(alloc: Global, attrs: &mut Attrs, key: Key) -> Texts
+    ensures texts { result ≡ listed key attrs.old }
+    ensures rest { attrs.new ≡ without_key key attrs.old }
+{
+    match attrs.remove(key) {
+        Some(Value::List(texts)) => texts,
+        _ => Texts::new(alloc),
+    }
+}
+
+/// Puts texts behind those that an attribute lists.
+pub fn append(alloc: Global, attrs: &mut Attrs, key: Key, more: &[Text]) -> Result<(), TreeFault>
+    ensures { Gives (λ _. attrs.new ≡ with_listed key more.now attrs.old) result }
+{
+    if more.is_empty() {
+        return Ok(());
+    }
+    let mut texts = take_list(alloc, attrs, key);
+    for text in more {
+        texts.push(text.copy()?)?;
+    }
+    attrs.set(key, Value::List(texts))
+}
+
+/// Puts the ids, names and lost names that attributes tell behind those that others tell.
+pub fn append_names(alloc: Global, attrs: &mut Attrs, from: &Attrs) -> Result<(), TreeFault>
+    ensures { Gives (λ _. attrs.new ≡ with_names from.now attrs.old) result }
+{
+    append_from(alloc, attrs, Key::Ids, from)?;
+    append_from(alloc, attrs, Key::Names, from)?;
+    append_from(alloc, attrs, Key::Dupnames, from)
+}
+
+/// Puts the texts that an attribute lists elsewhere behind those that it lists here.
+fn append_from(alloc: Global, attrs: &mut Attrs, key: Key, from: &Attrs) -> Result<(), TreeFault>
+    ensures { Gives (λ _. attrs.new ≡ with_list_of key from.now attrs.old) result }
+{
+    match from.get(key) {
+        Some(Said::List(more)) => append(alloc, attrs, key, more),
+        _ => Ok(()),
+    }
+}
+
+/// The nodes, and then more.
+pub fn joined(mut nodes: Vec<Node>, more: Vec<Node>) -> Result<Vec<Node>, TreeFault>
+    ensures { Gives (λ all. all.items ≡ nodes.items ++ more.items) result }
+{
+    for node in more {
+        nodes.push(node)?;
+    }
+    Ok(nodes)
+}
+
+/// What a list of places has for one of them.
+pub fn at_place(places: &[Option<usize>], place: usize) -> Option<usize>
+    ensures { result ≡ at_place places.now place }
+{
+    *places.get(place)?
+}

@@ -1,0 +1,72 @@
+//! What problematics tell.
+ghost use Rattle.std.specs.Prelude.{◌≡◌, ◌++◌, Some, None};
+ghost use Rattle.rst_tree.specs.Faults.{Gives};
+ghost use Rattle.rst_transform_work.specs.Problematics.{message_attrs, told};
+
+use rst_tree::{Attrs, Entry, Key, Text, Texts, TreeFault, Value};
+use std::alloc::Global;
+use std::marker::Model;
+use std::mem;
+
+/// What a problematic tells, which contracts see as its attributes (Document Tree, 'problematic'). A document can have many that
+/// wait for their places in the tree, and this takes no memory of its own.
+#[derive(Drop)]
+pub struct ProblematicAttrs {
+    id: Text,
+    /// The number and the id of its message, if it has one.
+    message: Option<(u64, Text)>,
+}
+
+impl Model for ProblematicAttrs {
+    ghost use Rattle.std.specs.Prelude.{List};
+    ghost use Rattle.rst_tree.specs.declared.attrs.Attr.{Attr};
+    ghost use Rattle.rst_transform_work.specs.Problematics.{told};
+
+    ghost Value = { List Attr };
+
+    ghost view = { λ p. told p.id p.message };
+}
+
+impl ProblematicAttrs {
+    /// The problematic of an id, with the number and the id of its message.
+    pub fn of(id: Text, number: u64, own: Text) -> ProblematicAttrs
+        ensures { result ≡ told id (Some (number, own)) }
+    {
+        ProblematicAttrs {
+            id,
+            message: Some((number, own)),
+        }
+    }
+
+    /// One of an id without message.
+    pub fn alone(id: Text) -> ProblematicAttrs
+        ensures { result ≡ told id None }
+    {
+        ProblematicAttrs { id, message: None }
+    }
+
+    /// Lets an element tell it in place of its attributes, in the room that they had.
+    pub fn tell(self, alloc: Global, attrs: &mut Attrs) -> Result<(), TreeFault>
+        ensures { Gives (λ _. attrs.new ≡ self) result }
+    {
+        let mut list = mem::replace(attrs, Attrs::new(alloc)).into_list();
+        list.clear();
+        list.reserve_exact(3)?;
+        let id = Value::List(Texts::lone(alloc, self.id));
+        list.push(Entry::new(Key::Ids, id))?;
+        push_message(&mut list, self.message)?;
+        *attrs = Attrs::of(list);
+        Ok(())
+    }
+}
+
+/// Adds the number and the id of a message, if there is one.
+fn push_message(list: &mut Vec<Entry>, message: Option<(u64, Text)>) -> Result<(), TreeFault>
+    ensures { Gives (λ _. list.new.items ≡ list.old.items ++ message_attrs message) result }
+{
+    if let Some((number, own)) = message {
+        list.push(Entry::new(Key::Message, Value::Number(number)))?;
+        list.push(Entry::new(Key::Refid, Value::Text(own)))?;
+    }
+    Ok(())
+}

@@ -1,0 +1,109 @@
+//! What the attributes of an element say.
+ghost use Rattle.std.specs.Prelude.{◌≡◌, [], MatchOption, Some, None, is_some, slice_get, unwrap_or};
+ghost use Rattle.rst_tree.specs.Attributes.{value_of, said_text};
+ghost use Rattle.rst_tree.specs.Faults.{Gives};
+ghost use Rattle.rst_tree.specs.Paths.{node_value};
+ghost use Rattle.rst_transform_work.specs.Reading.{text_said, number_said, list_said, line_of, may_precede, is_title};
+
+use rst_tree::{Attrs, Key, Node, Said, Tag, Texts, TreeFault};
+use std::alloc::Global;
+
+/// What the attribute of a name says, where it is a text.
+fn text<'a>(attrs: &'a Attrs, key: Key) -> Option<&'a str>
+    ensures { MatchOption result (said_text (value_of key attrs.now) ≡ None) (λ text. said_text (value_of key attrs.now) ≡ Some text.now) }
+{
+    match attrs.text(key) {
+        Some(text) => Some(text.as_str()),
+        None => None,
+    }
+}
+
+/// The same; the empty text where there is none.
+pub fn said(attrs: &Attrs, key: Key) -> &str
+    ensures { result.now ≡ unwrap_or (said_text (value_of key attrs.now)) [] }
+{
+    text(attrs, key).unwrap_or("")
+}
+
+/// What an attribute of a node says, where it is a text.
+pub fn text_said<'a>(node: &'a Node, key: Key) -> Option<&'a str>
+    ensures { MatchOption result (text_said key node.now ≡ None) (λ text. text_said key node.now ≡ Some text.now) }
+{
+    match node {
+        Node::Element { attrs, .. } => text(attrs, key),
+        Node::Text(_) => None,
+    }
+}
+
+/// What an attribute of a node says, where it is a number.
+pub fn number_said(node: &Node, key: Key) -> Option<u64>
+    ensures { result ≡ number_said key node.now }
+{
+    match node {
+        Node::Element { attrs, .. } => attrs.number(key),
+        Node::Text(_) => None,
+    }
+}
+
+/// The first member of what an attribute says, where it is a list that has one.
+pub fn first_said<'a>(node: &'a Node, key: Key) -> Option<&'a str>
+    ensures { MatchOption result (slice_get (list_said key node.now) 0 ≡ None) (λ text. slice_get (list_said key node.now) 0 ≡ Some text.now) }
+{
+    match node.value(key) {
+        Some(Said::List(list)) => match list.first() {
+            Some(text) => Some(text.as_str()),
+            None => None,
+        },
+        _ => None,
+    }
+}
+
+/// A copy of what an attribute says, where it is a list, or else an empty list.
+pub fn list_said(alloc: Global, node: &Node, key: Key) -> Result<Texts, TreeFault>
+    ensures { Gives (λ list. list ≡ list_said key node.now) result }
+{
+    match node.value(key) {
+        Some(Said::List(list)) => Texts::copy_of(alloc, list),
+        _ => Ok(Texts::new(alloc)),
+    }
+}
+
+/// Whether an element has an attribute.
+pub fn has(node: &Node, key: Key) -> bool
+    ensures { result ≡ is_some (node_value key node.now) }
+{
+    node.value(key).is_some()
+}
+
+/// The number of the first line of an element; 0 for a text, which has none of its own.
+pub fn line_of(node: &Node) -> usize
+    ensures { result ≡ line_of node.now }
+{
+    match node {
+        Node::Element { line, .. } => *line,
+        Node::Text(_) => 0,
+    }
+}
+
+/// Whether a node may stand before the lone section of a document.
+pub fn may_precede(node: &Node) -> bool
+    ensures { result ≡ may_precede node.now }
+{
+    match node {
+        Node::Element { tag, .. } => matches!(
+            tag,
+            Tag::Comment | Tag::Target | Tag::SubstitutionDefinition | Tag::SystemMessage
+        ),
+        Node::Text(_) => false,
+    }
+}
+
+/// Whether a node is a title or a subtitle.
+pub fn is_title(node: &Node) -> bool
+    ensures { result ≡ is_title node.now }
+{
+    match node {
+        Node::Element { tag, .. } => matches!(tag, Tag::Title | Tag::Subtitle),
+        Node::Text(_) => false,
+    }
+}
