@@ -1,11 +1,11 @@
--- The pieces of a text, found one behind the other (Markup Specification, 'Inline markup recognition rules').
+-- The pieces of a text, found from left to right (Markup Specification, 'Inline markup recognition rules').
 use Rattle.std.specs.Prelude.{ℕ, zero, suc, ◌-◌, nat_lt, List, [], ◌∷◌, ◌++◌, length, Option, Some, None, is_some, if◌then◌else◌}
 use Rattle.rst_text.specs.Places.{first_from}
 use Rattle.rst_inline_scan.specs.Characters.{Text}
 use Rattle.rst_inline_scan.specs.Pieces.{piece_at, plain_from}
 use Rattle.rst_inline_scan.specs.declared.piece.Piece.{Piece}
 
--- the least start at or behind a place, where plain text begins
+-- the least start at or after a place, where plain text begins
 abbrev pub next_start : Text → ℕ → Option ℕ
 next_start t from = first_from (λ i. is_some (piece_at t from i)) from (length t - from)
 
@@ -13,12 +13,12 @@ next_start t from = first_from (λ i. is_some (piece_at t from i)) from (length 
 abbrev pub plain_if : ℕ → ℕ → List Piece
 plain_if from to = if nat_lt from to then plain_from from to ∷ [] else []
 
--- a piece, and those behind it
+-- a piece, and those after it
 abbrev pub piece_then : Option Piece → (ℕ → List Piece) → List Piece
 piece_then None others = []
 piece_then (Some p) others = p ∷ others p.to
 
--- the plain piece up to the next start, and the piece that begins there
+-- the plain piece up to the next start, the piece that begins there, and those after it
 abbrev pub pieces_by : Text → ℕ → Option ℕ → (ℕ → List Piece) → List Piece
 pieces_by t from None others = plain_if from (length t)
 pieces_by t from (Some i) others = plain_if from i ++ piece_then (piece_at t from i) others
@@ -26,8 +26,8 @@ pieces_by t from (Some i) others = plain_if from i ++ piece_then (piece_at t fro
 -- the pieces from a place on, with no more starts than so many
 abbrev pub pieces_from : Text → ℕ → ℕ → List Piece
 pieces_from t zero from = []
-pieces_from t (suc n) from = pieces_by t from (next_start t from) (λ behind. pieces_from t n behind)
+pieces_from t (suc n) from = pieces_by t from (next_start t from) (λ next. pieces_from t n next)
 
--- the pieces of a text: each but the last ends at a start, and there are no more starts than characters
+-- the pieces of a text, which has no more starts than characters
 unfoldable pub pieces_of : Text → List Piece
 pieces_of t = pieces_from t (suc (length t)) 0

@@ -17,7 +17,7 @@ pub fn quiet_is_one_piece()
     ensures none { IsPieces [] 0 [] }
 {}
 
-/// The pieces of a text are those that are found one behind the other.
+/// The pieces of a text are those that are found from left to right.
 pub fn pieces_are_found()
     ensures { (t : List ℕ) → IsPieces t 0 (pieces_of t) }
 {}

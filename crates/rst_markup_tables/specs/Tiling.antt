@@ -28,11 +28,11 @@ is_side G row left right = place G row left == 43 && (place G row right == 43 &&
 unfoldable pub is_frame : Grid → ℕ → ℕ → ℕ → ℕ → Bool
 is_frame G top left right bottom = is_side G top left right && (is_side G bottom left right && (goes_down G left top bottom && goes_down G right top bottom))
 
--- the least bottom side of one with this right side
+-- the least bottom side of a rectangle with these other sides
 abbrev pub bottom_of : Grid → ℕ → ℕ → ℕ → Option ℕ
 bottom_of G top left right = first_from (is_frame G top left right) (top + 1) (length G - (top + 1))
 
--- the least right side
+-- the least right side of a rectangle that is drawn from a place
 abbrev pub right_of : Grid → ℕ → ℕ → Option ℕ
 right_of G top left = first_from (λ right. is_some (bottom_of G top left right)) (left + 1) (width G - (left + 1))
 
@@ -51,16 +51,16 @@ drawn_at G top left = drawn_by G top left (right_of G top left)
 
 -- ---- the tiling
 
--- one unit square more: if it lies in none of some rectangles, the one that is drawn from it comes behind them
+-- one unit square more: if it lies in none of some rectangles, the rectangle that is drawn from it is added to them
 abbrev pub with_square : Grid → ℕ → ℕ → List Rectangle → List Rectangle
 with_square G i j rs = if nat_lt 0 (times rs i j) then rs else rs ++ option_to_list (drawn_at G i j)
 
--- the same of n unit squares of a row from column j on
+-- n unit squares more, of row i from column j on
 abbrev pub with_squares : Grid → ℕ → ℕ → ℕ → List Rectangle → List Rectangle
 with_squares G i j zero rs = rs
 with_squares G i j (suc n) rs = with_squares G i (j + 1) n (with_square G i j rs)
 
--- the same of n rows from row i on
+-- the unit squares of n rows more, from row i on
 abbrev pub with_rows : Grid → ℕ → ℕ → List Rectangle → List Rectangle
 with_rows G i zero rs = rs
 with_rows G i (suc n) rs = with_rows G (i + 1) n (with_squares G i 0 (width G - 1) rs)
@@ -69,7 +69,7 @@ with_rows G i (suc n) rs = with_rows G (i + 1) n (with_squares G i 0 (width G - 
 abbrev pub cover_once : Grid → List Rectangle → Bool
 cover_once G rs = all_from (λ i. all_from (λ j. times rs i j == 1) 0 (width G - 1)) 0 (length G - 1)
 
--- the tiling of a grid, if there is one: the rectangles that are found so, if each unit square lies in exactly one of them
+-- the tiling of a grid: the rectangles that its unit squares give from left to right and top to bottom, if each square lies in exactly one of them
 unfoldable pub tiling_of : Grid → Option (List Rectangle)
 tiling_of G = let rs = with_rows G 0 (length G - 1) [] in if cover_once G rs then Some rs else None
 
