@@ -1,4 +1,4 @@
-//! Part of the transforms.
+//! The finished document: registration and the transforms, one after the other.
 #![tactic(auto)]
 
 mod fault;
@@ -6,3 +6,4 @@ mod finishing;
 
 pub use fault::TransformFault;
 pub use finishing::{Finished, finish};
+pub use rst_settings::Settings;

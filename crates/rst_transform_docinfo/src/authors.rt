@@ -7,7 +7,7 @@ ghost use Rattle.rst_tree.specs.Nodes.{nodes_of};
 ghost use Rattle.rst_transform_docinfo.specs.Authors.{all_paragraphs, author, author_named, authors_in, authors_node, by_paragraph, lone_text, names_in, parted};
 
 use crate::field::{Field, lone, one_list, one_paragraph, paragraph_in};
-use rst_transform_work::texts::copies;
+use rst_transform_work::copies;
 use rst_tree::{Attrs, Children, Node, Tag, TreeFault};
 use std::alloc::Global;
 

@@ -12,8 +12,7 @@ ghost use Rattle.rst_transform_work.specs.Reports.{report_node, KeepsRest};
 
 use crate::authors::authors;
 use crate::field::{Field, into_children, into_last};
-use rst_transform_work::texts::identified;
-use rst_transform_work::work::Work;
+use rst_transform_work::{Work, identified};
 use rst_tree::{Attrs, Children, Key, Level, Node, Tag, Text, Texts, TreeFault, Value};
 use std::alloc::Global;
 

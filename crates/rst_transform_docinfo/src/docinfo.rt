@@ -11,9 +11,7 @@ ghost use Rattle.rst_transform_work.specs.Reading.{is_title};
 
 use crate::bibliography::Bibliography;
 use rst_transform_names::Names;
-use rst_transform_work::reading::{is_title, may_precede};
-use rst_transform_work::texts::add_names;
-use rst_transform_work::work::Work;
+use rst_transform_work::{Work, add_names, is_title, may_precede};
 use rst_tree::{Attrs, Children, Key, Node, Said, Tag, TreeFault};
 use std::alloc::Global;
 use std::mem;

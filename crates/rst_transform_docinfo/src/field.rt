@@ -3,7 +3,7 @@ ghost use Rattle.std.specs.Prelude.{◌≡◌, Some, None, MatchOption, MatchRes
 ghost use Rattle.rst_tree.specs.Faults.{Gives};
 ghost use Rattle.rst_transform_docinfo.specs.Fields.{field_in, field_node, is_bare, is_list, is_paragraph, last_in, lone, name_of, nodes_in, one_list, one_paragraph, paragraph_in};
 
-use rst_transform_work::texts::folded;
+use rst_transform_work::folded;
 use rst_tree::{Attrs, Children, Node, Tag, TreeFault};
 use std::alloc::Global;
 

@@ -1,7 +1,7 @@
-//! Part of the transforms.
+//! The bibliography of a document, from its leading field list (Markup Specification, 'Bibliographic Fields').
 #![tactic(auto)]
 
-pub mod authors;
-pub mod bibliography;
+mod authors;
+mod bibliography;
 pub mod docinfo;
-pub mod field;
+mod field;

@@ -10,16 +10,12 @@ ghost use Rattle.rst_transform_work.specs.Reading.{list_said, number_said};
 ghost use Rattle.rst_transform_work.specs.Lists.{at_place};
 
 use crate::note_labels::labels;
-use rst_transform_links::holders::text_attr;
-use rst_transform_links::links::{Addition, Changes, Linked, Outcome, linked_in, put_back};
-use rst_transform_links::note_order::{
-    Order, footnote_order, found_by_order, in_order, reference_order,
+use rst_transform_links::{
+    Addition, Changes, Linked, Order, Outcome, footnote_order, found_by_order, in_order, linked_in,
+    put_back, reference_order, settled, text_attr,
 };
-use rst_transform_links::settling::settled;
 use rst_transform_names::{Held, Holder, Names, Strength};
-use rst_transform_work::lists::at_place;
-use rst_transform_work::reading::{first_said, line_of, list_said, number_said};
-use rst_transform_work::work::{Work, take_root};
+use rst_transform_work::{Work, at_place, first_said, line_of, list_said, number_said, take_root};
 use rst_tree::{Entry, Key, Level, Node, Tag, Text, TreeFault, Value};
 use std::alloc::Global;
 

@@ -1,5 +1,5 @@
-//! Part of the transforms.
+//! Numbers and symbols of footnotes, and the footnotes that references find by their order (Markup Specification, 'Footnotes').
 #![tactic(auto)]
 
 pub mod footnotes;
-pub mod note_labels;
+mod note_labels;

@@ -6,8 +6,7 @@ ghost use Rattle.rst_transform_links.specs.Linkings.{held};
 ghost use Rattle.rst_transform_footnotes.specs.NoteLabels.{free_numbers, is_symbol, is_to_number, label_by, labels, labels_from, noted_number, number_of, symbol_label, symbols, to_number, TellsWritten};
 ghost use Rattle.rst_transform_links.specs.NoteOrders.{mark_of};
 
-use rst_transform_links::links::Linked;
-use rst_transform_links::note_order::mark_of;
+use rst_transform_links::{Linked, mark_of};
 use rst_tree::{Node, Text, TreeFault};
 use std::alloc::Global;
 

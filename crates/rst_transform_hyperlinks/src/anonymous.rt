@@ -4,11 +4,10 @@ ghost use Rattle.rst_tree.specs.Faults.{Gives};
 ghost use Rattle.rst_transform_hyperlinks.specs.Anonymous.{agree, agreed, failing, first_lead, first_line, is_anonymous_reference, is_anonymous_target, lead_to, mismatch, taken, with_anonymous, Agrees, ChangesAnonymous, IsAnonymous, IsComplaint};
 ghost use Rattle.rst_transform_links.specs.Linkings.{held};
 
-use rst_transform_links::holders::{lead_of, text_attr};
-use rst_transform_links::links::{Changes, Linked, Outcome, linked_in, put_back};
-use rst_transform_links::settling::settled;
-use rst_transform_work::reading::{first_said, has, line_of};
-use rst_transform_work::work::{Work, take_root};
+use rst_transform_links::{
+    Changes, Linked, Outcome, lead_of, linked_in, put_back, settled, text_attr,
+};
+use rst_transform_work::{Work, first_said, has, line_of, take_root};
 use rst_tree::{Entry, Key, Level, Node, Tag, Text, TreeFault};
 use std::alloc::Global;
 

@@ -15,13 +15,11 @@ ghost use Rattle.rst_transform_work.specs.Lists.{at_place};
 
 use crate::anonymous::{is_anonymous_reference, is_anonymous_target};
 use crate::ways::{Answer, Step, answer_at, answers};
-use rst_transform_links::holders::{Holders, is_target, lead_by_name};
-use rst_transform_links::links::{Changes, Linked, Outcome, linked_in, put_back};
-use rst_transform_links::settling::settled;
+use rst_transform_links::{
+    Changes, Holders, Linked, Outcome, is_target, lead_by_name, linked_in, put_back, settled,
+};
 use rst_transform_names::{Held, Holder, Names};
-use rst_transform_work::lists::at_place;
-use rst_transform_work::reading::{has, line_of, text_said};
-use rst_transform_work::work::{Work, take_root};
+use rst_transform_work::{Work, at_place, has, line_of, take_root, text_said};
 use rst_tree::{Key, Level, Node, Tag, Text, TreeFault};
 use std::alloc::Global;
 

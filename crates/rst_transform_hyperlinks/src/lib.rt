@@ -1,6 +1,6 @@
-//! Part of the transforms.
+//! Anonymous references and indirect targets (Markup Specification, 'Hyperlink Targets', 'Anonymous Hyperlinks').
 #![tactic(auto)]
 
 pub mod anonymous;
 pub mod indirect;
-pub mod ways;
+mod ways;

@@ -14,7 +14,7 @@ ghost use Rattle.rst_transform_work.specs.Reading.{number_said};
 
 use crate::links::Linked;
 use rst_transform_names::{Held, Holder, Names};
-use rst_transform_work::reading::{number_said, text_said};
+use rst_transform_work::{number_said, text_said};
 use rst_tree::{Entry, Key, Node, Tag, Text, TreeFault, Value};
 use std::alloc::Global;
 

@@ -6,9 +6,7 @@ ghost use Rattle.rst_transform_links.specs.Linkings.{held, inner_of, linked_amon
 ghost use Rattle.rst_transform_links.specs.Links.{Shows, changed_root, is_idle, with_more};
 ghost use Rattle.rst_transform_links.specs.Outcomes.{adds, fails, stays};
 
-use rst_transform_work::problematics::ProblematicAttrs;
-use rst_transform_work::texts::take_source;
-use rst_transform_work::work::Work;
+use rst_transform_work::{ProblematicAttrs, Work, take_source};
 use rst_tree::{Attrs, Children, Entry, Node, Rewriter, Tag, Text, TreeFault, rewrite_in};
 use rst_tree_index::is_linked;
 use std::alloc::Global;

@@ -8,8 +8,7 @@ ghost use Rattle.rst_transform_links.specs.Settling.{earlier, first_in, firsts, 
 ghost use Rattle.rst_transform_work.specs.Lists.{at_place};
 
 use crate::links::{Changes, Linked, Outcome};
-use rst_transform_work::lists::at_place;
-use rst_transform_work::work::Work;
+use rst_transform_work::{Work, at_place};
 use rst_tree::TreeFault;
 use std::alloc::Global;
 

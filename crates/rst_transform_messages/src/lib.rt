@@ -1,5 +1,7 @@
-//! Part of the transforms.
+//! The list of messages of a document, and the filter that takes out those below the report level (Configuration, 'report_level', 'halt_level').
 #![tactic(auto)]
 
 pub mod filter;
-pub mod messages;
+mod messages;
+
+pub use messages::Messages;

@@ -9,7 +9,7 @@ ghost use Rattle.rst_transform_messages.specs.MessagesIn.{note_said};
 
 use rst_settings::Threshold;
 use rst_transform_names::Registered;
-use rst_transform_work::work::Report;
+use rst_transform_work::Report;
 use rst_tree::{Attrs, Children, Key, Level, Node, Note, Tag, Text, TreeFault};
 use rst_tree_index::Kinds;
 use std::alloc::Global;

@@ -10,9 +10,8 @@ ghost use Rattle.rst_transform_references.specs.Meanings.{is_note_reference};
 ghost use Rattle.rst_transform_work.specs.Reading.{list_said};
 
 use crate::meanings::{Lookup, Meaning, is_note_reference};
-use rst_transform_links::links::{Linked, Outcome};
-use rst_transform_links::note_order::found_by_order;
-use rst_transform_work::reading::first_said;
+use rst_transform_links::{Linked, Outcome, found_by_order};
+use rst_transform_work::first_said;
 use rst_tree::{Entry, Key, Node, Text, Texts, TreeFault, Value};
 use std::alloc::Global;
 use std::collections::VecDeque;

@@ -1,6 +1,6 @@
-//! Part of the transforms.
+//! References by name: where each leads, and the references that footnotes and citations list (Markup Specification, 'Reference Names').
 #![tactic(auto)]
 
-pub mod backrefs;
-pub mod meanings;
+mod backrefs;
+mod meanings;
 pub mod resolve;

@@ -6,8 +6,7 @@ ghost use Rattle.rst_transform_links.specs.Holders.{holding, holder_place, place
 ghost use Rattle.rst_transform_links.specs.Linkings.{held};
 ghost use Rattle.rst_transform_references.specs.Meanings.{element_at, held_meaning, is_nobody, is_note_node, is_note_reference, meaning_to, note_place, reference_name};
 
-use rst_transform_links::holders::{Holders, lead_by_name};
-use rst_transform_links::links::Linked;
+use rst_transform_links::{Holders, Linked, lead_by_name};
 use rst_transform_names::{Held, Holder, Names};
 use rst_tree::{Entry, Key, Node, Tag, TreeFault};
 use std::alloc::Global;

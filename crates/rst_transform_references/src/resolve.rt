@@ -12,12 +12,11 @@ ghost use Rattle.rst_transform_references.specs.Resolving.{duplicate, is_gone, l
 
 use crate::backrefs::with_backrefs;
 use crate::meanings::{Lookup, Meaning, element_at, is_note_reference};
-use rst_transform_links::holders::Holders;
-use rst_transform_links::links::{Addition, Changes, Linked, Outcome, linked_in, put_back};
-use rst_transform_links::settling::settled;
+use rst_transform_links::{
+    Addition, Changes, Holders, Linked, Outcome, linked_in, put_back, settled,
+};
 use rst_transform_names::Names;
-use rst_transform_work::reading::{has, line_of, text_said};
-use rst_transform_work::work::{Work, take_root};
+use rst_transform_work::{Work, has, line_of, take_root, text_said};
 use rst_tree::{Key, Level, Node, Text, TreeFault};
 use std::alloc::Global;
 use std::mem;

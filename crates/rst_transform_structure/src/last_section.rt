@@ -7,7 +7,7 @@ ghost use Rattle.rst_tree.specs.Paths.{with_child};
 ghost use Rattle.rst_transform_structure.specs.LastSection.{handed, heading, is_shown, own_nodes, section_of, HasLastSection};
 
 use rst_settings::Threshold;
-use rst_transform_work::work::{Report, Work};
+use rst_transform_work::{Report, Work};
 use rst_tree::{Attrs, Children, Key, Node, Tag, Text, Texts, TreeFault, Value};
 use std::alloc::Global;
 

@@ -1,4 +1,4 @@
-//! Part of the transforms.
+//! Transforms that move elements: titles, internal targets, transitions and the last section.
 #![tactic(auto)]
 
 pub mod last_section;

@@ -5,8 +5,7 @@ ghost use Rattle.rst_tree.specs.Walk.{item, node_items, node_shape};
 ghost use Rattle.rst_transform_structure.specs.Targets.{found, found_turns, given, got_by, handed, handed_first, holder_of, is_turn, names_got, referring, retargeted, takes_ids, turns, turns_left, underway, with_refid, Passes, IsRetargeted};
 
 use rst_transform_names::{Holder, Names};
-use rst_transform_work::lists::{append, take_list};
-use rst_transform_work::work::Work;
+use rst_transform_work::{Work, append, take_list};
 use rst_tree::{
     Attrs, Key, Node, Reader, Tag, Text, TreeFault, Value, Visitor, read_elements, walk,
 };

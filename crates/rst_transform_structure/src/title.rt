@@ -9,9 +9,7 @@ ghost use Rattle.rst_transform_structure.specs.Title.{lone_section, names_got, s
 ghost use Rattle.rst_transform_work.specs.Reading.{may_precede};
 
 use rst_transform_names::{Holder, Names};
-use rst_transform_work::lists::{append_names, joined};
-use rst_transform_work::reading::may_precede;
-use rst_transform_work::work::Work;
+use rst_transform_work::{Work, append_names, joined, may_precede};
 use rst_tree::{Attrs, Children, Key, Node, Said, Tag, Text, TreeFault, Value};
 use std::alloc::Global;
 

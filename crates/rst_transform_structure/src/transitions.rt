@@ -8,8 +8,7 @@ ghost use Rattle.rst_transform_work.specs.Reports.{KeepsRest, report_node};
 ghost use Rattle.rst_transform_structure.specs.Transitions.{behind, ends_in_transition, fault_before, further, is_section, is_transition, none_yet, place_in, put_last, put_transition, so_far, transition_report, with_fault, with_message, with_places, with_reports, HasTransitions};
 ghost use Rattle.rst_transform_work.specs.Reading.{is_title};
 
-use rst_transform_work::reading::is_title;
-use rst_transform_work::work::Work;
+use rst_transform_work::{Work, is_title};
 use rst_tree::{Attrs, Children, Level, Node, Tag, Text, TreeFault};
 use std::alloc::Global;
 use std::mem;

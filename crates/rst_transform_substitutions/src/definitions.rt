@@ -5,8 +5,7 @@ ghost use Rattle.std.specs.Str.{bytes_eq};
 ghost use Rattle.rst_tree.specs.Faults.{Gives};
 ghost use Rattle.rst_transform_substitutions.specs.Definitions.{defined, definitions_among, definitions_in, known_found, known_place, own_definition, AreKnown, Definition};
 
-use rst_transform_work::reading::said;
-use rst_transform_work::texts::{copies, folded};
+use rst_transform_work::{copies, folded, said};
 use rst_tree::{Attrs, Children, Key, Node, Tag, TreeFault};
 use std::alloc::Global;
 use std::collections::BTreeMap;

@@ -9,10 +9,7 @@ ghost use Rattle.rst_transform_substitutions.specs.Expansion.{name_said, nodes_f
 
 use crate::definitions::Definitions;
 use crate::expansion::{ExpansionFault, Halted, expansion, is_reference};
-use rst_transform_work::lists::joined;
-use rst_transform_work::reading::said;
-use rst_transform_work::texts::take_source;
-use rst_transform_work::work::{Work, take_root};
+use rst_transform_work::{Work, joined, said, take_root, take_source};
 use rst_tree::{Attrs, Children, Key, Level, Node, Tag, TreeFault};
 use std::alloc::Global;
 

@@ -8,7 +8,7 @@ ghost use Rattle.rst_transform_substitutions.specs.Definitions.{found_by};
 ghost use Rattle.rst_transform_substitutions.specs.Expansion.{behind, copied, expanded, given, is_reference, most_met, nodes_for, path_from, size_of, told, ComesTo, Enters};
 
 use crate::definitions::Definitions;
-use rst_transform_work::reading::said;
+use rst_transform_work::said;
 use rst_tree::{Attrs, Children, Key, Node, Tag, Text, TreeFault};
 use std::alloc::{AllocError, AllocFailed, Global};
 

@@ -1,6 +1,6 @@
-//! Part of the transforms.
+//! Substitution references and their definitions (Markup Specification, 'Substitution Definitions').
 #![tactic(auto)]
 
-pub mod definitions;
+mod definitions;
 pub mod expand;
-pub mod expansion;
+mod expansion;

@@ -2,7 +2,7 @@
 use super::directives_call_cases::{DIRECTIVES, MORE_DIRECTIVES};
 use super::directives_tests::push_target;
 use super::parts::{line, push_characters, push_part};
-use rst_markup_blocks::{Characters, Explicit, Invocation, explicit, kind_of};
+use rst_markup::{Characters, Explicit, Invocation, explicit, kind_of};
 use rst_markup_directives::{
     Alignment, Argument, Directive, DirectiveFault, Name, OptionName, OptionValue, Place, Setting,
     directive, message,

@@ -1,6 +1,6 @@
 //! Explicit markup, on examples from outside.
 use super::parts::{line, push_characters, push_part};
-use rst_markup_blocks::{Characters, CommentCause, Explicit, Invocation, Part, explicit, kind_of};
+use rst_markup::{Characters, CommentCause, Explicit, Invocation, Part, explicit, kind_of};
 use rst_text::{Lines, Looks, View};
 use std::alloc::Global;
 use std::test::Fail;

@@ -1,5 +1,5 @@
 //! Characters and parts of views as the tests tell them.
-use rst_markup_blocks::{Characters, Part};
+use rst_markup::{Characters, Part};
 use rst_text::{Looks, View, skip};
 use std::test::Fail;
 

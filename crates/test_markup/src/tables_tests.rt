@@ -1,5 +1,6 @@
 //! Examples whose answers come from outside, and that the calls succeed.
-use rst_markup_tables::{Cell, TableResult, grid, malformed_text, simple};
+use rst_markup::{Cell, TableResult, grid, simple};
+use rst_markup_tables::malformed_text;
 use rst_text::{Lines, Looks, View};
 use std::alloc::{AllocError, Global};
 use std::test::Fail;

@@ -4,7 +4,7 @@
 
 use rst_text::Counted;
 use rst_transform_names::{Held, Holder, Ids, Names, Strength};
-use rst_transform_work::work::Work;
+use rst_transform_work::Work;
 use rst_tree::{Attrs, Key, Node, Said, Tag, Text, Texts, Tree, TreeFault, Value, print};
 use std::alloc::Global;
 use std::test::Fail;

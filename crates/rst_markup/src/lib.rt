@@ -1,0 +1,16 @@
+//! The markup of blocks: what begins at a line, where it ends, and what explicit markup, directives and tables say
+//! (Markup Specification, 'Body Elements'). The crates `rst_markup_blocks`, `rst_markup_directives` and
+//! `rst_markup_tables` have the code; this one has the calls that a reader of blocks needs in one place.
+#![tactic(auto)]
+
+pub use rst_markup_blocks::laws::one_partition;
+pub use rst_markup_blocks::{
+    AnonymousTarget, BarLine, BlankLine, BlockQuote, BulletItem, Characters, CommentCause,
+    Construct, DoctestBlock, EnumeratedItem, Explicit, ExplicitMarkup, FieldItem, GridTable,
+    Invocation, Kind, OptionListItem, Part, SimpleTable, TextLine, end_of, explicit, kind_of,
+};
+pub use rst_markup_directives::{Directive, DirectiveFault, MarkupFault, Place, directive};
+pub use rst_markup_tables::{
+    Cell, CellLines, TableFault, TableResult, grid, no_grid_behind, no_simple_behind, one_tiling,
+    simple,
+};
