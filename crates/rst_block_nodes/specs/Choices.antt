@@ -1,4 +1,4 @@
--- What the options of directives, by their meanings, say of elements, and the messages on wrong directives (Directives, 'Common Options',
+-- The elements of directives, by the meanings of their options, and the texts of the messages on wrong directives (Directives, 'Common Options',
 -- 'Image', 'Figure', 'Code'; Document Tree, 'system_message').
 use Rattle.std.specs.Prelude.{ℕ, Bool, List, [], ◌∷◌, ◌++◌, map, codes, Option, Some, None, encode_utf8_all}
 use Rattle.rst_tree.specs.Attributes.{attr}
@@ -32,12 +32,12 @@ value_meant (classed ids) = Listed (map encode_utf8_all ids)
 value_meant (linked to source) = Said (encode_utf8_all source)
 value_meant (called name) = Said (encode_utf8_all name)
 
--- the attributes with those that choices give, one after the other
+-- attributes with those that the choices of options give, one after the other
 abbrev pub with_choices : Holder → List Choice → List Attr → List Attr
 with_choices holder [] attrs = attrs
 with_choices holder (ch ∷ more) attrs = with_choices holder more (with_value_at (option_key holder ch.0) (value_meant ch.1) attrs)
 
--- a directive's element, which holds nothing yet
+-- the element of a directive with a body, which holds nothing yet
 abbrev pub directive_element : Name → List Choice → ℕ → Node
 directive_element name choices line = Element (tag_of name) (with_choices Body choices []) bare line
 
@@ -45,28 +45,28 @@ directive_element name choices line = Element (tag_of name) (with_choices Body c
 abbrev pub figure_element : List Choice → ℕ → Node
 figure_element choices line = Element FigureTag (with_choices Figure choices []) bare line
 
--- program code in a language
+-- program code, in a language if one is given: a literal block
 abbrev pub code_element : Option (List ℕ) → List Choice → List ℕ → ℕ → Node
 code_element language choices text line = element_of LiteralBlock (code_attrs language (with_choices Body choices preserving)) (text_nodes text) line
 
--- where a choice leads, with its source
+-- what a choice refers to, with its source, if it is a `target`
 abbrev pub link_meant : Meaning → Option (Destination × List ℕ)
 link_meant (linked to source) = Some (to, encode_utf8_all source)
 link_meant _ = None
 
--- what choices lead to
+-- what the first `target` among choices refers to
 abbrev pub link_chosen : List Choice → Option (Destination × List ℕ)
 link_chosen [] = None
 link_chosen (ch ∷ more) = first_link (link_meant ch.1) (link_chosen more)
 
--- an image, maybe in a figure, with a text instead of it, and the reference round it, if it leads anywhere
+-- an image, in a figure or not, with an alternate text unless the choices have one; it is in a reference if they have a `target`
 abbrev pub image_element : List ℕ → List Choice → ℕ → Bool → Option (List ℕ) → Node
 image_element uri choices line in_figure alt =
     linked_by (link_chosen choices) (Element ImageTag (with_choices (image_holder in_figure) choices (with_alt alt (attr Uri (Said uri) ∷ []))) bare line) line
 
 -- ---- messages
 
--- what is wrong inside a directive, in words
+-- the second line of the message on a directive in which something is wrong
 abbrev pub wrong_text : Wrong → List ℕ
 wrong_text option_block = codes "invalid option block."
 wrong_text (unknown option) = codes "unknown option: \"" ++ encode_utf8_all option ++ codes "\"."
@@ -77,7 +77,7 @@ wrong_text many_arguments = codes "at most 1 argument permitted."
 wrong_text content_not_permitted = codes "no content permitted."
 wrong_text not_one_paragraph = codes "may contain a single paragraph only."
 
--- the message on a fault of the directive of this name, or of the substitution definition of this name
+-- the text of the message on a wrong directive of this name; where a substitution definition may not hold it, the name is that of the definition
 abbrev pub fault_text : Fault → List ℕ → List ℕ
 fault_text not_in_substitution name = codes "Substitution definition \"" ++ name ++ codes "\" may hold only image or replace."
 fault_text unknown_directive name = codes "Unknown directive type \"" ++ name ++ codes "\"."

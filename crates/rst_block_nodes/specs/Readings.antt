@@ -1,4 +1,5 @@
--- What a text gives, as functions of the text (Markup Specification, 'Inline Markup').
+-- The nodes of a text with inline markup, and the messages on it, as functions of the text (Markup Specification, 'Inline Markup',
+-- 'Definition Lists').
 use Rattle.std.specs.Prelude.{◌≡◌, ℕ, List, [], map, length}
 use Rattle.rst_tree.specs.declared.node.Node.{Node}
 use Rattle.rst_tree.specs.declared.tag.Tag.{Tag}
@@ -11,30 +12,30 @@ use Rattle.rst_block_nodes.specs.Results.{HoldsText, HeadsText}
 use Rattle.rst_block_nodes.specs.Terms.{texts_of, groups_of, heads_of}
 use Rattle.rst_block_nodes.specs.Texts.{counting, messages_from, numbered_on}
 
--- the nodes of a text, whose messages are numbered from `first` on
+-- the nodes of a text, where the messages on it are numbered from `first` on
 abbrev pub read_nodes : List ℕ → ℕ → ℕ → List Node
 read_nodes t line first = map (numbered_on first) (nodes_behind t line [] (pieces_of t))
 
--- the messages of a text
+-- the messages on a text, which are numbered from `first` on and have the number of this line
 abbrev pub read_notes : List ℕ → ℕ → ℕ → List Node
 read_notes t line first = messages_from first (notes_of t line (pieces_of t))
 
--- an element with a text
+-- an element of this line that holds a text, whose first line is `text_line`
 abbrev pub texted_node : Tag → ℕ → List ℕ → ℕ → ℕ → Node
 texted_node tag line t text_line first = element_of tag (counting (length (read_notes t text_line first))) (read_nodes t text_line first) line
 
--- the elements of a term and of its classifiers
+-- the elements of a term and of its classifiers, which are the parts of one text
 abbrev pub term_nodes : List ℕ → ℕ → ℕ → List Node
 term_nodes t line first = heads_of (length (read_notes t line first)) line (groups_of (texts_of t (pieces_of t)) (read_nodes t line first))
 
 -- ---- laws
 
--- an element that holds a text is that of these functions
+-- an element that holds a text, and the messages on the text, are those of these functions
 abbrev pub TextsAreRead : Type 0
 TextsAreRead = (tag : Tag) (line : ℕ) (t : List ℕ) (text_line first : ℕ) (made : Texted) → HoldsText tag line t text_line first made
     → (made.element ≡ texted_node tag line t text_line first) × (made.notes.items ≡ read_notes t text_line first)
 
--- and so are the heads of a definition
+-- a term and its classifiers, and the messages on their text, are those of these functions
 abbrev pub TermsAreRead : Type 0
 TermsAreRead = (t : List ℕ) (line first : ℕ) (made : Heads) → HeadsText t line first made
     → (made.heads.items ≡ term_nodes t line first) × (made.notes.items ≡ read_notes t line first)

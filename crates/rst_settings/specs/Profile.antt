@@ -1,5 +1,5 @@
--- What a definition of the whole document leaves to be chosen; there is none yet (Configuration, 'line_length_limit',
--- 'docinfo_xform'; Directives, 'Code'; the bound on nesting is no rule of markup).
+-- What a definition of the whole document leaves to be chosen (Configuration, 'line_length_limit', 'docinfo_xform'; Directives,
+-- 'Code'; the bound on nesting is no rule of markup).
 use Rattle.std.specs.Prelude.{ℕ, Bool, true}
 use Rattle.rst_settings.specs.declared.Settings.{Settings}
 
