@@ -1,4 +1,4 @@
 pub mod Holding
 pub mod Idle
 pub mod Linking
-pub mod Settled
+pub mod SettlingLemmas

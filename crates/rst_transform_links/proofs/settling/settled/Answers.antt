@@ -1,5 +1,5 @@
 use Rattle.std.proofs.Common.{sym, ◌∙◌}
-use Rattle.rst_transform_links.proofs.Settled.{idle}
+use Rattle.rst_transform_links.proofs.SettlingLemmas.{idle}
 use Rattle.rst_transform_links.proofs.settling.settled.Goals as goal
 
 pub returns-then-all_stay-clause-settles : goal.returns-then-all_stay-clause-settles

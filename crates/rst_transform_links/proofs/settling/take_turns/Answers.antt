@@ -1,5 +1,5 @@
 use Rattle.std.proofs.Common.{rules}
-use Rattle.rst_transform_links.proofs.Settled.{next_turn}
+use Rattle.rst_transform_links.proofs.SettlingLemmas.{next_turn}
 use Rattle.rst_transform_links.proofs.settling.take_turns.Goals as goal
 
 pub loop-turn-preserved : goal.loop-turn-preserved
