@@ -162,7 +162,7 @@ fn are_all_met(around: &[Option<usize>]) -> bool
 }
 
 /// What becomes of the elements that are met in the end.
-#[tactic(auto, using(crate::proofs::Settled::all_met))]
+#[tactic(auto, using(crate::proofs::SettlingLemmas::all_met))]
 fn met(
     alloc: Global,
     outcomes: Vec<Outcome>,
