@@ -1,7 +1,5 @@
 -- Fields and their parts (Document Tree, 'field').
-use Rattle.std.specs.Prelude.{ℕ, Bool, true, false, List, [], ◌∷◌, Option, Some, None, if◌then◌else◌, encode_utf8_all}
-use Rattle.std.specs.Str.{chars}
-use Rattle.rst_text.specs.Names as names
+use Rattle.std.specs.Prelude.{ℕ, Bool, true, false, List, [], ◌∷◌, Option, Some, None, if◌then◌else◌}
 use Rattle.rst_tree.specs.declared.attrs.Attr.{Attr}
 use Rattle.rst_tree.specs.declared.node.Node.{Node}
 use Rattle.rst_tree.specs.declared.node.Node.TheVariants.{Element, Text}
@@ -10,6 +8,7 @@ use Rattle.rst_tree.specs.declared.tag.Tag.TheVariants.{BulletList, Paragraph, F
 use Rattle.rst_tree.specs.Forest.{Forest, bare, element, words}
 use Rattle.rst_tree.specs.Nodes.{forest_of, nodes_of}
 use Rattle.rst_tree.specs.Tree.{text_in}
+use Rattle.rst_transform_work.specs.Reading.{name_in}
 use Rattle.rst_transform_docinfo.specs.declared.field.Field.{Field}
 
 -- a field's attributes, its name, its body and its line
