@@ -3,15 +3,20 @@
 # Progress goes to standard error.
 set -euo pipefail
 cd -- "$(dirname -- "$0")/.."
-sources=$(scripts/digest.sh)
 program=crates/rst2pseudoxml/out/rst2pseudoxml
-if [ -x "$program" ] && [ "$(cat "$program.sources" 2>/dev/null)" = "$sources" ]; then
+if [[ "$(scripts/program.sh 2>/dev/null)" == */"$program" ]]; then
   exit 0
 fi
+sources=$(scripts/digest.sh)
 echo "rst2pseudoxml: proving and building the program; this takes some minutes the first time" >&2
+rm -f "$program.sources"
 log=$(mktemp) && trap 'rm -f "$log"' EXIT
 if ! (cd crates/rst2pseudoxml && rt run </dev/null 2>&1 >/dev/null | tee "$log" | { grep --line-buffered '^rt:' || true; }) >&2; then
   grep -v '^statements ' "$log" >&2
+  exit 1
+fi
+if [ "$(scripts/digest.sh)" != "$sources" ]; then
+  echo "rst2pseudoxml: a source changed while the program was built; it may be of either" >&2
   exit 1
 fi
 echo "$sources" >"$program.sources"

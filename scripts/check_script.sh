@@ -1,6 +1,7 @@
 #!/usr/bin/env bash
-# Tests ./rst2pseudoxml: that arguments, standard input and the exit status pass through it, from any folder, and that the
-# program works over real streams.
+# Tests ./rst2pseudoxml: that arguments, standard input and the exit status pass through it, from any folder, that the
+# program works over real streams, and (on a copy of the checkout) that it never runs a program of other sources.
+# shellcheck disable=SC2016 # a change of the copy is given as text
 set -u
 top=$(cd -- "$(dirname -- "$0")/.." && pwd)
 folder=$(mktemp -d) && trap 'rm -rf "$folder"' EXIT && cd "$folder" || exit 1
@@ -48,5 +49,113 @@ printf 'a' | "$top/rst2pseudoxml" >/dev/full 2>err
 same 'a full disk' '1 rst2pseudoxml: write failed' "$? $(cat err)"
 "$top/rst2pseudoxml" <. >out 2>err
 same 'a folder as input' '1 rst2pseudoxml: read failed' "$? $(cat out err)"
+
+# A copy of the checkout whose program is in dist/, as on a fresh one, and a PATH without the kit.
+copy="$folder/a copy"
+mkdir "$copy" tools only_du
+tar -C "$top" --exclude=out -cf - rst2pseudoxml crates.txt crates scripts dist | tar -C "$copy" -xf -
+cp "$("$top/scripts/program.sh")" "$copy/dist/rst2pseudoxml"
+(cd "$copy/dist" && sha256sum rst2pseudoxml >rst2pseudoxml.sha256)
+sed -i "s/^sources .*/sources $("$copy/scripts/digest.sh")/" "$copy/dist/BUILT"
+for tool in awk bash cat chmod cut dirname du env find grep mkdir mktemp mv readlink rm sed sha256sum sort stat xargs; do
+  ln -s "$(command -v "$tool")" tools/
+done
+ln -s "$(command -v du)" only_du/
+run() { # [PROGRAM] : what a call in the copy with no kit answers
+  printf 'Hello, world' | PATH=$folder/tools "${1:-$copy/rst2pseudoxml}" 2>&1
+  echo "status $?"
+}
+runs=$hello$'\nstatus 0'
+refuses="rst2pseudoxml: the program in dist/ is of other sources than these, and none of these was built here; building one needs the kit (README, 'The kit')"$'\nstatus 1'
+kept=$copy/out/program
+
+same 'a copy' "$runs" "$(run)"
+same 'just made' 'nothing is kept' "$([ -e "$kept" ] || echo nothing is kept)"
+sleep 4
+same 'a little later' "$runs" "$(run)"
+same 'a kept answer' "$hello" "$(printf 'Hello, world' | PATH=$folder/only_du "$copy/rst2pseudoxml" 2>&1)"
+ln -s "$copy/rst2pseudoxml" to_copy
+same 'a copy by a link' "$runs" "$(run ./to_copy)"
+same 'in its folder' "$runs" "$(cd "$copy" && run ./rst2pseudoxml)"
+same 'by sh' "$hello" "$(cd "$copy" && printf 'Hello, world' | sh rst2pseudoxml)"
+
+source=$copy/crates/rst_text/src/lib.rt
+crate=$copy/crates/rst_text
+changed() { # NAME CHANGE RESTORING : the change is refused, and the answer is there again when it is taken back
+  eval "$2"
+  same "$1" "$refuses" "$(run)"
+  eval "$3"
+  same "$1, taken back" "$runs" "$(run)"
+}
+cp -p "$source" before
+tr 'a-y' 'b-z' <before >after
+touch -r before after
+changed 'an edit' 'echo "// one line more" >>"$source"' 'cp -p before "$source"'
+changed 'an edit of the same size and time' 'cp -p after "$source"' 'cp -p before "$source"'
+changed 'another file in its place' 'cp -p after next && mv next "$source"' 'cp -p before next && mv next "$source"'
+changed 'a file more' 'echo >"$crate/src/more.rt"' 'rm "$crate/src/more.rt"'
+changed 'a folder more' 'mkdir "$crate/src/more" && echo >"$crate/src/more/a.rt"' 'rm -r "$crate/src/more"'
+changed 'a file less' 'mv "$source" away' 'mv away "$source"'
+changed 'a file renamed' 'mv "$source" "$source.old"' 'mv "$source.old" "$source"'
+mv "$crate" "$crate.old"
+same 'a crate renamed' $'rst2pseudoxml: crates.txt names rst_text, and there is no folder crates/rst_text/src\nstatus 1' "$(run)"
+mv "$crate.old" "$crate"
+same 'a crate renamed, taken back' "$runs" "$(run)"
+changed 'a link to a source of the same text' 'mv "$source" away && echo >>away && ln -s "$folder/away" "$source"' 'cp -p before away'
+rm -f "$kept"
+sleep 4
+same 'a source that is a link' "$runs" "$(run)"
+same 'an answer with a link' 'nothing is kept' "$([ -e "$kept" ] || echo nothing is kept)"
+changed 'an edit of a linked source' 'cp -p after away' 'cp -p before away'
+rm "$source" && cp -p before "$source"
+changed 'another crate in use' 'sed -i "s/^rst_text:/& rst_new/" "$copy/crates.txt"' 'sed -i "s/^rst_text: rst_new/rst_text:/" "$copy/crates.txt"'
+changed 'a program of other sources' 'sed -i.old "s/^sources ./sources x/" "$copy/dist/BUILT"' 'mv "$copy/dist/BUILT.old" "$copy/dist/BUILT"'
+
+# What isn't in the program changes nothing.
+echo '// a row more' >>"$copy/crates/rst2pseudoxml/src/rows.rt"
+echo '// a test more' >>"$copy/crates/rst_tests/src/lib.rt"
+printf '\n# a comment\ntest_more: rst_text\n' >>"$copy/crates.txt"
+printf '#[cfg(test)]\nmod more_tests;\n' >>"$copy/crates/rst2pseudoxml/src/main.rt"
+echo >"$copy/crates/rst2pseudoxml/src/more_tests.rt"
+same 'more tests' "$runs" "$(run)"
+
+# A program that was built here is taken before the shipped one, while its note holds.
+built=$copy/crates/rst2pseudoxml/out/rst2pseudoxml
+mkdir "${built%/*}"
+printf '#!/bin/sh\necho "built here"\n' >"$built"
+chmod +x "$built"
+same 'a build without a note' "$runs" "$(run)"
+"$copy/scripts/digest.sh" >"$built.sources"
+same 'a build of these sources' $'built here\nstatus 0' "$(run)"
+touch -d '1 minute ago' "$built.sources"
+same 'a build that is newer than its note' "$runs" "$(run)"
+rm -r "${built%/*}"
+
+# Calls at the same time, of which each would keep the answer.
+rm -f "$kept"
+sleep 4
+for call in 1 2 3 4; do
+  run >"call$call" &
+done
+wait
+same 'calls at the same time' "$runs$runs$runs$runs" "$(cat call1)$(cat call2)$(cat call3)$(cat call4)"
+same 'what they leave' 'program' "$(ls "$copy/out")"
+echo "found='" >"$kept"
+same 'a damaged answer' "$runs" "$(run)"
+
+# Where nothing can be kept. (Modes don't keep root from writing, a file in the folder's place does.)
+rm -r "$copy/out"
+echo >"$copy/out"
+chmod -R a-w "$copy"
+same 'nothing can be written' "$runs" "$(run)"
+same 'nothing can be written, again' "$runs" "$(run)"
+chmod -R u+w "$copy"
+echo '// one line more' >>"$source"
+same 'an edit where nothing can be written' "$refuses" "$(run)"
+cp -p before "$source"
+printf '#!/bin/sh\nexit 127\n' >"$copy/dist/rst2pseudoxml"
+same 'a damaged program' $'rst2pseudoxml: the program in dist/ isn\'t the one that dist/rst2pseudoxml.sha256 says, and none was built here\nstatus 1' "$(run)"
+(cd "$copy/dist" && sha256sum rst2pseudoxml >rst2pseudoxml.sha256)
+same 'another system' "rst2pseudoxml: the program in dist/ doesn't run here; it is for $(sed -n 's/^system //p' "$copy/dist/BUILT")"$'\nstatus 1' "$(run)"
 echo "./rst2pseudoxml: $wrong wrong"
 [ "$wrong" = 0 ]

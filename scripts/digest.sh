@@ -26,7 +26,12 @@ lines=$(awk '
 ' crates.txt)
 folders=()
 while IFS=' :' read -r crate _; do
-  folders+=("crates/$crate/src")
+  folder=crates/$crate/src
+  if [ ! -d "$folder" ]; then
+    echo "rst2pseudoxml: crates.txt names $crate, and there is no folder $folder" >&2
+    exit 1
+  fi
+  folders+=("$folder")
 done <<<"$lines"
 if [ "${1:-}" = --folders ]; then
   printf '%s\n' "${folders[@]}"

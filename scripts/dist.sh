@@ -9,5 +9,5 @@ cp crates/rst2pseudoxml/out/rst2pseudoxml dist/rst2pseudoxml
 {
   echo "sources $(scripts/digest.sh)"
   echo "kit $(rt version)"
-  echo "system Linux x86-64, glibc 2.34 or later"
+  echo "system x86-64 Linux with glibc 2.34 or later, on a processor of x86-64-v2 (from 2009 on)"
 } >dist/BUILT
