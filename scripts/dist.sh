@@ -9,5 +9,5 @@ cp crates/rst2pseudoxml/out/rst2pseudoxml dist/rst2pseudoxml
 {
   echo "sources $(scripts/digest.sh)"
   echo "kit $(rt version)"
-  echo "system x86-64 Linux with glibc 2.34 or later, on a processor of x86-64-v2 (from 2009 on)"
+  echo "system x86-64 Linux with glibc 2.34 or later, on a processor of x86-64-v2 (with SSE4.2)"
 } >dist/BUILT
