@@ -79,37 +79,56 @@ same 'a copy by a link' "$runs" "$(run ./to_copy)"
 same 'in its folder' "$runs" "$(cd "$copy" && run ./rst2pseudoxml)"
 same 'by sh' "$hello" "$(cd "$copy" && printf 'Hello, world' | sh rst2pseudoxml)"
 
+# Changes of the sources, each in a copy of its own in which an answer is kept: the kept answer doesn't hold any longer.
+changes=(
+  'an edit' 'echo "// one line more" >>"$source"'
+  'an edit of the same size and time' 'cp -p after "$source"'
+  'another file in its place' 'mv after "$source"'
+  'a file more' 'echo >"$crate/src/more.rt"'
+  'a folder more' 'mkdir "$crate/src/more" && echo >"$crate/src/more/a.rt"'
+  'a file less' 'rm "$source"'
+  'a file renamed' 'mv "$source" "$source.old"'
+  'a link in its place' 'ln -sf "$folder/after" "$source"'
+  'another crate in use' 'sed -i "s/^rst_text:/& rst_outline/" "$changed/crates.txt"'
+  'a program of other sources' 'sed -i "s/^sources ./sources x/" "$changed/dist/BUILT"'
+)
+for ((i = 0; i < ${#changes[@]}; i += 2)); do
+  cp -rp "$copy" "changed $i"
+done
+sleep 4
+for ((i = 0; i < ${#changes[@]}; i += 2)); do
+  changed="$folder/changed $i"
+  crate=$changed/crates/rst_text
+  source=$crate/src/lib.rt
+  run "$changed/rst2pseudoxml" >/dev/null
+  same "before ${changes[i]}" "$hello" "$(printf 'Hello, world' | PATH=$folder/only_du "$changed/rst2pseudoxml" 2>&1)"
+  cp -p "$source" before
+  tr 'a-y' 'b-z' <before >after
+  touch -r before after
+  eval "${changes[i + 1]}"
+  same "${changes[i]}" "$refuses" "$(run "$changed/rst2pseudoxml")"
+done
+
 source=$copy/crates/rst_text/src/lib.rt
 crate=$copy/crates/rst_text
-changed() { # NAME CHANGE RESTORING : the change is refused, and the answer is there again when it is taken back
-  eval "$2"
-  same "$1" "$refuses" "$(run)"
-  eval "$3"
-  same "$1, taken back" "$runs" "$(run)"
-}
 cp -p "$source" before
-tr 'a-y' 'b-z' <before >after
-touch -r before after
-changed 'an edit' 'echo "// one line more" >>"$source"' 'cp -p before "$source"'
-changed 'an edit of the same size and time' 'cp -p after "$source"' 'cp -p before "$source"'
-changed 'another file in its place' 'cp -p after next && mv next "$source"' 'cp -p before next && mv next "$source"'
-changed 'a file more' 'echo >"$crate/src/more.rt"' 'rm "$crate/src/more.rt"'
-changed 'a folder more' 'mkdir "$crate/src/more" && echo >"$crate/src/more/a.rt"' 'rm -r "$crate/src/more"'
-changed 'a file less' 'mv "$source" away' 'mv away "$source"'
-changed 'a file renamed' 'mv "$source" "$source.old"' 'mv "$source.old" "$source"'
 mv "$crate" "$crate.old"
 same 'a crate renamed' $'rst2pseudoxml: crates.txt names rst_text, and there is no folder crates/rst_text/src\nstatus 1' "$(run)"
 mv "$crate.old" "$crate"
-same 'a crate renamed, taken back' "$runs" "$(run)"
-changed 'a link to a source of the same text' 'mv "$source" away && echo >>away && ln -s "$folder/away" "$source"' 'cp -p before away'
+same 'a crate renamed, and back' "$runs" "$(run)"
+rm "$source"
+same 'a file less' "$refuses" "$(run)"
+cp -p before "$source"
+same 'the file again' "$runs" "$(run)"
+mv "$source" linked_source
+ln -s "$folder/linked_source" "$source"
 rm -f "$kept"
 sleep 4
 same 'a source that is a link' "$runs" "$(run)"
 same 'an answer with a link' 'nothing is kept' "$([ -e "$kept" ] || echo nothing is kept)"
-changed 'an edit of a linked source' 'cp -p after away' 'cp -p before away'
+echo '// one line more' >>linked_source
+same 'an edit of a linked source' "$refuses" "$(run)"
 rm "$source" && cp -p before "$source"
-changed 'another crate in use' 'sed -i "s/^rst_text:/& rst_new/" "$copy/crates.txt"' 'sed -i "s/^rst_text: rst_new/rst_text:/" "$copy/crates.txt"'
-changed 'a program of other sources' 'sed -i.old "s/^sources ./sources x/" "$copy/dist/BUILT"' 'mv "$copy/dist/BUILT.old" "$copy/dist/BUILT"'
 
 # What isn't in the program changes nothing.
 echo '// a row more' >>"$copy/crates/rst2pseudoxml/src/rows.rt"
