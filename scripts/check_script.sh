@@ -89,7 +89,7 @@ changes=(
   'a file less' 'rm "$source"'
   'a file renamed' 'mv "$source" "$source.old"'
   'a link in its place' 'ln -sf "$folder/after" "$source"'
-  'another crate in use' 'sed -i "s/^rst_text:/& rst_outline/" "$changed/crates.txt"'
+  'another crate in use' 'sed -i "s/^rst_text:/& test_outline/" "$changed/crates.txt"'
   'a program of other sources' 'sed -i "s/^sources ./sources x/" "$changed/dist/BUILT"'
 )
 for ((i = 0; i < ${#changes[@]}; i += 2)); do
@@ -132,7 +132,7 @@ rm "$source" && cp -p before "$source"
 
 # What isn't in the program changes nothing.
 echo '// a row more' >>"$copy/crates/rst2pseudoxml/src/rows.rt"
-echo '// a test more' >>"$copy/crates/rst_tests/src/lib.rt"
+echo '// a test more' >>"$copy/crates/test_libraries/src/lib.rt"
 printf '\n# a comment\ntest_more: rst_text\n' >>"$copy/crates.txt"
 printf '#[cfg(test)]\nmod more_tests;\n' >>"$copy/crates/rst2pseudoxml/src/main.rt"
 echo >"$copy/crates/rst2pseudoxml/src/more_tests.rt"
