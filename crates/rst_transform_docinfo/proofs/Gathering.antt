@@ -1,9 +1,6 @@
 -- The fields of a bibliography, taken in one after another.
 use Rattle.std.proofs.Common.{◌≡◌, ◌∙◌, ℕ, suc, ◌<◌, ◌≤◌, List, [], ◌∷◌, ◌++◌, length, get_or, take, drop, Option, Some, None, Bor, refl, ap, sym, drop-cons, arith}
-use Rattle.std.specs.Prelude.{slice_index_or, is_some, nat_eq, slice_get, unwrap_or, Bool, true, false, if◌then◌else◌, map, option_map, string_bytes, encode_utf8_all}
-use Rattle.std.specs.declared.string.String.{String}
-use Rattle.std.proofs.lemmas.Str.{encodes-chars, IsUtf8-string_bytes}
-use Rattle.rst_text.specs.Text.{chars_of}
+use Rattle.std.specs.Prelude.{slice_index_or, is_some, nat_eq, slice_get, unwrap_or, Bool, true, false, if◌then◌else◌, map, option_map}
 use Rattle.std.specs.List.{flat_map, prefix_len, remove}
 use Rattle.std.specs.Str.{trim}
 use Rattle.std.proofs.lemmas.Grind.{common_steps, flat_map-append}

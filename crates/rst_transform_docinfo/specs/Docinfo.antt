@@ -12,7 +12,6 @@ use Rattle.rst_tree.specs.Nodes.{forest_of, nodes_of}
 use Rattle.rst_transform_work.specs.declared.work.Report.{Report}
 use Rattle.rst_transform_work.specs.declared.work.Work.{Work}
 use Rattle.rst_transform_docinfo.specs.Gathered.{Gathered, docinfo_nodes, gathered, none_yet}
-use Rattle.rst_transform_work.specs.Lists.{with_names}
 use Rattle.rst_transform_work.specs.Reading.{is_title, may_precede}
 use Rattle.rst_transform_names.specs.Names.{KnowsTheSame}
 use Rattle.rst_transform_work.specs.Lists.{named}

@@ -1,13 +1,12 @@
 -- Anonymous references and the targets that they refer to (Markup Specification, 'Anonymous Hyperlinks').
 use Rattle.std.specs.Prelude.{◌≡◌, ◌&&◌, ℕ, Bool, true, false, List, [], ◌∷◌, ◌++◌, codes, decimal, drop, filter, length, map, nat_eq, if◌then◌else◌, is_some, slice_get, Option, Some, None}
 use Rattle.rst_tree.specs.declared.attrs.Attr.{Attr}
-use Rattle.rst_tree.specs.declared.key.Key.TheVariants.{Anonymous, Ids, Refid, Refname, Refuri}
-use Rattle.rst_tree.specs.declared.attrs.Value.TheVariants.{Text as Words}
+use Rattle.rst_tree.specs.declared.key.Key.TheVariants.{Anonymous, Ids, Refname}
 use Rattle.rst_tree.specs.declared.node.Node.{Node}
 use Rattle.rst_tree.specs.declared.node.Node.TheVariants.{Element, Text}
 use Rattle.rst_tree.specs.declared.tag.Tag.{Tag}
 use Rattle.rst_tree.specs.declared.tag.Tag.TheVariants.{Reference}
-use Rattle.rst_tree.specs.Attributes.{attr, value_of}
+use Rattle.rst_tree.specs.Attributes.{value_of}
 use Rattle.rst_tree.specs.Paths.{node_value}
 use Rattle.rst_tree_index.specs.Held.{is_target}
 use Rattle.rst_tree.specs.declared.note.Level.TheVariants.{Error}
@@ -17,7 +16,7 @@ use Rattle.rst_transform_work.specs.declared.work.Work.{Work}
 use Rattle.rst_transform_links.specs.Linkings.{Held, linked_of}
 use Rattle.rst_transform_links.specs.Links.{changed_root}
 use Rattle.rst_transform_links.specs.Outcomes.{adds}
-use Rattle.rst_transform_work.specs.Reading.{line_of, list_said, text_said}
+use Rattle.rst_transform_work.specs.Reading.{line_of, list_said}
 use Rattle.rst_transform_work.specs.Reports.{next_report, KeepsRest}
 use Rattle.rst_transform_links.specs.Settling.{Settles}
 use Rattle.rst_transform_links.specs.Holders.{lead_of, lead_to_id}

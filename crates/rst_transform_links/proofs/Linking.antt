@@ -1,7 +1,6 @@
 -- The linked elements of a document, found one node after another.
-use Rattle.std.proofs.Common.{◌≡◌, ℕ, ◌+◌, ◌<◌, ◌≤◌, List, [], ◌∷◌, ◌++◌, length, map, get_or, drop, append_assoc, refl, sym, ◌∙◌, ap, Bool, true, false, Option}
-use Rattle.std.specs.Prelude.{if◌then◌else◌, None}
-use Rattle.std.specs.List.{list_all}
+use Rattle.std.proofs.Common.{◌≡◌, ℕ, ◌+◌, ◌<◌, ◌≤◌, List, [], ◌∷◌, ◌++◌, length, map, get_or, drop, append_assoc, sym, ◌∙◌, ap, Option}
+use Rattle.std.specs.Prelude.{if◌then◌else◌}
 use Rattle.std.proofs.lemmas.List.{append-nil, drop_all, drop_more, length-append, length-map}
 use Rattle.rst_tree.specs.declared.attrs.Attr.{Attr}
 use Rattle.rst_tree.specs.declared.node.Node.{Node}
@@ -10,10 +9,7 @@ use Rattle.rst_tree.specs.declared.tag.Tag.{Tag}
 use Rattle.rst_tree.specs.Forest.{Forest}
 use Rattle.rst_tree.specs.Nodes.{forest_of}
 use Rattle.rst_transform_links.specs.declared.links.Linked.{Linked}
-use Rattle.rst_transform_links.specs.declared.links.Outcome.{Outcome}
-use Rattle.rst_transform_hyperlinks.specs.Anonymous.{first_lead, is_anonymous_reference, taken}
 use Rattle.rst_transform_links.specs.Linkings.{Held, held, inner_of, linked_among, own_linked}
-use Rattle.rst_transform_links.specs.Outcomes.{adds, stays}
 
 -- how many there are, with more behind them
 more : (old new : List Linked) (behind : List Held) → map held new ≡ map held old ++ behind → length old + length behind ≡ length new

@@ -11,9 +11,8 @@ use Rattle.rst_tree.specs.declared.node.Node.{Node}
 use Rattle.rst_tree.specs.declared.node.Node.TheVariants.{Element as Tagged, Text as Words}
 use Rattle.rst_tree.specs.Attributes.{attr}
 use Rattle.rst_tree_index.specs.Held.{is_target}
-use Rattle.rst_transform_links.specs.Holders.{lead_of}
 use Rattle.rst_transform_links.specs.Linkings.{Held}
-use Rattle.rst_transform_work.specs.Reading.{number_said}
+use Rattle.rst_transform_work.specs.Reading.{number_said, text_said}
 
 -- where a target leads that isn't a place of its own: to its URI, or else to the id that it tells
 abbrev pub lead_by : Option (List ℕ) → Option (List ℕ) → Option Attr

@@ -1,5 +1,5 @@
 -- The title and the subtitle of a document (reStructuredText Markup Specification, 'Document Title').
-use Rattle.std.specs.Prelude.{◌≡◌, ℕ, List, [], ◌++◌, Option, Some, None, Bool, true, false, if◌then◌else◌, option_map}
+use Rattle.std.specs.Prelude.{◌≡◌, ℕ, List, [], ◌++◌, Option, Some, None, if◌then◌else◌, option_map}
 use Rattle.std.specs.List.{list_any}
 use Rattle.std.specs.Str.{bytes_eq}
 use Rattle.rst_transform_names.specs.Names.{held_by, moved, SameUris}
@@ -10,7 +10,7 @@ use Rattle.rst_tree.specs.declared.attrs.Value.TheVariants.{Text as Says}
 use Rattle.rst_tree.specs.declared.key.Key.TheVariants.{Names as OfNames, Title}
 use Rattle.rst_tree.specs.declared.node.Node.{Node}
 use Rattle.rst_tree.specs.declared.node.Node.TheVariants.{Element, Text}
-use Rattle.rst_tree.specs.declared.tag.Tag.TheVariants.{Comment, Target, SubstitutionDefinition, SystemMessage, Subtitle, Section as IsSection}
+use Rattle.rst_tree.specs.declared.tag.Tag.TheVariants.{Subtitle, Section as IsSection}
 use Rattle.rst_tree.specs.Attributes.{with_attr}
 use Rattle.rst_tree.specs.Forest.{Forest, bare, element, words}
 use Rattle.rst_tree.specs.Nodes.{join_node}

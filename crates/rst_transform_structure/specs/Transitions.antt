@@ -6,7 +6,7 @@ use Rattle.rst_tree.specs.declared.node.Node.{Node}
 use Rattle.rst_tree.specs.declared.node.Node.TheVariants.{Element, Text}
 use Rattle.rst_tree.specs.declared.note.Level.TheVariants.{Error}
 use Rattle.rst_tree.specs.declared.tag.Tag.{Tag}
-use Rattle.rst_tree.specs.declared.tag.Tag.TheVariants.{Section, Subtitle, Title, Transition}
+use Rattle.rst_tree.specs.declared.tag.Tag.TheVariants.{Section, Transition}
 use Rattle.rst_tree.specs.Forest.{Forest, bare, element, words}
 use Rattle.rst_tree.specs.Nodes.{forest_of}
 use Rattle.rst_transform_structure.specs.declared.transitions.Placed.{Placed}

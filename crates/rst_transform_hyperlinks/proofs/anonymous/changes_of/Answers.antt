@@ -3,7 +3,7 @@ use Rattle.rst_transform_hyperlinks.specs.Anonymous.{agree, agreed, references_i
 use Rattle.rst_transform_links.specs.Linkings.{held, linked_of}
 use Rattle.rst_transform_links.specs.Outcomes.{stays}
 use Rattle.std.specs.List.{list_all}
-use Rattle.rst_transform_links.proofs.Linking.{taken_stay}
+use Rattle.rst_transform_hyperlinks.proofs.Taking.{taken_stay}
 use Rattle.rst_transform_hyperlinks.proofs.Agreeing.{told, taken_all, failed_all}
 use Rattle.rst_transform_hyperlinks.proofs.anonymous.changes_of.Goals as goal
 
