@@ -16,8 +16,8 @@ use Rattle.rst_transform_work.specs.Reading.{number_said, text_said}
 
 -- where a target leads that isn't a place of its own: to its URI, or else to the id that it tells
 abbrev pub lead_by : Option (List ℕ) → Option (List ℕ) → Option Attr
-lead_by (Some uri) id = Some (attr Refuri (Words uri))
-lead_by None (Some id) = Some (attr Refid (Words id))
+lead_by (Some uri) id = Some (attr Refuri (Text uri))
+lead_by None (Some id) = Some (attr Refid (Text id))
 lead_by None None = None
 
 abbrev pub lead_of : Node → Option Attr
@@ -25,7 +25,7 @@ lead_of target = lead_by (text_said Refuri target) (text_said Refid target)
 
 -- to an id, if there is one
 abbrev pub lead_to_id : Option (List ℕ) → Option Attr
-lead_to_id (Some id) = Some (attr Refid (Words id))
+lead_to_id (Some id) = Some (attr Refid (Text id))
 lead_to_id None = None
 
 -- an element that says a number has it
