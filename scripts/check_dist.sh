@@ -1,13 +1,15 @@
 #!/usr/bin/env bash
 # Fails if dist/ claims these sources and isn't byte for byte what they build here, or if its checksum is wrong.
-# Wants the program built (scripts/build.sh).
+# Wants the program built (scripts/build.sh). The status is 77 if there is nothing to compare.
 set -euo pipefail
 cd -- "$(dirname -- "$0")/.."
 (cd dist && sha256sum --quiet --check rst2pseudoxml.sha256)
 if ! grep -qx "sources $(scripts/digest.sh)" dist/BUILT; then
-  echo "dist/ is of older sources; scripts/dist.sh renews it"
+  echo "skipped: dist/ is of older sources; scripts/dist.sh renews it"
+  exit 77
 elif ! grep -qxF "kit $(rt version)" dist/BUILT; then
-  echo "dist/ was built by another kit than this one; it isn't compared"
+  echo "skipped: dist/ was built by another kit than this one"
+  exit 77
 else
   cmp dist/rst2pseudoxml crates/rst2pseudoxml/out/rst2pseudoxml
   echo "dist/ is what these sources build"

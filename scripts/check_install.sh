@@ -6,7 +6,7 @@ unset MAKEFLAGS MAKELEVEL
 top=$(cd -- "$(dirname -- "$0")/.." && pwd)
 if ! command -v make >/dev/null; then
   echo "skipped: there is no make"
-  exit 0
+  exit 77
 fi
 folder=$(mktemp -d) && trap 'rm -rf "$folder"' EXIT && cd "$folder" || exit 1
 wrong=0
