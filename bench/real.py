@@ -1,0 +1,254 @@
+#!/usr/bin/env python3
+"""Compares the program's trees of real documents with those of Docutils, and what both cost.
+
+    bench/real.py [--jobs N] [--only PACKAGE ..] [--list KIND] [--program PROGRAM] [FOLDER]
+
+The documents are those that some packages of Debian ship (`bench/documents.py`). Each package is fetched by `apt-get download` and
+unpacked into FOLDER, unless it is there already; nothing is installed. Without FOLDER that is a temporary one. Any other folder in
+FOLDER is compared as well, as if it were a package: so documents of one's own can be tried, with `--only`.
+
+Docutils is the one of the Python that runs this. It reads all documents in one process, this program has a process for each. Both read
+the same file, with the same path, and nothing halts. Docutils runs three times:
+
+  default   as its own program does
+  plain     with --syntax-highlight=none
+  reduced   like that, and without what the profile leaves out: directives, roles, e-mail addresses, RCS keywords
+
+It prints tables in Markdown: how many trees are the same, byte for byte; the kinds of the first difference of the others; how often
+directives and roles that the profile leaves out are met; CPU seconds. `--list KIND` names the documents whose first difference is of a
+kind. A document's directives read no other files here, and nothing from the network.
+"""
+
+import argparse
+import collections
+import multiprocessing
+import os
+import pathlib
+import platform
+import resource
+import subprocess
+import sys
+import tempfile
+import time
+from dataclasses import dataclass, field
+
+from differences import Difference, unknown
+from documents import PACKAGES, Document, fetch, laid_out, version
+
+TOP = pathlib.Path(__file__).resolve().parent.parent
+VARIANTS = ("default", "plain", "reduced")
+DIRECTIVES = (
+    "attention caution danger error hint important note tip warning admonition topic image figure replace code code-block sourcecode"
+).split()
+ROLES = "emphasis strong literal subscript superscript title-reference".split()
+
+
+@dataclass
+class Outcome:
+    """What came of a document: the kind of the first difference (none where the trees are the same), CPU seconds, left-out names."""
+
+    document: Document
+    kind: str
+    ours: float
+    theirs: float
+    left_out: collections.Counter = field(default_factory=collections.Counter)
+
+
+class Docutils:
+    """Docutils in this process, in one of the variants."""
+
+    def __init__(self, variant: str):
+        import docutils.core
+        import docutils.io
+        from docutils.parsers.rst import roles
+        from docutils.parsers.rst.languages import en
+
+        self.core, self.io, self.roles = docutils.core, docutils.io, roles
+        self.known = {("directive", name) for name in en.directives} | {("role", name) for name in en.roles}
+        if variant == "reduced":
+            self.known = set()
+            reduce()
+        self.settings = {
+            "_disable_config": True,
+            "halt_level": 5,
+            "file_insertion_enabled": False,
+            "warning_stream": False,
+            "output_encoding": "unicode",
+            "syntax_highlight": "long" if variant == "default" else "none",
+        }
+
+    def tree(self, path: str) -> str:
+        """The tree of a file, or a line on what was raised."""
+        # Roles that a document defines last as long as the process.
+        self.roles._roles.clear()
+        try:
+            return self.core.publish_programmatically(
+                self.io.FileInput, None, path, self.io.StringOutput, None, None, None, "standalone", None, "restructuredtext",
+                None, "pseudoxml", None, None, self.settings, None, False,
+            )[0]  # fmt: skip
+        except Exception as fault:  # whatever a document makes it raise
+            return f"raised {type(fault).__name__}"
+
+
+def reduce() -> None:
+    """Takes out of Docutils what the profile leaves out."""
+    from docutils.parsers.rst import directives, roles, states
+    from docutils.transforms import frontmatter
+
+    for registry, names in ((directives._directive_registry, DIRECTIVES), (roles._role_registry, ROLES)):
+        for name in set(registry) - set(names):
+            del registry[name]
+    states.Inliner.email_pattern = "(?!)"  # matches nothing
+    frontmatter.DocInfo.rcs_keyword_substitutions = []
+
+
+def children() -> float:
+    """The CPU seconds of the processes that this one has run."""
+    usage = resource.getrusage(resource.RUSAGE_CHILDREN)
+    return usage.ru_utime + usage.ru_stime
+
+
+def run(program: str, path: str) -> tuple[str, float]:
+    """The tree that the program prints of a file, or its line on the refusal; its CPU seconds."""
+    began = children()
+    done = subprocess.run([program, "--halt=none", path], stdout=subprocess.PIPE, stderr=subprocess.PIPE)
+    seconds = children() - began
+    if done.returncode != 0:
+        return done.stderr.decode("utf-8", "replace").strip().split("\n")[-1], seconds
+    return done.stdout.decode("utf-8"), seconds
+
+
+def kind_of(ours: str, theirs: str, known: set[tuple[str, str]]) -> str:
+    if ours == theirs:
+        return ""
+    if ours.startswith("rst2pseudoxml: "):
+        return f"refused here: {ours.split(': ', 1)[1]}"
+    return f"Docutils: {theirs}" if theirs.startswith("raised ") else Difference(ours, theirs, known).kind()
+
+
+def compared(variant: str, program: str, work: str, documents: list[Document]) -> list[Outcome]:
+    """All documents in one variant."""
+    os.chdir(work)
+    docutils = Docutils(variant)
+    pathlib.Path(f"warm-{variant}.rst").write_text("Title\n=====\n\n- *a*\n\n.. note:: b_\n", encoding="utf-8")
+    docutils.tree(f"warm-{variant}.rst")
+    outcomes = []
+    for document in documents:
+        began = time.process_time()
+        theirs = docutils.tree(document.path)
+        spent = time.process_time() - began
+        ours, seconds = run(program, document.path)
+        names = [name for name in map(unknown, ours.split("\n")) if name in docutils.known]
+        kind = kind_of(ours, theirs, docutils.known)
+        outcomes.append(Outcome(document, kind, seconds, spent, collections.Counter(names)))
+    return outcomes
+
+
+def row(*cells: object) -> None:
+    print("|", " | ".join(str(cell) for cell in cells), "|")
+
+
+def table(title: str, *heads: str) -> None:
+    print(f"\n{title}\n")
+    row(*heads)
+    row(*["---"] * len(heads))
+
+
+def show_sames(found: dict[str, list[Outcome]], folder: pathlib.Path) -> None:
+    """How many trees are the same, by package."""
+    table("Trees that are the same, byte for byte", "package", "version", "documents", "MB", *VARIANTS)
+    outcomes = found[VARIANTS[0]]
+    for package in [*dict.fromkeys(one.document.package for one in outcomes), ""]:
+        documents = [one.document for one in outcomes if package in ("", one.document.package)]
+        sames = [
+            sum(one.kind == "" and package in ("", one.document.package) for one in found[variant]) for variant in VARIANTS
+        ]
+        size = sum(document.size for document in documents) / 1e6
+        row(package or "all", version(package, folder) if package else "", len(documents), f"{size:.2f}", *sames)
+
+
+def show_kinds(found: dict[str, list[Outcome]]) -> None:
+    """The kinds of first differences."""
+    table("The first difference of the others: documents", "kind", *VARIANTS)
+    counts = {variant: collections.Counter(one.kind for one in found[variant] if one.kind) for variant in VARIANTS}
+    kinds = sorted(set().union(*counts.values()), key=lambda kind: [-counts[variant][kind] for variant in ("plain", "default", "reduced")])
+    for kind in kinds:
+        row(kind, *(counts[variant][kind] for variant in VARIANTS))
+
+
+def show_left_out(outcomes: list[Outcome]) -> None:
+    """What Docutils knows and the profile leaves out, by how many documents have it."""
+    table("Left-out directives and roles", "name", "documents", "times")
+    documents = collections.Counter(name for one in outcomes for name in one.left_out)
+    times = sum((one.left_out for one in outcomes), collections.Counter())
+    for (kind, name), count in documents.most_common():
+        row(f"{kind} `{name}`", count, times[kind, name])
+
+
+def show_costs(found: dict[str, list[Outcome]], program: str, work: str) -> None:
+    """CPU seconds over all documents."""
+    table("CPU seconds, user and system", "", "seconds", "MB/s")
+    size = sum(one.document.size for one in found["plain"]) / 1e6
+    pathlib.Path(work, "empty.rst").write_bytes(b"")
+    start = sum(run(program, f"{work}/empty.rst")[1] for _ in range(200)) / 200 * len(found["plain"])
+    seconds = sum(one.ours for one in found["plain"])
+    costs = {
+        "rst2pseudoxml, a process for each document": seconds,
+        "rst2pseudoxml, without what as many empty documents cost": seconds - start,
+        "Docutils, one process": sum(one.theirs for one in found["default"]),
+        "Docutils, one process, `--syntax-highlight=none`": sum(one.theirs for one in found["plain"]),
+    }
+    for name, cost in costs.items():
+        row(name, f"{cost:.1f}", f"{size / cost:.2f}")
+
+
+def everything(given: argparse.Namespace, folder: pathlib.Path, work: pathlib.Path) -> int:
+    """Compares, and prints the tables."""
+    if not given.only:
+        given.only = [package for package in PACKAGES if fetch(package, folder)]
+        given.only += sorted(path.name for path in folder.iterdir() if path.is_dir() and path.name not in PACKAGES)
+    elif not all([(folder / package).is_dir() or fetch(package, folder) for package in given.only]):
+        return 1
+    documents = [document for package in given.only for document in laid_out(package, folder, work)]
+    if not documents:
+        print("there are no documents", file=sys.stderr)
+        return 1
+    # A process for each variant, as one changes Docutils for good.
+    with multiprocessing.Pool(given.jobs, maxtasksperchild=1) as pool:
+        runs = [(variant, given.program, str(work), documents) for variant in VARIANTS]
+        found = dict(zip(VARIANTS, pool.starmap(compared, runs, chunksize=1)))
+    show_sames(found, folder)
+    show_kinds(found)
+    show_left_out(found["plain"])
+    show_costs(found, given.program, str(work))
+    for variant in VARIANTS if given.list else ():
+        for one in found[variant]:
+            if one.kind == given.list:
+                print(f"{variant}: {one.document.path}")
+    return 0
+
+
+def main() -> int:
+    parser = argparse.ArgumentParser(description="Compares trees of real documents with those of Docutils.")
+    parser.add_argument("folder", nargs="?", help="where the packages are, or are unpacked; by itself a temporary folder")
+    parser.add_argument("--only", nargs="+", metavar="PACKAGE", help="these alone")
+    parser.add_argument("--jobs", type=int, default=1, help="how many of the three variants run side by side")
+    parser.add_argument("--list", metavar="KIND", help="names the documents whose first difference is of this kind")
+    parser.add_argument("--program", default=str(TOP / "dist/rst2pseudoxml"), help="the program; by itself the one in dist/")
+    given = parser.parse_args()
+    given.program = os.path.abspath(given.program)
+    try:
+        import docutils
+    except ImportError:
+        print("this Python has no Docutils", file=sys.stderr)
+        return 1
+    print(f"{time.strftime('%Y-%m-%d')}, Docutils {docutils.__version__}, Python {platform.python_version()}, {os.cpu_count()} processors")
+    with tempfile.TemporaryDirectory() as made:
+        folder, work = pathlib.Path(given.folder or f"{made}/packages"), pathlib.Path(made, "documents")
+        folder.mkdir(parents=True, exist_ok=True)
+        work.mkdir()
+        return everything(given, folder.resolve(), work)
+
+
+if __name__ == "__main__":
+    sys.exit(main())
