@@ -32,10 +32,10 @@ def message_on(lines: list[str], place: int) -> str:
     return ""
 
 
-def ids_of(line: str) -> list[str]:
+def ids_of(line: str) -> set[str]:
     """The ids of the element that begins at a line."""
     found = re.search(r' ids="([^"]*)"', line)
-    return found[1].split() if found else []
+    return set(found[1].split()) if found else set()
 
 
 class Difference:
@@ -51,7 +51,15 @@ class Difference:
 
     def in_a_source_text(self) -> str | None:
         """Blank lines that end the source text of a message."""
-        return "blank lines at the end of a message's source text" if self.other == "" else None
+        found = self.other == "" and self.place + 1 < len(self.theirs)
+        return "blank lines at the end of a message's source text" if found else None
+
+    def in_a_field(self) -> str | None:
+        """A list of fields here alone."""
+        here, there = (" ".join(lines[self.place : self.place + 2]) for lines in (self.ours, self.theirs))
+        fields = re.compile("<field_list>|<docinfo")
+        found = fields.search(here) and not fields.search(there) and re.search("<paragraph>|<title>", there)
+        return "a line that begins with a role and holds a colon" if found else None
 
     def left_out(self) -> str | None:
         """A directive or role that only Docutils knows."""
@@ -66,10 +74,11 @@ class Difference:
         """A piece of text that is markup in only one of the two."""
         here, there = ("\n".join(lines[self.place : self.place + 3]) for lines in (self.ours, self.theirs))
         if "<inline classes=" in there or "Cannot analyze code" in self.there:
-            return "tokens of code"
+            return "tokens and numbers of code"
         if '<reference refuri="mailto:' in there:
             return "e-mail addresses"
-        if ("<reference refuri=" in there) != ("<reference refuri=" in here):
+        uris = [re.findall(r'<reference refuri="([^"]*)"', text) for text in (here, there)]
+        if uris[0] != uris[1]:
             return "which text is a URI"
         return "RCS keywords" if self.one.startswith("$") else None
 
@@ -79,25 +88,26 @@ class Difference:
             return "text of `Anonymous hyperlink mismatch`"
         if self.here and self.here == self.there:
             return "line of a message"
-        texts = [self.here, self.there, *self.ours[self.place + 1 : self.place + 2]]
-        if any("ubstitution" in text or text.lstrip().startswith("|") for text in texts):
+        texts = [self.here, self.there, *self.ours[self.place : self.place + 2]]
+        if any("ubstitution definition" in text or text.lstrip().startswith("|") for text in texts):
             return "substitution definitions"
         return "text or place of a message" if self.here or self.there else None
 
     def in_an_element(self) -> str | None:
         """Another element, or other attributes."""
-        if self.one in ("<field_list>", "<docinfo>") and self.other == "<paragraph>":
-            return "a line that begins with a role and holds a colon"
-        if self.one == "<paragraph>" and self.other == "<entry>":
+        if self.one.startswith(("<docinfo ids=", '<field classes="author')) or "Bibliographic field" in self.one:
+            return "bibliographic fields"
+        if {self.one, self.other} == {"<entry>", "<paragraph>"}:
             return "the first row of a simple table, with a blank first cell"
         if self.one.startswith("<target ids=") and self.other.startswith("<target refid="):
             return "target before a message"
-        if ids_of(self.other)[:1] == ids_of(self.one) != ids_of(self.other):
+        if set() < ids_of(self.one) < ids_of(self.other):
             return "target before a message"
         return "target of a phrase with an embedded alias" if self.other.startswith("<target ") else None
 
     def kinds(self) -> Iterator[str | None]:
         yield self.in_a_source_text()
+        yield self.in_a_field()
         yield self.left_out()
         yield self.in_a_text()
         yield self.in_an_element()

@@ -16,12 +16,10 @@ PACKAGES = {
     "cmake-doc": USUAL,
     "llvm-14-doc": USUAL,
     "clang-14-doc": USUAL,
-    "python-sqlalchemy-doc": USUAL,
     "sphinx-doc": USUAL,
     "docutils-doc": (".txt",),
     "python-flask-doc": USUAL,
     "python-requests-doc": USUAL,
-    "awscli": USUAL,
 }
 
 
@@ -47,8 +45,6 @@ def called(words: list[str], folder: pathlib.Path) -> str:
 
 def fetch(package: str, folder: pathlib.Path) -> bool:
     """Unpacks a package into a folder of its name, beside a file with its version. Nothing is installed."""
-    if (folder / package).is_dir():
-        return True
     try:
         with tempfile.TemporaryDirectory(dir=folder) as made:
             called(["apt-get", "download", package], pathlib.Path(made))

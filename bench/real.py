@@ -1,7 +1,7 @@
 #!/usr/bin/env python3
 """Compares the program's trees of real documents with those of Docutils, and what both cost.
 
-    bench/real.py [--jobs N] [--only PACKAGE ..] [--list KIND] [--program PROGRAM] [FOLDER]
+    bench/real.py [--jobs N] [--only PACKAGE]... [--list KIND] [--program PROGRAM] [FOLDER]
 
 The documents are those that some packages of Debian ship (`bench/documents.py`). Each package is fetched by `apt-get download` and
 unpacked into FOLDER, unless it is there already; nothing is installed. Without FOLDER that is a temporary one. Any other folder in
@@ -12,11 +12,12 @@ the same file, with the same path, and nothing halts. Docutils runs three times:
 
   default   as its own program does
   plain     with --syntax-highlight=none
-  reduced   like that, and without what the profile leaves out: directives, roles, e-mail addresses, RCS keywords
+  reduced   like that, and without what the profile leaves out: directives, roles, e-mail addresses, RCS keywords; the documents
+            whose trees are the same in `plain` aren't read again
 
 It prints tables in Markdown: how many trees are the same, byte for byte; the kinds of the first difference of the others; how often
 directives and roles that the profile leaves out are met; CPU seconds. `--list KIND` names the documents whose first difference is of a
-kind. A document's directives read no other files here, and nothing from the network.
+kind. A document's directives read no other files here, and nothing from the network. All packages take some 10 CPU minutes, and 700 MB.
 """
 
 import argparse
@@ -67,7 +68,7 @@ class Docutils:
         self.known = {("directive", name) for name in en.directives} | {("role", name) for name in en.roles}
         if variant == "reduced":
             self.known = set()
-            reduce()
+            cut_down()
         self.settings = {
             "_disable_config": True,
             "halt_level": 5,
@@ -90,7 +91,7 @@ class Docutils:
             return f"raised {type(fault).__name__}"
 
 
-def reduce() -> None:
+def cut_down() -> None:
     """Takes out of Docutils what the profile leaves out."""
     from docutils.parsers.rst import directives, roles, states
     from docutils.transforms import frontmatter
@@ -122,8 +123,8 @@ def kind_of(ours: str, theirs: str, known: set[tuple[str, str]]) -> str:
     if ours == theirs:
         return ""
     if ours.startswith("rst2pseudoxml: "):
-        return f"refused here: {ours.split(': ', 1)[1]}"
-    return f"Docutils: {theirs}" if theirs.startswith("raised ") else Difference(ours, theirs, known).kind()
+        return "refused here"
+    return f"Docutils {theirs}" if theirs.startswith("raised ") else Difference(ours, theirs, known).kind()
 
 
 def compared(variant: str, program: str, work: str, documents: list[Document]) -> list[Outcome]:
@@ -142,6 +143,16 @@ def compared(variant: str, program: str, work: str, documents: list[Document]) -
         kind = kind_of(ours, theirs, docutils.known)
         outcomes.append(Outcome(document, kind, seconds, spent, collections.Counter(names)))
     return outcomes
+
+
+def all_compared(program: str, work: str, documents: list[Document], jobs: int) -> dict[str, list[Outcome]]:
+    """All documents in all variants, each in a process of its own, as one of them changes Docutils for good."""
+    with multiprocessing.Pool(jobs, maxtasksperchild=1) as pool:
+        begun = [pool.apply_async(compared, (variant, program, work, documents)) for variant in ("default", "plain")]
+        default, plain = (one.get() for one in begun)
+        differing = [one.document for one in plain if one.kind]
+        reduced = pool.apply(compared, ("reduced", program, work, differing))
+    return {"default": default, "plain": plain, "reduced": [one for one in plain if not one.kind] + reduced}
 
 
 def row(*cells: object) -> None:
@@ -187,36 +198,33 @@ def show_left_out(outcomes: list[Outcome]) -> None:
 
 def show_costs(found: dict[str, list[Outcome]], program: str, work: str) -> None:
     """CPU seconds over all documents."""
-    table("CPU seconds, user and system", "", "seconds", "MB/s")
-    size = sum(one.document.size for one in found["plain"]) / 1e6
+    table("CPU seconds, user and system", "", "seconds")
     pathlib.Path(work, "empty.rst").write_bytes(b"")
-    start = sum(run(program, f"{work}/empty.rst")[1] for _ in range(200)) / 200 * len(found["plain"])
-    seconds = sum(one.ours for one in found["plain"])
+    start = sum(run(program, f"{work}/empty.rst")[1] for _ in range(200)) / 200
     costs = {
-        "rst2pseudoxml, a process for each document": seconds,
-        "rst2pseudoxml, without what as many empty documents cost": seconds - start,
+        "rst2pseudoxml, a process for each document": sum(one.ours for one in found["plain"]),
+        "rst2pseudoxml, as many empty documents": start * len(found["plain"]),
         "Docutils, one process": sum(one.theirs for one in found["default"]),
         "Docutils, one process, `--syntax-highlight=none`": sum(one.theirs for one in found["plain"]),
     }
     for name, cost in costs.items():
-        row(name, f"{cost:.1f}", f"{size / cost:.2f}")
+        row(name, f"{cost:.1f}")
+
+
+def chosen(only: list[str] | None, folder: pathlib.Path) -> list[str]:
+    """The packages to compare, fetched where the folder lacks them, and other folders in it."""
+    packages = [package for package in only or PACKAGES if (folder / package).is_dir() or fetch(package, folder)]
+    others = [path.name for path in sorted(folder.iterdir()) if path.is_dir() and path.name not in packages]
+    return packages if only else packages + others
 
 
 def everything(given: argparse.Namespace, folder: pathlib.Path, work: pathlib.Path) -> int:
     """Compares, and prints the tables."""
-    if not given.only:
-        given.only = [package for package in PACKAGES if fetch(package, folder)]
-        given.only += sorted(path.name for path in folder.iterdir() if path.is_dir() and path.name not in PACKAGES)
-    elif not all([(folder / package).is_dir() or fetch(package, folder) for package in given.only]):
-        return 1
-    documents = [document for package in given.only for document in laid_out(package, folder, work)]
+    documents = [document for package in chosen(given.only, folder) for document in laid_out(package, folder, work)]
     if not documents:
         print("there are no documents", file=sys.stderr)
         return 1
-    # A process for each variant, as one changes Docutils for good.
-    with multiprocessing.Pool(given.jobs, maxtasksperchild=1) as pool:
-        runs = [(variant, given.program, str(work), documents) for variant in VARIANTS]
-        found = dict(zip(VARIANTS, pool.starmap(compared, runs, chunksize=1)))
+    found = all_compared(given.program, str(work), documents, given.jobs)
     show_sames(found, folder)
     show_kinds(found)
     show_left_out(found["plain"])
@@ -228,21 +236,36 @@ def everything(given: argparse.Namespace, folder: pathlib.Path, work: pathlib.Pa
     return 0
 
 
+def versions() -> str:
+    """What is compared with; an ImportError where there is no Docutils."""
+    import docutils
+
+    try:
+        import pygments
+
+        tokens = f"Pygments {pygments.__version__}"
+    except ImportError:
+        tokens = "no Pygments"
+    return f"Docutils {docutils.__version__}, {tokens}, Python {platform.python_version()}"
+
+
 def main() -> int:
     parser = argparse.ArgumentParser(description="Compares trees of real documents with those of Docutils.")
     parser.add_argument("folder", nargs="?", help="where the packages are, or are unpacked; by itself a temporary folder")
-    parser.add_argument("--only", nargs="+", metavar="PACKAGE", help="these alone")
-    parser.add_argument("--jobs", type=int, default=1, help="how many of the three variants run side by side")
+    parser.add_argument("--only", action="append", metavar="PACKAGE", help="this package alone, or these if given more than once")
+    parser.add_argument("--jobs", type=int, choices=(1, 2, 3), default=1, help="how many of the three run side by side")
     parser.add_argument("--list", metavar="KIND", help="names the documents whose first difference is of this kind")
     parser.add_argument("--program", default=str(TOP / "dist/rst2pseudoxml"), help="the program; by itself the one in dist/")
     given = parser.parse_args()
     given.program = os.path.abspath(given.program)
+    if not os.access(given.program, os.X_OK):
+        print(f"{given.program}: there is no such program", file=sys.stderr)
+        return 1
     try:
-        import docutils
+        print(f"{time.strftime('%Y-%m-%d')}, {versions()}")
     except ImportError:
         print("this Python has no Docutils", file=sys.stderr)
         return 1
-    print(f"{time.strftime('%Y-%m-%d')}, Docutils {docutils.__version__}, Python {platform.python_version()}, {os.cpu_count()} processors")
     with tempfile.TemporaryDirectory() as made:
         folder, work = pathlib.Path(given.folder or f"{made}/packages"), pathlib.Path(made, "documents")
         folder.mkdir(parents=True, exist_ok=True)
