@@ -1,8 +1,18 @@
 #!/usr/bin/env bash
-# Fails if dist/ claims these sources and isn't byte for byte what they build here, or if its checksum is wrong.
-# Wants the program built (scripts/build.sh). The status is 77 if there is nothing to compare.
+# Fails if dist/ claims these sources and isn't byte for byte what they build here, or if a checksum is wrong.
+# The static program is compared if this system has the C library that it was linked with. Wants the program built (scripts/build.sh). The status is 77 if there is nothing to compare.
 set -euo pipefail
 cd -- "$(dirname -- "$0")/.."
+static() {
+  local linked library
+  linked=$(mktemp) && trap 'rm -f "$linked"' RETURN
+  if library=$(scripts/static.sh "$linked") && grep -qxF "static $library" dist/BUILT; then
+    cmp dist/rst2pseudoxml-static "$linked"
+  else
+    echo "the static program isn't compared, since this system has another C library or no object file is left"
+  fi
+}
+
 (cd dist && sha256sum --quiet --check rst2pseudoxml.sha256)
 if ! grep -qx "sources $(scripts/digest.sh)" dist/BUILT; then
   echo "skipped: dist/ is of older sources; scripts/dist.sh renews it"
@@ -12,5 +22,6 @@ elif ! grep -qxF "kit $(rt version)" dist/BUILT; then
   exit 77
 else
   cmp dist/rst2pseudoxml crates/rst2pseudoxml/out/rst2pseudoxml
+  static
   echo "dist/ is what these sources build"
 fi

@@ -53,7 +53,7 @@ same 'a folder as input' '1 rst2pseudoxml: read failed' "$? $(cat out err)"
 # A copy of the checkout whose program is in dist/, as on a fresh one, and a PATH without the kit.
 copy="$folder/a copy"
 mkdir "$copy" tools only_du
-tar -C "$top" --exclude=out -cf - rst2pseudoxml crates.txt crates scripts dist | tar -C "$copy" -xf -
+tar -C "$top" --exclude=out --exclude=rst2pseudoxml-static -cf - rst2pseudoxml crates.txt crates scripts dist | tar -C "$copy" -xf -
 cp "$("$top/scripts/program.sh")" "$copy/dist/rst2pseudoxml"
 (cd "$copy/dist" && sha256sum rst2pseudoxml >rst2pseudoxml.sha256)
 sed -i "s/^sources .*/sources $("$copy/scripts/digest.sh")/" "$copy/dist/BUILT"
@@ -175,6 +175,10 @@ cp -p before "$source"
 printf '#!/bin/sh\nexit 127\n' >"$copy/dist/rst2pseudoxml"
 same 'a damaged program' $'rst2pseudoxml: the program in dist/ isn\'t the one that dist/rst2pseudoxml.sha256 says, and none was built here\nstatus 1' "$(run)"
 (cd "$copy/dist" && sha256sum rst2pseudoxml >rst2pseudoxml.sha256)
-same 'another system' "rst2pseudoxml: the program in dist/ doesn't run here; it is for $(sed -n 's/^system //p' "$copy/dist/BUILT")"$'\nstatus 1' "$(run)"
+same 'another system' "rst2pseudoxml: no program in dist/ runs here; they are for $(sed -n 's/^system //p' "$copy/dist/BUILT")"$'\nstatus 1' "$(run)"
+printf '#!/bin/sh\necho "the static program"\n' >"$copy/dist/rst2pseudoxml-static"
+chmod +x "$copy/dist/rst2pseudoxml-static"
+(cd "$copy/dist" && sha256sum rst2pseudoxml rst2pseudoxml-static >rst2pseudoxml.sha256)
+same 'a system for the static program alone' $'the static program\nstatus 0' "$(run)"
 echo "./rst2pseudoxml: $wrong wrong"
 [ "$wrong" = 0 ]

@@ -1,5 +1,6 @@
 #!/usr/bin/env bash
-# Prints the path of the program of these sources: the one that was built here or, where that is none of them, the shipped one.
+# Prints the path of the program of these sources: the one that was built here or, where that is none of them, a shipped one: the
+# static one where the other doesn't run.
 # Where there is none that runs on this system, one line on standard error says so, and the status is 1.
 set -euo pipefail
 top=$(CDPATH='' cd -- "$(dirname -- "$0")/.." && pwd)
@@ -18,10 +19,13 @@ if ! grep -qxs "sources $sources" "$top/dist/BUILT"; then
   echo "rst2pseudoxml: the program in dist/ is of other sources than these, and none of these was built here; building one needs the kit (README, 'The kit')" >&2
 elif ! (cd -- "$top/dist" && sha256sum --quiet --status --check rst2pseudoxml.sha256) 2>/dev/null; then
   echo "rst2pseudoxml: the program in dist/ isn't the one that dist/rst2pseudoxml.sha256 says, and none was built here" >&2
-elif ! "$shipped" </dev/null >/dev/null 2>&1; then
-  echo "rst2pseudoxml: the program in dist/ doesn't run here; it is for $(sed -n 's/^system //p' "$top/dist/BUILT")" >&2
 else
-  echo "$shipped"
-  exit
+  for program in "$shipped" "$shipped-static"; do
+    if "$program" </dev/null >/dev/null 2>&1; then
+      echo "$program"
+      exit
+    fi
+  done
+  echo "rst2pseudoxml: no program in dist/ runs here; they are for $(sed -n 's/^system //p' "$top/dist/BUILT")" >&2
 fi
 exit 1
