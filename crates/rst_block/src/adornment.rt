@@ -7,7 +7,7 @@ ghost use Rattle.rst_block.specs.Steps as spec;
 
 use super::fault::BlockFault;
 use super::heading::heading_of;
-use super::level::Level;
+use super::open_block::OpenBlock;
 use super::step::Step;
 use super::text::text_line;
 use super::texts::{Pass, alone, number_at, source};
@@ -16,14 +16,14 @@ use rst_block_sections::Style;
 use rst_markup_blocks::{Adorned, adorned_at, below_text, text_at};
 use rst_markup_lines::Adornment;
 use rst_text::{View, indentation, skip};
-use rst_tree::{Level as Gravity, Node, Tag};
+use rst_tree::{Level, Node, Tag};
 use std::alloc::Global;
 
 /// A line of one punctuation character.
 pub(crate) fn adornment(
     alloc: Global,
     view: &View<'_>,
-    level: &mut Level,
+    level: &mut OpenBlock,
     mark: Adornment,
     pass: &mut Pass,
 ) -> Result<Step, BlockFault>
@@ -63,7 +63,7 @@ const SHORT_ADORNMENT: &str =
 /// What is said of lines that are neither a title nor a transition: how grave it is, the text, and how many lines they are.
 #[derive(Clone, Copy)]
 struct WrongForm {
-    gravity: Gravity,
+    gravity: Level,
     text: &'static str,
     lines: usize,
 }
@@ -72,22 +72,18 @@ struct WrongForm {
 fn wrong_form(form: Adorned) -> WrongForm {
     let (gravity, text, lines) = match form {
         Adorned::InvalidMarker => (
-            Gravity::Error,
+            Level::Error,
             "Invalid section title or transition marker.",
             2,
         ),
-        Adorned::Incomplete => (Gravity::Severe, "Incomplete section title.", 2),
+        Adorned::Incomplete => (Level::Severe, "Incomplete section title.", 2),
         Adorned::MissingUnderline { blank } => (
-            Gravity::Severe,
+            Level::Severe,
             "Missing matching underline for section title overline.",
             if blank { 2 } else { 3 },
         ),
-        Adorned::Mismatch => (Gravity::Severe, "Title overline & underline mismatch.", 3),
-        _ => (
-            Gravity::Severe,
-            "Unexpected section title or transition.",
-            1,
-        ),
+        Adorned::Mismatch => (Level::Severe, "Title overline & underline mismatch.", 3),
+        _ => (Level::Severe, "Unexpected section title or transition.", 1),
     };
     WrongForm {
         gravity,
@@ -100,7 +96,7 @@ fn wrong_form(form: Adorned) -> WrongForm {
 fn transition(
     alloc: Global,
     view: &View<'_>,
-    level: &mut Level,
+    level: &mut OpenBlock,
     pass: &mut Pass,
 ) -> Result<(), BlockFault>
     requires inside { level.old.at < length (block_of view.now) }
@@ -120,7 +116,7 @@ fn transition(
 fn short(
     alloc: Global,
     view: &View<'_>,
-    level: &mut Level,
+    level: &mut OpenBlock,
     text: &str,
     pass: &mut Pass,
 ) -> Result<Step, BlockFault>
@@ -130,7 +126,7 @@ fn short(
     ensures step { IfOk result (λ s. spec.IsStep (block_of view.now) level.old.at level.new.at s) }
     ensures looks { IfOk result (λ _. pass.new.looks ≤ pass.old.looks + 2 ^ 78) }
 {
-    let info = message(alloc, Gravity::Info, number_at(view, level.at), text, None)?;
+    let info = message(alloc, Level::Info, number_at(view, level.at), text, None)?;
     text_line(alloc, view, level, alone(alloc, info)?, pass)
 }
 
@@ -138,7 +134,7 @@ fn short(
 fn wrong(
     alloc: Global,
     view: &View<'_>,
-    level: &mut Level,
+    level: &mut OpenBlock,
     form: WrongForm,
     pass: &mut Pass,
 ) -> Result<(), BlockFault>
@@ -162,7 +158,7 @@ fn wrong(
 fn overlined(
     alloc: Global,
     view: &View<'_>,
-    level: &mut Level,
+    level: &mut OpenBlock,
     mark: Adornment,
     short: bool,
     pass: &mut Pass,
@@ -181,7 +177,7 @@ fn overlined(
         let text = "Title overline too short.";
         Some(message(
             alloc,
-            Gravity::Warning,
+            Level::Warning,
             number_at(view, at),
             text,
             Some(lines.as_str()),

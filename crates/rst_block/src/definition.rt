@@ -6,7 +6,7 @@ ghost use Rattle.rst_block.specs.Steps as spec;
 
 use super::fault::BlockFault;
 use super::field::join_list;
-use super::level::Level;
+use super::open_block::OpenBlock;
 use super::part::indented;
 use super::resume::Waits;
 use super::run::{ListKind, Run};
@@ -21,7 +21,7 @@ use std::alloc::Global;
 pub(crate) fn definition(
     alloc: Global,
     view: &View<'_>,
-    level: &mut Level,
+    level: &mut OpenBlock,
     infos: Vec<Node>,
     pass: &mut Pass,
 ) -> Result<Step, BlockFault>

@@ -8,7 +8,7 @@ ghost use Rattle.rst_block.specs.Steps as spec;
 
 use super::fault::BlockFault;
 use super::figure::OpenFigure;
-use super::level::Level;
+use super::open_block::OpenBlock;
 use super::paragraph::is_single_paragraph;
 use super::part::inside;
 use super::resume::Waits;
@@ -24,7 +24,7 @@ use rst_markup_directives::{
     message as fault_text,
 };
 use rst_text::View;
-use rst_tree::{Level as Gravity, Node, Tag};
+use rst_tree::{Level, Node, Tag};
 use std::alloc::Global;
 
 /// What a directive is, where `place` is where it stands.
@@ -62,7 +62,7 @@ pub(crate) fn directive_at(
 pub(crate) fn directive_block(
     alloc: Global,
     view: &View<'_>,
-    level: &mut Level,
+    level: &mut OpenBlock,
     invocation: &Invocation,
     pass: &mut Pass,
 ) -> Result<Step, BlockFault>
@@ -134,7 +134,7 @@ pub(crate) fn wrong_directive(
     let lines = source(alloc, view, at, end, pass)?;
     Ok(message(
         alloc,
-        Gravity::Error,
+        Level::Error,
         number_at(view, at),
         text.as_str(),
         Some(lines.as_str()),
@@ -145,7 +145,7 @@ pub(crate) fn wrong_directive(
 fn directive_nodes(
     alloc: Global,
     view: &View<'_>,
-    level: &mut Level,
+    level: &mut OpenBlock,
     found: Found,
     pass: &mut Pass,
 ) -> Result<Step, BlockFault>
@@ -187,7 +187,7 @@ fn directive_nodes(
 }
 
 /// Opens the content of a directive, which stands in its element.
-fn opened(level: &mut Level, element: Node, found: &Found) -> Step
+fn opened(level: &mut OpenBlock, element: Node, found: &Found) -> Step
     requires { level.old.at < 2 ^ 64 - 1 }
     ensures { (B : Block) → IsContentIn B found.now.content → spec.IsStep B level.old.at level.new.at result }
 {
@@ -203,7 +203,7 @@ fn opened(level: &mut Level, element: Node, found: &Found) -> Step
 fn figure_block(
     alloc: Global,
     view: &View<'_>,
-    level: &mut Level,
+    level: &mut OpenBlock,
     node: Node,
     found: &Found,
     pass: &mut Pass,
@@ -234,7 +234,7 @@ fn figure_block(
 fn code_nodes(
     alloc: Global,
     view: &View<'_>,
-    level: &mut Level,
+    level: &mut OpenBlock,
     found: &Found,
     pass: &mut Pass,
 ) -> Result<(), BlockFault>

@@ -9,7 +9,7 @@ ghost use Rattle.rst_block.specs.Steps as spec;
 
 use super::directive::directive_block;
 use super::fault::BlockFault;
-use super::level::Level;
+use super::open_block::OpenBlock;
 use super::part::inside;
 use super::resume::Waits;
 use super::run::Run;
@@ -20,7 +20,7 @@ use rst_block_nodes::{citation, footnote, message, preserved, target};
 use rst_markup_blocks::{CommentCause, Explicit, Part, explicit};
 use rst_markup_lines::Characters;
 use rst_text::View;
-use rst_tree::{Level as Gravity, Node, Tag};
+use rst_tree::{Level, Node, Tag};
 use std::alloc::Global;
 
 /// Explicit markup, which joins other explicit markup before it.
@@ -28,7 +28,7 @@ use std::alloc::Global;
 pub(crate) fn explicit_markup(
     alloc: Global,
     view: &View<'_>,
-    level: &mut Level,
+    level: &mut OpenBlock,
     pass: &mut Pass,
 ) -> Result<Step, BlockFault>
     requires inside { level.old.at < length (block_of view.now) }
@@ -52,7 +52,7 @@ pub(crate) fn explicit_markup(
 fn markup_of(
     alloc: Global,
     view: &View<'_>,
-    level: &mut Level,
+    level: &mut OpenBlock,
     found: Explicit,
     end: usize,
     pass: &mut Pass,
@@ -98,7 +98,7 @@ fn markup_of(
 fn footnote_block(
     alloc: Global,
     view: &View<'_>,
-    level: &mut Level,
+    level: &mut OpenBlock,
     label: Characters,
     body: Part,
     pass: &mut Pass,
@@ -120,7 +120,7 @@ fn footnote_block(
 fn citation_block(
     alloc: Global,
     view: &View<'_>,
-    level: &mut Level,
+    level: &mut OpenBlock,
     label: Characters,
     body: Part,
     pass: &mut Pass,
@@ -142,7 +142,7 @@ fn citation_block(
 fn target_block(
     alloc: Global,
     view: &View<'_>,
-    level: &mut Level,
+    level: &mut OpenBlock,
     name: Option<Characters>,
     text: Part,
     pass: &mut Pass,
@@ -171,7 +171,7 @@ fn target_block(
 fn comment(
     alloc: Global,
     view: &View<'_>,
-    level: &mut Level,
+    level: &mut OpenBlock,
     text: Part,
     cause: CommentCause,
     pass: &mut Pass,
@@ -208,7 +208,7 @@ fn label_text(
 }
 
 /// Opens the block of a footnote or citation.
-fn noted(level: &mut Level, element: Node, body: Part) -> Step
+fn noted(level: &mut OpenBlock, element: Node, body: Part) -> Step
     requires { level.old.at < 2 ^ 64 - 1 }
     ensures { (B : Block) → IsBlock B body → spec.IsStep B level.old.at level.new.at result }
 {
@@ -223,7 +223,7 @@ fn noted(level: &mut Level, element: Node, body: Part) -> Step
 /// Puts the message on a comment that isn't meant as one behind the last node.
 fn put_cause(
     alloc: Global,
-    level: &mut Level,
+    level: &mut OpenBlock,
     cause: CommentCause,
     line: usize,
 ) -> Result<(), BlockFault>
@@ -234,5 +234,5 @@ fn put_cause(
         CommentCause::MalformedTarget => "malformed hyperlink target.",
         CommentCause::MalformedSubstitution => "malformed substitution definition.",
     };
-    level.push(message(alloc, Gravity::Warning, line, text, None)?)
+    level.push(message(alloc, Level::Warning, line, text, None)?)
 }

@@ -5,7 +5,7 @@ ghost use Rattle.rst_markup_blocks.specs.Parts.{IsBlock, IsCall};
 ghost use Rattle.rst_block.specs.Steps as spec;
 
 use super::fault::BlockFault;
-use super::level::Level;
+use super::open_block::OpenBlock;
 use super::part::hanging;
 use super::resume::Waits;
 use super::run::ListKind;
@@ -21,7 +21,7 @@ use std::alloc::Global;
 pub(crate) fn field(
     alloc: Global,
     view: &View<'_>,
-    level: &mut Level,
+    level: &mut OpenBlock,
     mark: FieldMark,
     pass: &mut Pass,
 ) -> Result<Step, BlockFault>
@@ -73,7 +73,7 @@ pub(crate) fn field(
 pub(crate) fn join_list(
     alloc: Global,
     view: &View<'_>,
-    level: &mut Level,
+    level: &mut OpenBlock,
     kind: ListKind,
     tag: Tag,
     end: usize,

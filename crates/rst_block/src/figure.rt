@@ -3,7 +3,7 @@ use super::fault::BlockFault;
 use super::texts::{alone, push};
 use rst_block_nodes::{element_of, message};
 use rst_block_sections::{append, filled};
-use rst_tree::{Attrs, Children, Key, Level as Gravity, Node, Tag};
+use rst_tree::{Attrs, Children, Key, Level, Node, Tag};
 use std::alloc::Global;
 use std::vec::IntoIter;
 
@@ -58,7 +58,7 @@ pub(crate) fn finished_figure(
         Front::Missing => { captioned(alloc, figure, rest, 0) }
         Front::Wrong => {
             let text = "Figure caption must be a paragraph or empty comment.";
-            let error = message(alloc, Gravity::Error, line, text, Some(source.as_str()))?;
+            let error = message(alloc, Level::Error, line, text, Some(source.as_str()))?;
             let mut nodes = alone(alloc, figure)?;
             push(&mut nodes, error)?;
             Ok(nodes)

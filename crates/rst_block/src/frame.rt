@@ -6,7 +6,7 @@ ghost use Rattle.rst_block.specs.Steps as spec;
 ghost use Rattle.rst_block.specs.Frames as frames;
 
 use super::fault::BlockFault;
-use super::level::Level;
+use super::open_block::OpenBlock;
 use super::part::inside;
 use super::resume::{Waits, resume};
 use super::step::Step;
@@ -24,7 +24,7 @@ use std::mem;
 pub(crate) struct Frame {
     /// Where its lines stand in their text.
     pub portion: Portion,
-    pub level: Level,
+    pub level: OpenBlock,
     pub waits: Waits,
     /// The part of its lines that is read behind the one that is being read.
     pub second: Option<Part>,
@@ -45,7 +45,7 @@ impl MadeWith<Global> for Frame {
     fn made_with(alloc: Global) -> Frame {
         Frame {
             portion: Portion::none(),
-            level: Level::new(alloc, 0),
+            level: OpenBlock::new(alloc, 0),
             waits: Waits::ListItem { line: 0 },
             second: None,
             nodes: Vec::new(alloc),
@@ -58,7 +58,7 @@ impl MadeWith<Global> for Frame {
 pub(crate) fn opened(
     alloc: Global,
     view: &View<'_>,
-    level: &mut Level,
+    level: &mut OpenBlock,
     waits: Waits,
     second: Option<Part>,
     depth: usize,
@@ -73,7 +73,7 @@ pub(crate) fn opened(
 {
     Frame {
         portion: view.portion(),
-        level: mem::replace(level, Level::new(alloc, depth)),
+        level: mem::replace(level, OpenBlock::new(alloc, depth)),
         waits,
         second,
         nodes: Vec::new(alloc),
@@ -86,7 +86,7 @@ pub(crate) fn closed<'a>(
     alloc: Global,
     whole: &View<'a>,
     frame: Frame,
-    level: &mut Level,
+    level: &mut OpenBlock,
     depth: usize,
     pass: &mut Pass,
 ) -> Result<Ended<'a>, BlockFault>
@@ -110,7 +110,7 @@ pub(crate) fn closed<'a>(
             let part = inside(&view, second);
             let frame = Frame {
                 portion,
-                level: mem::replace(level, Level::new(alloc, depth)),
+                level: mem::replace(level, OpenBlock::new(alloc, depth)),
                 waits,
                 second: None,
                 nodes,

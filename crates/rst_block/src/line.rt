@@ -5,7 +5,7 @@ ghost use Rattle.rst_markup_blocks.specs.Parts.{IsBlock, IsCall};
 ghost use Rattle.rst_block.specs.Steps as spec;
 
 use super::fault::BlockFault;
-use super::level::Level;
+use super::open_block::OpenBlock;
 use super::part::{indented, inside};
 use super::run::Run;
 use super::texts::{Pass, joined, lines_between, number_at};
@@ -19,7 +19,7 @@ use std::alloc::Global;
 pub(crate) fn bar_line(
     alloc: Global,
     view: &View<'_>,
-    level: &mut Level,
+    level: &mut OpenBlock,
     marker: Marker,
     pass: &mut Pass,
 ) -> Result<(), BlockFault>

@@ -6,7 +6,7 @@ ghost use Rattle.rst_markup_blocks.specs.Parts.{IsBlock, IsCall};
 ghost use Rattle.rst_block.specs.Steps as spec;
 
 use super::fault::BlockFault;
-use super::level::Level;
+use super::open_block::OpenBlock;
 use super::part::item_part;
 use super::resume::Waits;
 use super::run::{ListKind, Run, Sequel};
@@ -19,7 +19,7 @@ use rst_text::View;
 use std::alloc::Global;
 
 /// Opens the block of an item.
-fn opened(level: &mut Level, line: usize, body: Part) -> Step
+fn opened(level: &mut OpenBlock, line: usize, body: Part) -> Step
     requires { level.old.at < 2 ^ 64 - 1 }
     ensures { (B : Block) → IsBlock B body → spec.IsStep B level.old.at level.new.at result }
 {
@@ -35,7 +35,7 @@ fn opened(level: &mut Level, line: usize, body: Part) -> Step
 pub(crate) fn bullet_item(
     alloc: Global,
     view: &View<'_>,
-    level: &mut Level,
+    level: &mut OpenBlock,
     mark: char,
     marker: Marker,
     pass: &mut Pass,
@@ -63,7 +63,7 @@ pub(crate) fn bullet_item(
 pub(crate) fn enumerated_item(
     alloc: Global,
     view: &View<'_>,
-    level: &mut Level,
+    level: &mut OpenBlock,
     enumerator: Enumerator,
     pass: &mut Pass,
 ) -> Result<Step, BlockFault>
@@ -92,7 +92,7 @@ pub(crate) fn enumerated_item(
 fn begin_enumerated_list(
     alloc: Global,
     view: &View<'_>,
-    level: &mut Level,
+    level: &mut OpenBlock,
     enumerator: Enumerator,
     end: usize,
     pass: &mut Pass,

@@ -7,7 +7,7 @@ ghost use Rattle.rst_block.specs.declared.step.Step.TheVariants.{Next};
 
 use super::fault::BlockFault;
 use super::frame::{Ended, Frame, closed, opened};
-use super::level::Level;
+use super::open_block::OpenBlock;
 use super::part::inside;
 use super::resume::{Waits, resume};
 use super::run::DEEPEST;
@@ -48,7 +48,7 @@ pub(crate) fn read(
     depth: usize,
     frames: &mut Frames,
     pass: &mut Pass,
-) -> Result<Level, BlockFault>
+) -> Result<OpenBlock, BlockFault>
     requires depth { depth ≤ 251 }
     requires room { length frames.old.items ≤ depth }
     ensures frames { IfOk result (λ _. frames.new.items ≡ frames.old.items) }
@@ -61,7 +61,7 @@ pub(crate) fn read(
     go_on(pass)?;
     not_blank(&whole, pass)?;
     go_on(pass)?;
-    Ok(Level::new(alloc, depth))
+    Ok(OpenBlock::new(alloc, depth))
 }
 
 /// The same where there are lines, and not too deep.
@@ -72,7 +72,7 @@ fn read_blocks(
     depth: usize,
     frames: &mut Frames,
     pass: &mut Pass,
-) -> Result<Level, BlockFault>
+) -> Result<OpenBlock, BlockFault>
     requires depth { depth ≤ 250 }
     requires room { length frames.old.items ≤ depth }
     requires short { length (block_of whole) < 2 ^ 64 }
@@ -81,7 +81,7 @@ fn read_blocks(
 {
     let base = frames.len();
     let mut view = whole;
-    let mut level = Level::new(alloc, depth);
+    let mut level = OpenBlock::new(alloc, depth);
     let mut now = Step::Next;
     loop {
         go_on(pass)?;
@@ -125,7 +125,7 @@ fn read_blocks(
 fn next(
     alloc: Global,
     view: &View<'_>,
-    level: &mut Level,
+    level: &mut OpenBlock,
     pass: &mut Pass,
 ) -> Result<Step, BlockFault>
     requires short { length (block_of view.now) < 2 ^ 64 }
@@ -175,7 +175,7 @@ fn not_blank(view: &View<'_>, pass: &mut Pass) -> Result<(), BlockFault>
 fn flat(
     alloc: Global,
     view: &View<'_>,
-    level: &mut Level,
+    level: &mut OpenBlock,
     waits: Waits,
     first: Part,
     second: Option<Part>,
@@ -201,7 +201,7 @@ fn flat(
 fn cells(
     alloc: Global,
     view: &View<'_>,
-    level: &mut Level,
+    level: &mut OpenBlock,
     found: TableResult,
     depth: usize,
     frames: &mut Frames,

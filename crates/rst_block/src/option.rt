@@ -6,7 +6,7 @@ ghost use Rattle.rst_block.specs.Steps as spec;
 
 use super::fault::BlockFault;
 use super::field::join_list;
-use super::level::Level;
+use super::open_block::OpenBlock;
 use super::part::hanging;
 use super::resume::Waits;
 use super::run::ListKind;
@@ -22,7 +22,7 @@ use std::alloc::Global;
 pub(crate) fn option_item(
     alloc: Global,
     view: &View<'_>,
-    level: &mut Level,
+    level: &mut OpenBlock,
     marker: Marker,
     pass: &mut Pass,
 ) -> Result<Step, BlockFault>

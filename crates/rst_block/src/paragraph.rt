@@ -9,7 +9,7 @@ ghost use Rattle.rst_block.specs.Paragraphs as paragraphs;
 ghost use Rattle.rst_block.specs.Steps as spec;
 
 use super::fault::BlockFault;
-use super::level::Level;
+use super::open_block::OpenBlock;
 use super::part::{indented, inside};
 use super::texts::{Pass, joined, number_at, source};
 use rst_block_nodes::{message, preserved, with_text};
@@ -19,14 +19,14 @@ use rst_markup_blocks::{
 };
 use rst_markup_lines::{begins_with, ends_in_colons, front, is_blank, is_punctuation};
 use rst_text::{View, skip};
-use rst_tree::{Level as Gravity, Tag};
+use rst_tree::{Level, Tag};
 use std::alloc::{AllocError, Global};
 
 /// A doctest block: the lines up to a blank one.
 pub(crate) fn doctest_block(
     alloc: Global,
     view: &View<'_>,
-    level: &mut Level,
+    level: &mut OpenBlock,
     pass: &mut Pass,
 ) -> Result<(), BlockFault>
     requires inside { level.old.at < length (block_of view.now) }
@@ -61,7 +61,7 @@ fn announcing(alloc: Global, text: &str) -> Result<String, AllocError> {
 pub(crate) fn paragraph(
     alloc: Global,
     view: &View<'_>,
-    level: &mut Level,
+    level: &mut OpenBlock,
     pass: &mut Pass,
 ) -> Result<(), BlockFault>
     requires inside { level.old.at < length (block_of view.now) }
@@ -84,7 +84,7 @@ pub(crate) fn paragraph(
 fn paragraph_of(
     alloc: Global,
     view: &View<'_>,
-    level: &mut Level,
+    level: &mut OpenBlock,
     text: &str,
     end: usize,
     pass: &mut Pass,
@@ -110,7 +110,7 @@ fn paragraph_of(
 fn put_paragraph(
     alloc: Global,
     view: &View<'_>,
-    level: &mut Level,
+    level: &mut OpenBlock,
     text: &str,
     end: usize,
     pass: &mut Pass,
@@ -129,7 +129,7 @@ fn put_paragraph(
     if end < view.len() && !view.line(end, &mut pass.looks).is_empty() {
         let error = message(
             alloc,
-            Gravity::Error,
+            Level::Error,
             number_at(view, end),
             "Unexpected indentation.",
             None,
@@ -143,7 +143,7 @@ fn put_paragraph(
 fn literal(
     alloc: Global,
     view: &View<'_>,
-    level: &mut Level,
+    level: &mut OpenBlock,
     end: usize,
     pass: &mut Pass,
 ) -> Result<(), BlockFault>
@@ -170,7 +170,7 @@ fn literal(
                 end.saturating_sub(1)
             };
             let text = "Literal block expected; none found.";
-            let warning = message(alloc, Gravity::Warning, number_at(view, place), text, None)?;
+            let warning = message(alloc, Level::Warning, number_at(view, place), text, None)?;
             level.go_to(end);
             level.push(warning)
         }
@@ -181,7 +181,7 @@ fn literal(
 fn indented_literal(
     alloc: Global,
     view: &View<'_>,
-    level: &mut Level,
+    level: &mut OpenBlock,
     start: usize,
     pass: &mut Pass,
 ) -> Result<(), BlockFault>
@@ -210,7 +210,7 @@ fn indented_literal(
 fn quoted_literal(
     alloc: Global,
     view: &View<'_>,
-    level: &mut Level,
+    level: &mut OpenBlock,
     start: usize,
     quote: char,
     pass: &mut Pass,
@@ -241,7 +241,7 @@ fn quoted_literal(
     } else {
         "Inconsistent literal block quoting."
     };
-    let error = message(alloc, Gravity::Error, number_at(view, end), text, None)?;
+    let error = message(alloc, Level::Error, number_at(view, end), text, None)?;
     level.push(error)
 }
 

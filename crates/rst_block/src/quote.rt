@@ -6,7 +6,7 @@ ghost use Rattle.rst_markup_blocks.specs.Attributions.{attribution_part};
 ghost use Rattle.rst_block.specs.Steps as spec;
 
 use super::fault::BlockFault;
-use super::level::Level;
+use super::open_block::OpenBlock;
 use super::part::{indented, inside};
 use super::resume::Waits;
 use super::step::Step;
@@ -21,7 +21,7 @@ use std::alloc::Global;
 pub(crate) fn block_quote(
     alloc: Global,
     view: &View<'_>,
-    level: &mut Level,
+    level: &mut OpenBlock,
     pass: &mut Pass,
 ) -> Result<Step, BlockFault>
     requires inside { level.old.at < length (block_of view.now) }
@@ -40,7 +40,7 @@ pub(crate) fn block_quote(
 pub(crate) fn quote_part(
     alloc: Global,
     view: &View<'_>,
-    level: &mut Level,
+    level: &mut OpenBlock,
     quote: Part,
     pass: &mut Pass,
 ) -> Result<Step, BlockFault>

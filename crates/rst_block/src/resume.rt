@@ -6,7 +6,7 @@ ghost use Rattle.rst_block.specs.Steps as spec;
 
 use super::fault::BlockFault;
 use super::figure::{OpenFigure, finished_figure};
-use super::level::Level;
+use super::open_block::OpenBlock;
 use super::quote::quote_part;
 use super::step::Step;
 use super::substitution::{OpenReplacement, finished_replacement};
@@ -52,7 +52,7 @@ pub(crate) enum Waits {
 pub(crate) fn resume(
     alloc: Global,
     view: &View<'_>,
-    level: &mut Level,
+    level: &mut OpenBlock,
     waits: Waits,
     nodes: Vec<Node>,
     pass: &mut Pass,
@@ -105,7 +105,7 @@ pub(crate) fn resume(
 /// Puts a block quote behind the last node, with its attribution and the messages of that.
 fn put_quote(
     alloc: Global,
-    level: &mut Level,
+    level: &mut OpenBlock,
     line: usize,
     mut nodes: Vec<Node>,
     attribution: Option<Box<Texted>>,
@@ -127,7 +127,7 @@ fn put_quote(
 fn after_quote(
     alloc: Global,
     view: &View<'_>,
-    level: &mut Level,
+    level: &mut OpenBlock,
     rest: Option<Part>,
     end: usize,
     pass: &mut Pass,

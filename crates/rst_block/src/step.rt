@@ -8,9 +8,9 @@ use super::adornment::adornment;
 use super::explicit::explicit_markup;
 use super::fault::BlockFault;
 use super::field::field;
-use super::level::Level;
 use super::line::bar_line;
 use super::list::{bullet_item, enumerated_item};
+use super::open_block::OpenBlock;
 use super::option::option_item;
 use super::paragraph::doctest_block;
 use super::quote::block_quote;
@@ -45,7 +45,7 @@ pub(crate) enum Step {
 pub(crate) fn step_at(
     alloc: Global,
     view: &View<'_>,
-    level: &mut Level,
+    level: &mut OpenBlock,
     pass: &mut Pass,
 ) -> Result<Step, BlockFault>
     requires inside { level.old.at < length (block_of view.now) }

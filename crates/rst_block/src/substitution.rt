@@ -7,7 +7,7 @@ ghost use Rattle.rst_block.specs.Steps as spec;
 
 use super::directive::{directive_at, wrong_directive};
 use super::fault::BlockFault;
-use super::level::Level;
+use super::open_block::OpenBlock;
 use super::resume::Waits;
 use super::step::Step;
 use super::texts::{Pass, alone, excerpt, number_at, source};
@@ -18,7 +18,7 @@ use rst_block_sections::filled;
 use rst_markup_blocks::Invocation;
 use rst_markup_directives::{Argument, Content, Directive, DirectiveFault, Place, Setting};
 use rst_text::View;
-use rst_tree::{Children, Level as Gravity, Node, Tag};
+use rst_tree::{Children, Level, Node, Tag};
 use std::alloc::Global;
 
 /// A substitution definition whose replacement text is read.
@@ -37,7 +37,7 @@ pub(crate) struct OpenReplacement {
 pub(crate) fn substitution_definition(
     alloc: Global,
     view: &View<'_>,
-    level: &mut Level,
+    level: &mut OpenBlock,
     written: &str,
     held: Option<Invocation>,
     end: usize,
@@ -57,7 +57,7 @@ pub(crate) fn substitution_definition(
         let line = number_at(view, level.at);
         let warning = message(
             alloc,
-            Gravity::Warning,
+            Level::Warning,
             line,
             text.as_str(),
             Some(lines.as_str()),
@@ -82,7 +82,7 @@ fn about(alloc: Global, name: &str, what: &str) -> Result<String, BlockFault> {
 fn holding(
     alloc: Global,
     view: &View<'_>,
-    level: &mut Level,
+    level: &mut OpenBlock,
     name: String,
     invocation: &Invocation,
     end: usize,
@@ -147,7 +147,7 @@ fn image_named(
 fn replacement(
     alloc: Global,
     view: &View<'_>,
-    level: &mut Level,
+    level: &mut OpenBlock,
     name: String,
     content: Content,
     end: usize,
@@ -211,7 +211,7 @@ pub(crate) fn finished_replacement(
         let text = about(alloc, name.as_str(), " contains an illegal element.")?;
         return Ok(message(
             alloc,
-            Gravity::Error,
+            Level::Error,
             line,
             text.as_str(),
             Some(source.as_str()),

@@ -5,21 +5,21 @@ ghost use Rattle.rst_markup_blocks.specs.Parts.{IsBlock, IsCall};
 ghost use Rattle.rst_block.specs.Steps as spec;
 
 use super::fault::BlockFault;
-use super::level::Level;
+use super::open_block::OpenBlock;
 use super::step::Step;
 use super::texts::{Pass, alone, number_at, source};
 use rst_block_nodes::{element_of, entry, message, tgroup};
 use rst_block_sections::filled;
 use rst_markup_tables::{Cell, TableFault, TableResult, malformed_text};
 use rst_text::View;
-use rst_tree::{Attrs, Level as Gravity, Node, Tag};
+use rst_tree::{Attrs, Level, Node, Tag};
 use std::alloc::Global;
 
 /// A table, or the message on one that is malformed.
 pub(crate) fn table(
     alloc: Global,
     view: &View<'_>,
-    level: &mut Level,
+    level: &mut OpenBlock,
     found: TableResult,
     pass: &mut Pass,
 ) -> Result<Step, BlockFault>
@@ -59,7 +59,7 @@ fn malformed(
     let lines = source(alloc, view, at, end, pass)?;
     Ok(message(
         alloc,
-        Gravity::Error,
+        Level::Error,
         number_at(view, at),
         text.as_str(),
         Some(lines.as_str()),
@@ -70,7 +70,7 @@ fn malformed(
 pub(crate) fn after_table(
     alloc: Global,
     view: &View<'_>,
-    level: &mut Level,
+    level: &mut OpenBlock,
     pass: &mut Pass,
 ) -> Result<(), BlockFault>
     requires short { length (block_of view.now) < 2 ^ 64 }

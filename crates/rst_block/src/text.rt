@@ -7,7 +7,7 @@ ghost use Rattle.rst_block.specs.Steps as spec;
 use super::definition::definition;
 use super::fault::BlockFault;
 use super::heading::heading_of;
-use super::level::Level;
+use super::open_block::OpenBlock;
 use super::paragraph::paragraph;
 use super::step::Step;
 use super::texts::{Pass, number_at, source};
@@ -16,14 +16,14 @@ use rst_block_sections::Style;
 use rst_markup_blocks::{TextForm, below_text, text_at, text_form};
 use rst_markup_lines::front;
 use rst_text::View;
-use rst_tree::{Level as Gravity, Node};
+use rst_tree::{Level, Node};
 use std::alloc::Global;
 
 /// A line of text, behind messages that say why it is one.
 pub(crate) fn text_line(
     alloc: Global,
     view: &View<'_>,
-    level: &mut Level,
+    level: &mut OpenBlock,
     infos: Vec<Node>,
     pass: &mut Pass,
 ) -> Result<Step, BlockFault>
@@ -59,7 +59,11 @@ pub(crate) fn text_line(
 }
 
 /// Puts the message on a possible underline behind the last node, where titles may stand.
-fn put_short_underline(alloc: Global, view: &View<'_>, level: &mut Level) -> Result<(), BlockFault>
+fn put_short_underline(
+    alloc: Global,
+    view: &View<'_>,
+    level: &mut OpenBlock,
+) -> Result<(), BlockFault>
     ensures { level.new.at ≡ level.old.at }
 {
     if !level.titles() {
@@ -69,7 +73,7 @@ fn put_short_underline(alloc: Global, view: &View<'_>, level: &mut Level) -> Res
         "Possible title underline, too short for the title.\nTreating it as ordinary text because it's so short.";
     let info = message(
         alloc,
-        Gravity::Info,
+        Level::Info,
         number_at(view, level.at.saturating_add(1)),
         text,
         None,
@@ -81,7 +85,7 @@ fn put_short_underline(alloc: Global, view: &View<'_>, level: &mut Level) -> Res
 fn underlined(
     alloc: Global,
     view: &View<'_>,
-    level: &mut Level,
+    level: &mut OpenBlock,
     short: bool,
     pass: &mut Pass,
 ) -> Result<(), BlockFault>
@@ -97,7 +101,7 @@ fn underlined(
     let under = number_at(view, at.saturating_add(1));
     let warning = if short {
         let text = "Title underline too short.";
-        Some(message(alloc, Gravity::Warning, under, text, Some(lines.as_str()))?)
+        Some(message(alloc, Level::Warning, under, text, Some(lines.as_str()))?)
     } else {
         None
     };
@@ -123,7 +127,7 @@ fn underlined(
         level.push(warning)?;
     }
     let text = "Unexpected section title.";
-    let severe = message(alloc, Gravity::Severe, under, text, Some(lines.as_str()))?;
+    let severe = message(alloc, Level::Severe, under, text, Some(lines.as_str()))?;
     level.go_to(end);
     level.push(severe)
 }

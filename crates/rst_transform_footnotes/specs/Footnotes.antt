@@ -1,6 +1,6 @@
 -- Footnotes, and the references that find them by the order (Markup Specification, 'Footnotes').
 use Rattle.std.specs.Prelude.{◌≡◌, ℕ, ◌+◌, ◌&&◌, Bool, true, false, List, [], ◌∷◌, ◌++◌, codes, decimal, length, if◌then◌else◌, is_none, slice_get, Option, Some, None}
-use Rattle.rst_transform_names.specs.declared.names.Held.{Held as KnownName}
+use Rattle.rst_transform_names.specs.declared.names.NameEntry.{NameEntry}
 use Rattle.rst_transform_names.specs.declared.names.Holder.TheVariants.{Element as HeldBy}
 use Rattle.rst_transform_names.specs.declared.names.Names.{Names as KnownNames}
 use Rattle.rst_transform_names.specs.declared.names.Strength.TheVariants.{Explicit}
@@ -37,7 +37,7 @@ own_number node label = if is_order Numbers (footnote_order node) then label els
 
 -- an element holds a name, by what is known of the name, and by the element's serial number and its id; where the name is known, or
 -- the element has no such number or id, nothing changes
-abbrev pub HoldsName : List ℕ → Option KnownName → Option ℕ → Option (List ℕ) → KnownNames → KnownNames → Type 0
+abbrev pub HoldsName : List ℕ → Option NameEntry → Option ℕ → Option (List ℕ) → KnownNames → KnownNames → Type 0
 HoldsName name None (Some serial) (Some id) before after = Knows name (Some (record { holder = HeldBy serial; strength = Explicit; id = id })) before after × SameUris before after
 HoldsName name _ _ _ before after = after ≡ before
 

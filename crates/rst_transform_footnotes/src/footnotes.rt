@@ -14,7 +14,7 @@ use rst_transform_links::{
     Addition, Changes, Linked, Order, Outcome, footnote_order, found_by_order, in_order, linked_in,
     put_back, reference_order, settled, text_attr,
 };
-use rst_transform_names::{Held, Holder, Names, Strength};
+use rst_transform_names::{Holder, NameEntry, Names, Strength};
 use rst_transform_work::{Work, at_place, first_said, line_of, list_said, number_said, take_root};
 use rst_tree::{Entry, Key, Level, Node, Tag, Text, TreeFault, Value};
 use std::alloc::Global;
@@ -169,7 +169,7 @@ fn hold_number(
     let Some(id) = first_said(footnote, Key::Ids) else {
         return Ok(());
     };
-    let held = Held {
+    let held = NameEntry {
         holder: Holder::Element(serial),
         strength: Strength::Explicit,
         id: Text::from_str(alloc, id)?,

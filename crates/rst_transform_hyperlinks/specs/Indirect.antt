@@ -1,7 +1,7 @@
 -- Indirect targets, which lead where the names that they refer to lead (Markup Specification, 'Hyperlink Targets').
 use Rattle.std.specs.Prelude.{◌≡◌, ℕ, ◌+◌, Bool, true, false, List, [], ◌∷◌, ◌++◌, codes, drop, length, map, if◌then◌else◌, is_none, is_some, option_map, slice_get, unwrap_or, Option, Some, None}
 use Rattle.std.specs.List.{list_all}
-use Rattle.rst_transform_names.specs.declared.names.Held.{Held as Naming}
+use Rattle.rst_transform_names.specs.declared.names.NameEntry.{NameEntry}
 use Rattle.rst_transform_names.specs.declared.names.Holder.{Holder}
 use Rattle.rst_transform_names.specs.declared.names.Holder.TheVariants.{Nobody, Element as Numbered, Unregistered}
 use Rattle.rst_transform_names.specs.declared.names.Names.{Names}
@@ -54,7 +54,7 @@ step_to linked None uri id = ends_at_name None uri id
 step_to linked (Some place) uri id = step_to_one place (option_map (λ one. one.0) (slice_get linked place)) uri id
 
 -- the first step to a name, by what is known of it
-abbrev pub step_by : List Held → (Holder → Option ℕ) → Option (List ℕ) → List ℕ → Option Naming → Step
+abbrev pub step_by : List Held → (Holder → Option ℕ) → Option (List ℕ) → List ℕ → Option NameEntry → Step
 step_by linked places uri name None = Ends (Missing name)
 step_by linked places uri name (Some known) = if has_holder known.holder then step_to linked (places known.holder) uri known.id else Ends (Missing name)
 
@@ -122,7 +122,7 @@ is_reference_node (Element t a c l) = is_reference t
 is_reference_node (Text t) = false
 
 -- the place of the element that holds a name, if one does
-abbrev pub place_by : (Holder → Option ℕ) → Option Naming → Option ℕ
+abbrev pub place_by : (Holder → Option ℕ) → Option NameEntry → Option ℕ
 place_by places None = None
 place_by places (Some known) = places known.holder
 

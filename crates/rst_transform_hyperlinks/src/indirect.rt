@@ -18,7 +18,7 @@ use crate::ways::{Answer, Step, answer_at, answers};
 use rst_transform_links::{
     Changes, Holders, Linked, Outcome, is_target, lead_by_name, linked_in, put_back, settled,
 };
-use rst_transform_names::{Held, Holder, Names};
+use rst_transform_names::{Holder, NameEntry, Names};
 use rst_transform_work::{Work, at_place, has, line_of, take_root, text_said};
 use rst_tree::{Key, Level, Node, Tag, Text, TreeFault};
 use std::alloc::Global;
@@ -102,7 +102,7 @@ fn is_indirect(node: &Node) -> bool
 }
 
 /// Whether an element holds what is known of a name.
-fn has_holder(known: &Held) -> bool
+fn has_holder(known: &NameEntry) -> bool
     ensures { result ≡ has_holder known.now.holder }
 {
     !matches!(known.holder, Holder::Nobody)
@@ -113,7 +113,7 @@ fn ends_at_name(
     alloc: Global,
     names: &Names,
     name: &str,
-    known: &Held,
+    known: &NameEntry,
     holder: Option<&Node>,
 ) -> Result<Step, TreeFault>
     ensures { Gives (λ step. step ≡ ends_at_name (holding holder.entry) (kept_for names.now name.now) known.now.id) result }
@@ -128,7 +128,7 @@ fn step_to(
     names: &Names,
     linked: &[Linked<'_>],
     name: &str,
-    known: &Held,
+    known: &NameEntry,
     place: Option<usize>,
 ) -> Result<Step, TreeFault>
     ensures { Gives (λ step. step ≡ step_to (map held linked.now) place (kept_for names.now name.now) known.now.id) result }

@@ -13,7 +13,7 @@ ghost use Rattle.rst_transform_links.specs.Linkings.{held};
 ghost use Rattle.rst_transform_work.specs.Reading.{number_said};
 
 use crate::links::Linked;
-use rst_transform_names::{Held, Holder, Names};
+use rst_transform_names::{Holder, NameEntry, Names};
 use rst_transform_work::{number_said, text_said};
 use rst_tree::{Entry, Key, Node, Tag, Text, TreeFault, Value};
 use std::alloc::Global;
@@ -134,7 +134,7 @@ pub fn lead_by_name(
     alloc: Global,
     names: &Names,
     name: &str,
-    held: &Held,
+    held: &NameEntry,
     holder: Option<&Node>,
 ) -> Result<Entry, TreeFault>
     ensures { Gives (λ lead. lead ≡ name_lead (holding holder.entry) (kept_for names.now name.now) held.now.id) result }

@@ -9,7 +9,7 @@ use Rattle.std.specs.Prelude.{if◌then◌else◌, slice_index_or}
 use Rattle.std.specs.Vec.{with_items}
 use Rattle.rst_tree.specs.Paths.{map_at}
 use Rattle.rst_tree.specs.Walk.{Item}
-use Rattle.rst_transform_names.specs.declared.names.Held.{Held}
+use Rattle.rst_transform_names.specs.declared.names.NameEntry.{NameEntry}
 use Rattle.rst_transform_names.specs.declared.names.Holder.{Holder}
 use Rattle.rst_transform_names.specs.declared.names.Holder.TheVariants.{Nobody as Lost, Element, Unregistered}
 use Rattle.rst_transform_names.specs.declared.registry.Registry.{Registry}
@@ -29,7 +29,7 @@ changed_behind change zero (x ∷ xs) l = absurd (omega arith)
 changed_behind change (suc n) (x ∷ xs) l = ap (λ t. x ∷ t) (changed_behind change n xs (omega arith))
 
 -- the rule for an element with a name
-pub rule_with : (name : List ℕ) (earlier : List Item) (held : Option Held) (new : Item) → 0 < length name → rule_by earlier held new ≡ rule_named name earlier held new
+pub rule_with : (name : List ℕ) (earlier : List Item) (held : Option NameEntry) (new : Item) → 0 < length name → rule_by earlier held new ≡ rule_named name earlier held new
 rule_with [] earlier held new some = absurd (omega arith)
 rule_with (c ∷ cs) earlier held new some = refl
 

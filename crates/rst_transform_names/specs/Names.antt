@@ -5,16 +5,16 @@ use Rattle.std.specs.Option.{option_map}
 use Rattle.std.specs.Str.{bytes_eq}
 use Rattle.rst_tree.specs.declared.fault.TreeFault.{TreeFault}
 use Rattle.rst_tree.specs.declared.fault.TreeFault.TheVariants.{NoMemory}
-use Rattle.rst_transform_names.specs.declared.names.Held.{Held}
+use Rattle.rst_transform_names.specs.declared.names.NameEntry.{NameEntry}
 use Rattle.rst_transform_names.specs.declared.names.Holder.{Holder}
 use Rattle.rst_transform_names.specs.declared.names.Names.{Names}
 
 -- what is known of a name
-abbrev pub held_by : Names → List ℕ → Option Held
+abbrev pub held_by : Names → List ℕ → Option NameEntry
 held_by names name = get_by_text names.held name
 
 -- something is known of a name, and of the others what was
-abbrev pub Knows : List ℕ → Option Held → Names → Names → Type 0
+abbrev pub Knows : List ℕ → Option NameEntry → Names → Names → Type 0
 Knows name held old new = (other : List ℕ) → held_by new other ≡ (if bytes_eq other name then held else held_by old other)
 
 -- of each name the same is known as before
@@ -22,7 +22,7 @@ abbrev pub KnowsTheSame : Names → Names → Type 0
 KnowsTheSame old new = (other : List ℕ) → held_by new other ≡ held_by old other
 
 -- what is known of a name was said, or memory ran out and nothing changed
-abbrev pub Holds : {A : Type 0} → List ℕ → Held → Names → Names → Result A TreeFault → Type 0
+abbrev pub Holds : {A : Type 0} → List ℕ → NameEntry → Names → Names → Result A TreeFault → Type 0
 Holds name held old new (Ok done) = Knows name (Some held) old new
 Holds name held old new (Err NoMemory) = KnowsTheSame old new
 
@@ -40,6 +40,6 @@ KeepsUri name uri old new (Ok done) = (other : List ℕ) → kept_for new other 
 KeepsUri name uri old new (Err NoMemory) = SameUris old new
 
 -- the same with another holder
-abbrev pub moved : Holder → Option Held → Option Held
+abbrev pub moved : Holder → Option NameEntry → Option NameEntry
 moved holder None = None
 moved holder (Some held) = Some (record { holder = holder; strength = held.strength; id = held.id })

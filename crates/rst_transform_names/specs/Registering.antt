@@ -12,7 +12,7 @@ use Rattle.rst_tree.specs.declared.node.Node.{Node}
 use Rattle.rst_tree.specs.Walk.{Item, node_items, walked_node}
 use Rattle.rst_tree_index.specs.Marks.{heeded_next, heeded_out}
 use Rattle.rst_tree_index.specs.Registered.{is_registered}
-use Rattle.rst_transform_names.specs.declared.links.Linked.{Linked}
+use Rattle.rst_transform_names.specs.declared.message_ids.MessageIds.{MessageIds}
 use Rattle.rst_transform_names.specs.declared.registration.Registered.{Registered}
 use Rattle.rst_transform_names.specs.declared.registry.Registry.{Registry}
 use Rattle.rst_transform_names.specs.declared.registry.Standing.{Standing}
@@ -23,17 +23,17 @@ use Rattle.rst_transform_names.specs.Registry.{held_in, rule_named, IsDefined, I
 use Rattle.rst_transform_names.specs.Written.{given, left_behind, problematic_id, with_given}
 
 -- what is known of a message once one of its problematics has come, or the message itself, with the number in its id
-abbrev pub linked_by : Tag → ℕ → Linked → Linked
+abbrev pub linked_by : Tag → ℕ → MessageIds → MessageIds
 linked_by Problematic number l = record { id = l.id; problematics = l.problematics ++ problematic_id number ∷ [] }
 linked_by _ number l = record { id = Some number; problematics = l.problematics }
 
 -- what is known of messages, where that changes of the one that an element says
-abbrev pub linking : Option ℕ → (Linked → Linked) → List Linked → List Linked
+abbrev pub linking : Option ℕ → (MessageIds → MessageIds) → List MessageIds → List MessageIds
 linking None change messages = messages
 linking (Some message) change messages = map_at change message messages
 
 -- a message or a problematic gets a number
-pub record IsLinked (new : Item) (before after : Registry) : Type 0 where
+pub record RegistersMessage (new : Item) (before after : Registry) : Type 0 where
   pub number : ℕ
   pub is_number : IsLeastFree (is_taken before.ids) (hyphenated (tag_name new.tag)) number
   pub is_taken_now : Takes (numbered (hyphenated (tag_name new.tag)) number) before.ids after.ids
@@ -65,21 +65,21 @@ pub record IsAdded (earlier : List Item) (new : Item) (before after : Registry) 
   pub put : IsPut s between after
 
 -- messages and problematics, which have no names
-abbrev pub is_linked : Tag → Bool
-is_linked Problematic = true
-is_linked SystemMessage = true
-is_linked _ = false
+abbrev pub is_of_message : Tag → Bool
+is_of_message Problematic = true
+is_of_message SystemMessage = true
+is_of_message _ = false
 
 abbrev pub RegistersBy : Bool → List Item → Item → Registry → Registry → Type 0
-RegistersBy true earlier new before after = IsLinked new before after
+RegistersBy true earlier new before after = RegistersMessage new before after
 RegistersBy false earlier new before after = IsAdded earlier new before after
 
 abbrev pub Registers : List Item → Item → Registry → Registry → Type 0
-Registers earlier new before after = RegistersBy (is_linked new.tag) earlier new before after
+Registers earlier new before after = RegistersBy (is_of_message new.tag) earlier new before after
 
 -- the elements that may have names, up to one
 abbrev pub with_named : List Item → Item → List Item
-with_named earlier new = if is_linked new.tag then earlier else (earlier ++ new ∷ [])
+with_named earlier new = if is_of_message new.tag then earlier else (earlier ++ new ∷ [])
 
 -- one element after the other
 abbrev pub AllRegistered : List Item → List Item → Registry → Registry → Type 0

@@ -10,7 +10,7 @@ use Rattle.rst_tree.specs.declared.tag.Tag.{Tag}
 use Rattle.rst_tree.specs.declared.tag.Tag.TheVariants.{Section, Target}
 use Rattle.rst_tree.specs.Paths.{map_at}
 use Rattle.rst_tree.specs.Walk.{Item}
-use Rattle.rst_transform_names.specs.declared.names.Held.{Held}
+use Rattle.rst_transform_names.specs.declared.names.NameEntry.{NameEntry}
 use Rattle.rst_transform_names.specs.declared.names.Holder.{Holder}
 use Rattle.rst_transform_names.specs.declared.names.Holder.TheVariants.{Nobody as Lost, Element, Unregistered}
 use Rattle.rst_transform_names.specs.declared.names.Names.{Names}
@@ -58,12 +58,12 @@ is_shared earlier Lost new = false
 is_shared earlier Unregistered new = false
 
 -- the rule for the name of a new element, by what is known of the name
-abbrev pub rule_by : List Item → Option Held → Item → Ruling
+abbrev pub rule_by : List Item → Option NameEntry → Item → Ruling
 rule_by earlier None new = ruling_for None (strength_of new.tag) false
 rule_by earlier (Some held) new = ruling_for (Some (held.strength, held.holder)) (strength_of new.tag) (is_shared earlier held.holder new)
 
 -- what is known of the name from now on; the element has a number and an id
-abbrev pub known_by : Now → ℕ → Item → List ℕ → Option Held → Option Held
+abbrev pub known_by : Now → ℕ → Item → List ℕ → Option NameEntry → Option NameEntry
 known_by Old number new id held = held
 known_by Nobody number new id held = moved Lost held
 known_by New number new id held = Some (record { holder = Element number; strength = strength_of new.tag; id = id })
@@ -78,7 +78,7 @@ losing (Element n) standings = map_at without_name n standings
 losing Lost standings = standings
 losing Unregistered standings = standings
 
-abbrev pub holder_in : Option Held → Holder
+abbrev pub holder_in : Option NameEntry → Holder
 holder_in None = Lost
 holder_in (Some held) = held.holder
 
@@ -92,7 +92,7 @@ abbrev pub no_rule : Ruling
 no_rule = record { now = Old; old_loses = false; new_loses = false; complaint = None }
 
 -- the rule for a new element by the name it was written with; the empty name is none
-abbrev pub rule_named : List ℕ → List Item → Option Held → Item → Ruling
+abbrev pub rule_named : List ℕ → List Item → Option NameEntry → Item → Ruling
 rule_named [] earlier held new = no_rule
 rule_named (c ∷ cs) earlier held new = rule_by earlier held new
 
@@ -103,7 +103,7 @@ standing number id lost = record { serial = number; id = id; lost = lost }
 abbrev pub next_number : Registry → ℕ
 next_number registry = length registry.standings.items
 
-abbrev pub held_in : Registry → Item → Option Held
+abbrev pub held_in : Registry → Item → Option NameEntry
 held_in registry new = held_by registry.names (own_name new)
 
 -- an element gets its id, and its name by the rule for it, if it has one; the elements before it that may have names are known

@@ -7,7 +7,7 @@ use Rattle.rst_tree.specs.declared.tag.Tag.{Tag}
 use Rattle.rst_tree.specs.declared.tag.Tag.TheVariants.{Problematic, SystemMessage}
 use Rattle.rst_tree.specs.Attributes.{with_attr}
 use Rattle.rst_tree.specs.Walk.{Item, item}
-use Rattle.rst_transform_names.specs.declared.links.Linked.{Linked}
+use Rattle.rst_transform_names.specs.declared.message_ids.MessageIds.{MessageIds}
 use Rattle.rst_transform_names.specs.declared.registry.Standing.{Standing}
 use Rattle.rst_transform_names.specs.Gathered.{number_at, text_at}
 
@@ -34,7 +34,7 @@ abbrev pub message_id : ℕ → List ℕ
 message_id number = codes "system-message-" ++ decimal number
 
 -- what is known of the message whose number an element's attributes say, if they say one
-abbrev pub linked_of : List Linked → List Attr → Option Linked
+abbrev pub linked_of : List MessageIds → List Attr → Option MessageIds
 linked_of messages attrs = option_and_then (slice_get messages) (number_at Message attrs)
 
 -- the attributes of a problematic with the id of its message, if that is in the document
@@ -48,20 +48,20 @@ with_backrefs [] attrs = attrs
 with_backrefs (id ∷ more) attrs = with_attr Backrefs (Listed (id ∷ more)) attrs
 
 -- the same by what is known of the message, if anything is
-abbrev pub with_link_to : Option Linked → List Attr → List Attr
+abbrev pub with_link_to : Option MessageIds → List Attr → List Attr
 with_link_to None attrs = attrs
 with_link_to (Some message) attrs = with_refid message.id attrs
 
-abbrev pub with_links_from : Option Linked → List Attr → List Attr
+abbrev pub with_links_from : Option MessageIds → List Attr → List Attr
 with_links_from None attrs = attrs
 with_links_from (Some message) attrs = with_backrefs message.problematics attrs
 
 -- the attributes of a problematic with all that registration gave it: its message, and its id
-abbrev pub with_problematic : List Linked → ℕ → List Attr → List Attr
+abbrev pub with_problematic : List MessageIds → ℕ → List Attr → List Attr
 with_problematic messages number attrs = with_id (Some (problematic_id number)) (with_link_to (linked_of messages attrs) attrs)
 
 -- those of a message: its problematics, and its id
-abbrev pub with_message : List Linked → ℕ → List Attr → List Attr
+abbrev pub with_message : List MessageIds → ℕ → List Attr → List Attr
 with_message messages number attrs = with_id (Some (message_id number)) (with_links_from (linked_of messages attrs) attrs)
 
 -- what registration gives the elements from one on: those that may have names their standings; messages and problematics the
@@ -69,9 +69,9 @@ with_message messages number attrs = with_id (Some (message_id number)) (with_li
 pub record Given : Type 0 where
   pub standings : List Standing
   pub numbers : List ℕ
-  pub messages : List Linked
+  pub messages : List MessageIds
 
-abbrev pub given : List Standing → List ℕ → List Linked → Given
+abbrev pub given : List Standing → List ℕ → List MessageIds → Given
 given standings numbers messages = record { standings = standings; numbers = numbers; messages = messages }
 
 -- what the elements behind one of a kind get

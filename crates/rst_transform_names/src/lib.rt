@@ -3,7 +3,7 @@
 
 mod dues;
 mod ids;
-mod links;
+mod message_ids;
 mod names;
 mod notices;
 mod placing;
@@ -14,5 +14,5 @@ mod rulings;
 mod writing;
 
 pub use ids::Ids;
-pub use names::{Held, Holder, Names, Strength};
+pub use names::{Holder, NameEntry, Names, Strength};
 pub use registration::{Registered, register};

@@ -28,7 +28,7 @@ pub enum Strength {
 
 /// What is known of a name.
 #[derive(Debug, Drop)]
-pub struct Held {
+pub struct NameEntry {
     pub holder: Holder,
     pub strength: Strength,
     /// The id of the element that brought the name, the last one that held it.
@@ -38,7 +38,7 @@ pub struct Held {
 /// The names of a document's elements.
 #[derive(Drop)]
 pub struct Names {
-    held: BTreeMap<String, Held>,
+    held: BTreeMap<String, NameEntry>,
     /// Where a name leads whose holder was a target with a URI and has left the document.
     uris: BTreeMap<String, String>,
 }
@@ -56,7 +56,7 @@ impl Names {
     }
 
     /// What is known of a name, if an element was written with it.
-    pub fn get(&self, name: &str) -> Option<&Held>
+    pub fn get(&self, name: &str) -> Option<&NameEntry>
         ensures { MatchOption result (held_by self.now name.now ≡ None) (λ h. held_by self.now name.now ≡ Some h.now) }
     {
         self.held.get(name)
@@ -75,7 +75,7 @@ impl Names {
     /// Says what is known of a name, in place of what was known.
     ///
     /// The only refusal is want of memory; then what is known is as before.
-    pub fn hold(&mut self, alloc: Global, name: &str, held: Held) -> Result<(), TreeFault>
+    pub fn hold(&mut self, alloc: Global, name: &str, held: NameEntry) -> Result<(), TreeFault>
         ensures held { Holds name.now held self.old self.new result }
         ensures uris { SameUris self.old self.new }
     {

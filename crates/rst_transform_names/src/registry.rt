@@ -7,12 +7,12 @@ ghost use Rattle.rst_tree_index.specs.Registered.{item_of};
 ghost use Rattle.rst_transform_names.specs.Gathered.{text_at};
 ghost use Rattle.rst_transform_names.specs.Gathered as spec;
 ghost use Rattle.rst_transform_names.specs.Names.{held_by, Knows, SameUris};
-ghost use Rattle.rst_transform_names.specs.Registering.{with_named, IsAdded, IsLinked, IsRegistry, KnowsNothing, Registers, Stands};
+ghost use Rattle.rst_transform_names.specs.Registering.{with_named, IsAdded, RegistersMessage, IsRegistry, KnowsNothing, Registers, Stands};
 ghost use Rattle.rst_transform_names.specs.Registry.{strength_of, is_same_text, is_shared, rule_by, known_by, losing, holder_in, held_in, next_number, notices_by, rule_named, definer, definition_notices, IsNamed, IsDefined};
 
 use super::ids::Ids;
-use super::links::{Links, is_linked};
-use super::names::{Held, Holder, Names, Strength};
+use super::message_ids::{KnownMessages, is_of_message};
+use super::names::{Holder, NameEntry, Names, Strength};
 use super::notices::{duplicate_definition, duplicate_name};
 use super::placing::Notices;
 use super::registrants::own_name;
@@ -43,7 +43,7 @@ pub struct Registry {
     /// What each element got that may have a name, by its number.
     pub standings: Vec<Standing>,
     /// What is known of messages and problematics.
-    pub links: Links,
+    pub links: KnownMessages,
     /// The messages on the elements' names.
     pub notices: Notices,
 }
@@ -59,7 +59,7 @@ impl Registry {
             names: Names::new(alloc),
             definitions: BTreeMap::new(alloc),
             standings: Vec::with_capacity(alloc, named)?,
-            links: Links::new(alloc, linked, messages)?,
+            links: KnownMessages::new(alloc, linked, messages)?,
             notices: Notices::new(alloc),
         })
     }
@@ -74,7 +74,7 @@ impl Registry {
         ensures registry { Gives (λ _. Registers (map item_of earlier.old.items) (item_of new.entry) self.old self.new) result }
         ensures earlier { Gives (λ _. map item_of earlier.new.items ≡ with_named (map item_of earlier.old.items) (item_of new.entry)) result }
     {
-        if is_linked(new.tag) {
+        if is_of_message(new.tag) {
             return self.add_linked(alloc, new);
         }
         self.add(alloc, earlier, new)?;
@@ -84,7 +84,7 @@ impl Registry {
 
     /// Registers one more message or problematic.
     fn add_linked(&mut self, alloc: Global, new: Element<'_>) -> Result<(), TreeFault>
-        ensures { Gives (λ _. IsLinked (item_of new.entry) self.old self.new) result }
+        ensures { Gives (λ _. RegistersMessage (item_of new.entry) self.old self.new) result }
     {
         let number = self.ids.give_number(alloc, new.tag)?;
         self.links.add(alloc, new, number)
@@ -250,7 +250,7 @@ fn follow(
             Ok(())
         }
         Now::New => {
-            let held = Held {
+            let held = NameEntry {
                 holder: Holder::Element(serial),
                 strength: strength_of(new.tag),
                 id: id.copy()?,
@@ -335,7 +335,7 @@ pub fn registry_of(
 ) -> Result<Registry, TreeFault>
     ensures { Gives (λ registry. IsRegistry messages (map item_of elements.entry.now) registry) result }
 {
-    let linked = elements.iter().filter(|new| is_linked(new.tag)).count();
+    let linked = elements.iter().filter(|new| is_of_message(new.tag)).count();
     let named = elements.len().saturating_sub(linked);
     let mut registry = Registry::new(alloc, named, linked, messages)?;
     let mut earlier = Vec::with_capacity(alloc, named)?;

@@ -6,7 +6,7 @@ ghost use Rattle.rst_transform_names.specs.Gathered.{text_at};
 ghost use Rattle.rst_transform_names.specs.Written.{given, with_id, with_name, with_standing, linked_of, with_problematic, with_refid, with_message, with_backrefs, left_behind, with_given};
 
 use super::ids::{message_id, problematic_id};
-use super::links::{Linked, Links};
+use super::message_ids::{KnownMessages, MessageIds};
 use super::registry::Standing;
 use rst_tree::{Attrs, Key, Tag, Text, Texts, TreeFault, Value, Visitor};
 use std::alloc::Global;
@@ -70,7 +70,7 @@ fn write(alloc: Global, attrs: &mut Attrs, standing: Standing) -> Result<(), Tre
 }
 
 /// What is known of the message whose number an element's attributes say, if they say one.
-fn linked_of<'a>(messages: &'a [Linked], attrs: &Attrs) -> Option<&'a Linked>
+fn linked_of<'a>(messages: &'a [MessageIds], attrs: &Attrs) -> Option<&'a MessageIds>
     ensures { MatchOption result (linked_of messages.now attrs.now ≡ None) (λ l. linked_of messages.now attrs.now ≡ Some l.now) }
 {
     match attrs.number(Key::Message) {
@@ -84,7 +84,7 @@ fn write_problematic(
     alloc: Global,
     attrs: &mut Attrs,
     number: u64,
-    messages: &[Linked],
+    messages: &[MessageIds],
 ) -> Result<(), TreeFault>
     ensures { Gives (λ _. attrs.new ≡ with_problematic messages.now number attrs.old) result }
 {
@@ -110,7 +110,7 @@ fn write_message(
     alloc: Global,
     attrs: &mut Attrs,
     number: u64,
-    messages: &[Linked],
+    messages: &[MessageIds],
 ) -> Result<(), TreeFault>
     ensures { Gives (λ _. attrs.new ≡ with_message messages.now number attrs.old) result }
 {
@@ -140,7 +140,7 @@ pub struct Writing {
     /// The numbers in the ids of the messages and problematics that are still to come, in preorder.
     numbers: VecDeque<u64>,
     /// What is known of each message, by the number that it and its problematics carry.
-    messages: Vec<Linked>,
+    messages: Vec<MessageIds>,
 }
 
 impl Model for Writing {
@@ -153,10 +153,10 @@ impl Model for Writing {
 
 impl Writing {
     /// Before the first element.
-    pub fn of(alloc: Global, standings: Vec<Standing>, links: Links) -> Writing
+    pub fn of(alloc: Global, standings: Vec<Standing>, links: KnownMessages) -> Writing
         ensures { result ≡ given standings.items links.numbers.items links.messages.items }
     {
-        let Links { numbers, messages } = links;
+        let KnownMessages { numbers, messages } = links;
         Writing {
             alloc,
             standings: VecDeque::from_vec(standings),

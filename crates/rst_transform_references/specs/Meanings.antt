@@ -1,7 +1,7 @@
 -- What names mean to the references by name (Markup Specification, 'Hyperlink References', 'Footnotes', 'Citations').
 use Rattle.std.specs.Prelude.{ℕ, ◌&&◌, Bool, true, false, not, List, if◌then◌else◌, is_some, slice_get, Option, Some, None}
 use Rattle.std.specs.Option.{option_map}
-use Rattle.rst_transform_names.specs.declared.names.Held.{Held as NameHeld}
+use Rattle.rst_transform_names.specs.declared.names.NameEntry.{NameEntry}
 use Rattle.rst_transform_names.specs.declared.names.Holder.{Holder}
 use Rattle.rst_transform_names.specs.declared.names.Holder.TheVariants.{Nobody}
 use Rattle.rst_transform_names.specs.declared.names.Names.{Names}
@@ -64,7 +64,7 @@ element_at linked (Some place) = option_map (λ one. one.0) (slice_get linked pl
 -- the places of holders among the linked elements of a document, these, and its names
 module _ (places : Holder → Option ℕ) (linked : List Held) (names : Names) where
   -- What a name means that some element was written with. A reference to footnotes and citations means nothing else.
-  abbrev pub held_meaning : List ℕ → Bool → NameHeld → Meaning
+  abbrev pub held_meaning : List ℕ → Bool → NameEntry → Meaning
   held_meaning name to_note held =
       let place : Option ℕ = places held.holder in
       let element : Option Node = element_at linked place in
@@ -73,7 +73,7 @@ module _ (places : Holder → Option ℕ) (linked : List Held) (names : Names) w
       else if to_note && not (is_some note) then Unknown
       else Leads (name_lead element (kept_for names name) held.id) note
 
-  abbrev pub known_meaning : List ℕ → Bool → Option NameHeld → Meaning
+  abbrev pub known_meaning : List ℕ → Bool → Option NameEntry → Meaning
   known_meaning name to_note None = Unknown
   known_meaning name to_note (Some held) = held_meaning name to_note held
 

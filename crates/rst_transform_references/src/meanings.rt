@@ -7,7 +7,7 @@ ghost use Rattle.rst_transform_links.specs.Linkings.{held};
 ghost use Rattle.rst_transform_references.specs.Meanings.{element_at, held_meaning, is_nobody, is_note_node, is_note_reference, meaning_to, note_place, reference_name};
 
 use rst_transform_links::{Holders, Linked, lead_by_name};
-use rst_transform_names::{Held, Holder, Names};
+use rst_transform_names::{Holder, NameEntry, Names};
 use rst_tree::{Entry, Key, Node, Tag, TreeFault};
 use std::alloc::Global;
 
@@ -117,7 +117,7 @@ impl<'a> Lookup<'a> {
         alloc: Global,
         name: &str,
         to_note: bool,
-        known: &Held,
+        known: &NameEntry,
     ) -> Result<Meaning, TreeFault>
         ensures { Gives (λ meaning. meaning ≡ held_meaning (place_at self.now.holders.places.items) (map held self.now.linked.now) self.now.names.now name.now to_note known.now) result }
     {

@@ -7,7 +7,7 @@ use Rattle.std.proofs.lemmas.List.{append-nil, reverse-append, reverse-reverse}
 use Rattle.std.proofs.lemmas.Slice.Eq.{bytes_eq-Decides}
 use Rattle.rst_tree_index.specs.Held.{is_internal}
 use Rattle.rst_transform_names.specs.Names.{held_by, moved, Knows, SameUris}
-use Rattle.rst_transform_names.specs.declared.names.Held.{Held}
+use Rattle.rst_transform_names.specs.declared.names.NameEntry.{NameEntry}
 use Rattle.rst_transform_names.specs.declared.names.Holder.{Holder}
 use Rattle.rst_transform_names.specs.declared.names.Names.{Names}
 use Rattle.rst_tree.proofs.Folds.{folded-append}
@@ -128,7 +128,7 @@ names_left a b got u v root old ts h end state is start all =
     ∙ ap (λ (w : Underway). w.got) (state ∙ ap (λ n. after met passed_on u (node_items n)) is ∙ ap (λ w. after met passed_on w (node_items old)) (start ∙ ap (λ t. underway t (handed [] []) []) all))
     ∙ all_got (handed [] []) [] (node_items old)) h
 
-known_after-append : (xs : List (List ℕ × Option ℕ)) (got : List ℕ × Option ℕ) (name : List ℕ) (held : Option Held) → known_after (xs ++ got ∷ []) name held
+known_after-append : (xs : List (List ℕ × Option ℕ)) (got : List ℕ × Option ℕ) (name : List ℕ) (held : Option NameEntry) → known_after (xs ++ got ∷ []) name held
     ≡ (if bytes_eq name got.0 then moved (holder_of got.1) (known_after xs name held) else known_after xs name held)
 known_after-append [] got name held = refl
 known_after-append (x ∷ xs) got name held = known_after-append xs got name (if bytes_eq name x.0 then moved (holder_of x.1) held else held)

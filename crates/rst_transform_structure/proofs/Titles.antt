@@ -7,7 +7,7 @@ use Rattle.std.proofs.lemmas.List.{take_more}
 use Rattle.std.proofs.lemmas.List.Folds.{list_any-append}
 use Rattle.std.proofs.lemmas.Slice.Eq.{bytes_eq-Decides}
 use Rattle.rst_transform_names.specs.Names.{held_by, moved, Knows, SameUris}
-use Rattle.rst_transform_names.specs.declared.names.Held.{Held}
+use Rattle.rst_transform_names.specs.declared.names.NameEntry.{NameEntry}
 use Rattle.rst_transform_names.specs.declared.names.Names.{Names}
 use Rattle.rst_transform_names.specs.declared.names.Holder.TheVariants.{Unregistered}
 use Rattle.rst_tree.proofs.Changes.{forest_of-nodes_of}
@@ -80,7 +80,7 @@ no_section nodes items xs n e f is =
 pub put_back : (nodes back : Forest) (items pushed xs : List Node) (n m : Node) → nodes ≡ forest_of items → items ≡ xs ++ n ∷ [] → m ≡ n → pushed ≡ xs ++ m ∷ [] → back ≡ forest_of pushed → back ≡ nodes
 put_back nodes back items pushed xs n m e f is p b = b ∙ ap forest_of (p ∙ ap (λ z. xs ++ z ∷ []) is ∙ sym f) ∙ sym e
 
-moved_twice : (h : Option Held) → moved Unregistered (moved Unregistered h) ≡ moved Unregistered h
+moved_twice : (h : Option NameEntry) → moved Unregistered (moved Unregistered h) ≡ moved Unregistered h
 moved_twice None = refl
 moved_twice (Some h) = refl
 
@@ -102,7 +102,7 @@ held_then : (xs ys : List (List ℕ)) (a b c : Names) → HeldBy xs a b → Held
 held_then xs ys a b c h k name =
     k name ∙ rw (h name, list_any-append (bytes_eq name) xs ys) (both (list_any (bytes_eq name) xs) (list_any (bytes_eq name) ys) (held_by a name))
   where
-    both : (p q : Bool) (h : Option Held) →
+    both : (p q : Bool) (h : Option NameEntry) →
         (if q then moved Unregistered (if p then moved Unregistered h else h) else (if p then moved Unregistered h else h)) ≡ (if p || q then moved Unregistered h else h)
     both true true h = moved_twice h
     both true false h = refl

@@ -4,7 +4,7 @@ use Rattle.std.specs.Prelude.{◌≡◌, ℕ, List, [], ◌∷◌, ◌++◌, map
 use Rattle.std.specs.Str.{bytes_eq}
 use Rattle.rst_tree_index.specs.Held.{is_internal}
 use Rattle.rst_transform_names.specs.Names.{held_by, moved, SameUris}
-use Rattle.rst_transform_names.specs.declared.names.Held.{Held}
+use Rattle.rst_transform_names.specs.declared.names.NameEntry.{NameEntry}
 use Rattle.rst_transform_names.specs.declared.names.Holder.{Holder}
 use Rattle.rst_transform_names.specs.declared.names.Holder.TheVariants.{Unregistered, Element as Numbered}
 use Rattle.rst_transform_names.specs.declared.names.Names.{Names}
@@ -86,7 +86,7 @@ holder_of None = Unregistered
 holder_of (Some number) = Numbered number
 
 -- what is known of a name once elements, one after another, got these
-abbrev pub known_after : List (List ℕ × Option ℕ) → List ℕ → Option Held → Option Held
+abbrev pub known_after : List (List ℕ × Option ℕ) → List ℕ → Option NameEntry → Option NameEntry
 known_after [] name held = held
 known_after (got ∷ more) name held = known_after more name (if bytes_eq name got.0 then moved (holder_of got.1) held else held)
 

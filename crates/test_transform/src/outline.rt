@@ -3,7 +3,7 @@
 //! they are printed.
 
 use rst_text::Counted;
-use rst_transform_names::{Held, Holder, Ids, Names, Strength};
+use rst_transform_names::{Holder, Ids, NameEntry, Names, Strength};
 use rst_transform_work::Work;
 use rst_tree::{Attrs, Key, Node, Said, Tag, Text, Texts, Tree, TreeFault, Value, print};
 use std::alloc::Global;
@@ -178,7 +178,7 @@ fn hold_listed(
 ) -> Result<(), TreeFault> {
     if let Some(Said::List(list)) = list {
         for name in list {
-            let held = Held {
+            let held = NameEntry {
                 holder,
                 strength: Strength::Explicit,
                 id: Text::from_str(alloc, name.as_str())?,

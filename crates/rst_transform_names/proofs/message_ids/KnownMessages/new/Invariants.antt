@@ -1,5 +1,5 @@
 use Rattle.std.proofs.Common.{◌≡◌, [], None, replicate}
-use Rattle.rst_transform_names.proofs.links.Links.new.Given as goal
+use Rattle.rst_transform_names.proofs.message_ids.KnownMessages.new.Given as goal
 
 abbrev pub invariant-loop-done : goal.invariant-loop-done
 invariant-loop-done l = (l.links.numbers.items ≡ []) × (l.links.messages.items ≡ replicate l._done (record { id = None; problematics = [] }))

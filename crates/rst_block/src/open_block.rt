@@ -15,7 +15,7 @@ use std::mem;
 
 /// What was read of a block so far.
 #[derive(Drop)]
-pub(crate) struct Level {
+pub(crate) struct OpenBlock {
     /// How many blocks it stands in; 0 for the document.
     pub depth: usize,
     /// The place of the next line.
@@ -28,12 +28,12 @@ pub(crate) struct Level {
     pub headings: Vec<Heading>,
 }
 
-impl Level {
+impl OpenBlock {
     /// A block of which nothing was read.
-    pub fn new(alloc: Global, depth: usize) -> Level
+    pub fn new(alloc: Global, depth: usize) -> OpenBlock
         ensures { result.at ≡ 0 }
     {
-        Level {
+        OpenBlock {
             depth,
             at: 0,
             nodes: Vec::new(alloc),

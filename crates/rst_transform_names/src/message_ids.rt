@@ -4,7 +4,7 @@ ghost use Rattle.rst_tree.specs.Faults.{Gives};
 ghost use Rattle.rst_tree.specs.declared.key.Key.TheVariants.{Message};
 ghost use Rattle.rst_tree_index.specs.Registered.{item_of};
 ghost use Rattle.rst_transform_names.specs.Gathered.{number_at};
-ghost use Rattle.rst_transform_names.specs.Registering.{is_linked, linked_by, linking};
+ghost use Rattle.rst_transform_names.specs.Registering.{is_of_message, linked_by, linking};
 
 use super::ids::problematic_id;
 use rst_tree::{Key, Tag, Texts, TreeFault};
@@ -13,7 +13,7 @@ use std::alloc::Global;
 
 /// What is known of a message.
 #[derive(Drop)]
-pub struct Linked {
+pub struct MessageIds {
     /// The number in its id, if it is in the document.
     pub id: Option<u64>,
     /// The ids of its problematics, in document order.
@@ -22,25 +22,25 @@ pub struct Linked {
 
 /// What is known of messages and problematics. They have no names; of their ids the numbers are enough.
 #[derive(Drop)]
-pub struct Links {
+pub struct KnownMessages {
     /// The numbers in their ids, in preorder.
     pub numbers: Vec<u64>,
     /// What is known of each message, by the number that it and its problematics carry.
-    pub messages: Vec<Linked>,
+    pub messages: Vec<MessageIds>,
 }
 
-impl Links {
+impl KnownMessages {
     /// What is known before the first of so many messages and problematics; so many numbers were given to messages.
-    pub fn new(alloc: Global, linked: usize, messages: u64) -> Result<Links, TreeFault>
+    pub fn new(alloc: Global, linked: usize, messages: u64) -> Result<KnownMessages, TreeFault>
         ensures numbers { Gives (λ links. links.numbers.items ≡ []) result }
         ensures messages { Gives (λ links. links.messages.items ≡ replicate messages (record { id = None; problematics = [] })) result }
     {
-        let mut links = Links {
+        let mut links = KnownMessages {
             numbers: Vec::with_capacity(alloc, linked)?,
             messages: Vec::with_capacity(alloc, messages as usize)?,
         };
         for _done in 0..messages {
-            links.messages.push(Linked {
+            links.messages.push(MessageIds {
                 id: None,
                 problematics: Texts::new(alloc),
             })?;
@@ -65,7 +65,7 @@ impl Links {
     }
 }
 
-impl Linked {
+impl MessageIds {
     /// Adds a problematic of the message, or the message itself, whose id has a number.
     fn add(&mut self, alloc: Global, tag: Tag, number: u64) -> Result<(), TreeFault>
         ensures { Gives (λ _. self.new ≡ linked_by tag number self.old) result }
@@ -79,8 +79,8 @@ impl Linked {
 }
 
 /// Whether elements of a kind are messages or problematics.
-pub fn is_linked(tag: Tag) -> bool
-    ensures { result ≡ is_linked tag }
+pub fn is_of_message(tag: Tag) -> bool
+    ensures { result ≡ is_of_message tag }
 {
     matches!(tag, Tag::Problematic | Tag::SystemMessage)
 }

@@ -1,7 +1,7 @@
 use Rattle.std.proofs.Common.{sym, ap, ◌∙◌, arith, Some}
 use Rattle.rst_transform_names.specs.Registering.{linked_by, linking}
 use Rattle.rst_transform_names.proofs.RegistryLemmas.{changed_there, changed_behind}
-use Rattle.rst_transform_names.proofs.links.Links.add.Goals as goal
+use Rattle.rst_transform_names.proofs.message_ids.KnownMessages.add.Goals as goal
 
 pub returns-in_ok-add-clause-messages : goal.returns-in_ok-add-clause-messages
 returns-in_ok-add-clause-messages c =
