@@ -50,10 +50,10 @@ same 'a full disk' '1 rst2pseudoxml: write failed' "$? $(cat err)"
 "$top/rst2pseudoxml" <. >out 2>err
 same 'a folder as input' '1 rst2pseudoxml: read failed' "$? $(cat out err)"
 
-# A copy of the checkout whose program is in dist/, as on a fresh one, and a PATH without the kit.
+# A copy of what ./rst2pseudoxml reads of the checkout, with a program in dist/, as on a fresh one, and a PATH without the kit.
 copy="$folder/a copy"
 mkdir "$copy" tools only_du
-tar -C "$top" --exclude=out --exclude=rst2pseudoxml-static -cf - rst2pseudoxml crates.txt crates scripts dist | tar -C "$copy" -xf -
+(cd "$top" && tar --exclude=rst2pseudoxml-static -cf - rst2pseudoxml crates.txt crates/*/src scripts dist) | tar -C "$copy" -xf -
 cp "$("$top/scripts/program.sh")" "$copy/dist/rst2pseudoxml"
 (cd "$copy/dist" && sha256sum rst2pseudoxml >rst2pseudoxml.sha256)
 sed -i "s/^sources .*/sources $("$copy/scripts/digest.sh")/" "$copy/dist/BUILT"
