@@ -19,7 +19,10 @@ class Refused(Exception):
 def tree(source: str, *options: str) -> str:
     """The tree of a text. No message halts the run; `options` are further options of the program, like `--verbose`."""
     command = [PROGRAM, "--halt=none", *options]
-    run = subprocess.run(command, input=source.encode("utf-8"), capture_output=True)
+    try:
+        run = subprocess.run(command, input=source.encode("utf-8"), capture_output=True)
+    except FileNotFoundError:
+        raise FileNotFoundError("there is no rst2pseudoxml on the PATH") from None
     if run.returncode not in SHOWN:
         line = run.stderr.decode("utf-8", "replace").rstrip("\n")
         raise Refused(line or f"rst2pseudoxml: ended with status {run.returncode}")

@@ -110,6 +110,8 @@ check_python() {
   cp -- "$here/rst2pseudoxml.py" copy/of
   shows 'a copy of the Python module' 1 'rst2pseudoxml.Refused: rst2pseudoxml: ended with status -9' \
     env PATH="$folder/path:$PATH" PYTHONPATH=copy/of python3 -c 'import rst2pseudoxml; rst2pseudoxml.tree("")'
+  shows 'a copy of the Python module without a program' 1 'FileNotFoundError: there is no rst2pseudoxml on the PATH' \
+    env PYTHONPATH=copy/of "$(command -v python3)" -c 'import os, rst2pseudoxml; os.environ["PATH"] = "none"; rst2pseudoxml.tree("")'
   local python
   if python=$(python_with pytest); then
     cat >test_fails.py <<'END'
