@@ -40,6 +40,24 @@ warning='<stdin>:1: (WARNING/2) Inline emphasis start-string without end-string.
 same 'a message that halts' "1 $warning"$'\nExiting due to level-2 (WARNING) system message.' "$(answer '*a' --halt=2)"
 same 'an exit status' "12 ${hello/Hello, world/$'*\n        a'}" "$(answer '*a' -q --exit-status=2)"
 same 'nested too deep' '1 rst2pseudoxml: line 3: nesting too deep' "$(answer "text\n\n$(printf -- '- %.0s' {1..251})a")"
+tables() { # COUNT: tables of one cell, one inside another
+  awk -v count="$1" '
+    function border(depth,    bars) {
+      bars = substr(all, 1, depth - 1)
+      return bars "+" substr(dashes, 1, 3 + 2 * (count - depth)) "+" bars
+    }
+    BEGIN {
+      for (i = 0; i < count; i++) { all = all "|"; dashes = dashes "--" }
+      dashes = dashes "---"
+      for (i = 1; i <= count; i++) print border(i)
+      print all "abc" all
+      for (i = count; i >= 1; i--) print border(i)
+    }'
+}
+tables 250 >deepest
+(ulimit -s 2048 && "$top/rst2pseudoxml" deepest) >out 2>err
+same 'the deepest tables, with a stack of 2 MiB' '0 abc' "$? $(cat err)$(tail -n 1 out | tr -d ' ')"
+same 'tables that are too deep' '1 rst2pseudoxml: line 252: nesting too deep' "$(answer "$(tables 251)")"
 same 'by a link' "$hello" "$(printf 'Hello, world' | ./linked)"
 head -c 16777216 /dev/zero | tr '\0' '\n' | "$top/rst2pseudoxml" >out 2>err
 same 'as many bytes as are read' '0 <document source="<stdin>">' "$? $(cat out err)"
