@@ -2,6 +2,7 @@
 # Checks reStructuredText pages: prints their system messages, and a line for each page that the program refuses.
 #
 #     check-pages.sh [--level=LEVEL] [--] FILE..
+#     check-pages.sh --help
 #
 # The messages at or above LEVEL (info, warning, error, severe or none, or 1 to 5; warning by default) are shown, and a page
 # that has one fails. The status is 0 if all pages passed, 1 if one failed, 2 if nothing was checked: for bad arguments, or
@@ -35,6 +36,10 @@ check_page() { # FILE
 level=warning
 while [ $# -gt 0 ]; do
   case $1 in
+    --help) # the text above
+      sed -n '2,/^set /{/^set /d;s/^# \{0,1\}//;p}' "$0"
+      exit
+      ;;
     --level=*) level=${1#*=} ;;
     --) shift && break ;;
     -*) refuse "no such option: $1" ;;

@@ -2,6 +2,7 @@
 # Compares the tree of each X.rst in a folder with the file X.tree beside it, and shows the differences.
 #
 #     check-trees.sh [--update] [--] FOLDER
+#     check-trees.sh --help
 #
 # With --update it writes the trees instead. The status is 0 if all trees are as they were (or written), 1 if one isn't, is
 # missing, or can't be made, 2 if nothing was compared. A page is read by standard input, so its source is `<stdin>` on every
@@ -45,6 +46,10 @@ check_tree() { # PAGE
 }
 
 update=no
+if [ "${1-}" = --help ]; then # prints the text above
+  sed -n '2,/^set /{/^set /d;s/^# \{0,1\}//;p}' "$0"
+  exit
+fi
 [ "${1-}" = --update ] && update=yes && shift
 [ "${1-}" = -- ] && shift
 [ $# = 1 ] || refuse "usage: check-trees.sh [--update] [--] FOLDER"

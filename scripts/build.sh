@@ -2,6 +2,7 @@
 # Proves and builds the program, unless that is done already, and notes beside it which sources it is of.
 # Progress goes to standard error.
 set -euo pipefail
+[ $# = 0 ] || { echo "build.sh takes no arguments" >&2 && exit 2; }
 cd -- "$(dirname -- "$0")/.."
 program=crates/rst2pseudoxml/out/rst2pseudoxml
 if [[ "$(scripts/program.sh 2>/dev/null)" == */"$program" ]]; then

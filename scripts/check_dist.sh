@@ -1,6 +1,7 @@
 #!/usr/bin/env bash
 # Fails if dist/ claims these sources and isn't byte for byte what they build here, or if a checksum is wrong.
-# The static program is compared if this system has the C library that it was linked with. Wants the program built (scripts/build.sh). The status is 77 if there is nothing to compare.
+# The static program is compared if this system has the C library that it was linked with. Needs the kit, and the program built
+# (scripts/build.sh). The status is 77 if there is nothing to compare.
 set -euo pipefail
 cd -- "$(dirname -- "$0")/.."
 static() {
@@ -16,6 +17,9 @@ static() {
 (cd dist && sha256sum --quiet --check rst2pseudoxml.sha256)
 if ! grep -qx "sources $(scripts/digest.sh)" dist/BUILT; then
   echo "skipped: dist/ is of older sources; scripts/dist.sh renews it"
+  exit 77
+elif ! command -v rt >/dev/null; then
+  echo "skipped: there is no kit"
   exit 77
 elif ! grep -qxF "kit $(rt version)" dist/BUILT; then
   echo "skipped: dist/ was built by another kit than this one"

@@ -56,6 +56,7 @@ a folder: rst2pseudoxml: read failed
 none.rst: rst2pseudoxml: cannot open none.rst
 a b.rst:$warning" "$(answer "$check" deep.rst bytes.rst 'a folder' none.rst 'a b.rst')"
   same 'no file' '2 check-pages.sh: no file was named (usage: check-pages.sh [--level=LEVEL] [--] FILE..)' "$(answer "$check" --)"
+  shows 'help' 0 '    check-pages.sh [--level=LEVEL] [--] FILE..' "$check" --help
   same 'no option' '2 check-pages.sh: no such option: -x.rst' "$(answer "$check" -x.rst)"
   same 'no level' '2 check-pages.sh: no such level: loud' "$(answer "$check" --level=loud good.rst)"
 }
@@ -83,6 +84,7 @@ trees/good.rst: there is no trees/good.tree; --update writes it' "$(answer "$che
     "$(answer "$check" --update trees)"
   same 'a refused page' '1 trees/deep.rst: rst2pseudoxml: line 3: nesting too deep' "$(answer "$check" trees)"
   same 'the files' 'a b.rst a b.tree deep.rst good.rst good.tree' "$(cd trees && echo *)"
+  shows 'help on trees' 0 '    check-trees.sh [--update] [--] FOLDER' "$check" --help
   same 'no page' '2 check-trees.sh: there is no .rst file in a folder' "$(answer "$check" 'a folder')"
   same 'no folder' '2 check-trees.sh: usage: check-trees.sh [--update] [--] FOLDER' "$(answer "$check" --update)"
 }

@@ -1,6 +1,7 @@
 #!/usr/bin/env bash
 # Renews the shipped programs in dist/ from these sources. Without a static C library the static one is left out.
 set -euo pipefail
+[ $# = 0 ] || { echo "dist.sh takes no arguments" >&2 && exit 2; }
 cd -- "$(dirname -- "$0")/.."
 scripts/build.sh
 mkdir -p dist

@@ -13,6 +13,10 @@ refuse() { # STATUS TEXT
   exit "$1"
 }
 
+if [ "${1-}" = --help ]; then # prints the text above
+  sed -n '2,/^set /{/^set /d;s/^# \{0,1\}//;p}' "$0"
+  exit
+fi
 part=1 parts=1
 if [ "${1-}" = --slice ]; then
   [[ "${2-}" =~ ^([1-9][0-9]*)/([1-9][0-9]*)$ ]] || refuse 2 "--slice takes N/COUNT, as 3/13"

@@ -11,6 +11,9 @@ TOP = pathlib.Path(__file__).resolve().parent.parent
 def program(arguments):
     """The path of the program that the one argument names, or else of the one that scripts/program.sh finds."""
     script = os.path.basename(sys.argv[0])
+    if arguments == ["--help"]:
+        print(sys.modules["__main__"].__doc__)
+        sys.exit()
     if len(arguments) > 1:
         sys.exit(f"{script}: more than one argument")
     if arguments:

@@ -1,7 +1,6 @@
 #!/usr/bin/env bash
-# Prints the path of the program of these sources: the one that was built here or, where that is none of them, a shipped one: the
-# static one where the other doesn't run.
-# Where there is none that runs on this system, one line on standard error says so, and the status is 1.
+# Prints the path of the program of these sources: the one that was built here or, if there is none, the first of the shipped ones
+# that runs here. If none does, one line on standard error says so, and the status is 1.
 set -euo pipefail
 top=$(CDPATH='' cd -- "$(dirname -- "$0")/.." && pwd)
 sources=$("$top/scripts/digest.sh")

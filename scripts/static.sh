@@ -3,7 +3,10 @@
 # Prints the library, which decides the bytes with the object file. The status is 77 if there is no such library, or no object file.
 set -euo pipefail
 cd -- "$(dirname -- "$0")/.."
-file=${1:?"usage: scripts/static.sh FILE"}
+file=${1-}
+case $file in
+'' | -*) echo "usage: scripts/static.sh FILE" >&2 && exit 2 ;;
+esac
 object=crates/rst2pseudoxml/out/rst2pseudoxml.o
 part() { gcc -print-file-name="$1"; }
 if [ ! -e "$object" ] || ! command -v gcc >/dev/null || [ ! -e "$(part libc.a)" ]; then
