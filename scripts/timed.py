@@ -80,6 +80,9 @@ class Sampler(threading.Thread):
 
 
 def main():
+    if len(sys.argv) < 2 or sys.argv[1].startswith("-"):
+        print(__doc__.strip())
+        return 0 if sys.argv[1:] == ["--help"] else 2
     began = time.monotonic()
     with subprocess.Popen(sys.argv[1:], stdout=subprocess.PIPE, stderr=subprocess.STDOUT, text=True, errors="replace") as command:
         sampler = Sampler(command.pid, began)
