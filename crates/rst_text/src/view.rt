@@ -1,5 +1,5 @@
 //! A part of a text's lines, cut on the left.
-ghost use Rattle.std.specs.Prelude.{◌≡◌, ◌+◌, ◌-◌, ◌^◌, ◌<◌, ◌≤◌, length, drop, take, ◌==◌, if◌then◌else◌, encode_utf8_all, IsTrue, min, unwrap_or};
+ghost use Rattle.std.specs.Prelude.{◌≡◌, ◌+◌, ◌-◌, ◌^◌, ◌<◌, ◌≤◌, length, drop, take, ◌==◌, if◌then◌else◌, encode_utf8_all, IsTrue, unwrap_or};
 ghost use Rattle.std.specs.Str.{chars};
 ghost use Rattle.rst_text.specs.Lines.{are_lines};
 ghost use Rattle.rst_text.specs.MayCut.{may_cut_at, is_indented, are_texts};
@@ -62,16 +62,6 @@ pub struct Extent {
     pub end: usize,
     pub indent: usize,
     pub blank_finish: bool,
-}
-
-/// The lesser of two indentations, if there is one already.
-fn lower(least: Option<usize>, n: usize) -> usize
-    ensures { result ≡ min (unwrap_or least n) n }
-{
-    match least {
-        Some(m) => m.min(n),
-        None => n,
-    }
 }
 
 impl<'a> View<'a> {
@@ -220,7 +210,7 @@ impl<'a> View<'a> {
                     blank_finish: end < i,
                 };
             }
-            lowest = Some(lower(lowest, indent));
+            lowest = Some(lowest.unwrap_or(indent).min(indent));
             end = i + 1;
         }
         Extent {
