@@ -1,7 +1,6 @@
 //! Texts and lists of them.
 ghost use Rattle.std.specs.Prelude.{◌≡◌, ◌∷◌, ◌++◌, [], string_bytes};
 ghost use Rattle.std.specs.List.{list_all};
-ghost use Rattle.rst_text.specs.Lines.{is_line_end};
 ghost use Rattle.rst_tree.specs.Faults.{Gives, Becomes};
 ghost use Rattle.rst_tree.specs.Phrases.{phrase_text};
 ghost use Rattle.rst_tree.specs.Tree.{is_lines, is_plain_byte};
@@ -9,6 +8,7 @@ ghost use Rattle.rst_tree.specs.Tree.{is_lines, is_plain_byte};
 use crate::brief::Brief;
 use crate::fault::TreeFault;
 use crate::phrase::Phrase;
+use rst_text::is_line_end;
 use std::alloc::Global;
 use std::marker::Model;
 use std::{mem, slice};
@@ -136,16 +136,6 @@ impl Text {
         }
         Ok(())
     }
-}
-
-/// Whether a character ends a line.
-fn is_line_end(c: char) -> bool
-    ensures { result ≡ is_line_end c }
-{
-    matches!(
-        c,
-        '\n' | '\r' | '\u{1C}'..='\u{1E}' | '\u{85}' | '\u{2028}' | '\u{2029}'
-    )
 }
 
 /// Whether a byte is LF, or ASCII from the space on.
