@@ -4,7 +4,6 @@ ghost use Rattle.rst_text.specs.Counted.{inner_of};
 ghost use Rattle.rst2pseudoxml_run.specs.Shown as spec;
 
 use crate::end::End;
-use crate::running::write_text;
 use itoa::Buffer;
 use rst_settings::Settings;
 use rst_text::Counted;
@@ -82,7 +81,7 @@ pub fn told(
         }
     }
     let line = exit_line(alloc, halting(notes, settings))?;
-    match write_text(line.as_bytes(), &mut text) {
+    match text.write_all(line.as_bytes()) {
         Ok(()) => Ok(text),
         Err(_) => Err(End::NoMemory),
     }
