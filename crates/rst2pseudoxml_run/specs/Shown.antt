@@ -15,7 +15,7 @@ use Rattle.rst_transform.specs.declared.finishing.Finished.{Finished}
 use Rattle.rst_tree.specs.LevelNames.{level_name, level_number}
 use Rattle.rst_tree.specs.Message.{message_of}
 use Rattle.rst_tree.specs.Print.{print_of}
-use Rattle.rst_tree.specs.Told.{with_told}
+use Rattle.rst_tree.specs.PrintedAttributes.{with_printed_attrs}
 use Rattle.rst_tree.specs.declared.node.Node.{Node}
 use Rattle.rst_tree.specs.declared.note.Level.{Level}
 use Rattle.rst_tree.specs.declared.note.Note.{Note}
@@ -57,9 +57,9 @@ told settings source notes = flat_map (message_of source) (filter (is_told setti
 abbrev pub status_by : Settings → ℕ → ℕ
 status_by settings highest = if is_reached settings.exit highest then 10 + highest else 0
 
--- standard output: the document with its source and what its messages tell, or nothing where a message halts the run
+-- standard output: the document with its source, and its messages with their lines and types; or nothing if a message halts the run
 abbrev pub shown_by : List ℕ → Node → Option Level → List ℕ
-shown_by source document None = print_of (with_told (Some source) document)
+shown_by source document None = print_of (with_printed_attrs (Some source) document)
 shown_by source document (Some level) = []
 
 -- the exit status: by the level of the messages, or 1 where one halts the run

@@ -4,7 +4,7 @@ ghost use Rattle.rst_tree.specs.declared.attrs.Value.TheVariants.{Text as Words}
 ghost use Rattle.rst_tree.specs.declared.key.Key.TheVariants.{Serial};
 ghost use Rattle.rst_tree.specs.Attributes.{attr};
 ghost use Rattle.rst_tree.specs.Faults.{Gives};
-ghost use Rattle.rst_tree.specs.Told.{given};
+ghost use Rattle.rst_tree.specs.PrintedAttributes.{given};
 ghost use Rattle.rst_transform_names.specs.declared.names.Holder.{Holder};
 ghost use Rattle.rst_transform_names.specs.Names.{kept_for};
 ghost use Rattle.rst_transform_links.specs.Holders.{lead_of};

@@ -1,4 +1,4 @@
--- The parts of what is printed with what elements tell.
+-- The attributes that elements are printed with, written part by part.
 use Rattle.std.proofs.Common.{◌≡◌, ℕ, ◌+◌, ◌≤◌, List, [], ◌∷◌, ◌++◌, length, take, drop, add-one, arith, refl, sym, ap, append_assoc, ◌∙◌, true, false, Option, Some, None}
 use Rattle.std.specs.Prelude.{if◌then◌else◌, ◌*◌, map, nat_lt, replicate}
 use Rattle.std.specs.List.{flat_map}
@@ -19,7 +19,7 @@ use Rattle.rst_tree.specs.KeyNames.{key_code, is_same}
 use Rattle.rst_tree.specs.LevelNames.{level_name, level_of}
 use Rattle.rst_tree.specs.Nodes.{forest_of}
 use Rattle.rst_tree.specs.Print.{start_tag, text_lines, printed_line, printed_node}
-use Rattle.rst_tree.specs.Told.{with_source, with_type, told_attrs, all_told, with_told}
+use Rattle.rst_tree.specs.PrintedAttributes.{with_source, with_type, printed_attrs, all_with_printed_attrs, with_printed_attrs}
 use Rattle.rst_tree.proofs.PrintedParts.{printed-element, printed-words}
 
 -- the attributes before a name, and those behind it, by their places
@@ -47,7 +47,7 @@ behind_between k (a ∷ xs) h =
       | false ↦ λ h. rw h refl
     ] h
 
--- an attribute that is told stands between those before it and behind it
+-- an attribute that is added stands between those before it and after it
 pub parted : (k : Key) (v : Value) (xs : List Attr) → before k xs ++ (attr k v ∷ behind k xs) ≡ with_attr k v xs
 parted k v [] = refl
 parted k v (a ∷ xs) =
@@ -81,14 +81,14 @@ type_behind : (k : Key) (v : Value) (level : Option ℕ) (xs ys : List Attr) →
 type_behind k v None xs ys h = refl
 type_behind k v (Some number) xs ys h = passed k Type_ v (Words (level_name (level_of number))) xs ys h
 
--- the type stands behind an attribute that is told, and the source too
-pub type_told : (k : Key) (v : Value) (level : Option ℕ) (xs : List Attr) → nat_lt (key_code k) (key_code Type_) ≡ true
+-- the type comes after an attribute that is added, and the source too
+pub type_after : (k : Key) (v : Value) (level : Option ℕ) (xs : List Attr) → nat_lt (key_code k) (key_code Type_) ≡ true
     → before k xs ++ (attr k v ∷ with_type level (behind k xs)) ≡ with_type level (with_attr k v xs)
-type_told k v level xs h = sym (type_behind k v level xs (behind k xs) h) ∙ ap (with_type level) (parted k v xs)
+type_after k v level xs h = sym (type_behind k v level xs (behind k xs) h) ∙ ap (with_type level) (parted k v xs)
 
-pub both_told : (k : Key) (v : Value) (source : Option (List ℕ)) (level : Option ℕ) (xs : List Attr) → nat_lt (key_code k) (key_code Source) ≡ true → nat_lt (key_code k) (key_code Type_) ≡ true
+pub source_and_type_after : (k : Key) (v : Value) (source : Option (List ℕ)) (level : Option ℕ) (xs : List Attr) → nat_lt (key_code k) (key_code Source) ≡ true → nat_lt (key_code k) (key_code Type_) ≡ true
     → before k xs ++ (attr k v ∷ with_type level (with_source source (behind k xs))) ≡ with_type level (with_source source (with_attr k v xs))
-both_told k v source level xs h h' =
+source_and_type_after k v source level xs h h' =
     sym (type_behind k v level xs (with_source source (behind k xs)) h')
     ∙ ap (with_type level) (sym (source_behind k v source xs (behind k xs) h) ∙ ap (with_source source) (parted k v xs))
 
@@ -97,29 +97,29 @@ pub made_of_parts : (f : Attr → List ℕ) (xs ys zs : List Attr) (x : Attr) �
 made_of_parts f xs ys zs x whole =
     append_assoc (flat_map f xs) (f x) (flat_map f ys) ∙ sym (flat_map-append f xs (x ∷ ys)) ∙ ap (flat_map f) whole
 
--- nodes with what they tell, node by node
-told-nodes : (source : Option (List ℕ)) (ns : List Node) → all_told source (forest_of ns) ≡ forest_of (map (with_told source) ns)
-told-nodes source [] = refl
-told-nodes source (Element t a c l ∷ ns) = rw (told-nodes source ns) refl
-told-nodes source (Text t ∷ ns) = rw (told-nodes source ns) refl
+-- nodes with the attributes that they are printed with, node by node
+nodes-with-attrs : (source : Option (List ℕ)) (ns : List Node) → all_with_printed_attrs source (forest_of ns) ≡ forest_of (map (with_printed_attrs source) ns)
+nodes-with-attrs source [] = refl
+nodes-with-attrs source (Element t a c l ∷ ns) = rw (nodes-with-attrs source ns) refl
+nodes-with-attrs source (Text t ∷ ns) = rw (nodes-with-attrs source ns) refl
 
--- what is printed of an element with what it tells: its line, and then its nodes with what they tell
-printed-told : (source : Option (List ℕ)) (n : ℕ) (t : Tag) (a : List Attr) (l : ℕ) (ns : List Node)
-    → (replicate (4 * n) 32 ++ (start_tag t (told_attrs source t a l) ++ 10 ∷ [])) ++ flat_map (λ x. printed_node (n + 1) (with_told source x)) ns
-    ≡ printed_node n (with_told source (Element t a (forest_of ns) l))
-printed-told source n t a l ns =
-    ap (λ z. (replicate (4 * n) 32 ++ (start_tag t (told_attrs source t a l) ++ 10 ∷ [])) ++ z) (sym (flat_map-map (printed_node (n + 1)) (with_told source) ns))
-    ∙ printed-element n t (told_attrs source t a l) l (map (with_told source) ns)
-    ∙ ap (λ f. printed_node n (Element t (told_attrs source t a l) f l)) (sym (told-nodes source ns))
+-- what is printed of an element: its line, and then its nodes
+printed-with-attrs : (source : Option (List ℕ)) (n : ℕ) (t : Tag) (a : List Attr) (l : ℕ) (ns : List Node)
+    → (replicate (4 * n) 32 ++ (start_tag t (printed_attrs source t a l) ++ 10 ∷ [])) ++ flat_map (λ x. printed_node (n + 1) (with_printed_attrs source x)) ns
+    ≡ printed_node n (with_printed_attrs source (Element t a (forest_of ns) l))
+printed-with-attrs source n t a l ns =
+    ap (λ z. (replicate (4 * n) 32 ++ (start_tag t (printed_attrs source t a l) ++ 10 ∷ [])) ++ z) (sym (flat_map-map (printed_node (n + 1)) (with_printed_attrs source) ns))
+    ∙ printed-element n t (printed_attrs source t a l) l (map (with_printed_attrs source) ns)
+    ∙ ap (λ f. printed_node n (Element t (printed_attrs source t a l) f l)) (sym (nodes-with-attrs source ns))
 
 -- the same of an element that a node is
-pub told-element : (source : Option (List ℕ)) (n : ℕ) (node : Node) (t : Tag) (a : List Attr) (c : Forest) (l : ℕ) (ns : List Node) (i : ℕ)
+pub element-with-attrs : (source : Option (List ℕ)) (n : ℕ) (node : Node) (t : Tag) (a : List Attr) (c : Forest) (l : ℕ) (ns : List Node) (i : ℕ)
     → node ≡ Element t a c l → c ≡ forest_of ns → length ns ≤ i
-    → (replicate (4 * n) 32 ++ (start_tag t (told_attrs source t a l) ++ 10 ∷ [])) ++ flat_map (λ x. printed_node (n + 1) (with_told source x)) (take i ns)
-    ≡ printed_node n (with_told source node)
-told-element source n node t a c l ns i is nodes all = rw (is, nodes, take_all i ns all) (printed-told source n t a l ns)
+    → (replicate (4 * n) 32 ++ (start_tag t (printed_attrs source t a l) ++ 10 ∷ [])) ++ flat_map (λ x. printed_node (n + 1) (with_printed_attrs source x)) (take i ns)
+    ≡ printed_node n (with_printed_attrs source node)
+element-with-attrs source n node t a c l ns i is nodes all = rw (is, nodes, take_all i ns all) (printed-with-attrs source n t a l ns)
 
 -- and of a text
-pub told-words : (source : Option (List ℕ)) (n : ℕ) (node : Node) (t t' : List ℕ) → node ≡ Text t → t' ≡ t
-    → flat_map (λ l. printed_line (n, l)) (text_lines t') ≡ printed_node n (with_told source node)
-told-words source n node t t' is same = rw is (printed-words n (Text t) t t' refl same)
+pub words-with-attrs : (source : Option (List ℕ)) (n : ℕ) (node : Node) (t t' : List ℕ) → node ≡ Text t → t' ≡ t
+    → flat_map (λ l. printed_line (n, l)) (text_lines t') ≡ printed_node n (with_printed_attrs source node)
+words-with-attrs source n node t t' is same = rw is (printed-words n (Text t) t t' refl same)

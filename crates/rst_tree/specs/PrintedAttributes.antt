@@ -1,4 +1,5 @@
--- What elements tell where they are printed, beside the attributes that they hold (Document Tree, `source` and `system_message`).
+-- The attributes that elements are printed with: those that they hold, and for the document and its messages some more (Document
+-- Tree, `source` and `system_message`).
 use Rattle.std.specs.Prelude.{ℕ, List, Option, None, Some}
 use Rattle.std.specs.Borrow.{Bor}
 use Rattle.rst_tree.specs.declared.attrs.Attr.{Attr}
@@ -27,19 +28,19 @@ abbrev pub with_type : Option ℕ → List Attr → List Attr
 with_type None a = a
 with_type (Some number) a = with_attr Type_ (Words (level_name (level_of number))) a
 
--- the attributes of an element and what it tells: a document its source; a message its line, its source and its type
-abbrev pub told_attrs : Option (List ℕ) → Tag → List Attr → ℕ → List Attr
-told_attrs source Document a line = with_source source a
-told_attrs source SystemMessage a line = with_type (said_number (value_of Level a)) (with_source source (with_attr Line (Number line) a))
-told_attrs source _ a line = a
+-- the attributes that an element is printed with: a document has its source too; a message its line, its source and its type
+abbrev pub printed_attrs : Option (List ℕ) → Tag → List Attr → ℕ → List Attr
+printed_attrs source Document a line = with_source source a
+printed_attrs source SystemMessage a line = with_type (said_number (value_of Level a)) (with_source source (with_attr Line (Number line) a))
+printed_attrs source _ a line = a
 
--- nodes with what they tell
-abbrev pub all_told : Option (List ℕ) → Forest → Forest
-all_told source bare = bare
-all_told source (element t a c l r) = element t (told_attrs source t a l) (all_told source c) l (all_told source r)
-all_told source (words t r) = words t (all_told source r)
+-- nodes with the attributes that they are printed with, and all nodes in them too
+abbrev pub all_with_printed_attrs : Option (List ℕ) → Forest → Forest
+all_with_printed_attrs source bare = bare
+all_with_printed_attrs source (element t a c l r) = element t (printed_attrs source t a l) (all_with_printed_attrs source c) l (all_with_printed_attrs source r)
+all_with_printed_attrs source (words t r) = words t (all_with_printed_attrs source r)
 
--- a node with what it tells, and what those in it tell
-abbrev pub with_told : Option (List ℕ) → Node → Node
-with_told source (Element t a c l) = Element t (told_attrs source t a l) (all_told source c) l
-with_told source (Text t) = Text t
+-- a node with the attributes that it is printed with, and the nodes in it too
+abbrev pub with_printed_attrs : Option (List ℕ) → Node → Node
+with_printed_attrs source (Element t a c l) = Element t (printed_attrs source t a l) (all_with_printed_attrs source c) l
+with_printed_attrs source (Text t) = Text t
