@@ -9,7 +9,7 @@ use Rattle.rst_tree.specs.declared.text.TextListStorage.TheVariants.{Lone, List 
 
 -- the bytes of a text that lies in the value itself, of a phrase, or of a text that has memory of its own
 abbrev pub stored_bytes : TextStorage → List ℕ
-stored_bytes (Short alloc text) = text
+stored_bytes (Short alloc text) = text.bytes
 stored_bytes (Phrase alloc phrase) = phrase_text phrase
 stored_bytes (Long string) = string_bytes string
 

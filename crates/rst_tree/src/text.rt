@@ -1,17 +1,21 @@
 //! Texts and lists of them.
-ghost use Rattle.std.specs.Prelude.{◌≡◌, ◌∷◌, ◌++◌, [], string_bytes};
+ghost use Rattle.std.specs.Prelude.{◌≡◌, ◌∷◌, ◌++◌, [], IfOk, string_bytes};
 ghost use Rattle.std.specs.List.{list_all};
 ghost use Rattle.rst_tree.specs.Faults.{Gives, Becomes};
 ghost use Rattle.rst_tree.specs.Phrases.{phrase_text};
 ghost use Rattle.rst_tree.specs.Tree.{is_lines, is_plain_byte};
 
-use crate::brief::Brief;
 use crate::fault::TreeFault;
 use crate::phrase::Phrase;
+use arrayvec::{ArrayString, CapacityError};
 use rst_text::is_line_end;
 use std::alloc::Global;
 use std::marker::Model;
 use std::{mem, slice};
+
+/// How many bytes a text may have that lies in the value itself: ids, names and the texts of cells mostly have no more. With its
+/// length, such a text takes eight bytes more than a `String`.
+const SHORT: usize = 24;
 
 /// A text, which contracts see as the list of its bytes.
 #[derive(Debug, Drop)]
@@ -22,7 +26,7 @@ pub struct Text {
 /// What a text is made of. Most are short: those lie in the value itself, and take no memory. Nor do phrases.
 #[derive(Debug, Drop)]
 enum TextStorage {
-    Short(Global, Brief),
+    Short(Global, ArrayString<SHORT>),
     Phrase(Global, Phrase),
     Long(String),
 }
@@ -42,9 +46,9 @@ impl Text {
     pub fn new(string: String) -> Text
         ensures { result ≡ string_bytes string }
     {
-        let storage = match Brief::of(string.as_str()) {
-            Some(short) => TextStorage::Short(*string.allocator(), short),
-            None => TextStorage::Long(string),
+        let storage = match ArrayString::from(string.as_str()) {
+            Ok(short) => TextStorage::Short(*string.allocator(), short),
+            Err(_) => TextStorage::Long(string),
         };
         Text { storage }
     }
@@ -62,9 +66,9 @@ impl Text {
     pub fn from_str(alloc: Global, text: &str) -> Result<Text, TreeFault>
         ensures { Gives (λ t. t ≡ text.now) result }
     {
-        let storage = match Brief::of(text) {
-            Some(short) => TextStorage::Short(alloc, short),
-            None => TextStorage::Long(String::from_str(alloc, text)?),
+        let storage = match ArrayString::from(text) {
+            Ok(short) => TextStorage::Short(alloc, short),
+            Err(_) => TextStorage::Long(String::from_str(alloc, text)?),
         };
         Ok(Text { storage })
     }
@@ -73,9 +77,9 @@ impl Text {
     pub fn of_three(alloc: Global, front: &str, middle: &str, back: &str) -> Result<Text, TreeFault>
         ensures { Gives (λ t. t ≡ front.now ++ (middle.now ++ back.now)) result }
     {
-        let storage = match Brief::of_three(front, middle, back) {
-            Some(short) => TextStorage::Short(alloc, short),
-            None => TextStorage::Long(joined(alloc, front, middle, back)?),
+        let storage = match short_joined(front, middle, back) {
+            Ok(short) => TextStorage::Short(alloc, short),
+            Err(_) => TextStorage::Long(joined(alloc, front, middle, back)?),
         };
         Ok(Text { storage })
     }
@@ -111,7 +115,7 @@ impl Text {
     {
         match &self.storage {
             TextStorage::Short(alloc, short) => Ok(Text {
-                storage: TextStorage::Short(*alloc, short.copy()),
+                storage: TextStorage::Short(*alloc, *short),
             }),
             TextStorage::Phrase(alloc, phrase) => Ok(Text::of_phrase(*alloc, *phrase)),
             TextStorage::Long(string) => Text::from_str(*string.allocator(), string.as_str()),
@@ -125,7 +129,7 @@ impl Text {
         match &mut self.storage {
             TextStorage::Short(alloc, front) => {
                 let alloc = *alloc;
-                if !front.append(text) {
+                if front.try_push_str(text).is_err() {
                     self.storage = TextStorage::Long(joined(alloc, front.as_str(), text, "")?);
                 }
             }
@@ -154,6 +158,20 @@ fn is_plain(bytes: &[u8]) -> bool
         plain &= is_plain_byte(*byte);
     }
     plain
+}
+
+/// Three texts, one behind the other, in the value itself, unless they are too long.
+fn short_joined<'a>(
+    front: &'a str,
+    middle: &'a str,
+    back: &'a str,
+) -> Result<ArrayString<SHORT>, CapacityError<&'a str>>
+    ensures { IfOk result (λ s. s.bytes ≡ front.now ++ (middle.now ++ back.now)) }
+{
+    let mut short = ArrayString::from(front)?;
+    short.try_push_str(middle)?;
+    short.try_push_str(back)?;
+    Ok(short)
 }
 
 /// Three texts, one behind the other, in room for them alone.
