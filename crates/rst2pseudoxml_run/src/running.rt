@@ -7,8 +7,8 @@ ghost use Rattle.rst2pseudoxml_run.specs.Shown.{Answers, parts_of};
 
 use crate::document::document_of;
 use crate::end::End;
+use crate::error_text::{error_text, halting, status_of};
 use crate::input::read_input;
-use crate::telling::{halting, status_of, told};
 use rst_settings::Settings;
 use rst_text::Counted;
 use rst_transform::Finished;
@@ -75,7 +75,7 @@ fn show<O: Write, E: Write>(
         (between E.contents err.old err.new) result }
 {
     let notes = finished.notes.as_slice();
-    let messages = match told(alloc, notes, settings, source) {
+    let messages = match error_text(alloc, notes, settings, source) {
         Ok(messages) => messages,
         Err(_) => return End::NoMemory,
     };

@@ -2,10 +2,10 @@
 #![tactic(auto)]
 
 mod dues;
+mod duplicate_messages;
 mod ids;
 mod message_ids;
 mod names;
-mod notices;
 mod placing;
 mod registrants;
 mod registration;

@@ -4,7 +4,7 @@ ghost use Rattle.rst_tree.specs.declared.node.Node.{Node as AnyNode};
 ghost use Rattle.rst_tree.specs.Faults.{Gives};
 ghost use Rattle.rst_tree.specs.Nodes.{forest_of};
 ghost use Rattle.rst_transform_substitutions.specs.Definitions.{found_by, known_place};
-ghost use Rattle.rst_transform_substitutions.specs.Expanded.{within_element, ExpandsIn, GivesWay, IsExpanded, IsTold};
+ghost use Rattle.rst_transform_substitutions.specs.Expanded.{within_element, ExpandsIn, GivesWay, IsExpanded, ReportsFault};
 ghost use Rattle.rst_transform_substitutions.specs.Expansion.{name_said, nodes_for};
 
 use crate::definitions::Definitions;
@@ -154,9 +154,9 @@ fn problematic(
     fault: ExpansionFault,
     work: &mut Work,
 ) -> Result<Node, TreeFault>
-    ensures { Gives (IsTold attrs line fault work.old work.new) result }
+    ensures { Gives (ReportsFault attrs line fault work.old work.new) result }
 {
-    let text = fault.told(alloc, said(&attrs, Key::Refname))?;
+    let text = fault.text(alloc, said(&attrs, Key::Refname))?;
     let report = work.report(alloc, Level::Error, line, text, true)?;
     let source = take_source(alloc, &mut attrs)?;
     let node = work.problematic(alloc, report, source, line)?;
