@@ -1,12 +1,12 @@
 //! The labels of footnotes.
-ghost use Rattle.std.specs.Prelude.{◌≡◌, ◌+◌, ◌<◌, ◌≤◌, ◌%◌, ◌&&◌, decimal, drop, false, get_or, if◌then◌else◌, length, map, nat_le, option_map, replicate, slice_get, slice_index};
-ghost use Rattle.rst_transform_names.specs.Ids.{number_in};
+ghost use Rattle.std.specs.Prelude.{◌≡◌, ◌+◌, ◌<◌, ◌≤◌, ◌%◌, decimal, drop, false, get_or, if◌then◌else◌, length, map, option_map, replicate, slice_get, slice_index};
 ghost use Rattle.rst_tree.specs.Faults.{Gives};
 ghost use Rattle.rst_transform_links.specs.Linkings.{held};
 ghost use Rattle.rst_transform_footnotes.specs.FootnoteLabels.{free_numbers, is_symbol, is_to_number, label_by, labels, labels_from, number_of, symbol_label, symbols, to_number, with_written, TellsWritten};
 ghost use Rattle.rst_transform_links.specs.FootnoteOrders.{mark_of};
 
 use rst_transform_links::{Linked, mark_of};
+use rst_transform_names::number_in;
 use rst_tree::{Node, Text, TreeFault};
 use std::alloc::Global;
 
@@ -14,32 +14,12 @@ use std::alloc::Global;
 /// Footnotes').
 const SYMBOLS: [char; 10] = ['*', '†', '‡', '§', '¶', '#', '♠', '♥', '♦', '♣'];
 
-/// Whether a label begins with a digit from 1 to 9.
-fn begins_from_one(label: &str) -> bool
-    ensures { result ≡ nat_le 49 (slice_index label.now 0) && nat_le (slice_index label.now 0) 57 }
-{
-    matches!(label.as_bytes(), [b'1'..=b'9', ..])
-}
-
-/// The number from 1 that a label spells, as numbers are printed.
-fn spelled_number(label: &str) -> Option<u64>
-    ensures { result ≡ number_in label.now }
-{
-    if !begins_from_one(label) {
-        return None;
-    }
-    match label.parse::<u64>() {
-        Ok(number) => Some(number),
-        Err(_) => None,
-    }
-}
-
 /// The number that a footnote was written with.
 fn written_number(node: &Node) -> Option<u64>
     ensures { result ≡ number_of (mark_of node.now) }
 {
     match mark_of(node) {
-        Some(label) => spelled_number(label),
+        Some(label) => number_in(label),
         None => None,
     }
 }
