@@ -151,6 +151,7 @@ fn filter_in(
     ensures nodes { Gives (λ _. nodes.new ≡ filtered report (marked shown.now) nodes.old) result }
     ensures tree { Gives (λ fit. fit ≡ are_within levels nodes.new) result }
 {
+    let below = levels.saturating_sub(1);
     let mut fit = true;
     let mut leaves = false;
     for i in 0..nodes.len() {
@@ -177,13 +178,7 @@ fn filter_in(
                     children,
                     ..
                 } => {
-                    let inside = filter_in(
-                        alloc,
-                        children,
-                        levels.saturating_sub(1),
-                        report,
-                        shown,
-                    )?;
+                    let inside = filter_in(alloc, children, below, report, shown)?;
                     fit = fits_element(fit, attrs, inside, levels);
                 }
             },

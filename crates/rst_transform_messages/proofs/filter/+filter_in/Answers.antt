@@ -47,7 +47,7 @@ loop-i-preserved t c =
     Sifting-more c.args.report (marked c.args.shown.now) c.args.levels _ c.loop-i.nodes c.loop-i.fit c.fits_element-fit.result c.loop-i.leaves c.loop-i.i c.get_mut-node.result.now _ c.loop-i.invariant
     (omega (arith, c.loop-i.invariant.same.same_len, c.len-i-end.ensures)) c.get_mut-node.ensures.value leaves
     (within_element c.args.levels _ c.in-Element.tag c.in-Element.attrs c.filter_in.new.nodes c.in-Element.line c.loop-i.fit c.in_ok-inside-in-Element.inside c.fits_element-fit.result c.loop-i.invariant.fit_is
-    (inside.tree ∙ ap (λ levels. are_within levels c.filter_in.new.nodes) c.saturating_sub.ensures) c.fits_element-fit.ensures)
+    (inside.tree ∙ ap (λ levels. are_within levels c.filter_in.new.nodes) c.saturating_sub-below.ensures) c.fits_element-fit.ensures)
 
 pub returns-then-leaves-clause-nodes : goal.returns-then-leaves-clause-nodes
 returns-then-leaves-clause-nodes t c =
