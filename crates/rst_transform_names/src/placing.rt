@@ -3,7 +3,7 @@ ghost use Rattle.std.specs.Prelude.{◌≡◌, ◌==◌, [], ◌∷◌, ◌++◌
 ghost use Rattle.std.specs.VecDeque.{deque_items};
 ghost use Rattle.rst_tree.specs.Faults.{Gives};
 
-use super::dues::{Due, Dues, put};
+use super::dues::{Due, Dues};
 use rst_tree::{Attrs, Children, Key, Node, Tag, Text, TreeFault};
 use std::alloc::Global;
 use std::collections::VecDeque;
@@ -319,11 +319,11 @@ pub fn place_name_messages(
             children,
             line,
         } => {
-            let inner = place_in(alloc, tag, children, Dues::new(alloc), &mut name_messages)?;
+            let mut inner = place_in(alloc, tag, children, Dues::new(alloc), &mut name_messages)?;
             // In a document nothing goes further out; in another element it stands at the end.
             let mut nodes = inner.nodes;
-            put(&mut nodes, inner.before)?;
-            put(&mut nodes, inner.of_text)?;
+            nodes.append(&mut inner.before)?;
+            nodes.append(&mut inner.of_text)?;
             inner.outward.end(&mut nodes)?;
             Ok(Node::Element {
                 tag,

@@ -9,7 +9,7 @@ ghost use Rattle.rst_transform_substitutions.specs.Expansion.{name_said, nodes_f
 
 use crate::definitions::Definitions;
 use crate::expansion::{ExpansionFault, Halted, expansion, is_reference};
-use rst_transform_work::{Work, joined, said, take_root, take_source};
+use rst_transform_work::{Work, said, take_root, take_source};
 use rst_tree::{Attrs, Children, Key, Level, Node, Tag, TreeFault};
 use std::alloc::Global;
 
@@ -133,9 +133,9 @@ fn with_replaced(
     ensures { let wanted = nodes_for (found_by definitions.now) within (name_said attrs) in Gives (λ all. (here : List AnyNode) × GivesWay attrs line wanted work.old work.new here × (all.items ≡ nodes.items ++ here)) result }
 {
     match expansion(alloc, definitions, said(&attrs, Key::Refname), within) {
-        Ok(expanded) => {
-            let all = joined(nodes, expanded)?;
-            Ok(all)
+        Ok(mut expanded) => {
+            nodes.append(&mut expanded)?;
+            Ok(nodes)
         }
         Err(Halted::NoMemory) => Err(TreeFault::NoMemory),
         Err(Halted::By(fault)) => {
