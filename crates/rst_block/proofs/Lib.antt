@@ -1,6 +1,14 @@
+pub mod BegunLemmas
 pub mod Blocks
+pub mod Depths
 pub mod Looked
+pub mod MeaningLemmas
+pub mod NumberedLemmas
+pub mod OpenRuns
+pub mod QuoteCounts
 pub mod Quotes
 pub mod Reached
+pub mod RestLemmas
 pub mod Stack
+pub mod Walks
 pub mod Work
