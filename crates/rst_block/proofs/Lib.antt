@@ -1,5 +1,6 @@
 pub mod BegunLemmas
 pub mod Blocks
+pub mod Changes
 pub mod Depths
 pub mod Looked
 pub mod MeaningLemmas

@@ -6,14 +6,17 @@ use Rattle.rst_tree.specs.declared.node.Node.{Node}
 use Rattle.rst_markup_blocks.specs.Lines.{lines_while}
 use Rattle.rst_markup_blocks.specs.declared.lines.LineTest.TheVariants.{Blank}
 use Rattle.rst_markup_blocks.specs.declared.part.Part.{Part}
+use Rattle.rst_block_sections.specs.declared.heading.Heading.{Heading}
+use Rattle.rst_block.specs.Documents.{title_of}
 use Rattle.rst_block.specs.Lists.{list_item}
-use Rattle.rst_block.specs.Meanings.{IsNew, open_of, deepest, within_at, done_of, reads, resumed, after, plug, comes}
+use Rattle.rst_block.specs.Meanings.{IsNew, open_of, deepest, within_at, done_of, reads, reads_from, with_item, resumed, after, plug, comes}
 use Rattle.rst_block.specs.Nodes.{below_last_level, block_items, nodes_among}
 use Rattle.rst_block.specs.Numbered.{◌>>=◌, just, before}
+use Rattle.rst_block.specs.OpenBlocks.{HasMore, HasItem, HasTitle, IsPlaced}
 use Rattle.rst_block.specs.Quotes.{quotes}
 use Rattle.rst_block.specs.Rest.{ListSoFar, open_list, with_items, rest}
 use Rattle.rst_block.specs.Texts.{lines_in}
-use Rattle.rst_block.specs.Titles.{Item}
+use Rattle.rst_block.specs.Titles.{Item, titled}
 use Rattle.rst_block.specs.Within.{Within}
 use Rattle.rst_block.specs.declared.frame.Frame.{Frame}
 use Rattle.rst_block.specs.declared.open_block.OpenBlock.{OpenBlock}
@@ -82,3 +85,24 @@ abbrev pub ItemIsRead : Type 0
 ItemIsRead = (l : OpenBlock) (B : Block) (line : ℕ) (part : Part) (r : ListSoFar) (number : ℕ) → open_of l.run ≡ open_list r
     → comes l B (Open (ListItem line) part None) number
     ≡ before (done_of l) (list_item (within_at l.depth) B line part >>= λ ns. rest (within_at l.depth) B l.at (with_items ns (open_list r))) number
+
+-- ---- changes
+
+-- more nodes after the last are given next
+abbrev pub NodesAreRead : Type 0
+NodesAreRead = (old new : OpenBlock) (B : Block) (more : List Node) → HasMore old new more → IsPlaced old → reads new B ≡ reads_from old B more old.at
+
+-- an item after the last is given in its list
+abbrev pub ItemIsAdded : Type 0
+ItemIsAdded = (old new : OpenBlock) (B : Block) (item : Node) → HasItem old new item → IsPlaced old → reads new B ≡ with_item old B item (open_of old.run)
+
+-- a title after the last node is the last item so far
+abbrev pub TitleIsLast : Type 0
+TitleIsLast = (old new : OpenBlock) (h : Heading) → HasTitle old new h → IsPlaced old → done_of new ≡ done_of old ++ titled (title_of h) ∷ []
+
+-- titles stay among the nodes
+abbrev pub TitlesArePlaced : Type 0
+TitlesArePlaced = (old new : OpenBlock) (h : Heading) → HasTitle old new h → IsPlaced old → IsPlaced new
+
+abbrev pub NodesKeepPlaces : Type 0
+NodesKeepPlaces = (old new : OpenBlock) (more : List Node) → HasMore old new more → IsPlaced old → IsPlaced new

@@ -68,6 +68,11 @@ open_of (ListRun l) = open_list (list_of (box_value l))
 open_of (Lines lines end) = open_lines end (indented_in 0 lines.items)
 open_of (Explicit end) = open_markup end
 
+-- the kind of the list that is open, if one is
+abbrev pub list_kind_in : Run → Option ListKind
+list_kind_in (ListRun l) = Some (box_value l).kind
+list_kind_in run = None
+
 -- ---- the block that is read
 
 -- in how many blocks the innermost block stands
@@ -102,21 +107,24 @@ abbrev pub quote_by : ℕ → Option Texted → List Node → List Node
 quote_by line None ns = element_of BlockQuote [] ns line ∷ []
 quote_by line (Some t) ns = element_of BlockQuote [] (ns ++ t.element ∷ []) line ∷ t.notes.items
 
--- the quotes after one, if lines are left, and the WARNING where no blank line follows the last one, which ends at this place
-abbrev pub quotes_after : ℕ → Block → Option Part → ℕ → Numbered (List Node)
-quotes_after depth B None end = just (ending_notes (alone_ending block_quote) (drop end B))
-quotes_after depth B (Some p) end = do
-  more ← quotes (within_at depth) (p.to - p.from) (lines_in B p)
-  just (more ++ ending_notes (alone_ending block_quote) (drop end B))
+-- what a block gives of which a part is read as block quotes, after more nodes; the WARNING comes where no blank line follows them
+abbrev pub quotes_from : OpenBlock → Block → List Node → Part → Numbered (List Item)
+quotes_from l B earlier p = do
+  more ← quotes (within_at l.depth) (p.to - p.from) (lines_in B p)
+  reads_from l B (earlier ++ more ++ ending_notes (alone_ending block_quote) (drop p.to B)) p.to
+
+-- What a block gives after a quote, which is among these nodes: further quotes, if lines are left, or the WARNING where no blank line follows the
+-- last one, which ends at this place.
+abbrev pub after_quote : OpenBlock → Block → List Node → Option Part → ℕ → Numbered (List Item)
+after_quote l B earlier None end = reads_from l B (earlier ++ ending_notes (alone_ending block_quote) (drop end B)) l.at
+after_quote l B earlier (Some p) end = quotes_from l B earlier p
 
 -- what a block gives that waits for the nodes of a block inside, once it has them
 abbrev pub resumed : OpenBlock → Block → Waits → List Node → Numbered (List Item)
 resumed l B (InItem line) ns = with_item l B (element_of ListItem [] ns line) (open_of l.run)
 resumed l B (ListedBody line item body heads notes) ns =
     with_item l B (element_of item [] (heads.items ++ element_of body [] (notes.items ++ ns) line ∷ []) line) (open_of l.run)
-resumed l B (Quote line attribution left end) ns = do
-  more ← quotes_after l.depth B left end
-  reads_from l B (quote_by line (option_map box_value attribution) ns ++ more) end
+resumed l B (Quote line attribution left end) ns = after_quote l B (quote_by line (option_map box_value attribution) ns) left end
 resumed l B (Element e) ns = reads_from l B (filled e ns ∷ []) l.at
 resumed l B (Figure f) ns =
     let o = box_value f in reads_from l B (figure_nodes o.figure (caption_error o.line (string_bytes o.source)) ns) l.at

@@ -55,3 +55,12 @@ pub(crate) fn last_blocks_are_flat()
     ensures flat { meaning.LastBlockIsFlat }
     ensures refused { meaning.LastBlockIsRefused }
 {}
+
+/// What calls change of the block that is read, in what it gives: more nodes, one more item of a list, a title.
+pub(crate) fn changes_are_read()
+    ensures nodes { meaning.NodesAreRead }
+    ensures item { meaning.ItemIsAdded }
+    ensures title { meaning.TitleIsLast }
+    ensures nodes_placed { meaning.NodesKeepPlaces }
+    ensures title_placed { meaning.TitlesArePlaced }
+{}

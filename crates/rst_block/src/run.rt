@@ -1,8 +1,8 @@
 //! Constructs that join with those before them: items of one list, lines of one line block, explicit markup.
-ghost use Rattle.std.specs.Prelude.{◌≡◌, ◌+◌, ◌-◌, ◌*◌, ◌^◌, ◌<◌, ◌≤◌, length, drop, IfOk, IfSome};
-ghost use Rattle.rst_text.specs.Shown.{block_of};
-ghost use Rattle.rst_markup_blocks.specs.Parts.{IsBlock, IsCall};
-ghost use Rattle.rst_block.specs.Steps as spec;
+ghost use Rattle.std.specs.Prelude.{◌≡◌, Some, None, IfSome, IfNone};
+ghost use Rattle.rst_block.specs.Joins.{joined_ending};
+ghost use Rattle.rst_block.specs.Meanings.{joining_in, list_kind_in, open_of};
+ghost use Rattle.rst_block.specs.Rest.{end_of_run, joining_of_run};
 
 use super::fault::BlockFault;
 use super::texts::{Pass, push};
@@ -63,7 +63,9 @@ pub(crate) enum Run {
 
 impl ListKind {
     /// What is said where no blank line follows the list.
-    fn ending(self) -> &'static str {
+    fn ending(self) -> &'static str
+        ensures { joined_ending (joining_in self) ≡ Some result.now }
+    {
         match self {
             ListKind::Bullet(_) => "Bullet list ends without a blank line; unexpected unindent.",
             ListKind::Enumerated(_) =>
@@ -97,7 +99,11 @@ impl Sequel {
 
 impl Run {
     /// The place after the run, and what is said where no blank line follows it.
-    pub fn ending(&self) -> Option<(usize, &'static str)> {
+    pub fn ending(&self) -> Option<(usize, &'static str)>
+        ensures none { IfNone result (joined_ending (joining_of_run (open_of self.now)) ≡ None) }
+        ensures end { IfSome result (λ ending. ending.0 ≡ end_of_run (open_of self.now)) }
+        ensures text { IfSome result (λ ending. joined_ending (joining_of_run (open_of self.now)) ≡ Some ending.1.now) }
+    {
         match self {
             Run::None => None,
             Run::List(list) => Some((list.end, list.kind.ending())),
@@ -110,7 +116,9 @@ impl Run {
     }
 
     /// The kind of the list that is open, if one is.
-    pub fn list_kind(&self) -> Option<ListKind> {
+    pub fn list_kind(&self) -> Option<ListKind>
+        ensures { result ≡ list_kind_in self.now }
+    {
         match self {
             Run::List(list) => Some(list.kind),
             _ => None,

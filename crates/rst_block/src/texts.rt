@@ -1,9 +1,10 @@
 //! Texts of lines, and what a pass over a document counts.
-ghost use Rattle.std.specs.Prelude.{◌≡◌, ◌+◌, ◌-◌, ◌*◌, ◌^◌, ◌<◌, ◌≤◌, length, drop, IfOk, IfSome};
+ghost use Rattle.std.specs.Prelude.{◌≡◌, ◌+◌, ◌-◌, ◌*◌, ◌^◌, ◌<◌, ◌≤◌, [], ◌∷◌, ◌++◌, length, drop, IfOk, IfSome};
 ghost use Rattle.rst_text.specs.Block.{first_number};
 ghost use Rattle.rst_text.specs.Shown.{block_of};
 ghost use Rattle.rst_markup_blocks.specs.Parts.{IsBlock, IsCall};
-ghost use Rattle.rst_block.specs.Steps as spec;
+ghost use Rattle.rst_tree.specs.declared.note.Level.TheVariants.{Warning};
+ghost use Rattle.rst_block.specs.Texts.{said};
 
 use super::fault::BlockFault;
 use rst_block_nodes::{Numbers, message};
@@ -88,7 +89,9 @@ pub(crate) fn number_at(view: &View<'_>, place: usize) -> usize
 }
 
 /// The message on a construct that isn't followed by a blank line.
-pub(crate) fn unindent(alloc: Global, line: usize, text: &str) -> Result<Node, BlockFault> {
+pub(crate) fn unindent(alloc: Global, line: usize, text: &str) -> Result<Node, BlockFault>
+    ensures { IfOk result (λ node. node ≡ said Warning line text.now) }
+{
     let node = message(alloc, Level::Warning, line, text, None)?;
     Ok(node)
 }
@@ -101,7 +104,9 @@ pub(crate) fn alone(alloc: Global, node: Node) -> Result<Vec<Node>, BlockFault> 
 }
 
 /// Puts a node behind the last. A first one gets room for itself alone: most blocks inside others have one node.
-pub(crate) fn push(nodes: &mut Vec<Node>, node: Node) -> Result<(), BlockFault> {
+pub(crate) fn push(nodes: &mut Vec<Node>, node: Node) -> Result<(), BlockFault>
+    ensures { IfOk result (λ _. nodes.new.items ≡ nodes.old.items ++ node ∷ []) }
+{
     if nodes.is_empty() {
         nodes.reserve_exact(1)?;
     }
