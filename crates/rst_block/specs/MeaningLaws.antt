@@ -1,7 +1,7 @@
 -- Laws on what the state of the machine means: where blocks begin, wait and end.
 use Rattle.std.specs.Prelude.{◌≡◌, ℕ, suc, ◌<◌, ◌≤◌, ◌⊎◌, length, List, [], ◌∷◌, ◌++◌, drop, Option, Some, None, Result, Ok, Err}
 use Rattle.rst_text.specs.Block.{Block, first_number}
-use Rattle.rst_text.specs.Shown.{portion_block}
+use Rattle.rst_text.specs.Shown.{placement_block}
 use Rattle.rst_tree.specs.declared.node.Node.{Node}
 use Rattle.rst_markup_blocks.specs.Lines.{lines_while}
 use Rattle.rst_markup_blocks.specs.declared.lines.LineTest.TheVariants.{Blank}
@@ -34,12 +34,12 @@ NewBlockIsAll = (l : OpenBlock) (B : Block) (number : ℕ) → IsNew l → reads
 abbrev pub PartIsBlock : Type 0
 PartIsBlock = (S : Block) (fs : List Frame) (f : Frame) (l : OpenBlock) (X : Block) (number : ℕ) → l.depth ≡ suc f.level.depth → suc f.level.depth ≤ deepest → IsNew l
     → plug S (fs ++ f ∷ []) (reads l X) number
-    ≡ plug S fs ((within_at f.level.depth).inner X >>= λ ns. after f.level (portion_block S f.portion) f.waits f.second f.nodes.items ns) number
+    ≡ plug S fs ((within_at f.level.depth).inner X >>= λ ns. after f.level (placement_block S f.placement) f.waits f.second f.nodes.items ns) number
 
 -- once a block is read, the one that waits for it has its nodes
 abbrev pub EndedBlockIsPassed : Type 0
 EndedBlockIsPassed = (S : Block) (fs : List Frame) (f : Frame) (items : List Item) (number : ℕ)
-    → plug S (fs ++ f ∷ []) (just items) number ≡ plug S fs (after f.level (portion_block S f.portion) f.waits f.second f.nodes.items (nodes_among items)) number
+    → plug S (fs ++ f ∷ []) (just items) number ≡ plug S fs (after f.level (placement_block S f.placement) f.waits f.second f.nodes.items (nodes_among items)) number
 
 -- The first n lines of a block below the last level are blank: if they are all its lines, it gives nothing, else it is refused at the line after
 -- them.

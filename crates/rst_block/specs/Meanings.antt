@@ -4,7 +4,7 @@ use Rattle.std.specs.Prelude.{◌≡◌, ℕ, suc, ◌-◌, ◌==◌, true, List
 use Rattle.std.specs.Option.{option_map}
 use Rattle.std.specs.Str.{chars}
 use Rattle.rst_text.specs.Block.{Block}
-use Rattle.rst_text.specs.Shown.{portion_block}
+use Rattle.rst_text.specs.Shown.{placement_block}
 use Rattle.rst_tree.specs.declared.node.Node.{Node}
 use Rattle.rst_tree.specs.declared.tag.Tag.TheVariants.{BlockQuote, ListItem}
 use Rattle.rst_markup_blocks.specs.declared.part.Part.{Part}
@@ -143,7 +143,7 @@ unfoldable pub plug : Block → List Frame → Numbered (List Item) → Numbered
 plug S [] read = read
 plug S (f ∷ fs) read = do
   items ← plug S fs read
-  after f.level (portion_block S f.portion) f.waits f.second f.nodes.items (nodes_among items)
+  after f.level (placement_block S f.placement) f.waits f.second f.nodes.items (nodes_among items)
 
 -- ---- what comes next
 
