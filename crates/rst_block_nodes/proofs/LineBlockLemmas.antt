@@ -6,7 +6,7 @@ use Rattle.std.proofs.lemmas.List.{append-nil}
 use Rattle.rst_tree.specs.declared.node.Node.{Node}
 use Rattle.rst_tree.specs.declared.tag.Tag.TheVariants.{Line, LineBlock}
 use Rattle.rst_block_nodes.specs.Elements.{element_of}
-use Rattle.rst_block_nodes.specs.LineBlocks.{IndentedLine, LinePart, level_line, deeper_lines, least_indent, first_line, deeper_len, with_deeper, parts_of, part_node, line_block, Makes}
+use Rattle.rst_block_nodes.specs.LineBlocks.{IndentedLine, LinePart, level_line, deeper_lines, least_indent, deeper_len, with_deeper, parts_of, part_node, line_block, Makes}
 use Rattle.rst_block_nodes.specs.Numbered.{then_read, ◌>>=◌, just, each}
 use Rattle.rst_block_nodes.specs.Readings.{texted}
 use Rattle.rst_block_nodes.specs.declared.line_blocks.LineBlockFault.{LineBlockFault}

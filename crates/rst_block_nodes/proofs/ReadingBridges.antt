@@ -12,7 +12,7 @@ use Rattle.rst_block_nodes.specs.declared.terms.Heads.{Heads}
 use Rattle.rst_block_nodes.specs.declared.texted.Reading.{Reading}
 use Rattle.rst_block_nodes.specs.declared.texted.Texted.{Texted}
 use Rattle.rst_block_nodes.specs.Elements.{element_of}
-use Rattle.rst_block_nodes.specs.Readings.{read_nodes, read_notes, texted_node, term_nodes, texted}
+use Rattle.rst_block_nodes.specs.Readings.{read_nodes, read_notes, texted_node, term_nodes, texted, termed}
 use Rattle.rst_block_nodes.specs.Results.{HoldsText, HeadsText, ReadsText}
 use Rattle.rst_block_nodes.specs.Terms.{texts_of, groups_of, heads_of}
 use Rattle.rst_block_nodes.specs.Texts.{counted_on, counting, messages_from, numbered_on}
@@ -55,3 +55,10 @@ texted_read tag line t text_line first next made h counted =
     let is = texted-is tag line t text_line first made h in
     ap₂ (λ (e : Node) (ns : List Node). Ok ((e, ns), counted_on first (length ns))) (sym is.0) (sym is.1)
     ∙ ap (λ (n : ℕ). Ok ((made.element, made.notes.items), n)) (sym counted)
+
+pub termed_read : (t : List ℕ) (line first next : ℕ) (made : Heads) → HeadsText t line first made → next ≡ counted_on first (length made.notes.items)
+    → termed t line first ≡ Ok ((made.heads.items, made.notes.items), next)
+termed_read t line first next made h counted =
+    let is = termed-is t line first made h in
+    ap₂ (λ (es ns : List Node). Ok ((es, ns), counted_on first (length ns))) (sym is.0) (sym is.1)
+    ∙ ap (λ (n : ℕ). Ok ((made.heads.items, made.notes.items), n)) (sym counted)

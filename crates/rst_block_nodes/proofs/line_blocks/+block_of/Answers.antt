@@ -1,4 +1,4 @@
-use Rattle.std.proofs.Common.{◌≡◌, ◌+◌, ◌-◌, suc, take, drop, List, Ok, Err, arith, rules, sym, ap, subst, ◌∙◌}
+use Rattle.std.proofs.Common.{◌≡◌, ◌+◌, ◌-◌, suc, take, drop, List, Err, arith, rules, sym, ap, subst, ◌∙◌}
 use Rattle.std.proofs.Math.ListN.{drop_of_length-le}
 use Rattle.std.proofs.lemmas.List.{take_rest, drop-drop}
 use Rattle.rst_block_nodes.specs.LineBlocks.{IndentedLine, deeper_len, least_indent, first_line, line_block, Makes}
