@@ -9,4 +9,3 @@ pub mod Terms
 pub mod Numbered
 pub mod Readings
 pub mod LineBlocks
-pub mod Choices

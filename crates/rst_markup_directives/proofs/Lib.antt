@@ -16,3 +16,4 @@ pub mod Indentations
 pub mod AgainLemmas
 pub mod Tables
 pub mod Measures
+pub mod MessageLemmas
