@@ -10,7 +10,7 @@ use super::characters::{has_character, text_from};
 use super::fault::{Detail, MarkupFault};
 use super::name::{Name, Takes};
 use super::options::joined;
-use super::target::without_white;
+use rst_inline_scan::without_white;
 use rst_markup_blocks::Part;
 use rst_text::{characters_of, normalized_white};
 use std::alloc::Global;
