@@ -1,7 +1,6 @@
 pub mod Powers
 pub mod Numbers
 pub mod Words
-pub mod Colons
 pub mod TargetTexts
 pub mod Joins
 pub mod ClassLemmas
