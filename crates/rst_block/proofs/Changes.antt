@@ -3,10 +3,8 @@ use Rattle.std.proofs.Common.{◌≡◌, ℕ, ◌+◌, ◌-◌, ◌≤◌, List,
 use Rattle.std.proofs.lemmas.List.{map-append, take-append-le, drop-append-le, take_all, drop_all}
 use Rattle.rst_text.specs.Block.{Block}
 use Rattle.rst_tree.specs.declared.node.Node.{Node}
-use Rattle.rst_block_sections.specs.Sections as sections
-use Rattle.rst_block_sections.specs.Sections.{items_from}
+use Rattle.rst_block_sections.specs.Sections.{items_from, title_of}
 use Rattle.rst_block_sections.specs.declared.heading.Heading.{Heading}
-use Rattle.rst_block.specs.Documents.{item_of, title_of}
 use Rattle.rst_block.specs.Meanings.{open_of, within_at, done_of, reads, reads_from, with_item}
 use Rattle.rst_block.specs.Numbered.{before}
 use Rattle.rst_block.specs.OpenBlocks.{IsMoved, HasRun, HasMore, HasItemIn, HasItem, HasTitle, placed_after, AreWithin, IsPlaced}
@@ -17,35 +15,31 @@ use Rattle.rst_block.specs.declared.open_block.OpenBlock.{OpenBlock}
 -- ---- nodes with titles between them
 
 items_push : (n done : ℕ) (nodes more : List Node) (hs : List Heading) → done + length nodes ≡ n → AreWithin n hs
-    → items_from done (nodes ++ more) hs ≡ items_from done nodes hs ++ map sections.plain more
+    → items_from done (nodes ++ more) hs ≡ items_from done nodes hs ++ map plain more
 unfolding items_from
-items_push n done nodes more [] e w = map-append sections.plain nodes more
+items_push n done nodes more [] e w = map-append plain nodes more
 items_push n done nodes more (h ∷ hs) e w =
     let k : ℕ = h.before - done in
     let le : h.before - done ≤ length nodes = omega (arith, e, w.0) in
     let f : (done + (h.before - done)) + length (drop (h.before - done) nodes) ≡ n = omega (arith, e, le, length-drop (h.before - done) nodes) in
-    ap (λ front. map sections.plain front ++ sections.titled h ∷ items_from (done + k) (drop k (nodes ++ more)) hs) (take-append-le k nodes more le)
-    ∙ ap (λ back. map sections.plain (take k nodes) ++ sections.titled h ∷ items_from (done + k) back hs) (drop-append-le k nodes more le)
-    ∙ ap (λ others. map sections.plain (take k nodes) ++ sections.titled h ∷ others) (items_push n (done + k) (drop k nodes) more hs f w.1)
-    ∙ sym (append_assoc (map sections.plain (take k nodes)) (sections.titled h ∷ items_from (done + k) (drop k nodes) hs) (map sections.plain more))
+    ap (λ front. map plain front ++ titled (title_of h) ∷ items_from (done + k) (drop k (nodes ++ more)) hs) (take-append-le k nodes more le)
+    ∙ ap (λ back. map plain (take k nodes) ++ titled (title_of h) ∷ items_from (done + k) back hs) (drop-append-le k nodes more le)
+    ∙ ap (λ others. map plain (take k nodes) ++ titled (title_of h) ∷ others) (items_push n (done + k) (drop k nodes) more hs f w.1)
+    ∙ sym (append_assoc (map plain (take k nodes)) (titled (title_of h) ∷ items_from (done + k) (drop k nodes) hs) (map plain more))
 
 title_push : (n done : ℕ) (nodes : List Node) (hs : List Heading) (h : Heading) → done + length nodes ≡ n → AreWithin n hs → h.before ≡ n
-    → items_from done nodes (hs ++ h ∷ []) ≡ items_from done nodes hs ++ sections.titled h ∷ []
+    → items_from done nodes (hs ++ h ∷ []) ≡ items_from done nodes hs ++ titled (title_of h) ∷ []
 unfolding items_from
 title_push n done nodes [] h e w b =
     let k : ℕ = h.before - done in
     let all : length nodes ≤ h.before - done = omega (arith, e, b) in
-    ap (λ front. map sections.plain front ++ sections.titled h ∷ map sections.plain (drop k nodes)) (take_all k nodes all)
-    ∙ ap (λ back. map sections.plain nodes ++ sections.titled h ∷ map sections.plain back) (drop_all k nodes all)
+    ap (λ front. map plain front ++ titled (title_of h) ∷ map plain (drop k nodes)) (take_all k nodes all)
+    ∙ ap (λ back. map plain nodes ++ titled (title_of h) ∷ map plain back) (drop_all k nodes all)
 title_push n done nodes (g ∷ gs) h e w b =
     let k : ℕ = g.before - done in
     let f : (done + (g.before - done)) + length (drop (g.before - done) nodes) ≡ n = omega (arith, e, w.0, length-drop (g.before - done) nodes) in
-    ap (λ others. map sections.plain (take k nodes) ++ sections.titled g ∷ others) (title_push n (done + k) (drop k nodes) gs h f w.1 b)
-    ∙ sym (append_assoc (map sections.plain (take k nodes)) (sections.titled g ∷ items_from (done + k) (drop k nodes) gs) (sections.titled h ∷ []))
-
-plain_items : (ns : List Node) → map item_of (map sections.plain ns) ≡ map plain ns
-plain_items [] = refl
-plain_items (n ∷ ns) = ap (λ items. plain n ∷ items) (plain_items ns)
+    ap (λ others. map plain (take k nodes) ++ titled (title_of g) ∷ others) (title_push n (done + k) (drop k nodes) gs h f w.1 b)
+    ∙ sym (append_assoc (map plain (take k nodes)) (titled (title_of g) ∷ items_from (done + k) (drop k nodes) gs) (titled (title_of h) ∷ []))
 
 within_more : (m n : ℕ) (hs : List Heading) → m ≤ n → AreWithin m hs → AreWithin n hs
 within_more m n [] le w = tt
@@ -58,12 +52,12 @@ within_push n (g ∷ gs) h w le = (w.0, within_push n gs h w.1 le)
 -- ---- the items of a block so far
 
 items_of : List Node → List Heading → List Item
-items_of nodes hs = map item_of (items_from 0 nodes hs)
+items_of nodes hs = items_from 0 nodes hs
 
 -- where there are no nodes and no titles there is no item
-pub begun_is : (nodes : List Node) (hs : List Heading) → nodes ≡ [] → hs ≡ [] → map item_of (items_from 0 nodes hs) ≡ []
+pub begun_is : (nodes : List Node) (hs : List Heading) → nodes ≡ [] → hs ≡ [] → items_from 0 nodes hs ≡ []
 unfolding items_from
-begun_is nodes hs e f = ap (λ ns. map item_of (items_from 0 ns hs)) e ∙ ap (λ gs. map item_of (items_from 0 [] gs)) f
+begun_is nodes hs e f = ap (λ ns. items_from 0 ns hs) e ∙ ap (λ gs. items_from 0 [] gs) f
 
 zero_more : (n : ℕ) → 0 + n ≡ n
 zero_more n = omega arith
@@ -81,9 +75,7 @@ unfolding items_of
 done_more old new more m w =
     ap (λ nodes. items_of nodes new.headings.items) m.nodes
     ∙ ap (items_of (old.nodes.items ++ more)) m.headings
-    ∙ ap (map item_of) (items_push (length old.nodes.items) 0 old.nodes.items more old.headings.items (zero_more (length old.nodes.items)) w)
-    ∙ map-append item_of (items_from 0 old.nodes.items old.headings.items) (map sections.plain more)
-    ∙ ap (λ items. done_of old ++ items) (plain_items more)
+    ∙ items_push (length old.nodes.items) 0 old.nodes.items more old.headings.items (zero_more (length old.nodes.items)) w
 
 pub done_title : (old new : OpenBlock) (h : Heading) → HasTitle old new h → IsPlaced old → done_of new ≡ done_of old ++ titled (title_of h) ∷ []
 unfolding items_of
@@ -91,8 +83,7 @@ done_title old new h m w =
     let g : Heading = placed_after (length old.nodes.items) h in
     ap (λ nodes. items_of nodes new.headings.items) m.nodes
     ∙ ap (items_of old.nodes.items) m.headings
-    ∙ ap (map item_of) (title_push (length old.nodes.items) 0 old.nodes.items old.headings.items g (zero_more (length old.nodes.items)) w refl)
-    ∙ map-append item_of (items_from 0 old.nodes.items old.headings.items) (sections.titled g ∷ [])
+    ∙ title_push (length old.nodes.items) 0 old.nodes.items old.headings.items g (zero_more (length old.nodes.items)) w refl
 
 placed_as : (n : ℕ) (hs : List Heading) (l : OpenBlock) → length l.nodes.items ≡ n → l.headings.items ≡ hs → AreWithin n hs → IsPlaced l
 placed_as n hs l e f w = subst (λ gs. AreWithin (length l.nodes.items) gs) (sym f) (subst (λ k. AreWithin k hs) (sym e) w)

@@ -6,8 +6,8 @@ use Rattle.rst_tree.specs.declared.node.Node.{Node}
 use Rattle.rst_markup_blocks.specs.Lines.{lines_while}
 use Rattle.rst_markup_blocks.specs.declared.lines.LineTest.TheVariants.{Blank}
 use Rattle.rst_markup_blocks.specs.declared.part.Part.{Part}
+use Rattle.rst_block_sections.specs.Sections.{title_of}
 use Rattle.rst_block_sections.specs.declared.heading.Heading.{Heading}
-use Rattle.rst_block.specs.Documents.{title_of}
 use Rattle.rst_block.specs.Lists.{list_item}
 use Rattle.rst_block.specs.Meanings.{IsNew, open_of, deepest, within_at, done_of, reads, reads_from, with_item, resumed, after, plug, comes}
 use Rattle.rst_block.specs.Nodes.{below_last_level, block_items, nodes_among}

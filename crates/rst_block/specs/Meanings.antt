@@ -1,8 +1,7 @@
 -- What the state of the machine means: what the block that is read gives, what it gives by what comes next in it, and what the blocks that wait make
 -- of that. No rule of markup: each step leaves the meaning as it is.
-use Rattle.std.specs.Prelude.{◌≡◌, ℕ, suc, ◌-◌, ◌==◌, true, List, [], ◌∷◌, ◌++◌, drop, map, Option, Some, None, unwrap_or, string_bytes, box_value, Result, Ok, Err, if◌then◌else◌}
+use Rattle.std.specs.Prelude.{◌≡◌, ℕ, suc, ◌-◌, ◌==◌, true, List, [], ◌∷◌, ◌++◌, drop, map, Option, Some, None, string_bytes, box_value, Result, Ok, Err, if◌then◌else◌}
 use Rattle.std.specs.Option.{option_map}
-use Rattle.std.specs.Str.{chars}
 use Rattle.rst_text.specs.Block.{Block}
 use Rattle.rst_text.specs.Shown.{placement_block}
 use Rattle.rst_tree.specs.declared.node.Node.{Node}
@@ -10,15 +9,13 @@ use Rattle.rst_tree.specs.declared.tag.Tag.TheVariants.{BlockQuote, ListItem}
 use Rattle.rst_markup_blocks.specs.declared.part.Part.{Part}
 use Rattle.rst_markup_tables.specs.Ends.{end_of}
 use Rattle.rst_block_nodes.specs.Elements.{element_of}
-use Rattle.rst_block_nodes.specs.declared.line_blocks.BarText.{BarText}
+use Rattle.rst_block_nodes.specs.LineBlocks.{indented}
 use Rattle.rst_block_nodes.specs.declared.texted.Texted.{Texted}
 use Rattle.rst_block_sections.specs.Sections.{items_from, filled}
 use Rattle.rst_block.specs.Constructs.{block_quote, grid}
 use Rattle.rst_block.specs.Directives.{first_paragraph, replacement}
-use Rattle.rst_block.specs.Documents.{item_of}
 use Rattle.rst_block.specs.Figures.{caption_error, figure_nodes}
 use Rattle.rst_block.specs.Joins.{Joining, bullets, enumerators, definitions, fields, options, alone_ending}
-use Rattle.rst_block.specs.LineRuns.{IndentedLine}
 use Rattle.rst_block.specs.Nodes.{inner_nodes, nodes_among, ending_notes}
 use Rattle.rst_block.specs.Numbered.{Numbered, ◌>>=◌, just, before}
 use Rattle.rst_block.specs.Quotes.{quotes}
@@ -51,12 +48,6 @@ joining_in Definition = definitions
 joining_in Field = fields
 joining_in OptionItem = options
 
--- the lines of a line block after one of this indentation: a line without text after its bar takes that of the line before
-abbrev pub indented_in : ℕ → List BarText → List IndentedLine
-indented_in last [] = []
-indented_in last (b ∷ bs) =
-    record { indent = unwrap_or b.indent last; line = b.line; text_line = b.text_line; text = chars (string_bytes b.text) } ∷ indented_in (unwrap_or b.indent last) bs
-
 -- an open list, as it is kept
 abbrev pub list_of : OpenList → ListSoFar
 list_of l = record { joining = joining_in l.kind; end = l.end; notes_before = l.before.items; element = l.list; items = l.items.items; notes_after = l.behind.items }
@@ -65,7 +56,7 @@ list_of l = record { joining = joining_in l.kind; end = l.end; notes_before = l.
 abbrev pub open_of : Run → OpenRun
 open_of NoRun = no_run
 open_of (ListRun l) = open_list (list_of (box_value l))
-open_of (Lines lines end) = open_lines end (indented_in 0 lines.items)
+open_of (Lines lines end) = open_lines end (indented lines.items)
 open_of (Explicit end) = open_markup end
 
 -- the kind of the list that is open, if one is
@@ -85,7 +76,7 @@ within_at depth = record { titles = depth == 0; code = true; levels = suc deepes
 
 -- the nodes and titles of a block so far, but for those of the open run
 abbrev pub done_of : OpenBlock → List Item
-done_of l = map item_of (items_from 0 l.nodes.items l.headings.items)
+done_of l = items_from 0 l.nodes.items l.headings.items
 
 -- what the block B gives that is read: what came of it so far, and what is still to come
 abbrev pub reads : OpenBlock → Block → Numbered (List Item)
