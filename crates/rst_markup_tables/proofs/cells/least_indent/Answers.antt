@@ -23,4 +23,4 @@ loop-line-preserved c =
 pub returns : goal.returns
 returns c =
     let all = at_drop_all (least_from c.loop-line.least) c.args.lines.now c.loop-line.line-index (omega arith) in
-    c.unwrap_or.ensures ∙ ap (λ o. unwrap_or o 0) (sym (all ∙ least_from-none _) ∙ c.loop-line.invariant) ∙ least_from-all c.args.lines.now
+    c.unwrap_or-2.ensures ∙ ap (λ o. unwrap_or o 0) (sym (all ∙ least_from-none _) ∙ c.loop-line.invariant) ∙ least_from-all c.args.lines.now
