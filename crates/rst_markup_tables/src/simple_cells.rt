@@ -121,11 +121,7 @@ fn entry(
 }
 
 /// The cells of a row.
-fn entries(
-    alloc: Global,
-    lines: &[TableLine],
-    spans: &[RuleSpan],
-) -> Result<Vec<Cell>, AllocError>
+fn entries(alloc: Global, lines: &[TableLine], spans: &[RuleSpan]) -> Result<Vec<Cell>, AllocError>
     ensures { IfOk result (λ cells. cells.items ≡ spec.entries lines.now spans.now) }
 {
     let mut cells = Vec::with_capacity(alloc, spans.len())?;
