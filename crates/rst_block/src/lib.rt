@@ -10,7 +10,6 @@ mod field;
 mod figure;
 mod frame;
 mod heading;
-pub mod laws;
 mod line;
 mod list;
 mod machine;

@@ -1,5 +1,4 @@
 pub mod TextLemmas
-pub mod OptionLemmas
 pub mod HeadLemmas
 pub mod MessageLemmas
 pub mod ReadLemmas

@@ -5,6 +5,7 @@ mod argument;
 mod calls;
 mod characters;
 mod fault;
+mod field;
 mod found;
 mod judgement;
 mod layout;

@@ -1,3 +1,3 @@
 pub mod FreeNumbers
-pub mod FootnoteLemmas
+pub mod Notes
 pub mod Numbering

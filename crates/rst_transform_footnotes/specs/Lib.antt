@@ -1,2 +1,2 @@
 pub mod Footnotes
-pub mod FootnoteLabels
+pub mod NoteLabels

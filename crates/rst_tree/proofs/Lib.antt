@@ -1,7 +1,7 @@
 pub mod Changes
 mod Plain
 pub mod PrintedParts
-mod PrintedAttributeParts
+mod ToldParts
 pub mod Attributes
 pub mod EachNode
 pub mod FirstLine

@@ -2,6 +2,7 @@
 #![tactic(auto)]
 
 mod attrs;
+mod brief;
 mod entry;
 mod fault;
 mod key;

@@ -1,4 +1,4 @@
 pub mod Registered
 pub mod Marks
-pub mod LinkedTags
-pub mod Kinds
+pub mod Linked
+pub mod Held
