@@ -1,7 +1,6 @@
 -- Lemmas on what readers hand out and writers gain.
 use Rattle.std.proofs.Common.{◌≡◌, ℕ, ◌+◌, List, ◌++◌, ◌∷◌, [], length, take, drop, None, Some, Option, sym, ap, ◌∙◌, Bool, false, subst, append_assoc, arith, ◌<◌, ◌≤◌, suc, length-append, get_or, Bor, take-append-drop, true≢false}
-use Rattle.rst_text.specs.Counted.{Stream}
-use Rattle.rst2pseudoxml_run.specs.Headline.{IsCutShort}
+use Rattle.rst_text.specs.Counted.{Stream, IsCutShort}
 use Rattle.std.specs.List.{flat_map}
 use Rattle.std.proofs.lemmas.Grind.{flat_map-append}
 use Rattle.std.proofs.lemmas.List.{take_all, take-append-le}

@@ -1,6 +1,6 @@
 -- What a run does to its reader and its writers.
-use Rattle.std.specs.Prelude.{◌≡◌, ◌<◌, ◌≤◌, ℕ, true, false, List, length, take, Result, Ok, Err, Vec}
-use Rattle.rst_text.specs.Counted.{Stream, Untouched, Gains, HandsOut, IsReadOut}
+use Rattle.std.specs.Prelude.{◌≡◌, ◌<◌, ◌≤◌, ℕ, true, false, List, length, Result, Ok, Err, Vec}
+use Rattle.rst_text.specs.Counted.{Stream, Untouched, Gains, HandsOut, IsReadOut, IsCutShort}
 use Rattle.rst2pseudoxml_run.specs.declared.end.End.{End}
 use Rattle.rst2pseudoxml_run.specs.declared.end.End.TheVariants.{Done, Read, TooLong, NotUtf8, NoMemory, WriteErr, WriteOut, TooDeep}
 use Rattle.rst_tree.specs.Faults.{CutShort}
@@ -9,10 +9,6 @@ use Rattle.rst2pseudoxml_run.specs.Shown.{Parts}
 -- the writer gained all of a text, and no write of it has failed
 abbrev pub IsWritten : Stream → List ℕ → Type 0
 IsWritten writer text = Gains writer text × (writer.failed ≡ false)
-
--- a write failed when the writer had taken the first bytes of a text, not all of them
-abbrev pub IsCutShort : Stream → List ℕ → ℕ → Type 0
-IsCutShort writer text done = (done < length text) × Gains writer (take done text) × (writer.failed ≡ true)
 
 -- a print failed when the writer had taken the first bytes of a text; they are counted up to the largest `usize`
 abbrev pub IsPrintedInPart : Stream → List ℕ → ℕ → Type 0
@@ -50,8 +46,3 @@ Shows parts out err (WriteErr done) = IsCutShort err parts.err done × Untouched
 Shows parts out err (WriteOut done) = IsWritten err parts.err × IsPrintedInPart out parts.out done
 Shows parts out err NoMemory = Untouched out × Untouched err
 Shows parts out err _ = ⊥
-
--- the whole text was written, or the front of it up to a failed write
-abbrev pub Puts : {A : Type 0} → Stream → List ℕ → Result A ℕ → Type 0
-Puts out text (Ok _) = Gains out text × (out.failed ≡ out.had_failed)
-Puts out text (Err done) = IsCutShort out text done

@@ -15,7 +15,7 @@ use Rattle.rst_transform.specs.declared.finishing.Finished.{Finished}
 use Rattle.rst_tree.specs.LevelNames.{level_name, level_number}
 use Rattle.rst_tree.specs.Message.{message_of}
 use Rattle.rst_tree.specs.Print.{print_of}
-use Rattle.rst_tree.specs.Told.{with_told}
+use Rattle.rst_tree.specs.PrintedAttributes.{with_printed_attrs}
 use Rattle.rst_tree.specs.declared.node.Node.{Node}
 use Rattle.rst_tree.specs.declared.note.Level.{Level}
 use Rattle.rst_tree.specs.declared.note.Note.{Note}
@@ -29,9 +29,9 @@ pub record Parts : Type 0 where
   pub err : List ℕ
   pub status : ℕ
 
--- a message that is told: it is at or above the report level or the halt level
-abbrev pub is_told : Settings → Note → Bool
-is_told settings note = is_reached settings.report (level_number note.level) || is_reached settings.halt (level_number note.level)
+-- a message that is reported: it is at or above the report level or the halt level
+abbrev pub is_reported : Settings → Note → Bool
+is_reported settings note = is_reached settings.report (level_number note.level) || is_reached settings.halt (level_number note.level)
 
 abbrev pub last_level : List Note → Option Level
 last_level [] = None
@@ -51,15 +51,15 @@ abbrev pub exit_line : Option Level → List ℕ
 exit_line None = []
 exit_line (Some level) = codes "Exiting due to level-" ++ decimal (level_number level) ++ codes " (" ++ level_name level ++ codes ") system message.\n"
 
-abbrev pub told : Settings → List ℕ → List Note → List ℕ
-told settings source notes = flat_map (message_of source) (filter (is_told settings) notes) ++ exit_line (halting settings notes)
+abbrev pub error_text : Settings → List ℕ → List Note → List ℕ
+error_text settings source notes = flat_map (message_of source) (filter (is_reported settings) notes) ++ exit_line (halting settings notes)
 
 abbrev pub status_by : Settings → ℕ → ℕ
 status_by settings highest = if is_reached settings.exit highest then 10 + highest else 0
 
--- standard output: the document with its source and what its messages tell, or nothing where a message halts the run
+-- standard output: the document with its source, and its messages with their lines and types; or nothing if a message halts the run
 abbrev pub shown_by : List ℕ → Node → Option Level → List ℕ
-shown_by source document None = print_of (with_told (Some source) document)
+shown_by source document None = print_of (with_printed_attrs (Some source) document)
 shown_by source document (Some level) = []
 
 -- the exit status: by the level of the messages, or 1 where one halts the run
@@ -70,7 +70,7 @@ ended_by settings notes (Some level) = 1
 -- what is shown of a document and its messages, or of its messages alone where one halts the run
 abbrev pub parts_of : Settings → List ℕ → Node → List Note → Parts
 parts_of settings source document notes =
-    record { out = shown_by source document (halting settings notes); err = told settings source notes; status = ended_by settings notes (halting settings notes) }
+    record { out = shown_by source document (halting settings notes); err = error_text settings source notes; status = ended_by settings notes (halting settings notes) }
 
 -- The answer to some bytes: what is shown of the finished document that was made of their text, and of its messages; or the
 -- refusal of what is too long, no UTF-8 or nested too deeply.
@@ -82,7 +82,7 @@ Answers settings source bytes (Err (TooDeep line)) = (length bytes ≤ 16777216)
 Answers settings source bytes (Err _) = ⊥
 
 -- the text of the messages was made, or memory ran out
-abbrev pub Tells : {A : Type 0} → Settings → List ℕ → List Note → Result (Counted (Vec ℕ A)) End → Type 0
-Tells settings source notes (Ok text) = (inner_of text).items ≡ told settings source notes
-Tells settings source notes (Err NoMemory) = Unit {0}
-Tells settings source notes (Err _) = ⊥
+abbrev pub MakesErrorText : {A : Type 0} → Settings → List ℕ → List Note → Result (Counted (Vec ℕ A)) End → Type 0
+MakesErrorText settings source notes (Ok text) = (inner_of text).items ≡ error_text settings source notes
+MakesErrorText settings source notes (Err NoMemory) = Unit {0}
+MakesErrorText settings source notes (Err _) = ⊥

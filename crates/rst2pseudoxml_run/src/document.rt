@@ -38,7 +38,7 @@ pub fn document_of(alloc: Global, settings: &Settings, bytes: Vec<u8>) -> Result
     }
 }
 
-/// What is read of the lines: a line that is too long is all that is told of a document.
+/// What is read of the lines: if a line is too long, the document says nothing else.
 fn parsed_of(alloc: Global, settings: &Settings, lines: &Lines) -> Result<Parsed, End>
     ensures { spec.Parses settings.now lines.now result }
 {

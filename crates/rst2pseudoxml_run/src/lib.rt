@@ -3,10 +3,10 @@
 
 mod document;
 mod end;
+mod error_text;
 mod input;
 mod reporting;
 mod running;
-mod telling;
 
 pub use end::End;
 pub use reporting::{Stop, report};

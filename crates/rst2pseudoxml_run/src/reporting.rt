@@ -5,7 +5,6 @@ ghost use Rattle.rst_text.specs.Counted.{between};
 ghost use Rattle.rst2pseudoxml_run.specs.Report.{line_of, status_of, option_message, fault_line, Reports};
 
 use crate::end::End;
-use crate::running::write_text;
 use itoa::Buffer;
 use rst_text::Counted;
 use rst2pseudoxml_options::OptionFault;
@@ -102,7 +101,7 @@ fn write_pieces<E: Write>(pieces: &[&str], err: &mut Counted<E>)
     ensures { Reports (between E.contents err.old err.new) (flat_map (λ piece. piece.now) pieces.now) }
 {
     for piece in pieces {
-        if let Err(_) = write_text(piece.as_bytes(), err) {
+        if let Err(_) = err.write_all(piece.as_bytes()) {
             return;
         }
     }

@@ -2,13 +2,13 @@
 ghost use Rattle.std.specs.Prelude.{◌≡◌, ◌≤◌, false};
 ghost use Rattle.rst_text.specs.Counted.{has_failed, between};
 ghost use Rattle.rst_transform_messages.specs.Messages.{highest_level};
-ghost use Rattle.rst2pseudoxml_run.specs.Headline.{Headline, Shows, Puts};
+ghost use Rattle.rst2pseudoxml_run.specs.Headline.{Headline, Shows};
 ghost use Rattle.rst2pseudoxml_run.specs.Shown.{Answers, parts_of};
 
 use crate::document::document_of;
 use crate::end::End;
+use crate::error_text::{error_text, halting, status_of};
 use crate::input::read_input;
-use crate::telling::{halting, status_of, told};
 use rst_settings::Settings;
 use rst_text::Counted;
 use rst_transform::Finished;
@@ -75,11 +75,11 @@ fn show<O: Write, E: Write>(
         (between E.contents err.old err.new) result }
 {
     let notes = finished.notes.as_slice();
-    let messages = match told(alloc, notes, settings, source) {
+    let messages = match error_text(alloc, notes, settings, source) {
         Ok(messages) => messages,
         Err(_) => return End::NoMemory,
     };
-    if let Err(done) = write_text(messages.inner().as_slice(), err) {
+    if let Err(done) = err.write_all(messages.inner().as_slice()) {
         return End::WriteErr { done };
     }
     if halting(notes, settings).is_some() {
@@ -89,18 +89,4 @@ fn show<O: Write, E: Write>(
         Ok(()) => End::Done(status_of(finished.highest, settings)),
         Err(PrintFault::Write { done }) => End::WriteOut { done },
     }
-}
-
-/// Writes the text; an empty one makes no write. An `Err` says how many of its bytes the writer took.
-pub fn write_text<W: Write>(text: &[u8], out: &mut Counted<W>) -> Result<(), usize>
-    ensures { Puts (between W.contents out.old out.new) text.now result }
-{
-    let mut done = 0;
-    while done < text.len() {
-        match out.write(&text[done..]) {
-            None => return Err(done),
-            Some(n) => done += n,
-        }
-    }
-    Ok(())
 }

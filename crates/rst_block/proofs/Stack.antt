@@ -2,7 +2,7 @@
 use Rattle.std.proofs.Common.{◌≡◌, ℕ, ◌+◌, ◌-◌, ◌*◌, ◌<◌, ◌≤◌, ◌++◌, List, [], ◌∷◌, length, length-append, take, drop, map, Option, None, Some, arith, refl, ap, ◌∙◌}
 use Rattle.std.proofs.lemmas.List.{drop-append-le, take-append-le, map-append, length-map}
 use Rattle.rst_text.specs.Block.{Block}
-use Rattle.rst_text.specs.Shown.{portion_block}
+use Rattle.rst_text.specs.Shown.{placement_block}
 use Rattle.rst_markup_blocks.specs.declared.part.Part.{Part}
 use Rattle.rst_block.specs.Frames.{IsFrame, AreFrames, IsNow, HasSecond}
 use Rattle.rst_block.specs.Steps.{IsStep, IsNext, IsResumed}
@@ -25,7 +25,7 @@ parts_left (Some p) = 4
 
 -- what is left in a block that waits
 abbrev pub left : Block → Frame → ℕ
-left S f = 5 * (length (portion_block S f.portion) - f.level.at) + parts_left f.second
+left S f = 5 * (length (placement_block S f.placement) - f.level.at) + parts_left f.second
 
 -- all that is left where a text has n lines, there is room for so many blocks, and these wait
 abbrev pub all_left : ℕ → ℕ → Block → List Frame → ℕ → ℕ → Step → ℕ
@@ -80,7 +80,7 @@ stepped n room S fs B at to s h = goes_on n room S fs (length B) at (length B) t
 
 -- a block inside is opened
 pub opens : (n room : ℕ) (S : Block) (fs : List Frame) (B : Block) (at : ℕ) (s : Step) (f : Frame) (m : ℕ)
-    → length fs < room → portion_block S f.portion ≡ B → left S f < cost (length B) at s → m ≤ n
+    → length fs < room → placement_block S f.placement ≡ B → left S f < cost (length B) at s → m ≤ n
     → all_left n room S (fs ++ f ∷ []) m 0 Next < all_left n room S fs (length B) at s
 opens n room S fs B at s f m r e h i =
     rw (map-append (left S) fs (f ∷ [])) (more (5 * n + 6) room (map (left S) fs) (omega (arith, fewer S fs, r)) h (cost_of_begin n m i))

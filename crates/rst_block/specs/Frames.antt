@@ -1,7 +1,7 @@
 -- Blocks that wait for one inside them, and the block that is being read.
 use Rattle.std.specs.Prelude.{◌≡◌, ℕ, ◌^◌, ◌<◌, ◌≤◌, List, [], ◌∷◌, length, Option, None, Some}
 use Rattle.rst_text.specs.Block.{Block}
-use Rattle.rst_text.specs.Shown.{block_of, source_of, IsPortion, portion_block}
+use Rattle.rst_text.specs.Shown.{block_of, source_of, IsPlacement, placement_block}
 use Rattle.rst_markup_blocks.specs.Parts.{IsBlock}
 use Rattle.rst_markup_blocks.specs.declared.part.Part.{Part}
 use Rattle.rst_block.specs.Steps.{IsBlockIf, IsWaiting, IsResumed}
@@ -13,7 +13,7 @@ use Rattle.rst_block.specs.declared.step.Step.TheVariants.{Next, Open, Cells, Do
 
 -- a block of a text that waits: its parts are those of its lines
 abbrev pub IsFrame : Block → Frame → Type 0
-IsFrame S f = IsPortion S f.portion × (length (portion_block S f.portion) < 2 ^ 64) × IsBlockIf (portion_block S f.portion) f.second × IsWaiting (portion_block S f.portion) f.level.at f.waits
+IsFrame S f = IsPlacement S f.placement × (length (placement_block S f.placement) < 2 ^ 64) × IsBlockIf (placement_block S f.placement) f.second × IsWaiting (placement_block S f.placement) f.level.at f.waits
 
 -- all of them are
 abbrev pub AreFrames : Block → List Frame → Type 0
@@ -36,6 +36,6 @@ HasSecond None = ⊥
 -- goes on
 abbrev pub IsEnded : Block → Frame → ℕ → Ended → Type 0
 IsEnded S f to (Waiting g part) =
-    IsFrame S g × (g.portion ≡ f.portion) × (g.level.at ≡ f.level.at) × (g.second ≡ None) × HasSecond f.second
-    × (source_of part ≡ S) × (length (block_of part) ≤ length (portion_block S f.portion)) × (to ≡ 0)
-IsEnded S f to (GoesOn view s) = (source_of view ≡ S) × (block_of view ≡ portion_block S f.portion) × IsResumed (block_of view) f.level.at to s
+    IsFrame S g × (g.placement ≡ f.placement) × (g.level.at ≡ f.level.at) × (g.second ≡ None) × HasSecond f.second
+    × (source_of part ≡ S) × (length (block_of part) ≤ length (placement_block S f.placement)) × (to ≡ 0)
+IsEnded S f to (GoesOn view s) = (source_of view ≡ S) × (block_of view ≡ placement_block S f.placement) × IsResumed (block_of view) f.level.at to s

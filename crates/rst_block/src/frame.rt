@@ -1,9 +1,11 @@
 //! Blocks that wait for one inside them.
-ghost use Rattle.std.specs.Prelude.{◌≡◌, ◌+◌, ◌-◌, ◌*◌, ◌^◌, ◌<◌, ◌≤◌, length, IfOk};
-ghost use Rattle.rst_text.specs.Shown.{block_of, source_of, IsPortion, portion_block};
+ghost use Rattle.std.specs.Prelude.{◌≡◌, ◌+◌, ◌-◌, ◌*◌, ◌^◌, ◌<◌, ◌≤◌, [], length, IfOk};
+ghost use Rattle.rst_text.specs.Shown.{block_of, source_of, IsPlacement, placement_block};
 ghost use Rattle.rst_markup_blocks.specs.Parts.{IsBlock};
 ghost use Rattle.rst_block.specs.Steps as spec;
 ghost use Rattle.rst_block.specs.Frames as frames;
+ghost use Rattle.rst_block.specs.Meanings.{IsNew};
+ghost use Rattle.rst_block.specs.OpenBlocks.{IsPlaced};
 
 use super::fault::BlockFault;
 use super::open_block::OpenBlock;
@@ -13,7 +15,7 @@ use super::step::Step;
 use super::texts::Pass;
 use rst_block_sections::append;
 use rst_markup_blocks::Part;
-use rst_text::{Portion, View};
+use rst_text::{Placement, View};
 use rst_tree::Node;
 use std::alloc::Global;
 use std::default::MadeWith;
@@ -23,7 +25,7 @@ use std::mem;
 #[derive(Drop)]
 pub(crate) struct Frame {
     /// Where its lines stand in their text.
-    pub portion: Portion,
+    pub placement: Placement,
     pub level: OpenBlock,
     pub waits: Waits,
     /// The part of its lines that is read behind the one that is being read.
@@ -44,7 +46,7 @@ pub(crate) enum Ended<'a> {
 impl MadeWith<Global> for Frame {
     fn made_with(alloc: Global) -> Frame {
         Frame {
-            portion: Portion::none(),
+            placement: Placement::none(),
             level: OpenBlock::new(alloc, 0),
             waits: Waits::ListItem { line: 0 },
             second: None,
@@ -67,12 +69,17 @@ pub(crate) fn opened(
     requires waits { spec.IsWaiting (block_of view.now) level.old.at waits }
     requires short { length (block_of view.now) < 2 ^ 64 }
     ensures frame { frames.IsFrame (source_of view.now) result }
-    ensures block { portion_block (source_of view.now) result.portion ≡ block_of view.now }
+    ensures block { placement_block (source_of view.now) result.placement ≡ block_of view.now }
     ensures at { result.level.at ≡ level.old.at }
     ensures begin { level.new.at ≡ 0 }
+    ensures kept { result.level ≡ level.old }
+    ensures waits { (result.waits ≡ waits) × (result.second ≡ second) × (result.nodes.items ≡ []) }
+    ensures begun { IsNew level.new }
+    ensures placed { IsPlaced level.new }
+    ensures depth { level.new.depth ≡ depth }
 {
     Frame {
-        portion: view.portion(),
+        placement: view.placement(),
         level: mem::replace(level, OpenBlock::new(alloc, depth)),
         waits,
         second,
@@ -96,20 +103,20 @@ pub(crate) fn closed<'a>(
     ensures looks { IfOk result (λ _. pass.new.looks ≤ pass.old.looks + 2 ^ 90) }
 {
     let Frame {
-        portion,
+        placement,
         level: outer,
         waits,
         second,
         mut nodes,
     } = frame;
-    let view = whole.at(portion);
+    let view = whole.at(placement);
     let done = mem::replace(level, outer);
     append(&mut nodes, done.nodes)?;
     match second {
         Some(second) => {
             let part = inside(&view, second);
             let frame = Frame {
-                portion,
+                placement,
                 level: mem::replace(level, OpenBlock::new(alloc, depth)),
                 waits,
                 second: None,

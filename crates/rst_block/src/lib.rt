@@ -10,6 +10,7 @@ mod field;
 mod figure;
 mod frame;
 mod heading;
+pub mod laws;
 mod line;
 mod list;
 mod machine;

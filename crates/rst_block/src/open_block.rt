@@ -1,13 +1,17 @@
 //! A block that is being read.
-ghost use Rattle.std.specs.Prelude.{◌≡◌, ℕ, ◌+◌, ◌-◌, ◌*◌, ◌^◌, ◌<◌, ◌≤◌, length, drop, IfOk, IfSome};
+ghost use Rattle.std.specs.Prelude.{◌≡◌, ℕ, suc, ◌+◌, ◌-◌, ◌^◌, ◌<◌, ◌≤◌, ◌==◌, [], ◌∷◌, length, drop};
 ghost use Rattle.rst_text.specs.Shown.{block_of};
-ghost use Rattle.rst_markup_blocks.specs.Parts.{IsBlock, IsCall};
-ghost use Rattle.rst_block.specs.Steps as spec;
+ghost use Rattle.rst_block.specs.Meanings.{IsNew, deepest, joining_in, open_of};
+ghost use Rattle.rst_block.specs.OpenBlocks as spec;
+ghost use Rattle.rst_block.specs.Rest.{closed_run, no_run};
+ghost use Rattle.rst_block.specs.Texts.{warned};
 
 use super::fault::BlockFault;
 use super::run::{ListKind, OpenList, Run};
-use super::texts::{Pass, push, unindent};
+use super::texts::{Pass, number_at, push, unindent};
 use rst_block_sections::{Heading, append};
+use rst_markup_blocks::text_at;
+use rst_markup_lines::is_blank;
 use rst_text::View;
 use rst_tree::Node;
 use std::alloc::Global;
@@ -31,7 +35,10 @@ pub(crate) struct OpenBlock {
 impl OpenBlock {
     /// A block of which nothing was read.
     pub fn new(alloc: Global, depth: usize) -> OpenBlock
-        ensures { result.at ≡ 0 }
+        ensures at { result.at ≡ 0 }
+        ensures depth { result.depth ≡ depth }
+        ensures begun { IsNew result }
+        ensures placed { spec.IsPlaced result }
     {
         OpenBlock {
             depth,
@@ -43,7 +50,9 @@ impl OpenBlock {
     }
 
     /// Whether titles may stand in it.
-    pub fn titles(&self) -> bool {
+    pub fn titles(&self) -> bool
+        ensures { result ≡ self.now.depth == 0 }
+    {
         self.depth == 0
     }
 
@@ -52,27 +61,32 @@ impl OpenBlock {
         requires { self.old.at < 2 ^ 64 - 1 }
         ensures later { self.old.at < self.new.at }
         ensures within { (n : ℕ) → self.old.at < n → end ≤ n → self.new.at ≤ n }
+        ensures there { self.old.at < end → self.new.at ≡ end }
+        ensures moved { spec.IsMoved self.old self.new }
     {
         self.at = end.max(self.at + 1);
     }
 
     /// Puts a node behind the last.
     pub fn push(&mut self, node: Node) -> Result<(), BlockFault>
-        ensures { self.new.at ≡ self.old.at }
+        ensures at { self.new.at ≡ self.old.at }
+        ensures more { spec.Gives (λ _. spec.HasMore self.old self.new (node ∷ [])) result }
     {
-        push(&mut self.nodes, node)
+        Ok(push(&mut self.nodes, node)?)
     }
 
     /// Puts more nodes behind the last.
     pub fn append(&mut self, more: Vec<Node>) -> Result<(), BlockFault>
-        ensures { self.new.at ≡ self.old.at }
+        ensures at { self.new.at ≡ self.old.at }
+        ensures more { spec.Gives (λ _. spec.HasMore self.old self.new more.items) result }
     {
         Ok(append(&mut self.nodes, more)?)
     }
 
     /// Puts a title behind the last node.
     pub fn push_heading(&mut self, mut heading: Heading) -> Result<(), BlockFault>
-        ensures { self.new.at ≡ self.old.at }
+        ensures at { self.new.at ≡ self.old.at }
+        ensures title { spec.Gives (λ _. spec.HasTitle self.old self.new heading) result }
     {
         heading.before = self.nodes.len();
         self.headings.push(heading)?;
@@ -86,27 +100,25 @@ impl OpenBlock {
         view: &View<'_>,
         pass: &mut Pass,
     ) -> Result<(), BlockFault>
+        requires short { length (block_of view.now) < 2 ^ 64 }
+        requires few { pass.old.looks < 2 ^ 120 }
         ensures at { self.new.at ≡ self.old.at }
-        ensures looks { pass.new.looks ≡ pass.old.looks }
+        ensures closed { spec.Closes (closed_run (suc deepest - self.old.depth) (block_of view.now) (open_of self.old.run) pass.old.numbers) self.old self.new pass.new.numbers no_run result }
+        ensures looks { pass.new.looks ≤ pass.old.looks + 1 }
     {
-        if matches!(self.run, Run::None) {
-            return Ok(());
-        }
         let run = mem::replace(&mut self.run, Run::None);
         let ending = run.ending();
         run.put(alloc, &mut self.nodes, self.depth, pass)?;
-        if let Some((end, text)) = ending {
-            if end == self.at && self.at < view.len() {
-                self.nodes
-                    .push(unindent(alloc, view.number(self.at), text)?)?;
-            }
+        match ending {
+            Some((end, text)) => self.warn(alloc, view, end, text, pass),
+            None => Ok(()),
         }
-        Ok(())
     }
 
     /// Announces an item that ends at `end`: it joins the list that is open, which goes on as `kind`.
     pub fn join(&mut self, kind: ListKind, end: usize)
-        ensures { self.new.at ≡ self.old.at }
+        ensures at { self.new.at ≡ self.old.at }
+        ensures run { spec.HasRun self.old self.new (spec.joined_at (joining_in kind) end (open_of self.old.run)) }
     {
         if let Run::List(open) = &mut self.run {
             open.kind = kind;
@@ -122,7 +134,8 @@ impl OpenBlock {
         list: Node,
         end: usize,
     ) -> Result<(), BlockFault>
-        ensures { self.new.at ≡ self.old.at }
+        ensures at { self.new.at ≡ self.old.at }
+        ensures run { spec.Gives (λ _. spec.HasRun self.old self.new (spec.begun_at (joining_in kind) end list)) result }
     {
         let open = OpenList {
             kind,
@@ -138,11 +151,12 @@ impl OpenBlock {
 
     /// Puts an item into the open list; without one it is a node of its own.
     pub fn push_item(&mut self, item: Node) -> Result<(), BlockFault>
-        ensures { self.new.at ≡ self.old.at }
+        ensures at { self.new.at ≡ self.old.at }
+        ensures item { spec.Gives (λ _. spec.HasItem self.old self.new item) result }
     {
         match &mut self.run {
-            Run::List(open) => push(&mut open.items, item),
-            _ => push(&mut self.nodes, item),
+            Run::List(open) => Ok(push(&mut open.items, item)?),
+            _ => Ok(push(&mut self.nodes, item)?),
         }
     }
 
@@ -158,11 +172,13 @@ impl OpenBlock {
         requires short { length (block_of view.now) < 2 ^ 64 }
         requires few { pass.old.looks < 2 ^ 120 }
         ensures at { self.new.at ≡ self.old.at }
+        ensures more { spec.Gives (λ _. spec.HasMore self.old self.new (warned text.now (drop end (block_of view.now)))) result }
+        ensures numbers { pass.new.numbers ≡ pass.old.numbers }
         ensures looks { pass.new.looks ≤ pass.old.looks + 1 }
     {
-        if end < view.len() && !view.line(end, &mut pass.looks).is_empty() {
-            return self.push(unindent(alloc, view.number(end), text)?);
+        if is_blank(text_at(view, end, &mut pass.looks)) {
+            return Ok(());
         }
-        Ok(())
+        self.push(unindent(alloc, number_at(view, end), text)?)
     }
 }

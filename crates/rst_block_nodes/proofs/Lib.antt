@@ -1,4 +1,5 @@
 pub mod TextLemmas
+pub mod OptionLemmas
 pub mod HeadLemmas
 pub mod MessageLemmas
 pub mod ReadLemmas

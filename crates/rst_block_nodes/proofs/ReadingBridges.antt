@@ -1,5 +1,5 @@
 -- What is read of a text is what the functions of the text give.
-use Rattle.std.proofs.Common.{◌≡◌, ℕ, List, [], map, length, ap, ◌∙◌}
+use Rattle.std.proofs.Common.{◌≡◌, ℕ, List, [], map, length, Ok, ap, ap₂, sym, ◌∙◌}
 use Rattle.rst_inline_scan.specs.Pieces.{IsPieces}
 use Rattle.rst_inline_scan.specs.Reading.{pieces_of}
 use Rattle.rst_inline_scan.specs.declared.piece.Piece.{Piece}
@@ -12,10 +12,10 @@ use Rattle.rst_block_nodes.specs.declared.terms.Heads.{Heads}
 use Rattle.rst_block_nodes.specs.declared.texted.Reading.{Reading}
 use Rattle.rst_block_nodes.specs.declared.texted.Texted.{Texted}
 use Rattle.rst_block_nodes.specs.Elements.{element_of}
-use Rattle.rst_block_nodes.specs.Readings.{read_nodes, read_notes, texted_node, term_nodes}
+use Rattle.rst_block_nodes.specs.Readings.{read_nodes, read_notes, texted_node, term_nodes, texted, termed}
 use Rattle.rst_block_nodes.specs.Results.{HoldsText, HeadsText, ReadsText}
 use Rattle.rst_block_nodes.specs.Terms.{texts_of, groups_of, heads_of}
-use Rattle.rst_block_nodes.specs.Texts.{counting, messages_from, numbered_on}
+use Rattle.rst_block_nodes.specs.Texts.{counted_on, counting, messages_from, numbered_on}
 
 pieces_are : (t : List ℕ) (ps : List Piece) → IsPieces t 0 ps → ps ≡ pieces_of t
 pieces_are t ps h = IsPieces-unique t 0 ps (pieces_of t) h (pieces_of-pieces t)
@@ -47,3 +47,18 @@ termed-is t line first made h =
           ∙ ap (λ (ps : List Piece). heads_of (length (read_notes t line first)) line (groups_of (texts_of t ps) (read_nodes t line first))) (pieces_are t h.0 h.2),
       h.4.notes ∙ r.1,
     )
+
+-- the same with the number of the next message
+pub texted_read : (tag : Tag) (line : ℕ) (t : List ℕ) (text_line first next : ℕ) (made : Texted) → HoldsText tag line t text_line first made → next ≡ counted_on first (length made.notes.items)
+    → texted tag line t text_line first ≡ Ok ((made.element, made.notes.items), next)
+texted_read tag line t text_line first next made h counted =
+    let is = texted-is tag line t text_line first made h in
+    ap₂ (λ (e : Node) (ns : List Node). Ok ((e, ns), counted_on first (length ns))) (sym is.0) (sym is.1)
+    ∙ ap (λ (n : ℕ). Ok ((made.element, made.notes.items), n)) (sym counted)
+
+pub termed_read : (t : List ℕ) (line first next : ℕ) (made : Heads) → HeadsText t line first made → next ≡ counted_on first (length made.notes.items)
+    → termed t line first ≡ Ok ((made.heads.items, made.notes.items), next)
+termed_read t line first next made h counted =
+    let is = termed-is t line first made h in
+    ap₂ (λ (es ns : List Node). Ok ((es, ns), counted_on first (length ns))) (sym is.0) (sym is.1)
+    ∙ ap (λ (n : ℕ). Ok ((made.heads.items, made.notes.items), n)) (sym counted)

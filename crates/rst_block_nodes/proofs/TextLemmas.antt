@@ -1,5 +1,5 @@
 -- Characters and the texts that they spell.
-use Rattle.std.proofs.Common.{◌≡◌, ℕ, List, sym, ap, ◌∙◌}
+use Rattle.std.proofs.Common.{◌≡◌, ℕ, List, [], ◌∷◌, map, refl, sym, ap, ap₂, ◌∙◌}
 use Rattle.std.specs.Prelude.{string_bytes, encode_utf8_all}
 use Rattle.std.specs.declared.string.String.{String}
 use Rattle.std.proofs.lemmas.Str.{encodes-chars, IsUtf8-string_bytes}
@@ -12,3 +12,8 @@ bytes_of_chars s cs e = sym (encodes-chars (string_bytes s) (IsUtf8-string_bytes
 -- a text is the bytes of its characters
 pub bytes_encoded : {A : Type 0} (s : String A) → string_bytes s ≡ encode_utf8_all (chars_of s)
 bytes_encoded s = sym (encodes-chars (string_bytes s) (IsUtf8-string_bytes s))
+
+-- texts are the bytes of their characters
+pub listed_bytes : {A : Type 0} (texts : List (String A)) → map string_bytes texts ≡ map encode_utf8_all (map chars_of texts)
+listed_bytes [] = refl
+listed_bytes (s ∷ texts) = ap₂ (λ (t : List ℕ) (ts : List (List ℕ)). t ∷ ts) (bytes_encoded s) (listed_bytes texts)

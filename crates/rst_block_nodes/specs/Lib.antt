@@ -4,8 +4,8 @@ pub mod Texts
 pub mod Results
 pub mod Targets
 pub mod Admonitions
-pub mod LineBlocks
 pub mod Options
 pub mod Terms
+pub mod Numbered
 pub mod Readings
-pub mod Choices
+pub mod LineBlocks

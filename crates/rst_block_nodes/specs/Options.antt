@@ -1,5 +1,5 @@
 -- What the options of directives say of elements (Directives, 'Common Options', 'Image', 'Figure', 'Code').
-use Rattle.std.specs.Prelude.{ℕ, Bool, true, false, List, [], ◌∷◌, ◌++◌, codes, Option, Some, None, string_bytes, encode_utf8_all}
+use Rattle.std.specs.Prelude.{ℕ, Bool, true, false, List, [], ◌∷◌, ◌++◌, map, codes, Option, Some, None, encode_utf8_all}
 use Rattle.rst_text.specs.Names.{name_of, normalized_white}
 use Rattle.rst_tree.specs.Attributes.{attr, value_of, with_attr, without_key}
 use Rattle.rst_tree.specs.Forest.{bare}
@@ -7,25 +7,23 @@ use Rattle.rst_tree.specs.declared.attrs.Attr.{Attr}
 use Rattle.rst_tree.specs.declared.attrs.Value.{Value}
 use Rattle.rst_tree.specs.declared.attrs.Value.TheVariants.{Text as Said, Number, List as Listed}
 use Rattle.rst_tree.specs.declared.key.Key.{Key}
-use Rattle.rst_tree.specs.declared.key.Key.TheVariants.{Align, Alt, Classes, Height, Name, OwnName, Rawsource, Refname, Refuri, Scale, Uri, Width, XmlSpace}
+use Rattle.rst_tree.specs.declared.key.Key.TheVariants.{Align, Alt, Classes, Height, Name, OwnName, Rawsource, Refname, Refuri, Scale, Uri, Width}
 use Rattle.rst_tree.specs.declared.node.Node.{Node}
 use Rattle.rst_tree.specs.declared.node.Node.TheVariants.{Element}
 use Rattle.rst_tree.specs.declared.tag.Tag.{Tag}
 use Rattle.rst_tree.specs.declared.tag.Tag.TheVariants.{Admonition as AdmonitionTag, Attention as AttentionTag, Caution as CautionTag, Danger as DangerTag, Error as ErrorTag, Figure as FigureTag, Hint as HintTag, Image as ImageTag, Important as ImportantTag, LiteralBlock, Note as NoteTag, Paragraph, Reference, Tip as TipTag, Topic as TopicTag, Warning as WarningTag}
-use Rattle.rst_markup_directives.specs.Target.{Destination, named, located, destination_of}
+use Rattle.rst_markup_directives.specs.Options.{Choice}
+use Rattle.rst_markup_directives.specs.Target.{Destination, named, located}
+use Rattle.rst_markup_directives.specs.Value.{Meaning, plain, measured, numbered, placed, classed, linked, called}
 use Rattle.rst_markup_directives.specs.declared.measure.Alignment.{Alignment}
 use Rattle.rst_markup_directives.specs.declared.measure.Alignment.TheVariants.{Top, Middle, Bottom, Left, Center, Right}
 use Rattle.rst_markup_directives.specs.declared.name.Name.{Name as Directive}
 use Rattle.rst_markup_directives.specs.declared.name.Name.TheVariants.{Attention, Caution, Danger, Error, Hint, Important, Note, Tip, Warning, Admonition, Topic, Image as ImageName, Figure as FigureName, Replace, Code}
 use Rattle.rst_markup_directives.specs.declared.option.OptionName.{OptionName}
 use Rattle.rst_markup_directives.specs.declared.option.OptionName.TheVariants.{Alt as AltOption, Height as HeightOption, Width as WidthOption, Scale as ScaleOption, Align as AlignOption, Class as ClassOption, Name as NameOption, FigureWidth, FigureClass}
-use Rattle.rst_markup_directives.specs.declared.options.Setting.{Setting}
-use Rattle.rst_markup_directives.specs.declared.value.OptionValue.{OptionValue}
-use Rattle.rst_markup_directives.specs.declared.value.OptionValue.TheVariants.{Text as TextValue, Measure, Number as NumberValue, Place, Classes as ClassesValue, Link, Name as NameValue}
 use Rattle.rst_block_nodes.specs.declared.settings.Holder.{Holder}
 use Rattle.rst_block_nodes.specs.declared.settings.Holder.TheVariants.{Image, FigureImage, Figure, Body}
-use Rattle.rst_block_nodes.specs.Elements.{element_of, text_nodes}
-use Rattle.rst_block_nodes.specs.Values.{listed}
+use Rattle.rst_block_nodes.specs.Elements.{element_of, preserving, text_nodes}
 
 -- ---- options as attributes
 
@@ -69,31 +67,31 @@ alignment_name Left = codes "left"
 alignment_name Center = codes "center"
 alignment_name Right = codes "right"
 
--- an option's value as that of an attribute
-abbrev pub value_in : OptionValue → Value
-value_in (TextValue text) = Said (string_bytes text)
-value_in (Measure measure) = Said (string_bytes measure)
-value_in (NumberValue number) = Number number
-value_in (Place alignment) = Said (alignment_name alignment)
-value_in (ClassesValue classes) = listed classes.items
-value_in (Link to source) = Said (string_bytes source)
-value_in (NameValue name) = Said (string_bytes name)
+-- the meaning of an option's value as the value of an attribute
+abbrev pub value_meant : Meaning → Value
+value_meant (plain text) = Said (encode_utf8_all text)
+value_meant (measured text) = Said (encode_utf8_all text)
+value_meant (numbered n) = Number n
+value_meant (placed alignment) = Said (alignment_name alignment)
+value_meant (classed ids) = Listed (map encode_utf8_all ids)
+value_meant (linked to source) = Said (encode_utf8_all source)
+value_meant (called name) = Said (encode_utf8_all name)
 
 -- attributes with a value, if there is a key for it
 abbrev pub with_value_at : Option Key → Value → List Attr → List Attr
 with_value_at (Some key) value attrs = with_attr key value attrs
 with_value_at None value attrs = attrs
 
--- the attributes with those that options give, one after the other
-abbrev pub with_options : Holder → List Setting → List Attr → List Attr
-with_options holder [] attrs = attrs
-with_options holder (s ∷ more) attrs = with_options holder more (with_value_at (option_key holder s.option) (value_in s.value) attrs)
+-- attributes with those that the choices of options give, one after the other
+abbrev pub with_choices : Holder → List Choice → List Attr → List Attr
+with_choices holder [] attrs = attrs
+with_choices holder (ch ∷ more) attrs = with_choices holder more (with_value_at (option_key holder ch.0) (value_meant ch.1) attrs)
 
 -- ---- figures, admonitions and topics
 
--- a figure with the attributes of its options, which holds nothing yet
-abbrev pub figure_node : List Setting → ℕ → Node
-figure_node options line = Element FigureTag (with_options Figure options []) bare line
+-- a figure, which holds nothing yet
+abbrev pub figure_element : List Choice → ℕ → Node
+figure_element choices line = Element FigureTag (with_choices Figure choices []) bare line
 
 -- the element that a directive makes
 abbrev pub tag_of : Directive → Tag
@@ -113,9 +111,9 @@ tag_of FigureName = FigureTag
 tag_of Replace = Paragraph
 tag_of Code = LiteralBlock
 
--- a directive's element with the attributes of its options, which holds nothing yet
-abbrev pub directive_node : Directive → List Setting → ℕ → Node
-directive_node name options line = Element (tag_of name) (with_options Body options []) bare line
+-- the element of a directive with a body, which holds nothing yet
+abbrev pub directive_element : Directive → List Choice → ℕ → Node
+directive_element name choices line = Element (tag_of name) (with_choices Body choices []) bare line
 
 -- ---- program code
 
@@ -133,10 +131,9 @@ code_classes language _ = Listed (language_classes language)
 abbrev pub code_attrs : Option (List ℕ) → List Attr → List Attr
 code_attrs language attrs = with_attr Classes (code_classes language (value_of Classes attrs)) (without_key Classes attrs)
 
--- program code, a literal block with the classes of its language and the attributes of its options
-abbrev pub code_node : Option (List ℕ) → List Setting → List ℕ → ℕ → Node
-code_node language options text line =
-    element_of LiteralBlock (code_attrs language (with_options Body options (attr XmlSpace (Said (codes "preserve")) ∷ []))) (text_nodes text) line
+-- program code, in a language if one is given: a literal block
+abbrev pub code_element : Option (List ℕ) → List Choice → List ℕ → ℕ → Node
+code_element language choices text line = element_of LiteralBlock (code_attrs language (with_choices Body choices preserving)) (text_nodes text) line
 
 -- ---- images
 
@@ -150,10 +147,10 @@ abbrev pub image_holder : Bool → Holder
 image_holder true = FigureImage
 image_holder false = Image
 
--- the image by itself
-abbrev pub image_node : List ℕ → List Setting → ℕ → Bool → Option (List ℕ) → Node
-image_node uri options line in_figure alt =
-    Element ImageTag (with_options (image_holder in_figure) options (with_alt alt (attr Uri (Said uri) ∷ []))) bare line
+-- the image by itself, with an alternate text unless the choices have one
+abbrev pub image_node : List ℕ → List Choice → ℕ → Bool → Option (List ℕ) → Node
+image_node uri choices line in_figure alt =
+    Element ImageTag (with_choices (image_holder in_figure) choices (with_alt alt (attr Uri (Said uri) ∷ []))) bare line
 
 -- the attributes of a reference to a name, or to a URI, which also says its source
 abbrev pub link_attrs : Destination → List ℕ → List Attr
@@ -165,26 +162,26 @@ link_attrs (located uri) source = attr Rawsource (Said source) ∷ attr Refuri (
 abbrev pub linked_node : Node → Destination → List ℕ → ℕ → Node
 linked_node image to source line = element_of Reference (link_attrs to source) (image ∷ []) line
 
--- where an option's value leads, if it leads anywhere, with its source
-abbrev pub link_in : OptionValue → Option (Destination × List ℕ)
-link_in (Link to source) = Some (destination_of to, string_bytes source)
-link_in _ = None
+-- what a choice refers to, with its source, if it is a `target`
+abbrev pub link_meant : Meaning → Option (Destination × List ℕ)
+link_meant (linked to source) = Some (to, encode_utf8_all source)
+link_meant _ = None
 
 -- the first of two links, or the second where the first is missing
 abbrev pub first_link : Option (Destination × List ℕ) → Option (Destination × List ℕ) → Option (Destination × List ℕ)
 first_link (Some link) more = Some link
 first_link None more = more
 
--- what an option leads to
-abbrev pub link_of : List Setting → Option (Destination × List ℕ)
-link_of [] = None
-link_of (s ∷ more) = first_link (link_in s.value) (link_of more)
+-- what the first `target` among choices refers to
+abbrev pub link_chosen : List Choice → Option (Destination × List ℕ)
+link_chosen [] = None
+link_chosen (ch ∷ more) = first_link (link_meant ch.1) (link_chosen more)
 
 -- an image, with the reference round it, if it leads anywhere
 abbrev pub linked_by : Option (Destination × List ℕ) → Node → ℕ → Node
 linked_by (Some (to, source)) image line = linked_node image to source line
 linked_by None image line = image
 
--- an image with the attributes of its options, and the reference round it, if they lead anywhere
-abbrev pub whole_image : List ℕ → List Setting → ℕ → Bool → Option (List ℕ) → Node
-whole_image uri options line in_figure alt = linked_by (link_of options) (image_node uri options line in_figure alt) line
+-- an image, in a figure or not, with an alternate text unless the choices have one; it is in a reference if they have a `target`
+abbrev pub image_element : List ℕ → List Choice → ℕ → Bool → Option (List ℕ) → Node
+image_element uri choices line in_figure alt = linked_by (link_chosen choices) (image_node uri choices line in_figure alt) line

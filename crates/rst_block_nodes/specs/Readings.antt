@@ -1,6 +1,6 @@
 -- The nodes of a text with inline markup, and the messages on it, as functions of the text (Markup Specification, 'Inline Markup',
 -- 'Definition Lists').
-use Rattle.std.specs.Prelude.{◌≡◌, ℕ, List, [], map, length}
+use Rattle.std.specs.Prelude.{◌≡◌, ℕ, List, [], map, length, Ok}
 use Rattle.rst_tree.specs.declared.node.Node.{Node}
 use Rattle.rst_tree.specs.declared.tag.Tag.{Tag}
 use Rattle.rst_inline_scan.specs.Reading.{pieces_of}
@@ -8,9 +8,10 @@ use Rattle.rst_inline.specs.Results.{nodes_behind, notes_of}
 use Rattle.rst_block_nodes.specs.declared.terms.Heads.{Heads}
 use Rattle.rst_block_nodes.specs.declared.texted.Texted.{Texted}
 use Rattle.rst_block_nodes.specs.Elements.{element_of}
+use Rattle.rst_block_nodes.specs.Numbered.{Numbered}
 use Rattle.rst_block_nodes.specs.Results.{HoldsText, HeadsText}
 use Rattle.rst_block_nodes.specs.Terms.{texts_of, groups_of, heads_of}
-use Rattle.rst_block_nodes.specs.Texts.{counting, messages_from, numbered_on}
+use Rattle.rst_block_nodes.specs.Texts.{counted_on, counting, messages_from, numbered_on}
 
 -- the nodes of a text, where the messages on it are numbered from `first` on
 abbrev pub read_nodes : List ℕ → ℕ → ℕ → List Node
@@ -27,6 +28,18 @@ texted_node tag line t text_line first = element_of tag (counting (length (read_
 -- the elements of a term and of its classifiers, which are the parts of one text
 abbrev pub term_nodes : List ℕ → ℕ → ℕ → List Node
 term_nodes t line first = heads_of (length (read_notes t line first)) line (groups_of (texts_of t (pieces_of t)) (read_nodes t line first))
+
+-- an element of this line that holds a text, whose first line is `text_line`, and the messages on the text, which have that line's number
+abbrev pub texted : Tag → ℕ → List ℕ → ℕ → Numbered (Node × List Node)
+texted tag line t text_line = λ number.
+    let notes = read_notes t text_line number in
+    Ok ((texted_node tag line t text_line number, notes), counted_on number (length notes))
+
+-- the elements of a term and of its classifiers, and the messages on their text
+abbrev pub termed : List ℕ → ℕ → Numbered (List Node × List Node)
+termed t line = λ number.
+    let notes = read_notes t line number in
+    Ok ((term_nodes t line number, notes), counted_on number (length notes))
 
 -- ---- laws
 

@@ -2,7 +2,8 @@
 ghost use Rattle.std.specs.Prelude.{◌≡◌, ◌++◌, option_map};
 ghost use Rattle.rst_tree.specs.Faults.{Gives};
 ghost use Rattle.rst_block_nodes.specs.Admonitions.{title_class, with_class, with_title_class};
-ghost use Rattle.rst_block_nodes.specs.Options.{tag_of, directive_node, code_node, code_classes, language_classes};
+ghost use Rattle.rst_markup_directives.specs.Options.{choices_in};
+ghost use Rattle.rst_block_nodes.specs.Options.{tag_of, directive_element, code_element, code_classes, language_classes};
 
 use super::nodes::{element_of, preserving, text_nodes};
 use super::settings::{Holder, set_options};
@@ -44,7 +45,7 @@ pub fn directive_element(
     options: &[Setting],
     line: usize,
 ) -> Result<Node, TreeFault>
-    ensures { Gives (λ node. node ≡ directive_node name options.now line) result }
+    ensures { Gives (λ node. node ≡ directive_element name (choices_in options.now) line) result }
 {
     let mut attrs = Attrs::new(alloc);
     set_options(alloc, &mut attrs, Holder::Body, options)?;
@@ -113,7 +114,7 @@ pub fn code_block(
     text: &str,
     line: usize,
 ) -> Result<Node, TreeFault>
-    ensures { Gives (λ node. node ≡ code_node (option_map (λ word. word.now) language.entry) options.now text.now line) result }
+    ensures { Gives (λ node. node ≡ code_element (option_map (λ word. word.now) language.entry) (choices_in options.now) text.now line) result }
 {
     let mut attrs = preserving(alloc)?;
     set_options(alloc, &mut attrs, Holder::Body, options)?;

@@ -3,8 +3,9 @@ ghost use Rattle.std.specs.Prelude.{◌≡◌, ◌∷◌, [], option_map};
 ghost use Rattle.rst_tree.specs.Faults.{Gives};
 ghost use Rattle.rst_tree.specs.Attributes.{attr};
 ghost use Rattle.rst_tree.specs.declared.attrs.Value.TheVariants.{Text as Said};
+ghost use Rattle.rst_markup_directives.specs.Options.{choices_in};
 ghost use Rattle.rst_markup_directives.specs.Target.{destination_of};
-ghost use Rattle.rst_block_nodes.specs.Options.{whole_image, image_node, with_alt, image_holder, link_of, linked_node, link_attrs, figure_node};
+ghost use Rattle.rst_block_nodes.specs.Options.{image_element, image_node, with_alt, image_holder, link_chosen, linked_node, link_attrs, figure_element};
 
 use super::nodes::element_of;
 use super::settings::{Holder, set_options};
@@ -25,7 +26,7 @@ pub fn image(
     in_figure: bool,
     alt: Option<&str>,
 ) -> Result<Node, TreeFault>
-    ensures { Gives (λ node. node ≡ whole_image uri.now options.now line in_figure (option_map (λ text. text.now) alt.entry)) result }
+    ensures { Gives (λ node. node ≡ image_element uri.now (choices_in options.now) line in_figure (option_map (λ text. text.now) alt.entry)) result }
 {
     let image = image_alone(alloc, uri, options, line, in_figure, alt)?;
     match link_of(options) {
@@ -43,7 +44,7 @@ fn image_alone(
     in_figure: bool,
     alt: Option<&str>,
 ) -> Result<Node, TreeFault>
-    ensures { Gives (λ node. node ≡ image_node uri.now options.now line in_figure (option_map (λ text. text.now) alt.entry)) result }
+    ensures { Gives (λ node. node ≡ image_node uri.now (choices_in options.now) line in_figure (option_map (λ text. text.now) alt.entry)) result }
 {
     let mut attrs = uri_and_alt(alloc, uri, alt)?;
     set_options(alloc, &mut attrs, image_holder(in_figure), options)?;
@@ -77,7 +78,7 @@ fn image_holder(in_figure: bool) -> Holder
 
 /// What an option `target` leads to, and the text that it is written with.
 fn link_of(options: &[Setting]) -> Option<(&Target, &str)>
-    ensures { option_map (λ link. (destination_of link.0.now, link.1.now)) result ≡ link_of options.now }
+    ensures { option_map (λ link. (destination_of link.0.now, link.1.now)) result ≡ link_chosen (choices_in options.now) }
 {
     for setting in options {
         if let OptionValue::Link { to, source } = &setting.value {
@@ -128,7 +129,7 @@ fn link_attrs(alloc: Global, to: &Target, source: &str) -> Result<Attrs, TreeFau
 ///
 /// The only refusal is [`TreeFault::NoMemory`].
 pub fn figure(alloc: Global, options: &[Setting], line: usize) -> Result<Node, TreeFault>
-    ensures { Gives (λ node. node ≡ figure_node options.now line) result }
+    ensures { Gives (λ node. node ≡ figure_element (choices_in options.now) line) result }
 {
     let mut attrs = Attrs::new(alloc);
     set_options(alloc, &mut attrs, Holder::Figure, options)?;

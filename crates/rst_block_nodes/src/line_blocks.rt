@@ -1,11 +1,9 @@
 //! Line blocks.
-ghost use Rattle.std.specs.Prelude.{◌≡◌, ◌≤◌, ◌-◌, suc, length, string_bytes};
-ghost use Rattle.std.specs.Str.{chars};
-ghost use Rattle.rst_tree.specs.declared.tag.Tag.TheVariants.{Line};
+ghost use Rattle.std.specs.Prelude.{◌≡◌, ◌≤◌, ◌-◌, suc, length, Ok};
 ghost use Rattle.rst_tree.specs.Faults.{Gives};
-ghost use Rattle.rst_block_nodes.specs.Results.{HoldsText};
-ghost use Rattle.rst_block_nodes.specs.Texts.{counted_on};
-ghost use Rattle.rst_block_nodes.specs.LineBlocks.{Makes, Blocks, indented, first_line, least_indent, deeper_len};
+ghost use Rattle.rst_tree.specs.declared.tag.Tag.TheVariants.{Line};
+ghost use Rattle.rst_block_nodes.specs.Readings.{texted};
+ghost use Rattle.rst_block_nodes.specs.LineBlocks.{Makes, line_block, indented, first_line, least_indent, deeper_len};
 ghost use Rattle.rst_block_nodes.specs.declared.line_blocks.LineBlockFault.TheVariants.{NoMemory};
 
 use super::nodes::element_of;
@@ -13,6 +11,7 @@ use super::numbers::Numbers;
 use super::texted::{Texted, with_text};
 use rst_tree::{Attrs, Tag, TreeFault};
 use std::alloc::{AllocError, AllocFailed, Global};
+use std::marker::Model;
 use thiserror::Error;
 
 /// A line of a line block: how deep it is indented behind its bar (none where nothing stands behind the bar), the number of
@@ -60,13 +59,53 @@ impl From<TreeFault> for LineBlockFault {
     }
 }
 
-/// A line with the indentation that it counts with.
+/// A line with the indentation that it counts with. Contracts see its text as characters.
 #[derive(Drop)]
 struct IndentedText {
     indent: usize,
     line: usize,
     text_line: usize,
     text: String,
+}
+
+impl Model for IndentedText {
+    ghost use Rattle.std.specs.Prelude.{string_bytes};
+    ghost use Rattle.std.specs.Str.{chars};
+    ghost use Rattle.rst_block_nodes.specs.LineBlocks.{IndentedLine};
+
+    ghost Value = { IndentedLine };
+
+    ghost view = { λ l. record { indent = l.indent; line = l.line; text_line = l.text_line; text = chars (string_bytes l.text) } };
+}
+
+impl IndentedText {
+    ghost use Rattle.rst_block_nodes.specs.LineBlocks.{indented_by};
+
+    /// A line that has this indentation.
+    fn of(indent: usize, bar: BarText) -> IndentedText
+        ensures { result ≡ indented_by indent bar }
+    {
+        IndentedText {
+            indent,
+            line: bar.line,
+            text_line: bar.text_line,
+            text: bar.text,
+        }
+    }
+
+    /// The indentation.
+    fn indent(&self) -> usize
+        ensures { result ≡ self.now.indent }
+    {
+        self.indent
+    }
+
+    /// The number of the line with the bar.
+    fn line(&self) -> usize
+        ensures { result ≡ self.now.line }
+    {
+        self.line
+    }
 }
 
 /// The line block of some lines, of a level of nesting (Markup Specification, 'Line Blocks'), and the messages of their
@@ -82,8 +121,7 @@ pub fn line_block(
     deepest: usize,
     numbers: &mut Numbers,
 ) -> Result<Texted, LineBlockFault>
-    ensures text { Blocks (suc deepest - level) numbers.old (indented lines.items) result }
-    ensures numbers { Makes (λ block. numbers.new ≡ counted_on numbers.old (length block.notes.items)) result }
+    ensures { Makes (line_block (suc deepest - level) (indented lines.items) numbers.old) numbers.new result }
 {
     let lines = indented(alloc, lines)?;
     if deepest < level {
@@ -102,12 +140,7 @@ fn indented(alloc: Global, lines: Vec<BarText>) -> Result<Vec<IndentedText>, Tre
     let mut last = 0;
     for bar in lines {
         last = bar.indent.unwrap_or(last);
-        texts.push(IndentedText {
-            indent: last,
-            line: bar.line,
-            text_line: bar.text_line,
-            text: bar.text,
-        })?;
+        texts.push(IndentedText::of(last, bar))?;
     }
     Ok(texts)
 }
@@ -117,7 +150,7 @@ fn first_line(lines: &[IndentedText]) -> usize
     ensures { result ≡ first_line lines.now }
 {
     match lines.first() {
-        Some(first) => first.line,
+        Some(first) => first.line(),
         None => 0,
     }
 }
@@ -129,9 +162,9 @@ fn least_indent(lines: &[IndentedText]) -> usize
     let Some(first) = lines.first() else {
         return 0;
     };
-    let mut least = first.indent;
+    let mut least = first.indent();
     for line in lines {
-        least = least.min(line.indent);
+        least = least.min(line.indent());
     }
     least
 }
@@ -142,7 +175,7 @@ fn deeper_len(lines: &[IndentedText], least: usize) -> usize
     ensures within { result ≤ length lines.now }
 {
     for (i, line) in lines.iter().enumerate() {
-        if line.indent <= least {
+        if line.indent() <= least {
             return i;
         }
     }
@@ -158,8 +191,7 @@ fn block_of(
     levels: usize,
     numbers: &mut Numbers,
 ) -> Result<Texted, LineBlockFault>
-    ensures text { Blocks (suc levels) numbers.old lines.now result }
-    ensures numbers { Makes (λ block. numbers.new ≡ counted_on numbers.old (length block.notes.items)) result }
+    ensures { Makes (line_block (suc levels) lines.now numbers.old) numbers.new result }
 {
     numbers.within_u64();
     let least = least_indent(lines);
@@ -177,7 +209,7 @@ fn block_of(
         }
         if levels == 0 {
             return Err(LineBlockFault::TooDeep {
-                line: lines[place].line,
+                line: lines[place].line(),
             });
         }
         let inner = &lines[place..place + run];
@@ -193,8 +225,7 @@ fn block_of(
 
 /// A line, and the messages of its text.
 fn line_of(alloc: Global, line: &IndentedText, numbers: &mut Numbers) -> Result<Texted, TreeFault>
-    ensures text { Gives (HoldsText Line line.now.line (chars (string_bytes line.now.text)) line.now.text_line numbers.old) result }
-    ensures numbers { Gives (λ made. numbers.new ≡ counted_on numbers.old (length made.notes.items)) result }
+    ensures { Gives (λ made. texted Line line.now.line line.now.text line.now.text_line numbers.old ≡ Ok ((made.element, made.notes.items), numbers.new)) result }
 {
     let text = line.text.as_str();
     with_text(alloc, Tag::Line, line.line, text, line.text_line, numbers)

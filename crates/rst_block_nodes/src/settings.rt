@@ -1,7 +1,9 @@
 //! The attributes that the options of directives give.
 ghost use Rattle.std.specs.Prelude.{◌≡◌};
 ghost use Rattle.rst_tree.specs.Faults.{Gives};
-ghost use Rattle.rst_block_nodes.specs.Options.{with_options, value_in, alignment_name};
+ghost use Rattle.rst_markup_directives.specs.Options.{choices_in};
+ghost use Rattle.rst_markup_directives.specs.Value.{meaning_of};
+ghost use Rattle.rst_block_nodes.specs.Options.{with_choices, value_meant, alignment_name};
 
 use super::values::{listed, said};
 use rst_markup_directives::{Alignment, OptionName, OptionValue, Setting};
@@ -53,7 +55,7 @@ pub(crate) fn set_options(
     holder: Holder,
     options: &[Setting],
 ) -> Result<(), TreeFault>
-    ensures { Gives (λ _. attrs.new ≡ with_options holder options.now attrs.old) result }
+    ensures { Gives (λ _. attrs.new ≡ with_choices holder (choices_in options.now) attrs.old) result }
 {
     for setting in options {
         if let Some(key) = holder.key(setting.option) {
@@ -64,8 +66,9 @@ pub(crate) fn set_options(
 }
 
 /// What the value of an option says as the value of an attribute: of a target, the text that it is written with.
+#[tactic(auto, using(crate::proofs::TextLemmas::bytes_encoded, crate::proofs::TextLemmas::listed_bytes))]
 fn value_of(alloc: Global, value: &OptionValue) -> Result<Value, TreeFault>
-    ensures { Gives (λ said. said ≡ value_in value.now) result }
+    ensures { Gives (λ said. said ≡ value_meant (meaning_of value.now)) result }
 {
     match value {
         OptionValue::Text(text) => said(alloc, text.as_str()),

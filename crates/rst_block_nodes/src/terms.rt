@@ -1,8 +1,9 @@
 //! Terms of definition lists, with their classifiers.
-ghost use Rattle.std.specs.Prelude.{◌≡◌, ◌≤◌, false, List, [], ◌∷◌, map, length, IfOk};
+ghost use Rattle.std.specs.Prelude.{◌≡◌, ◌≤◌, false, List, [], ◌∷◌, map, length, IfOk, Ok};
 ghost use Rattle.std.specs.Str.{chars};
 ghost use Rattle.rst_tree.specs.Faults.{Gives};
 ghost use Rattle.rst_inline.specs.Parts.{part};
+ghost use Rattle.rst_block_nodes.specs.Readings.{termed};
 ghost use Rattle.rst_block_nodes.specs.Results.{HeadsText};
 ghost use Rattle.rst_block_nodes.specs.Texts.{counted_on};
 ghost use Rattle.rst_block_nodes.specs.Terms.{IsPut, groups_of, heads_behind, heads_of, texts_of, letters_from, parts_of, is_bare, is_delimiter, begins_with_space, ends_in_space, dark_len, spelled};
@@ -35,6 +36,7 @@ pub fn term_and_classifiers(
 ) -> Result<Heads, TreeFault>
     ensures text { Gives (HeadsText (chars text.now) line numbers.old) result }
     ensures numbers { Gives (λ made. numbers.new ≡ counted_on numbers.old (length made.notes.items)) result }
+    ensures read { Gives (λ made. termed (chars text.now) line numbers.old ≡ Ok ((made.heads.items, made.notes.items), numbers.new)) result }
 {
     let characters = characters_of(alloc, text)?;
     let pieces = pieces_of(alloc, &characters)?;

@@ -1,8 +1,9 @@
 //! Elements that hold a text with inline markup.
-ghost use Rattle.std.specs.Prelude.{◌≡◌, map, length};
+ghost use Rattle.std.specs.Prelude.{◌≡◌, map, length, Ok};
 ghost use Rattle.std.specs.Str.{chars};
 ghost use Rattle.rst_tree.specs.Faults.{Gives};
 ghost use Rattle.rst_block_nodes.specs.Texts.{counted_on, counting, message_of, with_message, numbered_on, messages_from};
+ghost use Rattle.rst_block_nodes.specs.Readings.{texted};
 ghost use Rattle.rst_block_nodes.specs.Results.{HoldsText, IsHolding, ReadsText, IsNumbered};
 
 use super::nodes::element_of;
@@ -41,6 +42,7 @@ pub fn with_text(
 ) -> Result<Texted, TreeFault>
     ensures text { Gives (HoldsText tag line (chars text.now) text_line numbers.old) result }
     ensures numbers { Gives (λ read. numbers.new ≡ counted_on numbers.old (length read.notes.items)) result }
+    ensures read { Gives (λ made. texted tag line (chars text.now) text_line numbers.old ≡ Ok ((made.element, made.notes.items), numbers.new)) result }
 {
     let reading = read(alloc, text, text_line, numbers)?;
     let texted = holding(alloc, tag, reading, line)?;

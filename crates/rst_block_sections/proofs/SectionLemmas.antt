@@ -16,7 +16,7 @@ use Rattle.rst_block_sections.specs.declared.sectioning.OpenSection.{OpenSection
 use Rattle.rst_block_sections.specs.declared.sectioning.Sections.{Sections}
 use Rattle.rst_block_sections.specs.OpenSections.{Open, open_of, put_inside, close, closed_with, goes_on, StopsAt}
 use Rattle.rst_block_nodes.specs.Texts.{section_node}
-use Rattle.rst_block_sections.specs.Sections.{Item, plain, titled, Entry, alone, under, Member, loose, section_at, node_of, inside, behind, filled, section_of, heading_notes, members, judged, level_of, same_style, with_style, inconsistent, items_from, document_of, sections_of}
+use Rattle.rst_block_sections.specs.Sections.{Title, Item, plain, titled, Entry, alone, under, Member, loose, section_at, node_of, inside, behind, filled, section_of, title_notes, members, judged, level_of, same_style, with_style, inconsistent, title_of, items_from, document_of}
 
 abbrev pub opened : Node → List Node → Open
 opened element nodes = record { element = element; nodes = nodes }
@@ -171,8 +171,8 @@ ended all outer o c p ms is element nodes stops =
     ∙ ap (λ os. close 0 os (open_of c) ms) (sym (ap (map open_of) is ∙ map-append open_of outer (o ∷ [])))
 
 -- the section of a title was begun in the innermost one
-pub entered : (all outer : List OpenSection) (c new : OpenSection) (h : Heading) (ms : List Member) → all ≡ outer ++ c ∷ []
-    → new.element ≡ section_node h.title.element (length (heading_notes h)) h.line → new.nodes.items ≡ heading_notes h
+pub entered : (all outer : List OpenSection) (c new : OpenSection) (h : Title) (ms : List Member) → all ≡ outer ++ c ∷ []
+    → new.element ≡ section_node h.element (length (title_notes h)) h.line → new.nodes.items ≡ title_notes h
     → close 0 (map open_of all) (open_of new) ms
     ≡ close 0 (map open_of outer) (open_of c) (section_at (length outer + 1) (section_of h (inside (length outer + 1) ms)) ∷ behind (length outer + 1) ms)
 entered all outer c new h ms is element nodes =
@@ -183,13 +183,13 @@ entered all outer c new h ms is element nodes =
     ∙ ap₂ (λ x xs. close 0 (map open_of outer) (open_of c) (section_at (length outer + 1) (filled x (xs ++ inside (length outer + 1) ms)) ∷ behind (length outer + 1) ms)) element nodes
 
 -- a title whose level is inconsistent gives its message
-judged_refused : (styles : List Style) (current : ℕ) (h : Heading) (items : List Item) → nat_lt (current + 1) (level_of h.style styles) ≡ true
+judged_refused : (styles : List Style) (current : ℕ) (h : Title) (items : List Item) → nat_lt (current + 1) (level_of h.style styles) ≡ true
     → judged styles current (titled h ∷ items) ≡ alone (inconsistent h) ∷ judged styles current items
 unfolding judged
 judged_refused styles current h items high =
     ap (λ b. cond b (alone (inconsistent h) ∷ judged styles current items) (under (level_of h.style styles) h ∷ judged (with_style h.style styles) (level_of h.style styles) items)) high
 
-judged_accepted : (styles : List Style) (current : ℕ) (h : Heading) (items : List Item) → nat_lt (current + 1) (level_of h.style styles) ≡ false
+judged_accepted : (styles : List Style) (current : ℕ) (h : Title) (items : List Item) → nat_lt (current + 1) (level_of h.style styles) ≡ false
     → judged styles current (titled h ∷ items) ≡ under (level_of h.style styles) h ∷ judged (with_style h.style styles) (level_of h.style styles) items
 unfolding judged
 judged_accepted styles current h items low =
@@ -199,12 +199,12 @@ members_alone : (n : Node) (es : List Entry) → members (alone n ∷ es) ≡ lo
 unfolding members
 members_alone n es = refl
 
-members_under : (level : ℕ) (h : Heading) (es : List Entry)
+members_under : (level : ℕ) (h : Title) (es : List Entry)
     → members (under level h ∷ es) ≡ section_at level (section_of h (inside level (members es))) ∷ behind level (members es)
 unfolding members
 members_under level h es = refl
 
-pub refused : (os : List Open) (element n : Node) (nodes : List Node) (styles : List Style) (current : ℕ) (h : Heading) (items : List Item)
+pub refused : (os : List Open) (element n : Node) (nodes : List Node) (styles : List Style) (current : ℕ) (h : Title) (items : List Item)
     → n ≡ inconsistent h → nat_lt (current + 1) (level_of h.style styles) ≡ true
     → (close 0 os (opened element (nodes ++ n ∷ [])) (members (judged styles current items))).0
     ≡ (close 0 os (opened element nodes) (members (judged styles current (titled h ∷ items)))).0
@@ -214,7 +214,7 @@ refused os element n nodes styles current h items is high =
     ∙ ap (λ (ms : List Member). (close 0 os (opened element nodes) ms).0) (sym (ap members (judged_refused styles current h items high) ∙ members_alone (inconsistent h) (judged styles current items)))
 
 -- a title that is accepted begins its section, where those of its level or a deeper one have ended
-pub accepted : (s m t : Sections) (h : Heading) (items : List Item) (level : ℕ) → level ≡ level_of h.style s.styles.items
+pub accepted : (s m t : Sections) (h : Title) (items : List Item) (level : ℕ) → level ≡ level_of h.style s.styles.items
     → nat_lt (length s.outer.items + 1) level ≡ false
     → ((ms : List Member) → StopsAt level ms → closed_with m ms ≡ closed_with s ms) → length m.outer.items + 1 ≡ level
     → ((ms : List Member) → closed_with t ms ≡ closed_with m (section_at (length m.outer.items + 1) (section_of h (inside (length m.outer.items + 1) ms)) ∷ behind (length m.outer.items + 1) ms))
@@ -233,7 +233,7 @@ accepted s m t h items level is low ends len begins more styles =
     ∙ ap (λ ms. (closed_with s ms).0) (sym (members_under level h es) ∙ ap members same)
 
 -- the same where the last call can want memory
-pub accepted_gives : {A : Type 0} (r : Result A TreeFault) (s m t : Sections) (h : Heading) (level : ℕ) → level ≡ level_of h.style s.styles.items
+pub accepted_gives : {A : Type 0} (r : Result A TreeFault) (s m t : Sections) (h : Title) (level : ℕ) → level ≡ level_of h.style s.styles.items
     → nat_lt (length s.outer.items + 1) level ≡ false
     → ((ms : List Member) → StopsAt level ms → closed_with m ms ≡ closed_with s ms) → length m.outer.items + 1 ≡ level → m.styles.items ≡ with_style h.style s.styles.items
     → Gives (λ _. (ms : List Member) → closed_with t ms ≡ closed_with m (section_at (length m.outer.items + 1) (section_of h (inside (length m.outer.items + 1) ms)) ∷ behind (length m.outer.items + 1) ms)) r
@@ -313,7 +313,7 @@ put s m ns items outer styles element nodes =
     ∙ nodes_put (map open_of s.outer.items) s.current.element s.current.nodes.items ns s.styles.items (length s.outer.items) items
 
 items_of_title : (done : ℕ) (nodes : List Node) (h : Heading) (hs : List Heading)
-    → items_from done nodes (h ∷ hs) ≡ map plain (take (h.before - done) nodes) ++ titled h ∷ items_from (done + (h.before - done)) (drop (h.before - done) nodes) hs
+    → items_from done nodes (h ∷ hs) ≡ map plain (take (h.before - done) nodes) ++ titled (title_of h) ∷ items_from (done + (h.before - done)) (drop (h.before - done) nodes) hs
 unfolding items_from
 items_of_title done nodes h hs = refl
 
@@ -321,13 +321,13 @@ items_of_title done nodes h hs = refl
 pub title_met : (s m t : Sections) (h : Heading) (done more : ℕ) (nodes rest : List Node) (hs : List Heading) → more ≡ h.before - done
     → m.outer ≡ s.outer → m.styles ≡ s.styles → m.current.element ≡ s.current.element
     → m.current.nodes.items ≡ s.current.nodes.items ++ take more nodes → rest ≡ drop more nodes
-    → ((items : List Item) → goes_on t items ≡ goes_on m (titled h ∷ items))
+    → ((items : List Item) → goes_on t items ≡ goes_on m (titled (title_of h) ∷ items))
     → goes_on t (items_from (done + more) rest hs) ≡ goes_on s (items_from done nodes (h ∷ hs))
 title_met s m t h done more nodes rest hs so outer styles element here left met =
     met (items_from (done + more) rest hs)
-    ∙ put s m (take more nodes) (titled h ∷ items_from (done + more) rest hs) outer styles element here
-    ∙ ap (λ xs. goes_on s (map plain (take more nodes) ++ titled h ∷ items_from (done + more) xs hs)) left
-    ∙ ap (λ n. goes_on s (map plain (take n nodes) ++ titled h ∷ items_from (done + n) (drop n nodes) hs)) so
+    ∙ put s m (take more nodes) (titled (title_of h) ∷ items_from (done + more) rest hs) outer styles element here
+    ∙ ap (λ xs. goes_on s (map plain (take more nodes) ++ titled (title_of h) ∷ items_from (done + more) xs hs)) left
+    ∙ ap (λ n. goes_on s (map plain (take n nodes) ++ titled (title_of h) ∷ items_from (done + n) (drop n nodes) hs)) so
     ∙ ap (goes_on s) (sym (items_of_title done nodes h hs))
 
 items_without_titles : (done : ℕ) (nodes : List Node) → items_from done nodes [] ≡ map plain nodes
@@ -342,7 +342,7 @@ last_met s m done count nodes all outer styles element here =
     ∙ ap (goes_on s) (append-nil (map plain nodes) ∙ sym (items_without_titles done nodes))
 
 -- a document without titles
-pub untitled : (nodes : List Node) → Element Document [] (forest_of nodes) 0 ≡ sections_of nodes []
+pub untitled : (nodes : List Node) → Element Document [] (forest_of nodes) 0 ≡ document_of (items_from 0 nodes [])
 untitled nodes =
     ap (λ xs. Element Document [] (forest_of xs) 0) (sym (nodes_alone nodes [] 0))
     ∙ ap document_of (sym (items_without_titles 0 nodes))

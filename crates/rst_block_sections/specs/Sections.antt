@@ -1,5 +1,5 @@
 -- The sections of a document, made of its nodes and its titles (reStructuredText Markup Specification, 'Sections'; Document Tree, 'section').
-use Rattle.std.specs.Prelude.{ℕ, suc, ◌+◌, ◌-◌, ◌==◌, ◌&&◌, Bool, false, nat_lt, nat_le, List, [], ◌∷◌, ◌++◌, length, take, drop, map, if◌then◌else◌, Some, codes, string_bytes}
+use Rattle.std.specs.Prelude.{ℕ, suc, ◌+◌, ◌-◌, ◌==◌, ◌&&◌, Bool, false, nat_lt, nat_le, List, [], ◌∷◌, ◌++◌, length, take, drop, map, if◌then◌else◌, Option, Some, codes, string_bytes}
 use Rattle.std.specs.Bool.{beq}
 use Rattle.std.specs.Option.{option_to_list}
 use Rattle.rst_tree.specs.declared.node.Node.{Node}
@@ -13,16 +13,19 @@ use Rattle.rst_block_sections.specs.declared.heading.Style.{Style}
 
 -- ---- what stands in a document
 
--- a node, or a title
+-- a title: its style, its element, the messages on its text, the WARNING on its adornment, the number of the line of its text, and its lines
+pub record Title : Type 0 where
+  pub style : Style
+  pub element : Node
+  pub notes : List Node
+  pub warning : Option Node
+  pub line : ℕ
+  pub source : List ℕ
+
+-- a node, or a title, of which the sections of the document are made
 pub data Item : Type 0 where
   plain : Node → Item
-  titled : Heading → Item
-
--- Nodes with titles between them. Each title says how many nodes of the document stand before it; `done` of them stand before these.
-unfoldable pub items_from : ℕ → List Node → List Heading → List Item
-items_from done nodes [] = map plain nodes
-items_from done nodes (h ∷ hs) =
-    map plain (take (h.before - done) nodes) ++ titled h ∷ items_from (done + (h.before - done)) (drop (h.before - done) nodes) hs
+  titled : Title → Item
 
 -- ---- the levels of titles
 
@@ -40,22 +43,22 @@ abbrev pub with_style : Style → List Style → List Style
 with_style s styles = if nat_lt (length styles) (level_of s styles) then styles ++ s ∷ [] else styles
 
 -- the message on a title whose level is inconsistent, with its lines
-abbrev pub inconsistent : Heading → Node
-inconsistent h = message_node Severe h.line (codes "Title level inconsistent:") (Some (string_bytes h.source))
+abbrev pub inconsistent : Title → Node
+inconsistent t = message_node Severe t.line (codes "Title level inconsistent:") (Some t.source)
 
 -- a node, or a title with its level
 pub data Entry : Type 0 where
   alone : Node → Entry
-  under : ℕ → Heading → Entry
+  under : ℕ → Title → Entry
 
 -- The titles with their levels, in a section of this level, 0 for the document, where these styles are in use. A title is accepted if its level
 -- is at most one more than the section's; else the message stands in its place, its style doesn't come in use, and the section goes on.
 unfoldable pub judged : List Style → ℕ → List Item → List Entry
 judged styles current [] = []
 judged styles current (plain n ∷ items) = alone n ∷ judged styles current items
-judged styles current (titled h ∷ items) =
-    if nat_lt (current + 1) (level_of h.style styles) then alone (inconsistent h) ∷ judged styles current items
-    else under (level_of h.style styles) h ∷ judged (with_style h.style styles) (level_of h.style styles) items
+judged styles current (titled t ∷ items) =
+    if nat_lt (current + 1) (level_of t.style styles) then alone (inconsistent t) ∷ judged styles current items
+    else under (level_of t.style styles) t ∷ judged (with_style t.style styles) (level_of t.style styles) items
 
 -- ---- the sections
 
@@ -89,23 +92,32 @@ filled (Element t a c l) more = Element t a (forest_of (nodes_of c ++ more)) l
 filled (Text t) more = Text t
 
 -- the messages under a title: those of its text, and that on its adornment
-abbrev pub heading_notes : Heading → List Node
-heading_notes h = h.title.notes.items ++ option_to_list h.warning
+abbrev pub title_notes : Title → List Node
+title_notes t = t.notes ++ option_to_list t.warning
 
 -- the section of a title: the title, its messages, then its content
-abbrev pub section_of : Heading → List Node → Node
-section_of h content = filled (section_node h.title.element (length (heading_notes h)) h.line) (heading_notes h ++ content)
+abbrev pub section_of : Title → List Node → Node
+section_of t content = filled (section_node t.element (length (title_notes t)) t.line) (title_notes t ++ content)
 
 -- the section of each title holds all up to the next title of its level or a higher one
 unfoldable pub members : List Entry → List Member
 members [] = []
 members (alone n ∷ es) = loose n ∷ members es
-members (under level h ∷ es) = section_at level (section_of h (inside level (members es))) ∷ behind level (members es)
+members (under level t ∷ es) = section_at level (section_of t (inside level (members es))) ∷ behind level (members es)
 
 -- the document of some items
 abbrev pub document_of : List Item → Node
 document_of items = Element Document [] (forest_of (map node_of (members (judged [] 0 items)))) 0
 
--- the document of some nodes with titles between them
-abbrev pub sections_of : List Node → List Heading → Node
-sections_of nodes headings = document_of (items_from 0 nodes headings)
+-- ---- as they are kept
+
+-- a title, from a heading
+abbrev pub title_of : Heading → Title
+title_of h = record { style = h.style; element = h.title.element; notes = h.title.notes.items; warning = h.warning; line = h.line; source = string_bytes h.source }
+
+-- The items that nodes are with headings between them. Each heading says how many nodes of the document stand before it; `done` of them stand before
+-- these.
+unfoldable pub items_from : ℕ → List Node → List Heading → List Item
+items_from done nodes [] = map plain nodes
+items_from done nodes (h ∷ hs) =
+    map plain (take (h.before - done) nodes) ++ titled (title_of h) ∷ items_from (done + (h.before - done)) (drop (h.before - done) nodes) hs

@@ -3,7 +3,7 @@ ghost use Rattle.std.specs.Prelude.{◌≡◌, ◌+◌, ◌-◌, ◌≤◌, List
 ghost use Rattle.std.specs.Vec.Iter.{into_iter_items};
 ghost use Rattle.rst_block_nodes.specs.Texts.{section_node};
 ghost use Rattle.rst_tree.specs.Faults.{Gives};
-ghost use Rattle.rst_block_sections.specs.Sections.{Item, titled, Member, section_at, inside, behind, section_of, sections_of, document_of, inconsistent, level_of, with_style, heading_notes};
+ghost use Rattle.rst_block_sections.specs.Sections.{Item, titled, Member, section_at, inside, behind, section_of, document_of, inconsistent, level_of, with_style, title_notes, title_of, items_from};
 ghost use Rattle.rst_block_sections.specs.OpenSections.{goes_on, closed_with, StopsAt};
 
 use crate::heading::{Heading, Style};
@@ -26,7 +26,7 @@ struct OpenSection {
 ///
 /// The only refusal is [`TreeFault::NoMemory`].
 pub fn document(alloc: Global, nodes: Vec<Node>, headings: Vec<Heading>) -> Result<Node, TreeFault>
-    ensures { Gives (λ root. root ≡ sections_of nodes.items headings.items) result }
+    ensures { Gives (λ root. root ≡ document_of (items_from 0 nodes.items headings.items)) result }
 {
     if headings.is_empty() {
         let attrs = Attrs::new(alloc);
@@ -87,7 +87,7 @@ impl Sections {
 
     /// Meets a title: begins a new section, or puts the message on a title whose level is inconsistent.
     fn title(&mut self, alloc: Global, heading: Heading) -> Result<(), TreeFault>
-        ensures { Gives (λ _. (items : List Item) → goes_on self.new items ≡ goes_on self.old (titled heading ∷ items)) result }
+        ensures { Gives (λ _. (items : List Item) → goes_on self.new items ≡ goes_on self.old (titled (title_of heading) ∷ items)) result }
     {
         let level = level_of(heading.style, self.styles.as_slice());
         // The level of the innermost section is the number of those round it.
@@ -129,7 +129,7 @@ impl Sections {
 
     /// Begins the section of a title in the innermost one.
     fn enter(&mut self, alloc: Global, heading: Heading) -> Result<(), TreeFault>
-        ensures closed { let level = length self.old.outer.items + 1 in Gives (λ _. (ms : List Member) → closed_with self.new ms ≡ closed_with self.old (section_at level (section_of heading (inside level ms)) ∷ behind level ms)) result }
+        ensures closed { let level = length self.old.outer.items + 1 in Gives (λ _. (ms : List Member) → closed_with self.new ms ≡ closed_with self.old (section_at level (section_of (title_of heading) (inside level ms)) ∷ behind level ms)) result }
         ensures len { Gives (λ _. length self.new.outer.items ≡ length self.old.outer.items + 1) result }
         ensures styles { Gives (λ _. self.new.styles ≡ self.old.styles) result }
     {
@@ -173,7 +173,7 @@ fn remember(styles: &mut Vec<Style>, style: Style, level: usize) -> Result<(), T
 
 /// The message on a title whose level is inconsistent.
 fn inconsistent(alloc: Global, heading: &Heading) -> Result<Node, TreeFault>
-    ensures { Gives (λ node. node ≡ inconsistent heading.now) result }
+    ensures { Gives (λ node. node ≡ inconsistent (title_of heading.now)) result }
 {
     let text = "Title level inconsistent:";
     let source = Some(heading.source.as_str());
@@ -183,8 +183,8 @@ fn inconsistent(alloc: Global, heading: &Heading) -> Result<Node, TreeFault>
 
 /// The section of a title, with the messages under the title alone.
 fn begun(alloc: Global, heading: Heading) -> Result<OpenSection, TreeFault>
-    ensures element { Gives (λ o. o.element ≡ section_node heading.title.element (length (heading_notes heading)) heading.line) result }
-    ensures nodes { Gives (λ o. o.nodes.items ≡ heading_notes heading) result }
+    ensures element { Gives (λ o. o.element ≡ section_node heading.title.element (length (title_notes (title_of heading))) heading.line) result }
+    ensures nodes { Gives (λ o. o.nodes.items ≡ title_notes (title_of heading)) result }
 {
     let Heading {
         title,

@@ -1,11 +1,10 @@
 //! Embedded URIs and aliases.
 ghost use Rattle.std.specs.Prelude.{◌≡◌, ◌<◌, ◌≤◌, length, IfOk, IfSome, ◌&&◌, ◌==◌, not};
-ghost use Rattle.rst_inline_scan.specs.Characters.{without_white};
 ghost use Rattle.rst_inline.specs.Embedded.{ends_with, last_angle, fits_angle, embedded_at, dark_end, enclosed, is_alias, meant, shown_by};
 
 use super::fault::InlineFault;
 use super::texts::part;
-use rst_inline_scan::{escapes, has, is_dark, unescaped};
+use rst_inline_scan::{escapes, has, is_dark, unescaped, without_white};
 use rst_text::is_white;
 use std::alloc::{AllocError, Global};
 
@@ -102,18 +101,6 @@ pub(crate) fn meant(alloc: Global, held: &[char]) -> Result<Vec<char>, AllocErro
         let plain = unescaped(alloc, held)?;
         without_white(alloc, &plain)
     }
-}
-
-fn without_white(alloc: Global, text: &[char]) -> Result<Vec<char>, AllocError>
-    ensures { IfOk result (λ black. black.items ≡ without_white text.now) }
-{
-    let mut black = Vec::new(alloc);
-    for c in text {
-        if !is_white(*c) {
-            black.push(*c)?;
-        }
-    }
-    Ok(black)
 }
 
 /// The place behind the last character before `place` that isn't white.

@@ -1,8 +1,9 @@
 //! The characters that decide where inline markup may stand.
-ghost use Rattle.std.specs.Prelude.{◌≡◌};
-ghost use Rattle.rst_inline_scan.specs.Characters.{may_precede, may_follow, may_precede_by, may_follow_by, is_pair, has, is_dark, is_alnum_at, is_free_behind};
+ghost use Rattle.std.specs.Prelude.{◌≡◌, IfOk};
+ghost use Rattle.rst_inline_scan.specs.Characters.{may_precede, may_follow, may_precede_by, may_follow_by, is_pair, has, without_white, is_dark, is_alnum_at, is_free_behind};
 
 use rst_text::{is_alphanumeric, is_white};
+use std::alloc::{AllocError, Global};
 use unicode::properties::GeneralCategory;
 
 /// Whether the character may stand before a start.
@@ -70,6 +71,19 @@ pub fn has(text: &[char], place: usize, c: char) -> bool
     ensures { result ≡ has text.now place c }
 {
     text.get(place) == Some(&c)
+}
+
+/// A text without its white characters.
+pub fn without_white(alloc: Global, text: &[char]) -> Result<Vec<char>, AllocError>
+    ensures { IfOk result (λ dark. dark.items ≡ without_white text.now) }
+{
+    let mut dark = Vec::new(alloc);
+    for c in text {
+        if !is_white(*c) {
+            dark.push(*c)?;
+        }
+    }
+    Ok(dark)
 }
 
 /// Whether a character that isn't white stands at the place.

@@ -16,7 +16,7 @@ mod tails;
 mod uri;
 mod words;
 
-pub use characters::{has, is_dark};
+pub use characters::{has, is_dark, without_white};
 pub use escaping::{escapes, has_backslash, unescaped};
 pub use laws::{one_list_of_pieces, pieces_are_found, quiet_is_one_piece};
 pub use names::{is_joint, is_simple_name};

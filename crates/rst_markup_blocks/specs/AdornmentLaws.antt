@@ -1,5 +1,6 @@
--- The laws of the row of lines of one punctuation character (Markup Specification, 'Sections', 'Transitions').
--- A reader of the standard may skip this file: its proofs stand here since the rows' contracts name its laws.
+-- Laws, which a reader of the definitions may pass over: those of the row of lines of one punctuation character (Markup
+-- Specification, 'Sections', 'Transitions').
+-- The proofs are here since the rows' contracts name these laws.
 use Rattle.std.specs.Prelude.{◌≡◌, ℕ, ◌≤◌, Bool, true, false, cond, is_some, IsTrue, List, [], ◌∷◌, length, take, refl, Option, None, Some, unwrap_or, ◌==◌, ◌&&◌, ◌||◌}
 use Rattle.std.specs.Option.{option_map_or}
 use Rattle.std.proofs.Common.{ap, arith, leb, ltb}

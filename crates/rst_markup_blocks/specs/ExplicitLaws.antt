@@ -1,5 +1,6 @@
--- The laws of the row of explicit markup that begins with dots (Markup Specification, 'Explicit Markup Blocks').
--- A reader of the standard may skip this file: its proofs stand here since the rows' contracts name its laws.
+-- Laws, which a reader of the definitions may pass over: those of the row of explicit markup that begins with dots
+-- (Markup Specification, 'Explicit Markup Blocks').
+-- The proofs are here since the rows' contracts name these laws.
 use Rattle.std.specs.Prelude.{◌≡◌, ℕ, ◌+◌, ◌≤◌, Bool, true, false, cond, is_some, IsTrue, length, take, drop, Option, None, Some}
 use Rattle.std.proofs.Common.{ap, arith, length-drop}
 use Rattle.rst_text.specs.Block.{Block, front_text, is_blank}

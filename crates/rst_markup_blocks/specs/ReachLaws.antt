@@ -1,6 +1,6 @@
--- The laws of the rows' reaches: a reach has the lines of its construct, and ends within the block. No rule of markup: a
--- reach bounds the time.
--- A reader of the standard may skip this file: its proofs stand here since the rows' contracts name its laws.
+-- Laws, which a reader of the definitions may pass over: a reach has the lines of its construct, and ends within the block.
+-- No rule of markup: a reach bounds the time.
+-- The proofs are here since the rows' contracts name these laws.
 use Rattle.std.specs.Prelude.{ℕ, suc, max, ◌<◌, ◌≤◌, Bool, true, false, cond, IsTrue, [], ◌∷◌, length, drop, Option, Some, None, IfSome, unwrap_or}
 use Rattle.std.proofs.Common.{arith, length-drop}
 use Rattle.std.proofs.Math.Nat.{le-max_left, max-le}

@@ -1,6 +1,6 @@
--- The laws of the rows (Markup Specification, 'Body Elements'): what begins ends within its block, and a condition is on
--- three lines alone.
--- A reader of the standard may skip this file: its proofs stand here since the rows' contracts name its laws.
+-- Laws, which a reader of the definitions may pass over: what begins ends within its block, and a condition is on three
+-- lines alone (Markup Specification, 'Body Elements').
+-- The proofs are here since the rows' contracts name these laws.
 use Rattle.std.specs.Prelude.{◌≡◌, ℕ, zero, suc, ◌≤◌, Bool, true, false, cond, is_some, IsTrue, List, [], ◌∷◌, length, take, drop, refl, Option, None, Some}
 use Rattle.std.proofs.Common.{ap, ap₂, sym, ◌∙◌, arith, leb, ltb, length-drop, ◌+◌}
 use Rattle.std.proofs.lemmas.Bool.{le-leb}

@@ -1,5 +1,6 @@
--- The laws of the rows of tables (Markup Specification, 'Grid Tables', 'Simple Tables').
--- A reader of the standard may skip this file: its proofs stand here since the rows' contracts name its laws.
+-- Laws, which a reader of the definitions may pass over: those of the rows of tables (Markup Specification, 'Grid
+-- Tables', 'Simple Tables').
+-- The proofs are here since the rows' contracts name these laws.
 use Rattle.std.specs.Prelude.{◌≡◌, ℕ, ◌+◌, ◌-◌, ◌<◌, ◌≤◌, Bool, true, false, cond, IsTrue, List, [], ◌∷◌, length, take, refl, Option, Some, None, IfSome, unwrap_or}
 use Rattle.std.specs.Option.{option_or, option_and_then}
 use Rattle.std.proofs.Common.{ap, arith}

@@ -14,7 +14,7 @@ use rst_text::{Looks, View};
 
 /// The place after the line at place `i` and the indented block below it.
 #[tactic(auto, unfolding(crate::specs::Sizes::hanging_size))]
-pub fn hanging_end(view: &View<'_>, i: usize, looks: &mut Looks) -> usize
+pub(crate) fn hanging_end(view: &View<'_>, i: usize, looks: &mut Looks) -> usize
     requires inside { i < length (block_of view.now) }
     requires few { looks.old < 2 ^ 121 }
     ensures end { result ≡ i + spec.hanging_size (drop i (block_of view.now)) }
@@ -39,7 +39,7 @@ pub fn item_end(view: &View<'_>, i: usize, marker: Marker, looks: &mut Looks) ->
 
 /// The place after the line at place `i` and the lines below it that pass a test.
 #[tactic(auto, unfolding(crate::specs::Sizes::run_size))]
-pub(crate) fn run_below_end(view: &View<'_>, i: usize, test: LineTest, looks: &mut Looks) -> usize
+fn run_below_end(view: &View<'_>, i: usize, test: LineTest, looks: &mut Looks) -> usize
     requires inside { i < length (block_of view.now) }
     requires few { looks.old < 2 ^ 120 + 2 ^ 70 }
     ensures end { result ≡ i + spec.run_size test (drop i (block_of view.now)) }
@@ -66,7 +66,7 @@ pub fn indented_end(view: &View<'_>, i: usize, looks: &mut Looks) -> usize
 
 /// The place after the literal block that begins at place `from` or behind blank lines there: an indented block, or
 /// lines that begin with the punctuation character that the first of them begins with. It is `from` where there is none.
-pub fn literal_end(view: &View<'_>, from: usize, looks: &mut Looks) -> usize
+fn literal_end(view: &View<'_>, from: usize, looks: &mut Looks) -> usize
     requires inside { from ≤ length (block_of view.now) }
     requires few { looks.old < 2 ^ 120 + 2 ^ 72 }
     ensures end { result ≡ from + spec.literal_size (drop from (block_of view.now)) }
@@ -85,7 +85,7 @@ pub fn literal_end(view: &View<'_>, from: usize, looks: &mut Looks) -> usize
 }
 
 /// The place after the paragraph that begins at place `i`, with the literal block that it announces.
-pub fn paragraph_end(view: &View<'_>, i: usize, looks: &mut Looks) -> usize
+fn paragraph_end(view: &View<'_>, i: usize, looks: &mut Looks) -> usize
     requires inside { i < length (block_of view.now) }
     requires few { looks.old < 2 ^ 120 + 2 ^ 70 }
     ensures end { result ≡ i + spec.paragraph_size (drop i (block_of view.now)) }
@@ -99,7 +99,13 @@ pub fn paragraph_end(view: &View<'_>, i: usize, looks: &mut Looks) -> usize
 }
 
 /// The place after what the line of text at place `i` begins, where `text` is that line and `next` the one below.
-pub fn text_end(view: &View<'_>, i: usize, text: &str, next: &str, looks: &mut Looks) -> usize
+pub(crate) fn text_end(
+    view: &View<'_>,
+    i: usize,
+    text: &str,
+    next: &str,
+    looks: &mut Looks,
+) -> usize
     requires inside { i < length (block_of view.now) }
     requires text { chars text.now ≡ front_text (drop i (block_of view.now)) }
     requires next { chars next.now ≡ next_text (drop i (block_of view.now)) }

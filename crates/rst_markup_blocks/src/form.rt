@@ -115,7 +115,7 @@ fn is_whole_title(adorned: Adorned) -> bool
 
 /// The form of a line of one punctuation character over a blank line or none, where titles may stand.
 #[tactic(auto, unfolding(crate::specs::Forms::adorned_alone))]
-pub fn adorned_alone(mark: Adornment) -> Adorned
+pub(crate) fn adorned_alone(mark: Adornment) -> Adorned
     ensures { result ≡ spec.adorned_alone mark }
 {
     if mark.len >= 4 {
@@ -127,7 +127,7 @@ pub fn adorned_alone(mark: Adornment) -> Adorned
 
 /// The form of a line of one punctuation character over a line that isn't blank, where titles may stand.
 #[tactic(auto, unfolding(crate::specs::Forms::adorned_over))]
-pub fn adorned_over(mark: Adornment, next: &str, after: Option<&str>) -> Adorned
+pub(crate) fn adorned_over(mark: Adornment, next: &str, after: Option<&str>) -> Adorned
     ensures { result ≡ spec.adorned_over mark (chars next.now) (spec.chars_if_any after.entry) }
 {
     let form = overlined(mark, next, after);
@@ -140,7 +140,7 @@ pub fn adorned_over(mark: Adornment, next: &str, after: Option<&str>) -> Adorned
 
 /// The form of a line of one punctuation character where no titles may stand.
 #[tactic(auto, unfolding(crate::specs::Forms::adorned_below))]
-pub fn adorned_below(mark: Adornment) -> Adorned
+pub(crate) fn adorned_below(mark: Adornment) -> Adorned
     ensures { result ≡ spec.adorned_below mark }
 {
     if mark.character == ':' && mark.len == 2 {

@@ -29,15 +29,15 @@ pub use constructs::{
     AnonymousTarget, BarLine, BlankLine, BlockQuote, BulletItem, DoctestBlock, EnumeratedItem,
     FieldItem, OptionListItem, TextLine,
 };
-pub use ends::{hanging_end, indented_end, item_end, literal_end, paragraph_end, text_end};
+pub use ends::{indented_end, item_end};
 pub use explicit_markup::{ExplicitForm, explicit_form, hanging_part};
 pub use explicit_row::ExplicitMarkup;
 pub use extents::explicit;
-pub use form::{Adorned, TextForm, adorned_alone, adorned_below, adorned_over, text_form};
+pub use form::{Adorned, TextForm, text_form};
 pub use forms::{CommentCause, Explicit, Invocation};
 pub use kind::Kind;
 pub use kind_end::end_of;
-pub use lines::{LineTest, below_end, below_text, lines_end, text_at};
+pub use lines::{LineTest, below_text, lines_end, text_at};
 pub use part::Part;
 pub use rst_markup_lines::Characters;
 pub use table_line::is_drawn;

@@ -95,7 +95,7 @@ pub fn lines_end(view: &View<'_>, from: usize, test: LineTest, looks: &mut Looks
 
 /// The place after the line at place `i` and those below it that are blank or indented by at least `least`, blank ones
 /// at their end left off.
-pub fn below_end(view: &View<'_>, i: usize, least: usize, looks: &mut Looks) -> usize
+pub(crate) fn below_end(view: &View<'_>, i: usize, least: usize, looks: &mut Looks) -> usize
     requires inside { i < length (block_of view.now) }
     requires few { looks.old < 2 ^ 121 }
     ensures end { result ≡ i + suc (extent least (drop 1 (drop i (block_of view.now)))) }

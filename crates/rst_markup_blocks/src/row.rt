@@ -10,7 +10,7 @@ use rst_markup_lines::{
 /// The enumerator that begins a list's item: the next line is missing, blank, indented, or begins with a next
 /// enumerator and a space.
 #[tactic(auto, unfolding(crate::specs::Conditions::item_enumerator))]
-pub fn item_enumerator(text: &str, next: &str) -> Option<Enumerator>
+pub(crate) fn item_enumerator(text: &str, next: &str) -> Option<Enumerator>
     ensures { result ≡ spec.item_enumerator (chars text.now) (chars next.now) }
 {
     let enumerator = enumerator_of(text)?;
@@ -24,7 +24,7 @@ pub fn item_enumerator(text: &str, next: &str) -> Option<Enumerator>
 /// The marker that begins an option list's item: a description stands behind it or is indented in the next line, which
 /// may follow a blank one.
 #[tactic(auto, unfolding(crate::specs::Conditions::item_option))]
-pub fn item_option(text: &str, next: &str, after: &str) -> Option<Marker>
+pub(crate) fn item_option(text: &str, next: &str, after: &str) -> Option<Marker>
     ensures { result ≡ spec.item_option (chars text.now) (chars next.now) (chars after.now) }
 {
     let marker = option_marker(text)?;

@@ -16,9 +16,8 @@ use Rattle.rst_markup_directives.specs.Argument.{Given, title, language, joined_
 use Rattle.rst_markup_directives.specs.Call.{part_of, content_of, is_empty, IsContentIn, IsDirectiveIn}
 use Rattle.rst_markup_directives.specs.Characters.{Text}
 use Rattle.rst_markup_directives.specs.Directive.{Read, Outcome, found, wrong, run_in, is_code_name, options_of, read_parts, read_by, read_block, outcome_at, of_block, judged, outcome_of}
-use Rattle.rst_markup_directives.specs.Field.{begins_field}
 use Rattle.rst_markup_directives.specs.Judgement.{content_fault}
-use Rattle.rst_markup_directives.specs.Layout.{before_field, content_alone, parts_with_argument, parts_without_argument, layout_by, layout_at, layout_of}
+use Rattle.rst_markup_directives.specs.Layout.{begins_field, before_field, content_alone, parts_with_argument, parts_without_argument, layout_by, layout_at, layout_of}
 use Rattle.rst_markup_directives.specs.Lines.{first_run, blank_len, behind_blank}
 use Rattle.rst_markup_directives.specs.Name.{takes, holds}
 use Rattle.rst_markup_directives.specs.Options.{Choice}

@@ -1,7 +1,9 @@
 -- Fields that are read one after the other.
-use Rattle.std.proofs.Common.{◌≡◌, ℕ, suc, zero, ◌+◌, ◌-◌, ◌<◌, ◌≤◌, length-drop, true, false, List, [], ◌∷◌, ◌++◌, take, drop, length, get_or, Option, Some, None, refl, sym, ap, ◌∙◌, inl, inr, arith}
+use Rattle.std.proofs.Common.{◌≡◌, ℕ, suc, zero, ◌+◌, ◌-◌, ◌<◌, ◌≤◌, length-drop, true, false, List, [], ◌∷◌, ◌++◌, take, drop, length, Option, Some, None, refl, sym, ap, ◌∙◌, inl, inr, arith}
+use Rattle.std.specs.Borrow.{Bor}
 use Rattle.std.specs.List.{prefix_len}
-use Rattle.std.specs.declared.vec.Vec.{Vec}
+use Rattle.std.specs.Prelude.{slice_index_or}
+use Rattle.std.specs.Str.{chars}
 use Rattle.rst_text.proofs.PlacesLemmas.{cases_bool}
 use Rattle.rst_markup_lines.specs.Front.{begins_with}
 use Rattle.rst_markup_directives.specs.Characters.{Text}
@@ -65,27 +67,31 @@ pub fields-stop : (X : List Text) (t : Text) (ts : List Text) (done : List Field
 fields-stop X t ts done whole e none h =
     ap (λ field. behind_fields done (onto_fields field (fields_in (drop (deep_len ts) ts)))) none ∙ ap (behind_fields done) (sym (ap fields_in e ∙ first_field t ts)) ∙ h
 
--- ---- vectors of characters as texts
+-- ---- lines as texts
 
-pub texts-drop : {A : Type 0} (run : List (Vec ℕ A)) (i : ℕ) → texts_of (drop i run) ≡ drop i (texts_of run)
+pub texts-drop : (run : List (Bor (List ℕ))) (i : ℕ) → texts_of (drop i run) ≡ drop i (texts_of run)
 texts-drop run zero = refl
 texts-drop [] (suc i) = refl
 texts-drop (v ∷ vs) (suc i) = texts-drop vs i
 
-pub texts-take : {A : Type 0} (run : List (Vec ℕ A)) (n : ℕ) → texts_of (take n run) ≡ take n (texts_of run)
+pub texts-take : (run : List (Bor (List ℕ))) (n : ℕ) → texts_of (take n run) ≡ take n (texts_of run)
 texts-take run zero = refl
 texts-take [] (suc n) = refl
-texts-take (v ∷ vs) (suc n) = ap (λ l. v.items ∷ l) (texts-take vs n)
+texts-take (v ∷ vs) (suc n) = ap (λ l. chars v.now ∷ l) (texts-take vs n)
 
-pub length_texts : {A : Type 0} (run : List (Vec ℕ A)) → length (texts_of run) ≡ length run
+pub length_texts : (run : List (Bor (List ℕ))) → length (texts_of run) ≡ length run
 length_texts [] = refl
 length_texts (v ∷ vs) = ap suc (length_texts vs)
 
+-- the characters of the line at a place; past the end there are none
+abbrev pub line_at : List (Bor (List ℕ)) → ℕ → Text
+line_at run i = chars (slice_index_or run i (record { ref_ptr = (0, 0); now = [] })).now
+
 -- the line at a place, and those behind it
-pub texts-at : {A : Type 0} (run : List (Vec ℕ A)) (i : ℕ) (v : Vec ℕ A) → i < length run → v ≡ get_or run i v → drop i (texts_of run) ≡ v.items ∷ drop (i + 1) (texts_of run)
-texts-at [] i v h e = absurd (omega arith)
-texts-at (x ∷ xs) zero v h e = ap (λ w. w.items ∷ texts_of xs) (sym e)
-texts-at (x ∷ xs) (suc i) v h e = let s : suc i + 1 ≡ suc (i + 1) = omega arith in rw s (texts-at xs i v (omega arith) e)
+pub texts-at : (run : List (Bor (List ℕ))) (i : ℕ) → i < length run → drop i (texts_of run) ≡ line_at run i ∷ drop (i + 1) (texts_of run)
+texts-at [] i h = absurd (omega arith)
+texts-at (x ∷ xs) zero h = refl
+texts-at (x ∷ xs) (suc i) h = let s : suc i + 1 ≡ suc (i + 1) = omega arith in rw s (texts-at xs i (omega arith))
 
 past-nil : {X : Type 0} (n : ℕ) (xs : List X) → xs ≡ [] → drop n xs ≡ []
 past-nil zero xs e = e
@@ -129,12 +135,12 @@ length-front (suc n) [] h = absurd (omega arith)
 length-front (suc n) (x ∷ xs) h = ap suc (length-front n xs (omega arith))
 
 -- the indented lines behind a place
-pub below-texts : {A : Type 0} (run : List (Vec ℕ A)) (a n : ℕ) → n ≡ deep_len (texts_of (take (length run - a) (drop a run)))
+pub below-texts : (run : List (Bor (List ℕ))) (a n : ℕ) → n ≡ deep_len (texts_of (take (length run - a) (drop a run)))
     → texts_of (take n (take (length run - a) (drop a run))) ≡ take (deep_len (drop a (texts_of run))) (drop a (texts_of run))
 below-texts run a n e =
     let texts : texts_of (take (length run - a) (drop a run)) ≡ drop a (texts_of run) = ap texts_of (rest-whole run a) ∙ texts-drop run a in
     texts-take (take (length run - a) (drop a run)) n ∙ ap (take n) texts ∙ ap (λ m. take m (drop a (texts_of run))) (e ∙ ap deep_len texts)
 
-pub below-len : {A : Type 0} (run : List (Vec ℕ A)) (a n : ℕ) → n ≡ deep_len (texts_of (take (length run - a) (drop a run))) → n ≤ length (take (length run - a) (drop a run))
+pub below-len : (run : List (Bor (List ℕ))) (a n : ℕ) → n ≡ deep_len (texts_of (take (length run - a) (drop a run))) → n ≤ length (take (length run - a) (drop a run))
     → length (take n (take (length run - a) (drop a run))) ≡ deep_len (drop a (texts_of run))
 below-len run a n e h = length-front n (take (length run - a) (drop a run)) h ∙ e ∙ ap deep_len (ap texts_of (rest-whole run a) ∙ texts-drop run a)

@@ -1,7 +1,6 @@
 pub mod Powers
 pub mod Numbers
 pub mod Words
-pub mod Colons
 pub mod TargetTexts
 pub mod Joins
 pub mod ClassLemmas
@@ -16,3 +15,4 @@ pub mod Indentations
 pub mod AgainLemmas
 pub mod Tables
 pub mod Measures
+pub mod MessageLemmas

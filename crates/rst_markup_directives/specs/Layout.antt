@@ -1,10 +1,11 @@
 -- Where the parts of a directive's block stand (Markup Specification, 'Directives'). A part is told by the places of the lines
 -- that it begins and ends at.
-use Rattle.std.specs.Prelude.{ℕ, not, ◌==◌, List, length, if◌then◌else◌}
+use Rattle.std.specs.Prelude.{ℕ, Bool, not, ◌==◌, List, length, if◌then◌else◌}
 use Rattle.std.specs.List.{prefix_len}
+use Rattle.std.specs.Option.{is_some}
 use Rattle.rst_text.specs.Block.{Block}
+use Rattle.rst_markup_lines.specs.Field.{field_of}
 use Rattle.rst_markup_directives.specs.Characters.{Text}
-use Rattle.rst_markup_directives.specs.Field.{begins_field}
 use Rattle.rst_markup_directives.specs.Lines.{behind_blank}
 use Rattle.rst_markup_directives.specs.Name.{takes, holds}
 use Rattle.rst_markup_directives.specs.declared.layout.Layout.{Layout}
@@ -13,6 +14,10 @@ use Rattle.rst_markup_directives.specs.declared.name.Takes.{Takes}
 use Rattle.rst_markup_directives.specs.declared.name.Takes.TheVariants.{Nothing}
 use Rattle.rst_markup_directives.specs.declared.name.Holds.{Holds}
 use Rattle.rst_markup_directives.specs.declared.name.Holds.TheVariants.{Paragraph}
+
+-- a line begins a field (Markup Specification, 'Field Lists')
+unfoldable pub begins_field : Text → Bool
+begins_field t = is_some (field_of t)
 
 -- how many lines stand before the first that begins a field: the place where the options begin
 abbrev pub before_field : List Text → ℕ

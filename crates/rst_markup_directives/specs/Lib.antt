@@ -1,6 +1,5 @@
 pub mod Characters
 pub mod Escapes
-pub mod Field
 pub mod Measure
 pub mod OptionName
 pub mod Name

@@ -1,14 +1,15 @@
 -- The lines of a directive's block (Markup Specification, 'Directives').
 use Rattle.std.specs.Prelude.{ℕ, ◌+◌, not, List, map, drop, take_while}
-use Rattle.std.specs.declared.vec.Vec.{Vec}
+use Rattle.std.specs.Borrow.{Bor}
+use Rattle.std.specs.Str.{chars}
 use Rattle.rst_text.specs.Block.{Block, is_blank}
 use Rattle.rst_markup_blocks.specs.Lines.{lines_while}
 use Rattle.rst_markup_blocks.specs.declared.lines.LineTest.TheVariants.{Blank}
 use Rattle.rst_markup_directives.specs.Characters.{Text}
 
--- the texts that vectors of characters hold
-abbrev pub texts_of : {A : Type 0} → List (Vec ℕ A) → List Text
-texts_of vectors = map (λ v. v.items) vectors
+-- the characters of lines
+abbrev pub texts_of : List (Bor (List ℕ)) → List Text
+texts_of lines = map (λ line. chars line.now) lines
 
 -- the texts of the lines before the first blank one
 abbrev pub first_run : Block → List Text

@@ -1,30 +1,27 @@
 -- The texts of the messages on directives, in bytes (Document Tree, 'system_message').
-use Rattle.std.specs.Prelude.{ℕ, List, ◌++◌, codes, string_bytes}
-use Rattle.rst_markup_directives.specs.declared.fault.Detail.{Detail}
-use Rattle.rst_markup_directives.specs.declared.fault.Detail.TheVariants.{InvalidOptionBlock, UnknownOption, DuplicateOption, InvalidValue, NoArgument, ManyArguments, ContentNotPermitted, NotOneParagraph}
-use Rattle.rst_markup_directives.specs.declared.fault.DirectiveFault.{DirectiveFault}
-use Rattle.rst_markup_directives.specs.declared.fault.DirectiveFault.TheVariants.{NotInSubstitution, Unknown, Inside, NoContent, TopicNotHere, ReplaceNotHere}
+use Rattle.std.specs.Prelude.{ℕ, List, ◌++◌, codes, encode_utf8_all}
+use Rattle.rst_markup_directives.specs.Wrong.{Wrong, option_block, unknown, duplicate, invalid, no_argument, many_arguments, content_not_permitted, not_one_paragraph, Fault, not_in_substitution, unknown_directive, inside, no_content, topic_not_here, replace_not_here}
 
--- what is wrong inside a directive, in words
-abbrev pub detail_of : Detail → List ℕ
-detail_of InvalidOptionBlock = codes "invalid option block."
-detail_of (UnknownOption option) = (codes "unknown option: \"" ++ string_bytes option) ++ codes "\"."
-detail_of (DuplicateOption option) = (codes "duplicate option \"" ++ string_bytes option) ++ codes "\"."
-detail_of (InvalidValue option) = (codes "invalid value of option \"" ++ string_bytes option) ++ codes "\"."
-detail_of NoArgument = codes "1 argument(s) required, 0 supplied."
-detail_of ManyArguments = codes "at most 1 argument permitted."
-detail_of ContentNotPermitted = codes "no content permitted."
-detail_of NotOneParagraph = codes "may contain a single paragraph only."
+-- the second line of the message on a directive in which something is wrong
+abbrev pub wrong_text : Wrong → List ℕ
+wrong_text option_block = codes "invalid option block."
+wrong_text (unknown option) = codes "unknown option: \"" ++ encode_utf8_all option ++ codes "\"."
+wrong_text (duplicate option) = codes "duplicate option \"" ++ encode_utf8_all option ++ codes "\"."
+wrong_text (invalid option) = codes "invalid value of option \"" ++ encode_utf8_all option ++ codes "\"."
+wrong_text no_argument = codes "1 argument(s) required, 0 supplied."
+wrong_text many_arguments = codes "at most 1 argument permitted."
+wrong_text content_not_permitted = codes "no content permitted."
+wrong_text not_one_paragraph = codes "may contain a single paragraph only."
 
 -- a line that names the directive, and one that says what is wrong in it
-abbrev pub error_in : List ℕ → Detail → List ℕ
-error_in name detail = ((codes "Error in \"" ++ name) ++ codes "\" directive:\n") ++ detail_of detail
+abbrev pub error_in : List ℕ → Wrong → List ℕ
+error_in name wrong = codes "Error in \"" ++ name ++ codes "\" directive:\n" ++ wrong_text wrong
 
--- the message on a fault of the directive of this name, or of the substitution definition of this name
-abbrev pub message_of : DirectiveFault → List ℕ → List ℕ
-message_of NotInSubstitution name = (codes "Substitution definition \"" ++ name) ++ codes "\" may hold only image or replace."
-message_of Unknown name = (codes "Unknown directive type \"" ++ name) ++ codes "\"."
-message_of (Inside detail) name = error_in name detail
-message_of NoContent name = (codes "Content block expected for the \"" ++ name) ++ codes "\" directive; none found."
-message_of TopicNotHere name = codes "The \"topic\" directive may not be used within topics or body elements."
-message_of ReplaceNotHere name = codes "Invalid context: the \"replace\" directive can only be used within a substitution definition."
+-- the text of the message on a wrong directive of this name; where a substitution definition may not hold it, the name is that of the definition
+abbrev pub fault_text : Fault → List ℕ → List ℕ
+fault_text not_in_substitution name = codes "Substitution definition \"" ++ name ++ codes "\" may hold only image or replace."
+fault_text unknown_directive name = codes "Unknown directive type \"" ++ name ++ codes "\"."
+fault_text (inside wrong) name = error_in name wrong
+fault_text no_content name = codes "Content block expected for the \"" ++ name ++ codes "\" directive; none found."
+fault_text topic_not_here name = codes "The \"topic\" directive may not be used within topics or body elements."
+fault_text replace_not_here name = codes "Invalid context: the \"replace\" directive can only be used within a substitution definition."

@@ -10,7 +10,7 @@ use super::characters::{has_character, text_from};
 use super::fault::{Detail, MarkupFault};
 use super::name::{Name, Takes};
 use super::options::joined;
-use super::target::without_white;
+use rst_inline_scan::without_white;
 use rst_markup_blocks::Part;
 use rst_text::{characters_of, normalized_white};
 use std::alloc::Global;
@@ -32,7 +32,7 @@ pub enum Argument {
 pub(crate) fn argument_of(
     alloc: Global,
     name: Name,
-    lines: &[Vec<char>],
+    lines: &[&str],
     part: Part,
 ) -> Result<Result<Argument, Detail>, MarkupFault>
     ensures { Gives (λ argument. spec.argument_in argument ≡ spec.argument_of name (texts_of lines.now) part) result }
@@ -45,7 +45,7 @@ pub(crate) fn argument_of(
     }
 }
 
-fn title_of(lines: &[Vec<char>], part: Part) -> Result<Argument, Detail>
+fn title_of(lines: &[&str], part: Part) -> Result<Argument, Detail>
     ensures { spec.argument_in result ≡ spec.title_of (texts_of lines.now) part }
 {
     match lines {
@@ -54,25 +54,25 @@ fn title_of(lines: &[Vec<char>], part: Part) -> Result<Argument, Detail>
     }
 }
 
-fn uri_of(alloc: Global, lines: &[Vec<char>]) -> Result<Result<Argument, Detail>, MarkupFault>
+fn uri_of(alloc: Global, lines: &[&str]) -> Result<Result<Argument, Detail>, MarkupFault>
     ensures { Gives (λ argument. spec.argument_in argument ≡ spec.uri_of (texts_of lines.now)) result }
 {
     if lines.is_empty() {
         return Ok(Err(Detail::NoArgument));
     }
-    let text = joined(alloc, &[], lines, 0)?;
+    let text = joined(alloc, Vec::new(alloc), lines, 0)?;
     let uri = without_white(alloc, &text)?;
     let uri = text_from(alloc, &uri)?;
     Ok(Ok(Argument::Uri(uri)))
 }
 
-fn language_of(alloc: Global, lines: &[Vec<char>]) -> Result<Result<Argument, Detail>, MarkupFault>
+fn language_of(alloc: Global, lines: &[&str]) -> Result<Result<Argument, Detail>, MarkupFault>
     ensures { Gives (λ argument. spec.argument_in argument ≡ spec.language_of (texts_of lines.now)) result }
 {
     if lines.is_empty() {
         return Ok(Ok(Argument::Absent));
     }
-    let text = joined(alloc, &[], lines, 0)?;
+    let text = joined(alloc, Vec::new(alloc), lines, 0)?;
     let text = text_from(alloc, &text)?;
     let words = normalized_white(alloc, text.as_str())?;
     word_of(alloc, words)

@@ -17,9 +17,9 @@ use super::fault::{Detail, DirectiveFault, MarkupFault};
 use super::found::{Content, Directive, Place};
 use super::judgement::{content_fault, permitted};
 use super::layout::{Layout, layout_of};
-use super::lines::{line_at, past_blank, run_of};
+use super::lines::{past_blank, run_of};
 use super::name::Name;
-use super::options::{Field, Setting, fields_of, settings_of};
+use super::options::{Field, Setting, excerpt, fields_of, settings_of};
 use rst_markup_blocks::{Invocation, Part};
 use rst_text::{Looks, View};
 use std::alloc::{AllocError, Global};
@@ -39,8 +39,8 @@ pub fn called(
     ensures name { Gives (λ name. name ≡ spec.called_at true (block_of view.now) at invocation.now) result }
     ensures looks { looks.new ≡ looks.old + 1 }
 {
-    let line = line_at(alloc, view, at, looks)?;
-    Ok(Name::of(&line[invocation.name.from..invocation.name.to], true))
+    let name = excerpt(alloc, view.line(at, looks), invocation.name)?;
+    Ok(Name::of(&name, true))
 }
 
 /// What the directive is that is called at line `at` of a view, or what is wrong with it. `paragraph` tells whether its
@@ -114,13 +114,13 @@ fn is_code(name: Name) -> bool
 /// The first lines of a directive's block, up to the first blank one. Where the block of program code begins late, not in
 /// the line after the directive's, it is content.
 #[tactic(auto, unfolding(crate::specs::Directive::run_in))]
-fn first_run(
+fn first_run<'a>(
     alloc: Global,
     name: Name,
     late: bool,
-    lines: &View<'_>,
+    lines: &View<'a>,
     looks: &mut Looks,
-) -> Result<Vec<Vec<char>>, AllocError>
+) -> Result<Vec<&'a str>, AllocError>
     requires few { looks.old + length (block_of lines.now) < 2 ^ 121 }
     ensures texts { IfOk result (λ run. texts_of run.items ≡ directives.run_in name late (block_of lines.now)) }
     ensures within { IfOk result (λ run. length run.items ≤ length (block_of lines.now)) }
@@ -167,7 +167,7 @@ fn read_run(
     alloc: Global,
     name: Name,
     block: Part,
-    run: &[Vec<char>],
+    run: &[&str],
     rest: usize,
 ) -> Result<Result<Reading, Detail>, MarkupFault>
     requires ordered { block.from ≤ block.to }
@@ -186,14 +186,14 @@ fn read_run(
     }
 }
 
-fn front(run: &[Vec<char>], n: usize) -> &[Vec<char>]
+fn front<'r, 'a>(run: &'r [&'a str], n: usize) -> &'r [&'a str]
     requires { n ≤ length run.now }
     ensures { texts_of result.now ≡ take n (texts_of run.now) }
 {
     &run[..n]
 }
 
-fn behind(run: &[Vec<char>], n: usize) -> &[Vec<char>]
+fn behind<'r, 'a>(run: &'r [&'a str], n: usize) -> &'r [&'a str]
     requires { n ≤ length run.now }
     ensures { texts_of result.now ≡ drop n (texts_of run.now) }
 {
@@ -205,7 +205,7 @@ fn read_fields(
     alloc: Global,
     name: Name,
     content: Content,
-    lines: &[Vec<char>],
+    lines: &[&str],
     part: Part,
     fields: &[Field],
 ) -> Result<Result<Reading, Detail>, MarkupFault>
@@ -222,7 +222,7 @@ fn read_argument(
     alloc: Global,
     name: Name,
     content: Content,
-    lines: &[Vec<char>],
+    lines: &[&str],
     part: Part,
     options: Vec<Setting>,
 ) -> Result<Result<Reading, Detail>, MarkupFault>

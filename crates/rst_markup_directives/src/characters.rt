@@ -1,5 +1,5 @@
 //! Characters of texts that are given as slices.
-ghost use Rattle.std.specs.Prelude.{◌≡◌, ◌≤◌, IfOk, drop, length};
+ghost use Rattle.std.specs.Prelude.{◌≡◌, ◌≤◌, IfOk, length};
 ghost use Rattle.std.specs.Str.{chars};
 ghost use Rattle.rst_text.specs.Block.{indentation, is_blank};
 ghost use Rattle.rst_text.specs.Text.{chars_of};
@@ -131,11 +131,4 @@ pub(crate) fn is_same_word(text: &[char], other: &[char]) -> bool
         }
     }
     true
-}
-
-/// A text without its first `n` characters; of a shorter one nothing is left.
-pub(crate) fn past(text: &[char], n: usize) -> &[char]
-    ensures { result.now ≡ drop n text.now }
-{
-    if n < text.len() { &text[n..] } else { &[] }
 }

@@ -1,10 +1,11 @@
 //! Where the parts of a directive's block stand.
 ghost use Rattle.std.specs.Prelude.{◌≡◌, ◌≤◌, length};
+ghost use Rattle.std.specs.Str.{chars};
 ghost use Rattle.rst_markup_directives.specs.Lines.{texts_of};
 ghost use Rattle.rst_markup_directives.specs.Layout as spec;
 
-use super::field::begins_field;
 use super::name::{Holds, Name, Takes};
+use rst_markup_lines::field_of;
 
 /// The parts of a block, by places of its lines: the argument has those before `argument`; the first part of the
 /// content those before `first`; the options those from `options` up to the first blank line; and the second part of
@@ -17,8 +18,16 @@ pub(crate) struct Layout {
     pub second: usize,
 }
 
+/// Whether a line begins a field.
+#[tactic(auto, unfolding(crate::specs::Layout::begins_field))]
+fn begins_field(line: &str) -> bool
+    ensures { result ≡ spec.begins_field (chars line.now) }
+{
+    field_of(line).is_some()
+}
+
 /// How many of some lines stand before the first that begins a field.
-fn before_field(run: &[Vec<char>]) -> usize
+fn before_field(run: &[&str]) -> usize
     ensures value { result ≡ spec.before_field (texts_of run.now) }
     ensures within { result ≤ length run.now }
 {
@@ -33,7 +42,7 @@ fn before_field(run: &[Vec<char>]) -> usize
 /// The parts of a block of `all` lines that begins with this run, up to a blank line; `rest` is the place of the first line
 /// behind the run that isn't blank.
 #[tactic(auto, unfolding(crate::specs::Layout::layout_at))]
-pub(crate) fn layout_of(name: Name, run: &[Vec<char>], all: usize, rest: usize) -> Layout
+pub(crate) fn layout_of(name: Name, run: &[&str], all: usize, rest: usize) -> Layout
     ensures value { result ≡ spec.layout_at name (texts_of run.now) all rest }
     ensures argument { result.argument ≤ length run.now }
     ensures options { result.options ≤ length run.now }
@@ -49,7 +58,7 @@ pub(crate) fn layout_of(name: Name, run: &[Vec<char>], all: usize, rest: usize) 
 
 /// A block that is content alone.
 #[tactic(auto, using(crate::proofs::FieldLemmas::length_texts))]
-fn content_alone(run: &[Vec<char>], all: usize) -> Layout
+fn content_alone(run: &[&str], all: usize) -> Layout
     ensures value { result ≡ spec.content_alone (texts_of run.now) all }
     ensures options { result.options ≡ length run.now }
 {
@@ -62,7 +71,7 @@ fn content_alone(run: &[Vec<char>], all: usize) -> Layout
 }
 
 /// A block whose argument ends where the options begin.
-fn parts_with_argument(run: &[Vec<char>], rest: usize) -> Layout
+fn parts_with_argument(run: &[&str], rest: usize) -> Layout
     ensures value { result ≡ spec.parts_with_argument (texts_of run.now) rest }
     ensures argument { result.argument ≤ length run.now }
 {
@@ -77,7 +86,7 @@ fn parts_with_argument(run: &[Vec<char>], rest: usize) -> Layout
 
 /// A block without an argument, whose lines before the options are content.
 #[tactic(auto, using(crate::proofs::FieldLemmas::length_texts))]
-fn parts_without_argument(run: &[Vec<char>], all: usize, rest: usize) -> Layout
+fn parts_without_argument(run: &[&str], all: usize, rest: usize) -> Layout
     ensures value { result ≡ spec.parts_without_argument (texts_of run.now) all rest }
     ensures options { result.options ≤ length run.now }
     ensures first { length run.now ≤ all → result.first ≤ all }

@@ -5,7 +5,6 @@ mod argument;
 mod calls;
 mod characters;
 mod fault;
-mod field;
 mod found;
 mod judgement;
 mod layout;

@@ -1,44 +1,18 @@
 //! The lines of a directive's block.
-ghost use Rattle.std.specs.Prelude.{◌≡◌, ◌+◌, ◌*◌, ◌≤◌, ◌<◌, ◌^◌, length, drop, IfOk};
-ghost use Rattle.rst_text.specs.Block.{front_text, is_blank};
+ghost use Rattle.std.specs.Prelude.{◌≡◌, ◌+◌, ◌≤◌, ◌<◌, ◌^◌, length, IfOk};
 ghost use Rattle.rst_text.specs.Shown.{block_of};
 ghost use Rattle.rst_markup_directives.specs.Lines as spec;
 
-use super::characters::is_blank;
-use rst_text::{Looks, View, characters_of};
+use rst_markup_lines::is_blank;
+use rst_text::{Looks, View};
 use std::alloc::{AllocError, Global};
 
-/// The characters of a line.
-pub(crate) fn line_at(
-    alloc: Global,
-    lines: &View<'_>,
-    i: usize,
-    looks: &mut Looks,
-) -> Result<Vec<char>, AllocError>
-    requires inside { i < length (block_of lines.now) }
-    requires few { looks.old < 2 ^ 121 }
-    ensures text { IfOk result (λ line. line.items ≡ front_text (drop i (block_of lines.now))) }
-    ensures looks { looks.new ≡ looks.old + 1 }
-{
-    characters_of(alloc, lines.line(i, looks))
-}
-
-/// Whether a line is blank.
-fn is_blank_at(lines: &View<'_>, i: usize, looks: &mut Looks) -> bool
-    requires inside { i < length (block_of lines.now) }
-    requires few { looks.old < 2 ^ 121 }
-    ensures blank { result ≡ is_blank (front_text (drop i (block_of lines.now))) }
-    ensures looks { looks.new ≡ looks.old + 1 }
-{
-    lines.line(i, looks).is_empty()
-}
-
 /// The lines before the first blank one.
-pub(crate) fn run_of(
+pub(crate) fn run_of<'a>(
     alloc: Global,
-    lines: &View<'_>,
+    lines: &View<'a>,
     looks: &mut Looks,
-) -> Result<Vec<Vec<char>>, AllocError>
+) -> Result<Vec<&'a str>, AllocError>
     requires few { looks.old + length (block_of lines.now) < 2 ^ 121 }
     ensures texts { IfOk result (λ run. spec.texts_of run.items ≡ spec.first_run (block_of lines.now)) }
     ensures within { IfOk result (λ run. length run.items ≤ length (block_of lines.now)) }
@@ -46,8 +20,8 @@ pub(crate) fn run_of(
 {
     let mut run = Vec::new(alloc);
     for i in 0..lines.len() {
-        let line = line_at(alloc, lines, i, looks)?;
-        if is_blank(&line) {
+        let line = lines.line(i, looks);
+        if is_blank(line) {
             break;
         }
         run.push(line)?;
@@ -65,7 +39,7 @@ pub(crate) fn past_blank(lines: &View<'_>, from: usize, looks: &mut Looks) -> us
     ensures looks { looks.new ≤ looks.old + length (block_of lines.now) }
 {
     for i in from..lines.len() {
-        if !is_blank_at(lines, i, looks) {
+        if !is_blank(lines.line(i, looks)) {
             return i;
         }
     }

@@ -2,6 +2,7 @@
 ghost use Rattle.std.specs.Prelude.{◌≡◌, ◌++◌, string_bytes, IfOk};
 ghost use Rattle.rst_markup_directives.specs.Faults.{Gives};
 ghost use Rattle.rst_markup_directives.specs.Message as spec;
+ghost use Rattle.rst_markup_directives.specs.Wrong.{fault_in, wrong_in};
 
 use super::fault::{Detail, DirectiveFault, MarkupFault};
 use std::alloc::{AllocError, Global};
@@ -11,14 +12,14 @@ use std::alloc::{AllocError, Global};
 ///
 /// The only refusal is [`MarkupFault::NoMemory`].
 pub fn message(alloc: Global, fault: &DirectiveFault, name: &str) -> Result<String, MarkupFault>
-    ensures { Gives (λ text. string_bytes text ≡ spec.message_of fault.now name.now) result }
+    ensures { Gives (λ text. string_bytes text ≡ spec.fault_text (fault_in fault.now) name.now) result }
 {
     let text = text_of(alloc, fault, name)?;
     Ok(text)
 }
 
 fn text_of(alloc: Global, fault: &DirectiveFault, name: &str) -> Result<String, AllocError>
-    ensures { IfOk result (λ text. string_bytes text ≡ spec.message_of fault.now name.now) }
+    ensures { IfOk result (λ text. string_bytes text ≡ spec.fault_text (fault_in fault.now) name.now) }
 {
     match fault {
         DirectiveFault::NotInSubstitution => around(
@@ -47,7 +48,7 @@ fn text_of(alloc: Global, fault: &DirectiveFault, name: &str) -> Result<String, 
 }
 
 fn error_in(alloc: Global, name: &str, detail: &Detail) -> Result<String, AllocError>
-    ensures { IfOk result (λ text. string_bytes text ≡ spec.error_in name.now detail.now) }
+    ensures { IfOk result (λ text. string_bytes text ≡ spec.error_in name.now (wrong_in detail.now)) }
 {
     let mut text = around(alloc, "Error in \"", name, "\" directive:\n")?;
     let detail = detail_of(alloc, detail)?;
@@ -56,8 +57,9 @@ fn error_in(alloc: Global, name: &str, detail: &Detail) -> Result<String, AllocE
 }
 
 /// What is wrong inside a directive, the line below `Error in ..`.
+#[tactic(auto, using(crate::proofs::MessageLemmas::name_bytes))]
 fn detail_of(alloc: Global, detail: &Detail) -> Result<String, AllocError>
-    ensures { IfOk result (λ text. string_bytes text ≡ spec.detail_of detail.now) }
+    ensures { IfOk result (λ text. string_bytes text ≡ spec.wrong_text (wrong_in detail.now)) }
 {
     match detail {
         Detail::InvalidOptionBlock => String::from_str(alloc, "invalid option block."),
@@ -75,7 +77,7 @@ fn detail_of(alloc: Global, detail: &Detail) -> Result<String, AllocError>
 
 /// Three texts in a row.
 fn around(alloc: Global, before: &str, middle: &str, after: &str) -> Result<String, AllocError>
-    ensures { IfOk result (λ text. string_bytes text ≡ (before.now ++ middle.now) ++ after.now) }
+    ensures { IfOk result (λ text. string_bytes text ≡ before.now ++ middle.now ++ after.now) }
 {
     let mut text = String::from_str(alloc, before)?;
     text.push_str(middle)?;

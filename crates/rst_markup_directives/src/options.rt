@@ -1,17 +1,19 @@
 //! The options of a directive's block.
-ghost use Rattle.std.specs.Prelude.{◌≡◌, ◌+◌, ◌≤◌, ◌<◌, [], length, drop, take_while, IfOk, option_map};
+ghost use Rattle.std.specs.Prelude.{◌≡◌, ◌+◌, ◌≤◌, ◌<◌, length, drop, slice_range, take_while, IfOk, option_map};
 ghost use Rattle.std.specs.List.{prefix_len};
-ghost use Rattle.rst_markup_lines.specs.Front.{begins_with};
+ghost use Rattle.std.specs.Str.{chars};
+ghost use Rattle.rst_markup_lines.specs.Front as fronts;
 ghost use Rattle.rst_markup_directives.specs.Faults.{Gives};
 ghost use Rattle.rst_markup_directives.specs.Lines.{texts_of};
 ghost use Rattle.rst_markup_directives.specs.Options as spec;
 
-use super::characters::{is_blank, is_same_word, past, spaces, text_from};
+use super::characters::{is_blank, is_same_word, text_from};
 use super::fault::{Detail, MarkupFault};
-use super::field::field_mark;
 use super::name::Name;
 use super::option::OptionName;
 use super::value::{OptionValue, option_value};
+use rst_markup_lines::{Characters, begins_with, field_of};
+use rst_text::{characters_of, indentation, skip};
 use std::alloc::{AllocError, Global};
 
 /// An option of a directive, with its value.
@@ -29,12 +31,12 @@ pub(crate) struct Field {
 }
 
 /// How many of some lines at the front begin with a space.
-fn deep_len(run: &[Vec<char>]) -> usize
-    ensures value { result ≡ prefix_len (begins_with 32) (texts_of run.now) }
+fn deep_len(run: &[&str]) -> usize
+    ensures value { result ≡ prefix_len (fronts.begins_with 32) (texts_of run.now) }
     ensures within { result ≤ length run.now }
 {
     for (i, line) in run.iter().enumerate() {
-        if line.first() != Some(&' ') {
+        if !begins_with(' ', line) {
             return i;
         }
     }
@@ -42,15 +44,15 @@ fn deep_len(run: &[Vec<char>]) -> usize
 }
 
 /// The least indentation of some lines.
-fn least_indentation(lines: &[Vec<char>]) -> usize
+fn least_indentation(lines: &[&str]) -> usize
     ensures { result ≡ spec.least_indentation (texts_of lines.now) }
 {
     let Some(first) = lines.first() else {
         return 0;
     };
-    let mut least = spaces(first);
+    let mut least = indentation(first);
     for line in lines {
-        least = least.min(spaces(line));
+        least = least.min(indentation(line));
     }
     least
 }
@@ -58,34 +60,48 @@ fn least_indentation(lines: &[Vec<char>]) -> usize
 /// A text, unless it is empty, and some lines without their first characters, as many as `cut`, joined by line feeds.
 pub(crate) fn joined(
     alloc: Global,
-    first: &[char],
-    lines: &[Vec<char>],
+    first: Vec<char>,
+    lines: &[&str],
     cut: usize,
 ) -> Result<Vec<char>, AllocError>
-    ensures { IfOk result (λ text. text.items ≡ spec.joined first.now (texts_of lines.now) cut) }
+    ensures { IfOk result (λ text. text.items ≡ spec.joined first.items (texts_of lines.now) cut) }
 {
-    let mut text = Vec::from_slice(alloc, first)?;
-    let mut due = !is_blank(first);
+    let mut text = first;
+    let mut due = !is_blank(&text);
     for line in lines {
         if due {
             text.push('\n')?;
         }
-        text.extend_from_slice(past(line, cut))?;
+        let rest = characters_of(alloc, skip(line, cut))?;
+        text.extend_from_slice(&rest)?;
         due = true;
     }
     Ok(text)
 }
 
+/// The characters of a text from one place up to another.
+pub(crate) fn excerpt(
+    alloc: Global,
+    text: &str,
+    places: Characters,
+) -> Result<Vec<char>, AllocError>
+    ensures { IfOk result (λ part. part.items ≡ slice_range (chars text.now) places.from places.to) }
+{
+    let mut part = characters_of(alloc, skip(text, places.from))?;
+    part.truncate(places.to.saturating_sub(places.from));
+    Ok(part)
+}
+
 /// The fields of some lines, of which none is blank; or none where a line neither begins a field nor is indented below
 /// one.
-pub(crate) fn fields_of(alloc: Global, run: &[Vec<char>]) -> Result<Option<Vec<Field>>, AllocError>
+pub(crate) fn fields_of(alloc: Global, run: &[&str]) -> Result<Option<Vec<Field>>, AllocError>
     ensures { IfOk result (λ fields. option_map (λ v. spec.field_texts v.items) fields ≡ spec.fields_in (texts_of run.now)) }
 {
     let mut fields = Vec::new(alloc);
     let mut i = 0;
     while i < run.len() {
         let below = below_of(run, i);
-        let Some(field) = field_of(alloc, &run[i], below)? else {
+        let Some(field) = field_in(alloc, run[i], below)? else {
             return Ok(None);
         };
         fields.push(field)?;
@@ -95,10 +111,10 @@ pub(crate) fn fields_of(alloc: Global, run: &[Vec<char>]) -> Result<Option<Vec<F
 }
 
 /// The indented lines directly below a line.
-fn below_of(run: &[Vec<char>], i: usize) -> &[Vec<char>]
+fn below_of<'r, 'a>(run: &'r [&'a str], i: usize) -> &'r [&'a str]
     requires { i < length run.now }
-    ensures texts { texts_of result.now ≡ take_while (begins_with 32) (drop (i + 1) (texts_of run.now)) }
-    ensures len { length result.now ≡ prefix_len (begins_with 32) (drop (i + 1) (texts_of run.now)) }
+    ensures texts { texts_of result.now ≡ take_while (fronts.begins_with 32) (drop (i + 1) (texts_of run.now)) }
+    ensures len { length result.now ≡ prefix_len (fronts.begins_with 32) (drop (i + 1) (texts_of run.now)) }
     ensures within { i + 1 + length result.now ≤ length run.now }
 {
     let behind = &run[i + 1..];
@@ -107,19 +123,15 @@ fn below_of(run: &[Vec<char>], i: usize) -> &[Vec<char>]
 
 /// The field that a line begins, with the indented lines below it.
 #[tactic(auto, unfolding(crate::specs::Options::field_in))]
-fn field_of(alloc: Global, line: &[char], below: &[Vec<char>]) -> Result<Option<Field>, AllocError>
-    ensures { IfOk result (λ field. option_map spec.field_text field ≡ spec.field_in line.now (texts_of below.now)) }
+fn field_in(alloc: Global, line: &str, below: &[&str]) -> Result<Option<Field>, AllocError>
+    ensures { IfOk result (λ field. option_map spec.field_text field ≡ spec.field_in (chars line.now) (texts_of below.now)) }
 {
-    let Some(mark) = field_mark(line) else {
+    let Some(mark) = field_of(line) else {
         return Ok(None);
     };
-    let name = Vec::from_slice(alloc, &line[mark.name.from..mark.name.to])?;
-    let value = joined(
-        alloc,
-        &line[mark.marker.cut..],
-        below,
-        least_indentation(below),
-    )?;
+    let name = excerpt(alloc, line, mark.name)?;
+    let first = characters_of(alloc, skip(line, mark.marker.cut))?;
+    let value = joined(alloc, first, below, least_indentation(below))?;
     Ok(Some(Field { name, value }))
 }
 

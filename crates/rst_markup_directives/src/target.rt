@@ -9,8 +9,8 @@ ghost use Rattle.rst_markup_directives.specs.Target as spec;
 
 use super::characters::text_from;
 use super::fault::MarkupFault;
-use rst_inline_scan::{escapes, has, is_dark, is_simple_name, unescaped};
-use rst_text::{characters_of, is_white};
+use rst_inline_scan::{escapes, has, is_dark, is_simple_name, unescaped, without_white};
+use rst_text::characters_of;
 use std::alloc::{AllocError, Global};
 
 /// What a target leads to.
@@ -172,18 +172,4 @@ fn has_bare_backquote(text: &[char]) -> bool
         escaped = escapes(*c, escaped);
     }
     false
-}
-
-/// A text without its white characters.
-pub(crate) fn without_white(alloc: Global, text: &[char]) -> Result<Vec<char>, AllocError>
-    ensures { IfOk result (λ dark. dark.items ≡ without_white text.now) }
-{
-    let mut dark = Vec::new(alloc);
-    for c in text {
-        if is_white(*c) {
-            continue;
-        }
-        dark.push(*c)?;
-    }
-    Ok(dark)
 }

@@ -11,7 +11,7 @@ use rst_text::{is_white, skip};
 
 /// What closes.
 #[derive(Clone, Copy, Debug, PartialEq, Eq)]
-pub enum Closing {
+pub(crate) enum Closing {
     /// A colon with a space or the end behind it.
     Colon,
     /// A backquote with such a colon behind it.
@@ -41,7 +41,7 @@ fn closes(closing: Closing, escaped: bool, dark: bool, c: char, behind: &str) ->
 }
 
 /// How many characters stand before the first one that closes and isn't escaped.
-pub fn closed(closing: Closing, text: &str) -> Option<usize>
+pub(crate) fn closed(closing: Closing, text: &str) -> Option<usize>
     ensures value { result ≡ spec.closed closing (chars text.now) }
     ensures within { IfSome result (λ n. n < length text.now) }
 {

@@ -18,7 +18,7 @@ pub fn digit(c: char) -> u64
 }
 
 /// The number that the first `n` characters of a text are in decimal.
-pub fn decimal(n: usize, text: &str) -> u64
+pub(crate) fn decimal(n: usize, text: &str) -> u64
     requires { n ≤ 9 }
     ensures { result ≡ spec.number_of n (chars text.now) }
 {

@@ -59,7 +59,7 @@ pub struct Enumerator {
 }
 
 /// The case of an ASCII letter; of another character it is upper case.
-pub fn case_of(c: char) -> Case
+fn case_of(c: char) -> Case
     ensures { result ≡ spec.case_of c }
 {
     if matches!(c, 'a'..='z') {
@@ -213,7 +213,7 @@ fn is_one_more(value: Option<u64>, next: Option<u64>) -> bool
 }
 
 /// Whether an ordinal is the next one under any reading; `#` is next to any.
-pub fn is_next(ordinals: Ordinals, next: Ordinals) -> bool
+fn is_next(ordinals: Ordinals, next: Ordinals) -> bool
     ensures { result ≡ spec.is_next ordinals next }
 {
     match (ordinals, next) {

@@ -57,7 +57,7 @@ fn goes_on(c: char, behind: &str) -> bool
 }
 
 /// How many characters the simple name at the front of a text has; 0 where there is none.
-pub fn simple_name(text: &str) -> usize
+fn simple_name(text: &str) -> usize
     ensures value { result ≡ names.simple_name (chars text.now) }
     ensures within { result ≤ length text.now }
 {

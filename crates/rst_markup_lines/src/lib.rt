@@ -21,21 +21,19 @@ pub use adornment::{Adornment, adornment_of, is_punctuation};
 pub use attribution::attribution_of;
 pub use border::{is_grid_border, is_simple_border};
 pub use class::{Class, run};
-pub use closing::{Closing, closed, ends_in_colons};
+pub use closing::ends_in_colons;
 pub use decimal::digit;
 pub use enumerator::{
     Case, Enumerator, Format, Ordinals, Reading, Sequence, Written, begins_next, enumerator_of,
-    first_reading, is_next, is_same_format, ordinal_in,
+    first_reading, is_same_format, ordinal_in,
 };
 pub use explicit_marks::{
     DirectiveMark, LabelKind, LabelMark, SubstitutionMark, TargetMark, directive_of, dots,
-    label_of, simple_name, substitution_of, target_of, underscores,
+    label_of, substitution_of, target_of, underscores,
 };
 pub use field::{FieldMark, field_of};
 pub use marker::{Marker, bullet, doctest, line_bar, marker_of};
-pub use option::{
-    Argument, Delimiter, OptionMark, OptionTail, option_at, option_marker, option_tail,
-};
+pub use option::{Delimiter, option_marker};
 pub use options::{ListedArgument, ListedOption, listed_options};
 pub use place::Characters;
 pub use text::{begins_with, front, is_blank, is_loose};

@@ -19,14 +19,14 @@ pub enum Delimiter {
 /// An option at the front of a text: how many characters it has without its argument, and the argument, if it has one:
 /// what stands before it, and how many characters it has.
 #[derive(Clone, Copy, Debug, PartialEq, Eq)]
-pub struct OptionMark {
+pub(crate) struct OptionMark {
     pub string: usize,
     pub argument: Option<Argument>,
 }
 
 /// An option's argument.
 #[derive(Clone, Copy, Debug, PartialEq, Eq)]
-pub struct Argument {
+pub(crate) struct Argument {
     pub delimiter: Delimiter,
     pub len: usize,
 }
@@ -146,7 +146,7 @@ fn short_option(text: &str) -> Option<OptionMark>
 
 /// The option at the front of a text: `-` or `+` and a character, or `--` or `/` and a name, and maybe an argument.
 #[tactic(auto, unfolding(crate::specs::OptionMarker::option_at))]
-pub fn option_at(text: &str) -> Option<OptionMark>
+pub(crate) fn option_at(text: &str) -> Option<OptionMark>
     ensures value { result ≡ spec.option_at (chars text.now) }
     ensures short { IfSome result (λ option. option.string < 2 ^ 63 + 2) }
 {
@@ -182,7 +182,7 @@ fn argument_width(argument: Option<Argument>) -> usize
 
 /// What stands behind an option.
 #[derive(Clone, Copy, Debug, PartialEq, Eq)]
-pub enum OptionTail {
+pub(crate) enum OptionTail {
     /// Nothing, or two or more spaces: the option is the last, and the marker it makes.
     Last(Marker),
     /// A comma and a space: how many characters stand before the next option.
@@ -213,7 +213,7 @@ fn tail_at(n: usize, text: &str) -> OptionTail
 
 /// What stands behind the option at the front of a text.
 #[tactic(auto, unfolding(crate::specs::OptionMarker::option_tail))]
-pub fn option_tail(text: &str) -> OptionTail
+pub(crate) fn option_tail(text: &str) -> OptionTail
     ensures { result ≡ spec.option_tail (chars text.now) }
 {
     match option_at(text) {

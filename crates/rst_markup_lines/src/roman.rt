@@ -12,14 +12,14 @@ use rst_text::skip;
 
 /// A digit of a Roman numeral: its value and how many letters it has.
 #[derive(Clone, Copy)]
-pub struct RomanDigit {
+struct RomanDigit {
     pub value: u64,
     pub len: usize,
 }
 
 /// The letters for one, five and ten of a place of a Roman numeral.
 #[derive(Clone, Copy)]
-pub struct RomanPlace {
+struct RomanPlace {
     pub one: char,
     pub five: char,
     pub ten: char,
@@ -105,7 +105,7 @@ fn digit_at(place: RomanPlace, text: &str) -> Option<RomanDigit>
 /// The value of the letters at the front of a text, of which there are `len`, if they are a Roman numeral in its canonical
 /// form; that is at most 4999.
 #[tactic(auto, using(crate::proofs::RomanLemmas::roman_is))]
-pub fn roman(case: Case, len: usize, text: &str) -> Option<u64>
+pub(crate) fn roman(case: Case, len: usize, text: &str) -> Option<u64>
     requires { len ≡ classes.run Letter (chars text.now) }
     ensures { result ≡ spec.roman case (take len (chars text.now)) }
 {

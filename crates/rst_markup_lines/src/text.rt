@@ -12,7 +12,7 @@ pub fn front(text: &str) -> Option<char>
 }
 
 /// A text without its first character.
-pub fn after_first(text: &str) -> &str
+pub(crate) fn after_first(text: &str) -> &str
     ensures value { chars result.now ≡ drop 1 (chars text.now) }
     ensures shorter { IsSome (first (chars text.now)) → length result.now < length text.now }
 {

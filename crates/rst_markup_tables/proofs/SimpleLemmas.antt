@@ -12,7 +12,7 @@ use Rattle.rst_markup_tables.proofs.Lists.{all_from-take, all_from-more, all_fro
 use Rattle.rst_markup_tables.specs.Places.{Grid, Row, no_row, row_at}
 use Rattle.rst_markup_tables.specs.declared.places.Place.{Place}
 use Rattle.rst_markup_tables.specs.SimpleTable.{begins_row, row_lines, row_between, section, lines_of_row, longest, last_joined, joining, spread}
-use Rattle.rst_markup_tables.specs.declared.spans.Span.{Span}
+use Rattle.rst_markup_tables.specs.declared.spans.RuleSpan.{RuleSpan}
 
 left_more : (k high : ℕ) → k < high → high - k ≡ suc (high - (k + 1))
 left_more k high h = omega arith
@@ -34,13 +34,13 @@ position_none p xs d fails =
 
 -- ---- the spans of a rule
 
-pub spread_more : (wide new left : List Span) (s : Span) (ss : List Span) (last : ℕ) → last_joined left s ≡ Some last → new ≡ wide ++ joining s (last + 1) ∷ []
+pub spread_more : (wide new left : List RuleSpan) (s : RuleSpan) (ss : List RuleSpan) (last : ℕ) → last_joined left s ≡ Some last → new ≡ wide ++ joining s (last + 1) ∷ []
     → option_map (λ others. new ++ others) (spread (drop (last + 1) left) ss) ≡ option_map (λ others. wide ++ others) (spread left (s ∷ ss))
 spread_more wide new left s ss last e is =
     by (spread (drop (last + 1) left) ss)
     ∙ sym (ap (λ o. option_map (λ others. wide ++ others) (option_and_then (λ k. option_map (λ others. joining s (k + 1) ∷ others) (spread (drop (k + 1) left) ss)) o)) e)
   where
-    by : (o : Option (List Span)) → option_map (λ others. new ++ others) o ≡ option_map (λ others. wide ++ others) (option_map (λ others. joining s (last + 1) ∷ others) o)
+    by : (o : Option (List RuleSpan)) → option_map (λ others. new ++ others) o ≡ option_map (λ others. wide ++ others) (option_map (λ others. joining s (last + 1) ∷ others) o)
     by None = refl
     by (Some others) = ap Some (ap (λ l. l ++ others) is ∙ append_assoc wide (joining s (last + 1) ∷ []) others)
 

@@ -1,4 +1,4 @@
--- Laws on the definitions alone. No rule of markup: they follow from what tilings and ends of tables are.
+-- Laws, which a reader of the definitions may pass over. No rule of markup: they follow from what tilings and ends of tables are.
 use Rattle.std.specs.Prelude.{◌≡◌, ℕ, ◌<◌, ◌≤◌, false, drop}
 use Rattle.rst_text.specs.Block.{Block}
 use Rattle.rst_markup_blocks.specs.TableRows.{grid_size, grid_scan, is_grid_row, simple_size, simple_scan, is_lower_border_at}

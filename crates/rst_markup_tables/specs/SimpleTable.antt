@@ -13,7 +13,7 @@ use Rattle.rst_markup_tables.specs.Cells.{cell_block}
 use Rattle.rst_markup_tables.specs.GridTable.{malformed}
 use Rattle.rst_markup_tables.specs.declared.places.Place.{Place}
 use Rattle.rst_markup_tables.specs.declared.places.Place.TheVariants.{Character, Second}
-use Rattle.rst_markup_tables.specs.declared.spans.Span.{Span}
+use Rattle.rst_markup_tables.specs.declared.spans.RuleSpan.{RuleSpan}
 use Rattle.rst_markup_tables.specs.declared.simple_rows.RowLines.{RowLines}
 use Rattle.rst_markup_tables.specs.declared.results.Cell.{Cell}
 use Rattle.rst_markup_tables.specs.declared.results.TableDetail.{TableDetail}
@@ -54,40 +54,40 @@ abbrev pub span_end : List Place → ℕ → ℕ
 span_end row k = unwrap_or (first_from (is_space row) k (length row - k)) (length row)
 
 -- the run that begins there, as a span of one column
-abbrev pub span_at : List Place → ℕ → Span
+abbrev pub span_at : List Place → ℕ → RuleSpan
 span_at row k = record { from = k; to = span_end row k; columns = 1 }
 
 -- the runs of marks in a rule
-abbrev pub spans_of : List Place → List Span
+abbrev pub spans_of : List Place → List RuleSpan
 spans_of row = map (span_at row) (filter (begins_span row) (range_with_len 0 (length row)))
 
 -- the columns of the table: the runs of the top border
-abbrev pub columns_of : Grid → List Span
+abbrev pub columns_of : Grid → List RuleSpan
 columns_of T = spans_of (row_at T 0)
 
 -- The place, in the list of columns, of the last that a span joins: the span begins where the first of them does, and ends
 -- where this one does. There is none where no columns lie so.
-abbrev pub last_joined : List Span → Span → Option ℕ
+abbrev pub last_joined : List RuleSpan → RuleSpan → Option ℕ
 last_joined [] s = None
 last_joined (c ∷ cs) s = if c.from == s.from then position (λ d. d.to == s.to) (c ∷ cs) else None
 
 -- a span with how many columns it joins
-abbrev pub joining : Span → ℕ → Span
+abbrev pub joining : RuleSpan → ℕ → RuleSpan
 joining s n = record { from = s.from; to = s.to; columns = n }
 
 -- no span is needed more when no column is left; else there are spans too few
-abbrev pub no_more : List Span → Option (List Span)
+abbrev pub no_more : List RuleSpan → Option (List RuleSpan)
 no_more [] = Some []
 no_more (c ∷ cs) = None
 
 -- Spans with how many columns each joins. They have to join all columns, each those behind the ones that the span before
 -- it joins.
-abbrev pub spread : List Span → List Span → Option (List Span)
+abbrev pub spread : List RuleSpan → List RuleSpan → Option (List RuleSpan)
 spread columns [] = no_more columns
 spread columns (s ∷ ss) = option_and_then (λ last. option_map (λ others. joining s (last + 1) ∷ others) (spread (drop (last + 1) columns) ss)) (last_joined columns s)
 
 -- the spans of a row that is a rule
-abbrev pub rule_spans : Grid → ℕ → Option (List Span)
+abbrev pub rule_spans : Grid → ℕ → Option (List RuleSpan)
 rule_spans T k = spread (columns_of T) (spans_of (row_at T k))
 
 -- the rules below the top border: span rules, the border that closes the head and the last border
@@ -110,7 +110,7 @@ abbrev pub is_clear : ℕ → ℕ → List Place → Bool
 is_clear from to row = list_all is_white_place (take (to - from) (drop from row))
 
 -- a span of nothing
-abbrev pub no_span : Span
+abbrev pub no_span : RuleSpan
 no_span = record { from = 0; to = 0; columns = 0 }
 
 -- a line begins a row: its first column isn't blank
@@ -149,15 +149,15 @@ abbrev pub simple_rows : Grid → List RowLines
 simple_rows T = sections T (rules_of T)
 
 -- the spans of a row, by the rule that ends it
-abbrev pub row_spans : Grid → RowLines → List Span
+abbrev pub row_spans : Grid → RowLines → List RuleSpan
 row_spans T r = unwrap_or (rule_spans T r.rule) []
 
 -- nothing but white stands between neighbouring spans
-abbrev pub are_clear : List Span → List Place → Bool
-are_clear spans row = list_all (λ (p : Span × Span). is_clear p.0.to p.1.from row) (neighbours spans)
+abbrev pub are_clear : List RuleSpan → List Place → Bool
+are_clear spans row = list_all (λ (p : RuleSpan × RuleSpan). is_clear p.0.to p.1.from row) (neighbours spans)
 
 -- the first line of a row with text between its columns
-abbrev pub text_in_margin : Grid → List Span → ℕ → ℕ → Option ℕ
+abbrev pub text_in_margin : Grid → List RuleSpan → ℕ → ℕ → Option ℕ
 text_in_margin T spans from to = first_from (λ k. not (are_clear spans (row_at T k))) from (to - from)
 
 -- the first such line of all rows
@@ -180,11 +180,11 @@ abbrev pub longest_of : Grid → List RowLines → ℕ
 longest_of T rows = longest (flat_map (lines_of_row T) rows)
 
 -- the k-th span
-abbrev pub span_of : List Span → ℕ → Span
+abbrev pub span_of : List RuleSpan → ℕ → RuleSpan
 span_of spans k = get_or spans k no_span
 
 -- A column is as wide as its part of the top border; the last is as wide as its longest line, if that is wider.
-abbrev pub width_of : List Span → ℕ → ℕ → ℕ
+abbrev pub width_of : List RuleSpan → ℕ → ℕ → ℕ
 width_of columns widest k = let c = span_of columns k in
     if k + 1 == length columns then max (c.to - c.from) (widest - c.from) else c.to - c.from
 
@@ -193,15 +193,15 @@ abbrev pub simple_widths : Grid → List ℕ
 simple_widths T = map (width_of (columns_of T) (longest_of T (simple_rows T))) (range_with_len 0 (length (columns_of T)))
 
 -- where the k-th span of a row ends: the last has no end
-abbrev pub right_of : List Span → ℕ → Option ℕ
+abbrev pub right_of : List RuleSpan → ℕ → Option ℕ
 right_of spans k = if k + 1 == length spans then None else Some (span_of spans k).to
 
 -- the cell of a row's lines in its k-th span
-abbrev pub entry : Grid → List Span → ℕ → Cell
+abbrev pub entry : Grid → List RuleSpan → ℕ → Cell
 entry lines spans k = record { morerows = 0; morecols = (span_of spans k).columns - 1; lines = cell_block (span_of spans k).from (right_of spans k) lines }
 
 -- the cells of a row's lines, one in each span
-abbrev pub entries : Grid → List Span → List Cell
+abbrev pub entries : Grid → List RuleSpan → List Cell
 entries lines spans = map (entry lines spans) (range_with_len 0 (length spans))
 
 -- the cells of a row

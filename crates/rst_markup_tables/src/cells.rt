@@ -1,5 +1,5 @@
 //! The lines of a cell.
-ghost use Rattle.std.specs.Prelude.{◌≡◌, drop, true, min, unwrap_or, IfOk, IsTrue, map};
+ghost use Rattle.std.specs.Prelude.{◌≡◌, drop, true, IfOk, IsTrue, map};
 ghost use Rattle.std.specs.Str.{all_scalars, drop_trailing_whitespace};
 ghost use Rattle.rst_text.specs.Block as spec;
 ghost use Rattle.rst_text.specs.Extent.{least_indent};
@@ -110,16 +110,6 @@ fn indentation(text: &[char]) -> usize
     spaces
 }
 
-/// The lesser of two indentations, if there is one already.
-fn lower(least: Option<usize>, n: usize) -> usize
-    ensures { result ≡ min (unwrap_or least n) n }
-{
-    match least {
-        Some(m) => m.min(n),
-        None => n,
-    }
-}
-
 /// The least indentation of the lines that aren't blank, 0 if there is none.
 fn least_indent(lines: &[CutLine]) -> usize
     ensures { result ≡ least_indent lines.now }
@@ -130,7 +120,8 @@ fn least_indent(lines: &[CutLine]) -> usize
         if text.is_empty() {
             continue;
         }
-        least = Some(lower(least, indentation(text)));
+        let spaces = indentation(text);
+        least = Some(least.unwrap_or(spaces).min(spaces));
     }
     least.unwrap_or(0)
 }

@@ -8,7 +8,7 @@ use super::cells::cell_lines;
 use super::places::TableLine;
 use super::results::{Cell, Rows, Widths};
 use super::simple_rows::{RowLines, row_spans};
-use super::spans::Span;
+use super::spans::RuleSpan;
 use std::alloc::{AllocError, Global};
 
 /// How many places a line of the table has.
@@ -43,12 +43,12 @@ fn longest_of(lines: &[TableLine], rows: &[RowLines]) -> usize
     longest
 }
 
-fn span_of(spans: &[Span], k: usize) -> Span
+fn span_of(spans: &[RuleSpan], k: usize) -> RuleSpan
     ensures { result ≡ spec.span_of spans.now k }
 {
     match spans.get(k) {
         Some(span) => *span,
-        None => Span {
+        None => RuleSpan {
             from: 0,
             to: 0,
             columns: 0,
@@ -57,7 +57,7 @@ fn span_of(spans: &[Span], k: usize) -> Span
 }
 
 /// How wide a column is.
-fn width_of(columns: &[Span], longest: usize, k: usize) -> usize
+fn width_of(columns: &[RuleSpan], longest: usize, k: usize) -> usize
     requires { k < length columns.now }
     ensures { result ≡ spec.width_of columns.now longest k }
 {
@@ -74,7 +74,7 @@ fn width_of(columns: &[Span], longest: usize, k: usize) -> usize
 pub(crate) fn widths(
     alloc: Global,
     lines: &[TableLine],
-    columns: &[Span],
+    columns: &[RuleSpan],
     rows: &[RowLines],
 ) -> Result<Widths, AllocError>
     requires columns { columns.now ≡ spec.columns_of lines.now }
@@ -90,7 +90,7 @@ pub(crate) fn widths(
 }
 
 /// Where a span of a row ends: the last has no end.
-fn right_of(spans: &[Span], k: usize) -> Option<usize>
+fn right_of(spans: &[RuleSpan], k: usize) -> Option<usize>
     requires { k < length spans.now }
     ensures { result ≡ spec.right_of spans.now k }
 {
@@ -102,7 +102,12 @@ fn right_of(spans: &[Span], k: usize) -> Option<usize>
 }
 
 /// The cell in a span of a row.
-fn entry(alloc: Global, lines: &[TableLine], spans: &[Span], k: usize) -> Result<Cell, AllocError>
+fn entry(
+    alloc: Global,
+    lines: &[TableLine],
+    spans: &[RuleSpan],
+    k: usize,
+) -> Result<Cell, AllocError>
     requires { k < length spans.now }
     ensures { IfOk result (λ cell. cell ≡ spec.entry lines.now spans.now k) }
 {
@@ -116,7 +121,7 @@ fn entry(alloc: Global, lines: &[TableLine], spans: &[Span], k: usize) -> Result
 }
 
 /// The cells of a row.
-fn entries(alloc: Global, lines: &[TableLine], spans: &[Span]) -> Result<Vec<Cell>, AllocError>
+fn entries(alloc: Global, lines: &[TableLine], spans: &[RuleSpan]) -> Result<Vec<Cell>, AllocError>
     ensures { IfOk result (λ cells. cells.items ≡ spec.entries lines.now spans.now) }
 {
     let mut cells = Vec::with_capacity(alloc, spans.len())?;
@@ -139,7 +144,7 @@ fn lines_of(lines: &[TableLine], row: RowLines) -> &[TableLine]
 pub(crate) fn all_entries(
     alloc: Global,
     lines: &[TableLine],
-    columns: &[Span],
+    columns: &[RuleSpan],
     rows: &[RowLines],
 ) -> Result<Rows, AllocError>
     requires { columns.now ≡ spec.columns_of lines.now }

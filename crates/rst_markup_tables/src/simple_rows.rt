@@ -7,7 +7,7 @@ ghost use Rattle.rst_markup_tables.specs.SimpleTable as spec;
 
 use super::places::{Place, TableLine};
 use super::simple_lines::is_rule;
-use super::spans::{Span, spans_of, spread};
+use super::spans::{RuleSpan, spans_of, spread};
 use std::alloc::{AllocError, Global};
 
 /// The lines of a row: from place `from` of the table on, before place `to`. Its columns are those of the rule at place
@@ -43,7 +43,7 @@ pub(crate) fn rules_of(alloc: Global, lines: &[TableLine]) -> Result<Vec<usize>,
 }
 
 /// The runs of marks in a line of the table.
-fn line_spans(alloc: Global, lines: &[TableLine], k: usize) -> Result<Vec<Span>, AllocError>
+fn line_spans(alloc: Global, lines: &[TableLine], k: usize) -> Result<Vec<RuleSpan>, AllocError>
     ensures { IfOk result (λ spans. spans.items ≡ spec.spans_of (row_at lines.now k)) }
 {
     match lines.get(k) {
@@ -53,7 +53,7 @@ fn line_spans(alloc: Global, lines: &[TableLine], k: usize) -> Result<Vec<Span>,
 }
 
 /// The columns of the table.
-pub(crate) fn columns_of(alloc: Global, lines: &[TableLine]) -> Result<Vec<Span>, AllocError>
+pub(crate) fn columns_of(alloc: Global, lines: &[TableLine]) -> Result<Vec<RuleSpan>, AllocError>
     ensures { IfOk result (λ columns. columns.items ≡ spec.columns_of lines.now) }
 {
     line_spans(alloc, lines, 0)
@@ -63,9 +63,9 @@ pub(crate) fn columns_of(alloc: Global, lines: &[TableLine]) -> Result<Vec<Span>
 fn rule_spans(
     alloc: Global,
     lines: &[TableLine],
-    columns: &[Span],
+    columns: &[RuleSpan],
     rule: usize,
-) -> Result<Option<Vec<Span>>, AllocError>
+) -> Result<Option<Vec<RuleSpan>>, AllocError>
     requires { columns.now ≡ spec.columns_of lines.now }
     ensures { IfOk result (λ found. option_map vec_items found ≡ spec.rule_spans lines.now rule) }
 {
@@ -78,7 +78,7 @@ fn rule_spans(
 pub(crate) fn first_unaligned(
     alloc: Global,
     lines: &[TableLine],
-    columns: &[Span],
+    columns: &[RuleSpan],
     rules: &[usize],
 ) -> Result<Option<usize>, AllocError>
     requires columns { columns.now ≡ spec.columns_of lines.now }
@@ -98,9 +98,9 @@ pub(crate) fn first_unaligned(
 pub(crate) fn row_spans(
     alloc: Global,
     lines: &[TableLine],
-    columns: &[Span],
+    columns: &[RuleSpan],
     row: RowLines,
-) -> Result<Vec<Span>, AllocError>
+) -> Result<Vec<RuleSpan>, AllocError>
     requires { columns.now ≡ spec.columns_of lines.now }
     ensures { IfOk result (λ spans. spans.items ≡ spec.row_spans lines.now row) }
 {
@@ -141,7 +141,7 @@ fn is_clear(row: &[Place], from: usize, to: usize) -> bool
 }
 
 /// Whether the line at a place begins a row: its first column isn't blank.
-fn begins_row(lines: &[TableLine], column: Span, k: usize) -> bool
+fn begins_row(lines: &[TableLine], column: RuleSpan, k: usize) -> bool
     requires { column ≡ get_or (spec.columns_of lines.now) 0 spec.no_span }
     ensures { result ≡ spec.begins_row lines.now k }
 {
@@ -178,7 +178,7 @@ fn text_start(lines: &[TableLine], low: usize, end: usize) -> Option<usize>
 fn with_section(
     rows: Vec<RowLines>,
     lines: &[TableLine],
-    column: Span,
+    column: RuleSpan,
     low: usize,
     rule: usize,
 ) -> Result<Vec<RowLines>, AllocError>
@@ -210,7 +210,7 @@ fn with_section(
 pub(crate) fn simple_rows(
     alloc: Global,
     lines: &[TableLine],
-    column: Span,
+    column: RuleSpan,
     rules: &[usize],
 ) -> Result<Vec<RowLines>, AllocError>
     requires column { column ≡ get_or (spec.columns_of lines.now) 0 spec.no_span }
@@ -227,7 +227,7 @@ pub(crate) fn simple_rows(
 }
 
 /// Whether nothing but white stands between neighbouring spans, the first of which stands before the others.
-fn margins_from(row: &[Place], first: Span, others: &[Span]) -> bool
+fn margins_from(row: &[Place], first: RuleSpan, others: &[RuleSpan]) -> bool
     ensures { result ≡ spec.are_clear (first ∷ others.now) row.now }
 {
     let mut before = first;
@@ -240,7 +240,7 @@ fn margins_from(row: &[Place], first: Span, others: &[Span]) -> bool
     true
 }
 
-fn are_clear(row: &[Place], spans: &[Span]) -> bool
+fn are_clear(row: &[Place], spans: &[RuleSpan]) -> bool
     ensures { result ≡ spec.are_clear spans.now row.now }
 {
     match spans {
@@ -250,7 +250,7 @@ fn are_clear(row: &[Place], spans: &[Span]) -> bool
 }
 
 /// Whether nothing but white stands between the columns of a line.
-fn line_is_clear(lines: &[TableLine], spans: &[Span], k: usize) -> bool
+fn line_is_clear(lines: &[TableLine], spans: &[RuleSpan], k: usize) -> bool
     ensures { result ≡ spec.are_clear spans.now (row_at lines.now k) }
 {
     match lines.get(k) {
@@ -260,7 +260,7 @@ fn line_is_clear(lines: &[TableLine], spans: &[Span], k: usize) -> bool
 }
 
 /// The first line of a row with text between its columns.
-fn text_in_margin(lines: &[TableLine], spans: &[Span], row: RowLines) -> Option<usize>
+fn text_in_margin(lines: &[TableLine], spans: &[RuleSpan], row: RowLines) -> Option<usize>
     ensures value { result ≡ spec.text_in_margin lines.now spans.now row.from row.to }
     ensures fits { IfSome result (λ k. k + 1 < 2 ^ 64) }
 {
@@ -276,7 +276,7 @@ fn text_in_margin(lines: &[TableLine], spans: &[Span], row: RowLines) -> Option<
 pub(crate) fn first_in_margin(
     alloc: Global,
     lines: &[TableLine],
-    columns: &[Span],
+    columns: &[RuleSpan],
     rows: &[RowLines],
 ) -> Result<Option<usize>, AllocError>
     requires { columns.now ≡ spec.columns_of lines.now }

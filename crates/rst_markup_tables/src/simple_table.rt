@@ -10,19 +10,19 @@ use super::results::{TableDetail, TableResult};
 use super::simple_cells::{all_entries, head_size, widths};
 use super::simple_lines::{border_fault, read_lines};
 use super::simple_rows::{columns_of, first_in_margin, first_unaligned, rules_of, simple_rows};
-use super::spans::Span;
+use super::spans::RuleSpan;
 use super::table::malformed;
 use rst_markup_blocks::simple_borders;
 use rst_text::{Looks, View};
 use std::alloc::{AllocError, Global};
 
 /// The first column.
-fn first_column(columns: &[Span]) -> Span
+fn first_column(columns: &[RuleSpan]) -> RuleSpan
     ensures { result ≡ get_or columns.now 0 spec.no_span }
 {
     match columns.first() {
         Some(column) => *column,
-        None => Span {
+        None => RuleSpan {
             from: 0,
             to: 0,
             columns: 0,

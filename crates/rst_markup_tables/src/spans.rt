@@ -7,7 +7,7 @@ use std::alloc::{AllocError, Global};
 
 /// A run of marks in a rule: its places from `from` on, before `to`, and how many of the table's columns it joins.
 #[derive(Clone, Copy)]
-pub(crate) struct Span {
+pub(crate) struct RuleSpan {
     pub(crate) from: usize,
     pub(crate) to: usize,
     pub(crate) columns: usize,
@@ -40,14 +40,14 @@ fn span_end(row: &[Place], from: usize) -> usize
 }
 
 /// The runs of marks in a row, each as one column.
-pub(crate) fn spans_of(alloc: Global, row: &[Place]) -> Result<Vec<Span>, AllocError>
+pub(crate) fn spans_of(alloc: Global, row: &[Place]) -> Result<Vec<RuleSpan>, AllocError>
     ensures { IfOk result (λ spans. spans.items ≡ spec.spans_of row.now) }
 {
     let mut spans = Vec::new(alloc);
     for from in 0..row.len() {
         if begins_span(row, from) {
             let to = span_end(row, from);
-            spans.push(Span {
+            spans.push(RuleSpan {
                 from,
                 to,
                 columns: 1,
@@ -59,7 +59,7 @@ pub(crate) fn spans_of(alloc: Global, row: &[Place]) -> Result<Vec<Span>, AllocE
 }
 
 /// The place of the first column that ends at a place.
-fn ending(columns: &[Span], to: usize) -> Option<usize>
+fn ending(columns: &[RuleSpan], to: usize) -> Option<usize>
     ensures value { result ≡ position (λ c. c.to == to) columns.now }
     ensures fits { IfSome result (λ k. k + 1 < 2 ^ 64) }
 {
@@ -72,7 +72,7 @@ fn ending(columns: &[Span], to: usize) -> Option<usize>
 }
 
 /// The place of the last column that a span joins, if it begins where the first does and ends where a column does.
-fn last_joined(columns: &[Span], span: Span) -> Option<usize>
+fn last_joined(columns: &[RuleSpan], span: RuleSpan) -> Option<usize>
     ensures value { result ≡ spec.last_joined columns.now span }
     ensures fits { IfSome result (λ k. k + 1 < 2 ^ 64) }
 {
@@ -89,7 +89,7 @@ fn last_joined(columns: &[Span], span: Span) -> Option<usize>
 }
 
 /// The spans behind the first `n`; of fewer nothing is left.
-fn behind(spans: &[Span], n: usize) -> &[Span]
+fn behind(spans: &[RuleSpan], n: usize) -> &[RuleSpan]
     ensures { result.now ≡ drop n spans.now }
 {
     let begin = n.min(spans.len());
@@ -99,9 +99,9 @@ fn behind(spans: &[Span], n: usize) -> &[Span]
 /// The spans with how many columns each joins, if they join all, one after the other.
 pub(crate) fn spread(
     alloc: Global,
-    columns: &[Span],
-    spans: &[Span],
-) -> Result<Option<Vec<Span>>, AllocError>
+    columns: &[RuleSpan],
+    spans: &[RuleSpan],
+) -> Result<Option<Vec<RuleSpan>>, AllocError>
     ensures { IfOk result (λ found. option_map vec_items found ≡ spec.spread columns.now spans.now) }
 {
     let mut wide = Vec::new(alloc);
@@ -111,7 +111,7 @@ pub(crate) fn spread(
             return Ok(None);
         };
         let columns = last + 1;
-        wide.push(Span {
+        wide.push(RuleSpan {
             from: span.from,
             to: span.to,
             columns,

@@ -5,9 +5,9 @@ use Rattle.std.proofs.lemmas.Bool.{lt-ltb}
 use Rattle.std.specs.Str.{IsUtf8, chars, is_utf8, IsCharBoundary}
 use Rattle.std.proofs.Math.Utf8.{encodes}
 use Rattle.std.proofs.lemmas.Str.{encodes-chars, is_utf8-from_IsUtf8, IsUtf8-between, IsUtf8-drop, IsUtf8-append, IsCharBoundary-from_drop, IsCharBoundary-end, IsCharBoundary-at_seam}
-use Rattle.rst_text.specs.declared.kept.Span.{Span}
+use Rattle.rst_text.specs.declared.kept.LineSpan.{LineSpan}
 use Rattle.rst_text.specs.Block.{front_text, first_number}
-use Rattle.rst_text.specs.Kept.{line_of, IsSpanOf, AreSpansOf, line_in, block_in}
+use Rattle.rst_text.specs.Kept.{line_of, IsLineSpanOf, AreLineSpansOf, line_in, block_in}
 use Rattle.rst_text.specs.MayCut.{are_texts}
 
 -- ---- more bytes behind the others
@@ -42,11 +42,11 @@ boundary-more xs ys k u w b =
 
 -- ---- the spans stay
 
-pub spans-more : (xs ys : List ℕ) (ss : List Span) → IsUtf8 xs → IsUtf8 ys → AreSpansOf xs ss → AreSpansOf (xs ++ ys) ss
+pub spans-more : (xs ys : List ℕ) (ss : List LineSpan) → IsUtf8 xs → IsUtf8 ys → AreLineSpansOf xs ss → AreLineSpansOf (xs ++ ys) ss
 spans-more xs ys [] u w h = tt
 spans-more xs ys (s ∷ ss) u w h = ((h.0.0, boundary-more xs ys s.start u w h.0.1, boundary-more xs ys s.end u w h.0.2), spans-more xs ys ss u w h.1)
 
-pub block-more : (xs ys : List ℕ) (ss : List Span) → AreSpansOf xs ss → block_in (xs ++ ys) ss ≡ block_in xs ss
+pub block-more : (xs ys : List ℕ) (ss : List LineSpan) → AreLineSpansOf xs ss → block_in (xs ++ ys) ss ≡ block_in xs ss
 block-more xs ys [] h = refl
 block-more xs ys (s ∷ ss) h =
     let line : line_in (xs ++ ys) s ≡ line_in xs s = ap (λ t. line_of s.number (chars t)) (range-front xs ys s.start s.end h.0.0 h.0.2.0) in
@@ -54,43 +54,43 @@ block-more xs ys (s ∷ ss) h =
 
 -- ---- one line more
 
-spans-push : (bs : List ℕ) (ss : List Span) (s : Span) → AreSpansOf bs ss → IsSpanOf bs s → AreSpansOf bs (ss ++ s ∷ [])
+spans-push : (bs : List ℕ) (ss : List LineSpan) (s : LineSpan) → AreLineSpansOf bs ss → IsLineSpanOf bs s → AreLineSpansOf bs (ss ++ s ∷ [])
 spans-push bs [] s h k = (k, tt)
 spans-push bs (t ∷ ss) s h k = (h.0, spans-push bs ss s h.1 k)
 
-pub spans-added : (xs ys : List ℕ) (ss : List Span) (s : Span) → IsUtf8 xs → IsUtf8 ys → AreSpansOf xs ss → s.start ≡ length xs → s.end ≡ length xs + length ys → AreSpansOf (xs ++ ys) (ss ++ s ∷ [])
+pub spans-added : (xs ys : List ℕ) (ss : List LineSpan) (s : LineSpan) → IsUtf8 xs → IsUtf8 ys → AreLineSpansOf xs ss → s.start ≡ length xs → s.end ≡ length xs + length ys → AreLineSpansOf (xs ++ ys) (ss ++ s ∷ [])
 spans-added xs ys ss s u w h p q =
     let whole : s.end ≡ length (xs ++ ys) = omega (arith, length-append xs ys) in
     spans-push (xs ++ ys) ss s (spans-more xs ys ss u w h)
     (omega arith, subst (IsCharBoundary (xs ++ ys)) (sym p) (IsCharBoundary-at_seam (xs ++ ys) xs ys refl w), subst (IsCharBoundary (xs ++ ys)) (sym whole) (IsCharBoundary-end (xs ++ ys)))
 
-pub block-added : (xs ys : List ℕ) (ss : List Span) (s : Span) → AreSpansOf xs ss → s.start ≡ length xs → s.end ≡ length xs + length ys → block_in (xs ++ ys) (ss ++ s ∷ []) ≡ block_in xs ss ++ line_of s.number (chars ys) ∷ []
+pub block-added : (xs ys : List ℕ) (ss : List LineSpan) (s : LineSpan) → AreLineSpansOf xs ss → s.start ≡ length xs → s.end ≡ length xs + length ys → block_in (xs ++ ys) (ss ++ s ∷ []) ≡ block_in xs ss ++ line_of s.number (chars ys) ∷ []
 block-added xs ys ss s h p q =
     map-append (line_in (xs ++ ys)) ss (s ∷ []) ∙ rw (block-more xs ys ss h) (ap (λ t. block_in xs ss ++ line_of s.number (chars t) ∷ []) (range-added xs ys s.start s.end p q))
 
 -- ---- a line at a place
 
-pub span-at : (bs : List ℕ) (ss : List Span) (i : ℕ) (s : Span) → AreSpansOf bs ss → i < length ss → s ≡ get_or ss i s → IsSpanOf bs s
+pub span-at : (bs : List ℕ) (ss : List LineSpan) (i : ℕ) (s : LineSpan) → AreLineSpansOf bs ss → i < length ss → s ≡ get_or ss i s → IsLineSpanOf bs s
 span-at bs [] i s h within at = absurd (omega arith)
-span-at bs (t ∷ ss) zero s h within at = subst (IsSpanOf bs) (sym at) h.0
+span-at bs (t ∷ ss) zero s h within at = subst (IsLineSpanOf bs) (sym at) h.0
 span-at bs (t ∷ ss) (suc i) s h within at = span-at bs ss i s h.1 (omega arith) at
 
-pub front_text-at : (bs : List ℕ) (ss : List Span) (i : ℕ) (s : Span) → i < length ss → s ≡ get_or ss i s → front_text (drop i (block_in bs ss)) ≡ chars (slice_range bs s.start s.end)
+pub front_text-at : (bs : List ℕ) (ss : List LineSpan) (i : ℕ) (s : LineSpan) → i < length ss → s ≡ get_or ss i s → front_text (drop i (block_in bs ss)) ≡ chars (slice_range bs s.start s.end)
 front_text-at bs [] i s within at = absurd (omega arith)
-front_text-at bs (t ∷ ss) zero s within at = ap (λ (x : Span). chars (slice_range bs x.start x.end)) (sym at)
+front_text-at bs (t ∷ ss) zero s within at = ap (λ (x : LineSpan). chars (slice_range bs x.start x.end)) (sym at)
 front_text-at bs (t ∷ ss) (suc i) s within at = front_text-at bs ss i s (omega arith) at
 
-pub first_number-at : (bs : List ℕ) (ss : List Span) (i : ℕ) (s : Span) → i < length ss → s ≡ get_or ss i s → first_number (drop i (block_in bs ss)) ≡ s.number
+pub first_number-at : (bs : List ℕ) (ss : List LineSpan) (i : ℕ) (s : LineSpan) → i < length ss → s ≡ get_or ss i s → first_number (drop i (block_in bs ss)) ≡ s.number
 first_number-at bs [] i s within at = absurd (omega arith)
-first_number-at bs (t ∷ ss) zero s within at = ap (λ (x : Span). x.number) (sym at)
+first_number-at bs (t ∷ ss) zero s within at = ap (λ (x : LineSpan). x.number) (sym at)
 first_number-at bs (t ∷ ss) (suc i) s within at = first_number-at bs ss i s (omega arith) at
 
-pub text-of_span : (bs : List ℕ) (s : Span) → IsUtf8 bs → IsSpanOf bs s → encodes (chars (slice_range bs s.start s.end)) ≡ slice_range bs s.start s.end
+pub text-of_span : (bs : List ℕ) (s : LineSpan) → IsUtf8 bs → IsLineSpanOf bs s → encodes (chars (slice_range bs s.start s.end)) ≡ slice_range bs s.start s.end
 text-of_span bs s u h = encodes-chars (slice_range bs s.start s.end) (IsUtf8-between bs s.start s.end u h.0 h.1 h.2)
 
 -- ---- each line has UTF-8, which takes no more bytes than all of them
 
-pub texts-of_spans : (bs : List ℕ) (ss : List Span) → IsUtf8 bs → length bs < 2 ^ 63 → AreSpansOf bs ss → are_texts (block_in bs ss) ≡ true
+pub texts-of_spans : (bs : List ℕ) (ss : List LineSpan) → IsUtf8 bs → length bs < 2 ^ 63 → AreLineSpansOf bs ss → are_texts (block_in bs ss) ≡ true
 texts-of_spans bs [] u few h = refl
 texts-of_spans bs (s ∷ ss) u few h =
     let part : List ℕ = slice_range bs s.start s.end in

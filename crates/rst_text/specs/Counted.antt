@@ -1,5 +1,5 @@
 -- What the calls of a reader or a writer that keeps whether it failed do. No rule of markup: they bring the bytes in and out.
-use Rattle.std.specs.Prelude.{◌≡◌, ◌⊎◌, ℕ, ◌<◌, ◌≤◌, Bool, true, false, List, length, take, Option, None, Some}
+use Rattle.std.specs.Prelude.{◌≡◌, ◌⊎◌, ℕ, ◌<◌, ◌≤◌, Bool, true, false, List, length, take, drop, Option, None, Some, Result, Ok, Err}
 use Rattle.std.specs.Io.KnownBytes.{Keeps, Appends, Consumes, IsAtEnd}
 use Rattle.rst_text.specs.declared.counted.Counted.{Counted}
 
@@ -53,3 +53,17 @@ Writes writer (Some n) bytes = (n ≤ length bytes) × (0 < length bytes → 0 <
 abbrev pub WriteIsToldBy : (Option ℕ → Type 0) → Option ℕ → List ℕ → Type 0
 WriteIsToldBy Answers None bytes = Answers None ⊎ (Answers (Some 0) × (0 < length bytes))
 WriteIsToldBy Answers (Some n) bytes = Answers (Some n)
+
+-- a write failed when the writer had taken the first `done` bytes of a text, not all of them
+abbrev pub IsCutShort : Stream → List ℕ → ℕ → Type 0
+IsCutShort writer text done = (done < length text) × Gains writer (take done text) × (writer.failed ≡ true)
+
+-- Some writes put a whole text, and none of them fails; or the last of them fails, and the first `done` bytes were taken.
+abbrev pub Puts : {A : Type 0} → Stream → List ℕ → Result A ℕ → Type 0
+Puts writer text (Ok _) = Gains writer text × (writer.failed ≡ writer.had_failed)
+Puts writer text (Err done) = IsCutShort writer text done
+
+-- A text is told as cut short where the last call, which was given the rest of it, failed or took 0 bytes.
+abbrev pub PutsAreToldBy : {W A : Type 0} → (W → Option ℕ → List ℕ → Type 0) → List ℕ → Result A ℕ → Type 0
+PutsAreToldBy Answers text (Ok _) = Unit {0}
+PutsAreToldBy {W} Answers text (Err done) = (before : W) × WriteIsToldBy (λ answer. Answers before answer (drop done text)) None (drop done text)

@@ -1,4 +1,4 @@
--- Laws on the definitions alone. No rule of markup: they follow from what a cut is.
+-- Laws, which a reader of the definitions may pass over. No rule of markup: they follow from what a cut is.
 use Rattle.std.specs.Prelude.{◌≡◌, ℕ, ◌+◌, ◌≤◌, ◌-◌, ◌==◌, if◌then◌else◌}
 use Rattle.rst_text.specs.Block.{Block, cut}
 

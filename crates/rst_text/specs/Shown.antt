@@ -3,7 +3,7 @@ use Rattle.std.specs.Prelude.{ℕ, ◌-◌, ◌≤◌, IsTrue, [], ◌∷◌, ta
 use Rattle.std.specs.Str.{chars}
 use Rattle.rst_text.specs.Block.{Line, Block}
 use Rattle.rst_text.specs.MayCut.{may_cut_at}
-use Rattle.rst_text.specs.declared.view.Portion.{Portion}
+use Rattle.rst_text.specs.declared.view.Placement.{Placement}
 use Rattle.rst_text.specs.declared.view.View.{View}
 
 -- a line without its first n bytes
@@ -24,9 +24,9 @@ abbrev pub source_of : View → Block
 source_of v = v.lines.now
 
 -- the block that stands somewhere in a text
-unfoldable pub portion_block : Block → Portion → Block
-portion_block S p = byte_cut p.first p.rest (take (p.to - p.from) (drop p.from S))
+unfoldable pub placement_block : Block → Placement → Block
+placement_block S p = byte_cut p.first p.rest (take (p.to - p.from) (drop p.from S))
 
 -- lines of a text that may be cut so
-abbrev pub IsPortion : Block → Portion → Type 0
-IsPortion S p = (p.from ≤ p.to) × (p.to ≤ length S) × IsTrue (may_cut_at p.first p.rest (take (p.to - p.from) (drop p.from S)))
+abbrev pub IsPlacement : Block → Placement → Type 0
+IsPlacement S p = (p.from ≤ p.to) × (p.to ≤ length S) × IsTrue (may_cut_at p.first p.rest (take (p.to - p.from) (drop p.from S)))

@@ -3,7 +3,7 @@ ghost use Rattle.std.specs.Prelude.{◌≡◌, ℕ, List, Option, ⊤, false};
 ghost use Rattle.std.specs.Result.{result_ok};
 ghost use Rattle.std.specs.Io.{ReadsAtMost, WritesAtMost};
 ghost use Rattle.std.specs.Io.KnownBytes.{ReadConsumes, WriteAppends};
-ghost use Rattle.rst_text.specs.Counted.{inner_of, has_failed, between, Reads, Writes, WriteIsToldBy};
+ghost use Rattle.rst_text.specs.Counted.{inner_of, has_failed, between, Reads, Writes, WriteIsToldBy, Puts, PutsAreToldBy};
 
 use std::io::{self, Read, Write};
 
@@ -109,5 +109,21 @@ impl<W: WriteCall> Counted<W> {
                 None
             }
         }
+    }
+
+    /// Writes all of the bytes, in as many writes as it takes: none where there are no bytes. An `Err` says how many of
+    /// them the writer took before a write failed, or took none of the others.
+    pub fn write_all(&mut self, bytes: &[u8]) -> Result<(), usize>
+        ensures bytes { Puts (between W.contents self.old self.new) bytes.now result }
+        ensures call { PutsAreToldBy (λ before answer rest. W.call_takes before answer rest (inner_of self.new)) bytes.now result }
+    {
+        let mut done = 0;
+        while done < bytes.len() {
+            match self.write(&bytes[done..]) {
+                None => return Err(done),
+                Some(count) => done += count,
+            }
+        }
+        Ok(())
     }
 }

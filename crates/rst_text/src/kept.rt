@@ -12,12 +12,12 @@ use std::marker::Model;
 #[derive(Debug, Drop)]
 pub(crate) struct Kept {
     text: String,
-    spans: Vec<Span>,
+    spans: Vec<LineSpan>,
 }
 
 /// A line's number, and where its text stands: the place of its first byte and the place past its last.
 #[derive(Clone, Copy, Debug)]
-struct Span {
+struct LineSpan {
     number: usize,
     start: usize,
     end: usize,
@@ -29,11 +29,11 @@ impl Model for Kept {
     ghost Value = { Block };
 
     ghost use Rattle.std.specs.Prelude.{string_bytes};
-    ghost use Rattle.rst_text.specs.Kept.{block_in, AreSpansOf};
+    ghost use Rattle.rst_text.specs.Kept.{block_in, AreLineSpansOf};
 
     ghost view = { λ k. block_in (string_bytes k.text) k.spans.items };
 
-    ghost invariant = { λ k. AreSpansOf (string_bytes k.text) k.spans.items };
+    ghost invariant = { λ k. AreLineSpansOf (string_bytes k.text) k.spans.items };
 }
 
 impl Kept {
@@ -53,7 +53,7 @@ impl Kept {
         let start = self.text.len();
         self.text.push_str(text)?;
         let end = self.text.len();
-        self.spans.push(Span { number, start, end })?;
+        self.spans.push(LineSpan { number, start, end })?;
         Ok(())
     }
 

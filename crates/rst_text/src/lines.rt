@@ -117,8 +117,8 @@ fn length_of(text: &str) -> usize
     text.chars().count()
 }
 
-/// Whether a character ends a line.
-fn is_line_end(c: char) -> bool
+/// Whether a character ends a line: LF, CR, U+001C to U+001E, U+0085, U+2028 and U+2029 do.
+pub fn is_line_end(c: char) -> bool
     ensures { result ≡ is_line_end c }
 {
     matches!(

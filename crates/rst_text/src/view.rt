@@ -1,5 +1,5 @@
 //! A part of a text's lines, cut on the left.
-ghost use Rattle.std.specs.Prelude.{◌≡◌, ◌+◌, ◌-◌, ◌^◌, ◌<◌, ◌≤◌, length, drop, take, ◌==◌, if◌then◌else◌, encode_utf8_all, IsTrue, min, unwrap_or};
+ghost use Rattle.std.specs.Prelude.{◌≡◌, ◌+◌, ◌-◌, ◌^◌, ◌<◌, ◌≤◌, length, drop, take, ◌==◌, if◌then◌else◌, encode_utf8_all, IsTrue, unwrap_or};
 ghost use Rattle.std.specs.Str.{chars};
 ghost use Rattle.rst_text.specs.Lines.{are_lines};
 ghost use Rattle.rst_text.specs.MayCut.{may_cut_at, is_indented, are_texts};
@@ -29,24 +29,24 @@ pub struct View<'a> {
 
 /// Where a view stands in its text, without the text: the lines at which it begins and ends, and its cuts.
 #[derive(Clone, Copy, Debug, PartialEq, Eq)]
-pub struct Portion {
+pub struct Placement {
     from: usize,
     to: usize,
     first: usize,
     rest: usize,
 }
 
-impl Portion {
+impl Placement {
     ghost use Rattle.std.specs.Prelude.{[]};
     ghost use Rattle.rst_text.specs.Block.{Block};
-    ghost use Rattle.rst_text.specs.Shown.{portion_block};
+    ghost use Rattle.rst_text.specs.Shown.{placement_block};
 
-    /// The portion of any text that has no line.
-    #[tactic(auto, unfolding(crate::specs::Shown::portion_block))]
-    pub fn none() -> Portion
-        ensures { (lines : Block) → portion_block lines result ≡ [] }
+    /// The placement of any text that has no line.
+    #[tactic(auto, unfolding(crate::specs::Shown::placement_block))]
+    pub fn none() -> Placement
+        ensures { (lines : Block) → placement_block lines result ≡ [] }
     {
-        Portion {
+        Placement {
             from: 0,
             to: 0,
             first: 0,
@@ -64,19 +64,9 @@ pub struct Extent {
     pub blank_finish: bool,
 }
 
-/// The lesser of two indentations, if there is one already.
-fn lower(least: Option<usize>, n: usize) -> usize
-    ensures { result ≡ min (unwrap_or least n) n }
-{
-    match least {
-        Some(m) => m.min(n),
-        None => n,
-    }
-}
-
 impl<'a> View<'a> {
     ghost use Rattle.rst_text.specs.Block.{cut, front_text, first_number};
-    ghost use Rattle.rst_text.specs.Shown.{block_of, source_of, IsPortion, portion_block};
+    ghost use Rattle.rst_text.specs.Shown.{block_of, source_of, IsPlacement, placement_block};
     ghost use Rattle.rst_text.specs.Extent.{extent_of};
     ghost use Rattle.rst_text.specs.Reach.{looked};
 
@@ -95,11 +85,11 @@ impl<'a> View<'a> {
     }
 
     /// Where the view stands in its text.
-    pub fn portion(&self) -> Portion
-        ensures inside { IsPortion (source_of self.now) result }
-        ensures block { portion_block (source_of self.now) result ≡ block_of self.now }
+    pub fn placement(&self) -> Placement
+        ensures inside { IsPlacement (source_of self.now) result }
+        ensures block { placement_block (source_of self.now) result ≡ block_of self.now }
     {
-        Portion {
+        Placement {
             from: self.from,
             to: self.to,
             first: self.first,
@@ -108,17 +98,17 @@ impl<'a> View<'a> {
     }
 
     /// The view of the same text that stands where a view of it stood.
-    pub fn at(&self, portion: Portion) -> View<'a>
-        requires { IsPortion (source_of self.now) portion }
-        ensures block { block_of result ≡ portion_block (source_of self.now) portion }
+    pub fn at(&self, placement: Placement) -> View<'a>
+        requires { IsPlacement (source_of self.now) placement }
+        ensures block { block_of result ≡ placement_block (source_of self.now) placement }
         ensures text { source_of result ≡ source_of self.now }
     {
         View {
             lines: self.lines,
-            from: portion.from,
-            to: portion.to,
-            first: portion.first,
-            rest: portion.rest,
+            from: placement.from,
+            to: placement.to,
+            first: placement.first,
+            rest: placement.rest,
         }
     }
 
@@ -220,7 +210,7 @@ impl<'a> View<'a> {
                     blank_finish: end < i,
                 };
             }
-            lowest = Some(lower(lowest, indent));
+            lowest = Some(lowest.unwrap_or(indent).min(indent));
             end = i + 1;
         }
         Extent {

@@ -1,7 +1,7 @@
 -- A document after all transforms, in their order (Document Tree, 'Introduction').
 use Rattle.std.specs.Prelude.{◌≡◌, ℕ, Bool, true, false, List, [], ◌++◌, map, Result, Ok, Err}
 use Rattle.rst_tree_index.specs.declared.kinds.Kinds.{Kinds}
-use Rattle.rst_tree_index.specs.Held.{kinds_of}
+use Rattle.rst_tree_index.specs.Kinds.{kinds_of}
 use Rattle.rst_transform_names.specs.declared.registration.Registered.{Registered}
 use Rattle.rst_transform_names.specs.Registering.{IsRegistered}
 use Rattle.rst_settings.specs.declared.Settings.{Settings}
@@ -44,7 +44,7 @@ pub record IsStarted (messages : ℕ) (registered : Registered) (work : Work) : 
   pub serials : work.serials ≡ registered.serials
 
 -- the transforms of links, where elements of some kinds stand in the document
-pub record IsLinked (kinds : Kinds) (before after : Work) : Type 0 where
+pub record ResolvesLinks (kinds : Kinds) (before after : Work) : Type 0 where
   pub paired : Work
   pub led : Work
   pub numbered : Work
@@ -64,7 +64,7 @@ pub record IsTransformed (kinds : Kinds) (settings : Settings) (before after : W
   pub targets : Where kinds.targets IsRetargeted expanded retargeted
   pub title : Where settings.title IsTitled retargeted titled
   pub info : Where settings.info HasDocinfo titled informed
-  pub links : Where kinds.links (IsLinked kinds) informed linked
+  pub links : Where kinds.links (ResolvesLinks kinds) informed linked
   pub transitions : Where kinds.transitions HasTransitions linked after
 
 -- the messages in a registered document, and then those of the transforms

@@ -1,6 +1,6 @@
 //! All transforms, in order.
 ghost use Rattle.std.specs.Prelude.{◌≡◌, ◌≤◌, ◌++◌, ℕ, map, IfOk, List, true};
-ghost use Rattle.rst_tree_index.specs.Held.{kinds_of};
+ghost use Rattle.rst_tree_index.specs.Kinds.{kinds_of};
 ghost use Rattle.rst_transform_names.specs.Registering.{IsRegistered};
 ghost use Rattle.rst_tree.specs.declared.node.Node.{Node};
 ghost use Rattle.rst_tree.specs.Faults.{Gives};
@@ -10,7 +10,7 @@ ghost use Rattle.rst_transform_hyperlinks.specs.Anonymous.{IsAnonymous};
 ghost use Rattle.rst_transform_docinfo.specs.Docinfo.{HasDocinfo};
 ghost use Rattle.rst_transform_substitutions.specs.Expanded.{IsExpanded};
 ghost use Rattle.rst_transform_messages.specs.Filtered.{with_filtered};
-ghost use Rattle.rst_transform.specs.Finishing.{Finishes, IsLinked, IsStarted, IsTransformed, Where};
+ghost use Rattle.rst_transform.specs.Finishing.{Finishes, IsStarted, IsTransformed, ResolvesLinks, Where};
 ghost use Rattle.rst_transform_footnotes.specs.Footnotes.{NumbersFootnotes};
 ghost use Rattle.rst_transform_hyperlinks.specs.Indirect.{IsIndirect};
 ghost use Rattle.rst_transform_messages.specs.Listed.{report_said, Lists};
@@ -44,7 +44,7 @@ use std::alloc::Global;
 /// A document as it is printed, and the messages of the run.
 #[derive(Debug, Drop)]
 pub struct Finished {
-    /// The document, without what isn't shown, and without `source`, which is told where it is printed.
+    /// The document, without what isn't shown, and without `source`, which is added where it is printed.
     pub tree: Tree,
     /// The messages in order, up to the first that halts the run.
     pub notes: Vec<Note>,
@@ -74,7 +74,7 @@ pub fn finish(
     let work = started(alloc, registered, messages);
     let after = transformed(alloc, work, kinds, settings)?;
     let work = last_section(alloc, after, settings.report)?;
-    let (root, is_tree, list) = left(alloc, work, list, settings.report)?;
+    let (root, is_tree, list) = filtered(alloc, work, list, settings.report)?;
     if !is_tree {
         return Err(TransformFault::NoTree);
     }
@@ -103,8 +103,8 @@ fn listed(
     Ok(list)
 }
 
-/// What is left of a document with its last section, whether that is a tree, and the list of messages with those of the transforms.
-fn left(
+/// A document with its last section, filtered; whether that is a tree; and the list of messages with those of the transforms.
+fn filtered(
     alloc: Global,
     work: Work,
     list: Messages,
@@ -197,17 +197,17 @@ fn with_info(alloc: Global, work: Work, asked: bool) -> Result<Work, TreeFault>
 
 /// A document whose links lead somewhere, if it has elements at the ends of links.
 fn with_links(alloc: Global, work: Work, kinds: Kinds) -> Result<Work, TreeFault>
-    ensures { Gives (Where kinds.links (IsLinked kinds) work) result }
+    ensures { Gives (Where kinds.links (ResolvesLinks kinds) work) result }
 {
     if !kinds.links {
         return Ok(work);
     }
-    linked(alloc, work, kinds)
+    resolve_links(alloc, work, kinds)
 }
 
 /// A document after the transforms of links, in order.
-fn linked(alloc: Global, work: Work, kinds: Kinds) -> Result<Work, TreeFault>
-    ensures { Gives (IsLinked kinds work) result }
+fn resolve_links(alloc: Global, work: Work, kinds: Kinds) -> Result<Work, TreeFault>
+    ensures { Gives (ResolvesLinks kinds work) result }
 {
     let paired = with_anonymous(alloc, work, kinds.anonymous)?;
     let led = with_indirect(alloc, paired, kinds.indirect)?;

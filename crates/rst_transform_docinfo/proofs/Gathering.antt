@@ -11,7 +11,7 @@ use Rattle.rst_transform_docinfo.specs.declared.field.Field.{Field}
 use Rattle.rst_transform_docinfo.specs.Authors.{all_paragraphs, and_author, author_named}
 use Rattle.rst_transform_docinfo.specs.Bibliography.{made, row_of}
 use Rattle.rst_transform_docinfo.specs.Docinfo.{behind_titles, is_field_list, leading_list, list_in, list_place, nodes_with, replaced}
-use Rattle.rst_transform_docinfo.specs.Gathered.{Gathered, by_form, gathered, is_further, noted, with_fault, with_field, with_node, with_row}
+use Rattle.rst_transform_docinfo.specs.Gathered.{Gathered, by_form, gathered, is_further, with_seen, with_fault, with_field, with_node, with_row}
 use Rattle.rst_transform_work.specs.Reading.{is_title}
 use Rattle.rst_transform_work.specs.declared.work.Report.{Report}
 use Rattle.std.proofs.lemmas.Option.{unwrap_or-slice_get}
@@ -122,15 +122,15 @@ item_refused line f xs nodes i n e fits at none h =
 pub further_field : (first : ℕ) (f : Field) (g : Gathered) (name : List ℕ) (row : Row) → name ≡ name_of f → row ≡ row_of name → is_further row g ≡ true → with_field first f g ≡ with_fault first name f g
 further_field first f g name row is at h =
     ap (λ z. with_row first (row_of z) z f g) (sym is) ∙ ap (λ z. with_row first z name f g) (sym at)
-    ∙ ap (λ (b : Bool). if b then with_fault first name f g else by_form first row name f (made row name f) (noted row g)) h
+    ∙ ap (λ (b : Bool). if b then with_fault first name f g else by_form first row name f (made row name f) (with_seen row g)) h
 
 -- that isn't in its form
 pub refused_field : (first : ℕ) (f : Field) (g : Gathered) (name : List ℕ) (row : Row) → name ≡ name_of f → row ≡ row_of name → is_further row g ≡ false → made row name f ≡ None
-    → with_field first f g ≡ with_fault first name f (noted row g)
+    → with_field first f g ≡ with_fault first name f (with_seen row g)
 refused_field first f g name row is at h m =
     ap (λ z. with_row first (row_of z) z f g) (sym is) ∙ ap (λ z. with_row first z name f g) (sym at)
-    ∙ ap (λ (b : Bool). if b then with_fault first name f g else by_form first row name f (made row name f) (noted row g)) h
-    ∙ ap (λ o. by_form first row name f o (noted row g)) m
+    ∙ ap (λ (b : Bool). if b then with_fault first name f g else by_form first row name f (made row name f) (with_seen row g)) h
+    ∙ ap (λ o. by_form first row name f o (with_seen row g)) m
 
 -- one more node of the list
 pub gathered_more : (first : ℕ) (g : Gathered) (xs : List Node) (n : Node) → gathered first g (xs ++ n ∷ []) ≡ with_node first n (gathered first g xs)

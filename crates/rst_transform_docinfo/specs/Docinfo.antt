@@ -30,10 +30,10 @@ abbrev pub replaced : ℕ → List Report → Node → List Node
 replaced first reports (Element t a c l) = first_named a (docinfo_nodes l (list_gathered first reports c))
 replaced first reports (Text t) = []
 
--- the messages then
-abbrev pub told : ℕ → List Report → Node → List Report
-told first reports (Element t a c l) = (list_gathered first reports c).reports
-told first reports (Text t) = reports
+-- the messages behind it
+abbrev pub list_reports : ℕ → List Report → Node → List Report
+list_reports first reports (Element t a c l) = (list_gathered first reports c).reports
+list_reports first reports (Text t) = reports
 
 -- whether a node may stand before the field list: a title, a subtitle, a comment, a target, a substitution definition or a message
 abbrev pub may_lead : Node → Bool
@@ -68,7 +68,7 @@ nodes_with first reports (Some list) nodes = behind_titles (replaced first repor
 
 abbrev pub reports_with : ℕ → List Report → Option Node → List Report
 reports_with first reports None = reports
-reports_with first reports (Some list) = told first reports list
+reports_with first reports (Some list) = list_reports first reports list
 
 -- the document whose leading field list became its bibliography, and the messages then
 abbrev pub with_docinfo : ℕ → List Report → Node → Node

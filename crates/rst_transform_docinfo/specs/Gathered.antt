@@ -39,10 +39,10 @@ is_further (Topic Abstract) g = g.had_abstract
 is_further _ g = false
 
 -- now there was one
-abbrev pub noted : Row → Gathered → Gathered
-noted (Topic Dedication) g = record g { had_dedication = true }
-noted (Topic Abstract) g = record g { had_abstract = true }
-noted _ g = g
+abbrev pub with_seen : Row → Gathered → Gathered
+with_seen (Topic Dedication) g = record g { had_dedication = true }
+with_seen (Topic Abstract) g = record g { had_abstract = true }
+with_seen _ g = g
 
 -- one more node in the `docinfo`
 abbrev pub with_info : Node → Gathered → Gathered
@@ -54,7 +54,7 @@ with_element (Topic Dedication) n g = record g { dedication = Some n }
 with_element (Topic Abstract) n g = record g { abstract = Some n }
 with_element _ n g = with_info n g
 
--- a field that isn't in its form, which the next message tells of
+-- a field that isn't in its form, with the next message on it
 abbrev pub with_fault : ℕ → List ℕ → Field → Gathered → Gathered
 with_fault first name f g =
     let next = fault_report first g.reports name f.line in record g { info = g.info ++ fault_node name next f ∷ []; reports = g.reports ++ next ∷ [] }
@@ -66,7 +66,7 @@ by_form first row name f None g = with_fault first name f g
 -- one more field, of a row with this name
 abbrev pub with_row : ℕ → Row → List ℕ → Field → Gathered → Gathered
 with_row first row name f g =
-    if is_further row g then with_fault first name f g else by_form first row name f (made row name f) (noted row g)
+    if is_further row g then with_fault first name f g else by_form first row name f (made row name f) (with_seen row g)
 
 abbrev pub with_field : ℕ → Field → Gathered → Gathered
 with_field first f g = with_row first (row_of (name_of f)) (name_of f) f g

@@ -6,7 +6,7 @@ ghost use Rattle.rst_tree.specs.Paths.{with_child};
 ghost use Rattle.rst_tree.specs.declared.node.Node.TheVariants.{Element};
 ghost use Rattle.rst_transform_work.specs.declared.work.Report.{Report};
 ghost use Rattle.rst_transform_docinfo.specs.Bibliography.{address_node, fault_node, fault_report, generic, made, row_of, simple_node, title_node, topic_class, topic_node, topic_title, with_class};
-ghost use Rattle.rst_transform_docinfo.specs.Gathered.{docinfo_nodes, info_nodes, is_further, none_yet, noted, so_far, with_element, with_fault, with_field, with_node};
+ghost use Rattle.rst_transform_docinfo.specs.Gathered.{docinfo_nodes, info_nodes, is_further, none_yet, so_far, with_element, with_fault, with_field, with_node, with_seen};
 ghost use Rattle.rst_transform_docinfo.specs.Fields.{last_in, nodes_in};
 ghost use Rattle.rst_transform_work.specs.Reports.{report_node, KeepsRest};
 
@@ -233,7 +233,7 @@ fn out_of_form(alloc: Global, name: &str, field: Field, work: &mut Work) -> Resu
     field.into_node(alloc)
 }
 
-/// The WARNING on a field of this name that isn't in its form, which is noted in the list of messages, too.
+/// The WARNING on a field of this name that isn't in its form. It is in the list of messages, too.
 fn message(alloc: Global, line: usize, name: &str, work: &mut Work) -> Result<Node, TreeFault>
     ensures node { let next = fault_report work.old.first_number work.old.reports.items name.now line in Gives (λ node. node ≡ report_node next) result }
     ensures reports { let next = fault_report work.old.first_number work.old.reports.items name.now line in Gives (λ _. work.new.reports.items ≡ work.old.reports.items ++ next ∷ []) result }
@@ -322,7 +322,7 @@ impl Bibliography {
         if self.is_further(row) {
             return self.put_fault(alloc, name.as_str(), field, work);
         }
-        self.note(row);
+        self.mark_seen(row);
         match made(alloc, row, name.as_str(), field)? {
             Ok(node) => self.put(row, node),
             Err(field) => self.put_fault(alloc, name.as_str(), field, work),
@@ -340,9 +340,9 @@ impl Bibliography {
         }
     }
 
-    /// Notes that there was a field of a row.
-    fn note(&mut self, row: Row)
-        ensures { (reports : List Report) → so_far self.new reports ≡ noted row (so_far self.old reports) }
+    /// Remembers that there was a field of a row.
+    fn mark_seen(&mut self, row: Row)
+        ensures { (reports : List Report) → so_far self.new reports ≡ with_seen row (so_far self.old reports) }
     {
         match row {
             Row::Topic(TopicKind::Dedication) => self.has_dedication = true,

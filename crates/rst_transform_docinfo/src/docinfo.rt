@@ -4,7 +4,7 @@ ghost use Rattle.std.specs.List.{prefix_len};
 ghost use Rattle.rst_transform_names.specs.Names.{KnowsTheSame};
 ghost use Rattle.rst_tree.specs.Faults.{Gives};
 ghost use Rattle.rst_tree.specs.Nodes.{forest_of, nodes_of};
-ghost use Rattle.rst_transform_docinfo.specs.Docinfo.{behind_titles, docinfo_reports, first_named, is_field_list, leading_list, list_gathered, list_in, list_place, may_lead, nodes_with, replaced, reports_with, told, with_docinfo, KeepsOthers, HasDocinfo};
+ghost use Rattle.rst_transform_docinfo.specs.Docinfo.{behind_titles, docinfo_reports, first_named, is_field_list, leading_list, list_gathered, list_in, list_place, may_lead, nodes_with, list_reports, replaced, reports_with, with_docinfo, KeepsOthers, HasDocinfo};
 ghost use Rattle.rst_transform_docinfo.specs.Gathered.{docinfo_nodes};
 ghost use Rattle.rst_transform_work.specs.Reports.{KeepsRest};
 ghost use Rattle.rst_transform_work.specs.Reading.{is_title};
@@ -148,7 +148,7 @@ fn with_names(alloc: Global, mut nodes: Vec<Node>, attrs: &Attrs) -> Result<Vec<
 /// What the fields of a field list become, the first of it with the list's ids and names, too.
 fn replaced(alloc: Global, list: Node, work: &mut Work) -> Result<Vec<Node>, TreeFault>
     ensures nodes { Gives (λ nodes. nodes.items ≡ replaced work.old.first_number work.old.reports.items list) result }
-    ensures reports { Gives (λ _. work.new.reports.items ≡ told work.old.first_number work.old.reports.items list) result }
+    ensures reports { Gives (λ _. work.new.reports.items ≡ list_reports work.old.first_number work.old.reports.items list) result }
     ensures names { Gives (λ _. KnowsTheSame work.old.names work.new.names) result }
     ensures rest { Gives (λ _. KeepsOthers work.old work.new) result }
 {

@@ -7,8 +7,8 @@ use Rattle.rst_transform_names.specs.Ids.{number_in}
 use Rattle.rst_transform_names.proofs.IdLemmas.{no_first}
 use Rattle.rst_transform_links.specs.declared.links.Linked.{Linked}
 use Rattle.rst_transform_links.specs.Linkings.{Held, held}
-use Rattle.rst_transform_footnotes.specs.NoteLabels.{free_from, free_numbers, is_number, is_to_number, is_written, number_of, to_number}
-use Rattle.rst_transform_links.specs.NoteOrders.{mark_of}
+use Rattle.rst_transform_footnotes.specs.FootnoteLabels.{free_from, free_numbers, is_number, is_to_number, is_written, number_of, to_number}
+use Rattle.rst_transform_links.specs.FootnoteOrders.{mark_of}
 
 -- ---- a number is free, or it was written
 

@@ -1,3 +1,3 @@
 pub mod FreeNumbers
-pub mod Notes
+pub mod FootnoteLemmas
 pub mod Numbering

@@ -15,14 +15,14 @@ use Rattle.rst_tree.specs.declared.tag.Tag.TheVariants.{Label}
 use Rattle.rst_tree.specs.Attributes.{attr}
 use Rattle.rst_transform_links.specs.declared.links.Outcome.{Outcome}
 use Rattle.rst_transform_links.specs.declared.links.Outcome.TheVariants.{Stays, Fails}
-use Rattle.rst_transform_links.specs.declared.note_order.Order.{Order}
-use Rattle.rst_transform_links.specs.declared.note_order.Order.TheVariants.{Numbers, Symbols}
+use Rattle.rst_transform_links.specs.declared.footnote_orders.Order.{Order}
+use Rattle.rst_transform_links.specs.declared.footnote_orders.Order.TheVariants.{Numbers, Symbols}
 use Rattle.rst_transform_work.specs.declared.work.Work.{Work}
 use Rattle.rst_transform_links.specs.Holders.{lead_to_id}
 use Rattle.rst_transform_links.specs.Linkings.{Held, linked_of}
 use Rattle.rst_transform_links.specs.Links.{changed_root}
-use Rattle.rst_transform_footnotes.specs.NoteLabels.{labels}
-use Rattle.rst_transform_links.specs.NoteOrders.{footnote_order, found_by_order, in_order, is_order, order_name, reference_order}
+use Rattle.rst_transform_footnotes.specs.FootnoteLabels.{labels}
+use Rattle.rst_transform_links.specs.FootnoteOrders.{footnote_order, found_by_order, in_order, is_order, order_name, reference_order}
 use Rattle.rst_transform_links.specs.Outcomes.{adds}
 use Rattle.rst_transform_work.specs.Reading.{line_of, list_said, number_said}
 use Rattle.rst_transform_work.specs.Reports.{next_report, KeepsRest}
@@ -63,11 +63,11 @@ first_left_over order place found [] = None
 first_left_over order place found (one ∷ more) =
     if is_left_over order one.0 (at_place found place) then Some (line_of one.0) else first_left_over order (place + 1) found more
 
--- what is told of such, where there are so many footnotes of the order
+-- what the message on them says, where there are so many footnotes of the order
 abbrev pub too_many : Order → ℕ → List ℕ
 too_many order footnotes = codes "Too many " ++ (order_name order ++ (codes " footnote references: only " ++ (decimal footnotes ++ codes " corresponding footnotes available.")))
 
--- one ERROR is told of them, on the line of the first, behind the other messages; its place is given
+-- one ERROR on them, on the line of the first, behind the other messages; its place is given
 abbrev pub TellsLeftOver : Option ℕ → Order → ℕ → Work → Work → Option ℕ → Type 0
 TellsLeftOver None order footnotes before after report = (after ≡ before) × (report ≡ None)
 TellsLeftOver (Some line) order footnotes before after report =
@@ -84,13 +84,13 @@ report_of None numbers symbols = None
 -- ---- what becomes of the elements
 
 -- a reference leads to the id of its footnote
-abbrev pub lead_to_note : Option Held → Option Attr
-lead_to_note None = None
-lead_to_note (Some note) = lead_to_id (slice_get (list_said Ids note.0) 0)
+abbrev pub lead_to_footnote : Option Held → Option Attr
+lead_to_footnote None = None
+lead_to_footnote (Some one) = lead_to_id (slice_get (list_said Ids one.0) 0)
 
 -- and shows the label of the footnote at a place
 abbrev pub referring : List Held → List (Option (List ℕ)) → ℕ → Outcome
-referring linked labels footnote = Stays (record { attr = lead_to_note (slice_get linked footnote); shown = at_place labels footnote })
+referring linked labels footnote = Stays (record { attr = lead_to_footnote (slice_get linked footnote); shown = at_place labels footnote })
 
 abbrev pub is_label : Node → Bool
 is_label (Element Label a c l) = true
@@ -129,22 +129,22 @@ outcomes linked numbers symbols = outcomes_from linked (labels linked) (found_by
 
 -- ---- the whole
 
--- the references of an order that find none are told of
+-- the message on the references of an order that find none
 abbrev pub TellsOf : Order → List Held → Work → Work → Option ℕ → Type 0
 TellsOf order linked before after report = TellsLeftOver (first_left_over order 0 (found_by_order linked) linked) order (length (in_order order linked)) before after report
 
--- What becomes of the linked elements, and the document before and after: the numbers are held as names, then the references left over
--- are told of, those to numbered footnotes first, and then what fails becomes a problematic.
+-- What becomes of the linked elements, and the document before and after: the numbers are held as names, then come the messages on the
+-- references left over, those to numbered footnotes first, and then what fails becomes a problematic.
 pub record ChangesFootnotes (linked : List Held) (before after : Work) (changes : List Outcome) : Type 0 where
   pub names : KnownNames
   pub numbers : Option ℕ
   pub symbols : Option ℕ
   pub between : Work
-  pub told : Work
+  pub reported : Work
   pub hold : HoldNumbers 0 (labels linked) linked before.names names
   pub tells_numbers : TellsOf Numbers linked (record before { names = names }) between numbers
-  pub tells_symbols : TellsOf Symbols linked between told symbols
-  pub settles : Settles linked (outcomes linked numbers symbols) told after changes
+  pub tells_symbols : TellsOf Symbols linked between reported symbols
+  pub settles : Settles linked (outcomes linked numbers symbols) reported after changes
 
 -- the document before and after; its root is taken out, and put back as it changed
 pub record NumbersFootnotes (before after : Work) : Type 0 where

@@ -1,2 +1,2 @@
 pub mod Footnotes
-pub mod NoteLabels
+pub mod FootnoteLabels

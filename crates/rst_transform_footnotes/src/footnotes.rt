@@ -3,16 +3,16 @@ ghost use Rattle.std.specs.Prelude.{◌≡◌, MatchOption, None, Some, length, 
 ghost use Rattle.rst_transform_names.specs.Names.{held_by};
 ghost use Rattle.rst_tree.specs.declared.key.Key.TheVariants.{Ids, Serial};
 ghost use Rattle.rst_tree.specs.Faults.{Gives};
-ghost use Rattle.rst_transform_footnotes.specs.Footnotes.{first_left_over, is_label, label_in, labelled, lead_to_note, outcome_by, outcomes_from, own_number, referring, report_of, too_many, with_number, ChangesFootnotes, HoldNumbers, HoldsName, HoldsNumber, NumbersFootnotes, TellsLeftOver};
+ghost use Rattle.rst_transform_footnotes.specs.Footnotes.{first_left_over, is_label, label_in, labelled, lead_to_footnote, outcome_by, outcomes_from, own_number, referring, report_of, too_many, with_number, ChangesFootnotes, HoldNumbers, HoldsName, HoldsNumber, NumbersFootnotes, TellsLeftOver};
 ghost use Rattle.rst_transform_links.specs.Linkings.{held, linked_of};
-ghost use Rattle.rst_transform_links.specs.NoteOrders.{in_order, reference_order};
+ghost use Rattle.rst_transform_links.specs.FootnoteOrders.{in_order, reference_order};
 ghost use Rattle.rst_transform_work.specs.Reading.{list_said, number_said};
 ghost use Rattle.rst_transform_work.specs.Lists.{at_place};
 
-use crate::note_labels::labels;
+use crate::footnote_labels::labels;
 use rst_transform_links::{
     Addition, Changes, Linked, Order, Outcome, footnote_order, found_by_order, in_order, linked_in,
-    put_back, reference_order, settled, text_attr,
+    put_back, reference_order, settle, text_attr,
 };
 use rst_transform_names::{Holder, NameEntry, Names, Strength};
 use rst_transform_work::{Work, at_place, first_said, line_of, list_said, number_said, take_root};
@@ -96,7 +96,7 @@ fn changes_of(alloc: Global, work: &mut Work, root: &Node) -> Result<Changes, Tr
         numbers,
         symbols,
     )?;
-    let changes = settled(alloc, work, linked.as_slice(), outcomes)?;
+    let changes = settle(alloc, work, linked.as_slice(), outcomes)?;
     Ok(changes)
 }
 
@@ -304,17 +304,17 @@ fn label_in(
 }
 
 /// What a reference says of the footnote at a place: its id.
-fn lead_to_note(
+fn lead_to_footnote(
     alloc: Global,
     linked: &[Linked<'_>],
     footnote: usize,
 ) -> Result<Option<Entry>, TreeFault>
-    ensures { Gives (λ lead. lead ≡ lead_to_note (slice_get (map held linked.now) footnote)) result }
+    ensures { Gives (λ lead. lead ≡ lead_to_footnote (slice_get (map held linked.now) footnote)) result }
 {
-    let Some(note) = linked.get(footnote) else {
+    let Some(one) = linked.get(footnote) else {
         return Ok(None);
     };
-    match first_said(note.element, Key::Ids) {
+    match first_said(one.element, Key::Ids) {
         Some(id) => Ok(Some(text_attr(alloc, Key::Refid, id)?)),
         None => Ok(None),
     }
@@ -329,7 +329,7 @@ fn referring(
 ) -> Result<Outcome, TreeFault>
     ensures { Gives (λ outcome. outcome ≡ referring (map held linked.now) labels.now footnote) result }
 {
-    let attr = lead_to_note(alloc, linked, footnote)?;
+    let attr = lead_to_footnote(alloc, linked, footnote)?;
     let shown = shown_at(alloc, labels, footnote)?;
     Ok(Outcome::Stays(Addition { attr, shown }))
 }

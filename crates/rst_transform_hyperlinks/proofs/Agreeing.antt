@@ -9,7 +9,7 @@ use Rattle.rst_tree.specs.Faults.{Gives}
 use Rattle.rst_transform_links.specs.declared.links.Linked.{Linked}
 use Rattle.rst_transform_links.specs.declared.links.Outcome.{Outcome}
 use Rattle.rst_transform_work.specs.declared.work.Work.{Work}
-use Rattle.rst_transform_hyperlinks.specs.Anonymous.{agree, agreed, failing, first_line, references_in, targets_in, ChangesAnonymous, IsComplaint}
+use Rattle.rst_transform_hyperlinks.specs.Anonymous.{agree, agreed, failing, first_line, references_in, targets_in, ChangesAnonymous, ReportsMismatch}
 use Rattle.rst_transform_links.specs.Linkings.{Held, held, linked_of}
 use Rattle.rst_transform_links.specs.Settling.{Settles}
 
@@ -18,20 +18,20 @@ counted : (list : List Linked) (all : List Held) → map held list ≡ all → l
 counted list all is = sym (length-map list held) ∙ ap length is
 
 -- whether there are as many, by what is listed
-pub told : (root : Node) (references targets : List Linked) → map held references ≡ references_in root → map held targets ≡ targets_in root → nat_eq (length references) (length targets) ≡ agree root
-told root references targets is are = rw (counted references (references_in root) is, counted targets (targets_in root) are) refl
+pub counts_agree : (root : Node) (references targets : List Linked) → map held references ≡ references_in root → map held targets ≡ targets_in root → nat_eq (length references) (length targets) ≡ agree root
+counts_agree root references targets is are = rw (counted references (references_in root) is, counted targets (targets_in root) are) refl
 
 -- where there are
-pub taken_all : (root : Node) (before after : Work) (b : Bool) (result : Result (List Outcome) TreeFault) → b ≡ true → Gives (λ changes. changes ≡ agreed root) result → after ≡ before
+pub paired_all : (root : Node) (before after : Work) (b : Bool) (result : Result (List Outcome) TreeFault) → b ≡ true → Gives (λ changes. changes ≡ agreed root) result → after ≡ before
     → Gives (ChangesAnonymous b root before after) result
-taken_all root before after false result h gives work = absurd (cc)
-taken_all root before after true (Ok changes) h gives work = (gives, work)
-taken_all root before after true (Err NoMemory) h gives work = tt
+paired_all root before after false result h gives work = absurd (cc)
+paired_all root before after true (Ok changes) h gives work = (gives, work)
+paired_all root before after true (Err NoMemory) h gives work = tt
 
 -- where there aren't
 pub failed_all : (root : Node) (before between after : Work) (b : Bool) (references targets linked : List Linked) (outcomes : List Outcome) (report : ℕ) (result : Result (List Outcome) TreeFault) → b ≡ false
     → map held references ≡ references_in root → map held targets ≡ targets_in root → map held linked ≡ linked_of root
-    → report ≡ length before.reports.items → IsComplaint (first_line (map held references) (map held targets)) (length references) (length targets) before between
+    → report ≡ length before.reports.items → ReportsMismatch (first_line (map held references) (map held targets)) (length references) (length targets) before between
     → outcomes ≡ map (λ one. failing report one.0) (map held linked) → Gives (Settles (map held linked) outcomes between after) result
     → Gives (ChangesAnonymous b root before after) result
 failed_all root before between after true references targets linked outcomes report result h is are all at complains comes gives = absurd (cc)

@@ -39,7 +39,7 @@ among_last : (way : List ℕ) (place last : ℕ) → place ≡ last → among pl
 among_last [] place last is = inl is
 among_last (one ∷ more) place last is = inr (among_last more place last is)
 
--- answers, of which one is noted
+-- answers, of which one is set
 set_all : (answers : List (Option Answer)) (n : ℕ) (v : Option Answer) → length (slice_set answers n v) ≡ length answers
 set_all [] n v = refl
 set_all (x ∷ xs) zero v = refl
@@ -98,7 +98,7 @@ has_within [] place one h = absurd (cc)
 has_within (x ∷ xs) zero one h = omega arith
 has_within (x ∷ xs) (suc place) one h = let k = has_within xs place one h in omega (arith, k)
 
--- answers, of which all on a way are noted
+-- answers, of which all on a way are set
 fill_all : (found : Answer) (way : List ℕ) (answers : List (Option Answer)) → length (filled found way answers) ≡ length answers
 fill_all found [] answers = refl
 fill_all found (one ∷ more) answers = fill_all found more (slice_set answers one (Some found)) ∙ set_all answers one (Some found)
@@ -155,7 +155,7 @@ next_from None None next h = absurd (cc)
 next_from None (Some (Ends answer)) next h = absurd (cc)
 next_from None (Some (To other)) next h = (refl, cc)
 
--- a way from a start so far, to a place: the answers noted before it and on it
+-- a way from a start so far, to a place: the answers set before it and on it
 pub record Following (steps : List (Option Step)) (start : ℕ) (before answers : List (Option Answer)) (way : List ℕ) (place : ℕ) : Type 0 where
   pub all : length answers ≡ length steps
   pub right : (p : ℕ) (a : Answer) → at_place answers p ≡ Some a → (among p way × (a ≡ Circular)) ⊎ ((n : ℕ) → known before ≤ n → way_end steps n p ≡ a)
@@ -196,7 +196,7 @@ one_further : (steps : List (Option Step)) (place next b : ℕ) (a : Answer) (n 
 one_further steps place next b a zero to h low = absurd (omega (arith, low))
 one_further steps place next b a (suc n) to h low = step_end steps n place next to ∙ h n (omega (arith, low))
 
--- the place is noted as circular, and the way goes on to the next
+-- the place is set as circular, and the way goes on to the next
 pub Following-more : (steps : List (Option Step)) (start : ℕ) (before answers : List (Option Answer)) (way : List ℕ) (place next : ℕ) → Following steps start before answers way place → next_on steps answers place ≡ Some next
     → Following steps start before (slice_set answers place (Some Circular)) (way ++ place ∷ []) next
 Following-more steps start before answers way place next f goes =
@@ -276,7 +276,7 @@ low_or zero (suc start) h = inl (omega arith)
 low_or (suc p) zero h = absurd (omega (arith, h))
 low_or (suc p) (suc start) h = elim (low_or p start (omega (arith, h))) [ inl low ↦ inl (omega (arith, low)) | inr is ↦ inr (ap suc is) ]
 
--- all on the way are noted as its end
+-- all on the way are set as its end
 pub Following-end : (steps : List (Option Step)) (start : ℕ) (before answers : List (Option Answer)) (way : List ℕ) (place : ℕ) (found : Answer) → Following steps start before answers way place → next_on steps answers place ≡ None
     → found ≡ unwrap_or (at_place answers place) Circular → KnownBelow steps (start + 1) (filled found way answers)
 Following-end steps start before answers way place found f stops is =

@@ -12,7 +12,7 @@ use Rattle.rst_transform_hyperlinks.specs.declared.ways.Answer.{Answer}
 use Rattle.rst_transform_hyperlinks.specs.declared.ways.Answer.TheVariants.{Leads, Missing, Circular}
 use Rattle.rst_transform_work.specs.declared.work.Work.{Work}
 use Rattle.rst_transform_links.specs.Holders.{holder_place}
-use Rattle.rst_transform_hyperlinks.specs.Indirect.{answers_in, led, outcome_at, outcome_by, outcome_or, outcome_through, outcomes_from, outcomes_in, reports_from, reports_in, step_to, step_to_one, steps_of, targets_in, targets_of, told_from, with_indirect, ChangesIndirect, NoneFails}
+use Rattle.rst_transform_hyperlinks.specs.Indirect.{answers_in, led, outcome_at, outcome_by, outcome_or, outcome_through, outcomes_from, outcomes_in, reports_from, reports_in, step_to, step_to_one, steps_of, targets_in, targets_of, with_indirect, with_reports, ChangesIndirect, NoneFails}
 use Rattle.rst_transform_links.specs.Linkings.{Held, held, linked_of}
 use Rattle.rst_transform_links.specs.Links.{changed_root}
 use Rattle.rst_transform_links.specs.Outcomes.{adds, stays}
@@ -39,7 +39,7 @@ none_both [] (Some n) h = absurd (cc)
 none_both (None ∷ more) last h = none_both more last h
 none_both (Some n ∷ more) last h = absurd (cc)
 
--- where none is told of, the document stays as it is
+-- where none fails, the document stays as it is
 pub none_before : (before : List (Option ℕ)) (last : Option ℕ) (first was now : Work) → (list_all is_none before ≡ true → was ≡ first) → (last ≡ None → now ≡ was) → list_all is_none (before ++ last ∷ []) ≡ true → now ≡ first
 none_before before last first was now so far h = let both : (list_all is_none before ≡ true) × (last ≡ None) = none_both before last h in far both.1 ∙ so both.0
 
@@ -84,7 +84,7 @@ pub all_stay : (answers : ℕ → Option Answer) (targets reports : List (Option
 all_stay answers targets reports linked outcomes none become =
     subst (λ (o : List Outcome). list_all stays o ≡ true) (sym become) (from_stays answers (at_place reports) (at_place targets) (none_there reports none) 0 linked)
 
-module _ (root : Node) (before told after : Work) (linked : List Held) (all : linked ≡ linked_of root) (places : Holder → Option ℕ) (are : (holder : Holder) → places holder ≡ holder_place before.serials linked holder) where
+module _ (root : Node) (before reported after : Work) (linked : List Held) (all : linked ≡ linked_of root) (places : Holder → Option ℕ) (are : (holder : Holder) → places holder ≡ holder_place before.serials linked holder) where
   holders_are : places ≡ holder_place before.serials linked
   holders_are = λ i holder. are holder i
 
@@ -96,9 +96,9 @@ module _ (root : Node) (before told after : Work) (linked : List Held) (all : li
   targets_are targets is =
       ap (λ (ts : List (Option ℕ)). at_place ts) (is ∙ (ap (λ (p : Holder → Option ℕ). targets_of before.names p linked) holders_are ∙ ap (λ (l : List Held). targets_of before.names (holder_place before.serials l) l) all))
 
-  pub reports_told : (answers : ℕ → Option Answer) (reports : List (Option ℕ)) → answers ≡ comes_to (steps_of before.names places linked) → reports ≡ reports_from answers (length before.reports.items) 0 linked
+  pub reports_are : (answers : ℕ → Option Answer) (reports : List (Option ℕ)) → answers ≡ comes_to (steps_of before.names places linked) → reports ≡ reports_from answers (length before.reports.items) 0 linked
       → reports ≡ reports_from (answers_in root before) (length before.reports.items) 0 (linked_of root)
-  reports_told answers reports found is =
+  reports_are answers reports found is =
       is ∙ (ap (λ (a : ℕ → Option Answer). reports_from a (length before.reports.items) 0 linked) (answers_are answers found) ∙ ap (λ (l : List Held). reports_from (answers_in root before) (length before.reports.items) 0 l) all)
 
   pub outcomes_are : (answers : ℕ → Option Answer) (targets reports : List (Option ℕ)) (outcomes : List Outcome) → answers ≡ comes_to (steps_of before.names places linked)
@@ -106,24 +106,24 @@ module _ (root : Node) (before told after : Work) (linked : List Held) (all : li
       → outcomes ≡ outcomes_from answers (at_place reports) (at_place targets) 0 linked → outcomes ≡ outcomes_in root before
   outcomes_are answers targets reports outcomes is meant tells become =
       become ∙ (ap (λ (a : ℕ → Option Answer). outcomes_from a (at_place reports) (at_place targets) 0 linked) (answers_are answers is)
-      ∙ (ap (λ (r : ℕ → Option ℕ). outcomes_from (answers_in root before) r (at_place targets) 0 linked) (ap (λ (rs : List (Option ℕ)). at_place rs) (reports_told answers reports is tells))
+      ∙ (ap (λ (r : ℕ → Option ℕ). outcomes_from (answers_in root before) r (at_place targets) 0 linked) (ap (λ (rs : List (Option ℕ)). at_place rs) (reports_are answers reports is tells))
       ∙ (ap (λ (t : ℕ → Option ℕ). outcomes_from (answers_in root before) (reports_in root before) t 0 linked) (targets_are targets meant)
       ∙ ap (λ (l : List Held). outcomes_from (answers_in root before) (reports_in root before) (targets_in root before) 0 l) all)))
 
   pub all_led : (answers : ℕ → Option Answer) (targets reports : List (Option ℕ)) (outcomes changes : List Outcome) → answers ≡ comes_to (steps_of before.names places linked)
       → targets ≡ targets_of before.names places linked → reports ≡ reports_from answers (length before.reports.items) 0 linked
-      → told.reports.items ≡ told_from answers before.first_number before.reports.items 0 linked → KeepsRest before told
-      → outcomes ≡ outcomes_from answers (at_place reports) (at_place targets) 0 linked → Settles linked outcomes told after changes → ChangesIndirect root before after changes
+      → reported.reports.items ≡ with_reports answers before.first_number before.reports.items 0 linked → KeepsRest before reported
+      → outcomes ≡ outcomes_from answers (at_place reports) (at_place targets) 0 linked → Settles linked outcomes reported after changes → ChangesIndirect root before after changes
   all_led answers targets reports outcomes changes is meant tells telling rest become settles =
       record {
-        told = told;
+        reported = reported;
         reports =
-            telling ∙ (ap (λ (a : ℕ → Option Answer). told_from a before.first_number before.reports.items 0 linked) (answers_are answers is)
-            ∙ ap (λ (l : List Held). told_from (answers_in root before) before.first_number before.reports.items 0 l) all);
+            telling ∙ (ap (λ (a : ℕ → Option Answer). with_reports a before.first_number before.reports.items 0 linked) (answers_are answers is)
+            ∙ ap (λ (l : List Held). with_reports (answers_in root before) before.first_number before.reports.items 0 l) all);
         rest = rest;
         settles =
-            subst (λ (l : List Held). Settles l (outcomes_in root before) told after changes) all
-            (subst (λ (o : List Outcome). Settles linked o told after changes) (outcomes_are answers targets reports outcomes is meant tells become) settles);
+            subst (λ (l : List Held). Settles l (outcomes_in root before) reported after changes) all
+            (subst (λ (o : List Outcome). Settles linked o reported after changes) (outcomes_are answers targets reports outcomes is meant tells become) settles);
       }
 
 -- where no target fails, a document put back has only them led

@@ -1,4 +1,4 @@
 pub mod Agreeing
 pub mod Following
 pub mod Leading
-pub mod Taking
+pub mod Pairing

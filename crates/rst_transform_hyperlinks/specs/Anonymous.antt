@@ -8,7 +8,7 @@ use Rattle.rst_tree.specs.declared.tag.Tag.{Tag}
 use Rattle.rst_tree.specs.declared.tag.Tag.TheVariants.{Reference}
 use Rattle.rst_tree.specs.Attributes.{value_of}
 use Rattle.rst_tree.specs.Paths.{node_value}
-use Rattle.rst_tree_index.specs.Held.{is_target}
+use Rattle.rst_tree_index.specs.Kinds.{is_target}
 use Rattle.rst_tree.specs.declared.note.Level.TheVariants.{Error}
 use Rattle.rst_transform_links.specs.declared.links.Outcome.{Outcome}
 use Rattle.rst_transform_links.specs.declared.links.Outcome.TheVariants.{Fails}
@@ -52,11 +52,11 @@ first_lead [] = None
 first_lead (target ∷ more) = lead_to target.0
 
 -- each anonymous reference takes the next target; all others stay as they are
-abbrev pub taken : List Held → List Held → List Outcome
-taken [] targets = []
-taken (one ∷ more) targets =
-    if is_anonymous_reference one.0 then adds (first_lead targets) ∷ taken more (drop 1 targets)
-    else adds None ∷ taken more targets
+abbrev pub paired : List Held → List Held → List Outcome
+paired [] targets = []
+paired (one ∷ more) targets =
+    if is_anonymous_reference one.0 then adds (first_lead targets) ∷ paired more (drop 1 targets)
+    else adds None ∷ paired more targets
 
 -- the anonymous references and targets in a document
 abbrev pub references_in : Node → List Held
@@ -71,7 +71,7 @@ Agrees root = length (references_in root) ≡ length (targets_in root)
 
 -- what becomes of the linked elements, where there are
 abbrev pub agreed : Node → List Outcome
-agreed root = taken (linked_of root) (targets_in root)
+agreed root = paired (linked_of root) (targets_in root)
 
 -- a document whose references took their targets
 abbrev pub with_anonymous : Work → Work
@@ -87,13 +87,13 @@ first_line (one ∷ more) targets = line_of one.0
 first_line [] (one ∷ more) = line_of one.0
 first_line [] [] = 0
 
--- what is told where there aren't
+-- what the message says where there aren't
 abbrev pub mismatch : ℕ → ℕ → List ℕ
 mismatch references targets = codes "Anonymous hyperlink mismatch: " ++ (decimal references ++ (codes " references but " ++ (decimal targets ++ codes " targets.")))
 
 -- the one ERROR of that, on a line, comes behind the other messages
-abbrev pub IsComplaint : ℕ → ℕ → ℕ → Work → Work → Type 0
-IsComplaint line references targets before after =
+abbrev pub ReportsMismatch : ℕ → ℕ → ℕ → Work → Work → Type 0
+ReportsMismatch line references targets before after =
     (after.reports.items ≡ before.reports.items ++ next_report before.first_number before.reports.items Error line (mismatch references targets) true ∷ []) × KeepsRest before after
 
 -- each anonymous reference fails for a message
@@ -104,7 +104,7 @@ failing report node = if is_anonymous_reference node then Fails report else adds
 abbrev pub ChangesAnonymous : Bool → Node → Work → Work → List Outcome → Type 0
 ChangesAnonymous true root before after changes = (changes ≡ agreed root) × (after ≡ before)
 ChangesAnonymous false root before after changes =
-    (between : Work) × IsComplaint (first_line (references_in root) (targets_in root)) (length (references_in root)) (length (targets_in root)) before between ×
+    (between : Work) × ReportsMismatch (first_line (references_in root) (targets_in root)) (length (references_in root)) (length (targets_in root)) before between ×
     Settles (linked_of root) (map (λ one. failing (length before.reports.items) one.0) (linked_of root)) between after changes
 
 -- the document before and after; its root is taken out, and put back as it changed

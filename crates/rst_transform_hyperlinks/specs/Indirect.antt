@@ -69,25 +69,25 @@ own_step names places linked node = option_map (first_step names places linked) 
 abbrev pub steps_of : Names → (Holder → Option ℕ) → List Held → List (Option Step)
 steps_of names places linked = map (λ one. own_step names places linked one.0) linked
 
--- what is told of a target whose way ends at a name that no element holds
-abbrev pub missing_told : List ℕ → List ℕ → List ℕ
-missing_told name missing = codes "Indirect hyperlink target \"" ++ (name ++ (codes "\" refers to target \"" ++ (missing ++ codes "\", which does not exist.")))
+-- what the message says of a target whose way ends at a name that no element holds
+abbrev pub missing_text : List ℕ → List ℕ → List ℕ
+missing_text name missing = codes "Indirect hyperlink target \"" ++ (name ++ (codes "\" refers to target \"" ++ (missing ++ codes "\", which does not exist.")))
 
--- what is told of a target whose way is a circle
-abbrev pub circle_told : List ℕ → List ℕ
-circle_told name = codes "Indirect hyperlink target \"" ++ (name ++ codes "\" is circular.")
+-- what the message says of a target whose way is a circle
+abbrev pub circle_text : List ℕ → List ℕ
+circle_text name = codes "Indirect hyperlink target \"" ++ (name ++ codes "\" is circular.")
 
--- what is told of a target of some name by what it comes to
+-- what the message says of a target of some name, by what it comes to
 abbrev pub failure : List ℕ → Option Answer → Option (List ℕ)
 failure name None = None
 failure name (Some (Leads attr)) = None
-failure name (Some (Missing missing)) = Some (missing_told name missing)
-failure name (Some Circular) = Some (circle_told name)
+failure name (Some (Missing missing)) = Some (missing_text name missing)
+failure name (Some Circular) = Some (circle_text name)
 
 abbrev pub failure_of : Node → Option Answer → Option (List ℕ)
 failure_of node answer = failure (unwrap_or (text_said OwnName node) []) answer
 
--- an ERROR comes behind the other messages, if there is something to tell of an element
+-- an ERROR comes behind the other messages, if an element fails
 abbrev pub with_report : ℕ → List Report → Node → Option (List ℕ) → List Report
 with_report first reports node None = reports
 with_report first reports node (Some text) = reports ++ next_report first reports Error (line_of node) text true ∷ []
@@ -100,10 +100,10 @@ abbrev pub next_count : ℕ → Option (List ℕ) → ℕ
 next_count count None = count
 next_count count (Some text) = count + 1
 
--- the messages once all of some elements are told of that fail, of which the first is at a place
-abbrev pub told_from : (ℕ → Option Answer) → ℕ → List Report → ℕ → List Held → List Report
-told_from answers first reports place [] = reports
-told_from answers first reports place (one ∷ more) = told_from answers first (with_report first reports one.0 (failure_of one.0 (answers place))) (place + 1) more
+-- the messages with those on each of some elements that fails, of which the first is at a place
+abbrev pub with_reports : (ℕ → Option Answer) → ℕ → List Report → ℕ → List Held → List Report
+with_reports answers first reports place [] = reports
+with_reports answers first reports place (one ∷ more) = with_reports answers first (with_report first reports one.0 (failure_of one.0 (answers place))) (place + 1) more
 
 -- the place of each one's message among the messages, of which there are so many before
 abbrev pub reports_from : (ℕ → Option Answer) → ℕ → ℕ → List Held → List (Option ℕ)
@@ -200,10 +200,10 @@ with_indirect work = record work { root = changed_root (outcomes_in work.root wo
 
 -- what becomes of the linked elements of a tree, and the document before and after
 pub record ChangesIndirect (root : Node) (before after : Work) (changes : List Outcome) : Type 0 where
-  pub told : Work
-  pub reports : told.reports.items ≡ told_from (answers_in root before) before.first_number before.reports.items 0 (linked_of root)
-  pub rest : KeepsRest before told
-  pub settles : Settles (linked_of root) (outcomes_in root before) told after changes
+  pub reported : Work
+  pub reports : reported.reports.items ≡ with_reports (answers_in root before) before.first_number before.reports.items 0 (linked_of root)
+  pub rest : KeepsRest before reported
+  pub settles : Settles (linked_of root) (outcomes_in root before) reported after changes
 
 -- the document before and after; its root is taken out, and put back as it changed
 pub record IsIndirect (before after : Work) : Type 0 where

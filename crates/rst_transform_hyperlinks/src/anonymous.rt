@@ -1,11 +1,11 @@
 //! Anonymous references.
 ghost use Rattle.std.specs.Prelude.{◌≡◌, drop, filter, length, map};
 ghost use Rattle.rst_tree.specs.Faults.{Gives};
-ghost use Rattle.rst_transform_hyperlinks.specs.Anonymous.{agree, agreed, failing, first_lead, first_line, is_anonymous_reference, is_anonymous_target, lead_to, mismatch, taken, with_anonymous, Agrees, ChangesAnonymous, IsAnonymous, IsComplaint};
+ghost use Rattle.rst_transform_hyperlinks.specs.Anonymous.{agree, agreed, failing, first_lead, first_line, is_anonymous_reference, is_anonymous_target, lead_to, mismatch, paired, with_anonymous, Agrees, ChangesAnonymous, IsAnonymous, ReportsMismatch};
 ghost use Rattle.rst_transform_links.specs.Linkings.{held};
 
 use rst_transform_links::{
-    Changes, Linked, Outcome, lead_of, linked_in, put_back, settled, text_attr,
+    Changes, Linked, Outcome, lead_of, linked_in, put_back, settle, text_attr,
 };
 use rst_transform_work::{Work, first_said, has, line_of, take_root};
 use rst_tree::{Entry, Key, Level, Node, Tag, Text, TreeFault};
@@ -44,7 +44,7 @@ pub fn anonymous(alloc: Global, mut work: Work) -> Result<Work, TreeFault>
 }
 
 /// The changes of a tree's linked elements.
-#[tactic(auto, using(crate::proofs::Taking::taken_stay))]
+#[tactic(auto, using(crate::proofs::Pairing::paired_stay))]
 fn changes_of(alloc: Global, work: &mut Work, root: &Node) -> Result<Changes, TreeFault>
     ensures done { Gives (ChangesAnonymous (agree root.now) root.now work.old work.new) result }
     ensures changes { Agrees root.now → Gives (λ changes. changes ≡ agreed root.now) result }
@@ -54,12 +54,12 @@ fn changes_of(alloc: Global, work: &mut Work, root: &Node) -> Result<Changes, Tr
     let references = anonymous_references(alloc, linked.as_slice())?;
     let targets = anonymous_targets(alloc, linked.as_slice())?;
     if references.len() == targets.len() {
-        let outcomes = taken(alloc, linked.as_slice(), targets.as_slice())?;
-        return settled(alloc, work, linked.as_slice(), outcomes);
+        let outcomes = paired(alloc, linked.as_slice(), targets.as_slice())?;
+        return settle(alloc, work, linked.as_slice(), outcomes);
     }
-    let report = complain(alloc, work, references.as_slice(), targets.as_slice())?;
+    let report = report_mismatch(alloc, work, references.as_slice(), targets.as_slice())?;
     let outcomes = mismatched(alloc, linked.as_slice(), report)?;
-    settled(alloc, work, linked.as_slice(), outcomes)
+    settle(alloc, work, linked.as_slice(), outcomes)
 }
 
 /// Whether a node is an anonymous reference.
@@ -138,15 +138,15 @@ fn mismatch(alloc: Global, references: usize, targets: usize) -> Result<Text, Tr
     Ok(Text::new(text))
 }
 
-/// The ERROR that there are.
-fn complain(
+/// Adds the ERROR that there are, and gives its place.
+fn report_mismatch(
     alloc: Global,
     work: &mut Work,
     references: &[Linked<'_>],
     targets: &[Linked<'_>],
 ) -> Result<usize, TreeFault>
     ensures place { Gives (λ place. place ≡ length work.old.reports.items) result }
-    ensures told { Gives (λ _. IsComplaint (first_line (map held references.now) (map held targets.now)) (length references.now) (length targets.now) work.old work.new) result }
+    ensures reports { Gives (λ _. ReportsMismatch (first_line (map held references.now) (map held targets.now)) (length references.now) (length targets.now) work.old work.new) result }
 {
     let line = first_line(references, targets);
     let text = mismatch(alloc, references.len(), targets.len())?;
@@ -154,13 +154,13 @@ fn complain(
     Ok(place)
 }
 
-/// Each reference takes the target that is its own by the order.
-fn taken(
+/// What becomes of the elements: each anonymous reference takes the next target.
+fn paired(
     alloc: Global,
     linked: &[Linked<'_>],
     targets: &[Linked<'_>],
 ) -> Result<Vec<Outcome>, TreeFault>
-    ensures { Gives (λ outcomes. outcomes.items ≡ taken (map held linked.entry.now) (map held targets.entry.now)) result }
+    ensures { Gives (λ outcomes. outcomes.items ≡ paired (map held linked.entry.now) (map held targets.entry.now)) result }
 {
     let mut left = targets;
     let mut outcomes = Vec::new(alloc);

@@ -5,7 +5,7 @@ ghost use Rattle.rst_tree.specs.Faults.{Gives};
 ghost use Rattle.rst_tree.specs.declared.key.Key.TheVariants.{OwnName};
 ghost use Rattle.rst_transform_names.specs.Names.{held_by, kept_for};
 ghost use Rattle.rst_transform_links.specs.Holders.{holding, place_at};
-ghost use Rattle.rst_transform_hyperlinks.specs.Indirect.{anonymous_from, circle_told, ends_at_name, failure_of, first_step, has_holder, indirect_name, is_reference_node, led, missing_told, named_place, next_count, outcome_at, outcome_through, outcomes_from, outcomes_in, own_step, report_place, reports_from, step_to, steps_of, targets_from, targets_of, told_from, with_indirect, with_report, ChangesIndirect, IsIndirect, NoneFails};
+ghost use Rattle.rst_transform_hyperlinks.specs.Indirect.{anonymous_from, circle_text, ends_at_name, failure_of, first_step, has_holder, indirect_name, is_reference_node, led, missing_text, named_place, next_count, outcome_at, outcome_through, outcomes_from, outcomes_in, own_step, report_place, reports_from, step_to, steps_of, targets_from, targets_of, with_indirect, with_report, with_reports, ChangesIndirect, IsIndirect, NoneFails};
 ghost use Rattle.rst_transform_hyperlinks.specs.declared.ways.Answer.TheVariants.{Missing};
 ghost use Rattle.rst_transform_hyperlinks.specs.declared.ways.Step.TheVariants.{Ends};
 ghost use Rattle.rst_transform_links.specs.Linkings.{held};
@@ -16,7 +16,7 @@ ghost use Rattle.rst_transform_work.specs.Lists.{at_place};
 use crate::anonymous::{is_anonymous_reference, is_anonymous_target};
 use crate::ways::{Answer, Step, answer_at, answers};
 use rst_transform_links::{
-    Changes, Holders, Linked, Outcome, is_target, lead_by_name, linked_in, put_back, settled,
+    Changes, Holders, Linked, Outcome, is_target, lead_by_name, linked_in, put_back, settle,
 };
 use rst_transform_names::{Holder, NameEntry, Names};
 use rst_transform_work::{Work, at_place, has, line_of, take_root, text_said};
@@ -80,7 +80,7 @@ fn changes_of(alloc: Global, work: &mut Work, root: &Node) -> Result<Changes, Tr
         reports.as_slice(),
         targets.as_slice(),
     )?;
-    let changes = settled(alloc, work, linked.as_slice(), outcomes)?;
+    let changes = settle(alloc, work, linked.as_slice(), outcomes)?;
     Ok(changes)
 }
 
@@ -223,9 +223,9 @@ fn own_name(node: &Node) -> &str
     }
 }
 
-/// What is told of a target whose way ends at a name that no element holds.
-fn missing_told(alloc: Global, name: &str, missing: &str) -> Result<Text, TreeFault>
-    ensures { Gives (λ text. text ≡ missing_told name.now missing.now) result }
+/// What the message says of a target whose way ends at a name that no element holds.
+fn missing_text(alloc: Global, name: &str, missing: &str) -> Result<Text, TreeFault>
+    ensures { Gives (λ text. text ≡ missing_text name.now missing.now) result }
 {
     let text = format!(in alloc;
         "Indirect hyperlink target \"{name}\" refers to target \"{missing}\", which does not exist."
@@ -233,15 +233,15 @@ fn missing_told(alloc: Global, name: &str, missing: &str) -> Result<Text, TreeFa
     Ok(Text::new(text))
 }
 
-/// What is told of a target whose way is a circle.
-fn circle_told(alloc: Global, name: &str) -> Result<Text, TreeFault>
-    ensures { Gives (λ text. text ≡ circle_told name.now) result }
+/// What the message says of a target whose way is a circle.
+fn circle_text(alloc: Global, name: &str) -> Result<Text, TreeFault>
+    ensures { Gives (λ text. text ≡ circle_text name.now) result }
 {
     let text = format!(in alloc; "Indirect hyperlink target \"{name}\" is circular.")?;
     Ok(Text::new(text))
 }
 
-/// What is told of the element at a place, if it fails.
+/// What the message on the element at a place says, if it fails.
 fn failure_at(
     alloc: Global,
     node: &Node,
@@ -252,15 +252,15 @@ fn failure_at(
 {
     match answer_at(answers, place) {
         Some(Answer::Missing(missing)) => {
-            Ok(Some(missing_told(alloc, own_name(node), missing.as_str())?))
+            Ok(Some(missing_text(alloc, own_name(node), missing.as_str())?))
         }
-        Some(Answer::Circular) => Ok(Some(circle_told(alloc, own_name(node))?)),
+        Some(Answer::Circular) => Ok(Some(circle_text(alloc, own_name(node))?)),
         Some(Answer::Leads(_)) | None => Ok(None),
     }
 }
 
-/// Tells of an element, if there is something to tell, and gives the place of the message.
-fn told(
+/// Adds the message on an element, if it fails, and gives the place of the message.
+fn report_failure(
     alloc: Global,
     work: &mut Work,
     node: &Node,
@@ -287,14 +287,14 @@ fn reports(
     answers: &[Option<Answer>],
 ) -> Result<Vec<Option<usize>>, TreeFault>
     ensures places { Gives (λ reports. reports.items ≡ reports_from (at_place answers.now) (length work.old.reports.items) 0 (map held linked.now)) result }
-    ensures reports { Gives (λ _. work.new.reports.items ≡ told_from (at_place answers.now) work.old.first_number work.old.reports.items 0 (map held linked.now)) result }
+    ensures reports { Gives (λ _. work.new.reports.items ≡ with_reports (at_place answers.now) work.old.first_number work.old.reports.items 0 (map held linked.now)) result }
     ensures rest { Gives (λ _. KeepsRest work.old work.new) result }
     ensures same { Gives (λ reports. list_all is_none reports.items ≡ true → work.new ≡ work.old) result }
 {
     let mut reports = Vec::with_capacity(alloc, linked.len())?;
     for (place, one) in linked.iter().enumerate() {
         let failure = failure_at(alloc, one.element, answers, place)?;
-        let report = told(alloc, work, one.element, failure)?;
+        let report = report_failure(alloc, work, one.element, failure)?;
         reports.push(report)?;
     }
     Ok(reports)

@@ -83,10 +83,10 @@ fn end_of(alloc: Global, step: &Option<Step>) -> Result<Option<Answer>, TreeFaul
     }
 }
 
-/// Follows the way from an indirect target to the first whose answer is known, and notes that answer for all on the way.
+/// Follows the way from an indirect target to the first whose answer is known, and sets that answer for all on the way.
 ///
 /// A target on the way counts as circular until its answer is known, so that a way which comes back to one of its own is
-/// found to be a circle. None is followed twice, since each that was met is known afterwards.
+/// found to be a circle. None is followed twice, since the answer of each is known afterwards.
 fn follow(
     alloc: Global,
     steps: &[Option<Step>],
@@ -131,7 +131,7 @@ fn found_at(alloc: Global, answers: &[Option<Answer>], place: usize) -> Result<A
     }
 }
 
-/// Notes an answer for all on a way.
+/// Sets an answer for all on a way.
 fn fill(
     alloc: Global,
     way: &[usize],
@@ -146,7 +146,7 @@ fn fill(
     Ok(())
 }
 
-/// Notes an answer for a place, if there is that.
+/// Sets an answer for a place, if there is that.
 fn put(answers: &mut Vec<Option<Answer>>, place: usize, answer: Answer)
     ensures { answers.new.items ≡ slice_set answers.old.items place (Some answer) }
 {

@@ -1,4 +1,4 @@
--- The places of linked elements by their numbers, noted one after the other.
+-- The places of linked elements by their numbers, put there one after the other.
 use Rattle.std.proofs.Common.{◌≡◌, ℕ, zero, suc, ◌+◌, ◌<◌, ◌≤◌, List, [], ◌∷◌, length, map, drop, get_or, replicate, refl, ◌∙◌, ap, arith, Bool, true, false}
 use Rattle.std.specs.Prelude.{if◌then◌else◌, nat_eq, nat_lt, slice_get, slice_set, Option, Some, None}
 use Rattle.std.specs.Option.{option_flatten}
@@ -7,7 +7,7 @@ use Rattle.rst_transform_names.specs.declared.names.Holder.{Holder}
 use Rattle.rst_transform_names.specs.declared.names.Holder.TheVariants.{Nobody, Element, Unregistered}
 use Rattle.rst_tree.specs.declared.key.Key.TheVariants.{Serial}
 use Rattle.rst_transform_links.specs.declared.links.Linked.{Linked}
-use Rattle.rst_transform_links.specs.Holders.{holder_place, is_it, last_numbered, noted, place_at}
+use Rattle.rst_transform_links.specs.Holders.{holder_place, is_it, last_numbered, place_at, with_place}
 use Rattle.rst_transform_links.specs.Linkings.{held}
 use Rattle.rst_transform_work.specs.Reading.{number_said}
 
@@ -18,21 +18,21 @@ set_at (x ∷ xs) zero (suc serial) v within = grind arith
 set_at (x ∷ xs) (suc n) zero v within = grind arith
 set_at (x ∷ xs) (suc n) (suc serial) v within = let h = set_at xs n serial v (omega (arith, within)) in grind (arith, h)
 
-noted_at : (places : List (Option ℕ)) (place serial : ℕ) (said : Option ℕ) → serial < length places → option_flatten (slice_get (noted place said places) serial) ≡ (if is_it serial said then Some place else option_flatten (slice_get places serial))
-noted_at places place serial None within = refl
-noted_at places place serial (Some n) within = set_at places n serial (Some place) within
+with_place_at : (places : List (Option ℕ)) (place serial : ℕ) (said : Option ℕ) → serial < length places → option_flatten (slice_get (with_place place said places) serial) ≡ (if is_it serial said then Some place else option_flatten (slice_get places serial))
+with_place_at places place serial None within = refl
+with_place_at places place serial (Some n) within = set_at places n serial (Some place) within
 
 set_length : (xs : List (Option ℕ)) (n : ℕ) (v : Option ℕ) → length (slice_set xs n v) ≡ length xs
 set_length [] n v = refl
 set_length (x ∷ xs) zero v = refl
 set_length (x ∷ xs) (suc n) v = ap suc (set_length xs n v)
 
-noted_length : (places : List (Option ℕ)) (place : ℕ) (said : Option ℕ) → length (noted place said places) ≡ length places
-noted_length places place None = refl
-noted_length places place (Some n) = set_length places n (Some place)
+with_place_length : (places : List (Option ℕ)) (place : ℕ) (said : Option ℕ) → length (with_place place said places) ≡ length places
+with_place_length places place None = refl
+with_place_length places place (Some n) = set_length places n (Some place)
 
--- the places noted before an element, with those that the elements from it on will have
-pub record Noting (serials : ℕ) (linked : List Linked) (places : List (Option ℕ)) (place : ℕ) : Type 0 where
+-- the places put there before an element, with those that the elements from it on will have
+pub record Placing (serials : ℕ) (linked : List Linked) (places : List (Option ℕ)) (place : ℕ) : Type 0 where
   pub all : length places ≡ serials
   pub become : (serial : ℕ) → serial < serials → last_numbered serial place (option_flatten (slice_get places serial)) (map held (drop place linked)) ≡ last_numbered serial 0 None (map held linked)
 
@@ -49,15 +49,15 @@ nowhere_length : (serials : ℕ) → length (blank serials) ≡ serials
 nowhere_length zero = refl
 nowhere_length (suc n) = ap suc (nowhere_length n)
 
-pub Noting-init : (serials : ℕ) (linked : List Linked) → Noting serials linked (replicate serials None) 0
-Noting-init serials linked = record { all = nowhere_length serials; become = λ serial within. ap (λ before. last_numbered serial 0 before (map held linked)) (no_place serials serial) }
+pub Placing-init : (serials : ℕ) (linked : List Linked) → Placing serials linked (replicate serials None) 0
+Placing-init serials linked = record { all = nowhere_length serials; become = λ serial within. ap (λ before. last_numbered serial 0 before (map held linked)) (no_place serials serial) }
 
-pub Noting-more : (serials : ℕ) (linked : List Linked) (places : List (Option ℕ)) (place : ℕ) (one : Linked) → Noting serials linked places place → place < length linked → one ≡ get_or linked place one
-    → Noting serials linked (noted place (number_said Serial one.element.now) places) (place + 1)
-Noting-more serials linked places place one n within at = record {
-  all = noted_length places place (number_said Serial one.element.now) ∙ n.all;
+pub Placing-more : (serials : ℕ) (linked : List Linked) (places : List (Option ℕ)) (place : ℕ) (one : Linked) → Placing serials linked places place → place < length linked → one ≡ get_or linked place one
+    → Placing serials linked (with_place place (number_said Serial one.element.now) places) (place + 1)
+Placing-more serials linked places place one n within at = record {
+  all = with_place_length places place (number_said Serial one.element.now) ∙ n.all;
   become = λ serial low.
-      ap (λ before. last_numbered serial (place + 1) before (map held (drop (place + 1) linked))) (noted_at places place serial (number_said Serial one.element.now) (omega (arith, n.all, low)))
+      ap (λ before. last_numbered serial (place + 1) before (map held (drop (place + 1) linked))) (with_place_at places place serial (number_said Serial one.element.now) (omega (arith, n.all, low)))
       ∙ (rw (drop_more linked place one within, ← at) at (n.become serial low));
 }
 
@@ -70,10 +70,10 @@ by_number : (serials serial : ℕ) (b : Bool) (found wanted : Option ℕ) → b 
 by_number serials serial true found wanted h below above = below (grind (arith, h))
 by_number serials serial false found wanted h below above = above (grind (arith, h))
 
-pub Noting-end : (serials : ℕ) (linked : List Linked) (places : List (Option ℕ)) (place : ℕ) → Noting serials linked places place → length linked ≤ place → (holder : Holder) → place_at places holder ≡ holder_place serials (map held linked) holder
-Noting-end serials linked places place n past Nobody = refl
-Noting-end serials linked places place n past Unregistered = refl
-Noting-end serials linked places place n past (Element serial) =
+pub Placing-end : (serials : ℕ) (linked : List Linked) (places : List (Option ℕ)) (place : ℕ) → Placing serials linked places place → length linked ≤ place → (holder : Holder) → place_at places holder ≡ holder_place serials (map held linked) holder
+Placing-end serials linked places place n past Nobody = refl
+Placing-end serials linked places place n past Unregistered = refl
+Placing-end serials linked places place n past (Element serial) =
     by_number serials serial (nat_lt serial serials) (option_flatten (slice_get places serial)) (last_numbered serial 0 None (map held linked)) refl
     (λ low. rw (drop_all place linked past) at (n.become serial low))
     (λ high. past_end places serial (omega (arith, n.all, high)))

@@ -9,7 +9,7 @@ use Rattle.rst_tree.specs.declared.rewriting.Rewrite.TheVariants.{Keep}
 use Rattle.rst_tree.specs.declared.tag.Tag.{Tag}
 use Rattle.rst_tree.specs.Forest.{Forest, bare, element, words}
 use Rattle.rst_tree.specs.Rewritten.{rewritten}
-use Rattle.rst_tree_index.specs.Linked.{is_linked}
+use Rattle.rst_tree_index.specs.LinkedTags.{is_linked_tag}
 use Rattle.rst_transform_links.specs.declared.links.Outcome.{Outcome}
 use Rattle.rst_transform_links.specs.declared.links.Outcome.TheVariants.{Stays, Fails, Failed}
 use Rattle.rst_transform_links.specs.Links.{change_next, change_of, changed_by, changed_root, is_idle, is_nothing, shown_as, with_more}
@@ -38,7 +38,7 @@ idle_nodes : (s : List Outcome) (f : Forest) → list_all is_idle s ≡ true →
 idle_nodes s bare h = (refl, h)
 idle_nodes s (words t r) h = let behind = idle_nodes s r h in (ap (words t) behind.0, behind.1)
 idle_nodes s (element t a c l r) h =
-    let own = idle_element (is_linked t) s t a l h in
+    let own = idle_element (is_linked_tag t) s t a l h in
     let s' : List Outcome = change_next s (Element t a c l) in
     let inside = idle_nodes s' c own.1 in
     let behind = idle_nodes (rewritten change_next change_of s' c).1 r inside.1 in

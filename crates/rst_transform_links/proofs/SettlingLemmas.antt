@@ -1,4 +1,4 @@
--- What linked elements come to: one turn more, and that all are met as they are where none fails.
+-- What linked elements come to: one turn more, and that all remain as they are where none fails.
 use Rattle.std.proofs.Common.{◌≡◌, ℕ, zero, suc, ◌+◌, ◌<◌, List, [], ◌∷◌, ◌++◌, length, drop, get_or, refl, sym, ap, arith, Bool, true}
 use Rattle.std.specs.Prelude.{Option, Some, None, is_none, slice_get, slice_set}
 use Rattle.std.specs.List.{list_all}
@@ -13,13 +13,13 @@ use Rattle.rst_transform_work.specs.declared.work.Work.{Work}
 use Rattle.rst_transform_links.specs.Linkings.{Held}
 use Rattle.rst_transform_links.specs.Outcomes.{stays}
 use Rattle.rst_transform_work.specs.Problematics.{MakesProblematic}
-use Rattle.rst_transform_links.specs.Settling.{earlier_at, first_in, firsts, met_from, turns_from, Settles, TakesTurns}
+use Rattle.rst_transform_links.specs.Settling.{earlier_at, first_in, firsts, remaining_from, turns_from, Settles, TakesTurns}
 use Rattle.rst_transform_work.specs.Lists.{at_place}
 
 -- the turn at a place among all is the first of those that are left there
-pub next_turn : (turns : List (ℕ × ℕ)) (i : ℕ) (turn : ℕ × ℕ) (before next after : Work) (outcomes settled : List Outcome) (told : List Attr) → i < length turns → turn ≡ get_or turns i turn
-    → MakesProblematic (slice_get before.reports.items turn.0) turn.0 before next told → TakesTurns (drop (i + 1) turns) next (slice_set outcomes turn.1 (Failed told)) after settled → TakesTurns (drop i turns) before outcomes after settled
-next_turn turns i turn before next after outcomes settled told within at makes rest = rw (drop_more turns i turn within, ← at) (next, told, makes, rest)
+pub next_turn : (turns : List (ℕ × ℕ)) (i : ℕ) (turn : ℕ × ℕ) (before next after : Work) (outcomes settled : List Outcome) (attrs : List Attr) → i < length turns → turn ≡ get_or turns i turn
+    → MakesProblematic (slice_get before.reports.items turn.0) turn.0 before next attrs → TakesTurns (drop (i + 1) turns) next (slice_set outcomes turn.1 (Failed attrs)) after settled → TakesTurns (drop i turns) before outcomes after settled
+next_turn turns i turn before next after outcomes settled attrs within at makes rest = rw (drop_more turns i turn within, ← at) (next, attrs, makes, rest)
 
 none_at : (around : List (Option ℕ)) (place : ℕ) → list_all is_none around ≡ true → at_place around place ≡ None
 none_at [] place h = refl
@@ -27,13 +27,13 @@ none_at (None ∷ more) zero h = refl
 none_at (None ∷ more) (suc place) h = none_at more place h
 none_at (Some first ∷ more) place h = absurd (cc)
 
-all_met_from : (around : List (Option ℕ)) (place : ℕ) (outcomes : List Outcome) → list_all is_none around ≡ true → met_from place around outcomes ≡ outcomes
-all_met_from around place [] h = refl
-all_met_from around place (outcome ∷ more) h = rw (none_at around place h) (ap (λ rest. outcome ∷ rest) (all_met_from around (place + 1) more h))
+all_remain_from : (around : List (Option ℕ)) (place : ℕ) (outcomes : List Outcome) → list_all is_none around ≡ true → remaining_from place around outcomes ≡ outcomes
+all_remain_from around place [] h = refl
+all_remain_from around place (outcome ∷ more) h = rw (none_at around place h) (ap (λ rest. outcome ∷ rest) (all_remain_from around (place + 1) more h))
 
--- where no element stands in one that fails, all are met
-pub all_met : (around : List (Option ℕ)) (outcomes : List Outcome) → list_all is_none around ≡ true → met_from 0 around outcomes ≡ outcomes
-all_met around outcomes h = all_met_from around 0 outcomes h
+-- where no element stands in one that fails, all remain
+pub all_remain : (around : List (Option ℕ)) (outcomes : List Outcome) → list_all is_none around ≡ true → remaining_from 0 around outcomes ≡ outcomes
+all_remain around outcomes h = all_remain_from around 0 outcomes h
 
 -- what stays is in nobody's way
 abbrev stays_if : Option Outcome → Bool
@@ -82,5 +82,5 @@ idle linked outcomes work h =
       settled = outcomes;
       are_turns = rw (no_turns 0 (length work.reports.items) around outcomes h) (IsPermutation-refl [], λ k d low high. absurd (omega (arith, high)));
       takes = (refl, refl);
-      met = sym (all_met around outcomes (no_firsts [] outcomes linked refl h));
+      remaining = sym (all_remain around outcomes (no_firsts [] outcomes linked refl h));
     }

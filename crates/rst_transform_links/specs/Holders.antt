@@ -10,7 +10,7 @@ use Rattle.rst_tree.specs.declared.key.Key.TheVariants.{Refid, Refuri, Serial}
 use Rattle.rst_tree.specs.declared.node.Node.{Node}
 use Rattle.rst_tree.specs.declared.node.Node.TheVariants.{Element as Tagged, Text as Words}
 use Rattle.rst_tree.specs.Attributes.{attr}
-use Rattle.rst_tree_index.specs.Held.{is_target}
+use Rattle.rst_tree_index.specs.Kinds.{is_target}
 use Rattle.rst_transform_links.specs.Linkings.{Held}
 use Rattle.rst_transform_work.specs.Reading.{number_said, text_said}
 
@@ -50,10 +50,10 @@ place_at places (Element serial) = option_flatten (slice_get places serial)
 place_at places Nobody = None
 place_at places Unregistered = None
 
--- the places, with one at the number that an element says
-abbrev pub noted : ℕ → Option ℕ → List (Option ℕ) → List (Option ℕ)
-noted place None places = places
-noted place (Some serial) places = slice_set places serial (Some place)
+-- the places, with another one at the number that an element says
+abbrev pub with_place : ℕ → Option ℕ → List (Option ℕ) → List (Option ℕ)
+with_place place None places = places
+with_place place (Some serial) places = slice_set places serial (Some place)
 
 -- the element that holds a name, if there is one
 abbrev pub holding : Option (Bor Node) → Option Node

@@ -1,6 +1,6 @@
 pub mod Holders
 pub mod Linkings
 pub mod Links
-pub mod NoteOrders
+pub mod FootnoteOrders
 pub mod Outcomes
 pub mod Settling

@@ -5,7 +5,7 @@ use Rattle.rst_tree.specs.declared.node.Node.{Node}
 use Rattle.rst_tree.specs.declared.node.Node.TheVariants.{Element, Text}
 use Rattle.rst_tree.specs.declared.tag.Tag.{Tag}
 use Rattle.rst_tree.specs.Forest.{Forest, bare, element, words}
-use Rattle.rst_tree_index.specs.Linked.{is_linked}
+use Rattle.rst_tree_index.specs.LinkedTags.{is_linked_tag}
 use Rattle.rst_transform_links.specs.declared.links.Linked.{Linked}
 
 -- an element, and the place of the one that it stands in
@@ -18,11 +18,11 @@ held one = (one.element.now, one.outer)
 
 -- a node that stands in the one at a place, if it is linked itself
 abbrev pub own_linked : Option ℕ → Tag → Node → List Held
-own_linked outer tag node = if is_linked tag then ((node, outer) ∷ []) else []
+own_linked outer tag node = if is_linked_tag tag then ((node, outer) ∷ []) else []
 
 -- the innermost linked element that the nodes in one stand in, which comes behind so many
 abbrev pub inner_of : ℕ → Option ℕ → Tag → Option ℕ
-inner_of before outer tag = if is_linked tag then (Some before) else outer
+inner_of before outer tag = if is_linked_tag tag then (Some before) else outer
 
 -- those among some nodes that stand in the one at a place, behind so many others
 abbrev pub linked_among : ℕ → Option ℕ → Forest → List Held

@@ -10,7 +10,7 @@ use Rattle.rst_tree.specs.declared.tag.Tag.TheVariants.{Problematic}
 use Rattle.rst_tree.specs.Attributes.{with_attr}
 use Rattle.rst_tree.specs.Forest.{Forest, bare, words}
 use Rattle.rst_tree.specs.Rewritten.{kept, rewritten}
-use Rattle.rst_tree_index.specs.Linked.{is_linked}
+use Rattle.rst_tree_index.specs.LinkedTags.{is_linked_tag}
 use Rattle.rst_transform_links.specs.declared.links.Outcome.{Outcome}
 use Rattle.rst_transform_links.specs.declared.links.Outcome.TheVariants.{Stays, Fails, Failed}
 use Rattle.rst_transform_work.specs.Reading.{source_said}
@@ -39,12 +39,12 @@ changed_by (Failed p ∷ more) t a l = Replace (Element Problematic p (words (so
 
 -- what becomes of an element
 abbrev pub change_of : List Outcome → Node → Rewrite
-change_of s (Element t a c l) = if is_linked t then changed_by s t a l else Keep t a l
+change_of s (Element t a c l) = if is_linked_tag t then changed_by s t a l else Keep t a l
 change_of s (Text t) = kept (Text t)
 
 -- the outcomes that are left behind an element
 abbrev pub change_next : List Outcome → Node → List Outcome
-change_next s (Element t a c l) = if is_linked t then drop 1 s else s
+change_next s (Element t a c l) = if is_linked_tag t then drop 1 s else s
 change_next s (Text t) = s
 
 -- nothing is said, and no text is shown

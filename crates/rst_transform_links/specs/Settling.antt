@@ -16,7 +16,7 @@ abbrev pub earlier : Option ℕ → Outcome → Option ℕ
 earlier (Some first) (Fails report) = Some (min first report)
 earlier None (Fails report) = Some report
 earlier first (Stays more) = first
-earlier first (Failed told) = first
+earlier first (Failed attrs) = first
 
 abbrev pub earlier_at : Option (Option ℕ) → Option Outcome → Option ℕ
 earlier_at (Some first) (Some outcome) = earlier first outcome
@@ -41,7 +41,7 @@ still_stands report (Some first) = nat_lt report first
 abbrev pub turn_of : ℕ → Outcome → Option ℕ → Option ℕ
 turn_of reports (Fails report) around = if nat_lt report reports && still_stands report around then Some report else None
 turn_of reports (Stays more) around = None
-turn_of reports (Failed told) around = None
+turn_of reports (Failed attrs) around = None
 
 abbrev pub turn_at : Option ℕ → ℕ → List (ℕ × ℕ)
 turn_at (Some report) place = (report, place) ∷ []
@@ -63,17 +63,17 @@ AreTurns found turns = IsPermutation found turns × IsSorted in_order turns
 abbrev pub TakesTurns : List (ℕ × ℕ) → Work → List Outcome → Work → List Outcome → Type 0
 TakesTurns [] before outcomes after settled = (after ≡ before) × (settled ≡ outcomes)
 TakesTurns (turn ∷ more) before outcomes after settled =
-    (next : Work) × (told : List Attr) × MakesProblematic (slice_get before.reports.items turn.0) turn.0 before next told × TakesTurns more next (slice_set outcomes turn.1 (Failed told)) after settled
+    (next : Work) × (attrs : List Attr) × MakesProblematic (slice_get before.reports.items turn.0) turn.0 before next attrs × TakesTurns more next (slice_set outcomes turn.1 (Failed attrs)) after settled
 
--- what becomes of those of some elements, of which the first is at a place, that stand in none that becomes a problematic
-abbrev pub met_from : ℕ → List (Option ℕ) → List Outcome → List Outcome
-met_from place around [] = []
-met_from place around (outcome ∷ more) = if is_some (at_place around place) then met_from (place + 1) around more else outcome ∷ met_from (place + 1) around more
+-- what becomes of those of some elements, of which the first is at a place, that remain: they stand in none that becomes a problematic
+abbrev pub remaining_from : ℕ → List (Option ℕ) → List Outcome → List Outcome
+remaining_from place around [] = []
+remaining_from place around (outcome ∷ more) = if is_some (at_place around place) then remaining_from (place + 1) around more else outcome ∷ remaining_from (place + 1) around more
 
--- the outcomes of linked elements, what becomes in the end of those that are met, and the documents before and after
+-- the outcomes of linked elements, what becomes in the end of those that remain, and the documents before and after
 pub record Settles (linked : List Held) (outcomes : List Outcome) (before after : Work) (changes : List Outcome) : Type 0 where
   pub turns : List (ℕ × ℕ)
   pub settled : List Outcome
   pub are_turns : let around : List (Option ℕ) = firsts [] outcomes linked in AreTurns (turns_from 0 (length before.reports.items) around outcomes) turns
   pub takes : TakesTurns turns before outcomes after settled
-  pub met : changes ≡ met_from 0 (firsts [] outcomes linked) settled
+  pub remaining : changes ≡ remaining_from 0 (firsts [] outcomes linked) settled

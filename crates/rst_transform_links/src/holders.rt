@@ -4,11 +4,11 @@ ghost use Rattle.rst_tree.specs.declared.attrs.Value.TheVariants.{Text as Words}
 ghost use Rattle.rst_tree.specs.declared.key.Key.TheVariants.{Serial};
 ghost use Rattle.rst_tree.specs.Attributes.{attr};
 ghost use Rattle.rst_tree.specs.Faults.{Gives};
-ghost use Rattle.rst_tree.specs.Told.{given};
+ghost use Rattle.rst_tree.specs.PrintedAttributes.{given};
 ghost use Rattle.rst_transform_names.specs.declared.names.Holder.{Holder};
 ghost use Rattle.rst_transform_names.specs.Names.{kept_for};
 ghost use Rattle.rst_transform_links.specs.Holders.{lead_of};
-ghost use Rattle.rst_transform_links.specs.Holders.{holder_place, holding, is_target_node, kept_lead, name_lead, noted, place_at, target_lead};
+ghost use Rattle.rst_transform_links.specs.Holders.{holder_place, holding, is_target_node, kept_lead, name_lead, place_at, target_lead, with_place};
 ghost use Rattle.rst_transform_links.specs.Linkings.{held};
 ghost use Rattle.rst_transform_work.specs.Reading.{number_said};
 
@@ -31,7 +31,7 @@ impl Holders {
     {
         let mut places = nowhere(alloc, serials)?;
         for (place, one) in linked.iter().enumerate() {
-            note(&mut places, place, one.element);
+            put_place(&mut places, place, one.element);
         }
         Ok(Holders { places })
     }
@@ -59,8 +59,8 @@ fn nowhere(alloc: Global, serials: u64) -> Result<Vec<Option<usize>>, TreeFault>
 }
 
 /// Puts the place of an element at its number, if it has one below the number of places.
-fn note(places: &mut Vec<Option<usize>>, place: usize, element: &Node)
-    ensures { places.new.items ≡ noted place (number_said Serial element.now) places.old.items }
+fn put_place(places: &mut Vec<Option<usize>>, place: usize, element: &Node)
+    ensures { places.new.items ≡ with_place place (number_said Serial element.now) places.old.items }
 {
     let Some(serial) = number_said(element, Key::Serial) else {
         return;

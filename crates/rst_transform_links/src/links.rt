@@ -8,7 +8,7 @@ ghost use Rattle.rst_transform_links.specs.Outcomes.{adds, fails, stays};
 
 use rst_transform_work::{ProblematicAttrs, Work, take_source};
 use rst_tree::{Attrs, Children, Entry, Node, Rewriter, Tag, Text, TreeFault, rewrite_in};
-use rst_tree_index::is_linked;
+use rst_tree_index::is_linked_tag;
 use std::alloc::Global;
 use std::collections::VecDeque;
 use std::marker::Model;
@@ -120,7 +120,7 @@ fn add_own<'a>(
 ) -> Result<(), TreeFault>
     ensures { Gives (λ _. map held list.new.items ≡ map held list.old.items ++ own_linked outer tag node.now) result }
 {
-    if is_linked(tag) {
+    if is_linked_tag(tag) {
         list.push(Linked {
             element: node,
             outer,
@@ -134,10 +134,14 @@ fn add_own<'a>(
 fn inner_of(tag: Tag, outer: Option<usize>, before: usize) -> Option<usize>
     ensures { result ≡ inner_of before outer tag }
 {
-    if is_linked(tag) { Some(before) } else { outer }
+    if is_linked_tag(tag) {
+        Some(before)
+    } else {
+        outer
+    }
 }
 
-/// What becomes of the linked elements of a tree, in the order in which they are met, which contracts see as the list of
+/// What becomes of the linked elements of a tree, in preorder, which contracts see as the list of
 /// that.
 #[derive(Drop)]
 pub struct Changes {
@@ -225,7 +229,7 @@ impl Rewriter for Changes {
             ..
         } = element
         {
-            if !is_linked(*tag) {
+            if !is_linked_tag(*tag) {
                 return Ok(true);
             }
             match self.left.pop_front() {

@@ -1,10 +1,10 @@
-//! What failing elements come to: which of them become problematics, in which order, and which elements are still met in the end.
+//! What failing elements come to: which of them become problematics, in which order, and which elements remain in the end.
 ghost use Rattle.std.specs.Prelude.{◌≡◌, [], map, true, is_none, slice_set};
 ghost use Rattle.std.specs.List.{list_all};
 ghost use Rattle.rst_tree.specs.Faults.{Gives};
 ghost use Rattle.rst_transform_links.specs.Linkings.{held};
 ghost use Rattle.rst_transform_links.specs.Outcomes.{stays};
-ghost use Rattle.rst_transform_links.specs.Settling.{earlier, first_in, firsts, met_from, still_stands, turn_of, turns_from, AreTurns, Settles, TakesTurns};
+ghost use Rattle.rst_transform_links.specs.Settling.{earlier, first_in, firsts, remaining_from, still_stands, turn_of, turns_from, AreTurns, Settles, TakesTurns};
 ghost use Rattle.rst_transform_work.specs.Lists.{at_place};
 
 use crate::links::{Changes, Linked, Outcome};
@@ -12,11 +12,11 @@ use rst_transform_work::{Work, at_place};
 use rst_tree::TreeFault;
 use std::alloc::Global;
 
-/// The outcomes of linked elements settled: what becomes of each that is still met in preorder.
+/// Settles the outcomes of linked elements: what becomes of each that remains, in preorder.
 ///
 /// Those that fail become problematics here, message by message, and take their ids in this order. An element inside one that became a
-/// problematic is gone: it becomes none afterwards, and isn't met in the end.
-pub fn settled(
+/// problematic is gone: it becomes none afterwards, and doesn't remain in the end.
+pub fn settle(
     alloc: Global,
     work: &mut Work,
     linked: &[Linked<'_>],
@@ -37,7 +37,7 @@ pub fn settled(
         around.as_slice(),
     )?;
     take_turns(alloc, work, turns.as_slice(), &mut outcomes)?;
-    let changes = met(alloc, outcomes, around.as_slice())?;
+    let changes = remaining(alloc, outcomes, around.as_slice())?;
     Ok(changes)
 }
 
@@ -155,22 +155,22 @@ fn put_at(outcomes: &mut Vec<Outcome>, place: usize, outcome: Outcome)
 }
 
 /// Whether no element stands in one that becomes a problematic.
-fn are_all_met(around: &[Option<usize>]) -> bool
+fn do_all_remain(around: &[Option<usize>]) -> bool
     ensures { result ≡ list_all is_none around.now }
 {
     around.iter().all(|first| first.is_none())
 }
 
-/// What becomes of the elements that are met in the end.
-#[tactic(auto, using(crate::proofs::SettlingLemmas::all_met))]
-fn met(
+/// What becomes of the elements that remain in the end.
+#[tactic(auto, using(crate::proofs::SettlingLemmas::all_remain))]
+fn remaining(
     alloc: Global,
     outcomes: Vec<Outcome>,
     around: &[Option<usize>],
 ) -> Result<Changes, TreeFault>
-    ensures { Gives (λ changes. changes ≡ met_from 0 around.now outcomes.items) result }
+    ensures { Gives (λ changes. changes ≡ remaining_from 0 around.now outcomes.items) result }
 {
-    if are_all_met(around) {
+    if do_all_remain(around) {
         return Ok(Changes::of(outcomes));
     }
     let mut left = Vec::with_capacity(alloc, outcomes.len())?;

@@ -17,7 +17,7 @@ use Rattle.rst_tree.specs.Forest.{Forest, bare, element, words}
 use Rattle.rst_tree.specs.LevelNames.{level_number}
 use Rattle.rst_tree.specs.Nodes.{forest_of, nodes_of}
 use Rattle.rst_tree.specs.Tree.{text_all, text_in}
-use Rattle.rst_tree_index.specs.Held.{is_message}
+use Rattle.rst_tree_index.specs.Kinds.{is_message}
 use Rattle.rst_transform_messages.specs.declared.messages.Messages.{Messages}
 use Rattle.rst_transform_messages.specs.Listed.{Adds, KeepsLevels, Lists}
 use Rattle.rst_transform_messages.specs.Messages.{halts, has_halt, has_number, is_number_shown, is_shown_as, marked, notes_of, until_halt, Numbered}

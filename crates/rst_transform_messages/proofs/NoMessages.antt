@@ -9,7 +9,7 @@ use Rattle.rst_tree.specs.declared.node.Node.TheVariants.{Element, Text}
 use Rattle.rst_tree.specs.declared.tag.Tag.{Tag}
 use Rattle.rst_tree.specs.Forest.{Forest, bare, element, words}
 use Rattle.rst_tree.specs.Walk.{after, item, items, node_items, walked, walked_node, Item}
-use Rattle.rst_tree_index.specs.Held.{is_message, kinds_of}
+use Rattle.rst_tree_index.specs.Kinds.{is_message, kinds_of}
 use Rattle.rst_tree_index.specs.Marks.{heeded_next, heeded_out}
 use Rattle.rst_tree_index.specs.Registered.{is_registered}
 use Rattle.rst_transform_names.specs.declared.registration.Registered.{Registered}
@@ -52,7 +52,7 @@ given_tag g x = by (is_registered x)
     by false = refl
 
 -- a document that has none, and in which none was put, has none once it is registered
-pub none_registered : (messages : ℕ) (document : Node) (done : Registered) → IsRegistered messages document done → done.noticed ≡ false → (kinds_of (node_items document)).messages ≡ false → messages_in done.root ≡ []
-none_registered messages document done is unnoticed none =
-    ap messages_in (is.root unnoticed)
-    ∙ in_none (heeded_next is_registered left_behind) (heeded_out is_registered with_given) given_tag (given is.registry.standings.items is.registry.links.numbers.items is.registry.links.messages.items) document none
+pub none_registered : (messages : ℕ) (document : Node) (done : Registered) → IsRegistered messages document done → done.has_name_messages ≡ false → (kinds_of (node_items document)).messages ≡ false → messages_in done.root ≡ []
+none_registered messages document done is has_none none =
+    ap messages_in (is.root has_none)
+    ∙ in_none (heeded_next is_registered left_behind) (heeded_out is_registered with_given) given_tag (given is.registry.standings.items is.registry.known_messages.numbers.items is.registry.known_messages.messages.items) document none

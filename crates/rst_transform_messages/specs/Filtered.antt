@@ -14,14 +14,14 @@ use Rattle.rst_transform_messages.specs.declared.filter.Fate.{Fate}
 use Rattle.rst_transform_messages.specs.declared.filter.Fate.TheVariants.{Stays, BecomesText, Vanishes}
 use Rattle.rst_transform_messages.specs.Shown.{is_below}
 
--- whether the message of the number that is told is shown; where none is told, there is none
-abbrev pub is_told_shown : (ℕ → Bool) → Option ℕ → Bool
-is_told_shown shown None = false
-is_told_shown shown (Some number) = shown number
+-- whether the message of a number is shown; where there is no number, there is no message
+abbrev pub is_message_shown : (ℕ → Bool) → Option ℕ → Bool
+is_message_shown shown None = false
+is_message_shown shown (Some number) = shown number
 
 -- whether an element is a problematic whose message isn't shown
 abbrev pub is_unexplained : (ℕ → Bool) → Tag → List Attr → Bool
-is_unexplained shown Problematic attrs = not (is_told_shown shown (said_number (value_of Message attrs)))
+is_unexplained shown Problematic attrs = not (is_message_shown shown (said_number (value_of Message attrs)))
 is_unexplained shown _ attrs = false
 
 -- The nodes without the messages below the report level, and with the text of each problematic whose message isn't shown in its place. `shown` tells

@@ -5,7 +5,7 @@ use Rattle.rst_tree.specs.declared.key.Key.TheVariants.{Message}
 use Rattle.rst_tree.specs.declared.node.Node.{Node}
 use Rattle.rst_tree.specs.declared.node.Node.TheVariants.{Element, Text}
 use Rattle.rst_tree.specs.declared.note.Note.{Note}
-use Rattle.rst_tree_index.specs.Held.{is_message}
+use Rattle.rst_tree_index.specs.Kinds.{is_message}
 use Rattle.rst_tree.specs.Attributes.{said_number, value_of}
 use Rattle.rst_tree.specs.Forest.{Forest, bare, element, words}
 use Rattle.rst_tree.specs.LevelNames.{level_of}

@@ -3,7 +3,7 @@ ghost use Rattle.std.specs.Prelude.{◌≡◌, ◌&&◌, true, nat_lt, filter};
 ghost use Rattle.rst_tree.specs.Faults.{Gives};
 ghost use Rattle.rst_tree.specs.Nodes.{forest_of, nodes_of};
 ghost use Rattle.rst_tree.specs.Tree.{in_order, is_lines, is_tree};
-ghost use Rattle.rst_transform_messages.specs.Filtered.{filtered, is_told_shown, is_unexplained, node_fate, with_filtered};
+ghost use Rattle.rst_transform_messages.specs.Filtered.{filtered, is_message_shown, is_unexplained, node_fate, with_filtered};
 ghost use Rattle.rst_transform_messages.specs.Messages.{marked};
 ghost use Rattle.rst_transform_messages.specs.Shown.{are_within, may_stay, is_shown_in};
 
@@ -14,8 +14,8 @@ use std::alloc::Global;
 use std::mem;
 
 /// Takes the messages below the report level out of a document, and lets each problematic whose message is gone become its text
-/// (Configuration, `report_level`). `shown` tells of the number of each message whether that stays. Whether what is left is a tree is
-/// told with it, so that nobody needs to go through it once more.
+/// (Configuration, `report_level`). `shown` tells of the number of each message whether that stays. The result says whether
+/// what is left is a tree, too, so that nobody needs to go through it once more.
 ///
 /// Before, where WARNINGs aren't shown:
 ///
@@ -91,12 +91,12 @@ fn fate_of(node: &Node, report: Threshold, shown: &[bool]) -> Fate
 fn is_unexplained(tag: Tag, attrs: &Attrs, shown: &[bool]) -> bool
     ensures { result ≡ is_unexplained (marked shown.now) tag attrs.now }
 {
-    matches!(tag, Tag::Problematic) && !is_told_shown(attrs.number(Key::Message), shown)
+    matches!(tag, Tag::Problematic) && !is_message_shown(attrs.number(Key::Message), shown)
 }
 
 /// Whether the message of a number is shown; where there is no number, there is none.
-fn is_told_shown(number: Option<u64>, shown: &[bool]) -> bool
-    ensures { result ≡ is_told_shown (marked shown.now) number }
+fn is_message_shown(number: Option<u64>, shown: &[bool]) -> bool
+    ensures { result ≡ is_message_shown (marked shown.now) number }
 {
     match number {
         Some(number) => matches!(shown.get(number as usize), Some(true)),
@@ -151,6 +151,7 @@ fn filter_in(
     ensures nodes { Gives (λ _. nodes.new ≡ filtered report (marked shown.now) nodes.old) result }
     ensures tree { Gives (λ fit. fit ≡ are_within levels nodes.new) result }
 {
+    let below = levels.saturating_sub(1);
     let mut fit = true;
     let mut leaves = false;
     for i in 0..nodes.len() {
@@ -177,13 +178,7 @@ fn filter_in(
                     children,
                     ..
                 } => {
-                    let inside = filter_in(
-                        alloc,
-                        children,
-                        levels.saturating_sub(1),
-                        report,
-                        shown,
-                    )?;
+                    let inside = filter_in(alloc, children, below, report, shown)?;
                     fit = fits_element(fit, attrs, inside, levels);
                 }
             },

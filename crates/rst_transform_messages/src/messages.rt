@@ -1,6 +1,6 @@
 //! The list of messages, and the levels at which they count.
 ghost use Rattle.std.specs.Prelude.{◌≡◌, ◌≤◌, ◌==◌, ◌&&◌, ◌||◌, min, ℕ};
-ghost use Rattle.rst_tree_index.specs.Held.{is_message};
+ghost use Rattle.rst_tree_index.specs.Kinds.{is_message};
 ghost use Rattle.rst_settings.specs.Threshold.{is_reached};
 ghost use Rattle.rst_tree.specs.Faults.{Gives};
 ghost use Rattle.rst_tree.specs.Tree.{text_in};
@@ -49,7 +49,7 @@ impl Messages {
     ghost use Rattle.std.specs.Prelude.{[], ◌∷◌, List, map};
     ghost use Rattle.rst_tree.specs.declared.node.Node.{Node};
     ghost use Rattle.rst_tree.specs.Walk.{node_items};
-    ghost use Rattle.rst_tree_index.specs.Held.{kinds_of};
+    ghost use Rattle.rst_tree_index.specs.Kinds.{kinds_of};
     ghost use Rattle.rst_transform_names.specs.Registering.{IsRegistered};
     ghost use Rattle.rst_transform_messages.specs.Messages.{until_halt, notes_of, is_number_shown, Numbered};
     ghost use Rattle.rst_transform_messages.specs.MessagesIn.{message_said, messages_among, messages_in};
@@ -117,7 +117,7 @@ impl Messages {
         ensures levels { KeepsLevels self.old self.new }
         ensures adds { Gives (λ _. (numbers : ℕ) (document : Node) → IsRegistered numbers document registered.now → kinds ≡ kinds_of (node_items document) → Adds (messages_in registered.now.root) self.old self.new) result }
     {
-        if !kinds.messages && !registered.noticed {
+        if !kinds.messages && !registered.has_name_messages {
             return Ok(());
         }
         self.add_those_in(alloc, &registered.root)

@@ -82,7 +82,7 @@ Takes id old new = (other : List ℕ) → is_taken new other ≡ (if bytes_eq ot
 abbrev pub TakesNone : Ids → Ids → Type 0
 TakesNone old new = (other : List ℕ) → is_taken new other ≡ is_taken old other
 
--- an id that a name gave is taken, and it is told whether it was free; or memory ran out and none is
+-- an id that a name gave is taken, and the result says whether it was free; or memory ran out and none is
 abbrev pub Tries : List ℕ → Ids → Ids → Result Bool TreeFault → Type 0
 Tries id old new (Ok was_free) = (is_taken old id ≡ (if was_free then false else true)) × Takes id old new
 Tries id old new (Err NoMemory) = TakesNone old new

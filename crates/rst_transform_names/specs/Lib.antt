@@ -1,7 +1,7 @@
 pub mod Gathered
 pub mod Ids
 pub mod Names
-pub mod Notices
+pub mod DuplicateMessages
 pub mod Registering
 pub mod Registry
 pub mod Rulings

@@ -23,26 +23,26 @@ use Rattle.rst_transform_names.specs.Registry.{held_in, rule_named, IsDefined, I
 use Rattle.rst_transform_names.specs.Written.{given, left_behind, problematic_id, with_given}
 
 -- what is known of a message once one of its problematics has come, or the message itself, with the number in its id
-abbrev pub linked_by : Tag → ℕ → MessageIds → MessageIds
-linked_by Problematic number l = record { id = l.id; problematics = l.problematics ++ problematic_id number ∷ [] }
-linked_by _ number l = record { id = Some number; problematics = l.problematics }
+abbrev pub with_member : Tag → ℕ → MessageIds → MessageIds
+with_member Problematic number l = record { id = l.id; problematics = l.problematics ++ problematic_id number ∷ [] }
+with_member _ number l = record { id = Some number; problematics = l.problematics }
 
 -- what is known of messages, where that changes of the one that an element says
-abbrev pub linking : Option ℕ → (MessageIds → MessageIds) → List MessageIds → List MessageIds
-linking None change messages = messages
-linking (Some message) change messages = map_at change message messages
+abbrev pub with_message_changed : Option ℕ → (MessageIds → MessageIds) → List MessageIds → List MessageIds
+with_message_changed None change messages = messages
+with_message_changed (Some message) change messages = map_at change message messages
 
 -- a message or a problematic gets a number
 pub record RegistersMessage (new : Item) (before after : Registry) : Type 0 where
   pub number : ℕ
   pub is_number : IsLeastFree (is_taken before.ids) (hyphenated (tag_name new.tag)) number
   pub is_taken_now : Takes (numbered (hyphenated (tag_name new.tag)) number) before.ids after.ids
-  pub numbers : after.links.numbers.items ≡ before.links.numbers.items ++ number ∷ []
-  pub messages : after.links.messages.items ≡ linking (number_at Message new.attrs) (linked_by new.tag number) before.links.messages.items
+  pub numbers : after.known_messages.numbers.items ≡ before.known_messages.numbers.items ++ number ∷ []
+  pub messages : after.known_messages.messages.items ≡ with_message_changed (number_at Message new.attrs) (with_member new.tag number) before.known_messages.messages.items
   pub names : after.names ≡ before.names
   pub definitions : after.definitions ≡ before.definitions
   pub standings : after.standings.items ≡ before.standings.items
-  pub notices : deque_items after.notices.queue ≡ deque_items before.notices.queue
+  pub name_messages : deque_items after.name_messages.queue ≡ deque_items before.name_messages.queue
 
 -- any other element gets a standing, by the names of those that came before
 abbrev pub Stands : Tag → List Item → Item → Registry → Registry → Standing → Type 0
@@ -55,8 +55,8 @@ pub record IsPut (s : Standing) (before after : Registry) : Type 0 where
   pub ids : after.ids ≡ before.ids
   pub names : after.names ≡ before.names
   pub definitions : after.definitions ≡ before.definitions
-  pub links : after.links ≡ before.links
-  pub notices : after.notices ≡ before.notices
+  pub known_messages : after.known_messages ≡ before.known_messages
+  pub name_messages : after.name_messages ≡ before.name_messages
 
 pub record IsAdded (earlier : List Item) (new : Item) (before after : Registry) : Type 0 where
   pub s : Standing
@@ -93,9 +93,9 @@ pub record KnowsNothing (messages : ℕ) (first : Registry) : Type 0 where
   pub uris : (name : List ℕ) → kept_for first.names name ≡ None
   pub definitions : (name : List ℕ) → get_by_text first.definitions name ≡ None
   pub standings : first.standings.items ≡ []
-  pub numbers : first.links.numbers.items ≡ []
-  pub links : first.links.messages.items ≡ replicate messages (record { id = None; problematics = [] })
-  pub notices : deque_items first.notices.queue ≡ []
+  pub numbers : first.known_messages.numbers.items ≡ []
+  pub known_messages : first.known_messages.messages.items ≡ replicate messages (record { id = None; problematics = [] })
+  pub name_messages : deque_items first.name_messages.queue ≡ []
 
 pub record IsRegistry (messages : ℕ) (elements : List Item) (after : Registry) : Type 0 where
   pub first : Registry
@@ -106,7 +106,7 @@ pub record IsRegistry (messages : ℕ) (elements : List Item) (after : Registry)
 abbrev pub written : Registry → Node → Node
 written registry document =
     walked_node (heeded_next is_registered left_behind) (heeded_out is_registered with_given)
-    (given registry.standings.items registry.links.numbers.items registry.links.messages.items) document
+    (given registry.standings.items registry.known_messages.numbers.items registry.known_messages.messages.items) document
 
 -- a document is registered; where there are messages on equal names they stand in it as well
 pub record IsRegistered (messages : ℕ) (document : Node) (done : Registered) : Type 0 where
@@ -115,5 +115,5 @@ pub record IsRegistered (messages : ℕ) (document : Node) (done : Registered) :
   pub ids : done.ids ≡ registry.ids
   pub names : done.names ≡ registry.names
   pub serials : done.serials ≡ length registry.standings.items
-  pub noticed : done.noticed ≡ not (length (deque_items registry.notices.queue) == 0)
-  pub root : done.noticed ≡ false → done.root ≡ written registry document
+  pub has_name_messages : done.has_name_messages ≡ not (length (deque_items registry.name_messages.queue) == 0)
+  pub root : done.has_name_messages ≡ false → done.root ≡ written registry document

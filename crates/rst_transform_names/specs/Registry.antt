@@ -18,14 +18,14 @@ use Rattle.rst_transform_names.specs.declared.names.Strength.{Strength}
 use Rattle.rst_transform_names.specs.declared.names.Strength.TheVariants.{Implicit, Explicit}
 use Rattle.rst_transform_names.specs.declared.registry.Registry.{Registry}
 use Rattle.rst_transform_names.specs.declared.registry.Standing.{Standing}
-use Rattle.rst_transform_names.specs.declared.rulings.Complaint.{Complaint}
+use Rattle.rst_transform_names.specs.declared.rulings.DuplicateMessage.{DuplicateMessage}
 use Rattle.rst_transform_names.specs.declared.rulings.Now.{Now}
 use Rattle.rst_transform_names.specs.declared.rulings.Now.TheVariants.{Old, New, Nobody}
 use Rattle.rst_transform_names.specs.declared.rulings.Ruling.{Ruling}
 use Rattle.rst_transform_names.specs.Gathered.{own_name, text_at}
 use Rattle.rst_transform_names.specs.Ids.{is_taken, IsIdFor, Takes}
 use Rattle.rst_transform_names.specs.Names.{held_by, moved, Knows, SameUris}
-use Rattle.rst_transform_names.specs.Notices.{duplicate_definition, duplicate_name}
+use Rattle.rst_transform_names.specs.DuplicateMessages.{duplicate_definition, duplicate_name}
 use Rattle.rst_transform_names.specs.Rulings.{ruling_for}
 
 -- how elements of a kind give their names
@@ -83,13 +83,13 @@ holder_in None = Lost
 holder_in (Some held) = held.holder
 
 -- the message on the name of an element, with the element's number, if the rule asks for one
-abbrev pub notices_by : Option Complaint → ℕ → Item → List ℕ → List (ℕ × Node)
-notices_by None number new id = []
-notices_by (Some complaint) number new id = (number, duplicate_name complaint new id) ∷ []
+abbrev pub name_messages_by : Option DuplicateMessage → ℕ → Item → List ℕ → List (ℕ × Node)
+name_messages_by None number new id = []
+name_messages_by (Some message) number new id = (number, duplicate_name message new id) ∷ []
 
 -- nothing becomes of a name
 abbrev pub no_rule : Ruling
-no_rule = record { now = Old; old_loses = false; new_loses = false; complaint = None }
+no_rule = record { now = Old; old_loses = false; new_loses = false; message = None }
 
 -- the rule for a new element by the name it was written with; the empty name is none
 abbrev pub rule_named : List ℕ → List Item → Option NameEntry → Item → Ruling
@@ -115,25 +115,25 @@ pub record IsNamed (rule : Ruling) (new : Item) (before after : Registry) (s : S
   pub names : Knows (own_name new) (known_by rule.now (next_number before) new id (held_in before new)) before.names after.names
   pub uris : SameUris before.names after.names
   pub others : after.standings.items ≡ (if rule.old_loses then losing (holder_in (held_in before new)) before.standings.items else before.standings.items)
-  pub notices : deque_items after.notices.queue ≡ deque_items before.notices.queue ++ notices_by rule.complaint (next_number before) new id
+  pub name_messages : deque_items after.name_messages.queue ≡ deque_items before.name_messages.queue ++ name_messages_by rule.message (next_number before) new id
   pub definitions : after.definitions ≡ before.definitions
-  pub links : after.links ≡ before.links
+  pub known_messages : after.known_messages ≡ before.known_messages
 
 -- the substitution definition that had a name
 abbrev pub definer : Option ℕ → Holder
 definer None = Lost
 definer (Some number) = Element number
 
-abbrev pub definition_notices : Option ℕ → ℕ → Item → List (ℕ × Node)
-definition_notices None number new = []
-definition_notices (Some earlier) number new = (number, duplicate_definition new) ∷ []
+abbrev pub definition_messages : Option ℕ → ℕ → Item → List (ℕ × Node)
+definition_messages None number new = []
+definition_messages (Some earlier) number new = (number, duplicate_definition new) ∷ []
 
 -- of substitution definitions with one name the last has it
 pub record IsDefined (new : Item) (before after : Registry) (s : Standing) : Type 0 where
   pub stands : s ≡ standing (next_number before) None false
   pub definitions : (other : List ℕ) → get_by_text after.definitions other ≡ (if bytes_eq other (own_name new) then Some (next_number before) else get_by_text before.definitions other)
   pub others : after.standings.items ≡ losing (definer (get_by_text before.definitions (own_name new))) before.standings.items
-  pub notices : deque_items after.notices.queue ≡ deque_items before.notices.queue ++ definition_notices (get_by_text before.definitions (own_name new)) (next_number before) new
+  pub name_messages : deque_items after.name_messages.queue ≡ deque_items before.name_messages.queue ++ definition_messages (get_by_text before.definitions (own_name new)) (next_number before) new
   pub ids : after.ids ≡ before.ids
   pub names : after.names ≡ before.names
-  pub links : after.links ≡ before.links
+  pub known_messages : after.known_messages ≡ before.known_messages

@@ -7,34 +7,34 @@ use Rattle.rst_transform_names.specs.declared.names.Holder.TheVariants.{Nobody a
 use Rattle.rst_transform_names.specs.declared.names.Strength.{Strength}
 use Rattle.rst_transform_names.specs.declared.names.Strength.TheVariants.{Implicit, Explicit}
 use Rattle.rst_transform_names.specs.declared.rulings.Now.TheVariants.{Old, New, Nobody}
-use Rattle.rst_transform_names.specs.declared.rulings.Complaint.{Complaint}
+use Rattle.rst_transform_names.specs.declared.rulings.DuplicateMessage.{DuplicateMessage}
 use Rattle.rst_transform_names.specs.declared.rulings.Ruling.{Ruling}
 
-abbrev pub info : Strength → Option Complaint
+abbrev pub info : Strength → Option DuplicateMessage
 info strength = Some (record { level = Info; strength = strength })
 
-abbrev pub warning : Option Complaint
+abbrev pub warning : Option DuplicateMessage
 warning = Some (record { level = Warning; strength = Explicit })
 
 -- no element had the name before, or all that had it were sections that lost it: the new one has it
 abbrev pub new_has_it : Ruling
-new_has_it = record { now = New; old_loses = false; new_loses = false; complaint = None }
+new_has_it = record { now = New; old_loses = false; new_loses = false; message = None }
 
 -- a section has the name, and another element takes it
 abbrev pub new_takes_it : Ruling
-new_takes_it = record { now = New; old_loses = true; new_loses = false; complaint = info Implicit }
+new_takes_it = record { now = New; old_loses = true; new_loses = false; message = info Implicit }
 
 -- the element that has the name keeps it
 abbrev pub old_keeps_it : Strength → Ruling
-old_keeps_it strength = record { now = Old; old_loses = false; new_loses = true; complaint = info strength }
+old_keeps_it strength = record { now = Old; old_loses = false; new_loses = true; message = info strength }
 
 -- neither has the name
-abbrev pub both_lose_it : Option Complaint → Ruling
-both_lose_it complaint = record { now = Nobody; old_loses = true; new_loses = true; complaint = complaint }
+abbrev pub both_lose_it : Option DuplicateMessage → Ruling
+both_lose_it message = record { now = Nobody; old_loses = true; new_loses = true; message = message }
 
 -- it stays that no element has the name
-abbrev pub nobody_has_it : Option Complaint → Ruling
-nobody_has_it complaint = record { now = Nobody; old_loses = false; new_loses = true; complaint = complaint }
+abbrev pub nobody_has_it : Option DuplicateMessage → Ruling
+nobody_has_it message = record { now = Nobody; old_loses = false; new_loses = true; message = message }
 
 -- by who holds the name and how it was given, and how it is given now; `same`: two targets with the same URI
 abbrev pub held_ruling : Strength → Holder → Strength → Bool → Ruling

@@ -34,8 +34,8 @@ abbrev pub message_id : ℕ → List ℕ
 message_id number = codes "system-message-" ++ decimal number
 
 -- what is known of the message whose number an element's attributes say, if they say one
-abbrev pub linked_of : List MessageIds → List Attr → Option MessageIds
-linked_of messages attrs = option_and_then (slice_get messages) (number_at Message attrs)
+abbrev pub message_of : List MessageIds → List Attr → Option MessageIds
+message_of messages attrs = option_and_then (slice_get messages) (number_at Message attrs)
 
 -- the attributes of a problematic with the id of its message, if that is in the document
 abbrev pub with_refid : Option ℕ → List Attr → List Attr
@@ -48,21 +48,21 @@ with_backrefs [] attrs = attrs
 with_backrefs (id ∷ more) attrs = with_attr Backrefs (Listed (id ∷ more)) attrs
 
 -- the same by what is known of the message, if anything is
-abbrev pub with_link_to : Option MessageIds → List Attr → List Attr
-with_link_to None attrs = attrs
-with_link_to (Some message) attrs = with_refid message.id attrs
+abbrev pub with_message_id : Option MessageIds → List Attr → List Attr
+with_message_id None attrs = attrs
+with_message_id (Some message) attrs = with_refid message.id attrs
 
-abbrev pub with_links_from : Option MessageIds → List Attr → List Attr
-with_links_from None attrs = attrs
-with_links_from (Some message) attrs = with_backrefs message.problematics attrs
+abbrev pub with_problematic_ids : Option MessageIds → List Attr → List Attr
+with_problematic_ids None attrs = attrs
+with_problematic_ids (Some message) attrs = with_backrefs message.problematics attrs
 
 -- the attributes of a problematic with all that registration gave it: its message, and its id
 abbrev pub with_problematic : List MessageIds → ℕ → List Attr → List Attr
-with_problematic messages number attrs = with_id (Some (problematic_id number)) (with_link_to (linked_of messages attrs) attrs)
+with_problematic messages number attrs = with_id (Some (problematic_id number)) (with_message_id (message_of messages attrs) attrs)
 
 -- those of a message: its problematics, and its id
 abbrev pub with_message : List MessageIds → ℕ → List Attr → List Attr
-with_message messages number attrs = with_id (Some (message_id number)) (with_links_from (linked_of messages attrs) attrs)
+with_message messages number attrs = with_id (Some (message_id number)) (with_problematic_ids (message_of messages attrs) attrs)
 
 -- what registration gives the elements from one on: those that may have names their standings; messages and problematics the
 -- numbers in their ids, and what is known of each message, by the number that it and its problematics carry

@@ -38,11 +38,8 @@ impl Dues {
     }
 
     /// More messages are due behind those.
-    pub fn append(&mut self, more: Dues) -> Result<(), TreeFault> {
-        let Dues { queue } = more;
-        for due in queue {
-            self.queue.push_back(due)?;
-        }
+    pub fn append(&mut self, mut more: Dues) -> Result<(), TreeFault> {
+        self.queue.append(&mut more.queue)?;
         Ok(())
     }
 
@@ -82,8 +79,8 @@ impl Dues {
                 }
                 _ => {}
             }
-            if let Some(due) = self.queue.pop_front() {
-                put(nodes, due.messages)?;
+            if let Some(mut due) = self.queue.pop_front() {
+                nodes.append(&mut due.messages)?;
             }
         }
         Ok(())
@@ -92,17 +89,9 @@ impl Dues {
     /// Puts behind some nodes all that is due.
     pub fn end(self, nodes: &mut Vec<Node>) -> Result<(), TreeFault> {
         let Dues { queue } = self;
-        for due in queue {
-            put(nodes, due.messages)?;
+        for mut due in queue {
+            nodes.append(&mut due.messages)?;
         }
         Ok(())
     }
-}
-
-/// Puts nodes behind others.
-pub fn put(nodes: &mut Vec<Node>, more: Vec<Node>) -> Result<(), TreeFault> {
-    for node in more {
-        nodes.push(node)?;
-    }
-    Ok(())
 }

@@ -160,7 +160,7 @@ fn number_of(id: &str) -> Option<(&str, u64)>
 }
 
 /// The number from 1 that decimal digits write without a 0 in front.
-fn number_in(digits: &str) -> Option<u64>
+pub fn number_in(digits: &str) -> Option<u64>
     ensures { result ≡ spec.number_in digits.now }
 {
     if !begins_from_one(digits) {

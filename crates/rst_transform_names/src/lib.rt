@@ -2,10 +2,10 @@
 #![tactic(auto)]
 
 mod dues;
+mod duplicate_messages;
 mod ids;
 mod message_ids;
 mod names;
-mod notices;
 mod placing;
 mod registrants;
 mod registration;
@@ -13,6 +13,6 @@ mod registry;
 mod rulings;
 mod writing;
 
-pub use ids::Ids;
+pub use ids::{Ids, number_in};
 pub use names::{Holder, NameEntry, Names, Strength};
 pub use registration::{Registered, register};

@@ -4,7 +4,7 @@ ghost use Rattle.rst_tree.specs.Faults.{Gives};
 ghost use Rattle.rst_tree.specs.declared.key.Key.TheVariants.{Message};
 ghost use Rattle.rst_tree_index.specs.Registered.{item_of};
 ghost use Rattle.rst_transform_names.specs.Gathered.{number_at};
-ghost use Rattle.rst_transform_names.specs.Registering.{is_of_message, linked_by, linking};
+ghost use Rattle.rst_transform_names.specs.Registering.{is_of_message, with_member, with_message_changed};
 
 use super::ids::problematic_id;
 use rst_tree::{Key, Tag, Texts, TreeFault};
@@ -31,27 +31,27 @@ pub struct KnownMessages {
 
 impl KnownMessages {
     /// What is known before the first of so many messages and problematics; so many numbers were given to messages.
-    pub fn new(alloc: Global, linked: usize, messages: u64) -> Result<KnownMessages, TreeFault>
-        ensures numbers { Gives (λ links. links.numbers.items ≡ []) result }
-        ensures messages { Gives (λ links. links.messages.items ≡ replicate messages (record { id = None; problematics = [] })) result }
+    pub fn new(alloc: Global, room: usize, messages: u64) -> Result<KnownMessages, TreeFault>
+        ensures numbers { Gives (λ known_messages. known_messages.numbers.items ≡ []) result }
+        ensures messages { Gives (λ known_messages. known_messages.messages.items ≡ replicate messages (record { id = None; problematics = [] })) result }
     {
-        let mut links = KnownMessages {
-            numbers: Vec::with_capacity(alloc, linked)?,
+        let mut known_messages = KnownMessages {
+            numbers: Vec::with_capacity(alloc, room)?,
             messages: Vec::with_capacity(alloc, messages as usize)?,
         };
         for _done in 0..messages {
-            links.messages.push(MessageIds {
+            known_messages.messages.push(MessageIds {
                 id: None,
                 problematics: Texts::new(alloc),
             })?;
         }
-        Ok(links)
+        Ok(known_messages)
     }
 
     /// Adds one more message or problematic, whose id has a number.
     pub fn add(&mut self, alloc: Global, new: Element<'_>, number: u64) -> Result<(), TreeFault>
         ensures numbers { Gives (λ _. self.new.numbers.items ≡ self.old.numbers.items ++ number ∷ []) result }
-        ensures messages { Gives (λ _. self.new.messages.items ≡ linking (number_at Message (item_of new.entry).attrs) (linked_by (item_of new.entry).tag number) self.old.messages.items) result }
+        ensures messages { Gives (λ _. self.new.messages.items ≡ with_message_changed (number_at Message (item_of new.entry).attrs) (with_member (item_of new.entry).tag number) self.old.messages.items) result }
     {
         self.numbers.push(number)?;
         let Some(message) = new.attrs.number(Key::Message) else {
@@ -68,7 +68,7 @@ impl KnownMessages {
 impl MessageIds {
     /// Adds a problematic of the message, or the message itself, whose id has a number.
     fn add(&mut self, alloc: Global, tag: Tag, number: u64) -> Result<(), TreeFault>
-        ensures { Gives (λ _. self.new ≡ linked_by tag number self.old) result }
+        ensures { Gives (λ _. self.new ≡ with_member tag number self.old) result }
     {
         if matches!(tag, Tag::Problematic) {
             return self.problematics.push(problematic_id(alloc, number)?);

@@ -3,7 +3,7 @@ ghost use Rattle.std.specs.Prelude.{◌≡◌, ◌==◌, [], ◌∷◌, ◌++◌
 ghost use Rattle.std.specs.VecDeque.{deque_items};
 ghost use Rattle.rst_tree.specs.Faults.{Gives};
 
-use super::dues::{Due, Dues, put};
+use super::dues::{Due, Dues};
 use rst_tree::{Attrs, Children, Key, Node, Tag, Text, TreeFault};
 use std::alloc::Global;
 use std::collections::VecDeque;
@@ -11,16 +11,16 @@ use std::mem;
 
 /// Messages on names that have no place yet: each with the number of its element, in preorder.
 #[derive(Drop)]
-pub struct Notices {
+pub struct NameMessages {
     queue: VecDeque<(u64, Node)>,
 }
 
-impl Notices {
+impl NameMessages {
     /// No message.
-    pub fn new(alloc: Global) -> Notices
+    pub fn new(alloc: Global) -> NameMessages
         ensures { deque_items result.queue ≡ [] }
     {
-        Notices {
+        NameMessages {
             queue: VecDeque::new(alloc),
         }
     }
@@ -269,7 +269,7 @@ fn place_in(
     parent: Tag,
     nodes: Children,
     due: Dues,
-    notices: &mut Notices,
+    name_messages: &mut NameMessages,
 ) -> Result<Placed, TreeFault> {
     let mut placing = Placing::new(alloc, parent, nodes.len(), due)?;
     for node in nodes.into_list() {
@@ -285,9 +285,9 @@ fn place_in(
                 line,
             } => {
                 let head = Head { tag, attrs, line };
-                let mut own = notices.take(&head.attrs);
+                let mut own = name_messages.take(&head.attrs);
                 let due = placing.due_in(alloc, &head, &mut own)?;
-                let inner = place_in(alloc, tag, children, due, notices)?;
+                let inner = place_in(alloc, tag, children, due, name_messages)?;
                 placing.element(alloc, head, own, inner)?;
                 continue;
             }
@@ -301,10 +301,14 @@ fn place_in(
 /// A message on the name of a section stands behind its title, the title's messages and the warning on its adornment; that
 /// on the name of a target in a text behind the messages of this text; and any other before its element, for an image in a
 /// reference or in a substitution definition before the outermost of these.
-pub fn place_notices(alloc: Global, document: Node, mut notices: Notices) -> Result<Node, TreeFault>
-    ensures { length (deque_items notices.queue) ≡ 0 → Gives (λ placed. placed ≡ document) result }
+pub fn place_name_messages(
+    alloc: Global,
+    document: Node,
+    mut name_messages: NameMessages,
+) -> Result<Node, TreeFault>
+    ensures { length (deque_items name_messages.queue) ≡ 0 → Gives (λ placed. placed ≡ document) result }
 {
-    if notices.is_empty() {
+    if name_messages.is_empty() {
         return Ok(document);
     }
     match document {
@@ -315,11 +319,11 @@ pub fn place_notices(alloc: Global, document: Node, mut notices: Notices) -> Res
             children,
             line,
         } => {
-            let inner = place_in(alloc, tag, children, Dues::new(alloc), &mut notices)?;
+            let mut inner = place_in(alloc, tag, children, Dues::new(alloc), &mut name_messages)?;
             // In a document nothing goes further out; in another element it stands at the end.
             let mut nodes = inner.nodes;
-            put(&mut nodes, inner.before)?;
-            put(&mut nodes, inner.of_text)?;
+            nodes.append(&mut inner.before)?;
+            nodes.append(&mut inner.of_text)?;
             inner.outward.end(&mut nodes)?;
             Ok(Node::Element {
                 tag,

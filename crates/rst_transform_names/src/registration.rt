@@ -4,7 +4,7 @@ ghost use Rattle.rst_transform_names.specs.Registering.{IsRegistered};
 
 use super::ids::Ids;
 use super::names::Names;
-use super::placing::place_notices;
+use super::placing::place_name_messages;
 use super::registry::{Registry, registry_of};
 use super::writing::Writing;
 use rst_tree::{Node, TreeFault};
@@ -23,7 +23,7 @@ pub struct Registered {
     /// How many of the registered elements may have names; their numbers (`Key::Serial`) are those below it.
     pub serials: u64,
     /// Whether there are messages on equal names, which stand in the document.
-    pub noticed: bool,
+    pub has_name_messages: bool,
 }
 
 /// Registers a document's elements in preorder: each gets a number, unless it is a message or a problematic, which have no names, those of 'ids'
@@ -55,20 +55,20 @@ pub fn register(alloc: Global, document: Marked, messages: u64) -> Result<Regist
         ids,
         names,
         standings,
-        links,
-        notices,
+        known_messages,
+        name_messages,
         ..
     } = registry_of(alloc, &elements, messages)?;
     drop(elements);
     let serials = standings.len() as u64;
-    let noticed = !notices.is_empty();
-    let mut writing = Writing::of(alloc, standings, links);
+    let has_name_messages = !name_messages.is_empty();
+    let mut writing = Writing::of(alloc, standings, known_messages);
     let written = document.visit(&mut writing)?;
     Ok(Registered {
-        root: place_notices(alloc, written, notices)?,
+        root: place_name_messages(alloc, written, name_messages)?,
         ids,
         names,
         serials,
-        noticed,
+        has_name_messages,
     })
 }

@@ -8,15 +8,15 @@ ghost use Rattle.rst_transform_names.specs.Gathered.{text_at};
 ghost use Rattle.rst_transform_names.specs.Gathered as spec;
 ghost use Rattle.rst_transform_names.specs.Names.{held_by, Knows, SameUris};
 ghost use Rattle.rst_transform_names.specs.Registering.{with_named, IsAdded, RegistersMessage, IsRegistry, KnowsNothing, Registers, Stands};
-ghost use Rattle.rst_transform_names.specs.Registry.{strength_of, is_same_text, is_shared, rule_by, known_by, losing, holder_in, held_in, next_number, notices_by, rule_named, definer, definition_notices, IsNamed, IsDefined};
+ghost use Rattle.rst_transform_names.specs.Registry.{strength_of, is_same_text, is_shared, rule_by, known_by, losing, holder_in, held_in, next_number, name_messages_by, rule_named, definer, definition_messages, IsNamed, IsDefined};
 
+use super::duplicate_messages::{duplicate_definition, duplicate_name};
 use super::ids::Ids;
 use super::message_ids::{KnownMessages, is_of_message};
 use super::names::{Holder, NameEntry, Names, Strength};
-use super::notices::{duplicate_definition, duplicate_name};
-use super::placing::Notices;
+use super::placing::NameMessages;
 use super::registrants::own_name;
-use super::rulings::{Complaint, Now, Ruling, ruling_for};
+use super::rulings::{DuplicateMessage, Now, Ruling, ruling_for};
 use rst_tree::{Key, Tag, Text, TreeFault};
 use rst_tree_index::Element;
 use std::alloc::Global;
@@ -43,15 +43,20 @@ pub struct Registry {
     /// What each element got that may have a name, by its number.
     pub standings: Vec<Standing>,
     /// What is known of messages and problematics.
-    pub links: KnownMessages,
+    pub known_messages: KnownMessages,
     /// The messages on the elements' names.
-    pub notices: Notices,
+    pub name_messages: NameMessages,
 }
 
 impl Registry {
     /// What is known before the first element, with room for so many that may have names, and so many messages and
     /// problematics; so many numbers were given to messages.
-    fn new(alloc: Global, named: usize, linked: usize, messages: u64) -> Result<Registry, TreeFault>
+    fn new(
+        alloc: Global,
+        named: usize,
+        unnamed: usize,
+        messages: u64,
+    ) -> Result<Registry, TreeFault>
         ensures { Gives (λ first. KnowsNothing messages first) result }
     {
         Ok(Registry {
@@ -59,8 +64,8 @@ impl Registry {
             names: Names::new(alloc),
             definitions: BTreeMap::new(alloc),
             standings: Vec::with_capacity(alloc, named)?,
-            links: KnownMessages::new(alloc, linked, messages)?,
-            notices: Notices::new(alloc),
+            known_messages: KnownMessages::new(alloc, unnamed, messages)?,
+            name_messages: NameMessages::new(alloc),
         })
     }
 
@@ -75,7 +80,7 @@ impl Registry {
         ensures earlier { Gives (λ _. map item_of earlier.new.items ≡ with_named (map item_of earlier.old.items) (item_of new.entry)) result }
     {
         if is_of_message(new.tag) {
-            return self.add_linked(alloc, new);
+            return self.add_unnamed(alloc, new);
         }
         self.add(alloc, earlier, new)?;
         earlier.push(new)?;
@@ -83,11 +88,11 @@ impl Registry {
     }
 
     /// Registers one more message or problematic.
-    fn add_linked(&mut self, alloc: Global, new: Element<'_>) -> Result<(), TreeFault>
+    fn add_unnamed(&mut self, alloc: Global, new: Element<'_>) -> Result<(), TreeFault>
         ensures { Gives (λ _. RegistersMessage (item_of new.entry) self.old self.new) result }
     {
         let number = self.ids.give_number(alloc, new.tag)?;
-        self.links.add(alloc, new, number)
+        self.known_messages.add(alloc, new, number)
     }
 
     /// Registers one more element that may have a name, which follows those that have a standing.
@@ -146,7 +151,14 @@ impl Registry {
             });
         }
         let ruling = ruling_on(&self.names, earlier, new);
-        complain(alloc, &mut self.notices, ruling.complaint, serial, new, &id)?;
+        add_name_message(
+            alloc,
+            &mut self.name_messages,
+            ruling.message,
+            serial,
+            new,
+            &id,
+        )?;
         let holder = holder_of(&self.names, name);
         lose_if(&mut self.standings, ruling.old_loses, holder);
         follow(alloc, &mut self.names, ruling.now, new, serial, &id)?;
@@ -165,7 +177,7 @@ impl Registry {
         let name = String::from_str(alloc, own_name(new))?;
         let before = self.definitions.insert(name, serial)?;
         lose(&mut self.standings, definer(before));
-        complain_of_definition(alloc, &mut self.notices, before, serial, new)?;
+        add_definition_message(alloc, &mut self.name_messages, before, serial, new)?;
         Ok(Standing {
             serial,
             id: None,
@@ -185,17 +197,17 @@ fn definer(before: Option<u64>) -> Holder
 }
 
 /// Keeps the message on a substitution definition, which has a number, if another one had its name.
-fn complain_of_definition(
+fn add_definition_message(
     alloc: Global,
-    notices: &mut Notices,
+    name_messages: &mut NameMessages,
     before: Option<u64>,
     serial: u64,
     new: Element<'_>,
 ) -> Result<(), TreeFault>
-    ensures { Gives (λ _. deque_items notices.new.queue ≡ deque_items notices.old.queue ++ definition_notices before serial (item_of new.entry)) result }
+    ensures { Gives (λ _. deque_items name_messages.new.queue ≡ deque_items name_messages.old.queue ++ definition_messages before serial (item_of new.entry)) result }
 {
     match before {
-        Some(_) => notices.push(serial, duplicate_definition(alloc, new)?),
+        Some(_) => name_messages.push(serial, duplicate_definition(alloc, new)?),
         None => Ok(()),
     }
 }
@@ -215,18 +227,18 @@ fn ruling_on(names: &Names, earlier: &[Element<'_>], new: Element<'_>) -> Ruling
 }
 
 /// Keeps the message on the name of a new element, which has a number and an id, if a rule asks for one.
-fn complain(
+fn add_name_message(
     alloc: Global,
-    notices: &mut Notices,
-    complaint: Option<Complaint>,
+    name_messages: &mut NameMessages,
+    message: Option<DuplicateMessage>,
     serial: u64,
     new: Element<'_>,
     id: &Text,
 ) -> Result<(), TreeFault>
-    ensures { Gives (λ _. deque_items notices.new.queue ≡ deque_items notices.old.queue ++ notices_by complaint serial (item_of new.entry) id.now) result }
+    ensures { Gives (λ _. deque_items name_messages.new.queue ≡ deque_items name_messages.old.queue ++ name_messages_by message serial (item_of new.entry) id.now) result }
 {
-    match complaint {
-        Some(complaint) => notices.push(serial, duplicate_name(alloc, complaint, new, id)?),
+    match message {
+        Some(message) => name_messages.push(serial, duplicate_name(alloc, message, new, id)?),
         None => Ok(()),
     }
 }
@@ -335,9 +347,9 @@ pub fn registry_of(
 ) -> Result<Registry, TreeFault>
     ensures { Gives (λ registry. IsRegistry messages (map item_of elements.entry.now) registry) result }
 {
-    let linked = elements.iter().filter(|new| is_of_message(new.tag)).count();
-    let named = elements.len().saturating_sub(linked);
-    let mut registry = Registry::new(alloc, named, linked, messages)?;
+    let unnamed = elements.iter().filter(|new| is_of_message(new.tag)).count();
+    let named = elements.len().saturating_sub(unnamed);
+    let mut registry = Registry::new(alloc, named, unnamed, messages)?;
     let mut earlier = Vec::with_capacity(alloc, named)?;
     for new in elements {
         registry.register(alloc, &mut earlier, *new)?;

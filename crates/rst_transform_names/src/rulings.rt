@@ -18,7 +18,7 @@ pub enum Now {
 
 /// A message on an equal name: how grave it is, and of which strength it speaks.
 #[derive(Clone, Copy)]
-pub struct Complaint {
+pub struct DuplicateMessage {
     pub level: Level,
     pub strength: Strength,
 }
@@ -31,11 +31,11 @@ pub struct Ruling {
     pub old_loses: bool,
     /// Whether the new element has the name as a duplicate one only.
     pub new_loses: bool,
-    pub complaint: Option<Complaint>,
+    pub message: Option<DuplicateMessage>,
 }
 
 /// An INFO on an implicit name.
-const IMPLICIT: Option<Complaint> = Some(Complaint {
+const IMPLICIT: Option<DuplicateMessage> = Some(DuplicateMessage {
     level: Level::Info,
     strength: Strength::Implicit,
 });
@@ -48,7 +48,7 @@ fn first_of_the_name() -> Ruling
         now: Now::New,
         old_loses: false,
         new_loses: false,
-        complaint: None,
+        message: None,
     }
 }
 
@@ -60,7 +60,7 @@ fn explicit_takes_implicit() -> Ruling
         now: Now::New,
         old_loses: true,
         new_loses: false,
-        complaint: IMPLICIT,
+        message: IMPLICIT,
     }
 }
 
@@ -79,7 +79,7 @@ fn explicit_with_same_refuri() -> Ruling
         now: Now::Old,
         old_loses: false,
         new_loses: true,
-        complaint: Some(Complaint {
+        message: Some(DuplicateMessage {
             level: Level::Info,
             strength: Strength::Explicit,
         }),
@@ -94,7 +94,7 @@ fn explicit_twice() -> Ruling
         now: Now::Nobody,
         old_loses: true,
         new_loses: true,
-        complaint: Some(Complaint {
+        message: Some(DuplicateMessage {
             level: Level::Warning,
             strength: Strength::Explicit,
         }),
@@ -119,7 +119,7 @@ fn implicit_twice() -> Ruling
         now: Now::Nobody,
         old_loses: true,
         new_loses: true,
-        complaint: IMPLICIT,
+        message: IMPLICIT,
     }
 }
 
@@ -141,7 +141,7 @@ fn implicit_under_explicit() -> Ruling
         now: Now::Old,
         old_loses: false,
         new_loses: true,
-        complaint: IMPLICIT,
+        message: IMPLICIT,
     }
 }
 

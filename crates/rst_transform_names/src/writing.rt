@@ -3,7 +3,7 @@ ghost use Rattle.std.specs.Prelude.{◌≡◌, MatchOption, None, Some};
 ghost use Rattle.rst_tree.specs.Faults.{Gives};
 ghost use Rattle.rst_tree.specs.declared.key.Key.TheVariants.{OwnName};
 ghost use Rattle.rst_transform_names.specs.Gathered.{text_at};
-ghost use Rattle.rst_transform_names.specs.Written.{given, with_id, with_name, with_standing, linked_of, with_problematic, with_refid, with_message, with_backrefs, left_behind, with_given};
+ghost use Rattle.rst_transform_names.specs.Written.{given, with_id, with_name, with_standing, message_of, with_problematic, with_refid, with_message, with_backrefs, left_behind, with_given};
 
 use super::ids::{message_id, problematic_id};
 use super::message_ids::{KnownMessages, MessageIds};
@@ -70,8 +70,8 @@ fn write(alloc: Global, attrs: &mut Attrs, standing: Standing) -> Result<(), Tre
 }
 
 /// What is known of the message whose number an element's attributes say, if they say one.
-fn linked_of<'a>(messages: &'a [MessageIds], attrs: &Attrs) -> Option<&'a MessageIds>
-    ensures { MatchOption result (linked_of messages.now attrs.now ≡ None) (λ l. linked_of messages.now attrs.now ≡ Some l.now) }
+fn message_of<'a>(messages: &'a [MessageIds], attrs: &Attrs) -> Option<&'a MessageIds>
+    ensures { MatchOption result (message_of messages.now attrs.now ≡ None) (λ l. message_of messages.now attrs.now ≡ Some l.now) }
 {
     match attrs.number(Key::Message) {
         Some(number) => messages.get(number as usize),
@@ -89,8 +89,8 @@ fn write_problematic(
     ensures { Gives (λ _. attrs.new ≡ with_problematic messages.now number attrs.old) result }
 {
     attrs.reserve(2)?;
-    if let Some(linked) = linked_of(messages, attrs) {
-        write_refid(alloc, attrs, linked.id)?;
+    if let Some(message) = message_of(messages, attrs) {
+        write_refid(alloc, attrs, message.id)?;
     }
     write_id(alloc, attrs, Some(problematic_id(alloc, number)?))
 }
@@ -115,8 +115,8 @@ fn write_message(
     ensures { Gives (λ _. attrs.new ≡ with_message messages.now number attrs.old) result }
 {
     attrs.reserve(2)?;
-    if let Some(linked) = linked_of(messages, attrs) {
-        write_backrefs(alloc, attrs, &linked.problematics)?;
+    if let Some(message) = message_of(messages, attrs) {
+        write_backrefs(alloc, attrs, &message.problematics)?;
     }
     write_id(alloc, attrs, Some(message_id(alloc, number)?))
 }
@@ -153,10 +153,10 @@ impl Model for Writing {
 
 impl Writing {
     /// Before the first element.
-    pub fn of(alloc: Global, standings: Vec<Standing>, links: KnownMessages) -> Writing
-        ensures { result ≡ given standings.items links.numbers.items links.messages.items }
+    pub fn of(alloc: Global, standings: Vec<Standing>, known_messages: KnownMessages) -> Writing
+        ensures { result ≡ given standings.items known_messages.numbers.items known_messages.messages.items }
     {
-        let KnownMessages { numbers, messages } = links;
+        let KnownMessages { numbers, messages } = known_messages;
         Writing {
             alloc,
             standings: VecDeque::from_vec(standings),

@@ -18,29 +18,29 @@ use Rattle.rst_transform_links.specs.Holders.{name_lead}
 use Rattle.rst_transform_links.specs.Linkings.{Held}
 
 -- a footnote or a citation
-abbrev pub is_note : Tag → Bool
-is_note Footnote = true
-is_note Citation = true
-is_note _ = false
+abbrev pub is_footnote_or_citation_tag : Tag → Bool
+is_footnote_or_citation_tag Footnote = true
+is_footnote_or_citation_tag Citation = true
+is_footnote_or_citation_tag _ = false
 
 -- a reference to a footnote or a citation
-abbrev pub refers_to_note : Tag → Bool
-refers_to_note FootnoteReference = true
-refers_to_note CitationReference = true
-refers_to_note _ = false
+abbrev pub is_footnote_or_citation_reference : Tag → Bool
+is_footnote_or_citation_reference FootnoteReference = true
+is_footnote_or_citation_reference CitationReference = true
+is_footnote_or_citation_reference _ = false
 
 -- a reference that may have a name
 abbrev pub refers_by_name : Tag → Bool
 refers_by_name Reference = true
-refers_by_name tag = refers_to_note tag
+refers_by_name tag = is_footnote_or_citation_reference tag
 
-abbrev pub is_note_node : Node → Bool
-is_note_node (Element t a c l) = is_note t
-is_note_node (Text t) = false
+abbrev pub is_footnote_or_citation : Node → Bool
+is_footnote_or_citation (Element t a c l) = is_footnote_or_citation_tag t
+is_footnote_or_citation (Text t) = false
 
-abbrev pub is_note_reference : Node → Bool
-is_note_reference (Element t a c l) = refers_to_note t
-is_note_reference (Text t) = false
+abbrev pub refers_to_footnote_or_citation : Node → Bool
+refers_to_footnote_or_citation (Element t a c l) = is_footnote_or_citation_reference t
+refers_to_footnote_or_citation (Text t) = false
 
 -- the name of a reference by name
 abbrev pub reference_name : Node → Option (List ℕ)
@@ -51,10 +51,10 @@ abbrev pub is_nobody : Holder → Bool
 is_nobody Nobody = true
 is_nobody _ = false
 
--- the place of a note, if there is an element and it is one
-abbrev pub note_place : Option Node → Option ℕ → Option ℕ
-note_place (Some node) place = if is_note_node node then place else None
-note_place None place = None
+-- the place of an element, if there is one and it is a footnote or a citation
+abbrev pub referent_place : Option Node → Option ℕ → Option ℕ
+referent_place (Some node) place = if is_footnote_or_citation node then place else None
+referent_place None place = None
 
 -- the linked element at a place, if there is one
 abbrev pub element_at : List Held → Option ℕ → Option Node
@@ -65,21 +65,21 @@ element_at linked (Some place) = option_map (λ one. one.0) (slice_get linked pl
 module _ (places : Holder → Option ℕ) (linked : List Held) (names : Names) where
   -- What a name means that some element was written with. A reference to footnotes and citations means nothing else.
   abbrev pub held_meaning : List ℕ → Bool → NameEntry → Meaning
-  held_meaning name to_note held =
+  held_meaning name needs_referent held =
       let place : Option ℕ = places held.holder in
       let element : Option Node = element_at linked place in
-      let note : Option ℕ = note_place element place in
+      let referent : Option ℕ = referent_place element place in
       if is_nobody held.holder then Duplicate
-      else if to_note && not (is_some note) then Unknown
-      else Leads (name_lead element (kept_for names name) held.id) note
+      else if needs_referent && not (is_some referent) then Unknown
+      else Leads (name_lead element (kept_for names name) held.id) referent
 
   abbrev pub known_meaning : List ℕ → Bool → Option NameEntry → Meaning
-  known_meaning name to_note None = Unknown
-  known_meaning name to_note (Some held) = held_meaning name to_note held
+  known_meaning name needs_referent None = Unknown
+  known_meaning name needs_referent (Some held) = held_meaning name needs_referent held
 
   abbrev pub meaning_of : Node → Option (List ℕ) → Option Meaning
   meaning_of node None = None
-  meaning_of node (Some name) = Some (known_meaning name (is_note_reference node) (held_by names name))
+  meaning_of node (Some name) = Some (known_meaning name (refers_to_footnote_or_citation node) (held_by names name))
 
   -- what its name means to a reference by name
   abbrev pub meaning_to : Node → Option Meaning

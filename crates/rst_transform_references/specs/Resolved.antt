@@ -5,7 +5,7 @@ use Rattle.rst_tree.specs.declared.node.Node.{Node}
 use Rattle.rst_transform_links.specs.declared.links.Outcome.{Outcome}
 use Rattle.rst_transform_work.specs.declared.work.Report.{Report}
 use Rattle.rst_transform_work.specs.declared.work.Work.{Work}
-use Rattle.rst_transform_references.specs.Backrefs.{notes_of, with_backrefs}
+use Rattle.rst_transform_references.specs.Backrefs.{referents_of, with_backrefs}
 use Rattle.rst_transform_links.specs.Holders.{holder_place}
 use Rattle.rst_transform_links.specs.Linkings.{Held, linked_of}
 use Rattle.rst_transform_links.specs.Links.{changed_root}
@@ -23,7 +23,7 @@ resolved_among linked work = resolved (places_among linked work) linked work.nam
 
 -- what becomes of them, where each footnote and citation tells the references to it
 abbrev pub outcomes_among : List Held → Work → List Outcome
-outcomes_among linked work = with_backrefs (notes_of (places_among linked work) linked work.names) linked (resolved_among linked work).0
+outcomes_among linked work = with_backrefs (referents_of (places_among linked work) linked work.names) linked (resolved_among linked work).0
 
 -- what becomes of the linked elements of a tree in the end, and the documents before and after
 pub record ChangesReferences (root : Node) (before after : Work) (changes : List Outcome) : Type 0 where

@@ -15,7 +15,7 @@ use Rattle.rst_transform_references.specs.declared.meanings.Meaning.{Meaning}
 use Rattle.rst_transform_references.specs.declared.meanings.Meaning.TheVariants.{Leads, Unknown, Duplicate}
 use Rattle.rst_transform_work.specs.declared.work.Report.{Report}
 use Rattle.rst_transform_links.specs.Linkings.{Held}
-use Rattle.rst_transform_references.specs.Meanings.{element_at, is_note_reference, meaning_to}
+use Rattle.rst_transform_references.specs.Meanings.{element_at, meaning_to, refers_to_footnote_or_citation}
 use Rattle.rst_transform_links.specs.Outcomes.{adds, fails}
 use Rattle.rst_transform_work.specs.Reading.{line_of, text_said}
 use Rattle.rst_transform_work.specs.Reports.{next_report}
@@ -35,17 +35,17 @@ label_in (Some node) = label_of node
 
 -- a reference to a footnote that shows the footnote's label
 abbrev pub shows_label : Node → Bool
-shows_label node = is_note_reference node && is_some (node_value Auto node)
+shows_label node = refers_to_footnote_or_citation node && is_some (node_value Auto node)
 
 -- what a reference shows that leads to an element: the label of that, or what it holds
 abbrev pub shown_for : List Held → Node → Option ℕ → Option (List ℕ)
 shown_for linked node place = if shows_label node then label_in (element_at linked place) else None
 
--- what is told of a name that means nothing
+-- what the ERROR says of a name that means nothing
 abbrev pub unknown : List ℕ → List ℕ
 unknown name = codes "Unknown target name: \"" ++ (name ++ codes "\".")
 
--- what is told of a name that elements with equal names lost
+-- what the ERROR says of a name that elements with equal names lost
 abbrev pub duplicate : List ℕ → List ℕ
 duplicate name = codes "Duplicate target name, cannot be used as a unique reference: \"" ++ (name ++ codes "\".")
 

@@ -3,13 +3,13 @@ ghost use Rattle.std.specs.Prelude.{◌≡◌, [], map, replicate, slice_get};
 ghost use Rattle.std.specs.List.{list_any};
 ghost use Rattle.rst_tree.specs.Faults.{Gives};
 ghost use Rattle.rst_tree.specs.declared.key.Key.TheVariants.{Ids};
-ghost use Rattle.rst_transform_references.specs.Backrefs.{first_found, gathered, note_meant, note_of, notes_of, referred_by, told_back, with_backrefs, with_reference};
+ghost use Rattle.rst_transform_references.specs.Backrefs.{first_found, reference_ids, referent_meant, referent_of, referents_of, referred_by, with_backref_lists, with_backrefs, with_reference};
 ghost use Rattle.rst_transform_links.specs.Holders.{place_at};
 ghost use Rattle.rst_transform_links.specs.Linkings.{held};
-ghost use Rattle.rst_transform_references.specs.Meanings.{is_note_reference};
+ghost use Rattle.rst_transform_references.specs.Meanings.{refers_to_footnote_or_citation};
 ghost use Rattle.rst_transform_work.specs.Reading.{list_said};
 
-use crate::meanings::{Lookup, Meaning, is_note_reference};
+use crate::meanings::{Lookup, Meaning, refers_to_footnote_or_citation};
 use rst_transform_links::{Linked, Outcome, found_by_order};
 use rst_transform_work::first_said;
 use rst_tree::{Entry, Key, Node, Text, Texts, TreeFault, Value};
@@ -17,11 +17,11 @@ use std::alloc::Global;
 use std::collections::VecDeque;
 
 /// The footnote or citation that a name means, or else that which is found by the order.
-fn note_meant(meaning: Option<Meaning>, found: Option<usize>) -> Option<usize>
-    ensures { result ≡ note_meant meaning found }
+fn referent_meant(meaning: Option<Meaning>, found: Option<usize>) -> Option<usize>
+    ensures { result ≡ referent_meant meaning found }
 {
     match meaning {
-        Some(Meaning::Leads { note, .. }) => note,
+        Some(Meaning::Leads { referent, .. }) => referent,
         Some(Meaning::Unknown | Meaning::Duplicate) | None => found,
     }
 }
@@ -34,34 +34,34 @@ fn first_found(found: &[Option<usize>]) -> Option<usize>
 }
 
 /// The place of the footnote or citation that an element refers to, by its name or by the order.
-fn note_of(
+fn referent_of(
     alloc: Global,
     lookup: &Lookup<'_>,
     element: &Node,
     found: Option<usize>,
 ) -> Result<Option<usize>, TreeFault>
-    ensures { Gives (λ note. note ≡ note_of (place_at lookup.now.holders.places.items) (map held lookup.now.linked.now) lookup.now.names.now element.now found) result }
+    ensures { Gives (λ referent. referent ≡ referent_of (place_at lookup.now.holders.places.items) (map held lookup.now.linked.now) lookup.now.names.now element.now found) result }
 {
-    if !is_note_reference(element) {
+    if !refers_to_footnote_or_citation(element) {
         return Ok(None);
     }
     let meaning = lookup.meaning_to(alloc, element)?;
-    Ok(note_meant(meaning, found))
+    Ok(referent_meant(meaning, found))
 }
 
 /// For each linked element the place of the footnote or citation that it refers to.
-fn notes_of(alloc: Global, lookup: &Lookup<'_>) -> Result<Vec<Option<usize>>, TreeFault>
-    ensures { Gives (λ notes. notes.items ≡ notes_of (place_at lookup.now.holders.places.items) (map held lookup.now.linked.now) lookup.now.names.now) result }
+fn referents_of(alloc: Global, lookup: &Lookup<'_>) -> Result<Vec<Option<usize>>, TreeFault>
+    ensures { Gives (λ referents. referents.items ≡ referents_of (place_at lookup.now.holders.places.items) (map held lookup.now.linked.now) lookup.now.names.now) result }
 {
     let linked = lookup.linked;
     let by_order = found_by_order(alloc, linked)?;
     let mut found = by_order.as_slice();
-    let mut notes = Vec::with_capacity(alloc, linked.len())?;
+    let mut referents = Vec::with_capacity(alloc, linked.len())?;
     for one in linked {
-        notes.push(note_of(alloc, lookup, one.element, first_found(found))?)?;
+        referents.push(referent_of(alloc, lookup, one.element, first_found(found))?)?;
         found = &found[found.len().min(1)..];
     }
-    Ok(notes)
+    Ok(referents)
 }
 
 /// No id for each of so many elements.
@@ -75,45 +75,45 @@ fn no_ids(alloc: Global, count: usize) -> Result<Vec<Texts>, TreeFault>
     Ok(lists)
 }
 
-/// Puts the id of a reference behind those of the note that it refers to, if there is one.
+/// Puts the id of a reference behind those of the footnote or citation that it refers to, if there is one.
 #[tactic(auto, using(crate::proofs::Referring::put_past, crate::proofs::Referring::put_within))]
 fn add_reference(
     alloc: Global,
     lists: &mut Vec<Texts>,
-    note: Option<usize>,
+    referent: Option<usize>,
     reference: &Node,
 ) -> Result<(), TreeFault>
-    ensures { Gives (λ _. lists.new.items ≡ with_reference note (slice_get (list_said Ids reference.now) 0) lists.old.items) result }
+    ensures { Gives (λ _. lists.new.items ≡ with_reference referent (slice_get (list_said Ids reference.now) 0) lists.old.items) result }
 {
-    let Some(note) = note else {
+    let Some(referent) = referent else {
         return Ok(());
     };
     let Some(id) = first_said(reference, Key::Ids) else {
         return Ok(());
     };
-    if note >= lists.len() {
+    if referent >= lists.len() {
         return Ok(());
     }
     let id = Text::from_str(alloc, id)?;
-    lists[note].push(id)?;
+    lists[referent].push(id)?;
     Ok(())
 }
 
 /// For each of so many elements the ids of the references to it, in order.
-fn gathered(
+fn reference_ids(
     alloc: Global,
     linked: &[Linked<'_>],
-    notes: &[Option<usize>],
+    referents: &[Option<usize>],
     count: usize,
 ) -> Result<Vec<Texts>, TreeFault>
-    ensures { Gives (λ lists. lists.items ≡ gathered notes.now (map held linked.now) (replicate count [])) result }
+    ensures { Gives (λ lists. lists.items ≡ reference_ids referents.now (map held linked.now) (replicate count [])) result }
 {
     let mut lists = no_ids(alloc, count)?;
-    for (place, note) in notes.iter().enumerate() {
+    for (place, referent) in referents.iter().enumerate() {
         let Some(one) = linked.get(place) else {
             return Ok(lists);
         };
-        add_reference(alloc, &mut lists, *note, one.element)?;
+        add_reference(alloc, &mut lists, *referent, one.element)?;
     }
     Ok(lists)
 }
@@ -132,27 +132,27 @@ fn referred_by(ids: Option<Texts>, outcome: Outcome) -> Outcome
 }
 
 /// What becomes of elements, each with the ids of the references to it.
-fn told_back(
+fn with_backref_lists(
     alloc: Global,
     lists: Vec<Texts>,
     outcomes: Vec<Outcome>,
 ) -> Result<Vec<Outcome>, TreeFault>
-    ensures { Gives (λ told. told.items ≡ told_back lists.items outcomes.items) result }
+    ensures { Gives (λ changed. changed.items ≡ with_backref_lists lists.items outcomes.items) result }
 {
     let mut lists = VecDeque::from_vec(lists);
-    let mut told = Vec::with_capacity(alloc, outcomes.len())?;
+    let mut changed = Vec::with_capacity(alloc, outcomes.len())?;
     for outcome in outcomes {
-        told.push(referred_by(lists.pop_front(), outcome))?;
+        changed.push(referred_by(lists.pop_front(), outcome))?;
     }
-    Ok(told)
+    Ok(changed)
 }
 
 /// Whether an element refers to a footnote or a citation.
-fn refers_to_note(linked: &[Linked<'_>]) -> bool
-    ensures { result ≡ list_any (λ one. is_note_reference one.0) (map held linked.now) }
+fn any_refers_to_footnote_or_citation(linked: &[Linked<'_>]) -> bool
+    ensures { result ≡ list_any (λ one. refers_to_footnote_or_citation one.0) (map held linked.now) }
 {
     for one in linked {
-        if is_note_reference(one.element) {
+        if refers_to_footnote_or_citation(one.element) {
             return true;
         }
     }
@@ -165,13 +165,13 @@ pub fn with_backrefs(
     lookup: &Lookup<'_>,
     outcomes: Vec<Outcome>,
 ) -> Result<Vec<Outcome>, TreeFault>
-    ensures { let notes = notes_of (place_at lookup.now.holders.places.items) (map held lookup.now.linked.now) lookup.now.names.now in Gives (λ told. told.items ≡ with_backrefs notes (map held lookup.now.linked.now) outcomes.items) result }
+    ensures { let referents = referents_of (place_at lookup.now.holders.places.items) (map held lookup.now.linked.now) lookup.now.names.now in Gives (λ changed. changed.items ≡ with_backrefs referents (map held lookup.now.linked.now) outcomes.items) result }
 {
-    if !refers_to_note(lookup.linked) {
+    if !any_refers_to_footnote_or_citation(lookup.linked) {
         return Ok(outcomes);
     }
-    let notes = notes_of(alloc, lookup)?;
-    let lists = gathered(alloc, lookup.linked, notes.as_slice(), outcomes.len())?;
-    let told = told_back(alloc, lists, outcomes)?;
-    Ok(told)
+    let referents = referents_of(alloc, lookup)?;
+    let lists = reference_ids(alloc, lookup.linked, referents.as_slice(), outcomes.len())?;
+    let changed = with_backref_lists(alloc, lists, outcomes)?;
+    Ok(changed)
 }

@@ -4,7 +4,7 @@ ghost use Rattle.rst_tree.specs.Faults.{Gives};
 ghost use Rattle.rst_transform_names.specs.declared.names.Holder.{Holder};
 ghost use Rattle.rst_transform_links.specs.Holders.{holding, holder_place, place_at};
 ghost use Rattle.rst_transform_links.specs.Linkings.{held};
-ghost use Rattle.rst_transform_references.specs.Meanings.{element_at, held_meaning, is_nobody, is_note_node, is_note_reference, meaning_to, note_place, reference_name};
+ghost use Rattle.rst_transform_references.specs.Meanings.{element_at, held_meaning, is_footnote_or_citation, is_nobody, meaning_to, reference_name, referent_place, refers_to_footnote_or_citation};
 
 use rst_transform_links::{Holders, Linked, lead_by_name};
 use rst_transform_names::{Holder, NameEntry, Names};
@@ -15,7 +15,10 @@ use std::alloc::Global;
 #[derive(Drop)]
 pub enum Meaning {
     /// It leads where the attribute says: to the footnote or citation at this place, if it is one.
-    Leads { attr: Entry, note: Option<usize> },
+    Leads {
+        attr: Entry,
+        referent: Option<usize>,
+    },
     /// No element of the kind that is looked for has it.
     Unknown,
     /// Elements with equal names lost it.
@@ -31,8 +34,8 @@ pub struct Lookup<'a> {
 }
 
 /// Whether a node is a footnote or a citation.
-fn is_note(node: &Node) -> bool
-    ensures { result ≡ is_note_node node.now }
+fn is_footnote_or_citation(node: &Node) -> bool
+    ensures { result ≡ is_footnote_or_citation node.now }
 {
     match node {
         Node::Element { tag, .. } => matches!(tag, Tag::Footnote | Tag::Citation),
@@ -41,8 +44,8 @@ fn is_note(node: &Node) -> bool
 }
 
 /// Whether a node is a reference to a footnote or a citation.
-pub fn is_note_reference(node: &Node) -> bool
-    ensures { result ≡ is_note_reference node.now }
+pub fn refers_to_footnote_or_citation(node: &Node) -> bool
+    ensures { result ≡ refers_to_footnote_or_citation node.now }
 {
     match node {
         Node::Element { tag, .. } => {
@@ -79,11 +82,11 @@ fn is_nobody(holder: Holder) -> bool
 }
 
 /// The place of a footnote or a citation, if the element there is one.
-fn note_place(element: Option<&Node>, place: Option<usize>) -> Option<usize>
-    ensures { result ≡ note_place (holding element.entry) place }
+fn referent_place(element: Option<&Node>, place: Option<usize>) -> Option<usize>
+    ensures { result ≡ referent_place (holding element.entry) place }
 {
     match element {
-        Some(node) if is_note(node) => place,
+        Some(node) if is_footnote_or_citation(node) => place,
         _ => None,
     }
 }
@@ -107,7 +110,12 @@ impl<'a> Lookup<'a> {
         let Some(known) = self.names.get(name) else {
             return Ok(Some(Meaning::Unknown));
         };
-        let meaning = self.held_meaning(alloc, name, is_note_reference(element), known)?;
+        let meaning = self.held_meaning(
+            alloc,
+            name,
+            refers_to_footnote_or_citation(element),
+            known,
+        )?;
         Ok(Some(meaning))
     }
 
@@ -116,21 +124,21 @@ impl<'a> Lookup<'a> {
         &self,
         alloc: Global,
         name: &str,
-        to_note: bool,
+        needs_referent: bool,
         known: &NameEntry,
     ) -> Result<Meaning, TreeFault>
-        ensures { Gives (λ meaning. meaning ≡ held_meaning (place_at self.now.holders.places.items) (map held self.now.linked.now) self.now.names.now name.now to_note known.now) result }
+        ensures { Gives (λ meaning. meaning ≡ held_meaning (place_at self.now.holders.places.items) (map held self.now.linked.now) self.now.names.now name.now needs_referent known.now) result }
     {
         if is_nobody(known.holder) {
             return Ok(Meaning::Duplicate);
         }
         let place = self.holders.place(known.holder);
         let holder = element_at(self.linked, place);
-        let note = note_place(holder, place);
-        if to_note && note.is_none() {
+        let referent = referent_place(holder, place);
+        if needs_referent && referent.is_none() {
             return Ok(Meaning::Unknown);
         }
         let attr = lead_by_name(alloc, self.names, name, known, holder)?;
-        Ok(Meaning::Leads { attr, note })
+        Ok(Meaning::Leads { attr, referent })
     }
 }

@@ -11,9 +11,9 @@ ghost use Rattle.rst_transform_references.specs.Resolved.{outcomes_among, resolv
 ghost use Rattle.rst_transform_references.specs.Resolving.{duplicate, is_gone, label_of, name_of, outcome_of, reports_behind, reports_with, resolved, shown_for, shows_label, unknown, what_becomes, with_error};
 
 use crate::backrefs::with_backrefs;
-use crate::meanings::{Lookup, Meaning, element_at, is_note_reference};
+use crate::meanings::{Lookup, Meaning, element_at, refers_to_footnote_or_citation};
 use rst_transform_links::{
-    Addition, Changes, Holders, Linked, Outcome, linked_in, put_back, settled,
+    Addition, Changes, Holders, Linked, Outcome, linked_in, put_back, settle,
 };
 use rst_transform_names::Names;
 use rst_transform_work::{Work, has, line_of, take_root, text_said};
@@ -69,7 +69,7 @@ fn changes_of(alloc: Global, work: &mut Work, root: &Node) -> Result<Changes, Tr
 {
     let linked = linked_in(alloc, root)?;
     let outcomes = outcomes_of(alloc, work, linked.as_slice())?;
-    let changes = settled(alloc, work, linked.as_slice(), outcomes)?;
+    let changes = settle(alloc, work, linked.as_slice(), outcomes)?;
     Ok(changes)
 }
 
@@ -113,10 +113,10 @@ fn looked_up<'a>(
 }
 
 /// The label that a footnote or a citation shows.
-fn label_of(alloc: Global, note: &Node) -> Result<Option<Text>, TreeFault>
-    ensures { Gives (λ label. label ≡ label_of note.now) result }
+fn label_of(alloc: Global, referent: &Node) -> Result<Option<Text>, TreeFault>
+    ensures { Gives (λ label. label ≡ label_of referent.now) result }
 {
-    let Node::Element { children, .. } = note else {
+    let Node::Element { children, .. } = referent else {
         return Ok(None);
     };
     let Some(label) = children.get(0) else {
@@ -130,7 +130,7 @@ fn label_of(alloc: Global, note: &Node) -> Result<Option<Text>, TreeFault>
 fn shows_label(reference: &Node) -> bool
     ensures { result ≡ shows_label reference.now }
 {
-    is_note_reference(reference) && has(reference, Key::Auto)
+    refers_to_footnote_or_citation(reference) && has(reference, Key::Auto)
 }
 
 /// What a reference shows in place of what it holds, if it shows the label of the footnote or citation at a place.
@@ -138,21 +138,21 @@ fn shown_for(
     alloc: Global,
     linked: &[Linked<'_>],
     reference: &Node,
-    note: Option<usize>,
+    referent: Option<usize>,
 ) -> Result<Option<Text>, TreeFault>
-    ensures { Gives (λ shown. shown ≡ shown_for (map held linked.now) reference.now note) result }
+    ensures { Gives (λ shown. shown ≡ shown_for (map held linked.now) reference.now referent) result }
 {
     if !shows_label(reference) {
         return Ok(None);
     }
-    let Some(note) = element_at(linked, note) else {
+    let Some(referent) = element_at(linked, referent) else {
         return Ok(None);
     };
-    let label = label_of(alloc, note)?;
+    let label = label_of(alloc, referent)?;
     Ok(label)
 }
 
-/// What is told of a name that means nothing.
+/// What the ERROR says of a name that means nothing.
 fn unknown(alloc: Global, name: &str) -> Result<Text, TreeFault>
     ensures { Gives (λ text. text ≡ unknown name.now) result }
 {
@@ -160,7 +160,7 @@ fn unknown(alloc: Global, name: &str) -> Result<Text, TreeFault>
     Ok(text)
 }
 
-/// What is told of a name that elements with equal names lost.
+/// What the ERROR says of a name that elements with equal names lost.
 fn duplicate(alloc: Global, name: &str) -> Result<Text, TreeFault>
     ensures { Gives (λ text. text ≡ duplicate name.now) result }
 {
@@ -205,8 +205,8 @@ fn outcome_of(
     ensures rest { Gives (λ _. KeepsRest work.old work.new) result }
 {
     match meaning {
-        Meaning::Leads { attr, note } => {
-            let shown = shown_for(alloc, linked, reference, note)?;
+        Meaning::Leads { attr, referent } => {
+            let shown = shown_for(alloc, linked, reference, referent)?;
             let attr = Some(attr);
             Ok(Outcome::Stays(Addition { attr, shown }))
         }

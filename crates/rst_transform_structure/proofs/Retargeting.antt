@@ -5,7 +5,7 @@ use Rattle.std.specs.Str.{bytes_eq}
 use Rattle.std.proofs.lemmas.Bool.Decides.{nat_tests}
 use Rattle.std.proofs.lemmas.List.{append-nil, reverse-append, reverse-reverse}
 use Rattle.std.proofs.lemmas.Slice.Eq.{bytes_eq-Decides}
-use Rattle.rst_tree_index.specs.Held.{is_internal}
+use Rattle.rst_tree_index.specs.Kinds.{is_internal}
 use Rattle.rst_transform_names.specs.Names.{held_by, moved, Knows, SameUris}
 use Rattle.rst_transform_names.specs.declared.names.NameEntry.{NameEntry}
 use Rattle.rst_transform_names.specs.declared.names.Holder.{Holder}
@@ -23,7 +23,7 @@ use Rattle.rst_tree.specs.Read.{elements, elements_of, folded}
 use Rattle.rst_tree.specs.Walk.{Item, item, items, node_items, after, scanned}
 use Rattle.rst_transform_work.specs.Lists.{listed}
 use Rattle.rst_transform_work.specs.Reading.{members_in}
-use Rattle.rst_transform_structure.specs.Targets.{Found, found, found_next, found_turns, takes_ids, first_takes_ids, first_turn, turns, turns_left, is_turn, hands_on, Handed, handed, handed_first, referring, given, retargeted, got_by, names_got, holder_of, known_after, Passes, Underway, underway, met, passed_on}
+use Rattle.rst_transform_structure.specs.Targets.{Found, found, found_next, found_turns, takes_ids, first_takes_ids, first_turn, turns, turns_left, is_turn, hands_on, Handed, handed, handed_first, referring, given, retargeted, got_by, names_got, holder_of, known_after, Passes, Underway, underway, underway_after, passed_on}
 
 -- what is found of an element, and of some
 found_by : Found → Item → Found
@@ -77,9 +77,9 @@ others_left : (x : Item) (xs : List Item) (h : Handed) (g : List (List ℕ × Op
 others_left x xs h g =
     elim (is_internal x) as (λ b. (if b then drop 1 (if b then first_takes_ids xs ∷ turns xs else turns xs) else (if b then first_takes_ids xs ∷ turns xs else turns xs)) ≡ turns xs) [ true ↦ refl | false ↦ refl ]
 
-met_by : (x : Item) (xs : List Item) (h : Handed) (g : List (List ℕ × Option ℕ)) → met (underway (turns (x ∷ xs)) h g) x
+underway_after_by : (x : Item) (xs : List Item) (h : Handed) (g : List (List ℕ × Option ℕ)) → underway_after (underway (turns (x ∷ xs)) h g) x
     ≡ (if hands_on x xs then underway (turns xs) (handed_first x.attrs h) g else underway (turns xs) (handed [] []) (g ++ got_by x.attrs h.names))
-met_by x xs h g =
+underway_after_by x xs h g =
     ap (λ (ts : List Bool). if is_turn (underway (turns (x ∷ xs)) h g) x then underway ts (handed_first x.attrs h) g else underway ts (handed [] []) (g ++ got_by x.attrs h.names)) (others_left x xs h g)
     ∙ ap (λ (b : Bool). if b then underway (turns xs) (handed_first x.attrs h) g else underway (turns xs) (handed [] []) (g ++ got_by x.attrs h.names)) (own_turn x xs h g)
 
@@ -88,44 +88,44 @@ passed_by : (x : Item) (xs : List Item) (h : Handed) (g : List (List ℕ × Opti
 passed_by x xs h g = ap (λ (b : Bool). if b then item x.tag (referring x.attrs) x.line else item x.tag (given h x.attrs) x.line) (own_turn x xs h g)
 
 -- the elements that the visits leave, and the names that elements got by them
-pub all_retargeted : (h : Handed) (g : List (List ℕ × Option ℕ)) (xs : List Item) → scanned met passed_on (underway (turns xs) h g) xs ≡ retargeted h xs
+pub all_retargeted : (h : Handed) (g : List (List ℕ × Option ℕ)) (xs : List Item) → scanned underway_after passed_on (underway (turns xs) h g) xs ≡ retargeted h xs
 all_retargeted h g [] = refl
 all_retargeted h g (x ∷ xs) =
-    ap (λ y. y ∷ scanned met passed_on (met (underway (turns (x ∷ xs)) h g) x) xs) (passed_by x xs h g)
-    ∙ ap (λ u. (if hands_on x xs then item x.tag (referring x.attrs) x.line else item x.tag (given h x.attrs) x.line) ∷ scanned met passed_on u xs) (met_by x xs h g)
+    ap (λ y. y ∷ scanned underway_after passed_on (underway_after (underway (turns (x ∷ xs)) h g) x) xs) (passed_by x xs h g)
+    ∙ ap (λ u. (if hands_on x xs then item x.tag (referring x.attrs) x.line else item x.tag (given h x.attrs) x.line) ∷ scanned underway_after passed_on u xs) (underway_after_by x xs h g)
     ∙ elim (hands_on x xs) as (λ b.
     (if b then item x.tag (referring x.attrs) x.line else item x.tag (given h x.attrs) x.line)
-    ∷ scanned met passed_on (if b then underway (turns xs) (handed_first x.attrs h) g else underway (turns xs) (handed [] []) (g ++ got_by x.attrs h.names)) xs
+    ∷ scanned underway_after passed_on (if b then underway (turns xs) (handed_first x.attrs h) g else underway (turns xs) (handed [] []) (g ++ got_by x.attrs h.names)) xs
     ≡ (if b then item x.tag (referring x.attrs) x.line ∷ retargeted (handed_first x.attrs h) xs else item x.tag (given h x.attrs) x.line ∷ retargeted (handed [] []) xs)) [
       | true ↦ ap (λ ys. item x.tag (referring x.attrs) x.line ∷ ys) (all_retargeted (handed_first x.attrs h) g xs)
       | false ↦ ap (λ ys. item x.tag (given h x.attrs) x.line ∷ ys) (all_retargeted (handed [] []) (g ++ got_by x.attrs h.names) xs)
     ]
 
-pub all_got : (h : Handed) (g : List (List ℕ × Option ℕ)) (xs : List Item) → (after met passed_on (underway (turns xs) h g) xs).got ≡ g ++ names_got h xs
+pub all_got : (h : Handed) (g : List (List ℕ × Option ℕ)) (xs : List Item) → (after underway_after passed_on (underway (turns xs) h g) xs).got ≡ g ++ names_got h xs
 all_got h g [] = sym (append-nil g)
 all_got h g (x ∷ xs) =
-    ap (λ u. (after met passed_on u xs).got) (met_by x xs h g)
+    ap (λ u. (after underway_after passed_on u xs).got) (underway_after_by x xs h g)
     ∙ elim (hands_on x xs) as (λ b.
-    (after met passed_on (if b then underway (turns xs) (handed_first x.attrs h) g else underway (turns xs) (handed [] []) (g ++ got_by x.attrs h.names)) xs).got
+    (after underway_after passed_on (if b then underway (turns xs) (handed_first x.attrs h) g else underway (turns xs) (handed [] []) (g ++ got_by x.attrs h.names)) xs).got
     ≡ g ++ (if b then names_got (handed_first x.attrs h) xs else got_by x.attrs h.names ++ names_got (handed [] []) xs)) [
       | true ↦ all_got (handed_first x.attrs h) g xs
       | false ↦ all_got (handed [] []) (g ++ got_by x.attrs h.names) xs ∙ append_assoc g (got_by x.attrs h.names) (names_got (handed [] []) xs)
     ]
 
 -- the same of a node that was visited
-pub elements_left : (done root old : Node) (u : Underway) (ts : List Bool) → node_items done ≡ scanned met passed_on u (node_items root) → root ≡ old → u ≡ underway ts (handed [] []) [] → ts ≡ turns (node_items old)
+pub elements_left : (done root old : Node) (u : Underway) (ts : List Bool) → node_items done ≡ scanned underway_after passed_on u (node_items root) → root ≡ old → u ≡ underway ts (handed [] []) [] → ts ≡ turns (node_items old)
     → node_items done ≡ retargeted (handed [] []) (node_items old)
 elements_left done root old u ts h is start all =
-    h ∙ ap (λ n. scanned met passed_on u (node_items n)) is
-    ∙ ap (λ v. scanned met passed_on v (node_items old)) (start ∙ ap (λ t. underway t (handed [] []) []) all)
+    h ∙ ap (λ n. scanned underway_after passed_on u (node_items n)) is
+    ∙ ap (λ v. scanned underway_after passed_on v (node_items old)) (start ∙ ap (λ t. underway t (handed [] []) []) all)
     ∙ all_retargeted (handed [] []) [] (node_items old)
 
-pub names_left : (a b : Names) (got : List (List ℕ × Option ℕ)) (u v : Underway) (root old : Node) (ts : List Bool) → Passes got a b → got ≡ v.got → v ≡ after met passed_on u (node_items root) → root ≡ old
+pub names_left : (a b : Names) (got : List (List ℕ × Option ℕ)) (u v : Underway) (root old : Node) (ts : List Bool) → Passes got a b → got ≡ v.got → v ≡ after underway_after passed_on u (node_items root) → root ≡ old
     → u ≡ underway ts (handed [] []) [] → ts ≡ turns (node_items old) → Passes (names_got (handed [] []) (node_items old)) a b
 names_left a b got u v root old ts h end state is start all =
     subst (λ g. Passes g a b)
     (end
-    ∙ ap (λ (w : Underway). w.got) (state ∙ ap (λ n. after met passed_on u (node_items n)) is ∙ ap (λ w. after met passed_on w (node_items old)) (start ∙ ap (λ t. underway t (handed [] []) []) all))
+    ∙ ap (λ (w : Underway). w.got) (state ∙ ap (λ n. after underway_after passed_on u (node_items n)) is ∙ ap (λ w. after underway_after passed_on w (node_items old)) (start ∙ ap (λ t. underway t (handed [] []) []) all))
     ∙ all_got (handed [] []) [] (node_items old)) h
 
 known_after-append : (xs : List (List ℕ × Option ℕ)) (got : List ℕ × Option ℕ) (name : List ℕ) (held : Option NameEntry) → known_after (xs ++ got ∷ []) name held

@@ -2,7 +2,7 @@
 -- Hyperlink Targets').
 use Rattle.std.specs.Prelude.{◌≡◌, ℕ, List, [], ◌∷◌, ◌++◌, map, drop, Option, Some, None, Bool, true, false, ◌&&◌, if◌then◌else◌}
 use Rattle.std.specs.Str.{bytes_eq}
-use Rattle.rst_tree_index.specs.Held.{is_internal}
+use Rattle.rst_tree_index.specs.Kinds.{is_internal}
 use Rattle.rst_transform_names.specs.Names.{held_by, moved, SameUris}
 use Rattle.rst_transform_names.specs.declared.names.NameEntry.{NameEntry}
 use Rattle.rst_transform_names.specs.declared.names.Holder.{Holder}
@@ -130,7 +130,7 @@ abbrev pub first_turn : List Bool → Bool
 first_turn [] = false
 first_turn (turn ∷ more) = turn
 
--- an element that is met hands on its ids
+-- an element hands on its ids
 abbrev pub is_turn : Underway → Item → Bool
 is_turn u x = is_internal x && first_turn u.turns
 
@@ -139,8 +139,8 @@ abbrev pub turns_left : Underway → Item → List Bool
 turns_left u x = if is_internal x then drop 1 u.turns else u.turns
 
 -- behind an element
-abbrev pub met : Underway → Item → Underway
-met u x =
+abbrev pub underway_after : Underway → Item → Underway
+underway_after u x =
     if is_turn u x then underway (turns_left u x) (handed_first x.attrs u.handed) u.got
     else underway (turns_left u x) (handed [] []) (u.got ++ got_by x.attrs u.handed.names)
 

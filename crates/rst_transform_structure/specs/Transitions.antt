@@ -74,7 +74,7 @@ unfoldable pub with_fault : ℕ → ℕ → Option (List ℕ) → Siblings → S
 with_fault first line None s = s
 with_fault first line (Some text) s = with_message first line text s
 
--- A transition that is the last child. It moves behind a section round it, if one isn't last itself, and else stays and is told of.
+-- A transition that is the last child. It moves behind a section round it, if one isn't last itself, and else stays, with a message.
 unfoldable pub put_last : ℕ → Bool → Node → ℕ → Siblings → Siblings
 put_last first true n line s = record { placed = s.placed; moving = s.moving ++ n ∷ []; reports = s.reports }
 put_last first false n line s = with_message first line at_end (with_node n s)

@@ -163,7 +163,7 @@ impl Moving {
         got
     }
 
-    /// Whether an element that is met is a target whose turn it is to hand on its ids.
+    /// Whether an element is a target whose turn it is to hand on its ids.
     fn is_turn(&mut self, tag: Tag, attrs: &Attrs) -> bool
         ensures turn { result ≡ is_turn self.old (item tag attrs.now 0) }
         ensures left { self.new ≡ record self.old { turns = turns_left self.old (item tag attrs.now 0) } }
@@ -209,9 +209,9 @@ impl Moving {
 }
 
 impl Visitor for Moving {
-    ghost use Rattle.rst_transform_structure.specs.Targets.{met, passed_on};
+    ghost use Rattle.rst_transform_structure.specs.Targets.{passed_on, underway_after};
 
-    ghost next = { met };
+    ghost next = { underway_after };
 
     ghost out = { passed_on };
 
@@ -250,7 +250,7 @@ fn add_backwards(texts: &mut Vec<Text>, more: &[Text]) -> Result<(), TreeFault>
     Ok(())
 }
 
-/// Notes names that an element with a number, or without, got.
+/// Adds names that an element with a number, or without, got.
 fn add_got(
     got: &mut Vec<(Text, Option<u64>)>,
     names: Vec<Text>,

@@ -9,7 +9,7 @@ ghost use Rattle.rst_transform_structure.specs.Title.{lone_section, names_got, s
 ghost use Rattle.rst_transform_work.specs.Reading.{may_precede};
 
 use rst_transform_names::{Holder, Names};
-use rst_transform_work::{Work, append_names, joined, may_precede};
+use rst_transform_work::{Work, append_names, may_precede};
 use rst_tree::{Attrs, Children, Key, Node, Said, Tag, Text, TreeFault, Value};
 use std::alloc::Global;
 
@@ -162,11 +162,12 @@ impl Section {
         ensures { Gives (λ section. section ≡ record self { body = forest_of (before.items ++ nodes_of self.body) }) result }
     {
         let Section { attrs, title, body } = self;
-        let body = joined(before, body.into_list())?;
+        let mut nodes = before;
+        nodes.append(&mut body.into_list())?;
         Ok(Section {
             attrs,
             title,
-            body: Children::of(body),
+            body: Children::of(nodes),
         })
     }
 }

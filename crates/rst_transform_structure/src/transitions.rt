@@ -283,7 +283,7 @@ fn is_transition(tag: Tag) -> bool
     matches!(tag, Tag::Transition)
 }
 
-/// An ERROR on a transition, which is noted in the list of messages, too.
+/// An ERROR on a transition. It is in the list of messages, too.
 fn message(alloc: Global, line: usize, words: &str, work: &mut Work) -> Result<Node, TreeFault>
     ensures node { let next = transition_report work.old.first_number work.old.reports.items line words.now in Gives (λ node. node ≡ report_node next) result }
     ensures reports { let next = transition_report work.old.first_number work.old.reports.items line words.now in Gives (λ _. work.new.reports.items ≡ work.old.reports.items ++ next ∷ []) result }

@@ -17,7 +17,7 @@ use Rattle.rst_transform_substitutions.specs.Expanded.{within_element, ExpandsIn
 use Rattle.rst_transform_substitutions.specs.Expansion.{behind, expanded, given, given_within, is_reference, most_nested, name_said, nodes_for, Expansion}
 use Rattle.rst_transform_substitutions.proofs.Defining.{found_known, place_known}
 
--- the nodes before some, with what those come to while so much may be met
+-- the nodes before some, with what those come to while so much may be visited
 abbrev pub so_far : (List ℕ → ℕ → Expansion) → List Node → List Node → ℕ → ℕ → Expansion
 so_far given nodes ns i left = behind nodes (expanded given (forest_of (drop i ns)) left)
 

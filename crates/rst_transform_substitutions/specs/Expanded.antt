@@ -15,17 +15,17 @@ use Rattle.rst_transform_substitutions.specs.declared.expansion.ExpansionFault.{
 use Rattle.rst_transform_work.specs.declared.work.Report.{Report}
 use Rattle.rst_transform_work.specs.declared.work.Work.{Work}
 use Rattle.rst_transform_substitutions.specs.Definitions.{definitions_in, found_among, place_of_name, Definition}
-use Rattle.rst_transform_substitutions.specs.Expansion.{is_reference, name_said, nodes_for, told}
+use Rattle.rst_transform_substitutions.specs.Expansion.{fault_text, is_reference, name_said, nodes_for}
 use Rattle.rst_transform_work.specs.Problematics.{MakesProblematic}
 use Rattle.rst_transform_work.specs.Reading.{source_said}
 use Rattle.rst_transform_work.specs.Reports.{next_report, KeepsRest}
 
 -- the ERROR on a reference that isn't replaced, behind the messages so far
 abbrev pub error_on : List Attr → ℕ → ExpansionFault → Work → Report
-error_on a l fault work = next_report work.first_number work.reports.items Error l (told (name_said a) fault) true
+error_on a l fault work = next_report work.first_number work.reports.items Error l (fault_text (name_said a) fault) true
 
 -- a reference that isn't replaced becomes the problematic of an ERROR, with its source text
-pub record IsTold (a : List Attr) (l : ℕ) (fault : ExpansionFault) (before after : Work) (node : Node) : Type 0 where
+pub record ReportsFault (a : List Attr) (l : ℕ) (fault : ExpansionFault) (before after : Work) (node : Node) : Type 0 where
   pub between : Work
   pub reports : between.reports.items ≡ before.reports.items ++ error_on a l fault before ∷ []
   pub rest : KeepsRest before between
@@ -36,7 +36,7 @@ pub record IsTold (a : List Attr) (l : ℕ) (fault : ExpansionFault) (before aft
 -- a reference gives way to nodes, or to that problematic
 abbrev pub GivesWay : List Attr → ℕ → Result (List Node) ExpansionFault → Work → Work → List Node → Type 0
 GivesWay a l (Ok nodes) before after done = (after ≡ before) × (done ≡ nodes)
-GivesWay a l (Err fault) before after done = (node : Node) × IsTold a l fault before after node × (done ≡ node ∷ [])
+GivesWay a l (Err fault) before after done = (node : Node) × ReportsFault a l fault before after node × (done ≡ node ∷ [])
 
 abbrev pub is_definition : Tag → Bool
 is_definition SubstitutionDefinition = true
@@ -51,7 +51,7 @@ abbrev pub Whether : Bool → Type 0 → Type 0 → Type 0
 Whether true one other = one
 Whether false one other = other
 
--- where it is told which definition a name finds, and at which place the definition of a name stands
+-- given which definition a name finds, and at which place the definition of a name stands
 module _ (found : List ℕ → Option (ℕ × Forest)) (place : List ℕ → Option ℕ) where
   -- The references among some nodes, and in them, gave way in the order of the document, and these nodes came of it. They stand in the
   -- definition at a place, or in none.

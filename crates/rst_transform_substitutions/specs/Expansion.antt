@@ -1,4 +1,4 @@
--- What stands for a substitution reference (Markup Specification, 'Substitution References', 'Substitution Definitions'). How much may be met
+-- What stands for a substitution reference (Markup Specification, 'Substitution References', 'Substitution Definitions'). How much may be visited
 -- for one is no rule of markup.
 use Rattle.std.specs.Prelude.{◌≡◌, ℕ, zero, suc, ◌+◌, ◌-◌, ◌==◌, nat_le, Bool, true, false, List, [], ◌∷◌, ◌++◌, codes, length, if◌then◌else◌, unwrap_or, Option, Some, None, Result, Ok, Err}
 use Rattle.std.specs.List.{list_any}
@@ -17,13 +17,13 @@ use Rattle.rst_transform_substitutions.specs.declared.expansion.ExpansionFault.T
 use Rattle.rst_transform_substitutions.specs.declared.expansion.Halted.{Halted}
 use Rattle.rst_transform_substitutions.specs.declared.expansion.Halted.TheVariants.{By, NoMemory}
 
--- the most definitions that are gone into for one reference, each met in the one before
+-- the most definitions that are gone into for one reference, each found in the one before
 abbrev pub most_nested : ℕ
 most_nested = 100
 
--- the most nodes and characters that are met for one reference
-abbrev pub most_met : ℕ
-most_met = 10000
+-- the most nodes and characters that are visited for one reference
+abbrev pub most_visited : ℕ
+most_visited = 10000
 
 abbrev pub is_reference : Tag → Bool
 is_reference SubstitutionReference = true
@@ -46,16 +46,16 @@ copied t a nodes l = Element t (without_key Serial a) (forest_of nodes) l
 abbrev pub Expansion : Type 0
 Expansion = Result (List Node × ℕ) ExpansionFault
 
--- so much is met, if so much may still be, and then the rest
-abbrev pub meeting : ℕ → ℕ → (ℕ → Expansion) → Expansion
-meeting size left rest = if nat_le size left then rest (left - size) else Err TooLarge
+-- so much is visited, if so much may still be, and then the rest
+abbrev pub visiting : ℕ → ℕ → (ℕ → Expansion) → Expansion
+visiting size left rest = if nat_le size left then rest (left - size) else Err TooLarge
 
 -- some nodes, and then those of an expansion
 abbrev pub behind : List Node → Expansion → Expansion
 behind nodes (Ok done) = Ok (nodes ++ done.0, done.1)
 behind nodes (Err fault) = Err fault
 
--- an expansion, and then one with what may still be met
+-- an expansion, and then one with what may still be visited
 abbrev pub and_then : Expansion → (ℕ → Expansion) → Expansion
 and_then (Ok done) rest = behind done.0 (rest done.1)
 and_then (Err fault) rest = Err fault
@@ -65,12 +65,12 @@ abbrev pub inside : Tag → List Attr → ℕ → Expansion → Expansion
 inside t a l (Ok done) = Ok (copied t a done.0 l ∷ [], done.1)
 inside t a l (Err fault) = Err fault
 
--- what copies of nodes come to, while so much may be met, where it is told what a reference to a name does
+-- what copies of nodes come to, while so much may be visited, given what a reference to a name does
 abbrev pub expanded : (List ℕ → ℕ → Expansion) → Forest → ℕ → Expansion
 expanded given bare left = Ok ([], left)
-expanded given (words t r) left = meeting (size_of (Text t)) left (λ more. behind (Text t ∷ []) (expanded given r more))
+expanded given (words t r) left = visiting (size_of (Text t)) left (λ more. behind (Text t ∷ []) (expanded given r more))
 expanded given (element t a c l r) left =
-    meeting (size_of (Element t a c l)) left (λ more. and_then (if is_reference t then given (name_said a) more else inside t a l (expanded given c more)) (λ then_more. expanded given r then_more))
+    visiting (size_of (Element t a c l)) left (λ more. and_then (if is_reference t then given (name_said a) more else inside t a l (expanded given c more)) (λ then_more. expanded given r then_more))
 
 -- the path of a reference that stands in the definition at a place, or in none
 abbrev pub path_from : Option ℕ → List ℕ
@@ -87,7 +87,7 @@ abbrev pub entering : List ℕ → List ℕ → Option (ℕ × Forest) → (ℕ 
 entering path name None content = Err (Undefined name)
 entering path name (Some one) content = if list_any (λ place. place == one.0) path then Err (Circular name) else content one
 
--- where it is told which definition a name finds
+-- given which definition a name finds
 module _ (found : List ℕ → Option (ℕ × Forest)) where
   -- what a reference to a name comes to behind the definitions on a path, where so many more may be gone into
   unfoldable pub given_within : ℕ → List ℕ → List ℕ → ℕ → Expansion
@@ -100,13 +100,13 @@ module _ (found : List ℕ → Option (ℕ × Forest)) where
 
   -- the nodes for a reference to a name, which stands in the definition at a place or in none
   abbrev pub nodes_for : Option ℕ → List ℕ → Result (List Node) ExpansionFault
-  nodes_for within name = nodes_in (given (path_from within) name most_met)
+  nodes_for within name = nodes_in (given (path_from within) name most_visited)
 
--- what is told of a reference to a name that isn't replaced
-abbrev pub told : List ℕ → ExpansionFault → List ℕ
-told name (Undefined inner) = codes "Undefined substitution referenced: \"" ++ (inner ++ codes "\".")
-told name (Circular inner) = codes "Circular substitution definition referenced: \"" ++ (inner ++ codes "\".")
-told name TooLarge = codes "Substitution expansion too large: \"" ++ (name ++ codes "\".")
+-- what the message says of a reference to a name that isn't replaced
+abbrev pub fault_text : List ℕ → ExpansionFault → List ℕ
+fault_text name (Undefined inner) = codes "Undefined substitution referenced: \"" ++ (inner ++ codes "\".")
+fault_text name (Circular inner) = codes "Circular substitution definition referenced: \"" ++ (inner ++ codes "\".")
+fault_text name TooLarge = codes "Substitution expansion too large: \"" ++ (name ++ codes "\".")
 
 -- the call comes to the same, or tells want of memory
 abbrev pub ComesTo : {A B : Type 0} → Result B ExpansionFault → (A → B) → Result A Halted → Type 0

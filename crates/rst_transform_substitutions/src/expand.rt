@@ -4,12 +4,12 @@ ghost use Rattle.rst_tree.specs.declared.node.Node.{Node as AnyNode};
 ghost use Rattle.rst_tree.specs.Faults.{Gives};
 ghost use Rattle.rst_tree.specs.Nodes.{forest_of};
 ghost use Rattle.rst_transform_substitutions.specs.Definitions.{found_by, known_place};
-ghost use Rattle.rst_transform_substitutions.specs.Expanded.{within_element, ExpandsIn, GivesWay, IsExpanded, IsTold};
+ghost use Rattle.rst_transform_substitutions.specs.Expanded.{within_element, ExpandsIn, GivesWay, IsExpanded, ReportsFault};
 ghost use Rattle.rst_transform_substitutions.specs.Expansion.{name_said, nodes_for};
 
 use crate::definitions::Definitions;
 use crate::expansion::{ExpansionFault, Halted, expansion, is_reference};
-use rst_transform_work::{Work, joined, said, take_root, take_source};
+use rst_transform_work::{Work, said, take_root, take_source};
 use rst_tree::{Attrs, Children, Key, Level, Node, Tag, TreeFault};
 use std::alloc::Global;
 
@@ -133,9 +133,9 @@ fn with_replaced(
     ensures { let wanted = nodes_for (found_by definitions.now) within (name_said attrs) in Gives (λ all. (here : List AnyNode) × GivesWay attrs line wanted work.old work.new here × (all.items ≡ nodes.items ++ here)) result }
 {
     match expansion(alloc, definitions, said(&attrs, Key::Refname), within) {
-        Ok(expanded) => {
-            let all = joined(nodes, expanded)?;
-            Ok(all)
+        Ok(mut expanded) => {
+            nodes.append(&mut expanded)?;
+            Ok(nodes)
         }
         Err(Halted::NoMemory) => Err(TreeFault::NoMemory),
         Err(Halted::By(fault)) => {
@@ -154,9 +154,9 @@ fn problematic(
     fault: ExpansionFault,
     work: &mut Work,
 ) -> Result<Node, TreeFault>
-    ensures { Gives (IsTold attrs line fault work.old work.new) result }
+    ensures { Gives (ReportsFault attrs line fault work.old work.new) result }
 {
-    let text = fault.told(alloc, said(&attrs, Key::Refname))?;
+    let text = fault.text(alloc, said(&attrs, Key::Refname))?;
     let report = work.report(alloc, Level::Error, line, text, true)?;
     let source = take_source(alloc, &mut attrs)?;
     let node = work.problematic(alloc, report, source, line)?;

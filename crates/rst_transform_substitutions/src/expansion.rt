@@ -5,18 +5,18 @@ ghost use Rattle.rst_tree.specs.Faults.{Gives};
 ghost use Rattle.rst_transform_substitutions.specs.declared.expansion.ExpansionFault.TheVariants.{Undefined};
 ghost use Rattle.rst_transform_substitutions.specs.declared.expansion.Halted.TheVariants.{By as HaltedBy, NoMemory as HaltedByMemory};
 ghost use Rattle.rst_transform_substitutions.specs.Definitions.{found_by};
-ghost use Rattle.rst_transform_substitutions.specs.Expansion.{behind, copied, expanded, given, is_reference, most_met, nodes_for, path_from, size_of, told, ComesTo, Enters};
+ghost use Rattle.rst_transform_substitutions.specs.Expansion.{behind, copied, expanded, fault_text, given, is_reference, most_visited, nodes_for, path_from, size_of, ComesTo, Enters};
 
 use crate::definitions::Definitions;
 use rst_transform_work::said;
 use rst_tree::{Attrs, Children, Key, Node, Tag, Text, TreeFault};
 use std::alloc::{AllocError, AllocFailed, Global};
 
-/// The most definitions that are gone into for one reference, each met in the one before.
+/// The most definitions that are gone into for one reference, each found in the one before.
 const MOST_NESTED: usize = 100;
 
-/// The most nodes and characters that are met for one reference.
-const MOST_MET: usize = 10_000;
+/// The most nodes and characters that are visited for one reference.
+const MOST_VISITED: usize = 10_000;
 
 /// Why a reference isn't replaced.
 #[derive(Drop)]
@@ -25,14 +25,14 @@ pub enum ExpansionFault {
     Undefined(Text),
     /// The definition of this name is being replaced already.
     Circular(Text),
-    /// Too many definitions, nodes and characters are met.
+    /// Too many definitions, nodes and characters are visited.
     TooLarge,
 }
 
 impl ExpansionFault {
-    /// What is told of a reference to a name that isn't replaced.
-    pub fn told(&self, alloc: Global, name: &str) -> Result<Text, TreeFault>
-        ensures { Gives (λ text. text ≡ told name.now self.now) result }
+    /// What the message says of a reference to a name that isn't replaced.
+    pub fn text(&self, alloc: Global, name: &str) -> Result<Text, TreeFault>
+        ensures { Gives (λ text. text ≡ fault_text name.now self.now) result }
     {
         match self {
             ExpansionFault::Undefined(inner) => {
@@ -88,7 +88,7 @@ impl From<TreeFault> for Halted {
 struct Progress {
     /// The places of the definitions that stand one in another here, the outermost first.
     path: Vec<usize>,
-    /// How many more nodes and characters may be met.
+    /// How many more nodes and characters may be visited.
     left: usize,
 }
 
@@ -96,17 +96,17 @@ impl Progress {
     /// At the reference that is to be replaced; `within` is the definition that it stands in.
     fn start(alloc: Global, within: Option<usize>) -> Result<Progress, TreeFault>
         ensures path { Gives (λ progress. progress.path.items ≡ path_from within) result }
-        ensures left { Gives (λ progress. progress.left ≡ most_met) result }
+        ensures left { Gives (λ progress. progress.left ≡ most_visited) result }
     {
         Ok(Progress {
             path: path_from(alloc, within)?,
-            left: MOST_MET,
+            left: MOST_VISITED,
         })
     }
 
-    /// Counts a node that is met, and the characters of a text, if so many may still be met.
-    fn meet(&mut self, node: &Node) -> bool
-        ensures met { result ≡ nat_le (size_of node.now) self.old.left }
+    /// Counts a node that is visited, and the characters of a text, if so many may still be visited.
+    fn visit(&mut self, node: &Node) -> bool
+        ensures fits { result ≡ nat_le (size_of node.now) self.old.left }
         ensures left { result ≡ true → self.new.left + size_of node.now ≡ self.old.left }
         ensures path { self.new.path ≡ self.old.path }
     {
@@ -175,7 +175,7 @@ fn add_expanded(
     ensures left { OnOk result (progress.new.left ≤ progress.old.left) }
 {
     for node in content.as_slice() {
-        if !progress.meet(node) {
+        if !progress.visit(node) {
             return Err(Halted::By(ExpansionFault::TooLarge));
         }
         match node {

@@ -31,8 +31,8 @@ message_attrs (Some message) = attr Message (Number message.0) ∷ attr Refid (W
 message_attrs None = []
 
 -- what a problematic tells: its id, and those
-abbrev pub told : List ℕ → Option (ℕ × List ℕ) → List Attr
-told id message = attr IdsKey (Listed (id ∷ [])) ∷ message_attrs message
+abbrev pub problematic_attrs : List ℕ → Option (ℕ × List ℕ) → List Attr
+problematic_attrs id message = attr IdsKey (Listed (id ∷ [])) ∷ message_attrs message
 
 -- the next problematic of a message, which is the one at a place
 pub record IsNext (r : Report) (place : ℕ) (before after : Work) (attrs : List Attr) : Type 0 where
@@ -41,7 +41,7 @@ pub record IsNext (r : Report) (place : ℕ) (before after : Work) (attrs : List
   pub between : Ids
   pub new_id : NewId Problematic id before.ids between
   pub own_id : OwnId r.id own between after.ids
-  pub says : attrs ≡ told id (Some (r.number, own))
+  pub says : attrs ≡ problematic_attrs id (Some (r.number, own))
   pub reports : after.reports.items ≡ slice_set before.reports.items place (referring own id r)
   pub rest : after ≡ record before { ids = after.ids; reports = after.reports }
 
@@ -49,7 +49,7 @@ pub record IsNext (r : Report) (place : ℕ) (before after : Work) (attrs : List
 pub record IsAlone (before after : Work) (attrs : List Attr) : Type 0 where
   pub id : List ℕ
   pub new_id : NewId Problematic id before.ids after.ids
-  pub says : attrs ≡ told id None
+  pub says : attrs ≡ problematic_attrs id None
   pub rest : after ≡ record before { ids = after.ids }
 
 -- the next problematic of the message at a place, if there is that

@@ -7,7 +7,7 @@ mod reading;
 mod texts;
 mod work;
 
-pub use lists::{append, append_names, at_place, joined, take_list};
+pub use lists::{append, append_names, at_place, take_list};
 pub use problematics::ProblematicAttrs;
 pub use reading::{
     first_said, has, is_title, line_of, list_said, may_precede, number_said, said, text_said,

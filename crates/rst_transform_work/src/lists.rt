@@ -1,10 +1,10 @@
-//! Lists of texts among the attributes, lists of nodes, and lists of places.
-ghost use Rattle.std.specs.Prelude.{◌≡◌, ◌++◌};
+//! Lists of texts among the attributes, and lists of places.
+ghost use Rattle.std.specs.Prelude.{◌≡◌};
 ghost use Rattle.rst_tree.specs.Attributes.{without_key};
 ghost use Rattle.rst_tree.specs.Faults.{Gives};
 ghost use Rattle.rst_transform_work.specs.Lists.{at_place, listed, with_listed, with_list_of, with_names};
 
-use rst_tree::{Attrs, Key, Node, Said, Text, Texts, TreeFault, Value};
+use rst_tree::{Attrs, Key, Said, Text, Texts, TreeFault, Value};
 use std::alloc::Global;
 
 /// Takes out an attribute, and gives the texts that it lists; none where it is missing or no list.
@@ -49,16 +49,6 @@ fn append_from(alloc: Global, attrs: &mut Attrs, key: Key, from: &Attrs) -> Resu
         Some(Said::List(more)) => append(alloc, attrs, key, more),
         _ => Ok(()),
     }
-}
-
-/// The nodes, and then more.
-pub fn joined(mut nodes: Vec<Node>, more: Vec<Node>) -> Result<Vec<Node>, TreeFault>
-    ensures { Gives (λ all. all.items ≡ nodes.items ++ more.items) result }
-{
-    for node in more {
-        nodes.push(node)?;
-    }
-    Ok(nodes)
 }
 
 /// What a list of places has for one of them.

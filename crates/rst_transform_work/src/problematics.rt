@@ -1,7 +1,7 @@
 //! What problematics tell.
 ghost use Rattle.std.specs.Prelude.{◌≡◌, ◌++◌, Some, None};
 ghost use Rattle.rst_tree.specs.Faults.{Gives};
-ghost use Rattle.rst_transform_work.specs.Problematics.{message_attrs, told};
+ghost use Rattle.rst_transform_work.specs.Problematics.{message_attrs, problematic_attrs};
 
 use rst_tree::{Attrs, Entry, Key, Text, Texts, TreeFault, Value};
 use std::alloc::Global;
@@ -20,17 +20,17 @@ pub struct ProblematicAttrs {
 impl Model for ProblematicAttrs {
     ghost use Rattle.std.specs.Prelude.{List};
     ghost use Rattle.rst_tree.specs.declared.attrs.Attr.{Attr};
-    ghost use Rattle.rst_transform_work.specs.Problematics.{told};
+    ghost use Rattle.rst_transform_work.specs.Problematics.{problematic_attrs};
 
     ghost Value = { List Attr };
 
-    ghost view = { λ p. told p.id p.message };
+    ghost view = { λ p. problematic_attrs p.id p.message };
 }
 
 impl ProblematicAttrs {
     /// The problematic of an id, with the number and the id of its message.
     pub fn of(id: Text, number: u64, own: Text) -> ProblematicAttrs
-        ensures { result ≡ told id (Some (number, own)) }
+        ensures { result ≡ problematic_attrs id (Some (number, own)) }
     {
         ProblematicAttrs {
             id,
@@ -40,7 +40,7 @@ impl ProblematicAttrs {
 
     /// One of an id without message.
     pub fn alone(id: Text) -> ProblematicAttrs
-        ensures { result ≡ told id None }
+        ensures { result ≡ problematic_attrs id None }
     {
         ProblematicAttrs { id, message: None }
     }

@@ -209,7 +209,7 @@ impl Work {
         alloc: Global,
         report: usize,
     ) -> Result<ProblematicAttrs, TreeFault>
-        ensures { Gives (λ told. MakesProblematic (slice_get self.old.reports.items report) report self.old self.new told) result }
+        ensures { Gives (λ attrs. MakesProblematic (slice_get self.old.reports.items report) report self.old self.new attrs) result }
     {
         let id = self.ids.give_kind(alloc, Tag::Problematic)?;
         if report >= self.reports.len() {

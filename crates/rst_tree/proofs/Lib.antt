@@ -1,7 +1,7 @@
 pub mod Changes
 mod Plain
 pub mod PrintedParts
-mod ToldParts
+mod PrintedAttributeParts
 pub mod Attributes
 pub mod EachNode
 pub mod FirstLine

@@ -1,7 +1,7 @@
 -- What a page gathers, and what of it is written.
 use Rattle.std.proofs.Common.{◌≡◌, ℕ, ◌+◌, ◌-◌, ◌^◌, ◌≤◌, min, List, [], ◌++◌, length, take, drop, Bool, true, false, Option, Some, None, Result, Ok, Err, refl, sym, ◌∙◌, ap, arith, length-append, length-drop, append_assoc, append-nil, take-append-drop, zero-add}
-use Rattle.std.proofs.Math.Seq.{take-add, take-length, take-append-add, take-append_seam}
-use Rattle.std.proofs.lemmas.List.{take_all, take-take, length-take-le}
+use Rattle.std.proofs.Math.Seq.{take-length, take-append-add, take-append_seam}
+use Rattle.std.proofs.lemmas.List.{take-take, length-take-le}
 use Rattle.std.specs.Io.KnownBytes.{Appends}
 use Rattle.std.specs.Result.{IsOk, OnOk, OnErr, is_err}
 use Rattle.rst_tree.specs.declared.page.Page.{Page}
@@ -12,18 +12,6 @@ use Rattle.rst_tree.specs.declared.fault.PrintFault.TheVariants.{Write}
 use Rattle.rst_tree.specs.Faults.{IsEnd, Prints}
 use Rattle.rst_tree.specs.Sends.{Gets, Sends, Turns, with_page, counted_on}
 use Rattle.rst_tree.proofs.Sending.{Gets-as, ◌▸◌}
-
--- the slice from a place on
-pub slice_from : (done : ℕ) (text : List ℕ) → take (length text - done) (drop done text) ≡ drop done text
-slice_from done text = take_all (length text - done) (drop done text) (omega (arith, length-drop done text))
-
--- more bytes of a text behind its first
-pub Appends-more : (a b c : Option (List ℕ)) (done n : ℕ) (text : List ℕ) → Appends a b (take done text) → Appends b c (take n (drop done text)) → Appends a c (take (done + n) text)
-Appends-more None b c done n text p q = tt
-Appends-more (Some x) None c done n text p q = absurd p
-Appends-more (Some x) (Some y) None done n text p q = absurd q
-Appends-more (Some x) (Some y) (Some z) done n text p q =
-    q ∙ ap (λ l. l ++ take n (drop done text)) p ∙ append_assoc x (take done text) (take n (drop done text)) ∙ ap (λ l. x ++ l) (sym (take-add done n text))
 
 -- what holds of a call that gave a value
 pub ok_gives : {A E P : Type 0} (r : Result A E) → IsOk r → OnOk r P → P

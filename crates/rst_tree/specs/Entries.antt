@@ -1,21 +1,21 @@
--- The attribute that a list holds, however it is held, and what is seen of it there. No rule of markup: the standard speaks of
+-- The attribute that a list holds, however it is stored, and what is seen of it there. No rule of markup: the standard speaks of
 -- attributes as they read.
 use Rattle.std.specs.Prelude.{◌∷◌, []}
 use Rattle.rst_tree.specs.declared.attrs.Attr.{Attr}
 use Rattle.rst_tree.specs.declared.attrs.Value.{Value}
 use Rattle.rst_tree.specs.declared.attrs.Value.TheVariants.{Text, Number, List as Listed}
-use Rattle.rst_tree.specs.declared.entry.Held.{Held}
-use Rattle.rst_tree.specs.declared.entry.Held.TheVariants.{Text as HeldText, Number as HeldNumber, Lone as HeldLone, List as HeldList}
+use Rattle.rst_tree.specs.declared.entry.EntryStorage.{EntryStorage}
+use Rattle.rst_tree.specs.declared.entry.EntryStorage.TheVariants.{Text as StoredText, Number as StoredNumber, Lone as StoredLone, List as StoredList}
 use Rattle.rst_tree.specs.declared.entry.Said.{Said}
 use Rattle.rst_tree.specs.declared.entry.Said.TheVariants.{Text as SaidText, Number as SaidNumber, List as SaidList}
 use Rattle.rst_tree.specs.Attributes.{attr}
 
 -- the attribute; a list of one text lies in the value itself
-abbrev pub held_attr : Held → Attr
-held_attr (HeldText key text) = attr key (Text text)
-held_attr (HeldNumber key number) = attr key (Number number)
-held_attr (HeldLone key alloc text) = attr key (Listed (text ∷ []))
-held_attr (HeldList key list) = attr key (Listed list.items)
+abbrev pub stored_attr : EntryStorage → Attr
+stored_attr (StoredText key text) = attr key (Text text)
+stored_attr (StoredNumber key number) = attr key (Number number)
+stored_attr (StoredLone key alloc text) = attr key (Listed (text ∷ []))
+stored_attr (StoredList key list) = attr key (Listed list.items)
 
 -- what an attribute is seen to say
 abbrev pub said : Said → Value

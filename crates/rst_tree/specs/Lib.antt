@@ -6,7 +6,7 @@ pub mod LevelNames
 pub mod Attributes
 pub mod Entries
 pub mod Forest
-pub mod Told
+pub mod PrintedAttributes
 pub mod Nodes
 pub mod Falls
 pub mod Lending

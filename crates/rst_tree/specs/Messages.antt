@@ -27,7 +27,7 @@ abbrev pub note_nodes : List ℕ → Option (List ℕ) → ℕ → List Node
 note_nodes text None line = holding Paragraph [] text line ∷ []
 note_nodes text (Some shown) line = holding Paragraph [] text line ∷ literal_of shown line ∷ []
 
--- the level: the line, the source and the type are told where the message is printed
+-- the level: the line, the source and the type are added when the message is printed
 abbrev pub note_attrs : Level → List Attr
 note_attrs level = attr LevelKey (Number (level_number level)) ∷ []
 

@@ -12,8 +12,8 @@ abbrev pub kept : Node → Rewrite
 kept (Element t a c l) = Keep t a l
 kept (Text t) = Replace (Text t)
 
--- The old element became the new node as was told: that stands in its place; or it stays, with the name, attributes
--- and line that were told, and with what stood in it.
+-- The old element became the new node: another node takes its place; or it stays, with the name, the attributes and the line that
+-- are given, and with the nodes that were in it.
 abbrev pub Turned : Rewrite → Node → Node → Bool → Type 0
 Turned (Replace n) old new stays = (new ≡ n) × (stays ≡ false)
 Turned (Keep t a l) (Element t' a' c l') new stays = (new ≡ Element t a c l) × (stays ≡ true)

@@ -7,7 +7,7 @@ ghost use Rattle.rst_tree.specs.Faults.{Gives};
 use crate::attrs::Value;
 use crate::fault::TreeFault;
 use crate::key::Key;
-use crate::text::{Several, Text, Texts, copied};
+use crate::text::{Text, TextListStorage, Texts, copied};
 use std::alloc::Global;
 use std::marker::Model;
 use std::slice;
@@ -15,13 +15,13 @@ use std::slice;
 /// An attribute as a list holds it, which contracts see as the attribute.
 #[derive(Debug, Drop)]
 pub struct Entry {
-    held: Held,
+    storage: EntryStorage,
 }
 
 /// What an attribute is made of. A document has many of them, and here they take the least memory: the name and what tells
 /// the kinds of values apart lie side by side.
 #[derive(Debug, Drop)]
-enum Held {
+enum EntryStorage {
     Text(Key, Text),
     Number(Key, u64),
     /// A list of one text, which lies in the value itself.
@@ -29,7 +29,7 @@ enum Held {
     List(Key, Vec<Text>),
 }
 
-/// What an attribute says, where it is held.
+/// What an attribute says, lent from where it is stored.
 #[derive(Clone, Copy, Debug)]
 pub enum Said<'a> {
     Text(&'a Text),
@@ -42,9 +42,9 @@ impl Model for Entry {
 
     ghost Value = { Attr };
 
-    ghost use Rattle.rst_tree.specs.Entries.{held_attr};
+    ghost use Rattle.rst_tree.specs.Entries.{stored_attr};
 
-    ghost view = { λ e. held_attr e.held };
+    ghost view = { λ e. stored_attr e.storage };
 }
 
 impl Entry {
@@ -54,26 +54,26 @@ impl Entry {
     pub fn new(key: Key, value: Value) -> Entry
         ensures { result ≡ attr key value }
     {
-        let held = match value {
-            Value::Text(text) => Held::Text(key, text),
-            Value::Number(number) => Held::Number(key, number),
-            Value::List(texts) => match texts.held {
-                Several::Lone(alloc, text) => Held::Lone(key, alloc, text),
-                Several::List(list) => Held::List(key, list),
+        let storage = match value {
+            Value::Text(text) => EntryStorage::Text(key, text),
+            Value::Number(number) => EntryStorage::Number(key, number),
+            Value::List(texts) => match texts.storage {
+                TextListStorage::Lone(alloc, text) => EntryStorage::Lone(key, alloc, text),
+                TextListStorage::List(list) => EntryStorage::List(key, list),
             },
         };
-        Entry { held }
+        Entry { storage }
     }
 
     /// Its name.
     pub fn key(&self) -> Key
         ensures { result ≡ self.now.key }
     {
-        match &self.held {
-            Held::Text(key, _) => *key,
-            Held::Number(key, _) => *key,
-            Held::Lone(key, _, _) => *key,
-            Held::List(key, _) => *key,
+        match &self.storage {
+            EntryStorage::Text(key, _) => *key,
+            EntryStorage::Number(key, _) => *key,
+            EntryStorage::Lone(key, _, _) => *key,
+            EntryStorage::List(key, _) => *key,
         }
     }
 
@@ -81,11 +81,11 @@ impl Entry {
     pub fn said(&self) -> Said<'_>
         ensures { said result ≡ self.now.value }
     {
-        match &self.held {
-            Held::Text(_, text) => Said::Text(text),
-            Held::Number(_, number) => Said::Number(*number),
-            Held::Lone(_, _, text) => Said::List(slice::from_ref(text)),
-            Held::List(_, list) => Said::List(list.as_slice()),
+        match &self.storage {
+            EntryStorage::Text(_, text) => Said::Text(text),
+            EntryStorage::Number(_, number) => Said::Number(*number),
+            EntryStorage::Lone(_, _, text) => Said::List(slice::from_ref(text)),
+            EntryStorage::List(_, list) => Said::List(list.as_slice()),
         }
     }
 
@@ -93,11 +93,11 @@ impl Entry {
     pub fn into_value(self) -> Value
         ensures { result ≡ self.value }
     {
-        match self.held {
-            Held::Text(_, text) => Value::Text(text),
-            Held::Number(_, number) => Value::Number(number),
-            Held::Lone(_, alloc, text) => Value::List(Texts::lone(alloc, text)),
-            Held::List(_, list) => Value::List(Texts::of(list)),
+        match self.storage {
+            EntryStorage::Text(_, text) => Value::Text(text),
+            EntryStorage::Number(_, number) => Value::Number(number),
+            EntryStorage::Lone(_, alloc, text) => Value::List(Texts::lone(alloc, text)),
+            EntryStorage::List(_, list) => Value::List(Texts::of(list)),
         }
     }
 
@@ -105,21 +105,25 @@ impl Entry {
     pub fn copy(&self, alloc: Global) -> Result<Entry, TreeFault>
         ensures { Gives (λ e. e ≡ self.now) result }
     {
-        let held = match &self.held {
-            Held::Text(key, text) => Held::Text(*key, text.copy()?),
-            Held::Number(key, number) => Held::Number(*key, *number),
-            Held::Lone(key, alloc, text) => Held::Lone(*key, *alloc, text.copy()?),
-            Held::List(key, list) => Held::List(*key, copied(alloc, list.as_slice())?),
+        let storage = match &self.storage {
+            EntryStorage::Text(key, text) => EntryStorage::Text(*key, text.copy()?),
+            EntryStorage::Number(key, number) => EntryStorage::Number(*key, *number),
+            EntryStorage::Lone(key, alloc, text) => EntryStorage::Lone(*key, *alloc, text.copy()?),
+            EntryStorage::List(key, list) => EntryStorage::List(
+                *key,
+                copied(alloc, list.as_slice())?,
+            ),
         };
-        Ok(Entry { held })
+        Ok(Entry { storage })
     }
 
     /// Whether it isn't shown: it serves the transforms alone, or is an empty list of a name that isn't shown with one.
     pub fn is_left_out(&self) -> bool
         ensures { result ≡ is_left_out self.now }
     {
-        match &self.held {
-            Held::List(key, list) => key.is_hidden() || (list.is_empty() && key.hides_empty()),
+        match &self.storage {
+            EntryStorage::List(key, list) => key.is_hidden()
+                || (list.is_empty() && key.hides_empty()),
             _ => self.key().is_hidden(),
         }
     }

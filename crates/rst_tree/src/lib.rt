@@ -2,7 +2,6 @@
 #![tactic(auto)]
 
 mod attrs;
-mod brief;
 mod entry;
 mod fault;
 mod key;

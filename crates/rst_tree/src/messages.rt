@@ -47,7 +47,7 @@ impl Note {
 }
 
 /// The level and the number of the message, in a list with room for two more: the message's id and the ids of its problematics. The
-/// line, the source and the type are told where the message is printed.
+/// line, the source and the type are added when the message is printed.
 fn numbered_attrs(alloc: Global, level: Level, number: u64) -> Result<Attrs, TreeFault>
     ensures { Gives (λ attrs. attrs ≡ numbered_attrs number level) result }
 {

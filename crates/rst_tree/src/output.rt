@@ -6,7 +6,7 @@ ghost use Rattle.rst_tree.specs.Attributes.{attr, before, behind};
 ghost use Rattle.rst_tree.specs.Entries.{said};
 ghost use Rattle.rst_tree.specs.KeyNames.{is_hidden};
 ghost use Rattle.rst_tree.specs.Nodes.{node_height};
-ghost use Rattle.rst_tree.specs.Told.{given, told_attrs, with_source, with_told, with_type};
+ghost use Rattle.rst_tree.specs.PrintedAttributes.{given, printed_attrs, with_source, with_printed_attrs, with_type};
 ghost use Rattle.rst_tree.specs.declared.attrs.Value.TheVariants.{Text as Words, Number};
 ghost use Rattle.rst_tree.specs.declared.tag.Tag.TheVariants.{SystemMessage};
 ghost use Rattle.rst_tree.specs.Message.{message_head, block_text, message_of};
@@ -122,7 +122,7 @@ fn put_attr<W: Write, const N: usize>(out: &mut Counted<W>, page: &mut Page<N>, 
     put_byte(out, page, b'"');
 }
 
-/// Writes an element's tag with its attributes and what it tells, and the line's end.
+/// Writes an element's tag with the attributes that it is printed with, and the line's end.
 fn put_tag_line<W: Write, const N: usize>(
     out: &mut Counted<W>,
     page: &mut Page<N>,
@@ -131,17 +131,17 @@ fn put_tag_line<W: Write, const N: usize>(
     line: usize,
     source: Option<&str>,
 )
-    ensures { Sends W.contents (start_tag tag (told_attrs (given source.entry) tag attrs.now line) ++ 10 ∷ []) out.old page.old out.new page.new }
+    ensures { Sends W.contents (start_tag tag (printed_attrs (given source.entry) tag attrs.now line) ++ 10 ∷ []) out.old page.old out.new page.new }
 {
     put_byte(out, page, b'<');
     put(out, page, tag.name().as_bytes());
-    put_told_attrs(out, page, tag, attrs, line, source);
+    put_printed_attrs(out, page, tag, attrs, line, source);
     put(out, page, b">\n");
 }
 
-/// Writes the attributes of an element and what it tells: a document its source, and a message its line, its source and its type
+/// Writes the attributes that an element is printed with: a document has its source too, a message its line, its source and its type
 /// (Document Tree, `source` and `system_message`).
-fn put_told_attrs<W: Write, const N: usize>(
+fn put_printed_attrs<W: Write, const N: usize>(
     out: &mut Counted<W>,
     page: &mut Page<N>,
     tag: Tag,
@@ -149,7 +149,7 @@ fn put_told_attrs<W: Write, const N: usize>(
     line: usize,
     source: Option<&str>,
 )
-    ensures { Sends W.contents (flat_map shown_attr (told_attrs (given source.entry) tag attrs.now line)) out.old page.old out.new page.new }
+    ensures { Sends W.contents (flat_map shown_attr (printed_attrs (given source.entry) tag attrs.now line)) out.old page.old out.new page.new }
 {
     match tag {
         Tag::Document => put_source_and_type(out, page, attrs.as_slice(), source, None),
@@ -166,7 +166,7 @@ fn put_message_attrs<W: Write, const N: usize>(
     line: usize,
     source: Option<&str>,
 )
-    ensures { Sends W.contents (flat_map shown_attr (told_attrs (given source.entry) SystemMessage attrs.now line)) out.old page.old out.new page.new }
+    ensures { Sends W.contents (flat_map shown_attr (printed_attrs (given source.entry) SystemMessage attrs.now line)) out.old page.old out.new page.new }
 {
     let level = attrs.number(Key::Level);
     let rest = put_before(out, page, attrs.as_slice(), Key::Line);
@@ -213,8 +213,8 @@ fn put_with_type<W: Write, const N: usize>(
     }
 }
 
-/// Writes the first attributes, whose names come before that of one that is told, and gives those behind it. One of that name isn't
-/// among them: another is told in its place.
+/// Writes the first attributes, whose names come before the name of one that is added, and gives those after it. One of that name isn't
+/// among them: the added one takes its place.
 fn put_before<'a, W: Write, const N: usize>(
     out: &mut Counted<W>,
     page: &mut Page<N>,
@@ -341,7 +341,7 @@ fn put_text<W: Write, const N: usize>(
     }
 }
 
-/// Writes a node at a level: its first line, and the nodes in it one level deeper, each with what it tells.
+/// Writes a node at a level: its first line, and the nodes in it one level deeper, each with the attributes that it is printed with.
 pub fn put_node<W: Write, const N: usize>(
     out: &mut Counted<W>,
     page: &mut Page<N>,
@@ -350,7 +350,7 @@ pub fn put_node<W: Write, const N: usize>(
     source: Option<&str>,
 )
     requires levels { level + node_height node.now < 2 ^ 64 }
-    ensures { Sends W.contents (printed_node level (with_told (given source.entry) node.now)) out.old page.old out.new page.new }
+    ensures { Sends W.contents (printed_node level (with_printed_attrs (given source.entry) node.now)) out.old page.old out.new page.new }
 {
     match node {
         Node::Element {

@@ -1,6 +1,6 @@
 //! What is written piece by piece to a writer that may fail, gathered in a page: after a failure nothing more is written.
-ghost use Rattle.std.specs.Prelude.{◌≡◌, ◌∷◌, ◌≤◌, [], false, length, drop};
-ghost use Rattle.rst_text.specs.Counted.{has_failed, between, Gains};
+ghost use Rattle.std.specs.Prelude.{◌≡◌, ◌∷◌, ◌≤◌, [], length, drop};
+ghost use Rattle.rst_text.specs.Counted.{between};
 ghost use Rattle.rst_tree.specs.Sends.{Sends, Turns, Takes};
 ghost use Rattle.rst_tree.specs.Faults.{IsEnd};
 
@@ -114,15 +114,10 @@ fn keep_rest<const N: usize>(page: &mut Page<N>, count: usize)
 
 /// Writes the bytes, and tells how many of them were taken: all of them, unless a write failed.
 fn write<W: Write>(out: &mut Counted<W>, bytes: &[u8]) -> usize
-    requires { has_failed out.old ≡ false }
     ensures { Takes (between W.contents out.old out.new) bytes.now result }
 {
-    let mut done = 0;
-    while done < bytes.len() {
-        match out.write(&bytes[done..]) {
-            None => return done,
-            Some(count) => done += count,
-        }
+    match out.write_all(bytes) {
+        Ok(()) => bytes.len(),
+        Err(done) => done,
     }
-    done
 }

@@ -3,7 +3,7 @@ ghost use Rattle.std.specs.Prelude.{◌≡◌, false, None, Some};
 ghost use Rattle.rst_text.specs.Counted.{between, has_failed};
 ghost use Rattle.rst_tree.specs.Print.{print_of};
 ghost use Rattle.rst_tree.specs.Message.{message_of};
-ghost use Rattle.rst_tree.specs.Told.{given, with_told};
+ghost use Rattle.rst_tree.specs.PrintedAttributes.{given, with_printed_attrs};
 ghost use Rattle.rst_tree.specs.Faults.{Prints};
 
 use crate::fault::PrintFault;
@@ -23,37 +23,36 @@ const MESSAGE_PAGE: usize = 512;
 /// Prints a tree to a writer that hasn't failed: each element and each line of a text is a line, behind four spaces for
 /// each level. All attributes are printed but those that serve the transforms alone, and empty lists of ids, classes, names and
 /// references back; `xml:space` is one like any other, which the makers of literal blocks, doctest blocks, comments and addresses set.
-/// Each message tells its line and
-/// its type (Document Tree, `system_message`), which the tree itself needn't hold: the line is that of the element, and the
-/// type is that of its level.
+/// Each message is printed with its line and its type (Document Tree, `system_message`), which the tree itself needn't hold: the line
+/// is that of the element, and the type is that of its level.
 pub fn print<W: Write>(tree: &Tree, out: &mut Counted<W>) -> Result<(), PrintFault>
     requires { has_failed out.old ≡ false }
-    ensures { Prints (between W.contents out.old out.new) (print_of (with_told None tree.now)) result }
+    ensures { Prints (between W.contents out.old out.new) (print_of (with_printed_attrs None tree.now)) result }
 {
     print_given(tree, None, out)
 }
 
-/// Prints a tree to a writer that hasn't failed, with the source of its document told at the document and at its messages
-/// (Document Tree, `source`). The tree itself needn't tell it, so that nobody goes through it for that.
+/// Prints a tree to a writer that hasn't failed, with the source of its document as an attribute of the document and of its
+/// messages (Document Tree, `source`). The tree itself needn't have these attributes, so that nobody goes through it for them.
 pub fn print_with_source<W: Write>(
     tree: &Tree,
     source: &str,
     out: &mut Counted<W>,
 ) -> Result<(), PrintFault>
     requires { has_failed out.old ≡ false }
-    ensures { Prints (between W.contents out.old out.new) (print_of (with_told (Some source.now) tree.now)) result }
+    ensures { Prints (between W.contents out.old out.new) (print_of (with_printed_attrs (Some source.now) tree.now)) result }
 {
     print_given(tree, Some(source), out)
 }
 
-/// Prints a tree, with what its elements tell: the source among it, if one is given.
+/// Prints a tree, with the source if one is given.
 fn print_given<W: Write>(
     tree: &Tree,
     source: Option<&str>,
     out: &mut Counted<W>,
 ) -> Result<(), PrintFault>
     requires { has_failed out.old ≡ false }
-    ensures { Prints (between W.contents out.old out.new) (print_of (with_told (given source.entry) tree.now)) result }
+    ensures { Prints (between W.contents out.old out.new) (print_of (with_printed_attrs (given source.entry) tree.now)) result }
 {
     let mut page: Page<TREE_PAGE> = Page::new();
     put_node(out, &mut page, 0, tree.root(), source);

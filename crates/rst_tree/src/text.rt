@@ -1,28 +1,32 @@
 //! Texts and lists of them.
-ghost use Rattle.std.specs.Prelude.{◌≡◌, ◌∷◌, ◌++◌, [], string_bytes};
+ghost use Rattle.std.specs.Prelude.{◌≡◌, ◌∷◌, ◌++◌, [], IfOk, string_bytes};
 ghost use Rattle.std.specs.List.{list_all};
-ghost use Rattle.rst_text.specs.Lines.{is_line_end};
 ghost use Rattle.rst_tree.specs.Faults.{Gives, Becomes};
 ghost use Rattle.rst_tree.specs.Phrases.{phrase_text};
 ghost use Rattle.rst_tree.specs.Tree.{is_lines, is_plain_byte};
 
-use crate::brief::Brief;
 use crate::fault::TreeFault;
 use crate::phrase::Phrase;
+use arrayvec::{ArrayString, CapacityError};
+use rst_text::is_line_end;
 use std::alloc::Global;
 use std::marker::Model;
 use std::{mem, slice};
 
+/// How many bytes a text may have that lies in the value itself: ids, names and the texts of cells mostly have no more. With its
+/// length, such a text takes eight bytes more than a `String`.
+const SHORT: usize = 24;
+
 /// A text, which contracts see as the list of its bytes.
 #[derive(Debug, Drop)]
 pub struct Text {
-    held: Held,
+    storage: TextStorage,
 }
 
 /// What a text is made of. Most are short: those lie in the value itself, and take no memory. Nor do phrases.
 #[derive(Debug, Drop)]
-enum Held {
-    Short(Global, Brief),
+enum TextStorage {
+    Short(Global, ArrayString<SHORT>),
     Phrase(Global, Phrase),
     Long(String),
 }
@@ -32,9 +36,9 @@ impl Model for Text {
 
     ghost Value = { List ℕ };
 
-    ghost use Rattle.rst_tree.specs.Texts.{held_bytes};
+    ghost use Rattle.rst_tree.specs.Texts.{stored_bytes};
 
-    ghost view = { λ t. held_bytes t.held };
+    ghost view = { λ t. stored_bytes t.storage };
 }
 
 impl Text {
@@ -42,11 +46,11 @@ impl Text {
     pub fn new(string: String) -> Text
         ensures { result ≡ string_bytes string }
     {
-        let held = match Brief::of(string.as_str()) {
-            Some(short) => Held::Short(*string.allocator(), short),
-            None => Held::Long(string),
+        let storage = match ArrayString::from(string.as_str()) {
+            Ok(short) => TextStorage::Short(*string.allocator(), short),
+            Err(_) => TextStorage::Long(string),
         };
-        Text { held }
+        Text { storage }
     }
 
     /// The text that a phrase is.
@@ -54,7 +58,7 @@ impl Text {
         ensures { result ≡ phrase_text phrase }
     {
         Text {
-            held: Held::Phrase(alloc, phrase),
+            storage: TextStorage::Phrase(alloc, phrase),
         }
     }
 
@@ -62,32 +66,32 @@ impl Text {
     pub fn from_str(alloc: Global, text: &str) -> Result<Text, TreeFault>
         ensures { Gives (λ t. t ≡ text.now) result }
     {
-        let held = match Brief::of(text) {
-            Some(short) => Held::Short(alloc, short),
-            None => Held::Long(String::from_str(alloc, text)?),
+        let storage = match ArrayString::from(text) {
+            Ok(short) => TextStorage::Short(alloc, short),
+            Err(_) => TextStorage::Long(String::from_str(alloc, text)?),
         };
-        Ok(Text { held })
+        Ok(Text { storage })
     }
 
     /// Three texts, one behind the other, as one.
     pub fn of_three(alloc: Global, front: &str, middle: &str, back: &str) -> Result<Text, TreeFault>
         ensures { Gives (λ t. t ≡ front.now ++ (middle.now ++ back.now)) result }
     {
-        let held = match Brief::of_three(front, middle, back) {
-            Some(short) => Held::Short(alloc, short),
-            None => Held::Long(joined(alloc, front, middle, back)?),
+        let storage = match short_joined(front, middle, back) {
+            Ok(short) => TextStorage::Short(alloc, short),
+            Err(_) => TextStorage::Long(joined(alloc, front, middle, back)?),
         };
-        Ok(Text { held })
+        Ok(Text { storage })
     }
 
     /// The text as a `str`.
     pub fn as_str(&self) -> &str
         ensures { result.now ≡ self.now }
     {
-        match &self.held {
-            Held::Short(_, short) => short.as_str(),
-            Held::Phrase(_, phrase) => phrase.text(),
-            Held::Long(string) => string.as_str(),
+        match &self.storage {
+            TextStorage::Short(_, short) => short.as_str(),
+            TextStorage::Phrase(_, phrase) => phrase.text(),
+            TextStorage::Long(string) => string.as_str(),
         }
     }
 
@@ -109,12 +113,12 @@ impl Text {
     pub fn copy(&self) -> Result<Text, TreeFault>
         ensures { Gives (λ t. t ≡ self.now) result }
     {
-        match &self.held {
-            Held::Short(alloc, short) => Ok(Text {
-                held: Held::Short(*alloc, short.copy()),
+        match &self.storage {
+            TextStorage::Short(alloc, short) => Ok(Text {
+                storage: TextStorage::Short(*alloc, *short),
             }),
-            Held::Phrase(alloc, phrase) => Ok(Text::of_phrase(*alloc, *phrase)),
-            Held::Long(string) => Text::from_str(*string.allocator(), string.as_str()),
+            TextStorage::Phrase(alloc, phrase) => Ok(Text::of_phrase(*alloc, *phrase)),
+            TextStorage::Long(string) => Text::from_str(*string.allocator(), string.as_str()),
         }
     }
 
@@ -122,30 +126,20 @@ impl Text {
     pub fn push_str(&mut self, text: &str) -> Result<(), TreeFault>
         ensures { Becomes self.old self.new (self.old ++ text.now) result }
     {
-        match &mut self.held {
-            Held::Short(alloc, front) => {
+        match &mut self.storage {
+            TextStorage::Short(alloc, front) => {
                 let alloc = *alloc;
-                if !front.append(text) {
-                    self.held = Held::Long(joined(alloc, front.as_str(), text, "")?);
+                if front.try_push_str(text).is_err() {
+                    self.storage = TextStorage::Long(joined(alloc, front.as_str(), text, "")?);
                 }
             }
-            Held::Phrase(alloc, phrase) => {
-                self.held = Held::Long(joined(*alloc, phrase.text(), text, "")?);
+            TextStorage::Phrase(alloc, phrase) => {
+                self.storage = TextStorage::Long(joined(*alloc, phrase.text(), text, "")?);
             }
-            Held::Long(string) => string.push_str(text)?,
+            TextStorage::Long(string) => string.push_str(text)?,
         }
         Ok(())
     }
-}
-
-/// Whether a character ends a line.
-fn is_line_end(c: char) -> bool
-    ensures { result ≡ is_line_end c }
-{
-    matches!(
-        c,
-        '\n' | '\r' | '\u{1C}'..='\u{1E}' | '\u{85}' | '\u{2028}' | '\u{2029}'
-    )
 }
 
 /// Whether a byte is LF, or ASCII from the space on.
@@ -166,6 +160,20 @@ fn is_plain(bytes: &[u8]) -> bool
     plain
 }
 
+/// Three texts, one behind the other, in the value itself, unless they are too long.
+fn short_joined<'a>(
+    front: &'a str,
+    middle: &'a str,
+    back: &'a str,
+) -> Result<ArrayString<SHORT>, CapacityError<&'a str>>
+    ensures { IfOk result (λ s. s.bytes ≡ front.now ++ (middle.now ++ back.now)) }
+{
+    let mut short = ArrayString::from(front)?;
+    short.try_push_str(middle)?;
+    short.try_push_str(back)?;
+    Ok(short)
+}
+
 /// Three texts, one behind the other, in room for them alone.
 fn joined(alloc: Global, front: &str, middle: &str, back: &str) -> Result<String, TreeFault>
     ensures { Gives (λ s. string_bytes s ≡ front.now ++ (middle.now ++ back.now)) result }
@@ -184,12 +192,12 @@ fn joined(alloc: Global, front: &str, middle: &str, back: &str) -> Result<String
 /// A list of texts, which contracts see as the list of their bytes.
 #[derive(Debug, Drop)]
 pub struct Texts {
-    pub(crate) held: Several,
+    pub(crate) storage: TextListStorage,
 }
 
 /// What a list of texts is made of. Most have one text, which lies in the value itself.
 #[derive(Debug, Drop)]
-pub(crate) enum Several {
+pub(crate) enum TextListStorage {
     Lone(Global, Text),
     List(Vec<Text>),
 }
@@ -199,9 +207,9 @@ impl Model for Texts {
 
     ghost Value = { List (List ℕ) };
 
-    ghost use Rattle.rst_tree.specs.Texts.{several_texts};
+    ghost use Rattle.rst_tree.specs.Texts.{stored_texts};
 
-    ghost view = { λ t. several_texts t.held };
+    ghost view = { λ t. stored_texts t.storage };
 }
 
 impl Texts {
@@ -217,7 +225,7 @@ impl Texts {
         ensures { result ≡ text ∷ [] }
     {
         Texts {
-            held: Several::Lone(alloc, text),
+            storage: TextListStorage::Lone(alloc, text),
         }
     }
 
@@ -226,7 +234,7 @@ impl Texts {
         ensures { result ≡ list.items }
     {
         Texts {
-            held: Several::List(list),
+            storage: TextListStorage::List(list),
         }
     }
 
@@ -234,9 +242,9 @@ impl Texts {
     pub fn as_slice(&self) -> &[Text]
         ensures { result.now ≡ self.now }
     {
-        match &self.held {
-            Several::Lone(_, text) => slice::from_ref(text),
-            Several::List(list) => list.as_slice(),
+        match &self.storage {
+            TextListStorage::Lone(_, text) => slice::from_ref(text),
+            TextListStorage::List(list) => list.as_slice(),
         }
     }
 
@@ -244,24 +252,24 @@ impl Texts {
     pub fn push(&mut self, text: Text) -> Result<(), TreeFault>
         ensures { Becomes self.old self.new (self.old ++ text ∷ []) result }
     {
-        match &mut self.held {
-            Several::Lone(alloc, _) => {
+        match &mut self.storage {
+            TextListStorage::Lone(alloc, _) => {
                 let alloc = *alloc;
                 let mut list = Vec::with_capacity(alloc, 2)?;
-                if let Several::Lone(_, first) = mem::replace(
-                    &mut self.held,
-                    Several::List(Vec::new(alloc)),
+                if let TextListStorage::Lone(_, first) = mem::replace(
+                    &mut self.storage,
+                    TextListStorage::List(Vec::new(alloc)),
                 ) {
                     list.push_reserved(first);
                 }
                 list.push_reserved(text);
-                self.held = Several::List(list);
+                self.storage = TextListStorage::List(list);
             }
-            Several::List(list) if list.is_empty() => {
+            TextListStorage::List(list) if list.is_empty() => {
                 let alloc = *list.allocator();
-                self.held = Several::Lone(alloc, text);
+                self.storage = TextListStorage::Lone(alloc, text);
             }
-            Several::List(list) => list.push(text)?,
+            TextListStorage::List(list) => list.push(text)?,
         }
         Ok(())
     }

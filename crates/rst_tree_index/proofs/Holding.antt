@@ -16,8 +16,8 @@ use Rattle.rst_tree.specs.Nodes.{forest_of, nodes_of}
 use Rattle.rst_tree.proofs.Changes.{forest_of-nodes_of}
 use Rattle.rst_tree.specs.Walk.{Item, item, items, node_items}
 use Rattle.rst_tree_index.specs.declared.kinds.Kinds.{Kinds}
-use Rattle.rst_tree_index.specs.Held.{either, is_internal, is_message, is_of_footnotes, is_substitution, is_target, is_transition, kinds_of}
-use Rattle.rst_tree_index.specs.Linked.{is_linked}
+use Rattle.rst_tree_index.specs.Kinds.{either, is_internal, is_message, is_of_footnotes, is_substitution, is_target, is_transition, kinds_of}
+use Rattle.rst_tree_index.specs.LinkedTags.{is_linked_tag}
 
 or_false : (b : Bool) → b ≡ (b || false)
 or_false true = refl
@@ -84,55 +84,55 @@ kinds_pushed self child t a c c' l held inner now is pushed old more all =
     all ∙ (rw (old, more, is, e) (either-append (kinds_of []) (item t a l ∷ items c) (node_items child)))
 
 -- an element on which no transform acts
-pub unnoted : (k : Kinds) (t : Tag) (a : List Attr) → is_linked t ≡ false → (t ≡ SubstitutionReference → ⊥) → (t ≡ SystemMessage → ⊥) → (t ≡ Transition → ⊥) → k ≡ either k (kinds_of (item t a 0 ∷ []))
-unnoted k SubstitutionReference a other u v w = absurd (u refl)
-unnoted k SystemMessage a other u v w = absurd (v refl)
-unnoted k Transition a other u v w = absurd (w refl)
-unnoted k Citation a other u v w = absurd (cc)
-unnoted k CitationReference a other u v w = absurd (cc)
-unnoted k Footnote a other u v w = absurd (cc)
-unnoted k FootnoteReference a other u v w = absurd (cc)
-unnoted k Label a other u v w = absurd (cc)
-unnoted k Reference a other u v w = absurd (cc)
-unnoted k Target a other u v w = absurd (cc)
-unnoted k _ a other u v w = either_none k
+pub added_none : (k : Kinds) (t : Tag) (a : List Attr) → is_linked_tag t ≡ false → (t ≡ SubstitutionReference → ⊥) → (t ≡ SystemMessage → ⊥) → (t ≡ Transition → ⊥) → k ≡ either k (kinds_of (item t a 0 ∷ []))
+added_none k SubstitutionReference a other u v w = absurd (u refl)
+added_none k SystemMessage a other u v w = absurd (v refl)
+added_none k Transition a other u v w = absurd (w refl)
+added_none k Citation a other u v w = absurd (cc)
+added_none k CitationReference a other u v w = absurd (cc)
+added_none k Footnote a other u v w = absurd (cc)
+added_none k FootnoteReference a other u v w = absurd (cc)
+added_none k Label a other u v w = absurd (cc)
+added_none k Reference a other u v w = absurd (cc)
+added_none k Target a other u v w = absurd (cc)
+added_none k _ a other u v w = either_none k
 
 module _ (k : Kinds) (a : List Attr) (anonymous : Bool) (own : anonymous ≡ (k.anonymous || is_some (value_of Anonymous a))) where
   owned : anonymous ≡ (k.anonymous || (is_some (value_of Anonymous a) || false))
   owned = own ∙ ap (λ b. k.anonymous || b) (or_false (is_some (value_of Anonymous a)))
 
   -- a target
-  pub noted_target : (t : Tag) (targets indirect : Bool) → t ≡ Target → targets ≡ (k.targets || is_internal (item t a 0)) → indirect ≡ (k.indirect || is_some (value_of Refname a))
+  pub added_target : (t : Tag) (targets indirect : Bool) → t ≡ Target → targets ≡ (k.targets || is_internal (item t a 0)) → indirect ≡ (k.indirect || is_some (value_of Refname a))
       → ◌≡◌ {A = Kinds} record { messages = k.messages; substitutions = k.substitutions; targets = targets; anonymous = anonymous; indirect = indirect; footnotes = k.footnotes; links = true; transitions = k.transitions }
       (either k (kinds_of (item t a 0 ∷ [])))
-  noted_target t targets indirect is inside naming =
+  added_target t targets indirect is inside naming =
       rw is (same _ (either k (kinds_of (item Target a 0 ∷ []))) (or_false k.messages) (or_false k.substitutions)
       (inside ∙ ap (λ z. k.targets || is_internal (item z a 0)) is ∙ ap (λ b. k.targets || b) (or_false (is_internal (item Target a 0)))) owned
       (naming ∙ ap (λ b. k.indirect || b) (or_false (is_some (value_of Refname a)))) (or_false k.footnotes) (or_true k.links) (or_false k.transitions))
 
   -- another that is linked, of footnotes or not
-  linked_as : (footnotes : Bool) (t : Tag) → footnotes ≡ (k.footnotes || is_of_footnotes t) → is_linked t ≡ true → is_target t ≡ false → is_message t ≡ false → is_substitution t ≡ false → is_transition t ≡ false
+  linked_as : (footnotes : Bool) (t : Tag) → footnotes ≡ (k.footnotes || is_of_footnotes t) → is_linked_tag t ≡ true → is_target t ≡ false → is_message t ≡ false → is_substitution t ≡ false → is_transition t ≡ false
       → ◌≡◌ {A = Kinds} record { messages = k.messages; substitutions = k.substitutions; targets = k.targets; anonymous = anonymous; indirect = k.indirect; footnotes = footnotes; links = true; transitions = k.transitions }
       (either k (kinds_of (item t a 0 ∷ [])))
   linked_as footnotes t of linked no_target no_message no_substitution no_transition =
       rw (linked, no_target, no_message, no_substitution, no_transition) (same _ _ (or_false k.messages) (or_false k.substitutions) (or_false k.targets) owned (or_false k.indirect)
       (of ∙ ap (λ b. k.footnotes || b) (or_false (is_of_footnotes t))) (or_true k.links) (or_false k.transitions))
 
-  pub noted_footnote : (t : Tag) → (t ≡ Footnote) ⊎ (t ≡ FootnoteReference)
+  pub added_footnote : (t : Tag) → (t ≡ Footnote) ⊎ (t ≡ FootnoteReference)
       → ◌≡◌ {A = Kinds} record { messages = k.messages; substitutions = k.substitutions; targets = k.targets; anonymous = anonymous; indirect = k.indirect; footnotes = true; links = true; transitions = k.transitions }
       (either k (kinds_of (item t a 0 ∷ [])))
-  noted_footnote t is =
+  added_footnote t is =
       ⊎_elim (λ e. rw e (linked_as true Footnote (or_true k.footnotes) refl refl refl refl refl))
       (λ e. rw e (linked_as true FootnoteReference (or_true k.footnotes) refl refl refl refl refl)) is
 
-  pub noted_other : (t : Tag) → is_linked t ≡ true → (t ≡ Footnote → ⊥) → (t ≡ FootnoteReference → ⊥) → (t ≡ Target → ⊥)
+  pub added_other : (t : Tag) → is_linked_tag t ≡ true → (t ≡ Footnote → ⊥) → (t ≡ FootnoteReference → ⊥) → (t ≡ Target → ⊥)
       → ◌≡◌ {A = Kinds} record { messages = k.messages; substitutions = k.substitutions; targets = k.targets; anonymous = anonymous; indirect = k.indirect; footnotes = k.footnotes; links = true; transitions = k.transitions }
       (either k (kinds_of (item t a 0 ∷ [])))
-  noted_other Footnote linked u v w = absurd (u refl)
-  noted_other FootnoteReference linked u v w = absurd (v refl)
-  noted_other Target linked u v w = absurd (w refl)
-  noted_other Citation linked u v w = linked_as k.footnotes Citation (or_false k.footnotes) refl refl refl refl refl
-  noted_other CitationReference linked u v w = linked_as k.footnotes CitationReference (or_false k.footnotes) refl refl refl refl refl
-  noted_other Label linked u v w = linked_as k.footnotes Label (or_false k.footnotes) refl refl refl refl refl
-  noted_other Reference linked u v w = linked_as k.footnotes Reference (or_false k.footnotes) refl refl refl refl refl
-  noted_other _ linked u v w = absurd (cc)
+  added_other Footnote linked u v w = absurd (u refl)
+  added_other FootnoteReference linked u v w = absurd (v refl)
+  added_other Target linked u v w = absurd (w refl)
+  added_other Citation linked u v w = linked_as k.footnotes Citation (or_false k.footnotes) refl refl refl refl refl
+  added_other CitationReference linked u v w = linked_as k.footnotes CitationReference (or_false k.footnotes) refl refl refl refl refl
+  added_other Label linked u v w = linked_as k.footnotes Label (or_false k.footnotes) refl refl refl refl refl
+  added_other Reference linked u v w = linked_as k.footnotes Reference (or_false k.footnotes) refl refl refl refl refl
+  added_other _ linked u v w = absurd (cc)

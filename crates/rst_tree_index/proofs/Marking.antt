@@ -13,20 +13,20 @@ use Rattle.rst_tree.specs.Nodes.{forest_of, nodes_of}
 use Rattle.rst_tree.specs.Walk.{Item, item, items, node_items, after, walked, walked_node}
 use Rattle.rst_tree.proofs.Walks.{after-append}
 use Rattle.rst_tree.proofs.Changes.{forest_of-nodes_of, nodes_of-forest_of, map_at-set, slice_get-none, slice_get-some}
-use Rattle.rst_tree_index.specs.Marks.{Place, path_of, deeper, later, own_place, places, own_mark, marks_of, heeded_out, heeded_next, with_one, retold, after_one}
+use Rattle.rst_tree_index.specs.Marks.{Place, path_of, deeper, later, own_place, places, own_mark, marks_of, heeded_out, heeded_next, with_one, map_item, after_one}
 
 module _ {S : Type 0} (next : S → Item → S) (out : S → Item → Item) where
   -- a state and the nodes, after the element at a place
   abbrev pub visited : Place → S × Forest → S × Forest
   visited p w =
-      (after_one next w.0 (option_and_then (node_at p.1) (slice_get (nodes_of w.1) p.0)), forest_of (map_at (changed_at (retold (out w.0)) p.1) p.0 (nodes_of w.1)))
+      (after_one next w.0 (option_and_then (node_at p.1) (slice_get (nodes_of w.1) p.0)), forest_of (map_at (changed_at (map_item (out w.0)) p.1) p.0 (nodes_of w.1)))
 
   abbrev pub many : List Place → S × Forest → S × Forest
   many [] w = w
   many (p ∷ ps) w = many ps (visited p w)
 
   abbrev pub visited_node : List ℕ → S × Node → S × Node
-  visited_node p w = (after_one next w.0 (node_at p w.1), changed_at (retold (out w.0)) p w.1)
+  visited_node p w = (after_one next w.0 (node_at p w.1), changed_at (map_item (out w.0)) p w.1)
 
   abbrev pub many_node : List (List ℕ) → S × Node → S × Node
   many_node [] w = w
@@ -151,7 +151,7 @@ pub node_none : (node : Node) (t : Tag) (a : List Attr) (c : Forest) (l : ℕ) (
 node_none node t a c l steps rest place is parts past = rw (is, parts, at_end rest place, slice_get-none (nodes_of c) place past) refl
 
 -- a text has no element
-pub changed_text : (f : Item → Item) (node : Node) (t : List ℕ) (p : List ℕ) → node ≡ Text t → node ≡ changed_at (retold f) p node
+pub changed_text : (f : Item → Item) (node : Node) (t : List ℕ) (p : List ℕ) → node ≡ Text t → node ≡ changed_at (map_item f) p node
 changed_text f node t [] is = rw is refl
 changed_text f node t (i ∷ p) is = rw is refl
 
@@ -298,9 +298,9 @@ map_at-same f same i [] = refl
 map_at-same f same zero (x ∷ xs) = ap (λ z. z ∷ xs) (same x)
 map_at-same f same (suc i) (x ∷ xs) = ap (λ zs. x ∷ zs) (map_at-same f same i xs)
 
-retold-same : (n : Node) → retold (λ x. x) n ≡ n
-retold-same (Element t a c l) = refl
-retold-same (Text t) = refl
+map_item-same : (n : Node) → map_item (λ x. x) n ≡ n
+map_item-same (Element t a c l) = refl
+map_item-same (Text t) = refl
 
 changed_at-same : (f : Node → Node) (same : (n : Node) → f n ≡ n) (p : List ℕ) (n : Node) → changed_at f p n ≡ n
 changed_at-same f same [] n = same n
@@ -320,7 +320,7 @@ after-filter needs s (x ∷ xs) =
 pub read_more : (marks : List (List ℕ)) (p : List ℕ) (i : ℕ) (node : Node) (old new start : List Item) → i < length marks → p ≡ get_or marks i p
     → new ≡ after_one with_one old (node_at p node) → (read_node (drop i marks) (old, node)).0 ≡ start → (read_node (drop (i + 1) marks) (new, node)).0 ≡ start
 read_more marks p i node old new start fits at is left =
-    ap (λ z. (read_node (drop (i + 1) marks) z).0) (ap (λ z. (z, node)) is ∙ ap (λ z. (after_one with_one old (node_at p node), z)) (sym (changed_at-same (retold (λ x. x)) retold-same p node)))
+    ap (λ z. (read_node (drop (i + 1) marks) z).0) (ap (λ z. (z, node)) is ∙ ap (λ z. (after_one with_one old (node_at p node), z)) (sym (changed_at-same (map_item (λ x. x)) map_item-same p node)))
     ∙ ap (λ z. (read_node (drop (i + 1) marks) (visited_node with_one (λ s x. x) z (old, node))).0) at
     ∙ sym (ap (λ z. (read_node z (old, node)).0) (drop_more marks i p fits))
     ∙ left

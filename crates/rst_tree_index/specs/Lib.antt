@@ -1,4 +1,4 @@
 pub mod Registered
 pub mod Marks
-pub mod Linked
-pub mod Held
+pub mod LinkedTags
+pub mod Kinds

@@ -1,8 +1,8 @@
 //! Which kinds of elements that transforms act on a node holds.
 ghost use Rattle.std.specs.Prelude.{◌≡◌, ◌∷◌, [], true};
 ghost use Rattle.rst_tree.specs.Walk.{item};
-ghost use Rattle.rst_tree_index.specs.Held.{either, is_internal, kinds_of};
-ghost use Rattle.rst_tree_index.specs.Linked.{is_linked};
+ghost use Rattle.rst_tree_index.specs.Kinds.{either, is_internal, kinds_of};
+ghost use Rattle.rst_tree_index.specs.LinkedTags.{is_linked_tag};
 
 use rst_tree::{Attrs, Key, Tag};
 
@@ -29,8 +29,8 @@ pub struct Kinds {
 }
 
 /// Whether elements of this kind refer to others, or are what others refer to; a label stands for its footnote.
-pub fn is_linked(tag: Tag) -> bool
-    ensures { result ≡ is_linked tag }
+pub fn is_linked_tag(tag: Tag) -> bool
+    ensures { result ≡ is_linked_tag tag }
 {
     matches!(
         tag,
@@ -72,11 +72,11 @@ impl Kinds {
     }
 
     /// Takes in an element. Its line says nothing of its kind.
-    pub(crate) fn note(&mut self, tag: Tag, attrs: &Attrs)
+    pub(crate) fn add(&mut self, tag: Tag, attrs: &Attrs)
         ensures { self.new ≡ either self.old (kinds_of (item tag attrs.now 0 ∷ [])) }
     {
-        if is_linked(tag) {
-            self.note_linked(tag, attrs);
+        if is_linked_tag(tag) {
+            self.add_linked(tag, attrs);
             return;
         }
         match tag {
@@ -88,8 +88,8 @@ impl Kinds {
     }
 
     /// Takes in an element at one of the two ends of a link.
-    fn note_linked(&mut self, tag: Tag, attrs: &Attrs)
-        requires { is_linked tag ≡ true }
+    fn add_linked(&mut self, tag: Tag, attrs: &Attrs)
+        requires { is_linked_tag tag ≡ true }
         ensures { self.new ≡ either self.old (kinds_of (item tag attrs.now 0 ∷ [])) }
     {
         self.links = true;

@@ -4,5 +4,5 @@
 mod kinds;
 mod marks;
 
-pub use kinds::{Kinds, is_internal, is_linked};
+pub use kinds::{Kinds, is_internal, is_linked_tag};
 pub use marks::{Element, Marked, Path};

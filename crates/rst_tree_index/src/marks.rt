@@ -4,8 +4,8 @@ ghost use Rattle.std.specs.List.{filter};
 ghost use Rattle.rst_tree.specs.Faults.{Gives, Becomes};
 ghost use Rattle.rst_tree.specs.Paths.{node_at, changed_at};
 ghost use Rattle.rst_tree.specs.Walk.{item, node_items, after, scanned, walked_node, node_shape};
-ghost use Rattle.rst_tree_index.specs.Held.{either, kinds_of};
-ghost use Rattle.rst_tree_index.specs.Marks.{marks_of, own_mark, with_one, heeded_next, heeded_out, retold, after_one};
+ghost use Rattle.rst_tree_index.specs.Kinds.{either, kinds_of};
+ghost use Rattle.rst_tree_index.specs.Marks.{marks_of, own_mark, with_one, heeded_next, heeded_out, map_item, after_one};
 ghost use Rattle.rst_tree_index.specs.Registered.{is_registered_kind, is_registered_key, has_registered_key, is_registered, item_of};
 
 use crate::kinds::Kinds;
@@ -143,7 +143,7 @@ fn add_element<'a>(
 
 /// Visits the element at a path, given from its end on, if there is one.
 fn visit_at<V: Visitor>(node: &mut Node, steps: &[u32], visitor: &mut V) -> Result<(), TreeFault>
-    ensures node { Gives (λ _. node.new ≡ changed_at (retold (V.out visitor.old)) (reverse steps.now) node.old) result }
+    ensures node { Gives (λ _. node.new ≡ changed_at (map_item (V.out visitor.old)) (reverse steps.now) node.old) result }
     ensures state { Gives (λ _. visitor.new ≡ after_one V.next visitor.old (node_at (reverse steps.now) node.old)) result }
 {
     if let Node::Element {
@@ -257,7 +257,7 @@ fn add_marks(
         line,
     } = node
     {
-        kinds.note(*tag, attrs);
+        kinds.add(*tag, attrs);
         add_own(alloc, *tag, attrs, *line, marks)?;
         let nodes = children.as_slice();
         for place in 0..nodes.len() {
@@ -292,7 +292,7 @@ impl Model for Marked {
     ghost coded = { Prim.hlevel (codes, node.the_row.coded) };
 
     ghost use Rattle.rst_tree.specs.Walk.{node_items};
-    ghost use Rattle.rst_tree_index.specs.Held.{kinds_of};
+    ghost use Rattle.rst_tree_index.specs.Kinds.{kinds_of};
     ghost use Rattle.rst_tree_index.specs.Marks.{marks_of};
     ghost use Rattle.rst_tree_index.specs.Registered.{is_registered};
 
@@ -342,7 +342,7 @@ impl Marked {
         let mut marks = Vec::new(alloc);
         add_own(alloc, tag, &attrs, line, &mut marks)?;
         let mut kinds = Kinds::none();
-        kinds.note(tag, &attrs);
+        kinds.add(tag, &attrs);
         let root = Node::Element {
             tag,
             attrs,

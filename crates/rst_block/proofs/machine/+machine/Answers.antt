@@ -1,7 +1,7 @@
 use Rattle.std.proofs.Common.{◌≡◌, ℕ, ◌+◌, ◌-◌, ◌*◌, ◌^◌, ◌<◌, [], ◌∷◌, length, length-append, length-drop, drop, arith, sym, ap, ◌∙◌}
 use Rattle.std.proofs.lemmas.List.{drop-append-le}
 use Rattle.rst_text.specs.Block.{Block}
-use Rattle.rst_text.specs.Shown.{block_of, source_of, portion_block}
+use Rattle.rst_text.specs.Shown.{block_of, source_of, placement_block}
 use Rattle.rst_block.specs.declared.frame.Frame.{Frame}
 use Rattle.rst_block.specs.declared.step.Step.TheVariants.{Next, Open, Cells}
 use Rattle.rst_block.proofs.Stack.{left, parts_left, now_of_resumed, cost_of_resumed, goes_on, stepped, opens, resumes, waits_again, second_left, parts_at_most, parts_at_least, taken, placed}
@@ -36,7 +36,7 @@ read_blocks-loop-now-smaller-else-inner-gt-DEEPEST t c =
     let S : Block = source_of c.args.whole in
     let B : Block = block_of c.loop-now.view in
     let f : Frame = c.opened.result in
-    let same : portion_block S f.portion ≡ B = ap (λ (T : Block). portion_block T f.portion) (sym c.loop-now.invariant.text) ∙ c.opened.ensures.block in
+    let same : placement_block S f.placement ≡ B = ap (λ (T : Block). placement_block T f.placement) (sym c.loop-now.invariant.text) ∙ c.opened.ensures.block in
     let fewer : left S f < 5 * (length B - c.loop-now.level.at) + 5 = omega (arith, ap length same, c.opened.ensures.at, parts_at_most f.second) in
     let few : length (drop c.len-base.result c.loop-now.frames.items) < 250 - c.args.depth = omega (arith, length-drop c.len-base.result c.loop-now.frames.items, c.len.ensures.value, c.if-inner-gt-DEEPEST.false, c.loop-now.invariant.base) in
     rw (c.in-Open.is, c.opened.ensures.begin, c.push.ensures.items, drop-append-le c.len-base.result c.loop-now.frames.items (f ∷ []) c.loop-now.invariant.base)
@@ -66,7 +66,7 @@ read_blocks-loop-now-smaller-in-Waiting t c =
     let some : c.len-base.result < length c.loop-now.frames.items = c.in-Some.ensures.some.1 in
     let off = taken S c.len-base.result c.loop-now.frames.items c.last_of.new.frames.items f c.in-Some.ensures.some.0 some c.loop-now.invariant.waiting in
     let e = rw c.in-Waiting.is at c.in_ok-frame-in-Some.ensures.ended in
-    let lines : length (portion_block S g.portion) ≡ length (portion_block S f.portion) = ap (λ p. length (portion_block S p)) e.1 in
+    let lines : length (placement_block S g.placement) ≡ length (placement_block S f.placement) = ap (λ p. length (placement_block S p)) e.1 in
     let fewer : left S g < left S f = omega (arith, lines, e.2, ap parts_left e.3, second_left f.second e.4) in
     let few : length (drop c.len-base.result c.last_of.new.frames.items) < 250 - c.args.depth = omega (arith, length-drop c.len-base.result c.last_of.new.frames.items, ap length c.in-Some.ensures.some.0, length-append c.last_of.new.frames.items (f ∷ []), c.loop-now.invariant.room, some) in
     rw (e.7, c.push-in-Waiting.ensures.items, drop-append-le c.len-base.result c.last_of.new.frames.items (g ∷ []) off.0, off.1)

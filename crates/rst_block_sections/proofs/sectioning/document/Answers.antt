@@ -5,14 +5,14 @@ use Rattle.std.proofs.lemmas.List.{nil_from_length}
 use Rattle.rst_tree.specs.Faults.{Gives}
 use Rattle.rst_tree.specs.declared.node.Node.{Node}
 use Rattle.rst_block_sections.specs.OpenSections.{goes_on}
-use Rattle.rst_block_sections.specs.Sections.{items_from, sections_of}
+use Rattle.rst_block_sections.specs.Sections.{document_of, items_from}
 use Rattle.rst_block_sections.proofs.SectionLemmas.{untitled, title_met, last_met}
 use Rattle.rst_block_sections.proofs.sectioning.document.Goals as goal
 
 pub returns-then-is_empty : goal.returns-then-is_empty
 returns-then-is_empty c =
     let none : c.args.headings.items ≡ [] = nil_from_length _ (sym c.args.headings.ok.0 ∙ eqb-true _ 0 (sym c.is_empty.ensures ∙ c.if-is_empty.true)) in
-    (rw c.new-attrs.ensures at c.element_of.ensures) ∙ untitled c.args.nodes.items ∙ ap (sections_of c.args.nodes.items) (sym none)
+    (rw c.new-attrs.ensures at c.element_of.ensures) ∙ untitled c.args.nodes.items ∙ ap (λ hs. document_of (items_from 0 c.args.nodes.items hs)) (sym none)
 
 pub loop-heading-preserved : goal.loop-heading-preserved
 loop-heading-preserved c =

@@ -1,9 +1,9 @@
 use Rattle.std.proofs.Common.{◌≡◌}
 use Rattle.std.specs.Vec.Iter.{into_iter_items}
 use Rattle.rst_block_sections.specs.OpenSections.{goes_on}
-use Rattle.rst_block_sections.specs.Sections.{items_from, sections_of}
+use Rattle.rst_block_sections.specs.Sections.{document_of, items_from}
 use Rattle.rst_block_sections.proofs.sectioning.document.Given as goal
 
 abbrev pub invariant-loop-heading : goal.invariant-loop-heading
 invariant-loop-heading l =
-    goes_on l.sections (items_from l.done (into_iter_items l.nodes) (into_iter_items l.heading-iterator)) ≡ sections_of l.fn.nodes.items l.fn.headings.items
+    goes_on l.sections (items_from l.done (into_iter_items l.nodes) (into_iter_items l.heading-iterator)) ≡ document_of (items_from 0 l.fn.nodes.items l.fn.headings.items)

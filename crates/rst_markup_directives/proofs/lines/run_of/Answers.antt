@@ -1,4 +1,5 @@
 use Rattle.std.proofs.Common.{◌≡◌, ◌+◌, ◌++◌, [], ◌∷◌, false, drop, length, sym, ap, ◌∙◌, arith, length-append}
+use Rattle.std.specs.Str.{chars}
 use Rattle.rst_text.specs.Block.{is_blank}
 use Rattle.rst_text.specs.Shown.{block_of}
 use Rattle.rst_markup_directives.specs.Lines.{texts_of, first_run}
@@ -7,11 +8,11 @@ use Rattle.rst_markup_directives.proofs.lines.run_of.Goals as goal
 
 pub loop-i-preserved : goal.loop-i-preserved
 loop-i-preserved c =
-    let items : c.push.new.self.items ≡ c.loop-i.run.items ++ c.in_ok-line.line ∷ [] = c.in_ok-push.ensures.items in
-    let dark : is_blank c.in_ok-line.line.items ≡ false = ap is_blank (sym c.deref.ensures.value) ∙ sym c.is_blank.ensures ∙ c.if-is_blank.false in
+    let items : c.push.new.self.items ≡ c.loop-i.run.items ++ c.line-line.result ∷ [] = c.in_ok-push.ensures.items in
+    let dark : is_blank (chars c.line-line.result.now) ≡ false = sym c.is_blank.ensures ∙ c.if-is_blank.false in
     record {
       texts = ap (λ xs. texts_of xs ++ first_run (drop (c.loop-i.i + 1) (block_of c.args.lines.now))) items
-          ∙ run-more (λ v. v.items) (block_of c.args.lines.now) c.loop-i.i c.loop-i.run.items c.in_ok-line.line (omega arith) c.in_ok-line.ensures.text dark c.loop-i.invariant.texts;
+          ∙ run-more (λ line. chars line.now) (block_of c.args.lines.now) c.loop-i.i c.loop-i.run.items c.line-line.result (omega arith) c.line-line.ensures.text dark c.loop-i.invariant.texts;
       count = omega (arith, simp length-append at (ap length items), c.loop-i.invariant.count);
-      looks = omega (arith, c.in_ok-line.ensures.looks, c.loop-i.invariant.looks);
+      looks = omega (arith, c.line-line.ensures.looks, c.loop-i.invariant.looks);
     }

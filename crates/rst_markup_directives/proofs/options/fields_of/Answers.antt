@@ -1,27 +1,27 @@
-use Rattle.std.proofs.Common.{◌≡◌, ◌+◌, ◌++◌, [], ◌∷◌, drop, take, length, option_map, sym, ap, ◌∙◌, arith}
+use Rattle.std.proofs.Common.{◌≡◌, ◌+◌, ◌++◌, [], ◌∷◌, drop, length, option_map, sym, ap, ◌∙◌, arith}
 use Rattle.rst_markup_directives.specs.Lines.{texts_of}
 use Rattle.rst_markup_directives.specs.Options.{field_in, field_text, field_texts, fields_in}
 use Rattle.rst_markup_directives.proofs.Runs.{map-one}
-use Rattle.rst_markup_directives.proofs.FieldLemmas.{deep_len, behind_fields, fields-more, fields-stop, fields-end, texts-at, length_texts, drop-behind}
+use Rattle.rst_markup_directives.proofs.FieldLemmas.{deep_len, line_at, behind_fields, fields-more, fields-stop, fields-end, texts-at, length_texts, drop-behind}
 use Rattle.rst_markup_directives.proofs.options.fields_of.Goals as goal
 
 pub returns-in_default : goal.returns-in_default
 returns-in_default c =
-    let at = texts-at c.args.run.now c.loop-i.i c.index-run-i.result (omega arith) c.index-run-i.is in
-    let given = c.in_ok-field.ensures ∙ ap (field_in c.deref.result.now) c.below_of-below.ensures.texts ∙ ap (λ l. field_in l (take (deep_len (drop (c.loop-i.i + 1) (texts_of c.args.run.now))) (drop (c.loop-i.i + 1) (texts_of c.args.run.now)))) c.deref.ensures.value in
-    fields-stop (drop c.loop-i.i (texts_of c.args.run.now)) c.index-run-i.result.items (drop (c.loop-i.i + 1) (texts_of c.args.run.now)) (field_texts c.loop-i.fields.items) _ at
+    let at = texts-at c.args.run.now c.loop-i.i (omega arith) in
+    let given = c.in_ok-field.ensures ∙ ap (field_in (line_at c.args.run.now c.loop-i.i)) c.below_of-below.ensures.texts in
+    fields-stop (drop c.loop-i.i (texts_of c.args.run.now)) (line_at c.args.run.now c.loop-i.i) (drop (c.loop-i.i + 1) (texts_of c.args.run.now)) (field_texts c.loop-i.fields.items) _ at
     (ap (option_map field_text) (sym c.in_default.is) ∙ given) c.loop-i.invariant
 
 pub loop-i-preserved : goal.loop-i-preserved
 loop-i-preserved c =
-    let at = texts-at c.args.run.now c.loop-i.i c.index-run-i.result (omega arith) c.index-run-i.is in
-    let given = c.in_ok-field.ensures ∙ ap (field_in c.deref.result.now) c.below_of-below.ensures.texts ∙ ap (λ l. field_in l (take (deep_len (drop (c.loop-i.i + 1) (texts_of c.args.run.now))) (drop (c.loop-i.i + 1) (texts_of c.args.run.now)))) c.deref.ensures.value in
+    let at = texts-at c.args.run.now c.loop-i.i (omega arith) in
+    let given = c.in_ok-field.ensures ∙ ap (field_in (line_at c.args.run.now c.loop-i.i)) c.below_of-below.ensures.texts in
     let items : c.push.new.self.items ≡ c.loop-i.fields.items ++ c.in-Some.field ∷ [] = c.in_ok-push.ensures.items in
     let place = drop-behind (texts_of c.args.run.now) (c.loop-i.i + 1) (deep_len (drop (c.loop-i.i + 1) (texts_of c.args.run.now))) (c.loop-i.i + (1 + length c.below_of-below.result.now)) (omega (arith, c.below_of-below.ensures.len)) in
     ap (λ xs. behind_fields (field_texts xs) (fields_in (drop (c.loop-i.i + (1 + length c.below_of-below.result.now)) (texts_of c.args.run.now)))) items
     ∙ ap (λ fs. behind_fields fs (fields_in (drop (c.loop-i.i + (1 + length c.below_of-below.result.now)) (texts_of c.args.run.now)))) (map-one field_text c.loop-i.fields.items c.in-Some.field)
     ∙ ap (λ rest. behind_fields (field_texts c.loop-i.fields.items ++ field_text c.in-Some.field ∷ []) (fields_in rest)) place
-    ∙ fields-more (drop c.loop-i.i (texts_of c.args.run.now)) c.index-run-i.result.items (drop (c.loop-i.i + 1) (texts_of c.args.run.now)) (field_texts c.loop-i.fields.items) (field_text c.in-Some.field) _ at
+    ∙ fields-more (drop c.loop-i.i (texts_of c.args.run.now)) (line_at c.args.run.now c.loop-i.i) (drop (c.loop-i.i + 1) (texts_of c.args.run.now)) (field_texts c.loop-i.fields.items) (field_text c.in-Some.field) _ at
     (ap (option_map field_text) (sym c.in-Some.is) ∙ given) c.loop-i.invariant
 
 pub returns : goal.returns

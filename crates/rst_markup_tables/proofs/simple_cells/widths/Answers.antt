@@ -2,7 +2,7 @@ use Rattle.std.proofs.Common.{◌∙◌, ◌++◌, ℕ, List, length, map, sym, 
 use Rattle.std.specs.List.{range_with_len}
 use Rattle.rst_markup_tables.specs.Places.{Grid}
 use Rattle.rst_markup_tables.specs.SimpleTable.{longest_of, simple_rows, width_of}
-use Rattle.rst_markup_tables.specs.declared.spans.Span.{Span}
+use Rattle.rst_markup_tables.specs.declared.spans.RuleSpan.{RuleSpan}
 use Rattle.rst_markup_tables.proofs.Lists.{each_from-more, each_from-end, onto}
 use Rattle.rst_markup_tables.proofs.simple_cells.widths.Goals as goal
 
@@ -15,8 +15,8 @@ loop-k-preserved c =
 pub returns : goal.returns
 returns c =
     let lines : Grid = c.args.lines.now in
-    let columns : List Span = c.args.columns.now in
+    let columns : List RuleSpan = c.args.columns.now in
     let rest = each_from-end (width_of columns c.longest_of-longest.result) c.loop-k.k (length columns) (omega arith) in
     c.of.ensures ∙ sym (append-nil c.loop-k.widths.items) ∙ sym (ap (λ l. c.loop-k.widths.items ++ l) rest) ∙ c.loop-k.invariant
     ∙ ap (λ (m : ℕ). map (width_of columns m) (range_with_len 0 (length columns))) (c.longest_of-longest.ensures ∙ ap (longest_of lines) c.requires.rows)
-    ∙ ap (λ (cs : List Span). map (width_of cs (longest_of lines (simple_rows lines))) (range_with_len 0 (length cs))) c.requires.columns
+    ∙ ap (λ (cs : List RuleSpan). map (width_of cs (longest_of lines (simple_rows lines))) (range_with_len 0 (length cs))) c.requires.columns

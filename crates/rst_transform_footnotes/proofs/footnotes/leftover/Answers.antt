@@ -1,11 +1,11 @@
 use Rattle.std.proofs.Common.{rules, length, map}
 use Rattle.rst_transform_footnotes.specs.Footnotes.{first_left_over}
 use Rattle.rst_transform_links.specs.Linkings.{held}
-use Rattle.rst_transform_links.specs.NoteOrders.{in_order}
-use Rattle.rst_transform_footnotes.proofs.Notes.{told_of}
+use Rattle.rst_transform_links.specs.FootnoteOrders.{in_order}
+use Rattle.rst_transform_footnotes.proofs.FootnoteLemmas.{left_over_of}
 use Rattle.rst_transform_footnotes.proofs.footnotes.leftover.Goals as goal
 
 pub returns : goal.returns
 returns c =
-    told_of (first_left_over c.args.order 0 c.args.found.now (map held c.args.linked.now)) c.args.order c.in-Some.line (length (in_order c.args.order (map held c.args.linked.now)))
+    left_over_of (first_left_over c.args.order 0 c.args.found.now (map held c.args.linked.now)) c.args.order c.in-Some.line (length (in_order c.args.order (map held c.args.linked.now)))
     (length c.in_ok-footnotes.footnotes.items) c.in_ok-place.place c.in_ok-text.text c.args.work.now c.report.new.self (search rules) (search rules) (search rules) (search rules) (search rules) (search rules)

@@ -4,7 +4,7 @@ use Rattle.rst_tree.specs.Forest.{height}
 use Rattle.rst_tree.specs.Nodes.{node_height}
 use Rattle.rst_tree.specs.declared.node.Node.TheVariants.{Text}
 use Rattle.rst_transform_messages.proofs.Leaving.{within_text, within_element}
-use Rattle.rst_transform_messages.proofs.Showing.{Sifting-init, Sifting-more, Sifting-gone, Sifting-left, Sifting-whole, becoming_leaves, element_leaves, text_leaves}
+use Rattle.rst_transform_messages.proofs.Showing.{Sifting-init, Sifting-more, Sifting-gone, Sifting-some, Sifting-whole, becoming_leaves, element_leaves, text_leaves}
 use Rattle.rst_transform_messages.specs.Messages.{marked}
 use Rattle.rst_transform_messages.specs.Shown.{are_within}
 use Rattle.rst_transform_messages.proofs.filter.+filter_in.Goals as goal
@@ -22,14 +22,14 @@ loop-i-preserved-in-BecomesText t c =
     let leaves = becoming_leaves c.args.report (marked c.args.shown.now) c.get_mut-node.result.now c.in_ok-text-in-BecomesText.text c.in-BecomesText.ensures c.in_ok-text-in-BecomesText.ensures in
     Sifting-more c.args.report (marked c.args.shown.now) c.args.levels _ c.loop-i.nodes c.loop-i.fit c.fits_text-fit.result c.loop-i.leaves c.loop-i.i c.get_mut-node.result.now (Text c.in_ok-text-in-BecomesText.text) c.loop-i.invariant
     (omega (arith, c.loop-i.invariant.same.same_len, c.len-i-end.ensures)) c.get_mut-node.ensures.value leaves
-    (within_text c.args.levels _ c.in_ok-text-in-BecomesText.text c.loop-i.fit c.fits_text-fit.result c.loop-i.invariant.told c.fits_text-fit.ensures)
+    (within_text c.args.levels _ c.in_ok-text-in-BecomesText.text c.loop-i.fit c.fits_text-fit.result c.loop-i.invariant.fit_is c.fits_text-fit.ensures)
 
 pub loop-i-preserved-in-Text : goal.loop-i-preserved-in-Text
 loop-i-preserved-in-Text t c =
     let leaves = text_leaves c.args.report (marked c.args.shown.now) c.get_mut-node.result.now c.in-Text.text c.in-Text.is in
     Sifting-more c.args.report (marked c.args.shown.now) c.args.levels _ c.loop-i.nodes c.loop-i.fit c.fits_text-fit-in-Text.result c.loop-i.leaves c.loop-i.i c.get_mut-node.result.now (Text c.in-Text.text) c.loop-i.invariant
     (omega (arith, c.loop-i.invariant.same.same_len, c.len-i-end.ensures)) c.get_mut-node.ensures.value leaves
-    (within_text c.args.levels _ c.in-Text.text c.loop-i.fit c.fits_text-fit-in-Text.result c.loop-i.invariant.told c.fits_text-fit-in-Text.ensures)
+    (within_text c.args.levels _ c.in-Text.text c.loop-i.fit c.fits_text-fit-in-Text.result c.loop-i.invariant.fit_is c.fits_text-fit-in-Text.ensures)
 
 pub filter_in-requires : goal.filter_in-requires
 filter_in-requires t c =
@@ -46,12 +46,12 @@ loop-i-preserved t c =
     c.in-Element.is c.in-Stays.ensures inside.nodes in
     Sifting-more c.args.report (marked c.args.shown.now) c.args.levels _ c.loop-i.nodes c.loop-i.fit c.fits_element-fit.result c.loop-i.leaves c.loop-i.i c.get_mut-node.result.now _ c.loop-i.invariant
     (omega (arith, c.loop-i.invariant.same.same_len, c.len-i-end.ensures)) c.get_mut-node.ensures.value leaves
-    (within_element c.args.levels _ c.in-Element.tag c.in-Element.attrs c.filter_in.new.nodes c.in-Element.line c.loop-i.fit c.in_ok-inside-in-Element.inside c.fits_element-fit.result c.loop-i.invariant.told
-    (inside.tree ∙ ap (λ levels. are_within levels c.filter_in.new.nodes) c.saturating_sub.ensures) c.fits_element-fit.ensures)
+    (within_element c.args.levels _ c.in-Element.tag c.in-Element.attrs c.filter_in.new.nodes c.in-Element.line c.loop-i.fit c.in_ok-inside-in-Element.inside c.fits_element-fit.result c.loop-i.invariant.fit_is
+    (inside.tree ∙ ap (λ levels. are_within levels c.filter_in.new.nodes) c.saturating_sub-below.ensures) c.fits_element-fit.ensures)
 
 pub returns-then-leaves-clause-nodes : goal.returns-then-leaves-clause-nodes
 returns-then-leaves-clause-nodes t c =
-    (Sifting-left c.args.report (marked c.args.shown.now) c.args.levels _ c.loop-i.nodes _ c.loop-i.fit c.loop-i.leaves c.loop-i.i c.loop-i.invariant (omega (arith, c.loop-i.invariant.same.same_len, c.len-i-end.ensures)) (search rules)).0
+    (Sifting-some c.args.report (marked c.args.shown.now) c.args.levels _ c.loop-i.nodes _ c.loop-i.fit c.loop-i.leaves c.loop-i.i c.loop-i.invariant (omega (arith, c.loop-i.invariant.same.same_len, c.len-i-end.ensures)) (search rules)).0
 
 pub returns-else-leaves-clause-nodes : goal.returns-else-leaves-clause-nodes
 returns-else-leaves-clause-nodes t c =

@@ -11,13 +11,13 @@ pub returns : goal.returns
 returns c =
     let r = c.in_ok-ids.field-0 in
     let elements = ap (map item_of) c.deref.ensures.value ∙ c.in_ok-elements.ensures in
-    let empty = c.is_empty-noticed.ensures in
+    let empty = c.is_empty-has_name_messages.ensures in
     record {
       registry = r;
       is_registry = subst (λ es. IsRegistry c.args.messages es r) elements c.in_ok-ids.ensures;
       ids = refl;
       names = refl;
       serials = omega (arith, c.len-serials.ensures, r.standings.ok.0);
-      noticed = ap not empty;
-      root = λ quiet. c.in_ok-place_notices.ensures (eqb-true _ 0 (sym empty ∙ not_false _ quiet)) ∙ c.in_ok-written.ensures.node ∙ ap (λ g. walked_node (heeded_next is_registered left_behind) (heeded_out is_registered with_given) g c.args.document) c.of-writing.ensures;
+      has_name_messages = ap not empty;
+      root = λ quiet. c.in_ok-place_name_messages.ensures (eqb-true _ 0 (sym empty ∙ not_false _ quiet)) ∙ c.in_ok-written.ensures.node ∙ ap (λ g. walked_node (heeded_next is_registered left_behind) (heeded_out is_registered with_given) g c.args.document) c.of-writing.ensures;
     }

@@ -4,7 +4,7 @@ use Rattle.rst_transform_substitutions.specs.Expansion.{behind, expanded, given}
 use Rattle.rst_transform_substitutions.proofs.Expanding.{so_far}
 use Rattle.rst_transform_substitutions.proofs.expansion.+add_expanded.Given as goal
 
--- the count of what may still be met falls at each node
+-- the count of what may still be visited falls at each node
 abbrev pub decreases-add_expanded : goal.decreases-add_expanded
 decreases-add_expanded l = l.progress.now.left
 

@@ -1,9 +1,9 @@
 use Rattle.std.proofs.Common.{rules, ◌≤◌, arith, ◌+◌}
 use Rattle.rst_tree.specs.Nodes.{node_height}
 use Rattle.rst_tree.specs.Print.{printed_node}
-use Rattle.rst_tree.specs.Told.{given, with_told}
+use Rattle.rst_tree.specs.PrintedAttributes.{given, with_printed_attrs}
 use Rattle.rst_tree.proofs.PrintedParts.{child_height}
-use Rattle.rst_tree.proofs.ToldParts.{told-element, told-words}
+use Rattle.rst_tree.proofs.PrintedAttributeParts.{element-with-attrs, words-with-attrs}
 use Rattle.rst_tree.proofs.Sending.{◌▸◌, Gets-as, Gets-item, Gets-none}
 use Rattle.rst_tree.proofs.output.+put_node.Goals as goal
 
@@ -19,13 +19,13 @@ put_node-requires g t c =
 
 pub loop-child-preserved : goal.loop-child-preserved
 loop-child-preserved g t c =
-    Gets-item (λ x. printed_node (c.args.level + 1) (with_told (given c.args.source) x)) _ c.loop-child.child-index _ c.child-item.is (omega arith) c.loop-child.invariant c.put_node.ensures
+    Gets-item (λ x. printed_node (c.args.level + 1) (with_printed_attrs (given c.args.source) x)) _ c.loop-child.child-index _ c.child-item.is (omega arith) c.loop-child.invariant c.put_node.ensures
 
 pub returns-after-loop-child : goal.returns-after-loop-child
 returns-after-loop-child g t c =
     Gets-as (c.put_indent.ensures ▸ c.put_tag_line.ensures ▸ c.loop-child.invariant)
-    (told-element (given c.args.source) c.args.level c.args.node.now c.in-Element.tag c.in-Element.attrs c.in-Element.children c.in-Element.line c.as_slice-child-items.result.now c.loop-child.child-index
+    (element-with-attrs (given c.args.source) c.args.level c.args.node.now c.in-Element.tag c.in-Element.attrs c.in-Element.children c.in-Element.line c.as_slice-child-items.result.now c.loop-child.child-index
     c.in-Element.is c.as_slice-child-items.ensures c.loop-child-test.false)
 
 pub returns-in-Text : goal.returns-in-Text
-returns-in-Text g t c = Gets-as c.put_text.ensures (told-words (given c.args.source) c.args.level c.args.node.now c.in-Text.text _ c.in-Text.is c.as_bytes.ensures)
+returns-in-Text g t c = Gets-as c.put_text.ensures (words-with-attrs (given c.args.source) c.args.level c.args.node.now c.in-Text.text _ c.in-Text.is c.as_bytes.ensures)

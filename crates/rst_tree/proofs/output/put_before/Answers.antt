@@ -4,7 +4,7 @@ use Rattle.std.specs.List.{flat_map}
 use Rattle.rst_tree.specs.Attributes.{is_at, places_below}
 use Rattle.rst_tree.specs.Print.{shown_attr}
 use Rattle.rst_tree.proofs.Sending.{Gets-as}
-use Rattle.rst_tree.proofs.ToldParts.{before_place, behind_there, behind_between}
+use Rattle.rst_tree.proofs.PrintedAttributeParts.{before_place, behind_there, behind_between}
 use Rattle.rst_tree.proofs.output.put_before.Goals as goal
 
 pub returns-then-is_at-clause-sent : goal.returns-then-is_at-clause-sent

@@ -2,13 +2,13 @@ use Rattle.std.proofs.Common.{refl}
 use Rattle.rst_tree.specs.declared.attrs.Value.TheVariants.{Number}
 use Rattle.rst_tree.specs.declared.key.Key.TheVariants.{Line}
 use Rattle.rst_tree.specs.Print.{shown_attr}
-use Rattle.rst_tree.specs.Told.{given}
+use Rattle.rst_tree.specs.PrintedAttributes.{given}
 use Rattle.rst_tree.proofs.Sending.{◌▸◌, Gets-as}
-use Rattle.rst_tree.proofs.ToldParts.{both_told, made_of_parts}
+use Rattle.rst_tree.proofs.PrintedAttributeParts.{source_and_type_after, made_of_parts}
 use Rattle.rst_tree.proofs.output.put_message_attrs.Goals as goal
 
 pub returns : goal.returns
 returns g c =
     Gets-as (c.put_before-rest.ensures.sent ▸ c.put_number_attr.ensures ▸ c.put_source_and_type.ensures)
     (rw (c.put_before-rest.ensures.rest, c.number-level.ensures, c.as_slice.ensures)
-    (made_of_parts shown_attr _ _ _ _ (both_told Line (Number c.args.line) (given c.args.source) _ c.args.attrs.now refl refl)))
+    (made_of_parts shown_attr _ _ _ _ (source_and_type_after Line (Number c.args.line) (given c.args.source) _ c.args.attrs.now refl refl)))

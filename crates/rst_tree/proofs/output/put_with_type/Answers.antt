@@ -1,7 +1,7 @@
 use Rattle.rst_tree.specs.Print.{shown_attr}
 use Rattle.rst_tree.specs.declared.key.Key.TheVariants.{Type_}
 use Rattle.rst_tree.proofs.Sending.{◌▸◌, Gets-as}
-use Rattle.rst_tree.proofs.ToldParts.{parted, made_of_parts}
+use Rattle.rst_tree.proofs.PrintedAttributeParts.{parted, made_of_parts}
 use Rattle.rst_tree.proofs.output.put_with_type.Goals as goal
 
 pub returns-in-Some : goal.returns-in-Some

@@ -18,17 +18,17 @@ loop-place-preserved t c =
     let marked =
     paths_below is_registered c.as_slice-nodes.result.now c.loop-place.place c.index-nodes-place.result _ c.loop-place.marks.items c.add_marks.new.marks.items _ c.len-from.result
     c.loop-place-test.true c.index-nodes-place.is c.loop-place.invariant.0 (search rules) c.in_ok-add_marks.ensures.marks c.in_ok-begin_above.ensures in
-    let noted =
+    let added =
     kinds_more c.as_slice-nodes.result.now c.loop-place.place c.index-nodes-place.result _ c.loop-place.kinds c.add_marks.new.kinds c.loop-place-test.true c.index-nodes-place.is c.loop-place.invariant.1 c.in_ok-add_marks.ensures.kinds in
-    (marked, noted)
+    (marked, added)
 
 pub loop-place-preserved-in-Text : goal.loop-place-preserved-in-Text
 loop-place-preserved-in-Text t c =
     let marked =
     paths_text is_registered c.as_slice-nodes.result.now c.loop-place.place c.index-nodes-place.result _ _ c.loop-place.marks.items c.loop-place-test.true c.index-nodes-place.is c.in-Text.is c.loop-place.invariant.0 in
-    let noted =
+    let added =
     kinds_text c.as_slice-nodes.result.now c.loop-place.place c.index-nodes-place.result _ _ c.loop-place.kinds c.loop-place-test.true c.index-nodes-place.is c.in-Text.is c.loop-place.invariant.1 in
-    (marked, noted)
+    (marked, added)
 
 pub returns-after-loop-place-clause-marks : goal.returns-after-loop-place-clause-marks
 returns-after-loop-place-clause-marks t c =
@@ -36,4 +36,4 @@ returns-after-loop-place-clause-marks t c =
 
 pub returns-after-loop-place-clause-kinds : goal.returns-after-loop-place-clause-kinds
 returns-after-loop-place-clause-kinds t c =
-    kinds_end c.args.node.now _ _ _ _ c.as_slice-nodes.result.now c.loop-place.place c.args.kinds.now _ _ c.in-Element.is c.as_slice-nodes.ensures c.loop-place-test.false c.note.ensures c.loop-place.invariant.1
+    kinds_end c.args.node.now _ _ _ _ c.as_slice-nodes.result.now c.loop-place.place c.args.kinds.now _ _ c.in-Element.is c.as_slice-nodes.ensures c.loop-place-test.false c.add.ensures c.loop-place.invariant.1

@@ -2,7 +2,7 @@ use Rattle.std.proofs.Common.{◌≡◌, ◌++◌, take}
 use Rattle.std.specs.Prelude.{map}
 use Rattle.rst_tree.specs.Nodes.{node_height, forest_of}
 use Rattle.rst_tree.specs.Walk.{items}
-use Rattle.rst_tree_index.specs.Held.{either, kinds_of}
+use Rattle.rst_tree_index.specs.Kinds.{either, kinds_of}
 use Rattle.rst_tree_index.specs.Marks.{path_of, places}
 use Rattle.rst_tree_index.specs.Registered.{is_registered}
 use Rattle.rst_tree_index.proofs.marks.+add_marks.Given as goal

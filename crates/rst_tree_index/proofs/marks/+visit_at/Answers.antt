@@ -1,6 +1,6 @@
 use Rattle.std.proofs.Common.{rules, arith, ◌∙◌, ap, sym}
 use Rattle.std.specs.Prelude.{reverse}
-use Rattle.rst_tree_index.specs.Marks.{retold, after_one}
+use Rattle.rst_tree_index.specs.Marks.{map_item, after_one}
 use Rattle.rst_tree_index.proofs.Marking.{changed_there, changed_none, changed_text, node_there, node_none, after_text}
 use Rattle.rst_tree_index.proofs.marks.+visit_at.Goals as goal
 
@@ -11,7 +11,7 @@ visit_at-requires g t c κs within =
 
 pub returns-in_ok-visit_at-in-Some-clause-node : goal.returns-in_ok-visit_at-in-Some-clause-node
 returns-in_ok-visit_at-in-Some-clause-node g t c =
-    changed_there (retold (g.V.Visitor.out c.args.visitor.now)) _ _ _ _ _ _ _ _ c.get_mut-child.result.now _ c.in-Element.is c.in-Some.ensures.cases.0 (omega (arith, c.if-place-len.true, c.len.ensures)) c.get_mut-child.ensures.value c.in_ok-visit_at-in-Some.ensures.node
+    changed_there (map_item (g.V.Visitor.out c.args.visitor.now)) _ _ _ _ _ _ _ _ c.get_mut-child.result.now _ c.in-Element.is c.in-Some.ensures.cases.0 (omega (arith, c.if-place-len.true, c.len.ensures)) c.get_mut-child.ensures.value c.in_ok-visit_at-in-Some.ensures.node
 
 pub returns-in_ok-visit_at-in-Some-clause-state : goal.returns-in_ok-visit_at-in-Some-clause-state
 returns-in_ok-visit_at-in-Some-clause-state g t c =
@@ -20,7 +20,7 @@ returns-in_ok-visit_at-in-Some-clause-state g t c =
     node_there c.args.node.now _ _ _ _ c.args.steps.now _ _ c.get_mut-child.result.now c.in-Element.is c.in-Some.ensures.cases.0 (omega (arith, c.if-place-len.true, c.len.ensures)) c.get_mut-child.ensures.value))
 
 pub returns-else-place-len-clause-node : goal.returns-else-place-len-clause-node
-returns-else-place-len-clause-node g t c = changed_none (retold (g.V.Visitor.out c.args.visitor.now)) _ _ _ _ _ _ _ _ c.in-Element.is c.in-Some.ensures.cases.0 (omega (arith, c.if-place-len.false, c.len.ensures))
+returns-else-place-len-clause-node g t c = changed_none (map_item (g.V.Visitor.out c.args.visitor.now)) _ _ _ _ _ _ _ _ c.in-Element.is c.in-Some.ensures.cases.0 (omega (arith, c.if-place-len.false, c.len.ensures))
 
 pub returns-else-place-len-clause-state : goal.returns-else-place-len-clause-state
 returns-else-place-len-clause-state g t c =

@@ -1,4 +1,4 @@
-use Rattle.std.proofs.Common.{◌≡◌, ◌≤◌, length, drop, arith, ap, ◌∙◌, rules}
+use Rattle.std.proofs.Common.{◌≡◌, ◌≤◌, length, drop, arith, ap, ◌∙◌, rules, min}
 use Rattle.rst_text.specs.Block.{Block, front_text, indentation}
 use Rattle.rst_text.proofs.Least.{lower, lower-is}
 use Rattle.rst_text.specs.Shown.{block_of}
@@ -19,7 +19,8 @@ loop-i-preserved c =
     let B : Block = block_of c.args.self.now in
     let some : 1 ≤ length c.text-text.result.now = search rules in
     let level : c.indentation-indent.result ≡ indentation (front_text (drop c.loop-i.i B)) = c.indentation-indent.ensures.value ∙ ap indentation c.text-text.ensures in
-    let same : c.lower.result ≡ lower c.loop-i.lowest (indentation (front_text (drop c.loop-i.i B))) = c.lower.ensures ∙ lower-is c.loop-i.lowest _ ∙ ap (lower c.loop-i.lowest) level in (
+    let same : c.min.result ≡ lower c.loop-i.lowest (indentation (front_text (drop c.loop-i.i B))) =
+    c.min.ensures ∙ ap (λ m. min m c.indentation-indent.result) c.unwrap_or-in-loop-i.ensures ∙ lower-is c.loop-i.lowest _ ∙ ap (lower c.loop-i.lowest) level in (
       rw same (Finds-more B c.args.from c.unwrap_or-enough.result c.loop-i.i c.loop-i.end c.loop-i.lowest c.loop-i.invariant.0 (omega arith) (omega arith) (some_front _ _ c.text-text.utf8 c.text-text.ensures some) (omega arith)),
       omega (arith, c.loop-i.invariant.1),
     )

@@ -4,7 +4,7 @@ use Rattle.std.specs.BTreeMap.{get_by_text}
 use Rattle.std.specs.VecDeque.{deque_items}
 use Rattle.rst_tree_index.specs.Registered.{item_of}
 use Rattle.rst_transform_names.specs.Gathered.{own_name}
-use Rattle.rst_transform_names.specs.Registry.{definer, definition_notices, losing, next_number, standing}
+use Rattle.rst_transform_names.specs.Registry.{definer, definition_messages, losing, next_number, standing}
 use Rattle.rst_transform_names.proofs.RegistryLemmas.{put_lost, entered}
 use Rattle.rst_transform_names.proofs.registry.Registry.define.Goals as goal
 
@@ -22,8 +22,8 @@ returns c =
       stands = ap (λ n. standing n None false) number;
       definitions = defined;
       others = put_lost old.standings c.lose.new.standings _ (c.lose.ensures ∙ ap₂ (λ h l. losing h l) (c.definer.ensures ∙ ap definer before) c.deref_mut.ensures.value);
-      notices = c.in_ok-complain_of_definition.ensures ∙ ap₂ (λ b n. deque_items old.notices.queue ++ definition_notices b n new) before number;
+      name_messages = c.in_ok-add_definition_message.ensures ∙ ap₂ (λ b n. deque_items old.name_messages.queue ++ definition_messages b n new) before number;
       ids = refl;
       names = refl;
-      links = refl;
+      known_messages = refl;
     }

@@ -1,0 +1,6 @@
+use Rattle.rst_block.proofs.OpenRuns.{rest_is_all}
+use Rattle.rst_block.proofs.RestLemmas.{rest_over, rest_blank, rest_text}
+use Rattle.rst_block.proofs.laws.constructs_follow.Goals as goal
+
+pub returns : goal.returns
+returns c = record { all = rest_is_all; over = rest_over; blank = rest_blank; text = rest_text }

@@ -1,0 +1,13 @@
+use Rattle.std.proofs.Common.{arith, rules}
+use Rattle.rst_transform_footnotes.proofs.Numbering.{Writing-init, Writing-more, Writing-end}
+use Rattle.rst_transform_footnotes.proofs.footnote_labels.written_numbers.Goals as goal
+
+pub loop-one-init : goal.loop-one-init
+loop-one-init c = rw (c.in_ok-written.ensures) (Writing-init c.args.linked.now)
+
+pub loop-one-preserved : goal.loop-one-preserved
+loop-one-preserved c =
+    rw (c.set_written.ensures, c.written_number.ensures) (Writing-more c.args.linked.now c.loop-one.written.items c.loop-one.one-index c.one-item.result c.loop-one.invariant (omega arith) c.one-item.is)
+
+pub returns : goal.returns
+returns c = Writing-end c.args.linked.now c.loop-one.written.items c.loop-one.one-index c.loop-one.invariant (search rules)

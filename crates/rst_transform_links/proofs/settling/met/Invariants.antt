@@ -1,7 +1,0 @@
-use Rattle.std.proofs.Common.{◌≡◌, ◌++◌}
-use Rattle.rst_transform_links.specs.Settling.{met_from}
-use Rattle.rst_transform_links.proofs.settling.met.Given as goal
-
-abbrev pub invariant-loop-place : goal.invariant-loop-place
-invariant-loop-place l =
-    l.left.items ++ met_from l.place-iterator.count l.around l.place-iterator.iter.rest.items ≡ met_from 0 l.fn.around l.fn.outcomes.items

@@ -1,0 +1,167 @@
+//! The orders by which references without a name find their footnotes.
+ghost use Rattle.std.specs.Prelude.{◌≡◌, map, slice_get, MatchOption, None, Some};
+ghost use Rattle.rst_tree.specs.Attributes.{value_of};
+ghost use Rattle.rst_tree.specs.Faults.{Gives};
+ghost use Rattle.rst_tree.specs.declared.key.Key.TheVariants.{Auto};
+ghost use Rattle.rst_transform_links.specs.Linkings.{held};
+ghost use Rattle.rst_transform_links.specs.FootnoteOrders.{first_left, footnote_order, found_by_order, in_order, is_order, mark_of, order_name, order_of_mark, order_said, places_left, reference_order, take_in_order};
+
+use crate::links::Linked;
+use rst_tree::{Attrs, Key, Node, Said, Tag, TreeFault};
+use std::alloc::Global;
+
+/// The two orders by which a reference without a name finds its footnote (Markup Specification, 'Footnotes').
+#[derive(Clone, Copy)]
+pub enum Order {
+    /// That of the footnotes which are to be numbered.
+    Numbers,
+    /// That of the symbol footnotes.
+    Symbols,
+}
+
+impl Order {
+    /// What the message on references left over calls them.
+    pub fn name(self) -> &'static str
+        ensures { result.now ≡ order_name self }
+    {
+        match self {
+            Order::Numbers => "autonumbered",
+            Order::Symbols => "symbol",
+        }
+    }
+
+    /// Whether it is the order of an element that has one.
+    pub fn is(self, order: Option<Order>) -> bool
+        ensures { result ≡ is_order self order }
+    {
+        matches!(
+            (self, order),
+            (Order::Numbers, Some(Order::Numbers)) | (Order::Symbols, Some(Order::Symbols))
+        )
+    }
+}
+
+/// The label that a footnote was written with.
+pub fn mark_of<'a>(node: &'a Node) -> Option<&'a str>
+    ensures { MatchOption result (mark_of node.now ≡ None) (λ mark. mark_of node.now ≡ Some mark.now) }
+{
+    match node {
+        Node::Element { tag, attrs, .. } if matches!(tag, Tag::Footnote) => {
+            match attrs.text(Key::Mark) {
+                Some(mark) => Some(mark.as_str()),
+                None => None,
+            }
+        }
+        _ => None,
+    }
+}
+
+/// The order of the footnotes that are written with a label: `#` alone, or `*`.
+fn order_of_mark(mark: &str) -> Option<Order>
+    ensures { result ≡ order_of_mark mark.now }
+{
+    match mark {
+        "#" => Some(Order::Numbers),
+        "*" => Some(Order::Symbols),
+        _ => None,
+    }
+}
+
+/// The order by which references find a footnote, if they do.
+pub fn footnote_order(node: &Node) -> Option<Order>
+    ensures { result ≡ footnote_order node.now }
+{
+    match mark_of(node) {
+        Some(mark) => order_of_mark(mark),
+        None => None,
+    }
+}
+
+/// The order that the attributes of a reference to a footnote say.
+fn order_said(attrs: &Attrs) -> Option<Order>
+    ensures { result ≡ order_said (value_of Auto attrs.now) }
+{
+    match attrs.get(Key::Auto) {
+        Some(Said::Text(text)) if text.as_str() == "*" => Some(Order::Symbols),
+        Some(_) => Some(Order::Numbers),
+        None => None,
+    }
+}
+
+/// The order by which a reference finds its footnote, if it does.
+pub fn reference_order(node: &Node) -> Option<Order>
+    ensures { result ≡ reference_order node.now }
+{
+    match node {
+        Node::Element { tag, attrs, .. }
+            if matches!(tag, Tag::FootnoteReference) && !attrs.has(Key::Refname) => {
+            order_said(attrs)
+        }
+        _ => None,
+    }
+}
+
+/// The places of the footnotes that references find by an order.
+pub fn in_order(alloc: Global, linked: &[Linked<'_>], order: Order) -> Result<Vec<usize>, TreeFault>
+    ensures { Gives (λ places. places.items ≡ in_order order (map held linked.now)) result }
+{
+    let mut places = Vec::new(alloc);
+    for (place, one) in linked.iter().enumerate() {
+        if order.is(footnote_order(one.element)) {
+            places.push(place)?;
+        }
+    }
+    Ok(places)
+}
+
+/// The first of the places that are left to each order, for a reference that takes one of them.
+fn first_left(order: Option<Order>, numbers: &[usize], symbols: &[usize]) -> Option<usize>
+    ensures { result ≡ first_left order numbers.now symbols.now }
+{
+    match order {
+        Some(Order::Numbers) => numbers.first().copied(),
+        Some(Order::Symbols) => symbols.first().copied(),
+        None => None,
+    }
+}
+
+/// What is left of the places of an order behind a reference of some order.
+fn places_left<'p>(order: Order, taken: Option<Order>, places: &'p [usize]) -> &'p [usize]
+    ensures { result.now ≡ places_left order taken places.now }
+{
+    if order.is(taken) {
+        return &places[places.len().min(1)..];
+    }
+    places
+}
+
+/// Each reference takes the next of the places of its order, where one is left.
+fn take_in_order(
+    alloc: Global,
+    linked: &[Linked<'_>],
+    numbers: &[usize],
+    symbols: &[usize],
+) -> Result<Vec<Option<usize>>, TreeFault>
+    ensures { Gives (λ taken. taken.items ≡ take_in_order numbers.entry.now symbols.entry.now (map held linked.entry.now)) result }
+{
+    let mut numbers = numbers;
+    let mut symbols = symbols;
+    let mut taken = Vec::with_capacity(alloc, linked.len())?;
+    for one in linked {
+        let order = reference_order(one.element);
+        taken.push(first_left(order, numbers, symbols))?;
+        numbers = places_left(Order::Numbers, order, numbers);
+        symbols = places_left(Order::Symbols, order, symbols);
+    }
+    Ok(taken)
+}
+
+/// For each linked element the place of the footnote that it finds by the order, if it finds one.
+pub fn found_by_order(alloc: Global, linked: &[Linked<'_>]) -> Result<Vec<Option<usize>>, TreeFault>
+    ensures { Gives (λ found. found.items ≡ found_by_order (map held linked.now)) result }
+{
+    let numbers = in_order(alloc, linked, Order::Numbers)?;
+    let symbols = in_order(alloc, linked, Order::Symbols)?;
+    let found = take_in_order(alloc, linked, numbers.as_slice(), symbols.as_slice())?;
+    Ok(found)
+}

@@ -1,0 +1,72 @@
+//! Messages on equal names.
+ghost use Rattle.std.specs.Prelude.{◌≡◌};
+ghost use Rattle.rst_tree.specs.Faults.{Gives};
+ghost use Rattle.rst_tree_index.specs.Registered.{item_of};
+ghost use Rattle.rst_transform_names.specs.DuplicateMessages as spec;
+
+use super::names::Strength;
+use super::registrants::own_name;
+use super::rulings::DuplicateMessage;
+use rst_tree::{Key, Level, Node, Note, Text, Texts, TreeFault, Value};
+use rst_tree_index::Element;
+use std::alloc::Global;
+
+/// The message on an element's name, which refers back to the element's id.
+pub fn duplicate_name(
+    alloc: Global,
+    message: DuplicateMessage,
+    new: Element<'_>,
+    id: &Text,
+) -> Result<Node, TreeFault>
+    ensures { Gives (λ node. node ≡ spec.duplicate_name message (item_of new.entry) id.now) result }
+{
+    let mut backrefs = Texts::new(alloc);
+    backrefs.push(id.copy()?)?;
+    let words = duplicate_words(message.strength);
+    let mut node = name_message(alloc, message.level, words, new)?;
+    node.set_at(&[], Key::Backrefs, Value::List(backrefs))?;
+    Ok(node)
+}
+
+/// What a message says before an equal name of this strength.
+fn duplicate_words(strength: Strength) -> &'static str
+    ensures { result.now ≡ spec.duplicate_words strength }
+{
+    match strength {
+        Strength::Implicit => "Duplicate implicit target name: \"",
+        Strength::Explicit => "Duplicate explicit target name: \"",
+    }
+}
+
+/// The message on the name of a substitution definition.
+pub fn duplicate_definition(alloc: Global, new: Element<'_>) -> Result<Node, TreeFault>
+    ensures { Gives (λ node. node ≡ spec.duplicate_definition (item_of new.entry)) result }
+{
+    name_message(
+        alloc,
+        Level::Error,
+        "Duplicate substitution definition name: \"",
+        new,
+    )
+}
+
+/// A message that says some words and an element's name.
+fn name_message(
+    alloc: Global,
+    level: Level,
+    words: &str,
+    new: Element<'_>,
+) -> Result<Node, TreeFault>
+    ensures { Gives (λ node. node ≡ spec.name_message level words.now (item_of new.entry)) result }
+{
+    let mut text = Text::from_str(alloc, words)?;
+    text.push_str(own_name(new))?;
+    text.push_str("\".")?;
+    let note = Note {
+        level,
+        line: new.line,
+        text,
+        block: None,
+    };
+    note.into_node(alloc)
+}
