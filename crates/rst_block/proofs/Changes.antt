@@ -51,38 +51,31 @@ within_push n (g ∷ gs) h w le = (w.0, within_push n gs h w.1 le)
 
 -- ---- the items of a block so far
 
-items_of : List Node → List Heading → List Item
-items_of nodes hs = items_from 0 nodes hs
-
 -- where there are no nodes and no titles there is no item
 pub begun_is : (nodes : List Node) (hs : List Heading) → nodes ≡ [] → hs ≡ [] → items_from 0 nodes hs ≡ []
 unfolding items_from
-begun_is nodes hs e f = ap (λ ns. items_from 0 ns hs) e ∙ ap (λ gs. items_from 0 [] gs) f
+begun_is nodes hs e f = ap (λ ns. items_from 0 ns hs) e ∙ ap (items_from 0 []) f
 
 zero_more : (n : ℕ) → 0 + n ≡ n
 zero_more n = omega arith
 
 pub done_moved : (old new : OpenBlock) → IsMoved old new → done_of new ≡ done_of old
-unfolding items_of
-done_moved old new m = ap (λ nodes. items_of nodes new.headings.items) m.nodes ∙ ap (items_of old.nodes.items) m.headings
+done_moved old new m = ap (λ nodes. items_from 0 nodes new.headings.items) m.nodes ∙ ap (items_from 0 old.nodes.items) m.headings
 
 pub done_run : (old new : OpenBlock) (o : OpenRun) → HasRun old new o → done_of new ≡ done_of old
-unfolding items_of
-done_run old new o m = ap (λ nodes. items_of nodes new.headings.items) m.nodes ∙ ap (items_of old.nodes.items) m.headings
+done_run old new o m = ap (λ nodes. items_from 0 nodes new.headings.items) m.nodes ∙ ap (items_from 0 old.nodes.items) m.headings
 
 pub done_more : (old new : OpenBlock) (more : List Node) → HasMore old new more → IsPlaced old → done_of new ≡ done_of old ++ map plain more
-unfolding items_of
 done_more old new more m w =
-    ap (λ nodes. items_of nodes new.headings.items) m.nodes
-    ∙ ap (items_of (old.nodes.items ++ more)) m.headings
+    ap (λ nodes. items_from 0 nodes new.headings.items) m.nodes
+    ∙ ap (items_from 0 (old.nodes.items ++ more)) m.headings
     ∙ items_push (length old.nodes.items) 0 old.nodes.items more old.headings.items (zero_more (length old.nodes.items)) w
 
 pub done_title : (old new : OpenBlock) (h : Heading) → HasTitle old new h → IsPlaced old → done_of new ≡ done_of old ++ titled (title_of h) ∷ []
-unfolding items_of
 done_title old new h m w =
     let g : Heading = placed_after (length old.nodes.items) h in
-    ap (λ nodes. items_of nodes new.headings.items) m.nodes
-    ∙ ap (items_of old.nodes.items) m.headings
+    ap (λ nodes. items_from 0 nodes new.headings.items) m.nodes
+    ∙ ap (items_from 0 old.nodes.items) m.headings
     ∙ title_push (length old.nodes.items) 0 old.nodes.items old.headings.items g (zero_more (length old.nodes.items)) w refl
 
 placed_as : (n : ℕ) (hs : List Heading) (l : OpenBlock) → length l.nodes.items ≡ n → l.headings.items ≡ hs → AreWithin n hs → IsPlaced l

@@ -1,6 +1,6 @@
 -- Blocks below the last level must be blank.
-use Rattle.std.proofs.Common.{◌≡◌, ℕ, suc, Bool, true, false, [], ◌∷◌, Err, arith, refl, if◌then◌else◌}
-use Rattle.rst_text.specs.Block.{Line, Block, is_blank}
+use Rattle.std.proofs.Common.{◌≡◌, ℕ, suc, ◌+◌, ◌<◌, ◌≤◌, Bool, true, false, [], ◌∷◌, length, drop, Ok, Err, arith, refl, ◌∙◌, ap, if◌then◌else◌}
+use Rattle.rst_text.specs.Block.{Line, Block, is_blank, first_number}
 use Rattle.rst_markup_blocks.specs.Lines.{lines_while}
 use Rattle.rst_markup_blocks.specs.declared.lines.LineTest.TheVariants.{Blank}
 use Rattle.rst_block.specs.Nodes.{below_last_level, inner_nodes}
@@ -20,3 +20,12 @@ below_is (l ∷ ls) n = blank_or_refused (is_blank l.text) l ls n (below_is ls n
 pub last_level : (code : Bool) (X : Block) → inner_nodes code 0 X ≡ below_last_level X
 unfolding inner_nodes
 last_level code X = refl
+
+-- a block whose lines are blank up to a place, by that place
+pub blank_up_to : (X : Block) (i n : ℕ) → i ≡ 0 + lines_while Blank X → i ≤ length X → length X ≤ i → below_last_level X n ≡ Ok ([], n)
+blank_up_to X i n e within h = (below_is X n).blank (omega (arith, e, within, h))
+
+pub text_at_place : (X : Block) (i n : ℕ) → i ≡ 0 + lines_while Blank X → i < length X → below_last_level X n ≡ Err (first_number (drop i X))
+text_at_place X i n e h =
+    let w : lines_while Blank X ≡ i = omega (arith, e) in
+    (below_is X n).refused (omega (arith, e, h)) ∙ ap (λ k. Err (first_number (drop k X))) w

@@ -54,8 +54,13 @@ ends_first : (Q : Block) (o : Option ℕ) (k : ℕ) (a : Attribution)
 ends_first Q None k a e = absurd (none_is (k, a) e)
 ends_first Q (Some i) k a e = ends_in Q (attribution_in Q i) i k a refl e
 
-quotes_same : (c : Within) (f g : Block → Numbered (List Node)) (Q : Block) (n : ℕ) (o : Option (ℕ × Attribution)) → first_attribution Q ≡ o
-    → ((a : Attribution) → 1 ≤ a.end → (m : ℕ) → f (quote_after Q a) m ≡ g (quote_after Q a) m) → quotes_by c f Q o n ≡ quotes_by c g Q o n
+-- fewer lines are left after a quote
+fewer : (Q : Block) (a : Attribution) → 1 ≤ a.end → length (quote_after Q a) ≤ length Q - 1
+fewer Q a h =
+    omega (arith, length-drop (lines_while Blank (drop a.end Q)) (drop a.end Q), length-drop a.end Q, h)
+
+pub quotes_same : (c : Within) (f g : Block → Numbered (List Node)) (Q : Block) (n : ℕ) (o : Option (ℕ × Attribution)) → first_attribution Q ≡ o
+    → ((a : Attribution) → length (quote_after Q a) ≤ length Q - 1 → (m : ℕ) → f (quote_after Q a) m ≡ g (quote_after Q a) m) → quotes_by c f Q o n ≡ quotes_by c g Q o n
 quotes_same c f g Q n None e h = refl
 quotes_same c f g Q n (Some (k, a)) e h =
     same_after (texted AttributionTag (first_number (drop k Q)) (joined (lines_in Q (attribution_part k a))) (first_number (drop k Q)) n)
@@ -64,11 +69,7 @@ quotes_same c f g Q n (Some (k, a)) e h =
     (λ made i. same_after (c.inner (take k Q) i)
     (λ nodes. f (quote_after Q a) >>= λ more. just (quote_node Q (nodes ++ made.0 ∷ []) ∷ made.1 ++ more))
     (λ nodes. g (quote_after Q a) >>= λ more. just (quote_node Q (nodes ++ made.0 ∷ []) ∷ made.1 ++ more))
-    (λ nodes j. ap (then_read (λ more. just (quote_node Q (nodes ++ made.0 ∷ []) ∷ made.1 ++ more))) (h a (ends_first Q (first_from (λ k. is_some (attribution_in Q k)) 1 (length Q - 1)) k a e) j)))
-
-fewer : (Q : Block) (a : Attribution) → 1 ≤ a.end → length (quote_after Q a) ≤ length Q - 1
-fewer Q a h =
-    omega (arith, length-drop (lines_while Blank (drop a.end Q)) (drop a.end Q), length-drop a.end Q, h)
+    (λ nodes j. ap (then_read (λ more. just (quote_node Q (nodes ++ made.0 ∷ []) ∷ made.1 ++ more))) (h a (fewer Q a (ends_first Q (first_from (λ k. is_some (attribution_in Q k)) 1 (length Q - 1)) k a e)) j)))
 
 -- two counts that are large enough give the same quotes
 pub quotes_enough : (c : Within) (m k : ℕ) (Q : Block) (n : ℕ) → length Q ≤ m → length Q ≤ k → quotes c m Q n ≡ quotes c k Q n
@@ -80,4 +81,4 @@ quotes_enough c (suc m) zero (l ∷ ls) n h i = absurd (omega (arith, i))
 quotes_enough c (suc m) (suc k) [] n h i = refl
 quotes_enough c (suc m) (suc k) (l ∷ ls) n h i =
     quotes_same c (quotes c m) (quotes c k) (l ∷ ls) n (first_attribution (l ∷ ls)) refl (λ a some j.
-    quotes_enough c m k (quote_after (l ∷ ls) a) j (omega (arith, h, fewer (l ∷ ls) a some)) (omega (arith, i, fewer (l ∷ ls) a some)))
+    quotes_enough c m k (quote_after (l ∷ ls) a) j (omega (arith, h, some)) (omega (arith, i, some)))

@@ -1,19 +1,19 @@
 -- Laws on what the state of the machine means: where blocks begin, wait and end.
-use Rattle.std.specs.Prelude.{◌≡◌, ℕ, suc, ◌<◌, ◌≤◌, ◌⊎◌, length, List, [], ◌∷◌, ◌++◌, drop, Option, Some, None, Result, Ok, Err}
+use Rattle.std.specs.Prelude.{◌≡◌, ℕ, suc, ◌-◌, ◌<◌, ◌≤◌, ◌⊎◌, length, List, [], ◌∷◌, ◌++◌, drop, Option, Some, None, Result, Ok, Err}
 use Rattle.rst_text.specs.Block.{Block, first_number}
 use Rattle.rst_text.specs.Shown.{placement_block}
 use Rattle.rst_tree.specs.declared.node.Node.{Node}
 use Rattle.rst_markup_blocks.specs.Lines.{lines_while}
 use Rattle.rst_markup_blocks.specs.declared.lines.LineTest.TheVariants.{Blank}
 use Rattle.rst_markup_blocks.specs.declared.part.Part.{Part}
-use Rattle.rst_block_sections.specs.Sections.{title_of}
 use Rattle.rst_block_sections.specs.declared.heading.Heading.{Heading}
+use Rattle.rst_block_sections.specs.Sections.{title_of}
 use Rattle.rst_block.specs.Lists.{list_item}
-use Rattle.rst_block.specs.Meanings.{IsNew, open_of, deepest, within_at, done_of, reads, reads_from, with_item, resumed, after, plug, comes}
+use Rattle.rst_block.specs.Meanings.{IsNew, open_of, deepest, within_at, done_of, reads, reads_from, quotes_from, with_item, resumed, after, plug, comes}
 use Rattle.rst_block.specs.Nodes.{below_last_level, block_items, nodes_among}
 use Rattle.rst_block.specs.Numbered.{◌>>=◌, just, before}
-use Rattle.rst_block.specs.OpenBlocks.{HasMore, HasItem, HasTitle, IsPlaced}
-use Rattle.rst_block.specs.Quotes.{quotes}
+use Rattle.rst_block.specs.OpenBlocks.{IsMoved, HasMore, HasItem, HasTitle, IsPlaced}
+use Rattle.rst_block.specs.Quotes.{first_attribution, quotes}
 use Rattle.rst_block.specs.Rest.{ListSoFar, open_list, with_items, rest}
 use Rattle.rst_block.specs.Texts.{lines_in}
 use Rattle.rst_block.specs.Titles.{Item, titled}
@@ -21,7 +21,7 @@ use Rattle.rst_block.specs.Within.{Within}
 use Rattle.rst_block.specs.declared.frame.Frame.{Frame}
 use Rattle.rst_block.specs.declared.open_block.OpenBlock.{OpenBlock}
 use Rattle.rst_block.specs.declared.resume.Waits.{Waits}
-use Rattle.rst_block.specs.declared.resume.Waits.TheVariants.{ListItem}
+use Rattle.rst_block.specs.declared.resume.Waits.TheVariants.{ListItem, Quote}
 use Rattle.rst_block.specs.declared.step.Step.TheVariants.{Open}
 
 -- ---- blocks that wait
@@ -106,3 +106,11 @@ TitlesArePlaced = (old new : OpenBlock) (h : Heading) → HasTitle old new h →
 
 abbrev pub NodesKeepPlaces : Type 0
 NodesKeepPlaces = (old new : OpenBlock) (more : List Node) → HasMore old new more → IsPlaced old → IsPlaced new
+
+-- ---- block quotes
+
+-- a part is read as one quote where no attribution is in it: the block waits for the nodes of all its lines
+abbrev pub QuoteIsRead : Type 0
+QuoteIsRead = (old new : OpenBlock) (B : Block) (p : Part) (line number : ℕ) → first_attribution (lines_in B p) ≡ None → 1 ≤ length (lines_in B p)
+    → length (lines_in B p) ≤ p.to - p.from → IsMoved old new → new.at ≡ p.to → line ≡ first_number (lines_in B p)
+    → quotes_from old B [] p number ≡ comes new B (Open (Quote line None None p.to) p None) number

@@ -16,7 +16,7 @@ use Rattle.rst_block.specs.Constructs.{block_quote, grid}
 use Rattle.rst_block.specs.Directives.{first_paragraph, replacement}
 use Rattle.rst_block.specs.Figures.{caption_error, figure_nodes}
 use Rattle.rst_block.specs.Joins.{Joining, bullets, enumerators, definitions, fields, options, alone_ending}
-use Rattle.rst_block.specs.Nodes.{inner_nodes, nodes_among, ending_notes}
+use Rattle.rst_block.specs.Nodes.{below_last_level, inner_nodes, nodes_among, ending_notes}
 use Rattle.rst_block.specs.Numbered.{Numbered, ◌>>=◌, just, before}
 use Rattle.rst_block.specs.Quotes.{quotes}
 use Rattle.rst_block.specs.Rest.{ListSoFar, OpenRun, no_run, open_list, open_lines, open_markup, with_items, rest}
@@ -43,7 +43,7 @@ use Rattle.rst_block.specs.declared.step.Step.TheVariants.{Next, Open, Cells, Do
 -- what joins a list of a kind next
 abbrev pub joining_in : ListKind → Joining
 joining_in (Bullet c) = bullets c
-joining_in (Enumerated s) = enumerators s.format s.sequence (if s.auto then None else Some (s.next - 1))
+joining_in (Enumerated s) = enumerators s.format s.sequence s.last
 joining_in Definition = definitions
 joining_in Field = fields
 joining_in OptionItem = options
@@ -154,6 +154,12 @@ abbrev pub Keeps : {A R : Type 0} → Result A BlockFault → (A → Result (R �
 Keeps (Ok answer) follows read = follows answer ≡ read
 Keeps (Err (TooDeep line)) follows read = read ≡ Err line
 Keeps (Err NoMemory) follows read = Unit {0}
+
+-- the answer on a block below the last level, whatever the number of the next message: it is blank, or is refused at its first line that isn't
+abbrev pub TellsBlank : {A : Type 0} → Block → Result A BlockFault → Type 0
+TellsBlank X (Ok done) = (number : ℕ) → below_last_level X number ≡ Ok ([], number)
+TellsBlank X (Err (TooDeep line)) = (number : ℕ) → below_last_level X number ≡ Err line
+TellsBlank X (Err NoMemory) = ⊥
 
 -- nothing was read of a block
 pub record IsNew (l : OpenBlock) : Type 0 where

@@ -1,10 +1,13 @@
 -- What calls change of the block that is read. No rule of markup.
-use Rattle.std.specs.Prelude.{◌≡◌, ℕ, ◌≤◌, List, [], ◌∷◌, ◌++◌, length}
+use Rattle.std.specs.Prelude.{◌≡◌, ℕ, ◌≤◌, List, [], ◌∷◌, ◌++◌, length, map, Result, Ok, Err}
 use Rattle.rst_tree.specs.declared.node.Node.{Node}
 use Rattle.rst_block_sections.specs.declared.heading.Heading.{Heading}
 use Rattle.rst_block.specs.Joins.{Joining}
 use Rattle.rst_block.specs.Meanings.{open_of}
-use Rattle.rst_block.specs.Rest.{OpenRun, open_list, with_items}
+use Rattle.rst_block.specs.Rest.{OpenRun, no_run, open_list, with_items}
+use Rattle.rst_block.specs.Titles.{Item, plain}
+use Rattle.rst_block.specs.declared.fault.BlockFault.{BlockFault}
+use Rattle.rst_block.specs.declared.fault.BlockFault.TheVariants.{TooDeep, NoMemory}
 use Rattle.rst_block.specs.declared.open_block.OpenBlock.{OpenBlock}
 
 -- ---- open runs
@@ -63,6 +66,40 @@ pub record HasTitle (old new : OpenBlock) (h : Heading) : Type 0 where
   pub nodes : new.nodes.items ≡ old.nodes.items
   pub headings : new.headings.items ≡ old.headings.items ++ placed_after (length old.nodes.items) h ∷ []
   pub run : new.run ≡ old.run
+
+-- what is read are nodes, and then the next message on a text has this number; the nodes come after others
+pub record AreAdded (read : Result (List Node × ℕ) ℕ) (old new : List Node) (next : ℕ) : Type 0 where
+  pub more : List Node
+  pub given : read ≡ Ok (more, next)
+  pub nodes : new ≡ old ++ more
+
+-- what is read comes after other nodes, or is nested too deeply, or memory ran out
+abbrev pub Adds : {A : Type 0} → Result (List Node × ℕ) ℕ → List Node → List Node → ℕ → Result A BlockFault → Type 0
+Adds read old new next (Ok done) = AreAdded read old new next
+Adds read old new next (Err (TooDeep line)) = read ≡ Err line
+Adds read old new next (Err NoMemory) = Unit {0}
+
+-- what is read are nodes, which come after those of a block, and then this run is open; nothing else changes
+pub record IsClosed (read : Result (List Item × ℕ) ℕ) (old new : OpenBlock) (next : ℕ) (o : OpenRun) : Type 0 where
+  pub more : List Node
+  pub given : read ≡ Ok (map plain more, next)
+  pub depth : new.depth ≡ old.depth
+  pub at : new.at ≡ old.at
+  pub nodes : new.nodes.items ≡ old.nodes.items ++ more
+  pub headings : new.headings.items ≡ old.headings.items
+  pub run : open_of new.run ≡ o
+
+-- the same, or what is read is nested too deeply, or memory ran out
+abbrev pub Closes : {A : Type 0} → Result (List Item × ℕ) ℕ → OpenBlock → OpenBlock → ℕ → OpenRun → Result A BlockFault → Type 0
+Closes read old new next o (Ok done) = IsClosed read old new next o
+Closes read old new next o (Err (TooDeep line)) = read ≡ Err line
+Closes read old new next o (Err NoMemory) = Unit {0}
+
+-- the call gives a value of which this holds, or memory ran out
+abbrev pub Gives : {A : Type 0} → (A → Type 0) → Result A BlockFault → Type 0
+Gives P (Ok value) = P value
+Gives P (Err (TooDeep line)) = ⊥
+Gives P (Err NoMemory) = Unit {0}
 
 -- ---- titles
 

@@ -147,7 +147,7 @@ fn wrong(
     level.close(alloc, view, pass)?;
     let at = level.at;
     let end = at.saturating_add(form.lines);
-    let block = source(alloc, view, at, end, pass)?;
+    let block = source(alloc, view, at, end, &mut pass.looks)?;
     let line = number_at(view, at);
     let node = message(alloc, form.gravity, line, form.text, Some(block.as_str()))?;
     level.go_to(end);
@@ -172,7 +172,7 @@ fn overlined(
     level.close(alloc, view, pass)?;
     let at = level.at;
     let end = at.saturating_add(3);
-    let lines = source(alloc, view, at, end, pass)?;
+    let lines = source(alloc, view, at, end, &mut pass.looks)?;
     let warning = if short {
         let text = "Title overline too short.";
         Some(message(

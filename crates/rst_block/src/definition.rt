@@ -33,8 +33,6 @@ pub(crate) fn definition(
 {
     let at = level.at;
     let line = number_at(view, at);
-    let term = view.line(at, &mut pass.looks);
-    let heads = term_and_classifiers(alloc, term, line, &mut pass.numbers)?;
     let body = indented(view, at + 1, &mut pass.looks);
     let kind = ListKind::Definition;
     join_list(alloc, view, level, kind, Tag::DefinitionList, body.to, pass)?;
@@ -43,6 +41,8 @@ pub(crate) fn definition(
             open.before.push(info)?;
         }
     }
+    let term = view.line(at, &mut pass.looks);
+    let heads = term_and_classifiers(alloc, term, line, &mut pass.numbers)?;
     level.go_to(body.to);
     Ok(Step::Open {
         waits: Waits::ListedBody {

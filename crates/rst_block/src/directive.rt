@@ -1,10 +1,23 @@
 //! Directives as blocks (Markup Specification, 'Directives').
-ghost use Rattle.std.specs.Prelude.{◌≡◌, ℕ, ◌+◌, ◌-◌, ◌*◌, ◌^◌, ◌<◌, ◌≤◌, length, drop, IfOk, IfSome};
-ghost use Rattle.rst_text.specs.Block.{Block};
+ghost use Rattle.std.specs.Prelude.{◌≡◌, ℕ, ◌+◌, ◌-◌, ◌*◌, ◌^◌, ◌<◌, ◌≤◌, ◌∷◌, length, drop, Ok, IfOk, IfSome};
+ghost use Rattle.rst_text.specs.Block.{Block, first_number};
 ghost use Rattle.rst_text.specs.Shown.{block_of};
+ghost use Rattle.rst_tree.specs.Faults as faults;
+ghost use Rattle.rst_tree.specs.declared.note.Level.TheVariants.{Error};
+ghost use Rattle.rst_tree.specs.declared.tag.Tag.TheVariants.{Title as TitleTag};
+ghost use Rattle.rst_markup_directives.specs.Message.{fault_text};
+ghost use Rattle.rst_markup_directives.specs.Options.{choices_in};
+ghost use Rattle.rst_markup_directives.specs.Wrong.{fault_in};
+ghost use Rattle.rst_block_nodes.specs.Options.{directive_element};
+ghost use Rattle.rst_block_sections.specs.Sections.{filled};
+ghost use Rattle.rst_block.specs.Directives.{titled_element};
+ghost use Rattle.rst_block.specs.LineRuns.{number_or};
+ghost use Rattle.rst_block.specs.Numbered.{then_read, just};
 ghost use Rattle.rst_markup_directives.specs.Call.{IsArgumentIn, IsContentIn, IsDirectiveIn};
 ghost use Rattle.rst_markup_blocks.specs.Parts.{IsBlock, IsCall};
+ghost use Rattle.rst_block.specs.OpenBlocks.{Gives};
 ghost use Rattle.rst_block.specs.Steps as spec;
+ghost use Rattle.rst_block.specs.Texts.{joined, lines_in, shown, source_of, texted};
 
 use super::fault::BlockFault;
 use super::figure::OpenFigure;
@@ -13,7 +26,7 @@ use super::paragraph::is_single_paragraph;
 use super::part::inside;
 use super::resume::Waits;
 use super::step::Step;
-use super::texts::{Pass, alone, excerpt, joined, number_at, source};
+use super::texts::{Pass, alone, excerpt, first_line_or, joined, number_at, source};
 use rst_block_nodes::{
     code_block, directive_element, figure, image, message, with_text, with_title_class,
 };
@@ -23,8 +36,8 @@ use rst_markup_directives::{
     Argument, Content, Directive, DirectiveFault, Name, Place, Setting, called, directive,
     message as fault_text,
 };
-use rst_text::View;
-use rst_tree::{Level, Node, Tag};
+use rst_text::{Looks, View};
+use rst_tree::{Level, Node, Tag, TreeFault};
 use std::alloc::Global;
 
 /// What a directive is, where `place` is where it stands.
@@ -83,7 +96,8 @@ pub(crate) fn directive_block(
     match directive_at(alloc, view, at, invocation, place, pass)? {
         Directive::Wrong { fault, .. } => {
             let name = excerpt(alloc, view.line(at, &mut pass.looks), invocation.name)?;
-            let error = wrong_directive(alloc, view, at, end, &fault, name.as_str(), pass)?;
+            let name = name.as_str();
+            let error = wrong_directive(alloc, view, at, end, &fault, name, &mut pass.looks)?;
             level.go_to(end);
             level.push(error)?;
             Ok(Step::Next)
@@ -124,14 +138,15 @@ pub(crate) fn wrong_directive(
     end: usize,
     fault: &DirectiveFault,
     name: &str,
-    pass: &mut Pass,
+    looks: &mut Looks,
 ) -> Result<Node, BlockFault>
     requires short { length (block_of view.now) < 2 ^ 64 }
-    requires few { pass.old.looks < 2 ^ 120 }
-    ensures { pass.new.looks ≤ pass.old.looks + 2 ^ 64 }
+    requires few { looks.old < 2 ^ 120 }
+    ensures error { Gives (λ node. node ≡ shown Error (first_number (drop at (block_of view.now))) (fault_text (fault_in fault.now) name.now) (source_of (block_of view.now) (record { start = at; stop = end }))) result }
+    ensures looks { looks.new ≤ looks.old + 2 ^ 64 }
 {
     let text = fault_text(alloc, fault, name)?;
-    let lines = source(alloc, view, at, end, pass)?;
+    let lines = source(alloc, view, at, end, looks)?;
     Ok(message(
         alloc,
         Level::Error,
@@ -219,7 +234,7 @@ fn figure_block(
     let figure = OpenFigure {
         figure: node,
         line: number_at(view, at),
-        source: source(alloc, view, at, found.end, pass)?,
+        source: source(alloc, view, at, found.end, &mut pass.looks)?,
     };
     let waits = Waits::Figure(Box::new(alloc, figure)?);
     level.go_to(found.end);
@@ -246,7 +261,7 @@ fn code_nodes(
     ensures looks { IfOk result (λ _. pass.new.looks ≤ pass.old.looks + 2 ^ 75) }
 {
     let line = number_at(view, level.at);
-    let text = joined(alloc, &inside(view, found.content.second), pass)?;
+    let text = joined(alloc, &inside(view, found.content.second), &mut pass.looks)?;
     let language = match &found.argument {
         Argument::Language(language) => Some(language.as_str()),
         _ => None,
@@ -270,19 +285,16 @@ fn titled(
     title: Part,
     line: usize,
     pass: &mut Pass,
-) -> Result<Node, BlockFault>
+) -> Result<Node, TreeFault>
     requires title { IsBlock (block_of view.now) title }
     requires short { length (block_of view.now) < 2 ^ 64 }
     requires few { pass.old.looks < 2 ^ 120 }
-    ensures { pass.new.looks ≤ pass.old.looks + 2 ^ 64 }
+    ensures node { faults.Gives (λ node. then_read (λ made. just (filled (titled_element found.now.name (directive_element found.now.name (choices_in found.now.options.items) line) made.0) (made.0 ∷ made.1))) (texted TitleTag (number_or line (lines_in (block_of view.now) title)) (joined (lines_in (block_of view.now) title)) (number_or line (lines_in (block_of view.now) title)) pass.old.numbers) ≡ Ok (node, pass.new.numbers)) result }
+    ensures looks { pass.new.looks ≤ pass.old.looks + 2 ^ 64 }
 {
     let lines = inside(view, title);
-    let title_line = if 0 < lines.len() {
-        lines.number(0)
-    } else {
-        line
-    };
-    let text = joined(alloc, &lines, pass)?;
+    let title_line = first_line_or(&lines, line);
+    let text = joined(alloc, &lines, &mut pass.looks)?;
     let title = with_text(
         alloc,
         Tag::Title,
@@ -291,11 +303,20 @@ fn titled(
         title_line,
         &mut pass.numbers,
     )?;
-    let mut node = directive_element(alloc, found.name, found.options.as_slice(), line)?;
-    if matches!(found.name, Name::Admonition) {
-        node = with_title_class(alloc, node, &title.element)?;
-    }
+    let node = directive_element(alloc, found.name, found.options.as_slice(), line)?;
+    let node = titled_element(alloc, found.name, node, &title.element)?;
     let mut nodes = alone(alloc, title.element)?;
     append(&mut nodes, title.notes)?;
-    Ok(filled(node, nodes)?)
+    let node = filled(node, nodes)?;
+    Ok(node)
+}
+
+/// The element of a directive with a title: the title of an admonition gives its class, unless the options do.
+fn titled_element(alloc: Global, name: Name, element: Node, title: &Node) -> Result<Node, TreeFault>
+    ensures { faults.Gives (λ node. node ≡ titled_element name element title.now) result }
+{
+    match name {
+        Name::Admonition => with_title_class(alloc, element, title),
+        _ => Ok(element),
+    }
 }

@@ -1,11 +1,12 @@
 //! Explicit markup blocks (Markup Specification, 'Explicit Markup Blocks').
-ghost use Rattle.std.specs.Prelude.{◌≡◌, ◌+◌, ◌-◌, ◌*◌, ◌^◌, ◌<◌, ◌≤◌, length, drop, IfOk, IfSome, IsTrue};
-ghost use Rattle.rst_text.specs.Block.{Block};
+ghost use Rattle.std.specs.Prelude.{◌≡◌, ◌+◌, ◌-◌, ◌*◌, ◌^◌, ◌<◌, ◌≤◌, length, drop, string_bytes, IfOk, IfSome, IsTrue};
+ghost use Rattle.rst_text.specs.Block.{Block, front_text};
 ghost use Rattle.rst_text.specs.Shown.{block_of};
 ghost use Rattle.rst_markup_blocks.specs.Parts.{IsBlock, IsCall};
 ghost use Rattle.rst_markup_blocks.specs.Explicit.{IsExplicitIn, is_explicit_kind};
 ghost use Rattle.rst_markup_blocks.specs.Kinds.{kind_of};
 ghost use Rattle.rst_block.specs.Steps as spec;
+ghost use Rattle.rst_block.specs.Texts.{excerpt};
 
 use super::directive::directive_block;
 use super::fault::BlockFault;
@@ -19,9 +20,9 @@ use super::texts::{Pass, excerpt, joined, number_at};
 use rst_block_nodes::{citation, footnote, message, preserved, target};
 use rst_markup_blocks::{CommentCause, Explicit, Part, explicit};
 use rst_markup_lines::Characters;
-use rst_text::View;
+use rst_text::{Looks, View};
 use rst_tree::{Level, Node, Tag};
-use std::alloc::Global;
+use std::alloc::{AllocError, Global};
 
 /// Explicit markup, which joins other explicit markup before it.
 #[tactic(auto, using(crate::proofs::Looked::explicit_looks))]
@@ -88,7 +89,7 @@ fn markup_of(
         }
         Explicit::Directive(invocation) => directive_block(alloc, view, level, &invocation, pass),
         Explicit::Substitution { name, held, .. } => {
-            let name = label_text(alloc, view, level.at, name, pass)?;
+            let name = label_text(alloc, view, level.at, name, &mut pass.looks)?;
             substitution_definition(alloc, view, level, name.as_str(), held, end, pass)
         }
     }
@@ -111,7 +112,7 @@ fn footnote_block(
     ensures looks { IfOk result (λ _. pass.new.looks ≤ pass.old.looks + 2 ^ 70) }
 {
     let line = number_at(view, level.at);
-    let label = label_text(alloc, view, level.at, label, pass)?;
+    let label = label_text(alloc, view, level.at, label, &mut pass.looks)?;
     let element = footnote(alloc, label.as_str(), line)?;
     Ok(noted(level, element, body))
 }
@@ -133,7 +134,7 @@ fn citation_block(
     ensures looks { IfOk result (λ _. pass.new.looks ≤ pass.old.looks + 2 ^ 70) }
 {
     let line = number_at(view, level.at);
-    let label = label_text(alloc, view, level.at, label, pass)?;
+    let label = label_text(alloc, view, level.at, label, &mut pass.looks)?;
     let element = citation(alloc, label.as_str(), line)?;
     Ok(noted(level, element, body))
 }
@@ -155,10 +156,10 @@ fn target_block(
     ensures looks { IfOk result (λ _. pass.new.looks ≤ pass.old.looks + 2 ^ 70) }
 {
     let line = number_at(view, level.at);
-    let lines = joined(alloc, &inside(view, text), pass)?;
+    let lines = joined(alloc, &inside(view, text), &mut pass.looks)?;
     let element = match name {
         Some(name) => {
-            let name = label_text(alloc, view, level.at, name, pass)?;
+            let name = label_text(alloc, view, level.at, name, &mut pass.looks)?;
             target(alloc, Some(name.as_str()), lines.as_str(), line)?
         }
         None => target(alloc, None, lines.as_str(), line)?,
@@ -184,7 +185,7 @@ fn comment(
     ensures looks { IfOk result (λ _. pass.new.looks ≤ pass.old.looks + 2 ^ 70) }
 {
     let line = number_at(view, level.at);
-    let lines = joined(alloc, &inside(view, text), pass)?;
+    let lines = joined(alloc, &inside(view, text), &mut pass.looks)?;
     let node = preserved(alloc, Tag::Comment, line, lines.as_str())?;
     level.go_to(text.to);
     level.push(node)?;
@@ -197,14 +198,14 @@ fn label_text(
     view: &View<'_>,
     at: usize,
     place: Characters,
-    pass: &mut Pass,
-) -> Result<String, BlockFault>
+    looks: &mut Looks,
+) -> Result<String, AllocError>
     requires inside { at < length (block_of view.now) }
-    requires short { length (block_of view.now) < 2 ^ 64 }
-    requires few { pass.old.looks < 2 ^ 120 }
-    ensures { pass.new.looks ≤ pass.old.looks + 1 }
+    requires few { looks.old < 2 ^ 120 }
+    ensures text { IfOk result (λ label. string_bytes label ≡ excerpt (front_text (drop at (block_of view.now))) place) }
+    ensures looks { looks.new ≤ looks.old + 1 }
 {
-    Ok(excerpt(alloc, view.line(at, &mut pass.looks), place)?)
+    excerpt(alloc, view.line(at, looks), place)
 }
 
 /// Opens the block of a footnote or citation.

@@ -1,7 +1,12 @@
 //! Fields (Markup Specification, 'Field Lists').
-ghost use Rattle.std.specs.Prelude.{◌≡◌, ◌+◌, ◌-◌, ◌*◌, ◌^◌, ◌<◌, ◌≤◌, length, drop, IfOk, IfSome};
+ghost use Rattle.std.specs.Prelude.{◌≡◌, suc, ◌+◌, ◌-◌, ◌^◌, ◌<◌, ◌≤◌, [], length, drop, IfOk, Some};
+ghost use Rattle.rst_text.specs.Block.{first_number};
 ghost use Rattle.rst_text.specs.Shown.{block_of};
-ghost use Rattle.rst_markup_blocks.specs.Parts.{IsBlock, IsCall};
+ghost use Rattle.rst_tree.specs.Forest.{bare};
+ghost use Rattle.rst_tree.specs.declared.node.Node.TheVariants.{Element};
+ghost use Rattle.rst_block.specs.Meanings.{deepest, joining_in, list_kind_in, open_of};
+ghost use Rattle.rst_block.specs.OpenBlocks.{Closes, Gives, HasRun, begun_at, joined_at};
+ghost use Rattle.rst_block.specs.Rest.{closed_run};
 ghost use Rattle.rst_block.specs.Steps as spec;
 
 use super::fault::BlockFault;
@@ -33,15 +38,6 @@ pub(crate) fn field(
 {
     let at = level.at;
     let line = number_at(view, at);
-    let name = excerpt(alloc, view.line(at, &mut pass.looks), mark.name)?;
-    let name = with_text(
-        alloc,
-        Tag::FieldName,
-        line,
-        name.as_str(),
-        line,
-        &mut pass.numbers,
-    )?;
     let body = hanging(view, at, mark.marker, &mut pass.looks);
     join_list(
         alloc,
@@ -51,6 +47,15 @@ pub(crate) fn field(
         Tag::FieldList,
         body.to,
         pass,
+    )?;
+    let name = excerpt(alloc, view.line(at, &mut pass.looks), mark.name)?;
+    let name = with_text(
+        alloc,
+        Tag::FieldName,
+        line,
+        name.as_str(),
+        line,
+        &mut pass.numbers,
     )?;
     let mut heads = Vec::with_capacity(alloc, 2)?;
     heads.push(name.element)?;
@@ -79,8 +84,13 @@ pub(crate) fn join_list(
     end: usize,
     pass: &mut Pass,
 ) -> Result<(), BlockFault>
+    requires short { length (block_of view.now) < 2 ^ 64 }
+    requires few { pass.old.looks < 2 ^ 120 }
     ensures at { level.new.at ≡ level.old.at }
-    ensures looks { pass.new.looks ≡ pass.old.looks }
+    ensures joins { list_kind_in level.old.run ≡ Some kind → Gives (λ _. HasRun level.old level.new (joined_at (joining_in kind) end (open_of level.old.run))) result }
+    ensures numbers { list_kind_in level.old.run ≡ Some kind → pass.new.numbers ≡ pass.old.numbers }
+    ensures begins { (list_kind_in level.old.run ≡ Some kind → ⊥) → Closes (closed_run (suc deepest - level.old.depth) (block_of view.now) (open_of level.old.run) pass.old.numbers) level.old level.new pass.new.numbers (begun_at (joining_in kind) end (Element tag [] bare (first_number (drop level.old.at (block_of view.now))))) result }
+    ensures looks { pass.new.looks ≤ pass.old.looks + 1 }
 {
     if level.run.list_kind() == Some(kind) {
         level.join(kind, end);

@@ -1,9 +1,15 @@
 //! Figures (Directives, 'Figure').
-use super::fault::BlockFault;
-use super::texts::{alone, push};
+ghost use Rattle.std.specs.Prelude.{◌≡◌, ◌∷◌, ◌++◌, take, drop, string_bytes};
+ghost use Rattle.std.specs.Vec.Iter.{into_iter_items};
+ghost use Rattle.rst_tree.specs.Faults.{Gives};
+ghost use Rattle.rst_block_sections.specs.Sections.{filled};
+ghost use Rattle.rst_block.specs.Figures as spec;
+ghost use Rattle.rst_block.specs.Kept.{beginning_in};
+
+use super::texts::{alone, parted, push};
 use rst_block_nodes::{element_of, message};
 use rst_block_sections::{append, filled};
-use rst_tree::{Attrs, Children, Key, Level, Node, Tag};
+use rst_tree::{Attrs, Children, Key, Level, Node, Tag, TreeFault};
 use std::alloc::Global;
 use std::vec::IntoIter;
 
@@ -18,12 +24,10 @@ pub(crate) struct OpenFigure {
     pub source: String,
 }
 
-/// What stands at the front of a figure's content.
+/// What the content of a figure begins with.
 enum Front {
-    /// Nothing: the figure has no content.
-    Absent,
-    /// A caption: the attributes, the nodes and the line of a paragraph.
-    Caption(Attrs, Children, usize),
+    /// A caption, and how many messages on its text follow it.
+    Caption(Node, u64),
     /// An empty comment, in a caption's place.
     Missing,
     /// Something else.
@@ -35,27 +39,23 @@ pub(crate) fn finished_figure(
     alloc: Global,
     open: OpenFigure,
     nodes: Vec<Node>,
-) -> Result<Vec<Node>, BlockFault> {
+) -> Result<Vec<Node>, TreeFault>
+    ensures { Gives (λ made. made.items ≡ spec.figure_nodes open.figure (spec.caption_error open.line (string_bytes open.source)) nodes.items) result }
+{
     let OpenFigure {
         figure,
         line,
         source,
     } = open;
     let mut rest = nodes.into_iter();
-    match front_of(rest.next()) {
-        Front::Absent => alone(alloc, figure),
-        Front::Caption(attrs, children, line) => {
-            let count = text_messages(&attrs);
-            let caption = Node::Element {
-                tag: Tag::Caption,
-                attrs,
-                children,
-                line,
-            };
-            let figure = filled(figure, alone(alloc, caption)?)?;
-            captioned(alloc, figure, rest, count)
+    let Some(first) = rest.next() else {
+        return Ok(alone(alloc, figure)?);
+    };
+    match front_of(first) {
+        Front::Caption(caption, count) => {
+            captioned(alloc, figure, alone(alloc, caption)?, rest, count)
         }
-        Front::Missing => { captioned(alloc, figure, rest, 0) }
+        Front::Missing => captioned(alloc, figure, Vec::new(alloc), rest, 0),
         Front::Wrong => {
             let text = "Figure caption must be a paragraph or empty comment.";
             let error = message(alloc, Level::Error, line, text, Some(source.as_str()))?;
@@ -66,68 +66,78 @@ pub(crate) fn finished_figure(
     }
 }
 
-/// A figure with its caption, and the nodes behind that: the first ones, as many as `count`, are the messages of the caption and
-/// stand behind the figure, the others are its legend.
+/// A figure with its caption, if it has one, and the nodes behind that: the first ones, as many as `count`, are the messages of
+/// the caption and stand behind the figure, the others are its legend.
 fn captioned(
     alloc: Global,
     figure: Node,
+    mut held: Vec<Node>,
     rest: IntoIter<Node, Global>,
     count: u64,
-) -> Result<Vec<Node>, BlockFault> {
-    let mut notes = Vec::new(alloc);
-    let mut legend = Vec::new(alloc);
-    for node in rest {
-        if (notes.len() as u64) < count {
-            notes.push(node)?;
-        } else {
-            legend.push(node)?;
-        }
-    }
-    let figure = with_legend(alloc, figure, legend)?;
-    let mut nodes = alone(alloc, figure)?;
+) -> Result<Vec<Node>, TreeFault>
+    ensures { Gives (λ made. made.items ≡ filled figure (held.items ++ spec.legend_nodes (drop count (into_iter_items rest))) ∷ take count (into_iter_items rest)) result }
+{
+    let (notes, legend) = parted(alloc, rest, count)?;
+    append(&mut held, legend_nodes(alloc, legend)?)?;
+    let mut nodes = alone(alloc, filled(figure, held)?)?;
     append(&mut nodes, notes)?;
     Ok(nodes)
 }
 
 /// What the first node of a figure's content is.
-fn front_of(node: Option<Node>) -> Front {
+fn front_of(node: Node) -> Front
+    ensures { beginning_in result ≡ spec.beginning_of node }
+{
     match node {
-        None => Front::Absent,
-        Some(
-            Node::Element {
-                tag: Tag::Paragraph,
+        Node::Element {
+            tag: Tag::Paragraph,
+            attrs,
+            children,
+            line,
+        } => {
+            let count = text_messages(&attrs);
+            let caption = Node::Element {
+                tag: Tag::Caption,
                 attrs,
                 children,
                 line,
-            },
-        ) => Front::Caption(attrs, children, line),
-        Some(
-            Node::Element {
-                tag: Tag::Comment,
-                children,
-                ..
-            },
-        ) => {
-            if children.len() == 0 {
-                Front::Missing
-            } else {
-                Front::Wrong
-            }
+            };
+            Front::Caption(caption, count)
         }
-        Some(_) => Front::Wrong,
+        Node::Element {
+            tag: Tag::Comment,
+            children,
+            ..
+        } => comment_front(&children),
+        _ => Front::Wrong,
+    }
+}
+
+/// The same of a comment that holds these nodes.
+fn comment_front(children: &Children) -> Front
+    ensures { beginning_in result ≡ spec.comment_beginning children.now }
+{
+    if children.len() == 0 {
+        Front::Missing
+    } else {
+        Front::Wrong
     }
 }
 
 /// How many messages of its text follow a paragraph.
-fn text_messages(attrs: &Attrs) -> u64 {
+fn text_messages(attrs: &Attrs) -> u64
+    ensures { result ≡ spec.message_count attrs.now }
+{
     attrs.number(Key::TextMessages).unwrap_or(0)
 }
 
-/// A figure with a legend, if there is something in it.
-fn with_legend(alloc: Global, figure: Node, nodes: Vec<Node>) -> Result<Node, BlockFault> {
+/// The legend of some nodes, if there are some.
+fn legend_nodes(alloc: Global, nodes: Vec<Node>) -> Result<Vec<Node>, TreeFault>
+    ensures { Gives (λ made. made.items ≡ spec.legend_nodes nodes.items) result }
+{
     if nodes.is_empty() {
-        return Ok(figure);
+        return Ok(nodes);
     }
     let legend = element_of(Tag::Legend, Attrs::new(alloc), nodes, 0);
-    Ok(filled(figure, alone(alloc, legend)?)?)
+    Ok(alone(alloc, legend)?)
 }

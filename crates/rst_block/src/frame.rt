@@ -1,9 +1,11 @@
 //! Blocks that wait for one inside them.
-ghost use Rattle.std.specs.Prelude.{◌≡◌, ◌+◌, ◌-◌, ◌*◌, ◌^◌, ◌<◌, ◌≤◌, length, IfOk};
+ghost use Rattle.std.specs.Prelude.{◌≡◌, ◌+◌, ◌-◌, ◌*◌, ◌^◌, ◌<◌, ◌≤◌, [], length, IfOk};
 ghost use Rattle.rst_text.specs.Shown.{block_of, source_of, IsPlacement, placement_block};
 ghost use Rattle.rst_markup_blocks.specs.Parts.{IsBlock};
 ghost use Rattle.rst_block.specs.Steps as spec;
 ghost use Rattle.rst_block.specs.Frames as frames;
+ghost use Rattle.rst_block.specs.Meanings.{IsNew};
+ghost use Rattle.rst_block.specs.OpenBlocks.{IsPlaced};
 
 use super::fault::BlockFault;
 use super::open_block::OpenBlock;
@@ -70,6 +72,11 @@ pub(crate) fn opened(
     ensures block { placement_block (source_of view.now) result.placement ≡ block_of view.now }
     ensures at { result.level.at ≡ level.old.at }
     ensures begin { level.new.at ≡ 0 }
+    ensures kept { result.level ≡ level.old }
+    ensures waits { (result.waits ≡ waits) × (result.second ≡ second) × (result.nodes.items ≡ []) }
+    ensures begun { IsNew level.new }
+    ensures placed { IsPlaced level.new }
+    ensures depth { level.new.depth ≡ depth }
 {
     Frame {
         placement: view.placement(),

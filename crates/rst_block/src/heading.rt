@@ -1,11 +1,14 @@
 //! Titles of sections, as they are read.
-ghost use Rattle.std.specs.Prelude.{◌≡◌};
+ghost use Rattle.std.specs.Prelude.{◌≡◌, ◌∷◌, [], Ok, string_bytes};
+ghost use Rattle.std.specs.Str.{chars};
+ghost use Rattle.rst_tree.specs.Faults.{Gives};
+ghost use Rattle.rst_block_sections.specs.Sections.{title_of};
+ghost use Rattle.rst_block.specs.Titles.{title_item, titled};
 
-use super::fault::BlockFault;
 use super::texts::Pass;
 use rst_block_nodes::with_text;
 use rst_block_sections::{Heading, Style};
-use rst_tree::{Node, Tag};
+use rst_tree::{Node, Tag, TreeFault};
 use std::alloc::Global;
 
 /// A title with this text.
@@ -17,8 +20,9 @@ pub(crate) fn heading_of(
     warning: Option<Node>,
     source: String,
     pass: &mut Pass,
-) -> Result<Heading, BlockFault>
-    ensures { pass.new.looks ≡ pass.old.looks }
+) -> Result<Heading, TreeFault>
+    ensures title { Gives (λ heading. title_item style (chars text.now) line warning (string_bytes source) pass.old.numbers ≡ Ok (titled (title_of heading) ∷ [], pass.new.numbers)) result }
+    ensures looks { pass.new.looks ≡ pass.old.looks }
 {
     let title = with_text(alloc, Tag::Title, line, text, line, &mut pass.numbers)?;
     Ok(Heading {

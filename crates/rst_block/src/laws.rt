@@ -35,6 +35,11 @@ pub fn quotes_are_enough()
     ensures { meaning.EnoughQuotes }
 {}
 
+/// A part in which there is no attribution is read as one quote.
+pub(crate) fn quotes_are_read()
+    ensures { meaning.QuoteIsRead }
+{}
+
 /// A block below the last level gives nothing if it is blank, and else is refused at its first line that isn't.
 pub fn below_last_level_is_blank()
     ensures { meaning.BelowLastLevel }

@@ -66,7 +66,7 @@ fn bar_text(
     let line = number_at(view, at);
     let below = lines_between(view, at + 1, end);
     let below = inside(&below, indented(&below, 0, &mut pass.looks));
-    let further = joined(alloc, &below, pass)?;
+    let further = joined(alloc, &below, &mut pass.looks)?;
     if marker.bare {
         let text_line = if 0 < below.len() {
             below.number(0)

@@ -1,9 +1,15 @@
 //! Items of bullet lists and of enumerated lists (Markup Specification, 'Bullet Lists', 'Enumerated Lists').
-ghost use Rattle.std.specs.Prelude.{◌≡◌, ◌+◌, ◌-◌, ◌*◌, ◌^◌, ◌<◌, ◌≤◌, length, drop, IfOk, IfSome};
+ghost use Rattle.std.specs.Prelude.{◌≡◌, ◌+◌, ◌-◌, ◌*◌, ◌^◌, ◌<◌, ◌≤◌, length, drop, string_bytes, IfOk, IfSome};
+ghost use Rattle.std.specs.Option.{option_to_list};
+ghost use Rattle.std.specs.Str.{chars};
 ghost use Rattle.rst_text.specs.Block.{Block};
 ghost use Rattle.rst_text.specs.Shown.{block_of};
+ghost use Rattle.rst_tree.specs.Faults.{Gives};
+ghost use Rattle.rst_markup_lines.specs.Enumerator.{first_reading};
 ghost use Rattle.rst_markup_blocks.specs.Parts.{IsBlock, IsCall};
+ghost use Rattle.rst_block.specs.Lists as lists;
 ghost use Rattle.rst_block.specs.Steps as spec;
+ghost use Rattle.rst_block.specs.Texts.{excerpt};
 
 use super::fault::BlockFault;
 use super::open_block::OpenBlock;
@@ -11,12 +17,13 @@ use super::part::item_part;
 use super::resume::Waits;
 use super::run::{ListKind, Run, Sequel};
 use super::step::Step;
-use super::texts::{Pass, excerpt, number_at};
+use super::texts::{Pass, characters, number_at};
 use rst_block_nodes::{bullet_list, enumerated_list, start_message};
 use rst_markup_blocks::Part;
-use rst_markup_lines::{Characters, Enumerator, Format, Marker, Ordinals, first_reading};
-use rst_text::View;
-use std::alloc::Global;
+use rst_markup_lines::{Enumerator, Format, Marker, first_reading};
+use rst_text::{Looks, View};
+use rst_tree::{Node, TreeFault};
+use std::alloc::{AllocError, Global};
 
 /// Opens the block of an item.
 fn opened(level: &mut OpenBlock, line: usize, body: Part) -> Step
@@ -104,21 +111,10 @@ fn begin_enumerated_list(
     ensures looks { pass.new.looks ≤ pass.old.looks + 1 }
 {
     let at = level.at;
-    let line = number_at(view, at);
-    let ordinals = enumerator.written.ordinals;
-    let reading = first_reading(ordinals);
-    let kind = ListKind::Enumerated(Sequel {
-        format: enumerator.format,
-        sequence: reading.sequence,
-        next: reading.ordinal.saturating_add(1),
-        auto: matches!(ordinals, Ordinals::Auto),
-    });
-    let list = enumerated_list(alloc, enumerator, line)?;
+    let kind = ListKind::Enumerated(Sequel::of(enumerator));
+    let list = enumerated_list(alloc, enumerator, number_at(view, at))?;
     level.begin(alloc, kind, list, end)?;
-    if reading.ordinal != 1 {
-        let written = written_place(enumerator);
-        let written = excerpt(alloc, view.line(at, &mut pass.looks), written)?;
-        let note = start_message(alloc, written.as_str(), reading.ordinal, line)?;
+    if let Some(note) = start_note(alloc, view, at, enumerator, &mut pass.looks)? {
         if let Run::List(open) = &mut level.run {
             open.behind.push(note)?;
         }
@@ -126,15 +122,42 @@ fn begin_enumerated_list(
     Ok(())
 }
 
-/// The characters of an enumerator's ordinal in its line.
-fn written_place(enumerator: Enumerator) -> Characters {
-    let from = if matches!(enumerator.format, Format::Parentheses) {
-        1
-    } else {
-        0
-    };
-    Characters {
-        from,
-        to: enumerator.written.len.saturating_add(from),
+/// The message on an enumerated list that doesn't begin with the first ordinal, at the line of its first item.
+fn start_note(
+    alloc: Global,
+    view: &View<'_>,
+    at: usize,
+    enumerator: Enumerator,
+    looks: &mut Looks,
+) -> Result<Option<Node>, TreeFault>
+    requires inside { at < length (block_of view.now) }
+    requires few { looks.old < 2 ^ 120 }
+    ensures note { Gives (λ note. option_to_list note ≡ lists.start_note enumerator (first_reading enumerator.written.ordinals) (drop at (block_of view.now))) result }
+    ensures looks { looks.new ≤ looks.old + 1 }
+{
+    let ordinal = first_reading(enumerator.written.ordinals).ordinal;
+    if ordinal == 1 {
+        return Ok(None);
+    }
+    let written = written_ordinal(alloc, view.line(at, looks), enumerator)?;
+    let note = start_message(alloc, written.as_str(), ordinal, number_at(view, at))?;
+    Ok(Some(note))
+}
+
+/// An enumerator's ordinal as it is written in its line.
+fn written_ordinal(alloc: Global, text: &str, enumerator: Enumerator) -> Result<String, AllocError>
+    ensures { IfOk result (λ written. string_bytes written ≡ excerpt (chars text.now) (lists.ordinal_place enumerator)) }
+{
+    let from = ordinal_from(enumerator.format);
+    characters(alloc, text, from, enumerator.written.len)
+}
+
+/// How many characters come before an ordinal.
+fn ordinal_from(format: Format) -> usize
+    ensures { result ≡ lists.ordinal_from format }
+{
+    match format {
+        Format::Parentheses => 1,
+        _ => 0,
     }
 }

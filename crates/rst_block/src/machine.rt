@@ -2,6 +2,7 @@
 ghost use Rattle.std.specs.Prelude.{◌≡◌, ◌+◌, ◌-◌, ◌*◌, ◌^◌, ◌<◌, ◌≤◌, ◌++◌, ◌∷◌, [], length, drop, IfOk, IfSome, IfNone};
 ghost use Rattle.rst_text.specs.Shown.{block_of};
 ghost use Rattle.rst_markup_blocks.specs.Parts.{IsBlock, IsCall};
+ghost use Rattle.rst_block.specs.Meanings.{TellsBlank};
 ghost use Rattle.rst_block.specs.Steps as spec;
 ghost use Rattle.rst_block.specs.declared.step.Step.TheVariants.{Next};
 
@@ -160,7 +161,9 @@ fn last_of(frames: &mut Frames, base: usize) -> Option<Frame>
 fn not_blank(view: &View<'_>, pass: &mut Pass) -> Result<(), BlockFault>
     requires short { length (block_of view.now) < 2 ^ 64 }
     requires few { pass.old.looks < 2 ^ 120 }
-    ensures { pass.new.looks ≤ pass.old.looks + 2 ^ 65 }
+    ensures blank { TellsBlank (block_of view.now) result }
+    ensures numbers { pass.new.numbers ≡ pass.old.numbers }
+    ensures looks { pass.new.looks ≤ pass.old.looks + 2 ^ 65 }
 {
     let first = lines_end(view, 0, LineTest::Blank, &mut pass.looks);
     if first < view.len() {

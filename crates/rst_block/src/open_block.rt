@@ -1,8 +1,9 @@
 //! A block that is being read.
-ghost use Rattle.std.specs.Prelude.{◌≡◌, ℕ, ◌+◌, ◌-◌, ◌^◌, ◌<◌, ◌≤◌, ◌==◌, [], ◌∷◌, length, drop, IfOk};
+ghost use Rattle.std.specs.Prelude.{◌≡◌, ℕ, suc, ◌+◌, ◌-◌, ◌^◌, ◌<◌, ◌≤◌, ◌==◌, [], ◌∷◌, length, drop};
 ghost use Rattle.rst_text.specs.Shown.{block_of};
-ghost use Rattle.rst_block.specs.Meanings.{IsNew, joining_in, open_of};
+ghost use Rattle.rst_block.specs.Meanings.{IsNew, deepest, joining_in, open_of};
 ghost use Rattle.rst_block.specs.OpenBlocks as spec;
+ghost use Rattle.rst_block.specs.Rest.{closed_run, no_run};
 ghost use Rattle.rst_block.specs.Texts.{warned};
 
 use super::fault::BlockFault;
@@ -69,15 +70,15 @@ impl OpenBlock {
     /// Puts a node behind the last.
     pub fn push(&mut self, node: Node) -> Result<(), BlockFault>
         ensures at { self.new.at ≡ self.old.at }
-        ensures more { IfOk result (λ _. spec.HasMore self.old self.new (node ∷ [])) }
+        ensures more { spec.Gives (λ _. spec.HasMore self.old self.new (node ∷ [])) result }
     {
-        push(&mut self.nodes, node)
+        Ok(push(&mut self.nodes, node)?)
     }
 
     /// Puts more nodes behind the last.
     pub fn append(&mut self, more: Vec<Node>) -> Result<(), BlockFault>
         ensures at { self.new.at ≡ self.old.at }
-        ensures more { IfOk result (λ _. spec.HasMore self.old self.new more.items) }
+        ensures more { spec.Gives (λ _. spec.HasMore self.old self.new more.items) result }
     {
         Ok(append(&mut self.nodes, more)?)
     }
@@ -85,7 +86,7 @@ impl OpenBlock {
     /// Puts a title behind the last node.
     pub fn push_heading(&mut self, mut heading: Heading) -> Result<(), BlockFault>
         ensures at { self.new.at ≡ self.old.at }
-        ensures title { IfOk result (λ _. spec.HasTitle self.old self.new heading) }
+        ensures title { spec.Gives (λ _. spec.HasTitle self.old self.new heading) result }
     {
         heading.before = self.nodes.len();
         self.headings.push(heading)?;
@@ -99,22 +100,19 @@ impl OpenBlock {
         view: &View<'_>,
         pass: &mut Pass,
     ) -> Result<(), BlockFault>
+        requires short { length (block_of view.now) < 2 ^ 64 }
+        requires few { pass.old.looks < 2 ^ 120 }
         ensures at { self.new.at ≡ self.old.at }
-        ensures looks { pass.new.looks ≡ pass.old.looks }
+        ensures closed { spec.Closes (closed_run (suc deepest - self.old.depth) (block_of view.now) (open_of self.old.run) pass.old.numbers) self.old self.new pass.new.numbers no_run result }
+        ensures looks { pass.new.looks ≤ pass.old.looks + 1 }
     {
-        if matches!(self.run, Run::None) {
-            return Ok(());
-        }
         let run = mem::replace(&mut self.run, Run::None);
         let ending = run.ending();
         run.put(alloc, &mut self.nodes, self.depth, pass)?;
-        if let Some((end, text)) = ending {
-            if end == self.at && self.at < view.len() {
-                self.nodes
-                    .push(unindent(alloc, view.number(self.at), text)?)?;
-            }
+        match ending {
+            Some((end, text)) => self.warn(alloc, view, end, text, pass),
+            None => Ok(()),
         }
-        Ok(())
     }
 
     /// Announces an item that ends at `end`: it joins the list that is open, which goes on as `kind`.
@@ -137,7 +135,7 @@ impl OpenBlock {
         end: usize,
     ) -> Result<(), BlockFault>
         ensures at { self.new.at ≡ self.old.at }
-        ensures run { IfOk result (λ _. spec.HasRun self.old self.new (spec.begun_at (joining_in kind) end list)) }
+        ensures run { spec.Gives (λ _. spec.HasRun self.old self.new (spec.begun_at (joining_in kind) end list)) result }
     {
         let open = OpenList {
             kind,
@@ -154,11 +152,11 @@ impl OpenBlock {
     /// Puts an item into the open list; without one it is a node of its own.
     pub fn push_item(&mut self, item: Node) -> Result<(), BlockFault>
         ensures at { self.new.at ≡ self.old.at }
-        ensures item { IfOk result (λ _. spec.HasItem self.old self.new item) }
+        ensures item { spec.Gives (λ _. spec.HasItem self.old self.new item) result }
     {
         match &mut self.run {
-            Run::List(open) => push(&mut open.items, item),
-            _ => push(&mut self.nodes, item),
+            Run::List(open) => Ok(push(&mut open.items, item)?),
+            _ => Ok(push(&mut self.nodes, item)?),
         }
     }
 
@@ -174,7 +172,7 @@ impl OpenBlock {
         requires short { length (block_of view.now) < 2 ^ 64 }
         requires few { pass.old.looks < 2 ^ 120 }
         ensures at { self.new.at ≡ self.old.at }
-        ensures more { IfOk result (λ _. spec.HasMore self.old self.new (warned text.now (drop end (block_of view.now)))) }
+        ensures more { spec.Gives (λ _. spec.HasMore self.old self.new (warned text.now (drop end (block_of view.now)))) result }
         ensures numbers { pass.new.numbers ≡ pass.old.numbers }
         ensures looks { pass.new.looks ≤ pass.old.looks + 1 }
     {

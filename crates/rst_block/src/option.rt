@@ -1,7 +1,10 @@
 //! Items of option lists (Markup Specification, 'Option Lists').
 ghost use Rattle.std.specs.Prelude.{◌≡◌, ◌+◌, ◌-◌, ◌*◌, ◌^◌, ◌<◌, ◌≤◌, length, drop, IfOk, IfSome};
+ghost use Rattle.std.specs.Str.{chars};
 ghost use Rattle.rst_text.specs.Shown.{block_of};
+ghost use Rattle.rst_tree.specs.Faults.{Gives};
 ghost use Rattle.rst_markup_blocks.specs.Parts.{IsBlock, IsCall};
+ghost use Rattle.rst_block.specs.Lists as lists;
 ghost use Rattle.rst_block.specs.Steps as spec;
 
 use super::fault::BlockFault;
@@ -12,10 +15,10 @@ use super::resume::Waits;
 use super::run::ListKind;
 use super::step::Step;
 use super::texts::{Pass, excerpt, number_at};
-use rst_block_nodes::option;
+use rst_block_nodes::{element_of, option};
 use rst_markup_lines::{ListedOption, Marker, listed_options};
 use rst_text::View;
-use rst_tree::{Children, Node, Tag};
+use rst_tree::{Attrs, Node, Tag, TreeFault};
 use std::alloc::Global;
 
 /// An item of an option list.
@@ -62,25 +65,14 @@ pub(crate) fn option_item(
 }
 
 /// The options at the front of a line.
-fn option_group(alloc: Global, text: &str, line: usize) -> Result<Node, BlockFault> {
-    let mut children = Children::new(alloc);
+fn option_group(alloc: Global, text: &str, line: usize) -> Result<Node, TreeFault>
+    ensures { Gives (λ node. node ≡ lists.option_group (chars text.now) line) result }
+{
+    let mut options = Vec::new(alloc);
     for listed in listed_options(alloc, text)? {
-        children.push(option_of(alloc, text, listed, line)?)?;
+        options.push(option_of(alloc, text, listed, line)?)?;
     }
-    match Node::element(alloc, Tag::OptionGroup, line) {
-        Node::Element {
-            tag,
-            attrs,
-            line,
-            ..
-        } => Ok(Node::Element {
-            tag,
-            attrs,
-            children,
-            line,
-        }),
-        Node::Text(text) => Ok(Node::Text(text)),
-    }
+    Ok(element_of(Tag::OptionGroup, Attrs::new(alloc), options, line))
 }
 
 /// An option of a line.
@@ -89,12 +81,14 @@ fn option_of(
     text: &str,
     listed: ListedOption,
     line: usize,
-) -> Result<Node, BlockFault> {
+) -> Result<Node, TreeFault>
+    ensures { Gives (λ node. node ≡ lists.option_in (chars text.now) line listed) result }
+{
     let string = excerpt(alloc, text, listed.string)?;
     let Some(argument) = listed.argument else {
-        return Ok(option(alloc, string.as_str(), None, line)?);
+        return option(alloc, string.as_str(), None, line);
     };
     let written = excerpt(alloc, text, argument.text)?;
     let argument = Some((argument.delimiter, written.as_str()));
-    Ok(option(alloc, string.as_str(), argument, line)?)
+    option(alloc, string.as_str(), argument, line)
 }

@@ -38,7 +38,7 @@ pub(crate) fn doctest_block(
     level.close(alloc, view, pass)?;
     let at = level.at;
     let end = lines_end(view, at, LineTest::Filled, &mut pass.looks);
-    let text = source(alloc, view, at, end, pass)?;
+    let text = source(alloc, view, at, end, &mut pass.looks)?;
     let node = preserved(alloc, Tag::DoctestBlock, number_at(view, at), text.as_str())?;
     level.go_to(end);
     level.push(node)
@@ -76,7 +76,7 @@ pub(crate) fn paragraph(
         let text = view.line(at, &mut pass.looks);
         return paragraph_of(alloc, view, level, text, end, pass);
     }
-    let text = source(alloc, view, at, end, pass)?;
+    let text = source(alloc, view, at, end, &mut pass.looks)?;
     paragraph_of(alloc, view, level, text.as_str(), end, pass)
 }
 
@@ -193,7 +193,7 @@ fn indented_literal(
     ensures looks { IfOk result (λ _. pass.new.looks ≤ pass.old.looks + 2 ^ 74) }
 {
     let lines = indented(view, start, &mut pass.looks);
-    let text = joined(alloc, &inside(view, lines), pass)?;
+    let text = joined(alloc, &inside(view, lines), &mut pass.looks)?;
     let node = preserved(
         alloc,
         Tag::LiteralBlock,
@@ -223,7 +223,7 @@ fn quoted_literal(
     ensures looks { IfOk result (λ _. pass.new.looks ≤ pass.old.looks + 2 ^ 74) }
 {
     let end = lines_end(view, start, LineTest::Begins(quote), &mut pass.looks);
-    let text = source(alloc, view, start, end, pass)?;
+    let text = source(alloc, view, start, end, &mut pass.looks)?;
     let node = preserved(
         alloc,
         Tag::LiteralBlock,

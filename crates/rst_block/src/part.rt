@@ -1,8 +1,9 @@
 //! Parts of a view that are blocks inside.
-ghost use Rattle.std.specs.Prelude.{◌≡◌, ◌+◌, ◌-◌, ◌*◌, ◌^◌, ◌<◌, ◌≤◌, length, drop, IfOk, IfSome};
+ghost use Rattle.std.specs.Prelude.{◌≡◌, ◌+◌, ◌-◌, ◌^◌, ◌<◌, ◌≤◌, length, drop};
 ghost use Rattle.rst_text.specs.Shown.{block_of, source_of};
-ghost use Rattle.rst_markup_blocks.specs.Parts.{IsBlock, IsCall};
-ghost use Rattle.rst_block.specs.Steps as spec;
+ghost use Rattle.rst_markup_blocks.specs.Parts.{IsBlock};
+ghost use Rattle.rst_block.specs.Texts.{lines_in};
+ghost use Rattle.rst_block.specs.Within as within;
 
 use rst_markup_blocks::{Part, hanging_part, item_end};
 use rst_markup_lines::Marker;
@@ -14,6 +15,7 @@ pub(crate) fn indented(view: &View<'_>, from: usize, looks: &mut Looks) -> Part
     requires short { length (block_of view.now) < 2 ^ 64 }
     requires few { looks.old < 2 ^ 120 }
     ensures block { IsBlock (block_of view.now) result }
+    ensures part { result ≡ within.indented_part from (drop from (block_of view.now)) }
     ensures from { result.from ≡ from }
     ensures looks { looks.new ≤ looks.old + 2 ^ 64 }
 {
@@ -32,6 +34,7 @@ pub(crate) fn hanging(view: &View<'_>, at: usize, marker: Marker, looks: &mut Lo
     requires short { length (block_of view.now) < 2 ^ 64 }
     requires few { looks.old < 2 ^ 120 }
     ensures block { IsBlock (block_of view.now) result }
+    ensures part { result ≡ within.hanging at marker (drop at (block_of view.now)) }
     ensures looks { looks.new ≤ looks.old + 2 ^ 66 }
 {
     hanging_part(view, at, marker.cut, marker.bare, looks)
@@ -43,6 +46,7 @@ pub(crate) fn item_part(view: &View<'_>, at: usize, marker: Marker, looks: &mut 
     requires short { length (block_of view.now) < 2 ^ 64 }
     requires few { looks.old < 2 ^ 120 }
     ensures block { IsBlock (block_of view.now) result }
+    ensures part { result ≡ within.item_part at marker (drop at (block_of view.now)) }
     ensures looks { looks.new ≤ looks.old + 2 ^ 66 }
 {
     if marker.bare {
@@ -59,6 +63,7 @@ pub(crate) fn item_part(view: &View<'_>, at: usize, marker: Marker, looks: &mut 
 /// A part of a view as a view.
 pub(crate) fn inside<'a>(view: &View<'a>, part: Part) -> View<'a>
     requires { IsBlock (block_of view.now) part }
+    ensures block { block_of result ≡ lines_in (block_of view.now) part }
     ensures lines { length (block_of result) ≡ part.to - part.from }
     ensures fewer { length (block_of result) ≤ length (block_of view.now) }
     ensures text { source_of result ≡ source_of view.now }

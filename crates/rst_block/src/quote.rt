@@ -1,9 +1,14 @@
 //! Block quotes with their attributions (Markup Specification, 'Block Quotes').
-ghost use Rattle.std.specs.Prelude.{◌≡◌, ◌+◌, ◌-◌, ◌*◌, ◌^◌, ◌<◌, ◌≤◌, length, drop, IfOk, IfSome};
+ghost use Rattle.std.specs.Prelude.{◌≡◌, ◌+◌, ◌-◌, ◌*◌, ◌^◌, ◌<◌, ◌≤◌, length, drop, Ok, IfOk, IfSome};
+ghost use Rattle.rst_text.specs.Block.{first_number};
 ghost use Rattle.rst_text.specs.Shown.{block_of};
-ghost use Rattle.rst_markup_blocks.specs.Parts.{IsBlock, IsCall};
+ghost use Rattle.rst_tree.specs.Faults.{Gives};
+ghost use Rattle.rst_tree.specs.declared.tag.Tag.TheVariants.{Attribution as AttributionTag};
+ghost use Rattle.rst_markup_blocks.specs.Parts.{IsBlock};
 ghost use Rattle.rst_markup_blocks.specs.Attributions.{attribution_part};
+ghost use Rattle.rst_block.specs.Quotes as quotes;
 ghost use Rattle.rst_block.specs.Steps as spec;
+ghost use Rattle.rst_block.specs.Texts.{joined, lines_in, texted};
 
 use super::fault::BlockFault;
 use super::open_block::OpenBlock;
@@ -13,8 +18,8 @@ use super::step::Step;
 use super::texts::{Pass, joined, number_at};
 use rst_block_nodes::{Texted, with_text};
 use rst_markup_blocks::{Attribution, LineTest, Part, attribution_at, lines_end};
-use rst_text::View;
-use rst_tree::Tag;
+use rst_text::{Looks, View};
+use rst_tree::{Tag, TreeFault};
 use std::alloc::Global;
 
 /// A block quote.
@@ -55,7 +60,7 @@ pub(crate) fn quote_part(
 {
     let line = number_at(view, quote.from);
     let lines = inside(view, quote);
-    match first_attribution(&lines, pass) {
+    match first_attribution(&lines, &mut pass.looks) {
         None => {
             level.go_to(quote.to);
             Ok(Step::Open {
@@ -70,7 +75,8 @@ pub(crate) fn quote_part(
             })
         }
         Some((place, found)) => {
-            let attribution = attribution_text(alloc, &lines, place, found, pass)?;
+            let made = attribution_text(alloc, &lines, place, found, pass)?;
+            let attribution = Box::new(alloc, made)?;
             let next = lines_end(&lines, found.end, LineTest::Blank, &mut pass.looks);
             level.go_to(quote.from + next);
             Ok(Step::Open {
@@ -106,23 +112,24 @@ fn rest_of(quote: Part, next: usize) -> Option<Part>
 }
 
 /// The first attribution in a quote, with its place: behind a blank line.
-fn first_attribution(lines: &View<'_>, pass: &mut Pass) -> Option<(usize, Attribution)>
+fn first_attribution(lines: &View<'_>, looks: &mut Looks) -> Option<(usize, Attribution)>
     requires short { length (block_of lines.now) < 2 ^ 64 }
-    requires few { pass.old.looks < 2 ^ 119 + 2 ^ 113 }
+    requires few { looks.old < 2 ^ 119 + 2 ^ 113 }
+    ensures first { result ≡ quotes.first_attribution (block_of lines.now) }
     ensures place { IfSome result (λ found. (0 < found.0) × (found.0 ≤ found.1.end)) }
     ensures within { IfSome result (λ found. IsBlock (block_of lines.now) (attribution_part found.0 found.1)) }
-    ensures looks { pass.new.looks ≤ pass.old.looks + 2 ^ 68 }
+    ensures looks { looks.new ≤ looks.old + 2 ^ 68 }
 {
-    let mut end = lines_end(lines, 0, LineTest::Filled, &mut pass.looks);
+    let mut end = lines_end(lines, 0, LineTest::Filled, looks);
     while end < lines.len() {
-        let place = lines_end(lines, end + 1, LineTest::Blank, &mut pass.looks);
+        let place = lines_end(lines, end + 1, LineTest::Blank, looks);
         if place >= lines.len() {
-            break;
+            return None;
         }
-        if let Some(found) = attribution_at(lines, place, &mut pass.looks) {
-            return Some((place, found));
+        match attribution_at(lines, place, looks) {
+            Some(found) => return Some((place, found)),
+            None => end = lines_end(lines, place + 1, LineTest::Filled, looks),
         }
-        end = lines_end(lines, place + 1, LineTest::Filled, &mut pass.looks);
     }
     None
 }
@@ -134,11 +141,12 @@ fn attribution_text(
     place: usize,
     found: Attribution,
     pass: &mut Pass,
-) -> Result<Box<Texted>, BlockFault>
+) -> Result<Texted, TreeFault>
     requires inside { IsBlock (block_of lines.now) (attribution_part place found) }
     requires short { length (block_of lines.now) < 2 ^ 64 }
     requires few { pass.old.looks < 2 ^ 120 }
-    ensures { pass.new.looks ≤ pass.old.looks + 2 ^ 64 }
+    ensures text { Gives (λ made. texted AttributionTag (first_number (drop place (block_of lines.now))) (joined (lines_in (block_of lines.now) (attribution_part place found))) (first_number (drop place (block_of lines.now))) pass.old.numbers ≡ Ok ((made.element, made.notes.items), pass.new.numbers)) result }
+    ensures looks { pass.new.looks ≤ pass.old.looks + 2 ^ 64 }
 {
     let line = number_at(lines, place);
     let text = inside(
@@ -150,8 +158,8 @@ fn attribution_text(
             rest_cut: found.indent,
         },
     );
-    let text = joined(alloc, &text, pass)?;
-    let attribution = with_text(
+    let text = joined(alloc, &text, &mut pass.looks)?;
+    let made = with_text(
         alloc,
         Tag::Attribution,
         line,
@@ -159,5 +167,5 @@ fn attribution_text(
         line,
         &mut pass.numbers,
     )?;
-    Ok(Box::new(alloc, attribution)?)
+    Ok(made)
 }

@@ -1,15 +1,23 @@
 //! Constructs that join with those before them: items of one list, lines of one line block, explicit markup.
-ghost use Rattle.std.specs.Prelude.{◌≡◌, Some, None, IfSome, IfNone};
-ghost use Rattle.rst_block.specs.Joins.{joined_ending};
-ghost use Rattle.rst_block.specs.Meanings.{joining_in, list_kind_in, open_of};
-ghost use Rattle.rst_block.specs.Rest.{end_of_run, joining_of_run};
+ghost use Rattle.std.specs.Prelude.{◌≡◌, suc, ◌-◌, ◌∷◌, ◌++◌, Some, None, IfSome, IfNone, option_map};
+ghost use Rattle.rst_tree.specs.Faults.{Gives};
+ghost use Rattle.rst_block_nodes.specs.LineBlocks.{indented};
+ghost use Rattle.rst_block_sections.specs.Sections.{filled};
+ghost use Rattle.rst_block.specs.Constructs.{enumerated_item};
+ghost use Rattle.rst_block.specs.Joins as joins;
+ghost use Rattle.rst_block.specs.Joins.{enumerators, enumerators_by, joined_ending, list_joining, list_joining_after};
+ghost use Rattle.rst_block.specs.Meanings.{deepest, joining_in, list_kind_in, open_of};
+ghost use Rattle.rst_block.specs.OpenBlocks.{Adds};
+ghost use Rattle.rst_block.specs.Rest.{end_of_run, joining_of_run, open_lines, run_nodes};
 
 use super::fault::BlockFault;
 use super::texts::{Pass, push};
 use rst_block_nodes::{BarText, LineBlockFault, line_block};
 use rst_block_sections::{append, filled};
-use rst_markup_lines::{Enumerator, Format, Ordinals, Sequence, is_same_format, ordinal_in};
-use rst_tree::Node;
+use rst_markup_lines::{
+    Enumerator, Format, Ordinals, Sequence, first_reading, is_same_format, ordinal_in,
+};
+use rst_tree::{Node, TreeFault};
 use std::alloc::Global;
 
 /// How many blocks a block may stand in.
@@ -20,10 +28,8 @@ pub(crate) const DEEPEST: usize = 250;
 pub(crate) struct Sequel {
     pub format: Format,
     pub sequence: Sequence,
-    /// The ordinal after that of the last item.
-    pub next: u64,
-    /// Whether the last item's enumerator is `#`: then only `#` goes on.
-    pub auto: bool,
+    /// The ordinal of the last item; none where that is `#`: then only `#` goes on.
+    pub last: Option<u64>,
 }
 
 /// What makes items those of one list.
@@ -78,22 +84,66 @@ impl ListKind {
     }
 }
 
+/// The ordinal of a list's first item, unless it is `#`.
+fn ordinal_of(ordinals: Ordinals) -> Option<u64>
+    ensures { result ≡ joins.ordinal_of ordinals }
+{
+    match ordinals {
+        Ordinals::Auto => None,
+        _ => Some(first_reading(ordinals).ordinal),
+    }
+}
+
+/// Whether an ordinal is the next after the last one.
+fn is_next_after(last: u64, ordinal: Option<u64>) -> bool
+    ensures { result ≡ joins.is_next_after last ordinal }
+{
+    match ordinal {
+        Some(ordinal) => ordinal.checked_sub(1) == Some(last),
+        None => false,
+    }
+}
+
 impl Sequel {
-    /// What must follow an enumerator that joins the list, or none where it doesn't.
-    pub fn after(self, enumerator: Enumerator) -> Option<Sequel> {
+    /// What joins a list that begins with this enumerator.
+    pub fn of(enumerator: Enumerator) -> Sequel
+        ensures { enumerators result.format result.sequence result.last ≡ list_joining (enumerated_item enumerator) }
+    {
+        let ordinals = enumerator.written.ordinals;
+        Sequel {
+            format: enumerator.format,
+            sequence: first_reading(ordinals).sequence,
+            last: ordinal_of(ordinals),
+        }
+    }
+
+    /// What joins the list next after this enumerator, if that joins it.
+    pub fn after(self, enumerator: Enumerator) -> Option<Sequel>
+        ensures { option_map (λ next. enumerators next.format next.sequence next.last) result ≡ list_joining_after (enumerators self.format self.sequence self.last) (enumerated_item enumerator) }
+    {
         if !is_same_format(self.format, enumerator.format) {
             return None;
         }
-        let ordinals = enumerator.written.ordinals;
-        let auto = matches!(ordinals, Ordinals::Auto);
-        if auto || (!self.auto && ordinal_in(self.sequence, ordinals) == Some(self.next)) {
-            return Some(Sequel {
-                next: self.next.saturating_add(1),
-                auto,
-                ..self
-            });
+        self.after_ordinals(enumerator.written.ordinals)
+    }
+
+    /// The same, by the ordinals of an enumerator of the list's format.
+    fn after_ordinals(self, ordinals: Ordinals) -> Option<Sequel>
+        ensures { option_map (λ next. enumerators next.format next.sequence next.last) result ≡ enumerators_by self.format self.sequence self.last ordinals }
+    {
+        if matches!(ordinals, Ordinals::Auto) {
+            return Some(Sequel { last: None, ..self });
         }
-        None
+        let last = self.last?;
+        let ordinal = ordinal_in(self.sequence, ordinals);
+        if is_next_after(last, ordinal) {
+            Some(Sequel {
+                last: ordinal,
+                ..self
+            })
+        } else {
+            None
+        }
     }
 }
 
@@ -133,18 +183,21 @@ impl Run {
         depth: usize,
         pass: &mut Pass,
     ) -> Result<(), BlockFault>
-        ensures { pass.new.looks ≡ pass.old.looks }
+        ensures nodes { Adds (run_nodes (suc deepest - depth) (open_of self) pass.old.numbers) nodes.old.items nodes.new.items pass.new.numbers result }
+        ensures looks { pass.new.looks ≡ pass.old.looks }
     {
         match self {
             Run::None | Run::Explicit { .. } => Ok(()),
-            Run::List(open) => put_list(nodes, Box::into_inner(open)),
+            Run::List(open) => Ok(put_list(nodes, Box::into_inner(open))?),
             Run::Lines { lines, .. } => put_lines(alloc, nodes, lines, depth, pass),
         }
     }
 }
 
 /// Puts a list between its messages behind other nodes.
-fn put_list(nodes: &mut Vec<Node>, open: OpenList) -> Result<(), BlockFault> {
+fn put_list(nodes: &mut Vec<Node>, open: OpenList) -> Result<(), TreeFault>
+    ensures { Gives (λ _. nodes.new.items ≡ nodes.old.items ++ open.before.items ++ filled open.list open.items.items ∷ open.behind.items) result }
+{
     let OpenList {
         before,
         list,
@@ -154,7 +207,7 @@ fn put_list(nodes: &mut Vec<Node>, open: OpenList) -> Result<(), BlockFault> {
     } = open;
     append(nodes, before)?;
     push(nodes, filled(list, items)?)?;
-    Ok(append(nodes, behind)?)
+    append(nodes, behind)
 }
 
 /// Puts a line block and the messages of its texts behind other nodes.
@@ -165,7 +218,8 @@ fn put_lines(
     depth: usize,
     pass: &mut Pass,
 ) -> Result<(), BlockFault>
-    ensures { pass.new.looks ≡ pass.old.looks }
+    ensures nodes { Adds (run_nodes (suc deepest - depth) (open_lines 0 (indented lines.items)) pass.old.numbers) nodes.old.items nodes.new.items pass.new.numbers result }
+    ensures looks { pass.new.looks ≡ pass.old.looks }
 {
     match line_block(alloc, lines, depth, DEEPEST, &mut pass.numbers) {
         Ok(block) => {

@@ -1,9 +1,23 @@
 //! Substitution definitions (Markup Specification, 'Substitution Definitions').
-ghost use Rattle.std.specs.Prelude.{◌≡◌, ◌+◌, ◌-◌, ◌*◌, ◌^◌, ◌<◌, ◌≤◌, length, drop, IfOk, IfSome};
+ghost use Rattle.std.specs.Prelude.{◌≡◌, ◌+◌, ◌-◌, ◌*◌, ◌^◌, ◌<◌, ◌≤◌, List, ◌∷◌, [], false, Some, length, drop, string_bytes, IfOk, IfSome};
+ghost use Rattle.std.specs.Option.{option_map_or};
+ghost use Rattle.rst_text.specs.Block.{first_number, front_text};
 ghost use Rattle.rst_text.specs.Shown.{block_of};
+ghost use Rattle.rst_tree.specs.Faults.{Gives};
+ghost use Rattle.rst_tree.specs.Nodes.{nodes_of};
+ghost use Rattle.rst_tree.specs.declared.note.Level.TheVariants.{Error};
+ghost use Rattle.rst_markup_directives.specs.Message.{fault_text};
+ghost use Rattle.rst_markup_directives.specs.Options.{choices_in};
+ghost use Rattle.rst_markup_directives.specs.Wrong.{fault_in};
+ghost use Rattle.rst_block_nodes.specs.Elements.{substitution_definition_node};
+ghost use Rattle.rst_block_nodes.specs.Options.{image_element};
 ghost use Rattle.rst_markup_directives.specs.Call.{IsContentIn};
 ghost use Rattle.rst_markup_blocks.specs.Parts.{IsBlock, IsCall};
+ghost use Rattle.rst_block_sections.specs.Sections.{filled};
+ghost use Rattle.rst_block.specs.Directives as directives;
+ghost use Rattle.rst_block.specs.OpenBlocks as blocks;
 ghost use Rattle.rst_block.specs.Steps as spec;
+ghost use Rattle.rst_block.specs.Texts as texts;
 
 use super::directive::{directive_at, wrong_directive};
 use super::fault::BlockFault;
@@ -17,9 +31,9 @@ use rst_block_nodes::{
 use rst_block_sections::filled;
 use rst_markup_blocks::Invocation;
 use rst_markup_directives::{Argument, Content, Directive, DirectiveFault, Place, Setting};
-use rst_text::View;
-use rst_tree::{Children, Level, Node, Tag};
-use std::alloc::Global;
+use rst_text::{Looks, View};
+use rst_tree::{Children, Level, Node, Tag, TreeFault};
+use std::alloc::{AllocError, Global};
 
 /// A substitution definition whose replacement text is read.
 #[derive(Drop)]
@@ -53,7 +67,7 @@ pub(crate) fn substitution_definition(
     let name = substitution_name(alloc, written)?;
     let Some(invocation) = held else {
         let text = about(alloc, name.as_str(), " empty or invalid.")?;
-        let lines = source(alloc, view, level.at, end, pass)?;
+        let lines = source(alloc, view, level.at, end, &mut pass.looks)?;
         let line = number_at(view, level.at);
         let warning = message(
             alloc,
@@ -70,7 +84,9 @@ pub(crate) fn substitution_definition(
 }
 
 /// A text on a substitution definition.
-fn about(alloc: Global, name: &str, what: &str) -> Result<String, BlockFault> {
+fn about(alloc: Global, name: &str, what: &str) -> Result<String, AllocError>
+    ensures { IfOk result (λ text. string_bytes text ≡ directives.about name.now what.now) }
+{
     let mut text = String::from_str(alloc, "Substitution definition \"")?;
     text.push_str(name)?;
     text.push_str("\"")?;
@@ -107,7 +123,7 @@ fn holding(
                 &fault,
                 name.as_str(),
                 invocation,
-                pass,
+                &mut pass.looks,
             )?;
             level.go_to(end);
             level.push(error)?;
@@ -137,10 +153,12 @@ fn image_named(
     options: &Vec<Setting>,
     name: &str,
     line: usize,
-) -> Result<Node, BlockFault> {
+) -> Result<Node, TreeFault>
+    ensures { Gives (λ node. node ≡ filled (substitution_definition_node name.now line) (image_element uri.now (choices_in options.now.items) line false (Some name.now) ∷ [])) result }
+{
     let shown = image(alloc, uri, options.as_slice(), line, false, Some(name))?;
     let definition = definition(alloc, name, line)?;
-    Ok(filled(definition, alone(alloc, shown)?)?)
+    filled(definition, alone(alloc, shown)?)
 }
 
 /// Opens a replacement text.
@@ -164,7 +182,7 @@ fn replacement(
     let replacement = OpenReplacement {
         name,
         line: number_at(view, at),
-        source: source(alloc, view, at, end, pass)?,
+        source: source(alloc, view, at, end, &mut pass.looks)?,
     };
     let waits = Waits::Replacement(Box::new(alloc, replacement)?);
     level.go_to(end);
@@ -185,18 +203,27 @@ fn wrong_definition(
     fault: &DirectiveFault,
     name: &str,
     invocation: &Invocation,
-    pass: &mut Pass,
+    looks: &mut Looks,
 ) -> Result<Node, BlockFault>
     requires inside { at < length (block_of view.now) }
     requires short { length (block_of view.now) < 2 ^ 64 }
-    requires few { pass.old.looks < 2 ^ 119 + 2 ^ 115 }
-    ensures { pass.new.looks ≤ pass.old.looks + 2 ^ 65 }
+    requires few { looks.old < 2 ^ 119 + 2 ^ 115 }
+    ensures error { blocks.Gives (λ node. node ≡ texts.shown Error (first_number (drop at (block_of view.now))) (fault_text (fault_in fault.now) (directives.faulty_name (fault_in fault.now) name.now (texts.excerpt (front_text (drop at (block_of view.now))) invocation.now.name))) (texts.source_of (block_of view.now) (record { start = at; stop = end }))) result }
+    ensures looks { looks.new ≤ looks.old + 2 ^ 65 }
 {
-    if matches!(fault, DirectiveFault::NotInSubstitution) {
-        return wrong_directive(alloc, view, at, end, fault, name, pass);
+    let written = excerpt(alloc, view.line(at, looks), invocation.name)?;
+    let name = faulty_name(fault, name, written.as_str());
+    wrong_directive(alloc, view, at, end, fault, name, looks)
+}
+
+/// The name that the message on a wrong directive in a definition tells: the definition's, where that may not hold the directive.
+fn faulty_name<'a>(fault: &DirectiveFault, name: &'a str, written: &'a str) -> &'a str
+    ensures { result.now ≡ directives.faulty_name (fault_in fault.now) name.now written.now }
+{
+    match fault {
+        DirectiveFault::NotInSubstitution => name,
+        _ => written,
     }
-    let written = excerpt(alloc, view.line(at, &mut pass.looks), invocation.name)?;
-    wrong_directive(alloc, view, at, end, fault, written.as_str(), pass)
 }
 
 /// A substitution definition with its replacement text, or the message on one that may not stand there.
@@ -204,34 +231,55 @@ pub(crate) fn finished_replacement(
     alloc: Global,
     open: OpenReplacement,
     nodes: Vec<Node>,
-) -> Result<Node, BlockFault> {
+) -> Result<Node, TreeFault>
+    ensures { Gives (λ node. node ≡ directives.replacement (string_bytes open.name) open.line (string_bytes open.source) (directives.first_paragraph nodes.items)) result }
+{
     let OpenReplacement { name, line, source } = open;
     let children = first_paragraph(alloc, nodes);
-    if !may_replace(children.as_slice()) {
-        let text = about(alloc, name.as_str(), " contains an illegal element.")?;
-        return Ok(message(
-            alloc,
-            Level::Error,
-            line,
-            text.as_str(),
-            Some(source.as_str()),
-        )?);
+    if may_replace(children.as_slice()) {
+        let definition = definition(alloc, name.as_str(), line)?;
+        let node = filled(definition, children.into_list())?;
+        return Ok(node);
     }
-    let definition = definition(alloc, name.as_str(), line)?;
-    Ok(filled(definition, children.into_list())?)
+    let text = about(alloc, name.as_str(), " contains an illegal element.")?;
+    let error = message(
+        alloc,
+        Level::Error,
+        line,
+        text.as_str(),
+        Some(source.as_str()),
+    )?;
+    Ok(error)
 }
 
 /// The nodes of the first paragraph.
-fn first_paragraph(alloc: Global, nodes: Vec<Node>) -> Children {
+fn first_paragraph(alloc: Global, nodes: Vec<Node>) -> Children
+    ensures { nodes_of result ≡ directives.first_paragraph nodes.items }
+{
     for node in nodes {
-        if let Node::Element {
-            tag: Tag::Paragraph,
-            children,
-            ..
-        } = node
-        {
+        if let Some(children) = paragraph_children(node) {
             return children;
         }
     }
     Children::new(alloc)
+}
+
+/// The nodes of a paragraph; another node gives none.
+fn paragraph_children(node: Node) -> Option<Children>
+    ensures { (others : List Node) → option_map_or nodes_of result (directives.first_paragraph others) ≡ directives.first_paragraph (node ∷ others) }
+{
+    match node {
+        Node::Element { tag, children, .. } => children_if(tag, children),
+        Node::Text(_) => None,
+    }
+}
+
+/// The nodes of an element with this tag, if it is a paragraph.
+fn children_if(tag: Tag, children: Children) -> Option<Children>
+    ensures { (others : List Node) → option_map_or nodes_of result others ≡ directives.children_of tag children others }
+{
+    match tag {
+        Tag::Paragraph => Some(children),
+        _ => None,
+    }
 }

@@ -1,18 +1,26 @@
 //! Tables (Markup Specification, 'Tables').
-ghost use Rattle.std.specs.Prelude.{◌≡◌, ◌+◌, ◌-◌, ◌*◌, ◌^◌, ◌<◌, ◌≤◌, length, drop, IfOk, IfSome};
+ghost use Rattle.std.specs.Prelude.{◌≡◌, ◌+◌, ◌^◌, ◌<◌, ◌≤◌, [], ◌∷◌, length, drop, nat_lt, if◌then◌else◌, IfOk};
+ghost use Rattle.rst_text.specs.Block.{first_number};
 ghost use Rattle.rst_text.specs.Shown.{block_of};
-ghost use Rattle.rst_markup_blocks.specs.Parts.{IsBlock, IsCall};
+ghost use Rattle.rst_tree.specs.Faults.{Gives};
+ghost use Rattle.rst_tree.specs.declared.note.Level.TheVariants.{Error};
+ghost use Rattle.rst_tree.specs.declared.tag.Tag.TheVariants.{Thead};
+ghost use Rattle.rst_markup_tables.specs.Messages.{malformed_text};
+ghost use Rattle.rst_block_nodes.specs.Elements.{element_of, entry_node};
+ghost use Rattle.rst_block_sections.specs.Sections.{filled};
 ghost use Rattle.rst_block.specs.Steps as spec;
+ghost use Rattle.rst_block.specs.Tables.{table_node};
+ghost use Rattle.rst_block.specs.Texts.{shown, source_of};
 
 use super::fault::BlockFault;
 use super::open_block::OpenBlock;
 use super::step::Step;
-use super::texts::{Pass, alone, number_at, source};
+use super::texts::{Pass, alone, number_at, parted, push, source};
 use rst_block_nodes::{element_of, entry, message, tgroup};
 use rst_block_sections::filled;
 use rst_markup_tables::{Cell, TableFault, TableResult, malformed_text};
-use rst_text::View;
-use rst_tree::{Attrs, Level, Node, Tag};
+use rst_text::{Looks, View};
+use rst_tree::{Attrs, Level, Node, Tag, TreeFault};
 use std::alloc::Global;
 
 /// A table, or the message on one that is malformed.
@@ -32,7 +40,7 @@ pub(crate) fn table(
     level.close(alloc, view, pass)?;
     match found {
         TableResult::Malformed { end, note } => {
-            let error = malformed(alloc, view, level.at, end, note, pass)?;
+            let error = malformed(alloc, view, level.at, end, note, &mut pass.looks)?;
             level.go_to(end);
             level.push(error)?;
             after_table(alloc, view, level, pass)?;
@@ -49,21 +57,22 @@ fn malformed(
     at: usize,
     end: usize,
     fault: TableFault,
-    pass: &mut Pass,
-) -> Result<Node, BlockFault>
+    looks: &mut Looks,
+) -> Result<Node, TreeFault>
     requires short { length (block_of view.now) < 2 ^ 64 }
-    requires few { pass.old.looks < 2 ^ 120 }
-    ensures { pass.new.looks ≤ pass.old.looks + 2 ^ 64 }
+    requires few { looks.old < 2 ^ 120 }
+    ensures error { Gives (λ node. node ≡ shown Error (first_number (drop at (block_of view.now))) (malformed_text fault.detail) (source_of (block_of view.now) (record { start = at; stop = end }))) result }
+    ensures looks { looks.new ≤ looks.old + 2 ^ 64 }
 {
     let text = malformed_text(alloc, fault.detail)?;
-    let lines = source(alloc, view, at, end, pass)?;
-    Ok(message(
+    let lines = source(alloc, view, at, end, looks)?;
+    message(
         alloc,
         Level::Error,
         number_at(view, at),
         text.as_str(),
         Some(lines.as_str()),
-    )?)
+    )
 }
 
 /// Puts the message on a table that isn't followed by a blank line behind it.
@@ -89,28 +98,34 @@ pub(crate) fn table_of(
     widths: &[usize],
     head: usize,
     rows: Vec<Node>,
-) -> Result<Node, BlockFault> {
-    let mut heads = Vec::new(alloc);
-    let mut bodies = Vec::new(alloc);
-    for row in rows {
-        if heads.len() < head {
-            heads.push(row)?;
-        } else {
-            bodies.push(row)?;
-        }
-    }
-    let mut group = tgroup(alloc, widths, line)?;
-    if 0 < head {
-        let head = element_of(Tag::Thead, Attrs::new(alloc), heads, 0);
-        group = filled(group, alone(alloc, head)?)?;
-    }
-    let body = element_of(Tag::Tbody, Attrs::new(alloc), bodies, 0);
-    let group = filled(group, alone(alloc, body)?)?;
+) -> Result<Node, TreeFault>
+    ensures { Gives (λ node. node ≡ table_node widths.now head rows.items line) result }
+{
+    let (heads, bodies) = parted(alloc, rows.into_iter(), head as u64)?;
+    let mut parts = head_nodes(alloc, head, heads)?;
+    push(
+        &mut parts,
+        element_of(Tag::Tbody, Attrs::new(alloc), bodies, 0),
+    )?;
+    let group = filled(tgroup(alloc, widths, line)?, parts)?;
     Ok(element_of(Tag::Table, Attrs::new(alloc), alone(alloc, group)?, line))
 }
 
+/// The head of a table of so many rows, if it has some.
+fn head_nodes(alloc: Global, head: usize, rows: Vec<Node>) -> Result<Vec<Node>, TreeFault>
+    ensures { Gives (λ nodes. nodes.items ≡ (if nat_lt 0 head then element_of Thead [] rows.items 0 ∷ [] else [])) result }
+{
+    if 0 < head {
+        let head = element_of(Tag::Thead, Attrs::new(alloc), rows, 0);
+        return Ok(alone(alloc, head)?);
+    }
+    Ok(Vec::new(alloc))
+}
+
 /// The entry of a cell with its nodes.
-pub(crate) fn entry_of(alloc: Global, cell: &Cell, nodes: Vec<Node>) -> Result<Node, BlockFault> {
+pub(crate) fn entry_of(alloc: Global, cell: &Cell, nodes: Vec<Node>) -> Result<Node, TreeFault>
+    ensures { Gives (λ node. node ≡ filled (entry_node cell.now.morerows cell.now.morecols 0) nodes.items) result }
+{
     let entry = entry(alloc, cell.morerows, cell.morecols, 0)?;
-    Ok(filled(entry, nodes)?)
+    filled(entry, nodes)
 }

@@ -97,7 +97,7 @@ fn underlined(
 {
     let at = level.at;
     let end = at.saturating_add(2);
-    let lines = source(alloc, view, at, end, pass)?;
+    let lines = source(alloc, view, at, end, &mut pass.looks)?;
     let under = number_at(view, at.saturating_add(1));
     let warning = if short {
         let text = "Title underline too short.";

@@ -1,17 +1,21 @@
 //! Texts of lines, and what a pass over a document counts.
-ghost use Rattle.std.specs.Prelude.{◌≡◌, ◌+◌, ◌-◌, ◌*◌, ◌^◌, ◌<◌, ◌≤◌, [], ◌∷◌, ◌++◌, length, drop, IfOk, IfSome};
+ghost use Rattle.std.specs.Prelude.{◌≡◌, ◌+◌, ◌-◌, ◌^◌, ◌<◌, ◌≤◌, [], ◌∷◌, ◌++◌, length, take, drop, slice_range, string_bytes, encode_utf8_all, IfOk};
+ghost use Rattle.std.specs.Str.{chars};
+ghost use Rattle.std.specs.Vec.Iter.{into_iter_items};
 ghost use Rattle.rst_text.specs.Block.{first_number};
 ghost use Rattle.rst_text.specs.Shown.{block_of};
-ghost use Rattle.rst_markup_blocks.specs.Parts.{IsBlock, IsCall};
+ghost use Rattle.rst_text.specs.Text.{chars_of};
+ghost use Rattle.rst_tree.specs.Faults.{Gives};
 ghost use Rattle.rst_tree.specs.declared.note.Level.TheVariants.{Warning};
-ghost use Rattle.rst_block.specs.Texts.{said};
+ghost use Rattle.rst_block.specs.LineRuns.{number_or};
+ghost use Rattle.rst_block.specs.Texts as spec;
 
-use super::fault::BlockFault;
 use rst_block_nodes::{Numbers, message};
 use rst_markup_lines::Characters;
 use rst_text::{Looks, View, skip};
-use rst_tree::{Level, Node};
+use rst_tree::{Level, Node, TreeFault};
 use std::alloc::{AllocError, Global};
+use std::vec::IntoIter;
 
 /// What is counted while a document is read: looks at lines, and messages that have problematics.
 #[derive(Drop)]
@@ -21,13 +25,28 @@ pub(crate) struct Pass {
 }
 
 /// Some characters of a text.
-pub(crate) fn excerpt(alloc: Global, text: &str, place: Characters) -> Result<String, AllocError> {
+pub(crate) fn excerpt(alloc: Global, text: &str, place: Characters) -> Result<String, AllocError>
+    ensures { IfOk result (λ part. string_bytes part ≡ spec.excerpt (chars text.now) place) }
+{
+    characters(alloc, text, place.from, place.to.saturating_sub(place.from))
+}
+
+/// The characters of a text after the first ones, up to a number of them.
+pub(crate) fn characters(
+    alloc: Global,
+    text: &str,
+    from: usize,
+    count: usize,
+) -> Result<String, AllocError>
+    ensures { IfOk result (λ part. string_bytes part ≡ encode_utf8_all (take count (drop from (chars text.now)))) }
+{
     let mut part = String::with_capacity(alloc, 16)?;
-    for c in skip(text, place.from)
-        .chars()
-        .take(place.to.saturating_sub(place.from))
-    {
-        part.push(c)?;
+    let mut rest = skip(text, from).chars();
+    for _ in 0..count {
+        match rest.next() {
+            Some(c) => part.push(c)?,
+            None => return Ok(part),
+        }
     }
     Ok(part)
 }
@@ -38,17 +57,23 @@ fn usual_size(lines: usize) -> usize {
 }
 
 /// The lines of a view, joined by line feeds.
-pub(crate) fn joined(alloc: Global, view: &View<'_>, pass: &mut Pass) -> Result<String, BlockFault>
+pub(crate) fn joined(
+    alloc: Global,
+    view: &View<'_>,
+    looks: &mut Looks,
+) -> Result<String, AllocError>
     requires short { length (block_of view.now) < 2 ^ 64 }
-    requires few { pass.old.looks < 2 ^ 120 }
-    ensures { pass.new.looks ≤ pass.old.looks + 2 ^ 64 }
+    requires few { looks.old < 2 ^ 120 }
+    ensures bytes { IfOk result (λ text. string_bytes text ≡ spec.spelled (block_of view.now)) }
+    ensures text { IfOk result (λ text. chars_of text ≡ spec.joined (block_of view.now)) }
+    ensures looks { looks.new ≤ looks.old + 2 ^ 64 }
 {
     let mut text = String::with_capacity(alloc, usual_size(view.len()))?;
     for i in 0..view.len() {
         if 0 < i {
             text.push('\n')?;
         }
-        text.push_str(view.line(i, &mut pass.looks))?;
+        text.push_str(view.line(i, looks))?;
     }
     Ok(text)
 }
@@ -59,18 +84,21 @@ pub(crate) fn source(
     view: &View<'_>,
     from: usize,
     to: usize,
-    pass: &mut Pass,
-) -> Result<String, BlockFault>
+    looks: &mut Looks,
+) -> Result<String, AllocError>
     requires short { length (block_of view.now) < 2 ^ 64 }
-    requires few { pass.old.looks < 2 ^ 120 }
-    ensures { pass.new.looks ≤ pass.old.looks + 2 ^ 64 }
+    requires few { looks.old < 2 ^ 120 }
+    ensures bytes { IfOk result (λ text. string_bytes text ≡ spec.source_of (block_of view.now) (record { start = from; stop = to })) }
+    ensures text { IfOk result (λ text. chars_of text ≡ spec.joined (slice_range (block_of view.now) from to)) }
+    ensures looks { looks.new ≤ looks.old + 2 ^ 64 }
 {
-    joined(alloc, &lines_between(view, from, to), pass)
+    joined(alloc, &lines_between(view, from, to), looks)
 }
 
 /// The lines of a view from place `from` up to place `to`, those that there are.
 pub(crate) fn lines_between<'a>(view: &View<'a>, from: usize, to: usize) -> View<'a>
-    ensures { length (block_of result) ≤ to - from }
+    ensures lines { block_of result ≡ slice_range (block_of view.now) from to }
+    ensures few { length (block_of result) ≤ to - from }
 {
     let to = to.min(view.len());
     let from = from.min(to);
@@ -88,23 +116,56 @@ pub(crate) fn number_at(view: &View<'_>, place: usize) -> usize
     }
 }
 
-/// The message on a construct that isn't followed by a blank line.
-pub(crate) fn unindent(alloc: Global, line: usize, text: &str) -> Result<Node, BlockFault>
-    ensures { IfOk result (λ node. node ≡ said Warning line text.now) }
+/// The number of the first of some lines, or another where there are none.
+pub(crate) fn first_line_or(lines: &View<'_>, line: usize) -> usize
+    ensures { result ≡ number_or line (block_of lines.now) }
 {
-    let node = message(alloc, Level::Warning, line, text, None)?;
-    Ok(node)
+    if 0 < lines.len() {
+        lines.number(0)
+    } else {
+        line
+    }
+}
+
+/// The message on a construct that isn't followed by a blank line.
+pub(crate) fn unindent(alloc: Global, line: usize, text: &str) -> Result<Node, TreeFault>
+    ensures { Gives (λ node. node ≡ spec.said Warning line text.now) result }
+{
+    message(alloc, Level::Warning, line, text, None)
 }
 
 /// One node in a list of its own.
-pub(crate) fn alone(alloc: Global, node: Node) -> Result<Vec<Node>, BlockFault> {
+pub(crate) fn alone(alloc: Global, node: Node) -> Result<Vec<Node>, AllocError>
+    ensures { IfOk result (λ nodes. nodes.items ≡ node ∷ []) }
+{
     let mut nodes = Vec::with_capacity(alloc, 1)?;
     nodes.push(node)?;
     Ok(nodes)
 }
 
+/// Some nodes in two parts: the first ones, up to a number of them, and those after them.
+pub(crate) fn parted(
+    alloc: Global,
+    nodes: IntoIter<Node, Global>,
+    count: u64,
+) -> Result<(Vec<Node>, Vec<Node>), AllocError>
+    ensures first { IfOk result (λ parts. parts.0.items ≡ take count (into_iter_items nodes)) }
+    ensures second { IfOk result (λ parts. parts.1.items ≡ drop count (into_iter_items nodes)) }
+{
+    let mut first = Vec::new(alloc);
+    let mut second = Vec::new(alloc);
+    for node in nodes {
+        if (first.len() as u64) < count {
+            first.push(node)?;
+            continue;
+        }
+        second.push(node)?;
+    }
+    Ok((first, second))
+}
+
 /// Puts a node behind the last. A first one gets room for itself alone: most blocks inside others have one node.
-pub(crate) fn push(nodes: &mut Vec<Node>, node: Node) -> Result<(), BlockFault>
+pub(crate) fn push(nodes: &mut Vec<Node>, node: Node) -> Result<(), AllocError>
     ensures { IfOk result (λ _. nodes.new.items ≡ nodes.old.items ++ node ∷ []) }
 {
     if nodes.is_empty() {

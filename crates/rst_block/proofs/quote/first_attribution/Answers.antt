@@ -5,22 +5,44 @@ use Rattle.rst_text.specs.Shown.{block_of}
 use Rattle.rst_markup_blocks.specs.Lines.{lines_while}
 use Rattle.rst_markup_blocks.specs.RowLaws.{while_le}
 use Rattle.rst_markup_blocks.specs.declared.lines.LineTest.TheVariants.{Filled}
+use Rattle.rst_block.proofs.AttributionsFound.{Unfound-start, Unfound-step, Unfound-found, Unfound-blank, Unfound-end}
 use Rattle.rst_block.proofs.quote.first_attribution.Goals as goal
+
+pub loop-end-init : goal.loop-end-init
+loop-end-init c = record {
+  within = c.lines_end-end.ensures.within;
+  looks = omega (arith, c.lines_end-end.ensures.few, c.lines_end-end.ensures.end);
+  unfound = Unfound-start (block_of c.args.lines.now) c.lines_end-end.result c.lines_end-end.ensures.end;
+}
+
+pub returns-in-Some-clause-first : goal.returns-in-Some-clause-first
+returns-in-Some-clause-first c =
+    Unfound-found (block_of c.args.lines.now) c.loop-end.end c.lines_end-place.result c.in-Some.found c.loop-end.invariant.unfound c.lines_end-place.ensures.end (omega arith) c.in-Some.ensures.attribution
 
 pub returns-in-Some-clause-looks : goal.returns-in-Some-clause-looks
 returns-in-Some-clause-looks c =
     let B : Block = block_of c.args.lines.now in
-    omega (arith, c.requires.short, c.lines_end-place.ensures.end, c.lines_end-place.ensures.few, c.lines_end-place.ensures.within, c.attribution_at.ensures.looks, c.loop-end.invariant.0, c.loop-end.invariant.1, while_le Filled (drop 1 (drop c.lines_end-place.result B)), length-drop 1 (drop c.lines_end-place.result B), length-drop c.lines_end-place.result B)
+    omega (arith, c.requires.short, c.lines_end-place.ensures.end, c.lines_end-place.ensures.few, c.lines_end-place.ensures.within, c.attribution_at.ensures.looks, c.loop-end.invariant.within, c.loop-end.invariant.looks, while_le Filled (drop 1 (drop c.lines_end-place.result B)), length-drop 1 (drop c.lines_end-place.result B), length-drop c.lines_end-place.result B)
+
+pub returns-then-place-len-clause-first : goal.returns-then-place-len-clause-first
+returns-then-place-len-clause-first c =
+    Unfound-blank (block_of c.args.lines.now) c.loop-end.end c.lines_end-place.result c.loop-end.invariant.unfound c.lines_end-place.ensures.end (omega arith)
+
+pub returns-clause-first : goal.returns-clause-first
+returns-clause-first c = Unfound-end (block_of c.args.lines.now) c.loop-end.end c.loop-end.invariant.unfound (omega arith)
 
 pub loop-end-preserved : goal.loop-end-preserved
 loop-end-preserved c =
     let B : Block = block_of c.args.lines.now in
-    let below : lines_while Filled (drop 1 (drop c.lines_end-place.result B)) ≡ lines_while Filled (drop (c.lines_end-place.result + 1) B) = ap (lines_while Filled) (drop-drop 1 c.lines_end-place.result B) in (
-      c.lines_end-end-in-loop-end.ensures.within,
-      omega (arith, below, c.lines_end-place.ensures.end, c.lines_end-place.ensures.few, c.attribution_at.ensures.looks, c.lines_end-end-in-loop-end.ensures.end, c.lines_end-end-in-loop-end.ensures.few, c.loop-end.invariant.1),
-    )
+    let below : lines_while Filled (drop 1 (drop c.lines_end-place.result B)) ≡ lines_while Filled (drop (c.lines_end-place.result + 1) B) = ap (lines_while Filled) (drop-drop 1 c.lines_end-place.result B) in
+    record {
+      within = c.lines_end-end-in-None.ensures.within;
+      looks = omega (arith, below, c.lines_end-place.ensures.end, c.lines_end-place.ensures.few, c.attribution_at.ensures.looks, c.lines_end-end-in-None.ensures.end, c.lines_end-end-in-None.ensures.few, c.loop-end.invariant.looks);
+      unfound = Unfound-step B c.loop-end.end c.lines_end-place.result c.lines_end-end-in-None.result c.loop-end.invariant.unfound c.lines_end-place.ensures.end (omega arith) (length-drop (c.loop-end.end + 1) B)
+          c.in-None.ensures.attribution c.lines_end-end-in-None.ensures.end;
+    }
 
-pub lines_end-end-requires-in-loop-end-clause-few : goal.lines_end-end-requires-in-loop-end-clause-few
-lines_end-end-requires-in-loop-end-clause-few c =
+pub lines_end-end-requires-in-None-clause-few : goal.lines_end-end-requires-in-None-clause-few
+lines_end-end-requires-in-None-clause-few c =
     let B : Block = block_of c.args.lines.now in
-    omega (arith, c.requires.short, c.requires.few, c.lines_end-place.ensures.end, c.lines_end-place.ensures.few, c.lines_end-place.ensures.within, c.attribution_at.ensures.looks, c.loop-end.invariant.0, c.loop-end.invariant.1, while_le Filled (drop 1 (drop c.lines_end-place.result B)), length-drop 1 (drop c.lines_end-place.result B), length-drop c.lines_end-place.result B)
+    omega (arith, c.requires.short, c.requires.few, c.lines_end-place.ensures.end, c.lines_end-place.ensures.few, c.lines_end-place.ensures.within, c.attribution_at.ensures.looks, c.loop-end.invariant.within, c.loop-end.invariant.looks, while_le Filled (drop 1 (drop c.lines_end-place.result B)), length-drop 1 (drop c.lines_end-place.result B), length-drop c.lines_end-place.result B)

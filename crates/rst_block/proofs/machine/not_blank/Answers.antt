@@ -1,0 +1,15 @@
+use Rattle.std.proofs.Common.{◌<◌, ◌≤◌, length, arith, ◌∙◌, ap, sym, Err}
+use Rattle.rst_text.specs.Block.{Block}
+use Rattle.rst_text.specs.Shown.{block_of}
+use Rattle.rst_block.proofs.Depths.{blank_up_to, text_at_place}
+use Rattle.rst_block.proofs.machine.not_blank.Goals as goal
+
+pub returns-then-first-len-clause-blank : goal.returns-then-first-len-clause-blank
+returns-then-first-len-clause-blank c =
+    let B : Block = block_of c.args.view.now in
+    λ number. text_at_place B c.lines_end-first.result number c.lines_end-first.ensures.end (omega arith) ∙ ap Err (sym c.number.ensures)
+
+pub returns-clause-blank : goal.returns-clause-blank
+returns-clause-blank c =
+    let B : Block = block_of c.args.view.now in
+    λ number. blank_up_to B c.lines_end-first.result number c.lines_end-first.ensures.end c.lines_end-first.ensures.within (omega arith)
