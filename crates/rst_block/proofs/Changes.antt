@@ -1,5 +1,5 @@
 -- What calls change of the block that is read, in what it means.
-use Rattle.std.proofs.Common.{◌≡◌, ℕ, ◌+◌, ◌-◌, ◌≤◌, List, [], ◌∷◌, ◌++◌, length, length-append, length-drop, take, drop, map, arith, refl, sym, ◌∙◌, ap, subst, append_assoc}
+use Rattle.std.proofs.Common.{◌≡◌, ℕ, ◌+◌, ◌-◌, ◌≤◌, List, [], ◌∷◌, ◌++◌, length, length-append, length-drop, take, drop, map, Result, arith, refl, sym, ◌∙◌, ap, subst, append_assoc}
 use Rattle.std.proofs.lemmas.List.{map-append, take-append-le, drop-append-le, take_all, drop_all}
 use Rattle.rst_text.specs.Block.{Block}
 use Rattle.rst_tree.specs.declared.node.Node.{Node}
@@ -7,7 +7,7 @@ use Rattle.rst_block_sections.specs.Sections.{items_from, title_of}
 use Rattle.rst_block_sections.specs.declared.heading.Heading.{Heading}
 use Rattle.rst_block.specs.Meanings.{open_of, within_at, done_of, reads, reads_from, with_item}
 use Rattle.rst_block.specs.Numbered.{before}
-use Rattle.rst_block.specs.OpenBlocks.{IsMoved, HasRun, HasMore, HasItemIn, HasItem, HasTitle, placed_after, AreWithin, IsPlaced}
+use Rattle.rst_block.specs.OpenBlocks.{IsMoved, HasRun, HasMore, IsClosed, HasItemIn, HasItem, HasTitle, placed_after, AreWithin, IsPlaced}
 use Rattle.rst_block.specs.Rest.{OpenRun, no_run, open_list, open_lines, open_markup, with_items, rest}
 use Rattle.rst_block.specs.Titles.{Item, plain, titled}
 use Rattle.rst_block.specs.declared.open_block.OpenBlock.{OpenBlock}
@@ -71,6 +71,12 @@ done_more old new more m w =
     ∙ ap (items_from 0 (old.nodes.items ++ more)) m.headings
     ∙ items_push (length old.nodes.items) 0 old.nodes.items more old.headings.items (zero_more (length old.nodes.items)) w
 
+pub done_closed : (read : Result (List Item × ℕ) ℕ) (old new : OpenBlock) (next : ℕ) (o : OpenRun) (h : IsClosed read old new next o) → IsPlaced old → done_of new ≡ done_of old ++ map plain h.more
+done_closed read old new next o h w =
+    ap (λ nodes. items_from 0 nodes new.headings.items) h.nodes
+    ∙ ap (items_from 0 (old.nodes.items ++ h.more)) h.headings
+    ∙ items_push (length old.nodes.items) 0 old.nodes.items h.more old.headings.items (zero_more (length old.nodes.items)) w
+
 pub done_title : (old new : OpenBlock) (h : Heading) → HasTitle old new h → IsPlaced old → done_of new ≡ done_of old ++ titled (title_of h) ∷ []
 done_title old new h m w =
     let g : Heading = placed_after (length old.nodes.items) h in
@@ -92,6 +98,12 @@ placed_more old new more m w =
     let n : length new.nodes.items ≡ length old.nodes.items + length more = ap length m.nodes ∙ length-append old.nodes.items more in
     placed_as (length old.nodes.items + length more) old.headings.items new n m.headings
     (within_more (length old.nodes.items) (length old.nodes.items + length more) old.headings.items (omega arith) w)
+
+pub placed_closed : (read : Result (List Item × ℕ) ℕ) (old new : OpenBlock) (next : ℕ) (o : OpenRun) → IsClosed read old new next o → IsPlaced old → IsPlaced new
+placed_closed read old new next o h w =
+    let n : length new.nodes.items ≡ length old.nodes.items + length h.more = ap length h.nodes ∙ length-append old.nodes.items h.more in
+    placed_as (length old.nodes.items + length h.more) old.headings.items new n h.headings
+    (within_more (length old.nodes.items) (length old.nodes.items + length h.more) old.headings.items (omega arith) w)
 
 pub placed_title : (old new : OpenBlock) (h : Heading) → HasTitle old new h → IsPlaced old → IsPlaced new
 placed_title old new h m w =

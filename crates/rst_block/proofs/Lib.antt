@@ -6,6 +6,7 @@ pub mod Depths
 pub mod Looked
 pub mod Made
 pub mod MeaningLemmas
+pub mod NextLines
 pub mod NumberedLemmas
 pub mod OpenRuns
 pub mod QuoteCounts

@@ -4,7 +4,7 @@ use Rattle.rst_text.specs.Block.{Block}
 use Rattle.rst_text.specs.Shown.{block_of, source_of, IsPlacement, placement_block}
 use Rattle.rst_markup_blocks.specs.Parts.{IsBlock}
 use Rattle.rst_markup_blocks.specs.declared.part.Part.{Part}
-use Rattle.rst_block.specs.Steps.{IsBlockIf, IsWaiting, IsResumed}
+use Rattle.rst_block.specs.Steps.{IsBlockIf, IsTable, IsWaiting, IsResumed}
 use Rattle.rst_block.specs.declared.frame.Frame.{Frame}
 use Rattle.rst_block.specs.declared.frame.Ended.{Ended}
 use Rattle.rst_block.specs.declared.frame.Ended.TheVariants.{Waiting, GoesOn}
@@ -24,7 +24,7 @@ AreFrames S (f ∷ fs) = IsFrame S f × AreFrames S fs
 abbrev pub IsNow : Block → ℕ → Step → Type 0
 IsNow B at Next = Unit {0}
 IsNow B at (Open w first second) = IsBlock B first × IsBlockIf B second × IsWaiting B at w
-IsNow B at (Cells table) = at < length B
+IsNow B at (Cells table) = (at < length B) × IsTable table
 IsNow B at Done = Unit {0}
 
 -- there is a part that is read behind another

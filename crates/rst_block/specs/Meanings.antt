@@ -1,6 +1,6 @@
 -- What the state of the machine means: what the block that is read gives, what it gives by what comes next in it, and what the blocks that wait make
 -- of that. No rule of markup: each step leaves the meaning as it is.
-use Rattle.std.specs.Prelude.{◌≡◌, ℕ, suc, ◌-◌, ◌==◌, true, List, [], ◌∷◌, ◌++◌, drop, map, Option, Some, None, string_bytes, box_value, Result, Ok, Err, if◌then◌else◌}
+use Rattle.std.specs.Prelude.{◌≡◌, ℕ, zero, suc, ◌-◌, ◌==◌, true, List, [], ◌∷◌, ◌++◌, drop, map, Option, Some, None, string_bytes, box_value, Result, Ok, Err, if◌then◌else◌}
 use Rattle.std.specs.Option.{option_map}
 use Rattle.rst_text.specs.Block.{Block}
 use Rattle.rst_text.specs.Shown.{placement_block}
@@ -16,7 +16,7 @@ use Rattle.rst_block.specs.Constructs.{block_quote, grid}
 use Rattle.rst_block.specs.Directives.{first_paragraph, replacement}
 use Rattle.rst_block.specs.Figures.{caption_error, figure_nodes}
 use Rattle.rst_block.specs.Joins.{Joining, bullets, enumerators, definitions, fields, options, alone_ending}
-use Rattle.rst_block.specs.Nodes.{below_last_level, inner_nodes, nodes_among, ending_notes}
+use Rattle.rst_block.specs.Nodes.{plainly, inner_nodes, below_last_level, block_items, nodes_among, ending_notes}
 use Rattle.rst_block.specs.Numbered.{Numbered, ◌>>=◌, just, before}
 use Rattle.rst_block.specs.Quotes.{quotes}
 use Rattle.rst_block.specs.Rest.{ListSoFar, OpenRun, no_run, open_list, open_lines, open_markup, with_items, rest}
@@ -85,6 +85,17 @@ reads l B = before (done_of l) (rest (within_at l.depth) B l.at (open_of l.run))
 -- the same with more nodes, where it goes on from another line
 abbrev pub reads_from : OpenBlock → Block → List Node → ℕ → Numbered (List Item)
 reads_from l B more at = before (done_of l ++ map plain more) (rest (within_at l.depth) B at (open_of l.run))
+
+-- ---- texts
+
+-- what a text gives with this many levels left, whose lines stand in this many blocks; with none left it must be blank
+abbrev pub text_with : ℕ → ℕ → Block → Numbered (List Item)
+text_with zero depth B = plainly (below_last_level B)
+text_with (suc levels) depth B = block_items (within_at depth) B
+
+-- what a text gives whose lines stand in this many blocks: a document's in none, a cell's in its table and in the blocks around that
+abbrev pub text_items : ℕ → Block → Numbered (List Item)
+text_items depth B = text_with (suc deepest - depth) depth B
 
 -- ---- blocks that wait
 

@@ -111,3 +111,8 @@ AreWithin n (h ∷ hs) = (h.before ≤ n) × AreWithin n hs
 -- each title of a block stands among its nodes
 abbrev pub IsPlaced : OpenBlock → Type 0
 IsPlaced l = AreWithin (length l.nodes.items) l.headings.items
+
+-- what each step leaves as it is: the block is as deep, and its titles stand among its nodes
+pub record IsKept (old new : OpenBlock) : Type 0 where
+  pub depth : new.depth ≡ old.depth
+  pub placed : IsPlaced new

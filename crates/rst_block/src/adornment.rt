@@ -4,6 +4,10 @@ ghost use Rattle.std.specs.Prelude.{◌≡◌, ◌+◌, ◌-◌, ◌*◌, ◌^�
 ghost use Rattle.rst_text.specs.Shown.{block_of};
 ghost use Rattle.rst_markup_blocks.specs.Parts.{IsBlock, IsCall};
 ghost use Rattle.rst_block.specs.Steps as spec;
+ghost use Rattle.rst_markup_blocks.specs.Begun.{IsBegun};
+ghost use Rattle.rst_markup_blocks.specs.declared.begun.Begun.TheVariants.{Adornment};
+ghost use Rattle.rst_block.specs.Meanings.{Keeps, comes, reads};
+ghost use Rattle.rst_block.specs.OpenBlocks.{IsKept, IsPlaced};
 
 use super::fault::BlockFault;
 use super::heading::heading_of;
@@ -30,7 +34,11 @@ pub(crate) fn adornment(
     requires inside { level.old.at < length (block_of view.now) }
     requires short { length (block_of view.now) < 2 ^ 64 }
     requires few { pass.old.looks < 2 ^ 119 + 2 ^ 111 }
+    requires begun { IsBegun (drop level.old.at (block_of view.now)) (Adornment mark) }
+    requires placed { IsPlaced level.old }
     ensures step { IfOk result (λ s. spec.IsStep (block_of view.now) level.old.at level.new.at s) }
+    ensures kept { IfOk result (λ _. IsKept level.old level.new) }
+    ensures read { Keeps result (λ s. comes level.new (block_of view.now) s pass.new.numbers) (reads level.old (block_of view.now) pass.old.numbers) }
     ensures looks { IfOk result (λ _. pass.new.looks ≤ pass.old.looks + 2 ^ 79) }
 {
     let at = level.at;

@@ -3,6 +3,13 @@ ghost use Rattle.std.specs.Prelude.{◌≡◌, ◌+◌, ◌-◌, ◌*◌, ◌^�
 ghost use Rattle.rst_text.specs.Shown.{block_of};
 ghost use Rattle.rst_markup_blocks.specs.Parts.{IsBlock, IsCall};
 ghost use Rattle.rst_block.specs.Steps as spec;
+ghost use Rattle.rst_text.specs.Block.{front_text};
+ghost use Rattle.rst_markup_blocks.specs.Conditions.{next_text};
+ghost use Rattle.rst_markup_blocks.specs.Forms.{text_form};
+ghost use Rattle.rst_markup_blocks.specs.declared.form.TextForm.TheVariants.{Definition};
+ghost use Rattle.rst_block.specs.Meanings.{Keeps, comes, reads};
+ghost use Rattle.rst_block.specs.NextLine.{IsText};
+ghost use Rattle.rst_block.specs.OpenBlocks.{IsKept, IsPlaced};
 
 use super::fault::BlockFault;
 use super::field::join_list;
@@ -28,7 +35,12 @@ pub(crate) fn definition(
     requires inside { level.old.at < length (block_of view.now) }
     requires short { length (block_of view.now) < 2 ^ 64 }
     requires few { pass.old.looks < 2 ^ 119 + 2 ^ 114 }
+    requires text { IsText level.old (block_of view.now) infos.items }
+    requires form { text_form (front_text (drop level.old.at (block_of view.now))) (next_text (drop level.old.at (block_of view.now))) ≡ Definition }
+    requires placed { IsPlaced level.old }
     ensures step { IfOk result (λ s. spec.IsStep (block_of view.now) level.old.at level.new.at s) }
+    ensures kept { IfOk result (λ _. IsKept level.old level.new) }
+    ensures read { Keeps result (λ s. comes level.new (block_of view.now) s pass.new.numbers) (reads level.old (block_of view.now) pass.old.numbers) }
     ensures looks { IfOk result (λ _. pass.new.looks ≤ pass.old.looks + 2 ^ 76) }
 {
     let at = level.at;

@@ -7,6 +7,8 @@ ghost use Rattle.rst_markup_blocks.specs.Explicit.{IsExplicitIn, is_explicit_kin
 ghost use Rattle.rst_markup_blocks.specs.Kinds.{kind_of};
 ghost use Rattle.rst_block.specs.Steps as spec;
 ghost use Rattle.rst_block.specs.Texts.{excerpt};
+ghost use Rattle.rst_block.specs.Meanings.{Keeps, comes, reads};
+ghost use Rattle.rst_block.specs.OpenBlocks.{IsKept, IsPlaced};
 
 use super::directive::directive_block;
 use super::fault::BlockFault;
@@ -36,7 +38,10 @@ pub(crate) fn explicit_markup(
     requires kind { IsTrue (is_explicit_kind (kind_of (block_of view.now) level.old.at)) }
     requires short { length (block_of view.now) < 2 ^ 64 }
     requires few { pass.old.looks < 2 ^ 119 + 2 ^ 111 }
+    requires placed { IsPlaced level.old }
     ensures step { IfOk result (λ s. spec.IsStep (block_of view.now) level.old.at level.new.at s) }
+    ensures kept { IfOk result (λ _. IsKept level.old level.new) }
+    ensures read { Keeps result (λ s. comes level.new (block_of view.now) s pass.new.numbers) (reads level.old (block_of view.now) pass.old.numbers) }
     ensures looks { IfOk result (λ _. pass.new.looks ≤ pass.old.looks + 2 ^ 79) }
 {
     let at = level.at;

@@ -4,10 +4,12 @@ ghost use Rattle.rst_text.specs.Block.{first_number};
 ghost use Rattle.rst_text.specs.Shown.{block_of};
 ghost use Rattle.rst_tree.specs.Forest.{bare};
 ghost use Rattle.rst_tree.specs.declared.node.Node.TheVariants.{Element};
-ghost use Rattle.rst_block.specs.Meanings.{deepest, joining_in, list_kind_in, open_of};
-ghost use Rattle.rst_block.specs.OpenBlocks.{Closes, Gives, HasRun, begun_at, joined_at};
+ghost use Rattle.rst_block.specs.Meanings.{Keeps, comes, deepest, joining_in, list_kind_in, open_of, reads};
+ghost use Rattle.rst_block.specs.OpenBlocks.{Closes, Gives, HasRun, IsKept, IsPlaced, begun_at, joined_at};
 ghost use Rattle.rst_block.specs.Rest.{closed_run};
 ghost use Rattle.rst_block.specs.Steps as spec;
+ghost use Rattle.rst_markup_blocks.specs.Begun.{IsBegun};
+ghost use Rattle.rst_markup_blocks.specs.declared.begun.Begun.TheVariants.{Field};
 
 use super::fault::BlockFault;
 use super::open_block::OpenBlock;
@@ -33,7 +35,11 @@ pub(crate) fn field(
     requires inside { level.old.at < length (block_of view.now) }
     requires short { length (block_of view.now) < 2 ^ 64 }
     requires few { pass.old.looks < 2 ^ 119 + 2 ^ 111 }
+    requires begun { IsBegun (drop level.old.at (block_of view.now)) (Field mark) }
+    requires placed { IsPlaced level.old }
     ensures step { IfOk result (λ s. spec.IsStep (block_of view.now) level.old.at level.new.at s) }
+    ensures kept { IfOk result (λ _. IsKept level.old level.new) }
+    ensures read { Keeps result (λ s. comes level.new (block_of view.now) s pass.new.numbers) (reads level.old (block_of view.now) pass.old.numbers) }
     ensures looks { IfOk result (λ _. pass.new.looks ≤ pass.old.looks + 2 ^ 79) }
 {
     let at = level.at;

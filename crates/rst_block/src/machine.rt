@@ -1,10 +1,14 @@
 //! The machine: the constructs of a block one after the other, and the blocks inside them.
-ghost use Rattle.std.specs.Prelude.{◌≡◌, ◌+◌, ◌-◌, ◌*◌, ◌^◌, ◌<◌, ◌≤◌, ◌++◌, ◌∷◌, [], length, drop, IfOk, IfSome, IfNone};
+ghost use Rattle.std.specs.Prelude.{◌≡◌, Ok, suc, ◌+◌, ◌-◌, ◌*◌, ◌^◌, ◌<◌, ◌≤◌, ◌++◌, ◌∷◌, [], length, drop, IfOk, IfSome, IfNone};
 ghost use Rattle.rst_text.specs.Shown.{block_of};
 ghost use Rattle.rst_markup_blocks.specs.Parts.{IsBlock, IsCall};
-ghost use Rattle.rst_block.specs.Meanings.{TellsBlank};
+ghost use Rattle.rst_block.specs.Meanings.{Keeps, TellsBlank, comes, deepest, done_of, reads, text_items, within_at};
 ghost use Rattle.rst_block.specs.Steps as spec;
-ghost use Rattle.rst_block.specs.declared.step.Step.TheVariants.{Next};
+ghost use Rattle.rst_block.specs.declared.step.Step.TheVariants.{Next, Open, Cells};
+ghost use Rattle.rst_block.specs.OpenBlocks.{IsKept, IsPlaced};
+ghost use Rattle.rst_block.specs.Nodes.{block_items};
+ghost use Rattle.rst_block.specs.Numbered.{just};
+ghost use Rattle.rst_block.specs.Tables as tables;
 
 use super::fault::BlockFault;
 use super::frame::{Ended, Frame, closed, opened};
@@ -53,6 +57,8 @@ pub(crate) fn read(
     requires depth { depth ≤ 251 }
     requires room { length frames.old.items ≤ depth }
     ensures frames { IfOk result (λ _. frames.new.items ≡ frames.old.items) }
+    ensures placed { IfOk result IsPlaced }
+    ensures read { Keeps result (λ level. just (done_of level) pass.new.numbers) (text_items depth lines.now pass.old.numbers) }
     ensures few { IfOk result (λ _. pass.new.looks < 2 ^ 119) }
 {
     let whole = View::whole(lines);
@@ -78,6 +84,8 @@ fn read_blocks(
     requires room { length frames.old.items ≤ depth }
     requires short { length (block_of whole) < 2 ^ 64 }
     ensures frames { IfOk result (λ _. frames.new.items ≡ frames.old.items) }
+    ensures placed { IfOk result IsPlaced }
+    ensures read { Keeps result (λ level. just (done_of level) pass.new.numbers) (block_items (within_at depth) (block_of whole) pass.old.numbers) }
     ensures few { IfOk result (λ _. pass.new.looks < 2 ^ 119) }
 {
     let base = frames.len();
@@ -131,7 +139,10 @@ fn next(
 ) -> Result<Step, BlockFault>
     requires short { length (block_of view.now) < 2 ^ 64 }
     requires few { pass.old.looks < 2 ^ 119 + 2 ^ 110 }
+    requires placed { IsPlaced level.old }
     ensures next { IfOk result (λ s. spec.IsNext (block_of view.now) level.old.at level.new.at s) }
+    ensures kept { IfOk result (λ _. IsKept level.old level.new) }
+    ensures read { Keeps result (λ s. comes level.new (block_of view.now) s pass.new.numbers) (reads level.old (block_of view.now) pass.old.numbers) }
     ensures looks { IfOk result (λ _. pass.new.looks ≤ 2 ^ 119 + 2 ^ 110) }
 {
     while level.at < view.len() {
@@ -189,7 +200,11 @@ fn flat(
     requires waits { spec.IsWaiting (block_of view.now) level.old.at waits }
     requires short { length (block_of view.now) < 2 ^ 64 }
     requires few { pass.old.looks < 2 ^ 119 }
+    requires placed { IsPlaced level.old }
+    requires deepest { level.old.depth ≡ deepest }
     ensures step { IfOk result (λ s. spec.IsResumed (block_of view.now) level.old.at level.new.at s) }
+    ensures kept { IfOk result (λ _. IsKept level.old level.new) }
+    ensures read { Keeps result (λ s. comes level.new (block_of view.now) s pass.new.numbers) (comes level.old (block_of view.now) (Open waits first second) pass.old.numbers) }
     ensures looks { IfOk result (λ _. pass.new.looks ≤ pass.old.looks + 2 ^ 91) }
 {
     not_blank(&inside(view, first), pass)?;
@@ -215,9 +230,14 @@ fn cells(
     requires room { length frames.old.items ≤ depth }
     requires short { length (block_of view.now) < 2 ^ 64 }
     requires few { pass.old.looks < 2 ^ 119 }
+    requires placed { IsPlaced level.old }
+    requires level { depth ≡ suc level.old.depth }
+    requires table { spec.IsTable found }
     ensures frames { IfOk result (λ _. frames.new.items ≡ frames.old.items) }
     ensures next { IfOk result (λ s. s ≡ Next) }
     ensures later { IfOk result (λ _. level.old.at < level.new.at) }
+    ensures kept { IfOk result (λ _. IsKept level.old level.new) }
+    ensures read { Keeps result (λ s. comes level.new (block_of view.now) s pass.new.numbers) (comes level.old (block_of view.now) (Cells found) pass.old.numbers) }
     ensures looks { IfOk result (λ _. pass.new.looks < 2 ^ 119 + 2 ^ 10) }
 {
     let TableResult::Table {
@@ -254,7 +274,9 @@ fn row_of(
     requires depth { depth ≤ 251 }
     requires room { length frames.old.items ≤ depth }
     requires few { pass.old.looks < 2 ^ 119 }
+    requires inner { 1 ≤ depth }
     ensures frames { IfOk result (λ _. frames.new.items ≡ frames.old.items) }
+    ensures row { Keeps result (λ node. Ok (node, pass.new.numbers)) (tables.row_of (within_at (depth - 1)) cells.now pass.old.numbers) }
     ensures few { IfOk result (λ _. pass.new.looks < 2 ^ 119) }
 {
     let mut entries = Vec::new(alloc);

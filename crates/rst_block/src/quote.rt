@@ -1,5 +1,5 @@
 //! Block quotes with their attributions (Markup Specification, 'Block Quotes').
-ghost use Rattle.std.specs.Prelude.{◌≡◌, ◌+◌, ◌-◌, ◌*◌, ◌^◌, ◌<◌, ◌≤◌, length, drop, Ok, IfOk, IfSome};
+ghost use Rattle.std.specs.Prelude.{◌≡◌, [], ◌+◌, ◌-◌, ◌*◌, ◌^◌, ◌<◌, ◌≤◌, length, drop, Ok, IfOk, IfSome};
 ghost use Rattle.rst_text.specs.Block.{first_number};
 ghost use Rattle.rst_text.specs.Shown.{block_of};
 ghost use Rattle.rst_tree.specs.Faults.{Gives};
@@ -9,6 +9,10 @@ ghost use Rattle.rst_markup_blocks.specs.Attributions.{attribution_part};
 ghost use Rattle.rst_block.specs.Quotes as quotes;
 ghost use Rattle.rst_block.specs.Steps as spec;
 ghost use Rattle.rst_block.specs.Texts.{joined, lines_in, texted};
+ghost use Rattle.rst_markup_blocks.specs.Begun.{IsBegun};
+ghost use Rattle.rst_markup_blocks.specs.declared.begun.Begun.TheVariants.{Quote};
+ghost use Rattle.rst_block.specs.Meanings.{Keeps, comes, quotes_from, reads};
+ghost use Rattle.rst_block.specs.OpenBlocks.{IsKept, IsPlaced};
 
 use super::fault::BlockFault;
 use super::open_block::OpenBlock;
@@ -32,7 +36,11 @@ pub(crate) fn block_quote(
     requires inside { level.old.at < length (block_of view.now) }
     requires short { length (block_of view.now) < 2 ^ 64 }
     requires few { pass.old.looks < 2 ^ 119 + 2 ^ 111 }
+    requires begun { IsBegun (drop level.old.at (block_of view.now)) Quote }
+    requires placed { IsPlaced level.old }
     ensures step { IfOk result (λ s. spec.IsStep (block_of view.now) level.old.at level.new.at s) }
+    ensures kept { IfOk result (λ _. IsKept level.old level.new) }
+    ensures read { Keeps result (λ s. comes level.new (block_of view.now) s pass.new.numbers) (reads level.old (block_of view.now) pass.old.numbers) }
     ensures looks { IfOk result (λ _. pass.new.looks ≤ pass.old.looks + 2 ^ 79) }
 {
     level.close(alloc, view, pass)?;
@@ -54,8 +62,12 @@ pub(crate) fn quote_part(
     requires inside { level.old.at < length (block_of view.now) }
     requires short { length (block_of view.now) < 2 ^ 64 }
     requires few { pass.old.looks < 2 ^ 119 + 2 ^ 112 }
+    requires placed { IsPlaced level.old }
+    requires filled { quote.from < quote.to }
     ensures step { IfOk result (λ s. spec.IsStep (block_of view.now) level.old.at level.new.at s) }
     ensures resumed { IfOk result (λ s. spec.IsResumed (block_of view.now) level.old.at level.new.at s) }
+    ensures kept { IfOk result (λ _. IsKept level.old level.new) }
+    ensures read { Keeps result (λ s. comes level.new (block_of view.now) s pass.new.numbers) (quotes_from level.old (block_of view.now) [] quote pass.old.numbers) }
     ensures looks { IfOk result (λ _. pass.new.looks ≤ pass.old.looks + 2 ^ 78) }
 {
     let line = number_at(view, quote.from);

@@ -11,6 +11,9 @@ ghost use Rattle.rst_block_sections.specs.Sections.{filled};
 ghost use Rattle.rst_block.specs.Steps as spec;
 ghost use Rattle.rst_block.specs.Tables.{table_node};
 ghost use Rattle.rst_block.specs.Texts.{shown, source_of};
+ghost use Rattle.rst_block.specs.Meanings.{Keeps, comes, reads};
+ghost use Rattle.rst_block.specs.NextLine.{IsTableAt};
+ghost use Rattle.rst_block.specs.OpenBlocks.{IsKept, IsPlaced};
 
 use super::fault::BlockFault;
 use super::open_block::OpenBlock;
@@ -34,7 +37,11 @@ pub(crate) fn table(
     requires inside { level.old.at < length (block_of view.now) }
     requires short { length (block_of view.now) < 2 ^ 64 }
     requires few { pass.old.looks < 2 ^ 119 + 2 ^ 111 }
+    requires table { IsTableAt (block_of view.now) level.old.at found }
+    requires placed { IsPlaced level.old }
     ensures step { IfOk result (λ s. spec.IsStep (block_of view.now) level.old.at level.new.at s) }
+    ensures kept { IfOk result (λ _. IsKept level.old level.new) }
+    ensures read { Keeps result (λ s. comes level.new (block_of view.now) s pass.new.numbers) (reads level.old (block_of view.now) pass.old.numbers) }
     ensures looks { IfOk result (λ _. pass.new.looks ≤ pass.old.looks + 2 ^ 79) }
 {
     level.close(alloc, view, pass)?;
