@@ -3,6 +3,7 @@ pub mod BegunLemmas
 pub mod Blocks
 pub mod Changes
 pub mod Depths
+pub mod Doctests
 pub mod Looked
 pub mod Made
 pub mod MeaningLemmas

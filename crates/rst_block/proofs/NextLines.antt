@@ -1,6 +1,7 @@
 -- What comes of the next line of a block that is read, by what begins there; and what comes of it once the open run has ended.
-use Rattle.std.proofs.Common.{◌≡◌, ℕ, suc, ◌+◌, ◌-◌, Bool, true, false, List, ◌++◌, drop, map, Ok, Err, refl, sym, ◌∙◌, ap}
+use Rattle.std.proofs.Common.{◌≡◌, ℕ, suc, ◌+◌, ◌-◌, ◌<◌, ◌≤◌, Bool, true, false, List, ◌++◌, length, drop, map, Result, Ok, Err, IfOk, refl, sym, ◌∙◌, ap}
 use Rattle.std.specs.Prelude.{◌==◌}
+use Rattle.std.proofs.lemmas.List.{map-append}
 use Rattle.rst_text.specs.Block.{Block, is_blank, front_text}
 use Rattle.rst_tree.specs.declared.node.Node.{Node}
 use Rattle.rst_markup_blocks.specs.Begun.{IsBegun, kind_in}
@@ -17,17 +18,20 @@ use Rattle.rst_markup_blocks.specs.declared.kind.Kind.TheVariants as kinds
 use Rattle.rst_block.specs.Begins.{construct_with}
 use Rattle.rst_block.specs.Constructs.{Construct, Found, text_by, construct_at}
 use Rattle.rst_block.specs.Joins.{alone_ending}
-use Rattle.rst_block.specs.Meanings.{deepest, open_of, within_at, done_of, reads}
+use Rattle.rst_block.specs.Meanings.{deepest, open_of, within_at, done_of, reads, Keeps}
 use Rattle.rst_block.specs.NextLine.{IsText}
 use Rattle.rst_block.specs.Nodes.{piece_of, ending_notes}
 use Rattle.rst_block.specs.Numbered.{Numbered, then_read, ◌>>=◌, just, before}
-use Rattle.rst_block.specs.OpenBlocks.{IsMoved, HasMore, IsClosed, IsPlaced}
+use Rattle.rst_block.specs.OpenBlocks.{IsMoved, HasMore, IsClosed, Closes, Gives, IsPlaced, IsKept}
 use Rattle.rst_block.specs.Rest.{OpenRun, no_run, closed_run, rest, rest_with}
 use Rattle.rst_block.specs.RestLaws.{found_as, IsAlone}
 use Rattle.rst_block.specs.Titles.{Item, plain}
+use Rattle.rst_block.specs.declared.fault.BlockFault.{BlockFault}
+use Rattle.rst_block.specs.declared.fault.BlockFault.TheVariants.{TooDeep, NoMemory}
 use Rattle.rst_block.specs.declared.open_block.OpenBlock.{OpenBlock}
+use Rattle.rst_markup_blocks.proofs.PartitionLemmas.{end_inside}
 use Rattle.rst_block.proofs.BegunLemmas.{marks_tell_constructs}
-use Rattle.rst_block.proofs.Changes.{done_moved, done_more, done_closed, placed_moved}
+use Rattle.rst_block.proofs.Changes.{done_moved, done_more, done_closed, placed_moved, placed_more, placed_closed}
 use Rattle.rst_block.proofs.NumberedLemmas.{same_after, before_before, before_then, same_before}
 use Rattle.rst_block.proofs.RestLemmas.{rest_text, alone_begins}
 
@@ -65,6 +69,12 @@ filled_at begun B i h f = by (is_blank (front_text (drop i B))) refl
     by : (b : Bool) → is_blank (front_text (drop i B)) ≡ b → IsTextAt B i
     by false e = e
     by true e = absurd (not_blank begun (h.kind ∙ blank_kind (drop i B) e) f)
+
+-- it ends after its line, within the block
+pub begun_within : (begun : Begun) (titles : Bool) (B : Block) (i : ℕ) → IsBegun (drop i B) begun → i < length B
+    → (i < i + row_size (kind_in begun) titles (drop i B)) × (i + row_size (kind_in begun) titles (drop i B) ≤ length B)
+unfolding construct_size
+begun_within begun titles B i h inside = rw h.kind (end_inside titles B i inside)
 
 -- the lines from one place to another
 abbrev pub span_to : ℕ → ℕ → Span
@@ -122,6 +132,25 @@ pub close_refused : (l : OpenBlock) (B : Block) (n line : ℕ) (K : List Item �
     → before (done_of l) (closed_run (suc deepest - l.depth) B (open_of l.run) >>= K) n ≡ Err line
 close_refused l B n line K h = ap (λ r. then_read (λ others. just (done_of l ++ others)) (then_read K r)) h
 
+-- ---- answers of calls
+
+-- where ending the open run is refused, so is the step
+pub close_refuses : {A R : Type 0} (result : Result A BlockFault) (fault : BlockFault) (follows : A → Result (R × ℕ) ℕ) (read : Result (R × ℕ) ℕ) (closed : Result (List Item × ℕ) ℕ) (l : OpenBlock)
+    → result ≡ Err fault → Closes {A = Unit {0}} closed l l 0 no_run (Err fault) → ((line : ℕ) → closed ≡ Err line → read ≡ Err line) → Keeps result follows read
+close_refuses result (TooDeep line) follows read closed l e h f = rw e (f line h)
+close_refuses result NoMemory follows read closed l e h f = rw e tt
+
+-- where the last call gives a value of which something holds, the step leaves what is read as it is if that value does
+pub gives_keeps : {A R : Type 0} (result : Result A BlockFault) (P : A → Type 0) (follows : A → Result (R × ℕ) ℕ) (read : Result (R × ℕ) ℕ)
+    → Gives P result → ((value : A) → P value → follows value ≡ read) → Keeps result follows read
+gives_keeps (Ok value) P follows read h f = f value h
+gives_keeps (Err (TooDeep line)) P follows read h f = absurd h
+gives_keeps (Err NoMemory) P follows read h f = tt
+
+pub gives_kept : {A : Type 0} (result : Result A BlockFault) (P Q : A → Type 0) → Gives P result → ((value : A) → P value → Q value) → IfOk result Q
+gives_kept (Ok value) P Q h f = f value h
+gives_kept (Err fault) P Q h f = tt
+
 -- ---- constructs that nothing joins
 
 -- what comes with a construct that nothing joins, once the run before it has ended
@@ -173,3 +202,29 @@ gone_reads old mid new B more at n m e h w =
     ∙ ap (λ i. before (done_of old ++ map plain more) (rest (within_at old.depth) B i (open_of new.run)) n) (h.at ∙ e)
     ∙ ap (λ r. before (done_of old ++ map plain more) (rest (within_at old.depth) B at (open_of r)) n) (h.run ∙ m.run)
     ∙ sym (before_before (done_of old) (map plain more) (rest (within_at old.depth) B at (open_of old.run)) n)
+
+-- it is as deep, and its titles stand among its nodes
+pub gone_kept : (first old mid new : OpenBlock) (read : Result (List Item × ℕ) ℕ) (next : ℕ) (o : OpenRun) (more : List Node) → IsClosed read first old next o → IsMoved old mid → HasMore mid new more
+    → IsPlaced first → IsKept first new
+gone_kept first old mid new read next o more c m h w = record {
+  depth = h.depth ∙ m.depth ∙ c.depth;
+  placed = placed_more mid new more h (placed_moved old mid m (placed_closed read first old next o c w));
+}
+
+-- a construct that nothing joins, once its nodes and the WARNING after it have come
+pub alone_gone : (old mid gone new : OpenBlock) (B : Block) (f : Found) (nodes more : List Node) (n m k : ℕ) → IsAlone f.what
+    → IsClosed (closed_run (suc deepest - old.depth) B (open_of old.run) n) old mid m no_run → IsPlaced old
+    → piece_of (within_at old.depth) B f m ≡ Ok (map plain nodes, k) → more ≡ nodes ++ ending_notes (alone_ending f.what) (drop f.span.stop B)
+    → IsMoved mid gone → gone.at ≡ f.span.stop → HasMore gone new more
+    → reads new B k ≡ before (done_of old) (rest_with (within_at old.depth) B (open_of old.run) f) n
+alone_gone old mid gone new B f nodes more n m k a c w p e v at h =
+    let E : List Node = ending_notes (alone_ending f.what) (drop f.span.stop B) in
+    let R : Numbered (List Item) = rest (within_at old.depth) B f.span.stop no_run in
+    let items : map plain more ≡ map plain nodes ++ map plain E = ap (map plain) e ∙ map-append plain nodes E in
+    gone_reads mid gone new B more f.span.stop k v at h (placed_closed (closed_run (suc deepest - old.depth) B (open_of old.run) n) old mid m no_run c w)
+    ∙ ap (λ d. before (done_of mid) (before (map plain more) (rest (within_at d) B f.span.stop (open_of mid.run))) k) c.depth
+    ∙ ap (λ o. before (done_of mid) (before (map plain more) (rest (within_at old.depth) B f.span.stop o)) k) c.run
+    ∙ ap (λ some. before (done_of mid) (before some R) k) items
+    ∙ sym (
+    alone_reads old mid B f n m a c w
+    ∙ ap (λ r. then_read (λ others. just (done_of mid ++ others)) (then_read (λ some. before (some ++ map plain E) R) r)) p)
