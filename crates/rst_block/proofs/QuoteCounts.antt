@@ -49,10 +49,13 @@ ends_in Q (Some b) i k a h e =
     let f : b.end ≡ a.end = ap (λ o. option_map_or (λ (x : ℕ × Attribution). x.1.end) o 0) e in
     omega (arith, f, ends_if (is_blank (text_at Q (i - 1))) i (drop i Q) b h)
 
-ends_first : (Q : Block) (o : Option ℕ) (k : ℕ) (a : Attribution)
+ends_from : (Q : Block) (o : Option ℕ) (k : ℕ) (a : Attribution)
     → option_and_then {U = ℕ × Attribution} (λ (i : ℕ). option_map {U = ℕ × Attribution} (λ b. (i, b)) (attribution_in Q i)) o ≡ Some (k, a) → 1 ≤ a.end
-ends_first Q None k a e = absurd (none_is (k, a) e)
-ends_first Q (Some i) k a e = ends_in Q (attribution_in Q i) i k a refl e
+ends_from Q None k a e = absurd (none_is (k, a) e)
+ends_from Q (Some i) k a e = ends_in Q (attribution_in Q i) i k a refl e
+
+pub ends_first : (Q : Block) (k : ℕ) (a : Attribution) → first_attribution Q ≡ Some (k, a) → 1 ≤ a.end
+ends_first Q k a e = ends_from Q (first_from (λ k. is_some (attribution_in Q k)) 1 (length Q - 1)) k a e
 
 -- fewer lines are left after a quote
 fewer : (Q : Block) (a : Attribution) → 1 ≤ a.end → length (quote_after Q a) ≤ length Q - 1
@@ -69,7 +72,7 @@ quotes_same c f g Q n (Some (k, a)) e h =
     (λ made i. same_after (c.inner (take k Q) i)
     (λ nodes. f (quote_after Q a) >>= λ more. just (quote_node Q (nodes ++ made.0 ∷ []) ∷ made.1 ++ more))
     (λ nodes. g (quote_after Q a) >>= λ more. just (quote_node Q (nodes ++ made.0 ∷ []) ∷ made.1 ++ more))
-    (λ nodes j. ap (then_read (λ more. just (quote_node Q (nodes ++ made.0 ∷ []) ∷ made.1 ++ more))) (h a (fewer Q a (ends_first Q (first_from (λ k. is_some (attribution_in Q k)) 1 (length Q - 1)) k a e)) j)))
+    (λ nodes j. ap (then_read (λ more. just (quote_node Q (nodes ++ made.0 ∷ []) ∷ made.1 ++ more))) (h a (fewer Q a (ends_first Q k a e)) j)))
 
 -- two counts that are large enough give the same quotes
 pub quotes_enough : (c : Within) (m k : ℕ) (Q : Block) (n : ℕ) → length Q ≤ m → length Q ≤ k → quotes c m Q n ≡ quotes c k Q n

@@ -1,25 +1,46 @@
 -- A block quote as the machine reads it: a quote with its attribution, and then the lines that are left.
-use Rattle.std.proofs.Common.{◌≡◌, ℕ, zero, suc, ◌+◌, ◌-◌, ◌≤◌, List, [], ◌∷◌, ◌++◌, length, drop, map, Option, Some, None, Result, Ok, Err, arith, refl, sym, ◌∙◌, ap, append-nil}
-use Rattle.rst_text.specs.Block.{Block, first_number}
+use Rattle.std.proofs.Common.{◌≡◌, ℕ, zero, suc, ◌+◌, ◌-◌, ◌<◌, ◌≤◌, Bool, true, cond, List, [], ◌∷◌, ◌++◌, length, length-drop, take, drop, map, Option, Some, None, Result, Ok, Err, Box, box_value, Global, arith, refl, sym, ◌∙◌, ap, append-nil, append_assoc, inl, inr, lt-ltb, le-ltb, ne_eqb, if◌then◌else◌}
+use Rattle.std.proofs.lemmas.Bool.{cases_lt}
+use Rattle.std.proofs.lemmas.List.{drop_all, drop-drop, map-append}
+use Rattle.rst_text.specs.Block.{Block, cut, first_number}
+use Rattle.rst_text.specs.Extent.{extent}
+use Rattle.rst_text.proofs.CutLaws.{take-cut, drop-cut, length-cut}
 use Rattle.rst_tree.specs.declared.node.Node.{Node}
+use Rattle.rst_tree.specs.declared.tag.Tag.TheVariants.{BlockQuote}
+use Rattle.rst_markup_blocks.specs.Begun.{IsBegun}
+use Rattle.rst_markup_blocks.specs.Ends.{row_size}
+use Rattle.rst_markup_blocks.specs.Kinds.{kind_at}
+use Rattle.rst_markup_blocks.specs.Lines.{lines_while}
+use Rattle.rst_markup_blocks.specs.Partition.{construct_size}
+use Rattle.rst_markup_blocks.specs.RowLaws.{extent_le}
+use Rattle.rst_markup_blocks.specs.declared.attribution.Attribution.{Attribution}
+use Rattle.rst_markup_blocks.specs.declared.begun.Begun.TheVariants as Begins
+use Rattle.rst_markup_blocks.specs.declared.lines.LineTest.TheVariants.{Blank}
 use Rattle.rst_markup_blocks.specs.declared.part.Part.{Part}
-use Rattle.rst_block.specs.Constructs.{block_quote}
+use Rattle.rst_markup_blocks.proofs.PartitionLemmas.{end_inside}
+use Rattle.rst_block_nodes.specs.Elements.{element_of}
+use Rattle.rst_block_nodes.specs.declared.texted.Texted.{Texted}
+use Rattle.rst_block.specs.Constructs.{block_quote, Found}
 use Rattle.rst_block.specs.Joins.{alone_ending}
-use Rattle.rst_block.specs.Meanings.{open_of, within_at, done_of, reads_from, quote_by, quotes_from, after_quote, resumed, after, comes}
-use Rattle.rst_block.specs.Nodes.{ending_notes}
+use Rattle.rst_block.specs.MeaningLaws.{IsAttributed, front_of}
+use Rattle.rst_block.specs.Meanings.{deepest, open_of, within_at, done_of, reads, reads_from, quote_by, quotes_from, after_quote, resumed, after, comes}
+use Rattle.rst_block.specs.Nodes.{piece_of, ending_notes}
 use Rattle.rst_block.specs.Numbered.{Numbered, then_read, ◌>>=◌, just, before}
-use Rattle.rst_block.specs.OpenBlocks.{IsMoved}
+use Rattle.rst_block.specs.OpenBlocks.{IsMoved, HasMore, IsClosed, IsPlaced}
 use Rattle.rst_block.specs.Quotes.{first_attribution, quote_after, quote_node, quotes_by, quotes}
-use Rattle.rst_block.specs.Rest.{rest}
+use Rattle.rst_block.specs.Rest.{no_run, closed_run, rest}
+use Rattle.rst_block.specs.RestLaws.{found_as}
+use Rattle.rst_block.specs.Steps.{rest_of}
 use Rattle.rst_block.specs.Texts.{lines_in}
 use Rattle.rst_block.specs.Titles.{Item, plain}
-use Rattle.rst_block.specs.Within.{Within}
+use Rattle.rst_block.specs.Within.{Within, indented_part}
 use Rattle.rst_block.specs.declared.open_block.OpenBlock.{OpenBlock}
 use Rattle.rst_block.specs.declared.resume.Waits.TheVariants.{Quote}
 use Rattle.rst_block.specs.declared.step.Step.TheVariants.{Open}
-use Rattle.rst_block.proofs.Changes.{done_moved}
-use Rattle.rst_block.proofs.NumberedLemmas.{same_after, after_after}
-use Rattle.rst_block.proofs.QuoteCounts.{quotes_enough, quotes_same}
+use Rattle.rst_block.proofs.Changes.{done_moved, done_more}
+use Rattle.rst_block.proofs.NextLines.{span_to, begun_reads, alone_reads, alone_refused}
+use Rattle.rst_block.proofs.NumberedLemmas.{same_after, after_after, before_before, before_then}
+use Rattle.rst_block.proofs.QuoteCounts.{ends_first, quotes_enough, quotes_same}
 
 -- the first of some quotes, and the others
 pub quotes_first : (c : Within) (m : ℕ) (Q : Block) (n : ℕ) → 1 ≤ length Q → length Q ≤ m → quotes c m Q n ≡ quotes_by c (quotes c m) Q (first_attribution Q) n
@@ -54,3 +75,158 @@ plain_quote old new B p line n none some enough m at h =
     ∙ reads_moved old new B (quote_by line None nodes ++ E) p.to m
     ∙ ap (λ i. reads_from old B (quote_by i None nodes ++ E) p.to) h)))
     ∙ ap (λ d. then_read (λ nodes. reads_from new B (quote_by line None nodes ++ E) new.at) ((within_at d).inner Q n)) (sym m.depth)
+
+-- ---- a quote with an attribution
+
+-- what is left of a part behind its first lines keeps their indentation cut
+left_of : Part → ℕ → Part
+left_of p next = record { from = p.from + next; to = p.to; first_cut = p.rest_cut; rest_cut = p.rest_cut }
+
+left_lines : (B : Block) (p : Part) (next : ℕ) → next ≤ p.to - p.from → 1 ≤ next → drop next (lines_in B p) ≡ lines_in B (left_of p next)
+unfolding left_of
+left_lines B p next h some =
+    drop-cut B p.from p.to p.first_cut p.rest_cut next h
+    ∙ ap (λ b. cut B (p.from + next) p.to (cond b p.first_cut p.rest_cut) p.rest_cut) (ne_eqb next 0 (λ e. omega (arith, e, some)))
+
+-- further quotes of what is left of a part, after the nodes of the first
+further_quotes : (old new : OpenBlock) (B : Block) (p : Part) (next : ℕ) (earlier : List Node) (j : ℕ) → next ≤ p.to - p.from → 1 ≤ next → p.to ≤ length B
+    → IsMoved old new → new.at ≡ p.from + next
+    → then_read (λ more. reads_from old B ((earlier ++ more) ++ ending_notes (alone_ending block_quote) (drop p.to B)) p.to) (quotes (within_at old.depth) (p.to - p.from) (drop next (lines_in B p)) j)
+    ≡ after_quote new B earlier (rest_of p next) p.to j
+unfolding left_of
+further_quotes old new B p next earlier j h some within m at =
+    let c : Within = within_at old.depth in
+    let E : List Node = ending_notes (alone_ending block_quote) (drop p.to B) in
+    let R : List Node → Numbered (List Item) = λ more. reads_from old B ((earlier ++ more) ++ E) p.to in
+    let N : ℕ = p.to - p.from in
+    let M : ℕ = p.to - (p.from + next) in
+    let X : Block = lines_in B (left_of p next) in
+    let length_X : length X ≡ M = length-cut B (p.from + next) p.to p.rest_cut p.rest_cut within in
+    let length_Q : length (lines_in B p) ≡ N = length-cut B p.from p.to p.first_cut p.rest_cut within in
+    elim (cases_lt (p.from + next) p.to) [
+    | inl below ↦
+        ap (λ Q. then_read R (quotes c N Q j)) (left_lines B p next h some)
+        ∙ ap (then_read R) (quotes_enough c N M X j (omega (arith, length_X)) (omega (arith, length_X)))
+        ∙ same_after (quotes c M X j) R (λ more. reads_from new B (earlier ++ more ++ E) p.to)
+        (λ more i. ap (λ (read : Numbered (List Item)). read i) (sym (reads_moved old new B (earlier ++ more ++ E) p.to m)))
+        ∙ ap (λ d. then_read (λ more. reads_from new B (earlier ++ more ++ E) p.to) (quotes (within_at d) M X j)) (sym m.depth)
+        ∙ ap (λ (b : Bool). after_quote new B earlier (if b then Some (left_of p next) else None) p.to j) (sym (lt-ltb (p.from + next) p.to below))
+    | inr over ↦
+        let all : length (lines_in B p) ≤ next = omega (arith, length_Q, over) in
+        let stop : p.to ≡ p.from + next = omega (arith, h, some, over) in
+        ap (λ Q. then_read R (quotes c N Q j)) (drop_all next (lines_in B p) all)
+        ∙ ap (then_read R) (quotes_enough c N 0 [] j (omega arith) (omega arith))
+        ∙ ap (λ (read : Numbered (List Item)). read j)
+        (ap (λ ns. reads_from old B (ns ++ E) p.to) (append-nil earlier)
+        ∙ sym (reads_moved old new B (earlier ++ E) p.to m)
+        ∙ ap (reads_from new B (earlier ++ E)) (stop ∙ sym at))
+        ∙ ap (λ (b : Bool). after_quote new B earlier (if b then Some (left_of p next) else None) p.to j) (sym (le-ltb (p.from + next) p.to over))
+    ]
+
+pub attributed_quote : (old new : OpenBlock) (B : Block) (p : Part) (k next line n m : ℕ) (box : Box Texted Global) → IsAttributed (lines_in B p) k next (box_value box) n m
+    → k ≤ next → next ≤ p.to - p.from → p.to ≤ length B → IsMoved old new → new.at ≡ p.from + next → line ≡ first_number (lines_in B p)
+    → quotes_from old B [] p n ≡ comes new B (Open (Quote line (Some box) (rest_of p next) p.to) (front_of p k) None) m
+attributed_quote old new B p k next line n m box t front h within moved at number =
+    let c : Within = within_at old.depth in
+    let Q : Block = lines_in B p in
+    let N : ℕ = p.to - p.from in
+    let E : List Node = ending_notes (alone_ending block_quote) (drop p.to B) in
+    let a : Attribution = t.attribution in
+    let made : Texted = box_value box in
+    let R : List Node → Numbered (List Item) = λ more. reads_from old B (more ++ E) p.to in
+    let G : List Node → Numbered (List Node) = λ nodes. quotes c N (quote_after Q a) >>= λ more. just (quote_node Q (nodes ++ made.element ∷ []) ∷ made.notes.items ++ more) in
+    let F : List Node → Numbered (List Item) = λ nodes. after_quote new B (quote_by line (Some made) nodes) (rest_of p next) p.to in
+    let length_Q : length Q ≡ N = length-cut B p.from p.to p.first_cut p.rest_cut within in
+    let some : 1 ≤ next = omega (arith, ends_first Q k a t.first, t.behind) in
+    ap (then_read R)
+    (quotes_first c N Q n (omega (arith, length_Q, some, h)) (omega (arith, length_Q))
+    ∙ ap (λ o. quotes_by c (quotes c N) Q o n) t.first
+    ∙ ap (then_read (λ (read : Node × List Node). c.inner (take k Q) >>= λ nodes. quotes c N (quote_after Q a) >>= λ more. just (quote_node Q (nodes ++ read.0 ∷ []) ∷ read.1 ++ more))) t.read)
+    ∙ after_after (c.inner (take k Q) m) G R
+    ∙ same_after (c.inner (take k Q) m) (λ nodes. G nodes >>= R) F
+    (λ nodes j.
+    let earlier : ℕ → List Node = λ i. element_of BlockQuote [] (nodes ++ made.element ∷ []) i ∷ made.notes.items in
+    after_after (quotes c N (quote_after Q a) j) (λ more. just (earlier (first_number Q) ++ more)) R
+    ∙ ap (λ X. then_read (λ more. reads_from old B ((earlier (first_number Q) ++ more) ++ E) p.to) (quotes c N X j))
+    (drop-drop (lines_while Blank (drop a.end Q)) a.end Q ∙ ap (λ i. drop i Q) (sym t.behind))
+    ∙ further_quotes old new B p next (earlier (first_number Q)) j h some within moved at
+    ∙ ap (λ i. after_quote new B (earlier i) (rest_of p next) p.to j) (sym number))
+    ∙ ap (λ X. then_read F (c.inner X m)) (take-cut B p.from p.to p.first_cut p.rest_cut k (omega (arith, front, h)))
+    ∙ ap (λ d. then_read F ((within_at d).inner (lines_in B (front_of p k)) m)) (sym moved.depth)
+
+-- ---- quotes after more nodes
+
+reads_after : (old new : OpenBlock) (B : Block) (earlier more : List Node) (at : ℕ) → HasMore old new earlier → IsPlaced old → reads_from new B more at ≡ reads_from old B (earlier ++ more) at
+reads_after old new B earlier more at m w =
+    let done : done_of new ++ map plain more ≡ done_of old ++ map plain (earlier ++ more) =
+        ap (λ items. items ++ map plain more) (done_more old new earlier m w)
+        ∙ append_assoc (done_of old) (map plain earlier) (map plain more)
+        ∙ ap (λ items. done_of old ++ items) (sym (map-append plain earlier more)) in
+    ap (λ items. before items (rest (within_at new.depth) B at (open_of new.run))) done
+    ∙ ap (λ d. before (done_of old ++ map plain (earlier ++ more)) (rest (within_at d) B at (open_of new.run))) m.depth
+    ∙ ap (λ r. before (done_of old ++ map plain (earlier ++ more)) (rest (within_at old.depth) B at (open_of r))) m.run
+
+-- what comes after a quote is the same once its nodes are among those of the block
+pub after_more : (old new : OpenBlock) (B : Block) (earlier : List Node) (left : Option Part) (end n : ℕ) → HasMore old new earlier → IsPlaced old
+    → after_quote new B [] left end n ≡ after_quote old B earlier left end n
+after_more old new B earlier None end n m w =
+    let E : List Node = ending_notes (alone_ending block_quote) (drop end B) in
+    ap (λ (read : Numbered (List Item)). read n) (ap (reads_from new B E) m.at ∙ reads_after old new B earlier E old.at m w)
+after_more old new B earlier (Some p) end n m w =
+    let E : List Node = ending_notes (alone_ending block_quote) (drop p.to B) in
+    let N : ℕ = p.to - p.from in
+    ap (λ d. then_read (λ more. reads_from new B (more ++ E) p.to) (quotes (within_at d) N (lines_in B p) n)) m.depth
+    ∙ same_after (quotes (within_at old.depth) N (lines_in B p) n) (λ more. reads_from new B (more ++ E) p.to) (λ more. reads_from old B (earlier ++ more ++ E) p.to)
+    (λ more j. ap (λ (read : Numbered (List Item)). read j)
+    (reads_after old new B earlier (more ++ E) p.to m w ∙ ap (λ ns. reads_from old B ns p.to) (sym (append_assoc earlier more E))))
+
+pub more_more : (old mid new : OpenBlock) (some more : List Node) → HasMore old mid some → HasMore mid new more → HasMore old new (some ++ more)
+more_more old mid new some more m k = record {
+  depth = k.depth ∙ m.depth;
+  at = k.at ∙ m.at;
+  nodes = k.nodes ∙ ap (λ nodes. nodes ++ more) m.nodes ∙ append_assoc old.nodes.items some more;
+  headings = k.headings ∙ m.headings;
+  run = k.run ∙ m.run;
+}
+
+-- ---- where a quote begins
+
+-- a block quote has a line
+pub quote_filled : (B : Block) (i : ℕ) → i < length B → IsBegun (drop i B) Begins.Quote → i < i + extent 1 (drop i B)
+unfolding construct_size
+quote_filled B i h b =
+    let w = end_inside true B i h in
+    let size : row_size (kind_at (drop i B)) true (drop i B) ≡ extent 1 (drop i B) = ap (λ k. row_size k true (drop i B)) (sym b.kind) in
+    omega (arith, w.0, size)
+
+-- where a quote begins the block gives the quotes of the indented lines, once the open run has ended
+pub quote_reads : (old mid : OpenBlock) (B : Block) (n m : ℕ) → old.at ≤ length B → IsBegun (drop old.at B) Begins.Quote
+    → IsClosed (closed_run (suc deepest - old.depth) B (open_of old.run) n) old mid m no_run → IsPlaced old
+    → reads old B n ≡ quotes_from mid B [] (indented_part old.at (drop old.at B)) m
+quote_reads old mid B n m inside b h w =
+    let c : Within = within_at old.depth in
+    let X : Block = drop old.at B in
+    let p : Part = indented_part old.at X in
+    let f : Found = found_as block_quote (span_to old.at (old.at + extent 1 X)) in
+    let Q : Block = lines_in B p in
+    let N : ℕ = p.to - p.from in
+    let E : List Node = ending_notes (alone_ending block_quote) (drop p.to B) in
+    let rows : Numbered (List Item) = rest c B p.to no_run in
+    let length_Q : length Q ≡ N = length-cut B p.from p.to p.first_cut p.rest_cut (omega (arith, extent_le 1 X, length-drop old.at B, inside)) in
+    begun_reads Begins.Quote old B n b tt
+    ∙ alone_reads old mid B f n m tt h w
+    ∙ before_then (done_of mid) (piece_of c B f) (λ items. before (items ++ map plain E) rows) m
+    ∙ after_after (quotes c (length Q) Q m) (λ nodes. just (map plain nodes)) (λ items. before (done_of mid) (before (items ++ map plain E) rows))
+    ∙ same_after (quotes c (length Q) Q m) (λ nodes. before (done_of mid) (before (map plain nodes ++ map plain E) rows)) (λ nodes. before (done_of mid ++ map plain (nodes ++ E)) rows)
+    (λ nodes j.
+    before_before (done_of mid) (map plain nodes ++ map plain E) rows j
+    ∙ ap (λ items. before (done_of mid ++ items) rows j) (sym (map-append plain nodes E)))
+    ∙ ap (then_read (λ nodes. before (done_of mid ++ map plain (nodes ++ E)) rows)) (quotes_enough c (length Q) N Q m (omega arith) (omega (arith, length_Q)))
+    ∙ ap (λ o. then_read (λ nodes. before (done_of mid ++ map plain (nodes ++ E)) (rest c B p.to o)) (quotes c N Q m)) (sym h.run)
+    ∙ ap (λ d. then_read (λ nodes. before (done_of mid ++ map plain (nodes ++ E)) (rest (within_at d) B p.to (open_of mid.run))) (quotes (within_at d) N Q m)) (sym h.depth)
+
+-- where the open run is nested too deeply, so is all
+pub quote_refused : (l : OpenBlock) (B : Block) (n line : ℕ) → IsBegun (drop l.at B) Begins.Quote → closed_run (suc deepest - l.depth) B (open_of l.run) n ≡ Err line
+    → reads l B n ≡ Err line
+quote_refused l B n line b h =
+    begun_reads Begins.Quote l B n b tt ∙ alone_refused l B (found_as block_quote (span_to l.at (l.at + extent 1 (drop l.at B)))) n line tt h

@@ -1,11 +1,16 @@
 -- Laws on what the state of the machine means: where blocks begin, wait and end.
-use Rattle.std.specs.Prelude.{◌≡◌, ℕ, suc, ◌-◌, ◌<◌, ◌≤◌, ◌⊎◌, length, List, [], ◌∷◌, ◌++◌, drop, Option, Some, None, Result, Ok, Err}
+use Rattle.std.specs.Prelude.{◌≡◌, ℕ, suc, ◌+◌, ◌-◌, ◌<◌, ◌≤◌, ◌⊎◌, length, List, [], ◌∷◌, ◌++◌, drop, Option, Some, None, Result, Ok, Err, Box, box_value}
+use Rattle.std.specs.declared.alloc.Global.{Global}
 use Rattle.rst_text.specs.Block.{Block, first_number}
 use Rattle.rst_text.specs.Shown.{placement_block}
 use Rattle.rst_tree.specs.declared.node.Node.{Node}
+use Rattle.rst_tree.specs.declared.tag.Tag.TheVariants.{Attribution as AttributionTag}
+use Rattle.rst_markup_blocks.specs.Attributions.{attribution_part}
 use Rattle.rst_markup_blocks.specs.Lines.{lines_while}
+use Rattle.rst_markup_blocks.specs.declared.attribution.Attribution.{Attribution}
 use Rattle.rst_markup_blocks.specs.declared.lines.LineTest.TheVariants.{Blank}
 use Rattle.rst_markup_blocks.specs.declared.part.Part.{Part}
+use Rattle.rst_block_nodes.specs.declared.texted.Texted.{Texted}
 use Rattle.rst_block_sections.specs.declared.heading.Heading.{Heading}
 use Rattle.rst_block_sections.specs.Sections.{title_of}
 use Rattle.rst_block.specs.Lists.{list_item}
@@ -15,7 +20,8 @@ use Rattle.rst_block.specs.Numbered.{◌>>=◌, just, before}
 use Rattle.rst_block.specs.OpenBlocks.{IsMoved, HasMore, HasItem, HasTitle, IsPlaced}
 use Rattle.rst_block.specs.Quotes.{first_attribution, quotes}
 use Rattle.rst_block.specs.Rest.{ListSoFar, open_list, with_items, rest}
-use Rattle.rst_block.specs.Texts.{lines_in}
+use Rattle.rst_block.specs.Steps.{rest_of}
+use Rattle.rst_block.specs.Texts.{joined, lines_in, texted}
 use Rattle.rst_block.specs.Titles.{Item, titled}
 use Rattle.rst_block.specs.Within.{Within}
 use Rattle.rst_block.specs.declared.frame.Frame.{Frame}
@@ -114,3 +120,22 @@ abbrev pub QuoteIsRead : Type 0
 QuoteIsRead = (old new : OpenBlock) (B : Block) (p : Part) (line number : ℕ) → first_attribution (lines_in B p) ≡ None → 1 ≤ length (lines_in B p)
     → length (lines_in B p) ≤ p.to - p.from → IsMoved old new → new.at ≡ p.to → line ≡ first_number (lines_in B p)
     → quotes_from old B [] p number ≡ comes new B (Open (Quote line None None p.to) p None) number
+
+-- The first attribution of a quote's lines, at place k, once its text is read: the element and the messages, and the number of the next message.
+-- The first line after it that isn't blank is at place `next`.
+pub record IsAttributed (Q : Block) (k next : ℕ) (made : Texted) (number after : ℕ) : Type 0 where
+  pub attribution : Attribution
+  pub first : first_attribution Q ≡ Some (k, attribution)
+  pub behind : next ≡ attribution.end + lines_while Blank (drop attribution.end Q)
+  pub read : texted AttributionTag (first_number (drop k Q)) (joined (lines_in Q (attribution_part k attribution))) (first_number (drop k Q)) number ≡ Ok ((made.element, made.notes.items), after)
+
+-- the first k lines of a part
+abbrev pub front_of : Part → ℕ → Part
+front_of p k = record { from = p.from; to = p.from + k; first_cut = p.first_cut; rest_cut = p.rest_cut }
+
+-- A part in which there is an attribution is read as the quote of the lines before that, and then as further quotes of what is left of the part. The
+-- attribution's text is read first, so the messages on it have earlier numbers than those on the lines before it.
+abbrev pub AttributedQuoteIsRead : Type 0
+AttributedQuoteIsRead = (old new : OpenBlock) (B : Block) (p : Part) (k next line number after : ℕ) (made : Box Texted Global) → IsAttributed (lines_in B p) k next (box_value made) number after
+    → k ≤ next → next ≤ p.to - p.from → p.to ≤ length B → IsMoved old new → new.at ≡ p.from + next → line ≡ first_number (lines_in B p)
+    → quotes_from old B [] p number ≡ comes new B (Open (Quote line (Some made) (rest_of p next) p.to) (front_of p k) None) after

@@ -35,9 +35,11 @@ pub fn quotes_are_enough()
     ensures { meaning.EnoughQuotes }
 {}
 
-/// A part in which there is no attribution is read as one quote.
+/// A part in which there is no attribution is read as one quote; one in which there is an attribution as the quote of the lines
+/// before that, and then as further quotes of the lines after it.
 pub(crate) fn quotes_are_read()
-    ensures { meaning.QuoteIsRead }
+    ensures plain { meaning.QuoteIsRead }
+    ensures attributed { meaning.AttributedQuoteIsRead }
 {}
 
 /// A block below the last level gives nothing if it is blank, and else is refused at its first line that isn't.

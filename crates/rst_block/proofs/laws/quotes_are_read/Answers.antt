@@ -1,5 +1,5 @@
-use Rattle.rst_block.proofs.QuoteSteps.{plain_quote}
+use Rattle.rst_block.proofs.QuoteSteps.{plain_quote, attributed_quote}
 use Rattle.rst_block.proofs.laws.quotes_are_read.Goals as goal
 
 pub returns : goal.returns
-returns c = plain_quote
+returns c = record { plain = plain_quote; attributed = attributed_quote }
