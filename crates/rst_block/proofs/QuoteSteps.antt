@@ -1,12 +1,13 @@
 -- A block quote as the machine reads it: a quote with its attribution, and then the lines that are left.
-use Rattle.std.proofs.Common.{◌≡◌, ℕ, zero, suc, ◌+◌, ◌-◌, ◌<◌, ◌≤◌, Bool, true, cond, List, [], ◌∷◌, ◌++◌, length, length-drop, take, drop, map, Option, Some, None, Result, Ok, Err, Box, box_value, Global, arith, refl, sym, ◌∙◌, ap, append-nil, append_assoc, inl, inr, lt-ltb, le-ltb, ne_eqb, if◌then◌else◌}
+use Rattle.std.proofs.Common.{◌≡◌, ℕ, zero, suc, ◌+◌, ◌-◌, ◌<◌, ◌≤◌, Bool, true, cond, List, [], ◌∷◌, ◌++◌, length, length-drop, take, drop, map, Option, Some, None, Result, Ok, Err, Box, box_value, Global, arith, refl, sym, ◌∙◌, ap, subst, append-nil, append_assoc, inl, inr, lt-ltb, le-ltb, ne_eqb, if◌then◌else◌}
 use Rattle.std.proofs.lemmas.Bool.{cases_lt}
 use Rattle.std.proofs.lemmas.List.{drop_all, drop-drop, map-append}
-use Rattle.rst_text.specs.Block.{Block, cut, first_number}
+use Rattle.rst_text.specs.Block.{Block, cut, shorten_all, first_number}
 use Rattle.rst_text.specs.Extent.{extent}
 use Rattle.rst_text.proofs.CutLaws.{take-cut, drop-cut, length-cut}
 use Rattle.rst_tree.specs.declared.node.Node.{Node}
-use Rattle.rst_tree.specs.declared.tag.Tag.TheVariants.{BlockQuote}
+use Rattle.rst_tree.specs.declared.tag.Tag.TheVariants.{BlockQuote, Attribution as AttributionTag}
+use Rattle.rst_markup_blocks.specs.Attributions.{attribution_part}
 use Rattle.rst_markup_blocks.specs.Begun.{IsBegun}
 use Rattle.rst_markup_blocks.specs.Ends.{row_size}
 use Rattle.rst_markup_blocks.specs.Kinds.{kind_at}
@@ -31,7 +32,7 @@ use Rattle.rst_block.specs.Quotes.{first_attribution, quote_after, quote_node, q
 use Rattle.rst_block.specs.Rest.{no_run, closed_run, rest}
 use Rattle.rst_block.specs.RestLaws.{found_as}
 use Rattle.rst_block.specs.Steps.{rest_of}
-use Rattle.rst_block.specs.Texts.{lines_in}
+use Rattle.rst_block.specs.Texts.{joined, lines_in, texted}
 use Rattle.rst_block.specs.Titles.{Item, plain}
 use Rattle.rst_block.specs.Within.{Within, indented_part}
 use Rattle.rst_block.specs.declared.open_block.OpenBlock.{OpenBlock}
@@ -153,6 +154,37 @@ attributed_quote old new B p k next line n m box t front h within moved at numbe
     ∙ ap (λ i. after_quote new B (earlier i) (rest_of p next) p.to j) (sym number))
     ∙ ap (λ X. then_read F (c.inner X m)) (take-cut B p.from p.to p.first_cut p.rest_cut k (omega (arith, front, h)))
     ∙ ap (λ d. then_read F ((within_at d).inner (lines_in B (front_of p k)) m)) (sym moved.depth)
+
+-- ---- parts as they are read
+
+-- a part of a block has the number of its first line
+part_number : (f r n : ℕ) (X : Block) → 1 ≤ n → first_number (shorten_all f r (take n X)) ≡ first_number X
+part_number f r zero X h = absurd (omega (arith, h))
+part_number f r (suc n) [] h = refl
+part_number f r (suc n) (l ∷ ls) h = refl
+
+-- L are the lines of a part in which no attribution was found
+pub plain_part : (old new : OpenBlock) (B : Block) (p : Part) (line n : ℕ) (L : Block) → L ≡ lines_in B p → None ≡ first_attribution L → length L ≡ p.to - p.from → p.from < p.to
+    → IsMoved old new → new.at ≡ p.to → line ≡ first_number (drop p.from B)
+    → comes new B (Open (Quote line None None p.to) p None) n ≡ quotes_from old B [] p n
+plain_part old new B p line n L is none size filled m at h =
+    let count : length (lines_in B p) ≡ p.to - p.from = ap length (sym is) ∙ size in
+    sym (plain_quote old new B p line n (ap first_attribution (sym is) ∙ sym none) (omega (arith, count, filled)) (omega (arith, count)) m at
+    (h ∙ sym (part_number p.first_cut p.rest_cut (p.to - p.from) (drop p.from B) (omega (arith, filled)))))
+
+-- L are the lines of a part in which an attribution was found, whose text was read
+pub attributed_part : (old new : OpenBlock) (B : Block) (p : Part) (k next line n m : ℕ) (a : Attribution) (made : Texted) (box : Box Texted Global) (L : Block) → L ≡ lines_in B p
+    → Some (k, a) ≡ first_attribution L → next ≡ a.end + lines_while Blank (drop a.end L)
+    → texted AttributionTag (first_number (drop k L)) (joined (lines_in L (attribution_part k a))) (first_number (drop k L)) n ≡ Ok ((made.element, made.notes.items), m)
+    → box_value box ≡ made → k ≤ a.end → next ≤ length L → length L ≡ p.to - p.from → p.from < p.to → p.to ≤ length B
+    → IsMoved old new → new.at ≡ p.from + next → line ≡ first_number (drop p.from B)
+    → comes new B (Open (Quote line (Some box) (rest_of p next) p.to) (front_of p k) None) m ≡ quotes_from old B [] p n
+attributed_part old new B p k next line n m a made box L is first behind read value front small size filled within moved at h =
+    let t : IsAttributed L k next made n m = record { attribution = a; first = sym first; behind = behind; read = read } in
+    let u : IsAttributed (lines_in B p) k next (box_value box) n m =
+        subst (λ Q. IsAttributed Q k next (box_value box) n m) is (subst (λ x. IsAttributed L k next x n m) (sym value) t) in
+    sym (attributed_quote old new B p k next line n m box u (omega (arith, front, behind)) (omega (arith, small, size)) within moved at
+    (h ∙ sym (part_number p.first_cut p.rest_cut (p.to - p.from) (drop p.from B) (omega (arith, filled)))))
 
 -- ---- quotes after more nodes
 

@@ -1,7 +1,14 @@
-use Rattle.std.proofs.Common.{◌+◌, ◌-◌, ◌<◌, ◌≤◌, arith}
+use Rattle.std.proofs.Common.{ℕ, ◌+◌, ◌-◌, ◌<◌, ◌≤◌, Some, None, arith, ◌∙◌, ap}
 use Rattle.rst_text.specs.Block.{Block}
 use Rattle.rst_text.specs.Shown.{block_of}
+use Rattle.rst_markup_blocks.specs.declared.part.Part.{Part}
+use Rattle.rst_block.specs.MeaningLaws.{front_of}
+use Rattle.rst_block.specs.Meanings.{comes}
+use Rattle.rst_block.specs.declared.resume.Waits.TheVariants.{Quote}
+use Rattle.rst_block.specs.declared.step.Step.TheVariants.{Open}
 use Rattle.rst_block.proofs.Blocks.{front_block}
+use Rattle.rst_block.proofs.Changes.{placed_moved}
+use Rattle.rst_block.proofs.QuoteSteps.{plain_part, attributed_part}
 use Rattle.rst_block.proofs.Quotes.{rest_follows}
 use Rattle.rst_block.proofs.quote.quote_part.Goals as goal
 
@@ -22,3 +29,30 @@ pub returns-in_ok-attribution-in-Some-clause-resumed : goal.returns-in_ok-attrib
 returns-in_ok-attribution-in-Some-clause-resumed c =
     let step = returns-in_ok-attribution-in-Some-clause-step c in
     (c.requires.inside, step.0, step.1, step.2, step.3)
+
+pub returns-in-None-clause-read : goal.returns-in-None-clause-read
+returns-in-None-clause-read c =
+    let B : Block = block_of c.args.view.now in
+    plain_part c.args.level.now c.go_to.new.self B c.args.quote c.number_at-line.result c.args.pass.now.numbers (block_of c.inside-lines.result) c.inside-lines.ensures.block c.in-None.ensures.first
+    c.inside-lines.ensures.lines c.requires.filled c.go_to.ensures.moved (c.go_to.ensures.there (omega arith)) c.number_at-line.ensures
+
+pub returns-in_ok-attribution-in-Some-clause-read : goal.returns-in_ok-attribution-in-Some-clause-read
+returns-in_ok-attribution-in-Some-clause-read c =
+    let B : Block = block_of c.args.view.now in
+    let L : Block = block_of c.inside-lines.result in
+    let old = c.args.level.now in
+    let new = c.go_to-in-Some.new.self in
+    let quote : Part = c.args.quote in
+    let next : ℕ = c.lines_end-next.result in
+    let line : ℕ = c.number_at-line.result in
+    let box = c.in_ok-attribution-in-Some.attribution in
+    let behind : old.at < quote.from + next = omega (arith, c.requires.at, c.lines_end-next.ensures.end, c.in-Some.ensures.place.0, c.in-Some.ensures.place.1) in
+    ap (λ left. comes new B (Open (Quote line (Some box) left quote.to) (front_of quote c.in-Some.place) None) c.attribution_text.new.pass.numbers) c.rest_of.ensures
+    ∙ attributed_part old new B quote c.in-Some.place next line c.args.pass.now.numbers c.attribution_text.new.pass.numbers c.in-Some.found c.in_ok-made-in-Some.made box L c.inside-lines.ensures.block
+    c.in-Some.ensures.first c.lines_end-next.ensures.end c.in_ok-made-in-Some.ensures.text c.in_ok-attribution-in-Some.ensures.ok c.in-Some.ensures.place.1 c.lines_end-next.ensures.within
+    c.inside-lines.ensures.lines c.requires.filled c.requires.block.within c.go_to-in-Some.ensures.moved (c.go_to-in-Some.ensures.there behind) c.number_at-line.ensures
+
+pub returns-in_ok-attribution-in-Some-clause-kept : goal.returns-in_ok-attribution-in-Some-clause-kept
+returns-in_ok-attribution-in-Some-clause-kept c =
+    let moved = c.go_to-in-Some.ensures.moved in
+    record { depth = moved.depth; placed = placed_moved c.args.level.now c.go_to-in-Some.new.self moved c.requires.placed }
