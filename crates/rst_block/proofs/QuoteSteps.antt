@@ -1,11 +1,13 @@
 -- A block quote as the machine reads it: a quote with its attribution, and then the lines that are left.
-use Rattle.std.proofs.Common.{◌≡◌, ℕ, zero, suc, ◌+◌, ◌-◌, ◌<◌, ◌≤◌, Bool, true, cond, List, [], ◌∷◌, ◌++◌, length, length-drop, take, drop, map, Option, Some, None, Result, Ok, Err, Box, box_value, Global, arith, refl, sym, ◌∙◌, ap, subst, append-nil, append_assoc, inl, inr, lt-ltb, le-ltb, ne_eqb, if◌then◌else◌}
+use Rattle.std.proofs.Common.{◌≡◌, ℕ, zero, suc, ◌+◌, ◌-◌, ◌<◌, ◌≤◌, Bool, true, cond, List, [], ◌∷◌, ◌++◌, length, length-drop, take, drop, map, Option, Some, None, Result, Ok, Err, Box, box_value, Global, IfOk, arith, refl, sym, ◌∙◌, ap, subst, append-nil, append_assoc, inl, inr, lt-ltb, le-ltb, ne_eqb, if◌then◌else◌}
 use Rattle.std.proofs.lemmas.Bool.{cases_lt}
 use Rattle.std.proofs.lemmas.List.{drop_all, drop-drop, map-append}
 use Rattle.rst_text.specs.Block.{Block, cut, shorten_all, first_number}
 use Rattle.rst_text.specs.Extent.{extent}
 use Rattle.rst_text.proofs.CutLaws.{take-cut, drop-cut, length-cut}
 use Rattle.rst_tree.specs.declared.node.Node.{Node}
+use Rattle.rst_tree.specs.declared.attrs.Attr.{Attr}
+use Rattle.rst_tree.specs.declared.tag.Tag.{Tag}
 use Rattle.rst_tree.specs.declared.tag.Tag.TheVariants.{BlockQuote, Attribution as AttributionTag}
 use Rattle.rst_markup_blocks.specs.Attributions.{attribution_part}
 use Rattle.rst_markup_blocks.specs.Begun.{IsBegun}
@@ -24,21 +26,22 @@ use Rattle.rst_block_nodes.specs.declared.texted.Texted.{Texted}
 use Rattle.rst_block.specs.Constructs.{block_quote, Found}
 use Rattle.rst_block.specs.Joins.{alone_ending}
 use Rattle.rst_block.specs.MeaningLaws.{IsAttributed, front_of}
-use Rattle.rst_block.specs.Meanings.{deepest, open_of, within_at, done_of, reads, reads_from, quote_by, quotes_from, after_quote, resumed, after, comes}
+use Rattle.rst_block.specs.Meanings.{deepest, open_of, within_at, done_of, reads, reads_from, quote_by, quotes_from, after_quote, with_item, resumed, after, comes}
 use Rattle.rst_block.specs.Nodes.{piece_of, ending_notes}
 use Rattle.rst_block.specs.Numbered.{Numbered, then_read, ◌>>=◌, just, before}
-use Rattle.rst_block.specs.OpenBlocks.{IsMoved, HasMore, IsClosed, IsPlaced}
+use Rattle.rst_block.specs.OpenBlocks.{IsMoved, HasMore, HasItemIn, HasItem, IsClosed, IsPlaced, IsKept}
 use Rattle.rst_block.specs.Quotes.{first_attribution, quote_after, quote_node, quotes_by, quotes}
-use Rattle.rst_block.specs.Rest.{no_run, closed_run, rest}
+use Rattle.rst_block.specs.Rest.{OpenRun, no_run, open_list, open_lines, open_markup, closed_run, with_items, rest}
 use Rattle.rst_block.specs.RestLaws.{found_as}
 use Rattle.rst_block.specs.Steps.{rest_of}
 use Rattle.rst_block.specs.Texts.{joined, lines_in, texted}
 use Rattle.rst_block.specs.Titles.{Item, plain}
 use Rattle.rst_block.specs.Within.{Within, indented_part}
+use Rattle.rst_block.specs.declared.fault.BlockFault.{BlockFault}
 use Rattle.rst_block.specs.declared.open_block.OpenBlock.{OpenBlock}
 use Rattle.rst_block.specs.declared.resume.Waits.TheVariants.{Quote}
 use Rattle.rst_block.specs.declared.step.Step.TheVariants.{Open}
-use Rattle.rst_block.proofs.Changes.{done_moved, done_more}
+use Rattle.rst_block.proofs.Changes.{done_moved, done_more, placed_run, placed_more, more_is_read, item_is_read}
 use Rattle.rst_block.proofs.NextLines.{span_to, begun_reads, alone_reads, alone_refused}
 use Rattle.rst_block.proofs.NumberedLemmas.{same_after, after_after, before_before, before_then}
 use Rattle.rst_block.proofs.QuoteCounts.{ends_first, quotes_enough, quotes_same}
@@ -262,3 +265,56 @@ pub quote_refused : (l : OpenBlock) (B : Block) (n line : ℕ) → IsBegun (drop
     → reads l B n ≡ Err line
 quote_refused l B n line b h =
     begun_reads Begins.Quote l B n b tt ∙ alone_refused l B (found_as block_quote (span_to l.at (l.at + extent 1 (drop l.at B)))) n line tt h
+
+-- what is kept after the end of a run is kept after all
+pub kept_after : {A : Type 0} (r : Result A BlockFault) (old mid new : OpenBlock) → mid.depth ≡ old.depth → IfOk r (λ _. IsKept mid new) → IfOk r (λ _. IsKept old new)
+kept_after (Ok a) old mid new e k = record { depth = k.depth ∙ e; placed = k.placed }
+kept_after (Err fault) old mid new e k = tt
+
+-- ---- nodes that a block gets once one inside it is read
+
+-- where no blank line follows the last quote, the WARNING comes next
+pub quote_ends : (old new : OpenBlock) (B : Block) (left : Option Part) (end n m : ℕ) → left ≡ None → m ≡ n
+    → HasMore old new (ending_notes (alone_ending block_quote) (drop end B)) → IsPlaced old → reads new B m ≡ after_quote old B [] left end n
+quote_ends old new B left end n m none same h w =
+    ap (reads new B) same
+    ∙ ap (λ (read : Numbered (List Item)). read n) (more_is_read old new B (ending_notes (alone_ending block_quote) (drop end B)) h w)
+    ∙ ap (λ o. after_quote old B [] o end n) (sym none)
+
+-- more nodes are given next
+pub nodes_given : (old new last : OpenBlock) (B : Block) (more wanted : List Node) (n : ℕ) → HasMore old new more → more ≡ wanted → IsPlaced old → last ≡ new
+    → reads last B n ≡ reads_from old B wanted old.at n
+nodes_given old new last B more wanted n h e w is =
+    ap (λ l. reads l B n) is
+    ∙ ap (λ (read : Numbered (List Item)). read n) (more_is_read old new B more h w)
+    ∙ ap (λ ns. reads_from old B ns old.at n) e
+
+-- an item is given in its list
+pub item_given : (old new last : OpenBlock) (B : Block) (item wanted : Node) (n : ℕ) → HasItem old new item → item ≡ wanted → IsPlaced old → last ≡ new
+    → reads last B n ≡ with_item old B wanted (open_of old.run) n
+item_given old new last B item wanted n h e w is =
+    ap (λ l. reads l B n) is
+    ∙ ap (λ (read : Numbered (List Item)). read n) (item_is_read old new B item h w)
+    ∙ ap (λ node. with_item old B node (open_of old.run) n) e
+
+-- the item with a body behind its heads, as it is put together
+pub item_made : (item body : Tag) (line : ℕ) (a b : List Attr) (heads all notes nodes inner : List Node) (whole held : Node) → held ≡ element_of body a nodes line → a ≡ []
+    → nodes ≡ notes ++ inner → all ≡ heads ++ held ∷ [] → whole ≡ element_of item b all line → b ≡ []
+    → whole ≡ element_of item [] (heads ++ element_of body [] (notes ++ inner) line ∷ []) line
+item_made item body line a b heads all notes nodes inner whole held h x m g w y =
+    w
+    ∙ ap (λ attrs. element_of item attrs all line) y
+    ∙ ap (λ ns. element_of item [] ns line) (g ∙ ap (λ node. heads ++ node ∷ []) (h ∙ ap (λ attrs. element_of body attrs nodes line) x ∙ ap (λ ns. element_of body [] ns line) m))
+
+-- these changes keep the titles of a block among its nodes
+pub kept_more : (old new last : OpenBlock) (more : List Node) → HasMore old new more → IsPlaced old → last ≡ new → IsKept old last
+kept_more old new last more h w is = subst (IsKept old) (sym is) (record { depth = h.depth; placed = placed_more old new more h w })
+
+kept_item_in : (o : OpenRun) (old new : OpenBlock) (item : Node) → HasItemIn o old new item → IsPlaced old → IsKept old new
+kept_item_in (open_list l) old new item h w = record { depth = h.depth; placed = placed_run old new (with_items (item ∷ []) (open_list l)) h w }
+kept_item_in no_run old new item h w = kept_more old new new (item ∷ []) h w refl
+kept_item_in (open_lines end lines) old new item h w = kept_more old new new (item ∷ []) h w refl
+kept_item_in (open_markup end) old new item h w = kept_more old new new (item ∷ []) h w refl
+
+pub kept_item : (old new last : OpenBlock) (item : Node) → HasItem old new item → IsPlaced old → last ≡ new → IsKept old last
+kept_item old new last item h w is = subst (IsKept old) (sym is) (kept_item_in (open_of old.run) old new item h w)
