@@ -1,10 +1,10 @@
 //! What is done with the nodes of a block inside once it is read.
-ghost use Rattle.std.specs.Prelude.{◌≡◌, ◌+◌, ◌-◌, ◌*◌, ◌^◌, ◌<◌, ◌≤◌, length, drop, IfOk, IfSome};
+ghost use Rattle.std.specs.Prelude.{◌≡◌, ◌+◌, ◌-◌, ◌*◌, ◌^◌, ◌<◌, ◌≤◌, [], length, drop, IfOk, IfSome, option_map, box_value};
 ghost use Rattle.rst_text.specs.Shown.{block_of};
 ghost use Rattle.rst_markup_blocks.specs.Parts.{IsBlock, IsCall};
 ghost use Rattle.rst_block.specs.Steps as spec;
-ghost use Rattle.rst_block.specs.Meanings.{Keeps, comes, resumed};
-ghost use Rattle.rst_block.specs.OpenBlocks.{IsKept, IsPlaced};
+ghost use Rattle.rst_block.specs.Meanings.{Keeps, after_quote, comes, quote_by, resumed};
+ghost use Rattle.rst_block.specs.OpenBlocks.{Gives, HasMore, IsKept, IsPlaced};
 
 use super::fault::BlockFault;
 use super::figure::{OpenFigure, finished_figure};
@@ -115,7 +115,8 @@ fn put_quote(
     mut nodes: Vec<Node>,
     attribution: Option<Box<Texted>>,
 ) -> Result<(), BlockFault>
-    ensures { level.new.at ≡ level.old.at }
+    ensures at { level.new.at ≡ level.old.at }
+    ensures more { Gives (λ _. HasMore level.old level.new (quote_by line (option_map box_value attribution) nodes.items)) result }
 {
     match attribution {
         None => level.push(element_of(Tag::BlockQuote, Attrs::new(alloc), nodes, line)),
@@ -140,7 +141,10 @@ fn after_quote(
     requires rest { spec.IsRest (block_of view.now) level.old.at rest }
     requires short { length (block_of view.now) < 2 ^ 64 }
     requires few { pass.old.looks < 2 ^ 119 + 2 ^ 109 }
+    requires placed { IsPlaced level.old }
     ensures step { IfOk result (λ s. spec.IsResumed (block_of view.now) level.old.at level.new.at s) }
+    ensures kept { IfOk result (λ _. IsKept level.old level.new) }
+    ensures read { Keeps result (λ s. comes level.new (block_of view.now) s pass.new.numbers) (after_quote level.old (block_of view.now) [] rest end pass.old.numbers) }
     ensures looks { IfOk result (λ _. pass.new.looks ≤ pass.old.looks + 2 ^ 90) }
 {
     match rest {
