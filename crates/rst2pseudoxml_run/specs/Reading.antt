@@ -1,8 +1,10 @@
--- The document that an input is.
+-- The document that an input is (Markup Specification, 'Syntax Details'; Configuration, `line_length_limit`).
 use Rattle.std.specs.Prelude.{◌≡◌, ℕ, ◌≤◌, true, List, [], ◌∷◌, ◌++◌, Option, None, Some, Result, Ok, Err, codes}
 use Rattle.std.specs.Fmt.{decimal}
 use Rattle.std.specs.Str.Lossy.{utf8_valid_len}
 use Rattle.rst_block.specs.declared.parsing.Parsed.{Parsed}
+use Rattle.rst_block.specs.Documents.{document}
+use Rattle.rst_settings.specs.Profile.{profile_of}
 use Rattle.rst_settings.specs.declared.Settings.{Settings}
 use Rattle.rst_text.specs.Block.{Block}
 use Rattle.rst_text.specs.Lines.{first_longer, lines_of}
@@ -32,19 +34,19 @@ long_message line = note_node (record { level = Error; line = line; text = long_
 abbrev pub long_document : ℕ → Node
 long_document line = Element Document [] (forest_of (long_message line ∷ [])) 0
 
--- no line is longer than the settings say
-abbrev pub IsShort : Settings → Block → Type 0
-IsShort settings lines = first_longer settings.limit lines ≡ None
+-- What is read of the lines of a text where this one of them is too long, if one is: a document that says so and nothing else, or the document of the
+-- lines; with it how many numbers the messages on its texts have. Or the number of the line at which blocks are nested too deeply.
+abbrev pub read_by : Option ℕ → Settings → Block → Result (Node × ℕ) ℕ
+read_by None settings lines = document (profile_of settings) lines 0
+read_by (Some line) settings lines = Ok (long_document line, 0)
 
--- where a line is too long, the document says so and nothing else
-abbrev pub IsReadWith : Option ℕ → Parsed → Type 0
-IsReadWith None parsed = Unit {0}
-IsReadWith (Some line) parsed = (parsed.document ≡ long_document line) × (parsed.messages ≡ 0)
+abbrev pub read_of : Settings → Block → Result (Node × ℕ) ℕ
+read_of settings lines = read_by (first_longer settings.limit lines) settings lines
 
--- a document was read of the lines, or a block nests too deep, which isn't looked for where a line is too long, or memory ran out
+-- what is read of the lines is their document, or a block nests too deep, or memory ran out
 abbrev pub Parses : Settings → Block → Result Parsed End → Type 0
-Parses settings lines (Ok parsed) = IsReadWith (first_longer settings.limit lines) parsed
-Parses settings lines (Err (TooDeep line)) = IsShort settings lines
+Parses settings lines (Ok parsed) = read_of settings lines ≡ Ok (parsed.document, parsed.messages)
+Parses settings lines (Err (TooDeep line)) = read_of settings lines ≡ Err line
 Parses settings lines (Err NoMemory) = Unit {0}
 Parses settings lines (Err _) = ⊥
 
@@ -52,26 +54,21 @@ Parses settings lines (Err _) = ⊥
 abbrev pub IsFinished : Settings → Node → List Note → Type 0
 IsFinished settings document notes = (is_shown_in settings.report document ≡ true) × EndsAtHalt settings.halt notes
 
--- what is read of a text
-abbrev pub IsReadOf : Settings → Option (List ℕ) → Parsed → Type 0
-IsReadOf settings None parsed = ⊥
-IsReadOf settings (Some text) parsed = IsReadWith (first_longer settings.limit (lines_of settings.tab text)) parsed
+-- what is read of a text, if there is one
+abbrev pub IsReadOf : Settings → Option (List ℕ) → Result (Node × ℕ) ℕ → Type 0
+IsReadOf settings None read = ⊥
+IsReadOf settings (Some text) read = read_of settings (lines_of settings.tab text) ≡ read
 
 -- the finished document of a text, and its messages with their highest level
 abbrev pub IsMade : Settings → Option (List ℕ) → Finished → Type 0
 IsMade settings text finished =
-    ((parsed : Parsed) × IsReadOf settings text parsed × Leaves parsed.messages settings parsed.document finished.tree finished.notes.items)
+    ((root : Node) × (messages : ℕ) × IsReadOf settings text (Ok (root, messages)) × Leaves messages settings root finished.tree finished.notes.items)
     × IsFinished settings finished.tree finished.notes.items × (finished.highest ≡ highest_level finished.notes.items) × (finished.highest ≤ 4)
-
--- there is a text, and its lines are short
-abbrev pub HasShortLines : Settings → Option (List ℕ) → Type 0
-HasShortLines settings None = ⊥
-HasShortLines settings (Some text) = IsShort settings (lines_of settings.tab text)
 
 -- a document was made of the bytes, or they were refused, or memory ran out
 abbrev pub Reads : Settings → List ℕ → Result Finished End → Type 0
 Reads settings bytes (Ok finished) = IsMade settings (text_of bytes) finished
 Reads settings bytes (Err (NotUtf8 at)) = (text_of bytes ≡ None) × (at ≡ utf8_valid_len bytes)
-Reads settings bytes (Err (TooDeep line)) = HasShortLines settings (text_of bytes)
+Reads settings bytes (Err (TooDeep line)) = IsReadOf settings (text_of bytes) (Err line)
 Reads settings bytes (Err NoMemory) = Unit {0}
 Reads settings bytes (Err _) = ⊥

@@ -21,7 +21,7 @@ use Rattle.rst_tree.specs.declared.note.Level.{Level}
 use Rattle.rst_tree.specs.declared.note.Note.{Note}
 use Rattle.rst2pseudoxml_run.specs.declared.end.End.{End}
 use Rattle.rst2pseudoxml_run.specs.declared.end.End.TheVariants.{TooLong, NotUtf8, TooDeep, NoMemory}
-use Rattle.rst2pseudoxml_run.specs.Reading.{HasShortLines, IsMade}
+use Rattle.rst2pseudoxml_run.specs.Reading.{IsReadOf, IsMade}
 
 -- standard output, standard error and the exit status
 pub record Parts : Type 0 where
@@ -78,7 +78,7 @@ abbrev pub Answers : Settings → List ℕ → List ℕ → Result Parts End →
 Answers settings source bytes (Ok parts) = (length bytes ≤ 16777216) × (finished : Finished) × IsMade settings (text_of bytes) finished × (parts ≡ parts_of settings source finished.tree finished.notes.items)
 Answers settings source bytes (Err TooLong) = 16777216 < length bytes
 Answers settings source bytes (Err (NotUtf8 at)) = (length bytes ≤ 16777216) × (text_of bytes ≡ None) × (at ≡ utf8_valid_len bytes)
-Answers settings source bytes (Err (TooDeep line)) = (length bytes ≤ 16777216) × HasShortLines settings (text_of bytes)
+Answers settings source bytes (Err (TooDeep line)) = (length bytes ≤ 16777216) × IsReadOf settings (text_of bytes) (Err line)
 Answers settings source bytes (Err _) = ⊥
 
 -- the text of the messages was made, or memory ran out

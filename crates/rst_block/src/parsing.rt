@@ -1,4 +1,10 @@
 //! A document's tree.
+ghost use Rattle.std.specs.Prelude.{Ok};
+ghost use Rattle.rst_settings.specs.Profile.{profile_of};
+ghost use Rattle.rst_settings.specs.declared.Settings.{Settings};
+ghost use Rattle.rst_block.specs.Documents as spec;
+ghost use Rattle.rst_block.specs.Meanings.{Keeps};
+
 use super::fault::BlockFault;
 use super::machine::{Frames, read};
 use super::texts::Pass;
@@ -24,7 +30,9 @@ pub struct Parsed {
 ///
 /// It is refused with [`BlockFault::TooDeep`] where a block that isn't blank stands in more than 250 blocks: at the first such
 /// block; and with [`BlockFault::NoMemory`].
-pub fn parse(alloc: Global, lines: &Lines) -> Result<Parsed, BlockFault> {
+pub fn parse(alloc: Global, lines: &Lines) -> Result<Parsed, BlockFault>
+    ensures document { (settings : Settings) → Keeps result (λ parsed. Ok (parsed.document, parsed.messages)) (spec.document (profile_of settings) lines.now 0) }
+{
     let mut pass = Pass {
         looks: Looks::none(),
         numbers: Numbers::none(),
