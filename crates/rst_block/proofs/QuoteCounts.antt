@@ -1,15 +1,19 @@
 -- The count that bounds the quotes of some lines may be any that is large enough.
-use Rattle.std.proofs.Common.{◌≡◌, ℕ, zero, suc, ◌+◌, ◌-◌, ◌≤◌, Bool, true, false, List, [], ◌∷◌, ◌++◌, length, length-drop, drop, take, Option, Some, None, arith, refl, ap, option_map, option_and_then, is_some, if◌then◌else◌}
+use Rattle.std.proofs.Common.{◌≡◌, ℕ, zero, suc, ◌+◌, ◌-◌, ◌<◌, ◌≤◌, Bool, true, false, List, [], ◌∷◌, ◌++◌, length, length-drop, drop, take, Option, Some, None, arith, refl, sym, ap, option_map, option_and_then, is_some, if◌then◌else◌}
+use Rattle.std.specs.Prelude.{◌==◌}
+use Rattle.std.specs.List.{list_all}
 use Rattle.std.specs.Option.{option_map_or}
-use Rattle.rst_text.specs.Block.{Block, front_text, is_blank, first_number, indentation}
-use Rattle.rst_text.specs.Places.{first_from}
+use Rattle.rst_text.specs.Block.{Line, Block, front_text, is_blank, first_number, indentation}
+use Rattle.rst_text.specs.Places.{first_from, IsFirst}
+use Rattle.rst_text.proofs.PlacesLemmas.{first_from-IsFirst}
 use Rattle.rst_tree.specs.declared.node.Node.{Node}
 use Rattle.rst_tree.specs.declared.tag.Tag.TheVariants.{Attribution as AttributionTag}
 use Rattle.rst_markup_lines.specs.Attribution.{attribution_of}
 use Rattle.rst_markup_blocks.specs.Attributions.{level_lines, attribution_with, attribution_behind, attribution_by, attribution_at, attribution_part}
 use Rattle.rst_markup_blocks.specs.Conditions.{text_at, next_text}
 use Rattle.rst_markup_blocks.specs.Lines.{lines_while}
-use Rattle.rst_markup_blocks.specs.declared.lines.LineTest.TheVariants.{Blank}
+use Rattle.rst_markup_blocks.specs.RowLaws.{while_le}
+use Rattle.rst_markup_blocks.specs.declared.lines.LineTest.TheVariants.{Blank, Filled}
 use Rattle.rst_markup_blocks.specs.declared.attribution.Attribution.{Attribution}
 use Rattle.rst_block.specs.Numbered.{Numbered, then_read, ◌>>=◌, just}
 use Rattle.rst_block.specs.Quotes.{attribution_in, first_attribution, quote_after, quote_node, quotes_by, quotes}
@@ -20,42 +24,58 @@ use Rattle.rst_block.proofs.NumberedLemmas.{same_after}
 none_is : {A : Type 0} (a : A) → None ≡ Some a → ⊥
 none_is a e = cc
 
-some_is : (a b : Attribution) → Some a ≡ Some b → a ≡ b
-some_is a b e = ap (λ o. option_map_or (λ x. x) o a) e
+-- an attribution at place k, before m lines in all, has a line and ends with the last of them or before
+abbrev IsInside : ℕ → ℕ → Attribution → Type 0
+IsInside k m a = (k < a.end) × (a.end ≤ k + m)
 
--- an attribution has a line
-ends_with : (k marker indent : ℕ) (o : Option ℕ) (a : Attribution) → attribution_with k marker indent o ≡ Some a → 1 ≤ a.end
-ends_with k marker indent None a e = absurd (none_is a e)
-ends_with k marker indent (Some n) a e =
-    let h : k + 1 + n ≡ a.end = ap (λ o. option_map_or (λ (x : Attribution). x.end) o 0) e in
-    omega (arith, h)
+some_level : (b : Bool) (m n : ℕ) → (if b then Some m else None) ≡ Some n → n ≡ m
+some_level true m n e = ap (λ o. option_map_or (λ (x : ℕ). x) o 0) (sym e)
+some_level false m n e = absurd (none_is n e)
 
-ends_by : (o : Option ℕ) (k : ℕ) (X : Block) (a : Attribution) → attribution_by o k X ≡ Some a → 1 ≤ a.end
+level_within : (indent n : ℕ) (Y : Block) → level_lines indent Y ≡ Some n → n ≤ length Y
+unfolding level_lines
+level_within indent n Y e =
+    let f : n ≡ lines_while Filled Y = some_level (list_all (λ (l : Line). indentation l.text == indent) (take (lines_while Filled Y) Y)) (lines_while Filled Y) n e in
+    omega (arith, f, while_le Filled Y)
+
+inside_with : (k marker indent : ℕ) (o : Option ℕ) (X : Block) (a : Attribution) → 1 ≤ length X → level_lines indent (drop 1 X) ≡ o → attribution_with k marker indent o ≡ Some a
+    → IsInside k (length X) a
+inside_with k marker indent None X a some h e = absurd (none_is a e)
+inside_with k marker indent (Some n) X a some h e =
+    let f : k + 1 + n ≡ a.end = ap (λ o. option_map_or (λ (x : Attribution). x.end) o 0) e in
+    (omega (arith, f), omega (arith, f, some, level_within indent n (drop 1 X) h, length-drop 1 X))
+
+inside_by : (o : Option ℕ) (k : ℕ) (X : Block) (a : Attribution) → 1 ≤ length X → attribution_by o k X ≡ Some a → IsInside k (length X) a
 unfolding attribution_behind
-ends_by None k X a e = absurd (none_is a e)
-ends_by (Some marker) k X a e = ends_with k marker (indentation (next_text X)) (level_lines (indentation (next_text X)) (drop 1 X)) a e
+inside_by None k X a some e = absurd (none_is a e)
+inside_by (Some marker) k X a some e = inside_with k marker (indentation (next_text X)) (level_lines (indentation (next_text X)) (drop 1 X)) X a some refl e
 
-ends_at : (k : ℕ) (X : Block) (a : Attribution) → attribution_at k X ≡ Some a → 1 ≤ a.end
+inside_at : (k : ℕ) (X : Block) (a : Attribution) → 1 ≤ length X → attribution_at k X ≡ Some a → IsInside k (length X) a
 unfolding attribution_at
-ends_at k X a e = ends_by (attribution_of (front_text X)) k X a e
+inside_at k X a some e = inside_by (attribution_of (front_text X)) k X a some e
 
-ends_if : (b : Bool) (k : ℕ) (X : Block) (a : Attribution) → (if b then attribution_at k X else None) ≡ Some a → 1 ≤ a.end
-ends_if true k X a e = ends_at k X a e
-ends_if false k X a e = absurd (none_is a e)
+inside_if : (b : Bool) (k : ℕ) (X : Block) (a : Attribution) → 1 ≤ length X → (if b then attribution_at k X else None) ≡ Some a → IsInside k (length X) a
+inside_if true k X a some e = inside_at k X a some e
+inside_if false k X a some e = absurd (none_is a e)
 
-ends_in : (Q : Block) (o : Option Attribution) (i k : ℕ) (a : Attribution) → attribution_in Q i ≡ o → option_map {U = ℕ × Attribution} (λ b. (i, b)) o ≡ Some (k, a) → 1 ≤ a.end
-ends_in Q None i k a h e = absurd (none_is (k, a) e)
-ends_in Q (Some b) i k a h e =
-    let f : b.end ≡ a.end = ap (λ o. option_map_or (λ (x : ℕ × Attribution). x.1.end) o 0) e in
-    omega (arith, f, ends_if (is_blank (text_at Q (i - 1))) i (drop i Q) b h)
+inside_in : (Q : Block) (o : Option Attribution) (i k : ℕ) (a : Attribution) → i < length Q → attribution_in Q i ≡ o → option_map {U = ℕ × Attribution} (λ b. (i, b)) o ≡ Some (k, a)
+    → (k < a.end) × (a.end ≤ length Q)
+inside_in Q None i k a h is e = absurd (none_is (k, a) e)
+inside_in Q (Some b) i k a h is e =
+    let place : i ≡ k = ap (λ o. option_map_or (λ (x : ℕ × Attribution). x.0) o 0) e in
+    let end : b.end ≡ a.end = ap (λ o. option_map_or (λ (x : ℕ × Attribution). x.1.end) o 0) e in
+    let w = inside_if (is_blank (text_at Q (i - 1))) i (drop i Q) b (omega (arith, h, length-drop i Q)) is in
+    (omega (arith, place, end, w.0), omega (arith, end, w.1, h, length-drop i Q))
 
-ends_from : (Q : Block) (o : Option ℕ) (k : ℕ) (a : Attribution)
-    → option_and_then {U = ℕ × Attribution} (λ (i : ℕ). option_map {U = ℕ × Attribution} (λ b. (i, b)) (attribution_in Q i)) o ≡ Some (k, a) → 1 ≤ a.end
-ends_from Q None k a e = absurd (none_is (k, a) e)
-ends_from Q (Some i) k a e = ends_in Q (attribution_in Q i) i k a refl e
+inside_from : (Q : Block) (o : Option ℕ) (k : ℕ) (a : Attribution) → IsFirst (λ i. is_some (attribution_in Q i)) 1 (1 + (length Q - 1)) o
+    → option_and_then {U = ℕ × Attribution} (λ (i : ℕ). option_map {U = ℕ × Attribution} (λ b. (i, b)) (attribution_in Q i)) o ≡ Some (k, a) → (k < a.end) × (a.end ≤ length Q)
+inside_from Q None k a first e = absurd (none_is (k, a) e)
+inside_from Q (Some i) k a first e = inside_in Q (attribution_in Q i) i k a (omega (arith, first.0, first.1)) refl e
 
-pub ends_first : (Q : Block) (k : ℕ) (a : Attribution) → first_attribution Q ≡ Some (k, a) → 1 ≤ a.end
-ends_first Q k a e = ends_from Q (first_from (λ k. is_some (attribution_in Q k)) 1 (length Q - 1)) k a e
+-- the first attribution of a quote ends behind its first line, and within the quote
+pub attribution_within : (Q : Block) (k : ℕ) (a : Attribution) → first_attribution Q ≡ Some (k, a) → (k < a.end) × (a.end ≤ length Q)
+attribution_within Q k a e =
+    inside_from Q (first_from (λ i. is_some (attribution_in Q i)) 1 (length Q - 1)) k a (first_from-IsFirst (λ i. is_some (attribution_in Q i)) 1 (length Q - 1)) e
 
 -- fewer lines are left after a quote
 fewer : (Q : Block) (a : Attribution) → 1 ≤ a.end → length (quote_after Q a) ≤ length Q - 1
@@ -72,7 +92,7 @@ quotes_same c f g Q n (Some (k, a)) e h =
     (λ made i. same_after (c.inner (take k Q) i)
     (λ nodes. f (quote_after Q a) >>= λ more. just (quote_node Q (nodes ++ made.0 ∷ []) ∷ made.1 ++ more))
     (λ nodes. g (quote_after Q a) >>= λ more. just (quote_node Q (nodes ++ made.0 ∷ []) ∷ made.1 ++ more))
-    (λ nodes j. ap (then_read (λ more. just (quote_node Q (nodes ++ made.0 ∷ []) ∷ made.1 ++ more))) (h a (fewer Q a (ends_first Q k a e)) j)))
+    (λ nodes j. ap (then_read (λ more. just (quote_node Q (nodes ++ made.0 ∷ []) ∷ made.1 ++ more))) (h a (fewer Q a (omega (arith, attribution_within Q k a e))) j)))
 
 -- two counts that are large enough give the same quotes
 pub quotes_enough : (c : Within) (m k : ℕ) (Q : Block) (n : ℕ) → length Q ≤ m → length Q ≤ k → quotes c m Q n ≡ quotes c k Q n

@@ -15,7 +15,7 @@ use Rattle.rst_markup_blocks.specs.Ends.{row_size}
 use Rattle.rst_markup_blocks.specs.Kinds.{kind_at}
 use Rattle.rst_markup_blocks.specs.Lines.{lines_while}
 use Rattle.rst_markup_blocks.specs.Partition.{construct_size}
-use Rattle.rst_markup_blocks.specs.RowLaws.{extent_le}
+use Rattle.rst_markup_blocks.specs.RowLaws.{extent_le, while_le}
 use Rattle.rst_markup_blocks.specs.declared.attribution.Attribution.{Attribution}
 use Rattle.rst_markup_blocks.specs.declared.begun.Begun.TheVariants as Begins
 use Rattle.rst_markup_blocks.specs.declared.lines.LineTest.TheVariants.{Blank}
@@ -26,7 +26,7 @@ use Rattle.rst_block_nodes.specs.declared.texted.Texted.{Texted}
 use Rattle.rst_block.specs.Constructs.{block_quote, Found}
 use Rattle.rst_block.specs.Joins.{alone_ending}
 use Rattle.rst_block.specs.MeaningLaws.{IsAttributed, front_of}
-use Rattle.rst_block.specs.Meanings.{deepest, open_of, within_at, done_of, reads, reads_from, quote_by, quotes_from, after_quote, with_item, resumed, after, comes}
+use Rattle.rst_block.specs.Meanings.{deepest, open_of, within_at, done_of, reads, reads_from, quote_by, quotes_from, after_quote, with_item, comes}
 use Rattle.rst_block.specs.Nodes.{piece_of, ending_notes}
 use Rattle.rst_block.specs.Numbered.{Numbered, then_read, ◌>>=◌, just, before}
 use Rattle.rst_block.specs.OpenBlocks.{IsMoved, HasMore, HasItemIn, HasItem, IsClosed, IsPlaced, IsKept}
@@ -44,7 +44,7 @@ use Rattle.rst_block.specs.declared.step.Step.TheVariants.{Open}
 use Rattle.rst_block.proofs.Changes.{done_moved, done_more, placed_run, placed_more, more_is_read, item_is_read}
 use Rattle.rst_block.proofs.NextLines.{span_to, begun_reads, alone_reads, alone_refused}
 use Rattle.rst_block.proofs.NumberedLemmas.{same_after, after_after, before_before, before_then}
-use Rattle.rst_block.proofs.QuoteCounts.{ends_first, quotes_enough, quotes_same}
+use Rattle.rst_block.proofs.QuoteCounts.{attribution_within, quotes_enough, quotes_same}
 
 -- the first of some quotes, and the others
 pub quotes_first : (c : Within) (m : ℕ) (Q : Block) (n : ℕ) → 1 ≤ length Q → length Q ≤ m → quotes c m Q n ≡ quotes_by c (quotes c m) Q (first_attribution Q) n
@@ -128,9 +128,9 @@ further_quotes old new B p next earlier j h some within m at =
     ]
 
 pub attributed_quote : (old new : OpenBlock) (B : Block) (p : Part) (k next line n m : ℕ) (box : Box Texted Global) → IsAttributed (lines_in B p) k next (box_value box) n m
-    → k ≤ next → next ≤ p.to - p.from → p.to ≤ length B → IsMoved old new → new.at ≡ p.from + next → line ≡ first_number (lines_in B p)
+    → p.to ≤ length B → IsMoved old new → new.at ≡ p.from + next → line ≡ first_number (lines_in B p)
     → quotes_from old B [] p n ≡ comes new B (Open (Quote line (Some box) (rest_of p next) p.to) (front_of p k) None) m
-attributed_quote old new B p k next line n m box t front h within moved at number =
+attributed_quote old new B p k next line n m box t within moved at number =
     let c : Within = within_at old.depth in
     let Q : Block = lines_in B p in
     let N : ℕ = p.to - p.from in
@@ -141,7 +141,9 @@ attributed_quote old new B p k next line n m box t front h within moved at numbe
     let G : List Node → Numbered (List Node) = λ nodes. quotes c N (quote_after Q a) >>= λ more. just (quote_node Q (nodes ++ made.element ∷ []) ∷ made.notes.items ++ more) in
     let F : List Node → Numbered (List Item) = λ nodes. after_quote new B (quote_by line (Some made) nodes) (rest_of p next) p.to in
     let length_Q : length Q ≡ N = length-cut B p.from p.to p.first_cut p.rest_cut within in
-    let some : 1 ≤ next = omega (arith, ends_first Q k a t.first, t.behind) in
+    let inside = attribution_within Q k a t.first in
+    let some : 1 ≤ next = omega (arith, inside.0, t.behind) in
+    let h : next ≤ N = omega (arith, inside.1, t.behind, while_le Blank (drop a.end Q), length-drop a.end Q, length_Q) in
     ap (then_read R)
     (quotes_first c N Q n (omega (arith, length_Q, some, h)) (omega (arith, length_Q))
     ∙ ap (λ o. quotes_by c (quotes c N) Q o n) t.first
@@ -155,7 +157,7 @@ attributed_quote old new B p k next line n m box t front h within moved at numbe
     (drop-drop (lines_while Blank (drop a.end Q)) a.end Q ∙ ap (λ i. drop i Q) (sym t.behind))
     ∙ further_quotes old new B p next (earlier (first_number Q)) j h some within moved at
     ∙ ap (λ i. after_quote new B (earlier i) (rest_of p next) p.to j) (sym number))
-    ∙ ap (λ X. then_read F (c.inner X m)) (take-cut B p.from p.to p.first_cut p.rest_cut k (omega (arith, front, h)))
+    ∙ ap (λ X. then_read F (c.inner X m)) (take-cut B p.from p.to p.first_cut p.rest_cut k (omega (arith, inside.0, inside.1, length_Q)))
     ∙ ap (λ d. then_read F ((within_at d).inner (lines_in B (front_of p k)) m)) (sym moved.depth)
 
 -- ---- parts as they are read
@@ -179,14 +181,14 @@ plain_part old new B p line n L is none size filled m at h =
 pub attributed_part : (old new : OpenBlock) (B : Block) (p : Part) (k next line n m : ℕ) (a : Attribution) (made : Texted) (box : Box Texted Global) (L : Block) → L ≡ lines_in B p
     → Some (k, a) ≡ first_attribution L → next ≡ a.end + lines_while Blank (drop a.end L)
     → texted AttributionTag (first_number (drop k L)) (joined (lines_in L (attribution_part k a))) (first_number (drop k L)) n ≡ Ok ((made.element, made.notes.items), m)
-    → box_value box ≡ made → k ≤ a.end → next ≤ length L → length L ≡ p.to - p.from → p.from < p.to → p.to ≤ length B
+    → box_value box ≡ made → p.from < p.to → p.to ≤ length B
     → IsMoved old new → new.at ≡ p.from + next → line ≡ first_number (drop p.from B)
     → comes new B (Open (Quote line (Some box) (rest_of p next) p.to) (front_of p k) None) m ≡ quotes_from old B [] p n
-attributed_part old new B p k next line n m a made box L is first behind read value front small size filled within moved at h =
+attributed_part old new B p k next line n m a made box L is first behind read value filled within moved at h =
     let t : IsAttributed L k next made n m = record { attribution = a; first = sym first; behind = behind; read = read } in
     let u : IsAttributed (lines_in B p) k next (box_value box) n m =
         subst (λ Q. IsAttributed Q k next (box_value box) n m) is (subst (λ x. IsAttributed L k next x n m) (sym value) t) in
-    sym (attributed_quote old new B p k next line n m box u (omega (arith, front, behind)) (omega (arith, small, size)) within moved at
+    sym (attributed_quote old new B p k next line n m box u within moved at
     (h ∙ sym (part_number p.first_cut p.rest_cut (p.to - p.from) (drop p.from B) (omega (arith, filled)))))
 
 -- ---- quotes after more nodes

@@ -137,5 +137,5 @@ front_of p k = record { from = p.from; to = p.from + k; first_cut = p.first_cut;
 -- attribution's text is read first, so the messages on it have earlier numbers than those on the lines before it.
 abbrev pub AttributedQuoteIsRead : Type 0
 AttributedQuoteIsRead = (old new : OpenBlock) (B : Block) (p : Part) (k next line number after : ℕ) (made : Box Texted Global) → IsAttributed (lines_in B p) k next (box_value made) number after
-    → k ≤ next → next ≤ p.to - p.from → p.to ≤ length B → IsMoved old new → new.at ≡ p.from + next → line ≡ first_number (lines_in B p)
+    → p.to ≤ length B → IsMoved old new → new.at ≡ p.from + next → line ≡ first_number (lines_in B p)
     → quotes_from old B [] p number ≡ comes new B (Open (Quote line (Some made) (rest_of p next) p.to) (front_of p k) None) after

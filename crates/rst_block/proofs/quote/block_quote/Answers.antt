@@ -1,9 +1,9 @@
-use Rattle.std.proofs.Common.{◌≡◌, ◌<◌, ◌≤◌, [], length, drop, sym, ap, subst, ◌∙◌, arith, rules}
+use Rattle.std.proofs.Common.{◌≡◌, ◌<◌, [], drop, sym, ap, subst, ◌∙◌, arith, rules}
 use Rattle.rst_text.specs.Block.{Block}
 use Rattle.rst_text.specs.Shown.{block_of}
 use Rattle.rst_markup_blocks.specs.declared.part.Part.{Part}
-use Rattle.rst_block.specs.Meanings.{deepest, open_of, comes, quotes_from, reads, Keeps}
-use Rattle.rst_block.specs.Rest.{no_run, closed_run}
+use Rattle.rst_block.specs.Meanings.{comes, quotes_from, reads, Keeps}
+use Rattle.rst_block.specs.Rest.{no_run}
 use Rattle.rst_block.specs.Within.{indented_part}
 use Rattle.rst_block.proofs.Changes.{placed_closed}
 use Rattle.rst_block.proofs.NextLines.{close_refuses}

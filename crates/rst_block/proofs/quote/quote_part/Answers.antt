@@ -49,8 +49,8 @@ returns-in_ok-attribution-in-Some-clause-read c =
     let behind : old.at < quote.from + next = omega (arith, c.requires.at, c.lines_end-next.ensures.end, c.in-Some.ensures.place.0, c.in-Some.ensures.place.1) in
     ap (λ left. comes new B (Open (Quote line (Some box) left quote.to) (front_of quote c.in-Some.place) None) c.attribution_text.new.pass.numbers) c.rest_of.ensures
     ∙ attributed_part old new B quote c.in-Some.place next line c.args.pass.now.numbers c.attribution_text.new.pass.numbers c.in-Some.found c.in_ok-made-in-Some.made box L c.inside-lines.ensures.block
-    c.in-Some.ensures.first c.lines_end-next.ensures.end c.in_ok-made-in-Some.ensures.text c.in_ok-attribution-in-Some.ensures.ok c.in-Some.ensures.place.1 c.lines_end-next.ensures.within
-    c.inside-lines.ensures.lines c.requires.filled c.requires.block.within c.go_to-in-Some.ensures.moved (c.go_to-in-Some.ensures.there behind) c.number_at-line.ensures
+    c.in-Some.ensures.first c.lines_end-next.ensures.end c.in_ok-made-in-Some.ensures.text c.in_ok-attribution-in-Some.ensures.ok c.requires.filled
+    c.requires.block.within c.go_to-in-Some.ensures.moved (c.go_to-in-Some.ensures.there behind) c.number_at-line.ensures
 
 pub returns-in_ok-attribution-in-Some-clause-kept : goal.returns-in_ok-attribution-in-Some-clause-kept
 returns-in_ok-attribution-in-Some-clause-kept c =
