@@ -4,12 +4,14 @@ pub mod Blocks
 pub mod Changes
 pub mod Depths
 pub mod Doctests
+pub mod ListItems
 pub mod Looked
 pub mod Made
 pub mod MeaningLemmas
 pub mod NextLines
 pub mod NumberedLemmas
 pub mod OpenRuns
+pub mod PlainItems
 pub mod QuoteCounts
 pub mod QuoteSteps
 pub mod Quotes
