@@ -5,6 +5,7 @@ pub mod Changes
 pub mod Depths
 pub mod Doctests
 pub mod ListItems
+pub mod ListedItems
 pub mod Looked
 pub mod Made
 pub mod MeaningLemmas

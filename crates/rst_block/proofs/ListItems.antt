@@ -21,6 +21,7 @@ use Rattle.rst_markup_blocks.specs.Sizes.{hanging_size, least_below, item_size, 
 use Rattle.rst_markup_blocks.specs.declared.begun.Begun.TheVariants.{Bullet as BulletMark, Enumerator as EnumeratorMark}
 use Rattle.rst_block.specs.Constructs.{ItemMark, bullet_item, enumerated_item, definition_item, field_item, option_item, item_of_list, Found}
 use Rattle.rst_block.specs.Joins.{Joining, list_joining_after}
+use Rattle.rst_block.specs.ListNotes.{with_infos}
 use Rattle.rst_block.specs.Lists.{item_by, infos_of}
 use Rattle.rst_block.specs.Meanings.{deepest, joining_in, list_of, open_of, list_kind_in, within_at, done_of, reads, comes, Keeps}
 use Rattle.rst_block.specs.Numbered.{Numbered, then_read, ◌>>=◌, just, before}
@@ -97,7 +98,7 @@ joining_by_kind (Lines lines end) mark s = refl
 joining_by_kind (Explicit end) mark s = refl
 
 -- what joins a list of a kind, or no list, next after an item
-abbrev next_joining : ItemMark → Option ListKind → Option Joining
+abbrev pub next_joining : ItemMark → Option ListKind → Option Joining
 next_joining mark o = option_and_then (λ (kind : ListKind). list_joining_after (joining_in kind) mark) o
 
 -- a list of this kind is open, and goes on with an item; or none is, and the item begins one
@@ -146,7 +147,7 @@ plain_joins (option_item m) kind o h = rw h (by o)
 pub same_bullet : (c : ℕ) (m : Marker) → list_joining_after (joining_in (Bullet c)) (bullet_item c m) ≡ Some (joining_in (Bullet c))
 same_bullet c m = ap (λ (b : Bool). if b then Some (joining_in (Bullet c)) else None) (eq-eqb c c refl)
 
-other_bullet : (c : ℕ) (m : Marker) (o : Option ListKind) → (o ≡ Some (Bullet c) → ⊥) → next_joining (bullet_item c m) o ≡ None
+pub other_bullet : (c : ℕ) (m : Marker) (o : Option ListKind) → (o ≡ Some (Bullet c) → ⊥) → next_joining (bullet_item c m) o ≡ None
 other_bullet c m None h = refl
 other_bullet c m (Some Definition) h = refl
 other_bullet c m (Some Field) h = refl
@@ -156,19 +157,21 @@ other_bullet c m (Some (Enumerated q)) h = refl
 
 -- ---- what calls change, one after the other
 
--- the run after notes that come before its list
-abbrev pub after_infos : List Node → OpenRun → OpenRun
-after_infos infos (open_list l) =
-    open_list (record { joining = l.joining; end = l.end; notes_before = l.notes_before ++ infos; element = l.element; items = l.items; notes_after = l.notes_after })
-after_infos infos o = o
-
-pub after_none : (o : OpenRun) → after_infos [] o ≡ o
+pub after_none : (o : OpenRun) → with_infos [] o ≡ o
 after_none no_run = refl
 after_none (open_lines end lines) = refl
 after_none (open_markup end) = refl
 after_none (open_list l) =
     ap (λ (notes : List Node). open_list (record { joining = l.joining; end = l.end; notes_before = notes; element = l.element; items = l.items; notes_after = l.notes_after }))
     (append-nil l.notes_before)
+
+-- the list after an item that joins it
+pub after_joined : (j : Joining) (o : OpenRun) (B : Block) (mark : ItemMark) (s : Span) → joining_with o (found_as (item_of_list mark) s) ≡ Some j
+    → with_infos (infos_of (item_of_list mark)) (joined_at j s.stop o) ≡ joined_run j o B (found_as (item_of_list mark) s)
+after_joined j no_run B mark s h = refl
+after_joined j (open_list l) B mark s h = refl
+after_joined j (open_lines end lines) B mark s h = absurd (cc)
+after_joined j (open_markup end) B mark s h = absurd (cc)
 
 pub run_is : (old new : OpenBlock) (o p : OpenRun) → HasRun old new o → o ≡ p → HasRun old new p
 run_is old new o p h e = subst (λ r. HasRun old new r) e h

@@ -12,6 +12,7 @@ use Rattle.rst_markup_blocks.specs.declared.begun.Begun.TheVariants.{Field as Fi
 use Rattle.rst_markup_blocks.specs.declared.part.Part.{Part}
 use Rattle.rst_block.specs.Constructs.{ItemMark, bullet_item, enumerated_item, definition_item, field_item, option_item, item_of_list}
 use Rattle.rst_block.specs.Joins.{Joining}
+use Rattle.rst_block.specs.ListNotes.{with_infos}
 use Rattle.rst_block.specs.Lists.{item_by, item_with, option_group, infos_of, empty_list}
 use Rattle.rst_block.specs.Meanings.{deepest, joining_in, open_of, list_kind_in, within_at, reads, comes, Keeps}
 use Rattle.rst_block.specs.Numbered.{Numbered, then_read}
@@ -26,23 +27,16 @@ use Rattle.rst_block.specs.declared.fault.BlockFault.TheVariants.{TooDeep, NoMem
 use Rattle.rst_block.specs.declared.open_block.OpenBlock.{OpenBlock}
 use Rattle.rst_block.specs.declared.run.ListKind.{ListKind}
 use Rattle.rst_block.specs.declared.step.Step.{Step}
-use Rattle.rst_block.proofs.ListItems.{IsPlain, plain_joins, joining_by_kind, after_infos, run_is, run_then, closed_is, closed_then, item_found, item_reads, item_refused, item_joins_list, item_begins_list, kept_joined, kept_begun, ReadsItem, hanging_to, behind_hanging}
+use Rattle.rst_block.proofs.ListItems.{IsPlain, plain_joins, joining_by_kind, after_joined, run_is, run_then, closed_is, closed_then, item_found, item_reads, item_refused, item_joins_list, item_begins_list, kept_joined, kept_begun, ReadsItem, hanging_to, behind_hanging}
 use Rattle.rst_block.proofs.NextLines.{span_to, begun_reads}
 
 plain_begun : (mark : ItemMark) (kind : ListKind) (B X : Block) (s : Span) → IsPlain mark kind
-    → after_infos (infos_of (item_of_list mark)) (begun_at (joining_in kind) s.stop (empty_list mark X)) ≡ begun_run (item_of_list mark) B s X
+    → with_infos (infos_of (item_of_list mark)) (begun_at (joining_in kind) s.stop (empty_list mark X)) ≡ begun_run (item_of_list mark) B s X
 plain_begun (bullet_item c m) kind B X s h = absurd h
 plain_begun (enumerated_item e) kind B X s h = absurd h
 plain_begun (definition_item infos) kind B X s h = rw h refl
 plain_begun (field_item m) kind B X s h = rw h refl
 plain_begun (option_item m) kind B X s h = rw h refl
-
-plain_joined : (j : Joining) (o : OpenRun) (B : Block) (mark : ItemMark) (s : Span) → joining_with o (found_as (item_of_list mark) s) ≡ Some j
-    → after_infos (infos_of (item_of_list mark)) (joined_at j s.stop o) ≡ joined_run j o B (found_as (item_of_list mark) s)
-plain_joined j no_run B mark s h = refl
-plain_joined j (open_list l) B mark s h = refl
-plain_joined j (open_lines end lines) B mark s h = absurd (cc)
-plain_joined j (open_markup end) B mark s h = absurd (cc)
 
 -- a list of a kind is open: that of before, or a new one, before which the open run has ended
 pub record IsOpened (old mid : OpenBlock) (B : Block) (kind : ListKind) (element : Node) (stop n k : ℕ) : Type 0 where
@@ -53,7 +47,7 @@ pub record IsOpened (old mid : OpenBlock) (B : Block) (kind : ListKind) (element
 -- an item of such a list, after the messages that come before the list
 pub plain_item : (old mid put new : OpenBlock) (B : Block) (mark : ItemMark) (kind : ListKind) (s : Step) (item : Within → Numbered (List Node)) (stop n k m : ℕ)
     → IsPlain mark kind → reads old B n ≡ item_reads old B mark stop n → IsOpened old mid B kind (empty_list mark (drop old.at B)) stop n k
-    → HasRun mid put (after_infos (infos_of (item_of_list mark)) (open_of mid.run)) → IsMoved put new → new.at ≡ stop → IsPlaced old
+    → HasRun mid put (with_infos (infos_of (item_of_list mark)) (open_of mid.run)) → IsMoved put new → new.at ≡ stop → IsPlaced old
     → ReadsItem new B s m item → item_by (within_at old.depth) B old.at mark (drop old.at B) k ≡ item (within_at old.depth) m
     → comes new B s m ≡ reads old B n
 plain_item old mid put new B mark kind s item stop n k m plain found opened noted moved at w reads same =
@@ -63,13 +57,13 @@ plain_item old mid put new B mark kind s item stop n k m plain found opened note
     elim (plain_joins mark kind (list_kind_in old.run) plain) [
       | inl e ↦ (
         let run = opened.joins e.0 in
-        let is = ap (after_infos infos) run.run ∙ plain_joined (joining_in kind) (open_of old.run) B mark span (by ∙ e.1) in
+        let is = ap (with_infos infos) run.run ∙ after_joined (joining_in kind) (open_of old.run) B mark span (by ∙ e.1) in
         let joined = run_is old put _ _ (run_then old mid put _ _ run noted) is in
         item_joins_list old put new B mark (joining_in kind) s item stop n m found (by ∙ e.1) joined moved at reads
         (ap (λ i. item_by (within_at old.depth) B old.at mark (drop old.at B) i) (sym (opened.numbers e.0)) ∙ same))
       | inr e ↦ (
         let run = opened.begins e.0 in
-        let is = ap (after_infos infos) run.run ∙ plain_begun mark kind B (drop old.at B) span plain in
+        let is = ap (with_infos infos) run.run ∙ plain_begun mark kind B (drop old.at B) span plain in
         let closed = closed_is _ old put k _ _ (closed_then _ old mid put k _ _ run noted) is in
         item_begins_list old put new B mark s item stop n k m found (by ∙ e.1) closed w moved at reads same)
     ]

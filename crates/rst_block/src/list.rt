@@ -1,6 +1,6 @@
 //! Items of bullet lists and of enumerated lists (Markup Specification, 'Bullet Lists', 'Enumerated Lists').
-ghost use Rattle.std.specs.Prelude.{◌≡◌, ◌+◌, ◌-◌, ◌*◌, ◌^◌, ◌<◌, ◌≤◌, length, drop, string_bytes, IfOk, IfSome};
-ghost use Rattle.std.specs.Option.{option_to_list};
+ghost use Rattle.std.specs.Prelude.{◌≡◌, suc, ◌+◌, ◌-◌, ◌*◌, ◌^◌, ◌<◌, ◌≤◌, length, drop, string_bytes, IfOk, IfSome, [], ◌∷◌, None, option_map};
+ghost use Rattle.std.specs.Option.{option_and_then, option_to_list};
 ghost use Rattle.std.specs.Str.{chars};
 ghost use Rattle.rst_text.specs.Block.{Block};
 ghost use Rattle.rst_text.specs.Shown.{block_of};
@@ -12,8 +12,15 @@ ghost use Rattle.rst_block.specs.Steps as spec;
 ghost use Rattle.rst_block.specs.Texts.{excerpt};
 ghost use Rattle.rst_markup_blocks.specs.Begun.{IsBegun};
 ghost use Rattle.rst_markup_blocks.specs.declared.begun.Begun.TheVariants.{Bullet, Enumerator};
-ghost use Rattle.rst_block.specs.Meanings.{Keeps, comes, reads};
-ghost use Rattle.rst_block.specs.OpenBlocks.{IsKept, IsPlaced};
+ghost use Rattle.rst_block.specs.Constructs.{enumerated_item, item_of_list};
+ghost use Rattle.rst_block.specs.Joins.{list_joining_after};
+ghost use Rattle.rst_block.specs.ListNotes.{with_notes};
+ghost use Rattle.rst_block.specs.Meanings.{Keeps, comes, joining_in, list_kind_in, open_of, reads};
+ghost use Rattle.rst_block.specs.OpenBlocks as blocks;
+ghost use Rattle.rst_block.specs.OpenBlocks.{HasRun, IsKept, IsMoved, IsPlaced};
+ghost use Rattle.rst_block.specs.Rest.{begun_run};
+ghost use Rattle.rst_block.specs.declared.resume.Waits.TheVariants.{ListItem};
+ghost use Rattle.rst_block.specs.declared.step.Step.TheVariants.{Open};
 
 use super::fault::BlockFault;
 use super::open_block::OpenBlock;
@@ -21,7 +28,7 @@ use super::part::item_part;
 use super::resume::Waits;
 use super::run::{ListKind, Run, Sequel};
 use super::step::Step;
-use super::texts::{Pass, characters, number_at};
+use super::texts::{Pass, characters, number_at, push};
 use rst_block_nodes::{bullet_list, enumerated_list, start_message};
 use rst_markup_blocks::Part;
 use rst_markup_lines::{Enumerator, Format, Marker, first_reading};
@@ -32,7 +39,10 @@ use std::alloc::{AllocError, Global};
 /// Opens the block of an item.
 fn opened(level: &mut OpenBlock, line: usize, body: Part) -> Step
     requires { level.old.at < 2 ^ 64 - 1 }
-    ensures { (B : Block) → IsBlock B body → spec.IsStep B level.old.at level.new.at result }
+    ensures step { (B : Block) → IsBlock B body → spec.IsStep B level.old.at level.new.at result }
+    ensures waits { result ≡ Open (ListItem line) body None }
+    ensures moved { IsMoved level.old level.new }
+    ensures there { level.old.at < body.to → level.new.at ≡ body.to }
 {
     level.go_to(body.to);
     Step::Open {
@@ -95,16 +105,23 @@ pub(crate) fn enumerated_item(
     let at = level.at;
     let line = number_at(view, at);
     let body = item_part(view, at, enumerator.marker, &mut pass.looks);
-    if let Some(ListKind::Enumerated(sequel)) = level.run.list_kind() {
-        if let Some(next) = sequel.after(enumerator) {
-            let kind = ListKind::Enumerated(next);
-            level.join(kind, body.to);
-            return Ok(opened(level, line, body));
-        }
+    if let Some(kind) = going_on(&level.run, enumerator) {
+        level.join(kind, body.to);
+        return Ok(opened(level, line, body));
     }
     level.close(alloc, view, pass)?;
     begin_enumerated_list(alloc, view, level, enumerator, body.to, pass)?;
     Ok(opened(level, line, body))
+}
+
+/// The kind with which the open list goes on after an enumerator, if that joins it.
+fn going_on(run: &Run, enumerator: Enumerator) -> Option<ListKind>
+    ensures { option_map (λ kind. joining_in kind) result ≡ option_and_then (λ kind. list_joining_after (joining_in kind) (enumerated_item enumerator)) (list_kind_in run.now) }
+{
+    let ListKind::Enumerated(sequel) = run.list_kind()? else {
+        return None;
+    };
+    Some(ListKind::Enumerated(sequel.after(enumerator)?))
 }
 
 /// Begins an enumerated list, with the message on one that doesn't begin with the first ordinal.
@@ -120,18 +137,29 @@ fn begin_enumerated_list(
     requires short { length (block_of view.now) < 2 ^ 64 }
     requires few { pass.old.looks < 2 ^ 120 }
     ensures at { level.new.at ≡ level.old.at }
+    ensures run { blocks.Gives (λ _. HasRun level.old level.new (begun_run (item_of_list (enumerated_item enumerator)) (block_of view.now) (record { start = level.old.at; stop = end }) (drop level.old.at (block_of view.now)))) result }
+    ensures numbers { pass.new.numbers ≡ pass.old.numbers }
     ensures looks { pass.new.looks ≤ pass.old.looks + 1 }
 {
     let at = level.at;
     let kind = ListKind::Enumerated(Sequel::of(enumerator));
     let list = enumerated_list(alloc, enumerator, number_at(view, at))?;
     level.begin(alloc, kind, list, end)?;
-    if let Some(note) = start_note(alloc, view, at, enumerator, &mut pass.looks)? {
-        if let Run::List(open) = &mut level.run {
-            open.behind.push(note)?;
-        }
+    match start_note(alloc, view, at, enumerator, &mut pass.looks)? {
+        Some(note) => put_behind(level, note),
+        None => Ok(()),
     }
-    Ok(())
+}
+
+/// Puts a message behind the list that is open.
+fn put_behind(level: &mut OpenBlock, note: Node) -> Result<(), BlockFault>
+    ensures at { level.new.at ≡ level.old.at }
+    ensures run { blocks.Gives (λ _. HasRun level.old level.new (with_notes (note ∷ []) (open_of level.old.run))) result }
+{
+    match &mut level.run {
+        Run::List(open) => Ok(push(&mut open.behind, note)?),
+        _ => Ok(()),
+    }
 }
 
 /// The message on an enumerated list that doesn't begin with the first ordinal, at the line of its first item.
