@@ -6,6 +6,9 @@ pub mod Depths
 pub mod Doctests
 pub mod ListItems
 pub mod ListedItems
+pub mod GoingOn
+pub mod LiteralLemmas
+pub mod Doctests
 pub mod Looked
 pub mod Made
 pub mod MeaningLemmas

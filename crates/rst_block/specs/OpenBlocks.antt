@@ -3,7 +3,7 @@ use Rattle.std.specs.Prelude.{◌≡◌, ℕ, ◌≤◌, List, [], ◌∷◌, �
 use Rattle.rst_tree.specs.declared.node.Node.{Node}
 use Rattle.rst_block_sections.specs.declared.heading.Heading.{Heading}
 use Rattle.rst_block.specs.Joins.{Joining}
-use Rattle.rst_block.specs.Meanings.{open_of}
+use Rattle.rst_block.specs.Meanings.{open_of, done_of}
 use Rattle.rst_block.specs.Rest.{OpenRun, no_run, open_list, with_items}
 use Rattle.rst_block.specs.Titles.{Item, plain}
 use Rattle.rst_block.specs.declared.fault.BlockFault.{BlockFault}
@@ -115,4 +115,30 @@ IsPlaced l = AreWithin (length l.nodes.items) l.headings.items
 -- what each step leaves as it is: the block is as deep, and its titles stand among its nodes
 pub record IsKept (old new : OpenBlock) : Type 0 where
   pub depth : new.depth ≡ old.depth
+  pub placed : IsPlaced new
+
+-- ---- a block that goes on
+
+-- more nodes come after the last, and the block goes on at a place; nothing else changes
+pub record HasGone (old new : OpenBlock) (more : List Node) (place : ℕ) : Type 0 where
+  pub depth : new.depth ≡ old.depth
+  pub at : new.at ≡ place
+  pub nodes : new.nodes.items ≡ old.nodes.items ++ more
+  pub headings : new.headings.items ≡ old.headings.items
+  pub run : new.run ≡ old.run
+
+-- What is read are nodes, and then the next message on a text has this number. The nodes come after the last, and the block goes on at a place.
+pub record GoesOn (read : Result (List Node × ℕ) ℕ) (old new : OpenBlock) (place next : ℕ) : Type 0 where
+  pub more : List Node
+  pub given : read ≡ Ok (more, next)
+  pub gone : HasGone old new more place
+
+-- The same of items, of which some may be titles. They come after the last item, each title among the nodes.
+pub record GoesOnWith (read : Result (List Item × ℕ) ℕ) (old new : OpenBlock) (place next : ℕ) : Type 0 where
+  pub more : List Item
+  pub given : read ≡ Ok (more, next)
+  pub depth : new.depth ≡ old.depth
+  pub at : new.at ≡ place
+  pub done : done_of new ≡ done_of old ++ more
+  pub run : new.run ≡ old.run
   pub placed : IsPlaced new

@@ -1,6 +1,6 @@
 //! Paragraphs, literal blocks and doctest blocks (Markup Specification, 'Paragraphs', 'Literal Blocks', 'Doctest
 //! Blocks').
-ghost use Rattle.std.specs.Prelude.{◌≡◌, ◌+◌, ◌-◌, ◌*◌, ◌^◌, ◌<◌, ◌≤◌, length, drop, IfOk, IfSome};
+ghost use Rattle.std.specs.Prelude.{◌≡◌, [], ◌+◌, ◌-◌, ◌*◌, ◌^◌, ◌<◌, ◌≤◌, length, drop, true, false, IfOk, IfSome};
 ghost use Rattle.std.specs.Str.{chars};
 ghost use Rattle.rst_text.specs.Shown.{block_of};
 ghost use Rattle.rst_markup_blocks.specs.Parts.{IsBlock, IsCall};
@@ -10,7 +10,17 @@ ghost use Rattle.rst_block.specs.Steps as spec;
 ghost use Rattle.rst_markup_blocks.specs.Begun.{IsBegun};
 ghost use Rattle.rst_markup_blocks.specs.declared.begun.Begun.TheVariants.{Doctest};
 ghost use Rattle.rst_block.specs.Meanings.{Keeps, reads};
-ghost use Rattle.rst_block.specs.OpenBlocks.{IsKept, IsPlaced};
+ghost use Rattle.rst_block.specs.OpenBlocks.{IsKept, IsPlaced, Gives, GoesOn, HasGone};
+ghost use Rattle.rst_block.specs.Literals as literals;
+ghost use Rattle.rst_block.specs.ParagraphSteps as parts;
+ghost use Rattle.rst_markup_blocks.specs.Lines.{lines_while};
+ghost use Rattle.rst_markup_blocks.specs.Sizes.{paragraph_size, literal_size};
+ghost use Rattle.rst_markup_blocks.specs.declared.lines.LineTest.TheVariants.{Begins};
+ghost use Rattle.rst_markup_lines.specs.Closing as closing;
+ghost use Rattle.rst_markup_lines.specs.Front.{begins_with, is_loose};
+ghost use Rattle.rst_text.specs.Block.{first_number, front_text};
+ghost use Rattle.rst_text.specs.Extent.{extent};
+ghost use Rattle.rst_text.specs.Text.{chars_of};
 
 use super::fault::BlockFault;
 use super::open_block::OpenBlock;
@@ -54,7 +64,10 @@ pub(crate) fn doctest_block(
 
 /// The text of a paragraph that announces a literal block: without both colons and the white before them, where white or
 /// nothing stands before them, else without one.
-fn announcing(alloc: Global, text: &str) -> Result<String, AllocError> {
+fn announcing(alloc: Global, text: &str) -> Result<String, AllocError>
+    requires colons { closing.ends_in_colons (chars text.now) ≡ true }
+    ensures { IfOk result (λ shown. chars_of shown ≡ literals.announced (chars text.now)) }
+{
     let before = text.strip_suffix("::").unwrap_or(text);
     let bare = before.trim_end();
     if bare.len() < before.len() || bare.is_empty() {
@@ -75,7 +88,9 @@ pub(crate) fn paragraph(
     requires inside { level.old.at < length (block_of view.now) }
     requires short { length (block_of view.now) < 2 ^ 64 }
     requires few { pass.old.looks < 2 ^ 119 + 2 ^ 114 }
+    requires plain { is_loose (front_text (drop level.old.at (block_of view.now))) ≡ false }
     ensures later { IfOk result (λ _. level.old.at < level.new.at) }
+    ensures read { Gives (λ _. GoesOn (literals.paragraph_nodes [] (drop level.old.at (block_of view.now)) pass.old.numbers) level.old level.new (level.old.at + paragraph_size (drop level.old.at (block_of view.now))) pass.new.numbers) result }
     ensures looks { IfOk result (λ _. pass.new.looks ≤ pass.old.looks + 2 ^ 76) }
 {
     let at = level.at;
@@ -101,7 +116,9 @@ fn paragraph_of(
     requires inside { level.old.at < length (block_of view.now) }
     requires short { length (block_of view.now) < 2 ^ 64 }
     requires few { pass.old.looks < 2 ^ 119 + 2 ^ 114 + 2 ^ 70 }
+    requires behind { level.old.at < end }
     ensures later { IfOk result (λ _. level.old.at < level.new.at) }
+    ensures read { Gives (λ _. GoesOn (parts.paragraph_between (chars text.now) level.old.at end (block_of view.now) pass.old.numbers) level.old level.new (parts.paragraph_end (chars text.now) end (block_of view.now)) pass.new.numbers) result }
     ensures looks { IfOk result (λ _. pass.new.looks ≤ pass.old.looks + 2 ^ 75 + 2 ^ 70) }
 {
     if !ends_in_colons(text) {
@@ -126,25 +143,42 @@ fn put_paragraph(
     requires short { length (block_of view.now) < 2 ^ 64 }
     requires few { pass.old.looks < 2 ^ 120 }
     ensures at { level.new.at ≡ level.old.at }
+    ensures read { Gives (λ _. GoesOn (parts.shown_paragraph (chars text.now) level.old.at end (block_of view.now) pass.old.numbers) level.old level.new level.old.at pass.new.numbers) result }
     ensures looks { IfOk result (λ _. pass.new.looks ≤ pass.old.looks + 1) }
 {
-    if !text.is_empty() {
-        let line = number_at(view, level.at);
-        let made = with_text(alloc, Tag::Paragraph, line, text, line, &mut pass.numbers)?;
-        level.push(made.element)?;
-        level.append(made.notes)?;
+    put_shown(alloc, view, level, text, pass)?;
+    if is_blank(text_at(view, end, &mut pass.looks)) {
+        return Ok(());
     }
-    if end < view.len() && !view.line(end, &mut pass.looks).is_empty() {
-        let error = message(
-            alloc,
-            Level::Error,
-            number_at(view, end),
-            "Unexpected indentation.",
-            None,
-        )?;
-        level.push(error)?;
+    let error = message(
+        alloc,
+        Level::Error,
+        number_at(view, end),
+        "Unexpected indentation.",
+        None,
+    )?;
+    level.push(error)
+}
+
+/// Puts a paragraph behind the last node, unless it is empty.
+fn put_shown(
+    alloc: Global,
+    view: &View<'_>,
+    level: &mut OpenBlock,
+    text: &str,
+    pass: &mut Pass,
+) -> Result<(), BlockFault>
+    ensures at { level.new.at ≡ level.old.at }
+    ensures read { Gives (λ _. GoesOn (literals.text_paragraph (first_number (drop level.old.at (block_of view.now))) (chars text.now) pass.old.numbers) level.old level.new level.old.at pass.new.numbers) result }
+    ensures looks { pass.new.looks ≡ pass.old.looks }
+{
+    if is_blank(text) {
+        return Ok(());
     }
-    Ok(())
+    let line = number_at(view, level.at);
+    let made = with_text(alloc, Tag::Paragraph, line, text, line, &mut pass.numbers)?;
+    level.push(made.element)?;
+    level.append(made.notes)
 }
 
 /// The literal block that a paragraph announces that ends at `end`.
@@ -159,7 +193,10 @@ fn literal(
     requires inside { level.old.at < length (block_of view.now) }
     requires short { length (block_of view.now) < 2 ^ 64 }
     requires few { pass.old.looks < 2 ^ 119 + 2 ^ 115 }
+    requires behind { level.old.at < end }
     ensures later { IfOk result (λ _. level.old.at < level.new.at) }
+    ensures gone { Gives (λ _. HasGone level.old level.new (literals.literal_nodes (first_number (drop (end - 1) (block_of view.now))) (drop end (block_of view.now))) (end + literal_size (drop end (block_of view.now)))) result }
+    ensures numbers { pass.new.numbers ≡ pass.old.numbers }
     ensures looks { IfOk result (λ _. pass.new.looks ≤ pass.old.looks + 2 ^ 75) }
 {
     let start = lines_end(view, end, LineTest::Blank, &mut pass.looks);
@@ -197,7 +234,10 @@ fn indented_literal(
     requires inside { level.old.at < length (block_of view.now) }
     requires short { length (block_of view.now) < 2 ^ 64 }
     requires few { pass.old.looks < 2 ^ 119 + 2 ^ 116 }
+    requires behind { level.old.at < start }
     ensures later { IfOk result (λ _. level.old.at < level.new.at) }
+    ensures gone { Gives (λ _. HasGone level.old level.new (literals.indented_literal (drop start (block_of view.now))) (start + extent 1 (drop start (block_of view.now)))) result }
+    ensures numbers { pass.new.numbers ≡ pass.old.numbers }
     ensures looks { IfOk result (λ _. pass.new.looks ≤ pass.old.looks + 2 ^ 74) }
 {
     let lines = indented(view, start, &mut pass.looks);
@@ -227,7 +267,11 @@ fn quoted_literal(
     requires inside { level.old.at < length (block_of view.now) }
     requires short { length (block_of view.now) < 2 ^ 64 }
     requires few { pass.old.looks < 2 ^ 119 + 2 ^ 116 }
+    requires behind { level.old.at < start }
+    requires quoted { begins_with quote (front_text (drop start (block_of view.now))) ≡ true }
     ensures later { IfOk result (λ _. level.old.at < level.new.at) }
+    ensures gone { Gives (λ _. HasGone level.old level.new (literals.quoted_literal (lines_while (Begins quote) (drop start (block_of view.now))) (drop start (block_of view.now))) (start + lines_while (Begins quote) (drop start (block_of view.now)))) result }
+    ensures numbers { pass.new.numbers ≡ pass.old.numbers }
     ensures looks { IfOk result (λ _. pass.new.looks ≤ pass.old.looks + 2 ^ 74) }
 {
     let end = lines_end(view, start, LineTest::Begins(quote), &mut pass.looks);
@@ -241,7 +285,7 @@ fn quoted_literal(
     level.go_to(end);
     level.push(node)?;
     let next = text_at(view, end, &mut pass.looks);
-    if next.is_empty() {
+    if is_blank(next) {
         return Ok(());
     }
     let text = if begins_with(' ', next) {

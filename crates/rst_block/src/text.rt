@@ -1,11 +1,14 @@
 //! Lines of text: titles, items of definition lists and paragraphs.
-ghost use Rattle.std.specs.Prelude.{◌≡◌, ◌+◌, ◌-◌, ◌*◌, ◌^◌, ◌<◌, ◌≤◌, length, drop, IfOk, IfSome};
+ghost use Rattle.std.specs.Prelude.{◌≡◌, ◌+◌, ◌-◌, ◌*◌, ◌^◌, ◌<◌, ◌≤◌, ◌==◌, length, drop, IfOk, IfSome};
 ghost use Rattle.rst_text.specs.Shown.{block_of};
 ghost use Rattle.rst_markup_blocks.specs.Parts.{IsBlock, IsCall};
 ghost use Rattle.rst_block.specs.Steps as spec;
 ghost use Rattle.rst_block.specs.Meanings.{Keeps, comes, reads};
 ghost use Rattle.rst_block.specs.NextLine.{IsText};
-ghost use Rattle.rst_block.specs.OpenBlocks.{IsKept, IsPlaced};
+ghost use Rattle.rst_block.specs.OpenBlocks.{IsKept, IsPlaced, Gives, GoesOnWith, HasMore};
+ghost use Rattle.rst_block.specs.Constructs as constructs;
+ghost use Rattle.rst_block.specs.Texts.{source_of};
+ghost use Rattle.rst_block.specs.Titles as titles;
 
 use super::definition::definition;
 use super::fault::BlockFault;
@@ -71,7 +74,10 @@ fn put_short_underline(
     view: &View<'_>,
     level: &mut OpenBlock,
 ) -> Result<(), BlockFault>
-    ensures { level.new.at ≡ level.old.at }
+    requires inside { level.old.at < length (block_of view.now) }
+    requires short { length (block_of view.now) < 2 ^ 64 }
+    ensures at { level.new.at ≡ level.old.at }
+    ensures more { Gives (λ _. HasMore level.old level.new (constructs.short_underline (level.old.depth == 0) (drop level.old.at (block_of view.now)))) result }
 {
     if !level.titles() {
         return Ok(());
@@ -99,7 +105,9 @@ fn underlined(
     requires inside { level.old.at < length (block_of view.now) }
     requires short { length (block_of view.now) < 2 ^ 64 }
     requires few { pass.old.looks < 2 ^ 119 + 2 ^ 114 }
+    requires placed { IsPlaced level.old }
     ensures later { IfOk result (λ _. level.old.at < level.new.at) }
+    ensures read { Gives (λ _. GoesOnWith (titles.underline_item (level.old.depth == 0) short (source_of (block_of view.now) (record { start = level.old.at; stop = level.old.at + 2 })) (drop level.old.at (block_of view.now)) pass.old.numbers) level.old level.new (level.old.at + 2) pass.new.numbers) result }
     ensures looks { IfOk result (λ _. pass.new.looks ≤ pass.old.looks + 2 ^ 76) }
 {
     let at = level.at;
