@@ -21,6 +21,7 @@ pub mod QuoteSteps
 pub mod Quotes
 pub mod Reached
 pub mod RestLemmas
+pub mod Resuming
 pub mod Spelling
 pub mod Splitting
 pub mod Stack

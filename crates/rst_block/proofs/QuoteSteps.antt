@@ -6,8 +6,6 @@ use Rattle.rst_text.specs.Block.{Block, cut, shorten_all, first_number}
 use Rattle.rst_text.specs.Extent.{extent}
 use Rattle.rst_text.proofs.CutLaws.{take-cut, drop-cut, length-cut}
 use Rattle.rst_tree.specs.declared.node.Node.{Node}
-use Rattle.rst_tree.specs.declared.attrs.Attr.{Attr}
-use Rattle.rst_tree.specs.declared.tag.Tag.{Tag}
 use Rattle.rst_tree.specs.declared.tag.Tag.TheVariants.{BlockQuote, Attribution as AttributionTag}
 use Rattle.rst_markup_blocks.specs.Attributions.{attribution_part}
 use Rattle.rst_markup_blocks.specs.Begun.{IsBegun}
@@ -26,12 +24,12 @@ use Rattle.rst_block_nodes.specs.declared.texted.Texted.{Texted}
 use Rattle.rst_block.specs.Constructs.{block_quote, Found}
 use Rattle.rst_block.specs.Joins.{alone_ending}
 use Rattle.rst_block.specs.MeaningLaws.{IsAttributed, front_of}
-use Rattle.rst_block.specs.Meanings.{deepest, open_of, within_at, done_of, reads, reads_from, quote_by, quotes_from, after_quote, with_item, comes}
+use Rattle.rst_block.specs.Meanings.{deepest, open_of, within_at, done_of, reads, reads_from, quote_by, quotes_from, after_quote, comes}
 use Rattle.rst_block.specs.Nodes.{piece_of, ending_notes}
 use Rattle.rst_block.specs.Numbered.{Numbered, then_read, ◌>>=◌, just, before}
-use Rattle.rst_block.specs.OpenBlocks.{IsMoved, HasMore, HasItemIn, HasItem, IsClosed, IsPlaced, IsKept}
+use Rattle.rst_block.specs.OpenBlocks.{IsMoved, HasMore, IsClosed, IsPlaced, IsKept}
 use Rattle.rst_block.specs.Quotes.{first_attribution, quote_after, quote_node, quotes_by, quotes}
-use Rattle.rst_block.specs.Rest.{OpenRun, no_run, open_list, open_lines, open_markup, closed_run, with_items, rest}
+use Rattle.rst_block.specs.Rest.{no_run, closed_run, rest}
 use Rattle.rst_block.specs.RestLaws.{found_as}
 use Rattle.rst_block.specs.Steps.{rest_of}
 use Rattle.rst_block.specs.Texts.{joined, lines_in, texted}
@@ -41,7 +39,7 @@ use Rattle.rst_block.specs.declared.fault.BlockFault.{BlockFault}
 use Rattle.rst_block.specs.declared.open_block.OpenBlock.{OpenBlock}
 use Rattle.rst_block.specs.declared.resume.Waits.TheVariants.{Quote}
 use Rattle.rst_block.specs.declared.step.Step.TheVariants.{Open}
-use Rattle.rst_block.proofs.Changes.{done_moved, done_more, placed_run, placed_more, more_is_read, item_is_read}
+use Rattle.rst_block.proofs.Changes.{done_moved, done_more, more_is_read}
 use Rattle.rst_block.proofs.NextLines.{span_to, begun_reads, alone_reads, alone_refused}
 use Rattle.rst_block.proofs.NumberedLemmas.{same_after, after_after, before_before, before_then}
 use Rattle.rst_block.proofs.QuoteCounts.{attribution_within, quotes_enough, quotes_same}
@@ -108,25 +106,26 @@ further_quotes old new B p next earlier j h some within m at =
     let length_X : length X ≡ M = length-cut B (p.from + next) p.to p.rest_cut p.rest_cut within in
     let length_Q : length (lines_in B p) ≡ N = length-cut B p.from p.to p.first_cut p.rest_cut within in
     elim (cases_lt (p.from + next) p.to) [
-    | inl below ↦
-        ap (λ Q. then_read R (quotes c N Q j)) (left_lines B p next h some)
-        ∙ ap (then_read R) (quotes_enough c N M X j (omega (arith, length_X)) (omega (arith, length_X)))
-        ∙ same_after (quotes c M X j) R (λ more. reads_from new B (earlier ++ more ++ E) p.to)
-        (λ more i. ap (λ (read : Numbered (List Item)). read i) (sym (reads_moved old new B (earlier ++ more ++ E) p.to m)))
-        ∙ ap (λ d. then_read (λ more. reads_from new B (earlier ++ more ++ E) p.to) (quotes (within_at d) M X j)) (sym m.depth)
-        ∙ ap (λ (b : Bool). after_quote new B earlier (if b then Some (left_of p next) else None) p.to j) (sym (lt-ltb (p.from + next) p.to below))
-    | inr over ↦
-        let all : length (lines_in B p) ≤ next = omega (arith, length_Q, over) in
-        let stop : p.to ≡ p.from + next = omega (arith, h, some, over) in
-        ap (λ Q. then_read R (quotes c N Q j)) (drop_all next (lines_in B p) all)
-        ∙ ap (then_read R) (quotes_enough c N 0 [] j (omega arith) (omega arith))
-        ∙ ap (λ (read : Numbered (List Item)). read j)
-        (ap (λ ns. reads_from old B (ns ++ E) p.to) (append-nil earlier)
-        ∙ sym (reads_moved old new B (earlier ++ E) p.to m)
-        ∙ ap (reads_from new B (earlier ++ E)) (stop ∙ sym at))
-        ∙ ap (λ (b : Bool). after_quote new B earlier (if b then Some (left_of p next) else None) p.to j) (sym (le-ltb (p.from + next) p.to over))
+      | inl below ↦
+          ap (λ Q. then_read R (quotes c N Q j)) (left_lines B p next h some)
+          ∙ ap (then_read R) (quotes_enough c N M X j (omega (arith, length_X)) (omega (arith, length_X)))
+          ∙ same_after (quotes c M X j) R (λ more. reads_from new B (earlier ++ more ++ E) p.to)
+          (λ more i. ap (λ (read : Numbered (List Item)). read i) (sym (reads_moved old new B (earlier ++ more ++ E) p.to m)))
+          ∙ ap (λ d. then_read (λ more. reads_from new B (earlier ++ more ++ E) p.to) (quotes (within_at d) M X j)) (sym m.depth)
+          ∙ ap (λ (b : Bool). after_quote new B earlier (if b then Some (left_of p next) else None) p.to j) (sym (lt-ltb (p.from + next) p.to below))
+      | inr over ↦
+          let all : length (lines_in B p) ≤ next = omega (arith, length_Q, over) in
+          let stop : p.to ≡ p.from + next = omega (arith, h, some, over) in
+          ap (λ Q. then_read R (quotes c N Q j)) (drop_all next (lines_in B p) all)
+          ∙ ap (then_read R) (quotes_enough c N 0 [] j (omega arith) (omega arith))
+          ∙ ap (λ (read : Numbered (List Item)). read j)
+          (ap (λ ns. reads_from old B (ns ++ E) p.to) (append-nil earlier)
+          ∙ sym (reads_moved old new B (earlier ++ E) p.to m)
+          ∙ ap (reads_from new B (earlier ++ E)) (stop ∙ sym at))
+          ∙ ap (λ (b : Bool). after_quote new B earlier (if b then Some (left_of p next) else None) p.to j) (sym (le-ltb (p.from + next) p.to over))
     ]
 
+-- a quote with an attribution, and further quotes
 pub attributed_quote : (old new : OpenBlock) (B : Block) (p : Part) (k next line n m : ℕ) (box : Box Texted Global) → IsAttributed (lines_in B p) k next (box_value box) n m
     → p.to ≤ length B → IsMoved old new → new.at ≡ p.from + next → line ≡ first_number (lines_in B p)
     → quotes_from old B [] p n ≡ comes new B (Open (Quote line (Some box) (rest_of p next) p.to) (front_of p k) None) m
@@ -187,18 +186,19 @@ pub attributed_part : (old new : OpenBlock) (B : Block) (p : Part) (k next line 
 attributed_part old new B p k next line n m a made box L is first behind read value filled within moved at h =
     let t : IsAttributed L k next made n m = record { attribution = a; first = sym first; behind = behind; read = read } in
     let u : IsAttributed (lines_in B p) k next (box_value box) n m =
-        subst (λ Q. IsAttributed Q k next (box_value box) n m) is (subst (λ x. IsAttributed L k next x n m) (sym value) t) in
+    subst (λ Q. IsAttributed Q k next (box_value box) n m) is (subst (λ x. IsAttributed L k next x n m) (sym value) t) in
     sym (attributed_quote old new B p k next line n m box u within moved at
     (h ∙ sym (part_number p.first_cut p.rest_cut (p.to - p.from) (drop p.from B) (omega (arith, filled)))))
 
 -- ---- quotes after more nodes
 
+-- nodes that a block has already come before those that it is to get
 reads_after : (old new : OpenBlock) (B : Block) (earlier more : List Node) (at : ℕ) → HasMore old new earlier → IsPlaced old → reads_from new B more at ≡ reads_from old B (earlier ++ more) at
 reads_after old new B earlier more at m w =
     let done : done_of new ++ map plain more ≡ done_of old ++ map plain (earlier ++ more) =
-        ap (λ items. items ++ map plain more) (done_more old new earlier m w)
-        ∙ append_assoc (done_of old) (map plain earlier) (map plain more)
-        ∙ ap (λ items. done_of old ++ items) (sym (map-append plain earlier more)) in
+    ap (λ items. items ++ map plain more) (done_more old new earlier m w)
+    ∙ append_assoc (done_of old) (map plain earlier) (map plain more)
+    ∙ ap (λ items. done_of old ++ items) (sym (map-append plain earlier more)) in
     ap (λ items. before items (rest (within_at new.depth) B at (open_of new.run))) done
     ∙ ap (λ d. before (done_of old ++ map plain (earlier ++ more)) (rest (within_at d) B at (open_of new.run))) m.depth
     ∙ ap (λ r. before (done_of old ++ map plain (earlier ++ more)) (rest (within_at old.depth) B at (open_of r))) m.run
@@ -217,14 +217,13 @@ after_more old new B earlier (Some p) end n m w =
     (λ more j. ap (λ (read : Numbered (List Item)). read j)
     (reads_after old new B earlier (more ++ E) p.to m w ∙ ap (λ ns. reads_from old B ns p.to) (sym (append_assoc earlier more E))))
 
-pub more_more : (old mid new : OpenBlock) (some more : List Node) → HasMore old mid some → HasMore mid new more → HasMore old new (some ++ more)
-more_more old mid new some more m k = record {
-  depth = k.depth ∙ m.depth;
-  at = k.at ∙ m.at;
-  nodes = k.nodes ∙ ap (λ nodes. nodes ++ more) m.nodes ∙ append_assoc old.nodes.items some more;
-  headings = k.headings ∙ m.headings;
-  run = k.run ∙ m.run;
-}
+-- where no blank line follows the last quote, the WARNING comes next
+pub quote_ends : (old new : OpenBlock) (B : Block) (left : Option Part) (end n m : ℕ) → left ≡ None → m ≡ n
+    → HasMore old new (ending_notes (alone_ending block_quote) (drop end B)) → IsPlaced old → reads new B m ≡ after_quote old B [] left end n
+quote_ends old new B left end n m none same h w =
+    ap (reads new B) same
+    ∙ ap (λ (read : Numbered (List Item)). read n) (more_is_read old new B (ending_notes (alone_ending block_quote) (drop end B)) h w)
+    ∙ ap (λ o. after_quote old B [] o end n) (sym none)
 
 -- ---- where a quote begins
 
@@ -273,50 +272,4 @@ pub kept_after : {A : Type 0} (r : Result A BlockFault) (old mid new : OpenBlock
 kept_after (Ok a) old mid new e k = record { depth = k.depth ∙ e; placed = k.placed }
 kept_after (Err fault) old mid new e k = tt
 
--- ---- nodes that a block gets once one inside it is read
-
--- where no blank line follows the last quote, the WARNING comes next
-pub quote_ends : (old new : OpenBlock) (B : Block) (left : Option Part) (end n m : ℕ) → left ≡ None → m ≡ n
-    → HasMore old new (ending_notes (alone_ending block_quote) (drop end B)) → IsPlaced old → reads new B m ≡ after_quote old B [] left end n
-quote_ends old new B left end n m none same h w =
-    ap (reads new B) same
-    ∙ ap (λ (read : Numbered (List Item)). read n) (more_is_read old new B (ending_notes (alone_ending block_quote) (drop end B)) h w)
-    ∙ ap (λ o. after_quote old B [] o end n) (sym none)
-
--- more nodes are given next
-pub nodes_given : (old new last : OpenBlock) (B : Block) (more wanted : List Node) (n : ℕ) → HasMore old new more → more ≡ wanted → IsPlaced old → last ≡ new
-    → reads last B n ≡ reads_from old B wanted old.at n
-nodes_given old new last B more wanted n h e w is =
-    ap (λ l. reads l B n) is
-    ∙ ap (λ (read : Numbered (List Item)). read n) (more_is_read old new B more h w)
-    ∙ ap (λ ns. reads_from old B ns old.at n) e
-
--- an item is given in its list
-pub item_given : (old new last : OpenBlock) (B : Block) (item wanted : Node) (n : ℕ) → HasItem old new item → item ≡ wanted → IsPlaced old → last ≡ new
-    → reads last B n ≡ with_item old B wanted (open_of old.run) n
-item_given old new last B item wanted n h e w is =
-    ap (λ l. reads l B n) is
-    ∙ ap (λ (read : Numbered (List Item)). read n) (item_is_read old new B item h w)
-    ∙ ap (λ node. with_item old B node (open_of old.run) n) e
-
--- the item with a body behind its heads, as it is put together
-pub item_made : (item body : Tag) (line : ℕ) (a b : List Attr) (heads all notes nodes inner : List Node) (whole held : Node) → held ≡ element_of body a nodes line → a ≡ []
-    → nodes ≡ notes ++ inner → all ≡ heads ++ held ∷ [] → whole ≡ element_of item b all line → b ≡ []
-    → whole ≡ element_of item [] (heads ++ element_of body [] (notes ++ inner) line ∷ []) line
-item_made item body line a b heads all notes nodes inner whole held h x m g w y =
-    w
-    ∙ ap (λ attrs. element_of item attrs all line) y
-    ∙ ap (λ ns. element_of item [] ns line) (g ∙ ap (λ node. heads ++ node ∷ []) (h ∙ ap (λ attrs. element_of body attrs nodes line) x ∙ ap (λ ns. element_of body [] ns line) m))
-
--- these changes keep the titles of a block among its nodes
-pub kept_more : (old new last : OpenBlock) (more : List Node) → HasMore old new more → IsPlaced old → last ≡ new → IsKept old last
-kept_more old new last more h w is = subst (IsKept old) (sym is) (record { depth = h.depth; placed = placed_more old new more h w })
-
-kept_item_in : (o : OpenRun) (old new : OpenBlock) (item : Node) → HasItemIn o old new item → IsPlaced old → IsKept old new
-kept_item_in (open_list l) old new item h w = record { depth = h.depth; placed = placed_run old new (with_items (item ∷ []) (open_list l)) h w }
-kept_item_in no_run old new item h w = kept_more old new new (item ∷ []) h w refl
-kept_item_in (open_lines end lines) old new item h w = kept_more old new new (item ∷ []) h w refl
-kept_item_in (open_markup end) old new item h w = kept_more old new new (item ∷ []) h w refl
-
-pub kept_item : (old new last : OpenBlock) (item : Node) → HasItem old new item → IsPlaced old → last ≡ new → IsKept old last
-kept_item old new last item h w is = subst (IsKept old) (sym is) (kept_item_in (open_of old.run) old new item h w)
+-- --

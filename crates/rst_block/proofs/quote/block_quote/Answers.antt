@@ -33,8 +33,8 @@ returns-clause-read c =
     let mid = c.close.new.self in
     let part = c.indented-quote.ensures.part ∙ ap (λ i. indented_part i (drop i B)) c.close.ensures.at in
     let same : reads old B c.args.pass.now.numbers ≡ quotes_from mid B [] c.indented-quote.result c.close.new.pass.numbers =
-        quote_reads old mid B c.args.pass.now.numbers c.close.new.pass.numbers (omega arith) c.requires.begun c.in_ok-close.ensures.closed c.requires.placed
-        ∙ ap (λ p. quotes_from mid B [] p c.close.new.pass.numbers) (sym part) in
+    quote_reads old mid B c.args.pass.now.numbers c.close.new.pass.numbers (omega arith) c.requires.begun c.in_ok-close.ensures.closed c.requires.placed
+    ∙ ap (λ p. quotes_from mid B [] p c.close.new.pass.numbers) (sym part) in
     subst (λ read. Keeps c.quote_part.result (λ s. comes c.quote_part.new.level B s c.quote_part.new.pass.numbers) read) (sym same) c.quote_part.ensures.read
 
 pub returns-clause-kept : goal.returns-clause-kept

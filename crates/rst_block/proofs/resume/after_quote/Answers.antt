@@ -1,6 +1,7 @@
-use Rattle.rst_text.specs.Shown.{block_of}
-use Rattle.rst_block.proofs.QuoteSteps.{quote_ends, kept_more}
 use Rattle.std.proofs.Common.{refl}
+use Rattle.rst_text.specs.Shown.{block_of}
+use Rattle.rst_block.proofs.QuoteSteps.{quote_ends}
+use Rattle.rst_block.proofs.Resuming.{kept_more}
 use Rattle.rst_block.proofs.resume.after_quote.Goals as goal
 
 pub returns-in_ok-warn-in-None-clause-kept : goal.returns-in_ok-warn-in-None-clause-kept

@@ -11,7 +11,8 @@ use Rattle.rst_block.specs.Meanings.{Keeps, after_quote, comes, quote_by, resume
 use Rattle.rst_block.specs.declared.figure.OpenFigure.{OpenFigure}
 use Rattle.rst_block.specs.declared.substitution.OpenReplacement.{OpenReplacement}
 use Rattle.rst_block.proofs.Changes.{placed_more}
-use Rattle.rst_block.proofs.QuoteSteps.{after_more, nodes_given, item_given, item_made, kept_more, kept_item}
+use Rattle.rst_block.proofs.QuoteSteps.{after_more}
+use Rattle.rst_block.proofs.Resuming.{nodes_given, item_given, item_made, kept_more, kept_item}
 use Rattle.rst_block.proofs.resume.resume.Goals.{in-ListItem+in_ok-push_item-in-ListItem, in-ListedBody+in_ok-append-in-ListedBody+in_ok-push-in-ListedBody+in_ok-push_item-in-ListedBody, in-Element+in_ok-filled-in-Element+in_ok-push-in-Element, in-Figure+in_ok-finished_figure-in-Figure+in_ok-append-in-Figure, in-Replacement+in_ok-finished_replacement-in-Replacement+in_ok-push-in-Replacement}
 use Rattle.rst_block.proofs.resume.resume.Goals as goal
 
@@ -25,8 +26,8 @@ returns-in-Quote-clause-read c =
     let mid = c.put_quote.new.level in
     let earlier : List Node = quote_by c.in-Quote.line (option_map box_value c.in-Quote.attribution) c.args.nodes.items in
     let same : after_quote mid B [] c.in-Quote.rest c.in-Quote.end c.args.pass.now.numbers ≡ resumed old B c.args.waits c.args.nodes.items c.args.pass.now.numbers =
-        after_more old mid B earlier c.in-Quote.rest c.in-Quote.end c.args.pass.now.numbers c.in_ok-put_quote-in-Quote.ensures.more c.requires.placed
-        ∙ ap (λ w. resumed old B w c.args.nodes.items c.args.pass.now.numbers) (sym c.in-Quote.is) in
+    after_more old mid B earlier c.in-Quote.rest c.in-Quote.end c.args.pass.now.numbers c.in_ok-put_quote-in-Quote.ensures.more c.requires.placed
+    ∙ ap (λ w. resumed old B w c.args.nodes.items c.args.pass.now.numbers) (sym c.in-Quote.is) in
     subst (λ read. Keeps c.after_quote.result (λ s. comes c.after_quote.new.level B s c.after_quote.new.pass.numbers) read) same c.after_quote.ensures.read
 
 pub returns-clause-kept : goal.returns-clause-kept
@@ -34,13 +35,13 @@ returns-clause-kept c =
     let old = c.args.level.now in
     let last = c.match-waits.level in
     elim c.match-waits.branch [
-    | in-ListItem+in_ok-push_item-in-ListItem w ↦ kept_item old w.push_item.new.self last _ w.in_ok-push_item-in-ListItem.ensures.item c.requires.placed w.level-is
-    | in-ListedBody+in_ok-append-in-ListedBody+in_ok-push-in-ListedBody+in_ok-push_item-in-ListedBody w ↦
-        kept_item old w.push_item-in-ListedBody.new.self last _ w.in_ok-push_item-in-ListedBody.ensures.item c.requires.placed w.level-is
-    | in-Element+in_ok-filled-in-Element+in_ok-push-in-Element w ↦ kept_more old w.push-in-Element.new.self last _ w.in_ok-push-in-Element.ensures.more c.requires.placed w.level-is
-    | in-Figure+in_ok-finished_figure-in-Figure+in_ok-append-in-Figure w ↦ kept_more old w.append-in-Figure.new.self last _ w.in_ok-append-in-Figure.ensures.more c.requires.placed w.level-is
-    | in-Replacement+in_ok-finished_replacement-in-Replacement+in_ok-push-in-Replacement w ↦
-        kept_more old w.push-in-Replacement.new.self last _ w.in_ok-push-in-Replacement.ensures.more c.requires.placed w.level-is
+      | in-ListItem+in_ok-push_item-in-ListItem w ↦ kept_item old w.push_item.new.self last _ w.in_ok-push_item-in-ListItem.ensures.item c.requires.placed w.level-is
+      | in-ListedBody+in_ok-append-in-ListedBody+in_ok-push-in-ListedBody+in_ok-push_item-in-ListedBody w ↦
+          kept_item old w.push_item-in-ListedBody.new.self last _ w.in_ok-push_item-in-ListedBody.ensures.item c.requires.placed w.level-is
+      | in-Element+in_ok-filled-in-Element+in_ok-push-in-Element w ↦ kept_more old w.push-in-Element.new.self last _ w.in_ok-push-in-Element.ensures.more c.requires.placed w.level-is
+      | in-Figure+in_ok-finished_figure-in-Figure+in_ok-append-in-Figure w ↦ kept_more old w.append-in-Figure.new.self last _ w.in_ok-append-in-Figure.ensures.more c.requires.placed w.level-is
+      | in-Replacement+in_ok-finished_replacement-in-Replacement+in_ok-push-in-Replacement w ↦
+          kept_more old w.push-in-Replacement.new.self last _ w.in_ok-push-in-Replacement.ensures.more c.requires.placed w.level-is
     ]
 
 pub returns-clause-read : goal.returns-clause-read
@@ -51,32 +52,32 @@ returns-clause-read c =
     let last = c.match-waits.level in
     let ns : List Node = c.args.nodes.items in
     elim c.match-waits.branch [
-    | in-ListItem+in_ok-push_item-in-ListItem w ↦
-        let item : Node = element_of ListItem [] ns w.in-ListItem.line in
-        let made : w.element_of.result ≡ item = w.element_of.ensures ∙ ap (λ attrs. element_of ListItem attrs ns w.in-ListItem.line) w.new.ensures in
-        item_given old w.push_item.new.self last B w.element_of.result item n w.in_ok-push_item-in-ListItem.ensures.item made c.requires.placed w.level-is
-        ∙ ap (λ waits. resumed old B waits ns n) (sym w.in-ListItem.is)
-    | in-ListedBody+in_ok-append-in-ListedBody+in_ok-push-in-ListedBody+in_ok-push_item-in-ListedBody w ↦
-        let x = w.in-ListedBody in
-        let made = item_made x.item x.body x.line w.new-in-ListedBody.result w.new-in-ListedBody-2.result x.heads.items w.push.new.nodes.items x.notes.items w.append.new.nodes.items ns
-            w.element_of-in-ListedBody-2.result w.element_of-in-ListedBody.result w.element_of-in-ListedBody.ensures w.new-in-ListedBody.ensures w.in_ok-append-in-ListedBody.ensures
-            w.in_ok-push-in-ListedBody.ensures w.element_of-in-ListedBody-2.ensures w.new-in-ListedBody-2.ensures in
-        item_given old w.push_item-in-ListedBody.new.self last B w.element_of-in-ListedBody-2.result _ n w.in_ok-push_item-in-ListedBody.ensures.item made c.requires.placed w.level-is
-        ∙ ap (λ waits. resumed old B waits ns n) (sym x.is)
-    | in-Element+in_ok-filled-in-Element+in_ok-push-in-Element w ↦
-        let node : Node = w.in_ok-filled-in-Element.field-0 in
-        nodes_given old w.push-in-Element.new.self last B (node ∷ []) (filled w.in-Element.element ns ∷ []) n w.in_ok-push-in-Element.ensures.more
-        (ap (λ (m : Node). m ∷ []) w.in_ok-filled-in-Element.ensures) c.requires.placed w.level-is
-        ∙ ap (λ waits. resumed old B waits ns n) (sym w.in-Element.is)
-    | in-Figure+in_ok-finished_figure-in-Figure+in_ok-append-in-Figure w ↦
-        let figure_of : OpenFigure → List Node = λ o. figure_nodes o.figure (caption_error o.line (string_bytes o.source)) ns in
-        nodes_given old w.append-in-Figure.new.self last B w.in_ok-finished_figure-in-Figure.field-0.items (figure_of (box_value w.in-Figure.figure)) n w.in_ok-append-in-Figure.ensures.more
-        (w.in_ok-finished_figure-in-Figure.ensures ∙ ap figure_of w.into_inner.ensures) c.requires.placed w.level-is
-        ∙ ap (λ waits. resumed old B waits ns n) (sym w.in-Figure.is)
-    | in-Replacement+in_ok-finished_replacement-in-Replacement+in_ok-push-in-Replacement w ↦
-        let node : Node = w.in_ok-finished_replacement-in-Replacement.field-0 in
-        let node_of : OpenReplacement → List Node = λ o. replacement (string_bytes o.name) o.line (string_bytes o.source) (first_paragraph ns) ∷ [] in
-        nodes_given old w.push-in-Replacement.new.self last B (node ∷ []) (node_of (box_value w.in-Replacement.definition)) n w.in_ok-push-in-Replacement.ensures.more
-        (ap (λ (m : Node). m ∷ []) w.in_ok-finished_replacement-in-Replacement.ensures ∙ ap node_of w.into_inner-in-Replacement.ensures) c.requires.placed w.level-is
-        ∙ ap (λ waits. resumed old B waits ns n) (sym w.in-Replacement.is)
+      | in-ListItem+in_ok-push_item-in-ListItem w ↦
+          let item : Node = element_of ListItem [] ns w.in-ListItem.line in
+          let made : w.element_of.result ≡ item = w.element_of.ensures ∙ ap (λ attrs. element_of ListItem attrs ns w.in-ListItem.line) w.new.ensures in
+          item_given old w.push_item.new.self last B w.element_of.result item n w.in_ok-push_item-in-ListItem.ensures.item made c.requires.placed w.level-is
+          ∙ ap (λ waits. resumed old B waits ns n) (sym w.in-ListItem.is)
+      | in-ListedBody+in_ok-append-in-ListedBody+in_ok-push-in-ListedBody+in_ok-push_item-in-ListedBody w ↦
+          let x = w.in-ListedBody in
+          let made = item_made x.item x.body x.line w.new-in-ListedBody.result w.new-in-ListedBody-2.result x.heads.items w.push.new.nodes.items x.notes.items w.append.new.nodes.items ns
+          w.element_of-in-ListedBody-2.result w.element_of-in-ListedBody.result w.element_of-in-ListedBody.ensures w.new-in-ListedBody.ensures w.in_ok-append-in-ListedBody.ensures
+          w.in_ok-push-in-ListedBody.ensures w.element_of-in-ListedBody-2.ensures w.new-in-ListedBody-2.ensures in
+          item_given old w.push_item-in-ListedBody.new.self last B w.element_of-in-ListedBody-2.result _ n w.in_ok-push_item-in-ListedBody.ensures.item made c.requires.placed w.level-is
+          ∙ ap (λ waits. resumed old B waits ns n) (sym x.is)
+      | in-Element+in_ok-filled-in-Element+in_ok-push-in-Element w ↦
+          let node : Node = w.in_ok-filled-in-Element.field-0 in
+          nodes_given old w.push-in-Element.new.self last B (node ∷ []) (filled w.in-Element.element ns ∷ []) n w.in_ok-push-in-Element.ensures.more
+          (ap (λ (m : Node). m ∷ []) w.in_ok-filled-in-Element.ensures) c.requires.placed w.level-is
+          ∙ ap (λ waits. resumed old B waits ns n) (sym w.in-Element.is)
+      | in-Figure+in_ok-finished_figure-in-Figure+in_ok-append-in-Figure w ↦
+          let figure_of : OpenFigure → List Node = λ o. figure_nodes o.figure (caption_error o.line (string_bytes o.source)) ns in
+          nodes_given old w.append-in-Figure.new.self last B w.in_ok-finished_figure-in-Figure.field-0.items (figure_of (box_value w.in-Figure.figure)) n w.in_ok-append-in-Figure.ensures.more
+          (w.in_ok-finished_figure-in-Figure.ensures ∙ ap figure_of w.into_inner.ensures) c.requires.placed w.level-is
+          ∙ ap (λ waits. resumed old B waits ns n) (sym w.in-Figure.is)
+      | in-Replacement+in_ok-finished_replacement-in-Replacement+in_ok-push-in-Replacement w ↦
+          let node : Node = w.in_ok-finished_replacement-in-Replacement.field-0 in
+          let node_of : OpenReplacement → List Node = λ o. replacement (string_bytes o.name) o.line (string_bytes o.source) (first_paragraph ns) ∷ [] in
+          nodes_given old w.push-in-Replacement.new.self last B (node ∷ []) (node_of (box_value w.in-Replacement.definition)) n w.in_ok-push-in-Replacement.ensures.more
+          (ap (λ (m : Node). m ∷ []) w.in_ok-finished_replacement-in-Replacement.ensures ∙ ap node_of w.into_inner-in-Replacement.ensures) c.requires.placed w.level-is
+          ∙ ap (λ waits. resumed old B waits ns n) (sym w.in-Replacement.is)
     ]
