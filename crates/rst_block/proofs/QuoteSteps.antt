@@ -271,5 +271,3 @@ quote_refused l B n line b h =
 pub kept_after : {A : Type 0} (r : Result A BlockFault) (old mid new : OpenBlock) → mid.depth ≡ old.depth → IfOk r (λ _. IsKept mid new) → IfOk r (λ _. IsKept old new)
 kept_after (Ok a) old mid new e k = record { depth = k.depth ∙ e; placed = k.placed }
 kept_after (Err fault) old mid new e k = tt
-
--- --
