@@ -1,9 +1,7 @@
 //! A document's tree.
-ghost use Rattle.std.specs.Prelude.{Ok};
 ghost use Rattle.rst_settings.specs.Profile.{profile_of};
 ghost use Rattle.rst_settings.specs.declared.Settings.{Settings};
 ghost use Rattle.rst_block.specs.Documents as spec;
-ghost use Rattle.rst_block.specs.Meanings.{Keeps};
 
 use super::fault::BlockFault;
 use super::machine::{Frames, read};
@@ -31,7 +29,7 @@ pub struct Parsed {
 /// It is refused with [`BlockFault::TooDeep`] where a block that isn't blank stands in more than 250 blocks: at the first such
 /// block; and with [`BlockFault::NoMemory`].
 pub fn parse(alloc: Global, lines: &Lines) -> Result<Parsed, BlockFault>
-    ensures document { (settings : Settings) → Keeps result (λ parsed. Ok (parsed.document, parsed.messages)) (spec.document (profile_of settings) lines.now 0) }
+    ensures document { (settings : Settings) → spec.Parses (spec.document (profile_of settings) lines.now 0) result }
 {
     let mut pass = Pass {
         looks: Looks::none(),
