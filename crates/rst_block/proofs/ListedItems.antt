@@ -7,11 +7,11 @@ use Rattle.rst_markup_lines.specs.declared.marker.Marker.{Marker}
 use Rattle.rst_markup_blocks.specs.Begun.{IsBegun}
 use Rattle.rst_markup_blocks.specs.declared.begun.Begun.TheVariants.{Bullet as BulletMark, Enumerator as EnumeratorMark}
 use Rattle.rst_markup_blocks.specs.declared.part.Part.{Part}
-use Rattle.rst_block_nodes.specs.Elements.{bullet_list_node, enumerated_list_node}
+use Rattle.rst_block_nodes.specs.Elements.{bullet_list_node}
 use Rattle.rst_block.specs.Constructs.{ItemMark, bullet_item, enumerated_item, item_of_list}
-use Rattle.rst_block.specs.Joins.{Joining, list_joining}
-use Rattle.rst_block.specs.ListNotes.{with_infos, with_notes}
-use Rattle.rst_block.specs.Lists.{item_by, list_item, infos_of, list_notes}
+use Rattle.rst_block.specs.Joins.{Joining}
+use Rattle.rst_block.specs.ListNotes.{with_infos}
+use Rattle.rst_block.specs.Lists.{item_by, list_item, infos_of}
 use Rattle.rst_block.specs.Meanings.{deepest, joining_in, open_of, list_kind_in, within_at, reads, comes, Keeps}
 use Rattle.rst_block.specs.OpenBlocks.{joined_at, begun_at, IsMoved, HasRun, IsClosed, Closes, IsPlaced}
 use Rattle.rst_block.specs.Rest.{OpenRun, no_run, joining_with, begun_run, closed_run}
@@ -24,7 +24,7 @@ use Rattle.rst_block.specs.declared.resume.Waits.TheVariants.{ListItem as InItem
 use Rattle.rst_block.specs.declared.run.ListKind.TheVariants.{Bullet}
 use Rattle.rst_block.specs.declared.step.Step.{Step}
 use Rattle.rst_block.specs.declared.step.Step.TheVariants.{Open}
-use Rattle.rst_block.proofs.ListItems.{after_none, after_joined, next_joining, run_is, run_then, closed_is, closed_then, item_found, item_reads, item_joins_list, item_begins_list, item_refused, joining_by_kind, same_bullet, other_bullet, bullet_sized, enumerator_sized, item_to, behind_item}
+use Rattle.rst_block.proofs.ListItems.{after_none, after_joined, next_joining, run_is, closed_is, closed_then, item_found, item_reads, item_joins_list, item_begins_list, item_refused, joining_by_kind, same_bullet, other_bullet, bullet_sized, enumerator_sized, item_to, behind_item}
 use Rattle.rst_block.proofs.MeaningLemmas.{item_means}
 use Rattle.rst_block.proofs.NextLines.{span_to, begun_reads, close_refuses}
 
@@ -120,14 +120,3 @@ pub enumerated_run : (read : Result (List Item × ℕ) ℕ) (old mid new : OpenB
     → IsClosed read old new k (begun_run (item_of_list (enumerated_item mark)) B (span_to old.at stop) (drop old.at B))
 enumerated_run read old mid new B mark stop k o h at run =
     closed_is read old new k _ _ (closed_then read old mid new k o _ h run) (ap (λ i. begun_run (item_of_list (enumerated_item mark)) B (span_to i stop) (drop i B)) at)
-
--- the same, as it is made: the list, with the message on its first ordinal after it
-pub enumerated_begun : (old new : OpenBlock) (B : Block) (mark : Enumerator) (stop line : ℕ) (joining : Joining) (element : Node) (notes : List Node)
-    → joining ≡ list_joining (enumerated_item mark) → element ≡ enumerated_list_node mark line → line ≡ first_number (drop old.at B) → notes ≡ list_notes (enumerated_item mark) (drop old.at B)
-    → HasRun old new (with_notes notes (begun_at joining stop element))
-    → HasRun old new (begun_run (item_of_list (enumerated_item mark)) B (span_to old.at stop) (drop old.at B))
-enumerated_begun old new B mark stop line joining element notes j e l n run = run_is old new _ _ run (rw (n, e, l, j) refl)
-
--- the message comes after a list that has begun
-pub enumerated_noted : (old mid new : OpenBlock) (notes : List Node) (o : OpenRun) → HasRun old mid o → HasRun mid new (with_notes notes (open_of mid.run)) → HasRun old new (with_notes notes o)
-enumerated_noted old mid new notes o run noted = run_is old new _ _ (run_then old mid new _ _ run noted) (ap (with_notes notes) run.run)

@@ -11,7 +11,7 @@ ghost use Rattle.rst_block.specs.Lists as lists;
 ghost use Rattle.rst_block.specs.Steps as spec;
 ghost use Rattle.rst_block.specs.Texts.{excerpt};
 ghost use Rattle.rst_markup_blocks.specs.Begun.{IsBegun};
-ghost use Rattle.rst_markup_blocks.specs.declared.begun.Begun.TheVariants.{Bullet, Enumerator};
+ghost use Rattle.rst_markup_blocks.specs.declared.begun.Begun.TheVariants.{Bullet, Enumerator as ItemEnumerator};
 ghost use Rattle.rst_block.specs.Constructs.{enumerated_item, item_of_list};
 ghost use Rattle.rst_block.specs.Joins.{list_joining_after};
 ghost use Rattle.rst_block.specs.ListNotes.{with_notes};
@@ -95,7 +95,7 @@ pub(crate) fn enumerated_item(
     requires inside { level.old.at < length (block_of view.now) }
     requires short { length (block_of view.now) < 2 ^ 64 }
     requires few { pass.old.looks < 2 ^ 119 + 2 ^ 111 }
-    requires begun { IsBegun (drop level.old.at (block_of view.now)) (Enumerator enumerator) }
+    requires begun { IsBegun (drop level.old.at (block_of view.now)) (ItemEnumerator enumerator) }
     requires placed { IsPlaced level.old }
     ensures step { IfOk result (λ s. spec.IsStep (block_of view.now) level.old.at level.new.at s) }
     ensures kept { IfOk result (λ _. IsKept level.old level.new) }
