@@ -1,20 +1,27 @@
 -- Items of definition lists, field lists and option lists: what comes of one where its list goes on or is new.
 use Rattle.std.proofs.Common.{◌≡◌, ℕ, suc, ◌+◌, ◌-◌, ◌<◌, List, [], ◌∷◌, drop, Some, None, Result, Ok, Err, arith, refl, sym, ◌∙◌, ap, inl, inr}
 use Rattle.std.specs.Prelude.{slice_range}
+use Rattle.std.proofs.lemmas.List.{drop-drop}
 use Rattle.rst_text.specs.Block.{Block, front_text, first_number}
+use Rattle.rst_text.specs.Extent.{extent}
 use Rattle.rst_tree.specs.declared.node.Node.{Node}
 use Rattle.rst_tree.specs.declared.tag.Tag.TheVariants.{Definition, DefinitionListItem, Field as FieldTag, FieldBody, FieldName, OptionListItem, Description}
 use Rattle.rst_markup_lines.specs.declared.field.FieldMark.{FieldMark}
 use Rattle.rst_markup_lines.specs.declared.marker.Marker.{Marker}
 use Rattle.rst_markup_blocks.specs.Begun.{IsBegun}
+use Rattle.rst_markup_blocks.specs.Conditions.{next_text}
+use Rattle.rst_markup_blocks.specs.Forms.{text_form}
 use Rattle.rst_markup_blocks.specs.Partition.{Span}
+use Rattle.rst_markup_blocks.specs.Sizes.{hanging_size}
 use Rattle.rst_markup_blocks.specs.declared.begun.Begun.TheVariants.{Field as FieldBegun, OptionItem as OptionBegun}
+use Rattle.rst_markup_blocks.specs.declared.form.TextForm.TheVariants.{Definition as DefinitionForm}
 use Rattle.rst_markup_blocks.specs.declared.part.Part.{Part}
 use Rattle.rst_block.specs.Constructs.{ItemMark, bullet_item, enumerated_item, definition_item, field_item, option_item, item_of_list}
 use Rattle.rst_block.specs.Joins.{Joining}
 use Rattle.rst_block.specs.ListNotes.{with_infos}
 use Rattle.rst_block.specs.Lists.{item_by, item_with, option_group, infos_of, empty_list}
 use Rattle.rst_block.specs.Meanings.{deepest, joining_in, open_of, list_kind_in, within_at, reads, comes, Keeps}
+use Rattle.rst_block.specs.NextLine.{IsText}
 use Rattle.rst_block.specs.Numbered.{Numbered, then_read}
 use Rattle.rst_block.specs.OpenBlocks.{joined_at, begun_at, IsMoved, HasRun, IsClosed, Closes, Gives, IsPlaced, IsKept}
 use Rattle.rst_block.specs.Rest.{OpenRun, no_run, open_list, open_lines, open_markup, joining_with, joined_run, begun_run, closed_run}
@@ -28,7 +35,7 @@ use Rattle.rst_block.specs.declared.open_block.OpenBlock.{OpenBlock}
 use Rattle.rst_block.specs.declared.run.ListKind.{ListKind}
 use Rattle.rst_block.specs.declared.step.Step.{Step}
 use Rattle.rst_block.proofs.ListItems.{IsPlain, plain_joins, joining_by_kind, after_joined, run_is, run_then, closed_is, closed_then, item_found, item_reads, item_refused, item_joins_list, item_begins_list, kept_joined, kept_begun, ReadsItem, hanging_to, behind_hanging}
-use Rattle.rst_block.proofs.NextLines.{span_to, begun_reads}
+use Rattle.rst_block.proofs.NextLines.{span_to, begun_reads, text_reads}
 
 plain_begun : (mark : ItemMark) (kind : ListKind) (B X : Block) (s : Span) → IsPlain mark kind
     → with_infos (infos_of (item_of_list mark)) (begun_at (joining_in kind) s.stop (empty_list mark X)) ≡ begun_run (item_of_list mark) B s X
@@ -100,6 +107,24 @@ pub option_reads : (l : OpenBlock) (B : Block) (m : Marker) (stop n : ℕ) → I
 option_reads l B m stop n h e =
     begun_reads (OptionBegun m) l B n h tt ∙ ap (λ i. item_reads l B (option_item m) i n) (sym (e ∙ hanging_to l.at m (drop l.at B)))
 
+-- the block below a term ends where its construct does
+pub definition_to : (i : ℕ) (B : Block) (part : Part) → part ≡ indented_part (i + 1) (drop (i + 1) B) → part.to ≡ i + hanging_size (drop i B)
+unfolding hanging_size
+definition_to i B part e =
+    let below : drop 1 (drop i B) ≡ drop (i + 1) B = drop-drop 1 i B in
+    let to : part.to ≡ (i + 1) + extent 1 (drop (i + 1) B) = ap (λ (p : Part). p.to) e in
+    let same : extent 1 (drop 1 (drop i B)) ≡ extent 1 (drop (i + 1) B) = ap (extent 1) below in
+    omega (arith, to, same)
+
+pub definition_there : (i : ℕ) (B : Block) (part : Part) → part ≡ indented_part (i + 1) (drop (i + 1) B) → i < part.to
+definition_there i B part e = omega (arith, definition_to i B part e, behind_hanging i (drop i B))
+
+pub definition_reads : (l : OpenBlock) (B : Block) (infos : List Node) (part : Part) (n : ℕ) → IsText l B infos
+    → text_form (front_text (drop l.at B)) (next_text (drop l.at B)) ≡ DefinitionForm → part ≡ indented_part (l.at + 1) (drop (l.at + 1) B)
+    → reads l B n ≡ item_reads l B (definition_item infos) part.to n
+definition_reads l B infos part n h f e =
+    text_reads DefinitionForm l B infos n h f ∙ ap (λ i. item_reads l B (definition_item infos) i n) (sym (definition_to l.at B part e))
+
 -- ---- the items themselves
 
 -- a field is made of its name, whose text was read, and of its hanging block
@@ -124,14 +149,15 @@ option_made c B i mark X line text part group notes heads k l t p g h n = rw (h,
 
 -- a definition is made of its term and classifiers, whose text was read, and of the indented block below
 pub definition_made : (c : Within) (B : Block) (i : ℕ) (infos : List Node) (X : Block) (line : ℕ) (text : List ℕ) (part : Part) (heads notes : List Node) (k m : ℕ)
-    → line ≡ first_number X → text ≡ front_text X → part ≡ indented_part (i + 1) (drop 1 X) → termed text line k ≡ Ok ((heads, notes), m)
+    → X ≡ drop i B → line ≡ first_number X → text ≡ front_text X → part ≡ indented_part (i + 1) (drop (i + 1) B) → termed text line k ≡ Ok ((heads, notes), m)
     → item_by c B i (definition_item infos) X k ≡ item_with c B DefinitionListItem Definition line part heads notes m
-definition_made c B i infos X line text part heads notes k m l t p read =
+definition_made c B i infos X line text part heads notes k m x l t p read =
+    let below : indented_part (i + 1) (drop (i + 1) B) ≡ indented_part (i + 1) (drop 1 X) = ap (indented_part (i + 1)) (sym (ap (drop 1) x ∙ drop-drop 1 i B)) in
     let at : ℕ = first_number X in
     let made : termed (front_text X) at k ≡ Ok ((heads, notes), m) = sym (ap (λ u. termed u line k) t ∙ ap (λ x. termed (front_text X) x k) l) ∙ read in
     ap (then_read (λ (made : List Node × List Node). item_with c B DefinitionListItem Definition at (indented_part (i + 1) (drop 1 X)) made.0 made.1)) made
     ∙ ap (λ x. item_with c B DefinitionListItem Definition x (indented_part (i + 1) (drop 1 X)) heads notes m) (sym l)
-    ∙ ap (λ q. item_with c B DefinitionListItem Definition line q heads notes m) (sym p)
+    ∙ ap (λ q. item_with c B DefinitionListItem Definition line q heads notes m) (sym (p ∙ below))
 
 -- where a hanging block ends is behind its first line
 pub hanging_there : (i stop : ℕ) (m : Marker) (X : Block) → stop ≡ (hanging i m X).to → i < stop

@@ -7,9 +7,10 @@ ghost use Rattle.rst_text.specs.Block.{front_text};
 ghost use Rattle.rst_markup_blocks.specs.Conditions.{next_text};
 ghost use Rattle.rst_markup_blocks.specs.Forms.{text_form};
 ghost use Rattle.rst_markup_blocks.specs.declared.form.TextForm.TheVariants.{Definition};
-ghost use Rattle.rst_block.specs.Meanings.{Keeps, comes, reads};
+ghost use Rattle.rst_block.specs.ListNotes.{with_infos};
+ghost use Rattle.rst_block.specs.Meanings.{Keeps, comes, open_of, reads};
 ghost use Rattle.rst_block.specs.NextLine.{IsText};
-ghost use Rattle.rst_block.specs.OpenBlocks.{IsKept, IsPlaced};
+ghost use Rattle.rst_block.specs.OpenBlocks.{Gives, HasRun, IsKept, IsPlaced};
 
 use super::fault::BlockFault;
 use super::field::join_list;
@@ -20,6 +21,7 @@ use super::run::{ListKind, Run};
 use super::step::Step;
 use super::texts::{Pass, number_at};
 use rst_block_nodes::term_and_classifiers;
+use rst_block_sections::append;
 use rst_text::View;
 use rst_tree::{Node, Tag};
 use std::alloc::Global;
@@ -48,11 +50,7 @@ pub(crate) fn definition(
     let body = indented(view, at + 1, &mut pass.looks);
     let kind = ListKind::Definition;
     join_list(alloc, view, level, kind, Tag::DefinitionList, body.to, pass)?;
-    if let Run::List(open) = &mut level.run {
-        for info in infos {
-            open.before.push(info)?;
-        }
-    }
+    put_before(level, infos)?;
     let term = view.line(at, &mut pass.looks);
     let heads = term_and_classifiers(alloc, term, line, &mut pass.numbers)?;
     level.go_to(body.to);
@@ -67,4 +65,15 @@ pub(crate) fn definition(
         first: body,
         second: None,
     })
+}
+
+/// Puts messages before the list that is open.
+fn put_before(level: &mut OpenBlock, infos: Vec<Node>) -> Result<(), BlockFault>
+    ensures at { level.new.at ≡ level.old.at }
+    ensures run { Gives (λ _. HasRun level.old level.new (with_infos infos.items (open_of level.old.run))) result }
+{
+    match &mut level.run {
+        Run::List(open) => Ok(append(&mut open.before, infos)?),
+        _ => Ok(()),
+    }
 }
