@@ -1,16 +1,11 @@
 -- Items of lists: where an item ends, and what comes of it where it joins the open list or begins one.
-use Rattle.std.proofs.Common.{◌≡◌, ℕ, suc, ◌+◌, ◌-◌, ◌<◌, Bool, true, false, List, [], ◌∷◌, ◌++◌, drop, Option, Some, None, Result, Ok, Err, arith, refl, sym, ◌∙◌, ap, subst, append_assoc, append-nil, ne_eqb, eq-eqb, inl, inr}
-use Rattle.std.specs.Prelude.{◌⊎◌, ◌||◌, ◌==◌, if◌then◌else◌, box_value}
+use Rattle.std.proofs.Common.{◌≡◌, ℕ, suc, ◌+◌, ◌-◌, ◌<◌, Bool, true, false, List, [], ◌++◌, drop, Option, Some, None, Result, Err, arith, refl, sym, ◌∙◌, ap, subst, append-nil, ne_eqb, eq-eqb, inl, inr}
+use Rattle.std.specs.Prelude.{◌⊎◌, ◌||◌, if◌then◌else◌}
 use Rattle.std.specs.Option.{option_and_then, option_map_or}
-use Rattle.rst_text.specs.Block.{Block, front_text, first_number}
-use Rattle.rst_tree.specs.Forest.{bare}
+use Rattle.rst_text.specs.Block.{Block, front_text}
 use Rattle.rst_tree.specs.declared.node.Node.{Node}
-use Rattle.rst_tree.specs.declared.node.Node.TheVariants.{Element}
-use Rattle.rst_tree.specs.declared.tag.Tag.{Tag}
-use Rattle.rst_tree.specs.declared.tag.Tag.TheVariants.{DefinitionList, FieldList, OptionList}
 use Rattle.rst_markup_lines.specs.Enumerator.{enumerator_of, begins_next}
 use Rattle.rst_markup_lines.specs.Front.{is_loose}
-use Rattle.rst_markup_lines.specs.Marker.{bullet}
 use Rattle.rst_markup_lines.specs.declared.enumerator.Enumerator.{Enumerator}
 use Rattle.rst_markup_lines.specs.declared.marker.Marker.{Marker}
 use Rattle.rst_markup_blocks.specs.Begun.{IsBegun}
@@ -23,15 +18,13 @@ use Rattle.rst_block.specs.Constructs.{ItemMark, bullet_item, enumerated_item, d
 use Rattle.rst_block.specs.Joins.{Joining, list_joining_after}
 use Rattle.rst_block.specs.ListNotes.{with_infos}
 use Rattle.rst_block.specs.Lists.{item_by, infos_of}
-use Rattle.rst_block.specs.Meanings.{deepest, joining_in, list_of, open_of, list_kind_in, within_at, done_of, reads, comes, Keeps}
+use Rattle.rst_block.specs.Meanings.{deepest, joining_in, open_of, list_kind_in, within_at, done_of, reads, comes}
 use Rattle.rst_block.specs.Numbered.{Numbered, then_read, ◌>>=◌, just, before}
-use Rattle.rst_block.specs.OpenBlocks.{joined_at, begun_at, IsMoved, HasRun, IsClosed, Closes, Gives, IsPlaced, IsKept}
+use Rattle.rst_block.specs.OpenBlocks.{joined_at, IsMoved, HasRun, IsClosed, IsPlaced, IsKept}
 use Rattle.rst_block.specs.Rest.{ListSoFar, OpenRun, no_run, open_list, open_lines, open_markup, joining_with, joined_run, begun_run, closed_run, with_items, rest, rest_with}
 use Rattle.rst_block.specs.RestLaws.{found_as}
 use Rattle.rst_block.specs.Titles.{Item}
 use Rattle.rst_block.specs.Within.{Within, hanging, item_part}
-use Rattle.rst_block.specs.declared.fault.BlockFault.{BlockFault}
-use Rattle.rst_block.specs.declared.fault.BlockFault.TheVariants.{TooDeep, NoMemory}
 use Rattle.rst_block.specs.declared.open_block.OpenBlock.{OpenBlock}
 use Rattle.rst_block.specs.declared.run.ListKind.{ListKind}
 use Rattle.rst_block.specs.declared.run.ListKind.TheVariants.{Bullet, Enumerated, Definition, Field, OptionItem}

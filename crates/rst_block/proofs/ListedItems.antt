@@ -1,5 +1,5 @@
 -- Items of bullet lists and of enumerated lists: what comes of one where its list goes on or is new.
-use Rattle.std.proofs.Common.{◌≡◌, ℕ, suc, ◌+◌, ◌-◌, ◌<◌, List, [], drop, Option, Some, None, Result, Ok, Err, arith, refl, sym, ◌∙◌, ap}
+use Rattle.std.proofs.Common.{◌≡◌, ℕ, suc, ◌+◌, ◌-◌, ◌<◌, List, [], drop, Option, Some, None, Result, Err, arith, refl, sym, ◌∙◌, ap}
 use Rattle.rst_text.specs.Block.{Block, first_number}
 use Rattle.rst_tree.specs.declared.node.Node.{Node}
 use Rattle.rst_markup_lines.specs.declared.enumerator.Enumerator.{Enumerator}
@@ -26,7 +26,7 @@ use Rattle.rst_block.specs.declared.step.Step.{Step}
 use Rattle.rst_block.specs.declared.step.Step.TheVariants.{Open}
 use Rattle.rst_block.proofs.ListItems.{after_none, after_joined, next_joining, run_is, closed_is, closed_then, item_found, item_reads, item_joins_list, item_begins_list, item_refused, joining_by_kind, same_bullet, other_bullet, bullet_sized, enumerator_sized, item_to, behind_item}
 use Rattle.rst_block.proofs.MeaningLemmas.{item_means}
-use Rattle.rst_block.proofs.NextLines.{span_to, begun_reads, close_refuses}
+use Rattle.rst_block.proofs.NextLines.{span_to, begun_reads}
 
 -- ---- where an item ends
 

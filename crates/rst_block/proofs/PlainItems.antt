@@ -1,5 +1,5 @@
 -- Items of definition lists, field lists and option lists: what comes of one where its list goes on or is new.
-use Rattle.std.proofs.Common.{◌≡◌, ℕ, suc, ◌+◌, ◌-◌, ◌<◌, List, [], ◌∷◌, drop, Some, None, Result, Ok, Err, arith, refl, sym, ◌∙◌, ap, inl, inr}
+use Rattle.std.proofs.Common.{◌≡◌, ℕ, suc, ◌+◌, ◌-◌, ◌<◌, List, [], ◌∷◌, drop, Some, Result, Ok, Err, arith, refl, sym, ◌∙◌, ap, inl, inr}
 use Rattle.std.specs.Prelude.{slice_range}
 use Rattle.std.proofs.lemmas.List.{drop-drop}
 use Rattle.rst_text.specs.Block.{Block, front_text, first_number}
@@ -17,15 +17,13 @@ use Rattle.rst_markup_blocks.specs.declared.begun.Begun.TheVariants.{Field as Fi
 use Rattle.rst_markup_blocks.specs.declared.form.TextForm.TheVariants.{Definition as DefinitionForm}
 use Rattle.rst_markup_blocks.specs.declared.part.Part.{Part}
 use Rattle.rst_block.specs.Constructs.{ItemMark, bullet_item, enumerated_item, definition_item, field_item, option_item, item_of_list}
-use Rattle.rst_block.specs.Joins.{Joining}
 use Rattle.rst_block.specs.ListNotes.{with_infos}
 use Rattle.rst_block.specs.Lists.{item_by, item_with, option_group, infos_of, empty_list}
 use Rattle.rst_block.specs.Meanings.{deepest, joining_in, open_of, list_kind_in, within_at, reads, comes, Keeps}
 use Rattle.rst_block.specs.NextLine.{IsText}
 use Rattle.rst_block.specs.Numbered.{Numbered, then_read}
 use Rattle.rst_block.specs.OpenBlocks.{joined_at, begun_at, IsMoved, HasRun, IsClosed, Closes, Gives, IsPlaced, IsKept}
-use Rattle.rst_block.specs.Rest.{OpenRun, no_run, open_list, open_lines, open_markup, joining_with, joined_run, begun_run, closed_run}
-use Rattle.rst_block.specs.RestLaws.{found_as}
+use Rattle.rst_block.specs.Rest.{OpenRun, begun_run, closed_run}
 use Rattle.rst_block.specs.Texts.{termed, texted}
 use Rattle.rst_block.specs.Titles.{Item}
 use Rattle.rst_block.specs.Within.{Within, hanging, indented_part}
@@ -34,7 +32,7 @@ use Rattle.rst_block.specs.declared.fault.BlockFault.TheVariants.{TooDeep, NoMem
 use Rattle.rst_block.specs.declared.open_block.OpenBlock.{OpenBlock}
 use Rattle.rst_block.specs.declared.run.ListKind.{ListKind}
 use Rattle.rst_block.specs.declared.step.Step.{Step}
-use Rattle.rst_block.proofs.ListItems.{IsPlain, plain_joins, joining_by_kind, after_joined, run_is, run_then, closed_is, closed_then, item_found, item_reads, item_refused, item_joins_list, item_begins_list, kept_joined, kept_begun, ReadsItem, hanging_to, behind_hanging}
+use Rattle.rst_block.proofs.ListItems.{IsPlain, plain_joins, joining_by_kind, after_joined, run_is, run_then, closed_is, closed_then, item_reads, item_refused, item_joins_list, item_begins_list, kept_joined, kept_begun, ReadsItem, hanging_to, behind_hanging}
 use Rattle.rst_block.proofs.NextLines.{span_to, begun_reads, text_reads}
 
 plain_begun : (mark : ItemMark) (kind : ListKind) (B X : Block) (s : Span) → IsPlain mark kind
@@ -63,16 +61,16 @@ plain_item old mid put new B mark kind s item stop n k m plain found opened note
     let by = joining_by_kind old.run mark span in
     elim (plain_joins mark kind (list_kind_in old.run) plain) [
       | inl e ↦ (
-        let run = opened.joins e.0 in
-        let is = ap (with_infos infos) run.run ∙ after_joined (joining_in kind) (open_of old.run) B mark span (by ∙ e.1) in
-        let joined = run_is old put _ _ (run_then old mid put _ _ run noted) is in
-        item_joins_list old put new B mark (joining_in kind) s item stop n m found (by ∙ e.1) joined moved at reads
-        (ap (λ i. item_by (within_at old.depth) B old.at mark (drop old.at B) i) (sym (opened.numbers e.0)) ∙ same))
+          let run = opened.joins e.0 in
+          let is = ap (with_infos infos) run.run ∙ after_joined (joining_in kind) (open_of old.run) B mark span (by ∙ e.1) in
+          let joined = run_is old put _ _ (run_then old mid put _ _ run noted) is in
+          item_joins_list old put new B mark (joining_in kind) s item stop n m found (by ∙ e.1) joined moved at reads
+          (ap (λ i. item_by (within_at old.depth) B old.at mark (drop old.at B) i) (sym (opened.numbers e.0)) ∙ same))
       | inr e ↦ (
-        let run = opened.begins e.0 in
-        let is = ap (with_infos infos) run.run ∙ plain_begun mark kind B (drop old.at B) span plain in
-        let closed = closed_is _ old put k _ _ (closed_then _ old mid put k _ _ run noted) is in
-        item_begins_list old put new B mark s item stop n k m found (by ∙ e.1) closed w moved at reads same)
+          let run = opened.begins e.0 in
+          let is = ap (with_infos infos) run.run ∙ plain_begun mark kind B (drop old.at B) span plain in
+          let closed = closed_is _ old put k _ _ (closed_then _ old mid put k _ _ run noted) is in
+          item_begins_list old put new B mark s item stop n k m found (by ∙ e.1) closed w moved at reads same)
     ]
 
 pub plain_kept : (old mid put new : OpenBlock) (B : Block) (mark : ItemMark) (kind : ListKind) (element : Node) (o : OpenRun) (stop n k : ℕ)

@@ -1,5 +1,5 @@
 //! Items of bullet lists and of enumerated lists (Markup Specification, 'Bullet Lists', 'Enumerated Lists').
-ghost use Rattle.std.specs.Prelude.{◌≡◌, suc, ◌+◌, ◌-◌, ◌*◌, ◌^◌, ◌<◌, ◌≤◌, length, drop, string_bytes, IfOk, IfSome, [], ◌∷◌, None, option_map};
+ghost use Rattle.std.specs.Prelude.{◌≡◌, ◌+◌, ◌-◌, ◌*◌, ◌^◌, ◌<◌, ◌≤◌, length, drop, string_bytes, IfOk, IfSome, [], ◌∷◌, None, option_map};
 ghost use Rattle.std.specs.Option.{option_and_then, option_to_list};
 ghost use Rattle.std.specs.Str.{chars};
 ghost use Rattle.rst_text.specs.Block.{Block};

@@ -1,4 +1,4 @@
-use Rattle.std.proofs.Common.{◌≡◌, ℕ, List, drop, refl, sym, ap, ◌∙◌, rules}
+use Rattle.std.proofs.Common.{ℕ, drop, refl, rules}
 use Rattle.std.specs.Prelude.{None}
 use Rattle.rst_text.specs.Block.{Block}
 use Rattle.rst_text.specs.Shown.{block_of}

@@ -1,4 +1,4 @@
-use Rattle.std.proofs.Common.{◌≡◌, ◌<◌, ℕ, List, drop, refl, sym, ap, ◌∙◌, rules}
+use Rattle.std.proofs.Common.{◌≡◌, ℕ, drop, refl, sym, ap, ◌∙◌, rules}
 use Rattle.std.specs.Prelude.{slice_range, string_bytes, None}
 use Rattle.std.specs.Str.{chars}
 use Rattle.std.proofs.lemmas.Str.{chars_from_encodes, IsUtf8-string_bytes}

@@ -3,7 +3,7 @@ use Rattle.rst_text.specs.Block.{Block}
 use Rattle.rst_text.specs.Shown.{block_of}
 use Rattle.rst_markup_blocks.specs.declared.part.Part.{Part}
 use Rattle.rst_block.specs.Constructs.{ItemMark, bullet_item}
-use Rattle.rst_block.specs.Meanings.{list_kind_in, joining_in}
+use Rattle.rst_block.specs.Meanings.{joining_in}
 use Rattle.rst_block.specs.declared.open_block.OpenBlock.{OpenBlock}
 use Rattle.rst_block.specs.declared.run.ListKind.TheVariants.{Bullet}
 use Rattle.rst_block.proofs.ListItems.{kept_begun}

@@ -1,12 +1,11 @@
-use Rattle.std.proofs.Common.{◌≡◌, ℕ, Some, None, Option, drop, refl, sym, ap, ◌∙◌, rules}
+use Rattle.std.proofs.Common.{◌≡◌, ℕ, None, drop, refl, sym, ap, ◌∙◌, rules}
 use Rattle.std.specs.Prelude.{option_map}
 use Rattle.rst_text.specs.Block.{Block}
 use Rattle.rst_text.specs.Shown.{block_of}
 use Rattle.rst_markup_blocks.specs.declared.part.Part.{Part}
-use Rattle.rst_block.specs.Constructs.{ItemMark, enumerated_item}
-use Rattle.rst_block.specs.Meanings.{list_kind_in, joining_in}
+use Rattle.rst_block.specs.Constructs.{enumerated_item}
+use Rattle.rst_block.specs.Meanings.{joining_in}
 use Rattle.rst_block.specs.declared.open_block.OpenBlock.{OpenBlock}
-use Rattle.rst_block.specs.declared.run.ListKind.{ListKind}
 use Rattle.rst_block.proofs.ListItems.{kept_begun}
 use Rattle.rst_block.proofs.ListedItems.{item_there, enumerated_reads, enumerated_made, listed_joins, listed_begins, listed_refused, enumerated_joins, enumerated_run}
 use Rattle.rst_block.proofs.list.enumerated_item.Goals as goal
@@ -56,7 +55,7 @@ returns-clause-read c =
     let none : c.going_on.result ≡ None = search rules in
     let begins = sym (ap (option_map (λ kind. joining_in kind)) none) ∙ c.going_on.ensures in
     let same = listed_begins old begun c.opened-2.new.level B (enumerated_item c.args.enumerator) c.opened-2.result c.number_at-line.result part n k c.opened-2.ensures.waits
-        (enumerated_reads old B c.args.enumerator part.to n c.requires.begun ends) (enumerated_joins old c.args.enumerator part.to _ begins)
-        closed c.requires.placed c.opened-2.ensures.moved (c.opened-2.ensures.there (rw (c.begin_enumerated_list.ensures.at, c.close.ensures.at) (item_there old.at part.to c.args.enumerator.marker (drop old.at B) ends)))
-        (enumerated_made old B c.args.enumerator c.number_at-line.result part k c.number_at-line.ensures c.item_part-body.ensures.part) in
+    (enumerated_reads old B c.args.enumerator part.to n c.requires.begun ends) (enumerated_joins old c.args.enumerator part.to _ begins)
+    closed c.requires.placed c.opened-2.ensures.moved (c.opened-2.ensures.there (rw (c.begin_enumerated_list.ensures.at, c.close.ensures.at) (item_there old.at part.to c.args.enumerator.marker (drop old.at B) ends)))
+    (enumerated_made old B c.args.enumerator c.number_at-line.result part k c.number_at-line.ensures c.item_part-body.ensures.part) in
     rw c.begin_enumerated_list.ensures.numbers same
