@@ -1,5 +1,5 @@
 //! Tables (Markup Specification, 'Tables').
-ghost use Rattle.std.specs.Prelude.{◌≡◌, ◌+◌, ◌^◌, ◌<◌, ◌≤◌, [], ◌∷◌, length, drop, nat_lt, if◌then◌else◌, IfOk};
+ghost use Rattle.std.specs.Prelude.{◌≡◌, ◌+◌, ◌^◌, ◌<◌, ◌≤◌, [], ◌∷◌, codes, length, drop, nat_lt, if◌then◌else◌, IfOk};
 ghost use Rattle.rst_text.specs.Block.{first_number};
 ghost use Rattle.rst_text.specs.Shown.{block_of};
 ghost use Rattle.rst_tree.specs.Faults.{Gives};
@@ -10,9 +10,10 @@ ghost use Rattle.rst_block_nodes.specs.Elements.{element_of, entry_node};
 ghost use Rattle.rst_block_sections.specs.Sections.{filled};
 ghost use Rattle.rst_block.specs.Steps as spec;
 ghost use Rattle.rst_block.specs.Tables.{table_node};
-ghost use Rattle.rst_block.specs.Texts.{shown, source_of};
+ghost use Rattle.rst_block.specs.Texts.{shown, source_of, warned};
 ghost use Rattle.rst_block.specs.Meanings.{Keeps, comes, reads};
 ghost use Rattle.rst_block.specs.NextLine.{IsTableAt};
+ghost use Rattle.rst_block.specs.OpenBlocks as blocks;
 ghost use Rattle.rst_block.specs.OpenBlocks.{IsKept, IsPlaced};
 
 use super::fault::BlockFault;
@@ -92,6 +93,8 @@ pub(crate) fn after_table(
     requires short { length (block_of view.now) < 2 ^ 64 }
     requires few { pass.old.looks < 2 ^ 120 }
     ensures at { level.new.at ≡ level.old.at }
+    ensures more { blocks.Gives (λ _. blocks.HasMore level.old level.new (warned (codes "Blank line required after table.") (drop level.old.at (block_of view.now)))) result }
+    ensures numbers { pass.new.numbers ≡ pass.old.numbers }
     ensures looks { pass.new.looks ≤ pass.old.looks + 1 }
 {
     let end = level.at;
