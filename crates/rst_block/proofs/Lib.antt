@@ -1,3 +1,4 @@
+pub mod AdornedSteps
 pub mod AttributionsFound
 pub mod BegunLemmas
 pub mod Blocks
@@ -9,9 +10,11 @@ pub mod ListedItems
 pub mod GoingOn
 pub mod LiteralLemmas
 pub mod Doctests
+pub mod LineSteps
 pub mod Looked
 pub mod Made
 pub mod MeaningLemmas
+pub mod NextConstructs
 pub mod NextLines
 pub mod NumberedLemmas
 pub mod OpenRuns
@@ -25,6 +28,7 @@ pub mod Resuming
 pub mod Spelling
 pub mod Splitting
 pub mod Stack
+pub mod TableSteps
 pub mod TextsRead
 pub mod Walks
 pub mod Work

@@ -1,13 +1,22 @@
 //! Lines of one punctuation character: transitions, titles with an overline, and what is neither (Markup
 //! Specification, 'Sections', 'Transitions').
-ghost use Rattle.std.specs.Prelude.{◌≡◌, ◌+◌, ◌-◌, ◌*◌, ◌^◌, ◌<◌, ◌≤◌, length, drop, IfOk, IfSome};
+ghost use Rattle.std.specs.Prelude.{◌≡◌, ◌+◌, ◌-◌, ◌*◌, ◌^◌, ◌<◌, ◌≤◌, ◌==◌, ◌∷◌, [], codes, length, drop, Some, IfOk, IfSome};
+ghost use Rattle.rst_text.specs.Block.{first_number};
 ghost use Rattle.rst_text.specs.Shown.{block_of};
+ghost use Rattle.rst_tree.specs.Faults.{Gives};
+ghost use Rattle.rst_tree.specs.declared.note.Level.TheVariants.{Info};
 ghost use Rattle.rst_markup_blocks.specs.Parts.{IsBlock, IsCall};
+ghost use Rattle.rst_markup_blocks.specs.Sizes.{fixed_size};
 ghost use Rattle.rst_block.specs.Steps as spec;
 ghost use Rattle.rst_markup_blocks.specs.Begun.{IsBegun};
-ghost use Rattle.rst_markup_blocks.specs.declared.begun.Begun.TheVariants.{Adornment};
+ghost use Rattle.rst_markup_blocks.specs.declared.begun.Begun.TheVariants as marks;
+ghost use Rattle.rst_block.specs.Constructs.{transition, overlined_title, misplaced_lines};
+ghost use Rattle.rst_block.specs.Adornments.{IsWrong, IsMessageOn};
 ghost use Rattle.rst_block.specs.Meanings.{Keeps, comes, reads};
+ghost use Rattle.rst_block.specs.NextLine.{IsText, IsNextConstruct};
 ghost use Rattle.rst_block.specs.OpenBlocks.{IsKept, IsPlaced};
+ghost use Rattle.rst_block.specs.Texts.{said};
+ghost use Rattle.rst_block.specs.Titles.{short_warning};
 
 use super::fault::BlockFault;
 use super::heading::heading_of;
@@ -20,7 +29,7 @@ use rst_block_sections::Style;
 use rst_markup_blocks::{Adorned, adorned_at, below_text, text_at};
 use rst_markup_lines::Adornment;
 use rst_text::{View, indentation, skip};
-use rst_tree::{Level, Node, Tag};
+use rst_tree::{Level, Node, Tag, TreeFault};
 use std::alloc::Global;
 
 /// A line of one punctuation character.
@@ -34,7 +43,7 @@ pub(crate) fn adornment(
     requires inside { level.old.at < length (block_of view.now) }
     requires short { length (block_of view.now) < 2 ^ 64 }
     requires few { pass.old.looks < 2 ^ 119 + 2 ^ 111 }
-    requires begun { IsBegun (drop level.old.at (block_of view.now)) (Adornment mark) }
+    requires begun { IsBegun (drop level.old.at (block_of view.now)) (marks.Adornment mark) }
     requires placed { IsPlaced level.old }
     ensures step { IfOk result (λ s. spec.IsStep (block_of view.now) level.old.at level.new.at s) }
     ensures kept { IfOk result (λ _. IsKept level.old level.new) }
@@ -77,7 +86,11 @@ struct WrongForm {
 }
 
 /// What is said of a form that is wrong.
-fn wrong_form(form: Adorned) -> WrongForm {
+fn wrong_form(form: Adorned) -> WrongForm
+    requires { IsWrong form }
+    ensures message { IsMessageOn form result.gravity result.text.now }
+    ensures lines { fixed_size form ≡ Some result.lines }
+{
     let (gravity, text, lines) = match form {
         Adorned::InvalidMarker => (
             Level::Error,
@@ -110,7 +123,11 @@ fn transition(
     requires inside { level.old.at < length (block_of view.now) }
     requires short { length (block_of view.now) < 2 ^ 64 }
     requires few { pass.old.looks < 2 ^ 119 + 2 ^ 112 }
+    requires placed { IsPlaced level.old }
+    requires found { IsNextConstruct level.old (block_of view.now) transition 1 }
     ensures later { IfOk result (λ _. level.old.at < level.new.at) }
+    ensures kept { IfOk result (λ _. IsKept level.old level.new) }
+    ensures read { Keeps result (λ _. reads level.new (block_of view.now) pass.new.numbers) (reads level.old (block_of view.now) pass.old.numbers) }
     ensures looks { IfOk result (λ _. pass.new.looks ≤ pass.old.looks + 2 ^ 78) }
 {
     level.close(alloc, view, pass)?;
@@ -131,7 +148,11 @@ fn short(
     requires inside { level.old.at < length (block_of view.now) }
     requires short { length (block_of view.now) < 2 ^ 64 }
     requires few { pass.old.looks < 2 ^ 119 + 2 ^ 112 }
+    requires placed { IsPlaced level.old }
+    requires text { IsText level.old (block_of view.now) (said Info (first_number (drop level.old.at (block_of view.now))) text.now ∷ []) }
     ensures step { IfOk result (λ s. spec.IsStep (block_of view.now) level.old.at level.new.at s) }
+    ensures kept { IfOk result (λ _. IsKept level.old level.new) }
+    ensures read { Keeps result (λ s. comes level.new (block_of view.now) s pass.new.numbers) (reads level.old (block_of view.now) pass.old.numbers) }
     ensures looks { IfOk result (λ _. pass.new.looks ≤ pass.old.looks + 2 ^ 78) }
 {
     let info = message(alloc, Level::Info, number_at(view, level.at), text, None)?;
@@ -149,7 +170,11 @@ fn wrong(
     requires inside { level.old.at < length (block_of view.now) }
     requires short { length (block_of view.now) < 2 ^ 64 }
     requires few { pass.old.looks < 2 ^ 119 + 2 ^ 112 }
+    requires placed { IsPlaced level.old }
+    requires found { IsNextConstruct level.old (block_of view.now) (misplaced_lines form.gravity form.text.now) form.lines }
     ensures later { IfOk result (λ _. level.old.at < level.new.at) }
+    ensures kept { IfOk result (λ _. IsKept level.old level.new) }
+    ensures read { Keeps result (λ _. reads level.new (block_of view.now) pass.new.numbers) (reads level.old (block_of view.now) pass.old.numbers) }
     ensures looks { IfOk result (λ _. pass.new.looks ≤ pass.old.looks + 2 ^ 78) }
 {
     level.close(alloc, view, pass)?;
@@ -174,25 +199,18 @@ fn overlined(
     requires inside { level.old.at < length (block_of view.now) }
     requires short { length (block_of view.now) < 2 ^ 64 }
     requires few { pass.old.looks < 2 ^ 119 + 2 ^ 112 }
+    requires placed { IsPlaced level.old }
+    requires found { IsNextConstruct level.old (block_of view.now) (overlined_title mark short) 3 }
     ensures later { IfOk result (λ _. level.old.at < level.new.at) }
+    ensures kept { IfOk result (λ _. IsKept level.old level.new) }
+    ensures read { Keeps result (λ _. reads level.new (block_of view.now) pass.new.numbers) (reads level.old (block_of view.now) pass.old.numbers) }
     ensures looks { IfOk result (λ _. pass.new.looks ≤ pass.old.looks + 2 ^ 78) }
 {
     level.close(alloc, view, pass)?;
     let at = level.at;
     let end = at.saturating_add(3);
     let lines = source(alloc, view, at, end, &mut pass.looks)?;
-    let warning = if short {
-        let text = "Title overline too short.";
-        Some(message(
-            alloc,
-            Level::Warning,
-            number_at(view, at),
-            text,
-            Some(lines.as_str()),
-        )?)
-    } else {
-        None
-    };
+    let warning = overline_warning(alloc, short, number_at(view, at), lines.as_str())?;
     let line = number_at(view, at.saturating_add(1));
     let text = text_at(view, at.saturating_add(1), &mut pass.looks);
     let style = Style {
@@ -203,4 +221,20 @@ fn overlined(
     let heading = heading_of(alloc, style, text, line, warning, lines, pass)?;
     level.go_to(end);
     level.push_heading(heading)
+}
+
+/// The message on an overline that is shorter than its title.
+fn overline_warning(
+    alloc: Global,
+    short: bool,
+    line: usize,
+    lines: &str,
+) -> Result<Option<Node>, TreeFault>
+    ensures { Gives (λ warning. warning ≡ short_warning short line (codes "Title overline too short.") lines.now) result }
+{
+    if !short {
+        return Ok(None);
+    }
+    let text = "Title overline too short.";
+    Ok(Some(message(alloc, Level::Warning, line, text, Some(lines))?))
 }

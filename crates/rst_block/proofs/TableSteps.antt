@@ -1,0 +1,140 @@
+-- A table at the next line of a block: its cells are read next, or it is malformed and its message takes its place.
+use Rattle.std.proofs.Common.{◌≡◌, ℕ, suc, ◌+◌, ◌-◌, ◌<◌, ◌≤◌, List, [], ◌∷◌, ◌++◌, length, take, drop, map, Option, Some, None, Ok, Err, arith, refl, sym, ◌∙◌, ap, inl, inr}
+use Rattle.std.proofs.lemmas.List.{map-append}
+use Rattle.rst_text.specs.Block.{Block, first_number}
+use Rattle.rst_tree.specs.declared.node.Node.{Node}
+use Rattle.rst_tree.specs.declared.note.Level.TheVariants.{Error}
+use Rattle.rst_markup_blocks.specs.declared.begun.Begun.TheVariants as begun
+use Rattle.rst_markup_blocks.specs.declared.lines.LineTest.TheVariants.{Drawn}
+use Rattle.rst_markup_blocks.specs.RowLaws.{while_le}
+use Rattle.rst_markup_blocks.specs.TableLaws.{grid_size_le, simple_size_le}
+use Rattle.rst_markup_blocks.specs.TableRows.{grid_bottom, grid_size, simple_size, head_border}
+use Rattle.rst_markup_tables.specs.Ends.{end_of}
+use Rattle.rst_markup_tables.specs.GridTable.{grid_fault, head_of, with_dashes, tiled}
+use Rattle.rst_markup_tables.specs.Messages.{malformed_text}
+use Rattle.rst_markup_tables.specs.Places.{Grid, rows_of}
+use Rattle.rst_markup_tables.specs.SimpleTable.{simple_fault, simple_table}
+use Rattle.rst_markup_tables.specs.Tiling.{grid_by, grid_table, tiling_of}
+use Rattle.rst_markup_tables.specs.declared.results.TableDetail.{TableDetail}
+use Rattle.rst_markup_tables.specs.declared.results.TableFault.{TableFault}
+use Rattle.rst_markup_tables.specs.declared.results.TableResult.{TableResult}
+use Rattle.rst_markup_tables.specs.declared.results.TableResult.TheVariants.{Malformed}
+use Rattle.rst_markup_tables.proofs.EndLemmas.{rows-size, simple_by_end}
+use Rattle.rst_markup_tables.proofs.RowLemmas.{dashes-length}
+use Rattle.rst_block.specs.Constructs.{Construct, grid, simple}
+use Rattle.rst_block.specs.Joins.{alone_ending}
+use Rattle.rst_block.specs.Meanings.{deepest, open_of, within_at, done_of, reads, reads_from, comes}
+use Rattle.rst_block.specs.NextLine.{IsNextConstruct, IsTableAt}
+use Rattle.rst_block.specs.Nodes.{piece_of, plainly, ending_notes}
+use Rattle.rst_block.specs.Numbered.{Numbered, then_read, ◌>>=◌, just, before}
+use Rattle.rst_block.specs.OpenBlocks.{IsMoved, HasMore, IsClosed, IsPlaced}
+use Rattle.rst_block.specs.Rest.{no_run, closed_run, rest}
+use Rattle.rst_block.specs.RestLaws.{IsAlone}
+use Rattle.rst_block.specs.Tables.{table_nodes}
+use Rattle.rst_block.specs.Texts.{shown, source_of}
+use Rattle.rst_block.specs.Titles.{Item, plain}
+use Rattle.rst_block.specs.Within.{Within}
+use Rattle.rst_block.specs.declared.open_block.OpenBlock.{OpenBlock}
+use Rattle.rst_block.specs.declared.step.Step.TheVariants.{Cells}
+use Rattle.rst_block.proofs.Changes.{placed_closed}
+use Rattle.rst_block.proofs.NextConstructs.{next_of, next_found, next_alone}
+use Rattle.rst_block.proofs.NextLines.{span_to, alone_rest, gone_reads}
+use Rattle.rst_block.proofs.NumberedLemmas.{same_after, after_after, before_before, before_then}
+
+-- ---- where tables end
+
+grid_by_end : (line i : ℕ) (T : Grid) (fault : Option TableDetail) → end_of (grid_by line i T fault) ≡ i + length T
+grid_by_end line i T (Some detail) = refl
+grid_by_end line i T None = by (tiling_of (with_dashes T (head_of T))) ∙ ap (λ n. i + n) (dashes-length T (head_of T))
+  where
+    by : (found : _) → end_of (tiled line i (head_of T) (with_dashes T (head_of T)) found) ≡ i + length (with_dashes T (head_of T))
+    by None = refl
+    by (Some rs) = refl
+
+-- a grid table ends where its row does
+pub grid_end : (B : Block) (i : ℕ) → end_of (grid_table B i) ≡ i + grid_size (drop i B)
+grid_end B i =
+    let X : Block = drop i B in
+    let T : Grid = rows_of (take (grid_size X) X) in
+    let inside : grid_size X ≤ length X = omega (arith, grid_size_le X, while_le Drawn X) in
+    grid_by_end (first_number X) i T (grid_fault (grid_bottom X) T) ∙ ap (λ n. i + n) (rows-size (grid_size X) X inside)
+
+-- and so does a simple table
+pub simple_end : (B : Block) (i : ℕ) → end_of (simple_table B i) ≡ i + simple_size (drop i B)
+simple_end B i =
+    let X : Block = drop i B in
+    let T : Grid = rows_of (take (simple_size X) X) in
+    simple_by_end (first_number X) i (head_border X) T (simple_fault X T) ∙ ap (λ n. i + n) (rows-size (simple_size X) X (simple_size_le X))
+
+-- ---- the construct
+
+-- the next construct of a block is this table
+pub record IsNextTable (l : OpenBlock) (B : Block) (t : TableResult) : Type 0 where
+  pub what : Construct
+  pub lines : ℕ
+  pub next : IsNextConstruct l B what lines
+  pub alone : IsAlone what
+  pub ending : alone_ending what ≡ alone_ending grid
+  pub piece : (c : Within) → piece_of c B (next_found l what lines) ≡ plainly (table_nodes c B (span_to l.at (l.at + lines)) t)
+  pub end : end_of t ≡ l.at + lines
+
+pub next_table : (l : OpenBlock) (B : Block) (t : TableResult) → IsTableAt B l.at t → IsNextTable l B t
+next_table l B t (inl (h, e)) = record {
+  what = grid;
+  lines = grid_size (drop l.at B);
+  next = next_of begun.Grid l B h tt;
+  alone = tt;
+  ending = refl;
+  piece = λ c. ap (λ u. plainly (table_nodes c B (span_to l.at (l.at + grid_size (drop l.at B))) u)) (sym e);
+  end = ap end_of e ∙ grid_end B l.at;
+}
+next_table l B t (inr (h, e)) = record {
+  what = simple;
+  lines = simple_size (drop l.at B);
+  next = next_of begun.Simple l B h tt;
+  alone = tt;
+  ending = refl;
+  piece = λ c. ap (λ u. plainly (table_nodes c B (span_to l.at (l.at + simple_size (drop l.at B))) u)) (sym e);
+  end = ap end_of e ∙ simple_end B l.at;
+}
+
+-- ---- what the block gives
+
+-- once the open run has ended, the cells of the table come next
+pub table_comes : (old mid : OpenBlock) (B : Block) (t : TableResult) (n m : ℕ) → IsNextTable old B t
+    → IsClosed (closed_run (suc deepest - old.depth) B (open_of old.run) n) old mid m no_run → IsPlaced old
+    → comes mid B (Cells t) m ≡ reads old B n
+table_comes old mid B t n m h cl w =
+    let stop : ℕ = old.at + h.lines in
+    let c : Within = within_at old.depth in
+    let N : List Node = ending_notes (alone_ending grid) (drop stop B) in
+    let R : Numbered (List Item) = rest c B stop no_run in
+    let T : Numbered (List Node) = table_nodes c B (span_to old.at stop) t in
+    let D : List Item = done_of mid in
+    let F : ℕ → ℕ → ℕ → _ = λ depth at end. then_read (λ ns. reads_from mid B (ns ++ ending_notes (alone_ending grid) (drop end B)) end) (table_nodes (within_at depth) B (span_to at end) t m) in
+    ap (λ depth. F depth mid.at (end_of t)) cl.depth
+    ∙ ap (λ at. F old.depth at (end_of t)) cl.at
+    ∙ ap (λ end. F old.depth old.at end) h.end
+    ∙ same_after (T m) (λ ns. reads_from mid B (ns ++ N) stop) (λ ns. just (map plain ns) >>= λ items. before D (before (items ++ map plain N) R))
+    (λ ns k.
+    ap (λ depth. before (D ++ map plain (ns ++ N)) (rest (within_at depth) B stop (open_of mid.run)) k) cl.depth
+    ∙ ap (λ o. before (D ++ map plain (ns ++ N)) (rest c B stop o) k) cl.run
+    ∙ ap (λ items. before (D ++ items) R k) (map-append plain ns N)
+    ∙ sym (before_before D (map plain ns ++ map plain N) R k))
+    ∙ sym (after_after (T m) (λ ns. just (map plain ns)) (λ items. before D (before (items ++ map plain N) R)))
+    ∙ ap (λ (p : Numbered (List Item)). (p >>= λ items. before D (before (items ++ map plain N) R)) m) (sym (h.piece c))
+    ∙ sym (before_then D (piece_of c B (next_found old h.what h.lines)) (λ items. before (items ++ map plain N) R) m)
+    ∙ ap (λ o. before D (piece_of c B (next_found old h.what h.lines) >>= λ items. before (items ++ map plain (ending_notes o (drop stop B))) R) m) (sym h.ending)
+    ∙ sym (next_alone old mid B h.what h.lines n m h.next h.alone cl w)
+
+-- a malformed one is its message, with the WARNING where no blank line follows
+pub malformed_reads : (old mid moved new : OpenBlock) (B : Block) (end : ℕ) (fault : TableFault) (n m : ℕ) → IsNextTable old B (Malformed end fault)
+    → IsClosed (closed_run (suc deepest - old.depth) B (open_of old.run) n) old mid m no_run → IsPlaced old
+    → IsMoved mid moved → moved.at ≡ end
+    → HasMore moved new (shown Error (first_number (drop mid.at B)) (malformed_text fault.detail) (source_of B (span_to mid.at end)) ∷ ending_notes (alone_ending grid) (drop end B))
+    → reads new B m ≡ reads old B n
+malformed_reads old mid moved new B end fault n m h cl w g at more =
+    let ns : List Node = shown Error (first_number (drop mid.at B)) (malformed_text fault.detail) (source_of B (span_to mid.at end)) ∷ ending_notes (alone_ending grid) (drop end B) in
+    gone_reads mid moved new B ns end m g at more (placed_closed (closed_run (suc deepest - old.depth) B (open_of old.run) n) old mid m no_run cl w)
+    ∙ before_before (done_of mid) (map plain ns) (rest (within_at mid.depth) B end (open_of mid.run)) m
+    ∙ table_comes old mid B (Malformed end fault) n m h cl w
