@@ -28,6 +28,11 @@ use Rattle.rst_block.proofs.NextLines.{span_to}
 abbrev pub form_at : OpenBlock → Block → Adornment → Adorned
 form_at l B mark = adorned_form (l.depth == 0) mark (next_text (drop l.at B)) (third_text (drop l.at B))
 
+-- it is the form that is found
+pub form_is : (l : OpenBlock) (B : Block) (mark : Adornment) (form found : Adorned) (titles : Bool) → found ≡ form
+    → found ≡ adorned_form titles mark (next_text (drop l.at B)) (third_text (drop l.at B)) → titles ≡ (l.depth == 0) → form ≡ form_at l B mark
+form_is l B mark form found titles e f t = sym e ∙ f ∙ ap (λ b. adorned_form b mark (next_text (drop l.at B)) (third_text (drop l.at B))) t
+
 size_by : (l : OpenBlock) (B : Block) (mark : Adornment) → IsBegun (drop l.at B) (begun.Adornment mark) → adornment_size (l.depth == 0) (drop l.at B) ≡ adorned_size (form_at l B mark) (drop l.at B)
 unfolding adornment_size
 size_by l B mark h =
