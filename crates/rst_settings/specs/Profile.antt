@@ -11,6 +11,6 @@ pub record Profile : Type 0 where
   pub code : Bool
   pub docinfo : Bool
 
--- the profile that the program is meant to run under; no contract says so yet
+-- the profile that the program runs under
 abbrev pub profile_of : Settings → Profile
 profile_of settings = record { nesting = 250; line_limit = settings.limit; code = true; docinfo = settings.info }
