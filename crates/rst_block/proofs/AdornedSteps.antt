@@ -1,9 +1,9 @@
 -- A line of one punctuation character at the next line of a block: its form says the construct.
-use Rattle.std.proofs.Common.{◌≡◌, ℕ, ◌+◌, ◌<◌, ◌≤◌, Bool, true, List, [], ◌∷◌, Result, codes, drop, Option, Some, None, unwrap_or, refl, sym, ◌∙◌, ap}
+use Rattle.std.proofs.Common.{◌≡◌, ℕ, ◌+◌, Bool, true, List, Result, codes, drop, Option, Some, unwrap_or, sym, ◌∙◌, ap}
 use Rattle.std.specs.Prelude.{◌==◌}
 use Rattle.std.specs.Option.{option_map_or}
 use Rattle.std.proofs.lemmas.List.{drop-drop}
-use Rattle.rst_text.specs.Block.{Block, front_text, first_number}
+use Rattle.rst_text.specs.Block.{Block, first_number}
 use Rattle.rst_tree.specs.declared.node.Node.{Node}
 use Rattle.rst_tree.specs.declared.note.Level.{Level}
 use Rattle.rst_markup_lines.specs.Front.{unindented}
@@ -16,7 +16,7 @@ use Rattle.rst_markup_blocks.specs.declared.begun.Begun.TheVariants as begun
 use Rattle.rst_markup_blocks.specs.declared.form.Adorned.{Adorned}
 use Rattle.rst_block_sections.specs.declared.heading.Style.{Style}
 use Rattle.rst_block.specs.Adornments.{IsMessageOn}
-use Rattle.rst_block.specs.Constructs.{Construct, adorned_by, text_after, misplaced_lines}
+use Rattle.rst_block.specs.Constructs.{adorned_by, text_after, misplaced_lines}
 use Rattle.rst_block.specs.NextLine.{IsText, IsNextConstruct}
 use Rattle.rst_block.specs.Texts.{source_of}
 use Rattle.rst_block.specs.Titles.{Item, short_warning, title_item, overlined_nodes}

@@ -1,10 +1,10 @@
 -- A line of a line block at the next line of a block: it joins the open line block, or begins one.
-use Rattle.std.proofs.Common.{◌≡◌, ℕ, suc, ◌+◌, ◌-◌, ◌<◌, ◌≤◌, Bool, true, false, List, [], ◌∷◌, ◌++◌, length, length-drop, take, drop, map, Option, Some, None, unwrap_or, Result, Ok, Err, arith, refl, sym, ◌∙◌, ap, subst, append_assoc, string_bytes, encode_utf8_all, IsUtf8, chars}
-use Rattle.std.specs.Prelude.{◌==◌, if◌then◌else◌, slice_range}
+use Rattle.std.proofs.Common.{◌≡◌, ℕ, suc, ◌+◌, ◌-◌, ◌<◌, ◌≤◌, Bool, true, false, List, [], ◌∷◌, ◌++◌, length, length-drop, take, drop, Some, None, unwrap_or, Result, Err, arith, refl, sym, ◌∙◌, ap, subst, append_assoc, string_bytes, encode_utf8_all, IsUtf8, chars}
+use Rattle.std.specs.Prelude.{if◌then◌else◌}
 use Rattle.std.specs.Prelude.{box_value}
 use Rattle.std.specs.declared.string.String.{String}
 use Rattle.std.proofs.lemmas.Str.{chars-append, chars_from_encodes, encode_ascii}
-use Rattle.rst_text.specs.Block.{Line, Block, front_text, first_number, cut, shorten_all}
+use Rattle.rst_text.specs.Block.{Block, front_text, first_number, cut, shorten_all}
 use Rattle.rst_text.specs.Text.{chars_of}
 use Rattle.rst_markup_lines.specs.declared.marker.Marker.{Marker}
 use Rattle.rst_markup_blocks.specs.Partition.{Span}
@@ -23,7 +23,6 @@ use Rattle.rst_block.specs.Rest.{OpenRun, no_run, open_list, open_lines, open_ma
 use Rattle.rst_block.specs.RestLaws.{found_as}
 use Rattle.rst_block.specs.Texts.{joined}
 use Rattle.rst_block.specs.Titles.{Item}
-use Rattle.rst_block.specs.Within.{Within}
 use Rattle.rst_block.specs.declared.open_block.OpenBlock.{OpenBlock}
 use Rattle.rst_block.specs.declared.run.ListKind.{ListKind}
 use Rattle.rst_block.specs.declared.run.ListKind.TheVariants.{Bullet, Enumerated, Definition, Field, OptionItem}
@@ -172,6 +171,7 @@ joins_by no_run old new B m bar lines n e h next line g at = cc
 joins_by (open_list l) old new B m bar lines n e h next line g at = cc
 joins_by (open_markup end) old new B m bar lines n e h next line g at = cc
 
+-- the same, whatever run is open
 pub line_joined : (old new : OpenBlock) (B : Block) (m : Marker) (bar : BarText) (lines n : ℕ) → lines_end_at old.at (open_of old.run) ≡ true
     → IsNextConstruct old B (bar_line m) lines
     → ((last : ℕ) → indented_by (unwrap_or bar.indent last) bar ≡ indented_line (indentation_of last m) B m (span_to old.at (old.at + lines)))
@@ -216,12 +216,14 @@ line_refused l B m lines n line h next cl = begin_reads l B m lines n h next ∙
 
 -- ---- what a step keeps
 
+-- a line that was put leaves the depth as it is, and titles among the nodes
 pub kept_line : (old new : OpenBlock) (o : OpenRun) → HasLine old new o → IsPlaced old → IsKept old new
 kept_line old new o g w = record {
   depth = g.depth;
   placed = subst (λ hs. AreWithin (length new.nodes.items) hs) (sym g.headings) (subst (λ ns. AreWithin (length ns) old.headings.items) (sym g.nodes) w);
 }
 
+-- and so does one that begins a line block
 pub kept_begun : (read : Result (List Item × ℕ) ℕ) (old mid opened new : OpenBlock) (next : ℕ) (o p : OpenRun) → IsClosed read old mid next o
     → opened.depth ≡ mid.depth → opened.nodes.items ≡ mid.nodes.items → opened.headings.items ≡ mid.headings.items → HasLine opened new p → IsPlaced old → IsKept old new
 kept_begun read old mid opened new next o p cl depth nodes headings g w = record {

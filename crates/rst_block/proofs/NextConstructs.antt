@@ -1,12 +1,12 @@
 -- The next construct of a block, where nothing joins it: once it is read, what the block gives is the same.
-use Rattle.std.proofs.Common.{◌≡◌, ℕ, suc, ◌+◌, ◌-◌, ◌^◌, ◌<◌, ◌≤◌, min, List, [], ◌∷◌, ◌++◌, length, drop, map, None, Result, Ok, Err, arith, refl, sym, ◌∙◌, ap, append_assoc}
+use Rattle.std.proofs.Common.{◌≡◌, ℕ, suc, ◌+◌, ◌-◌, ◌^◌, ◌<◌, ◌≤◌, min, List, [], ◌∷◌, ◌++◌, length, drop, map, None, Result, Ok, Err, arith, sym, ◌∙◌, ap, append_assoc}
 use Rattle.std.specs.Prelude.{◌==◌}
 use Rattle.rst_text.specs.Block.{Block, first_number}
 use Rattle.rst_tree.specs.declared.node.Node.{Node}
 use Rattle.rst_tree.specs.declared.note.Level.{Level}
 use Rattle.rst_markup_blocks.specs.Begun.{IsBegun, kind_in}
 use Rattle.rst_markup_blocks.specs.Ends.{row_size}
-use Rattle.rst_markup_blocks.specs.Partition.{Span, construct_size}
+use Rattle.rst_markup_blocks.specs.Partition.{construct_size}
 use Rattle.rst_markup_blocks.specs.declared.begun.Begun.{Begun}
 use Rattle.rst_markup_blocks.proofs.PartitionLemmas.{end_inside}
 use Rattle.rst_block_sections.specs.Sections.{title_of}

@@ -1,5 +1,5 @@
 -- A table at the next line of a block: its cells are read next, or it is malformed and its message takes its place.
-use Rattle.std.proofs.Common.{◌≡◌, ℕ, suc, ◌+◌, ◌-◌, ◌<◌, ◌≤◌, List, [], ◌∷◌, ◌++◌, length, take, drop, map, Option, Some, None, Ok, Err, arith, refl, sym, ◌∙◌, ap, inl, inr}
+use Rattle.std.proofs.Common.{◌≡◌, ℕ, suc, ◌+◌, ◌-◌, ◌≤◌, List, ◌∷◌, ◌++◌, length, take, drop, map, Option, Some, None, arith, refl, sym, ◌∙◌, ap, inl, inr}
 use Rattle.std.proofs.lemmas.List.{map-append}
 use Rattle.rst_text.specs.Block.{Block, first_number}
 use Rattle.rst_tree.specs.declared.node.Node.{Node}
@@ -38,7 +38,7 @@ use Rattle.rst_block.specs.declared.open_block.OpenBlock.{OpenBlock}
 use Rattle.rst_block.specs.declared.step.Step.TheVariants.{Cells}
 use Rattle.rst_block.proofs.Changes.{placed_closed}
 use Rattle.rst_block.proofs.NextConstructs.{next_of, next_found, next_alone}
-use Rattle.rst_block.proofs.NextLines.{span_to, alone_rest, gone_reads}
+use Rattle.rst_block.proofs.NextLines.{span_to, gone_reads}
 use Rattle.rst_block.proofs.NumberedLemmas.{same_after, after_after, before_before, before_then}
 
 -- ---- where tables end
@@ -78,6 +78,7 @@ pub record IsNextTable (l : OpenBlock) (B : Block) (t : TableResult) : Type 0 wh
   pub piece : (c : Within) → piece_of c B (next_found l what lines) ≡ plainly (table_nodes c B (span_to l.at (l.at + lines)) t)
   pub end : end_of t ≡ l.at + lines
 
+-- it is, where a table is found
 pub next_table : (l : OpenBlock) (B : Block) (t : TableResult) → IsTableAt B l.at t → IsNextTable l B t
 next_table l B t (inl (h, e)) = record {
   what = grid;

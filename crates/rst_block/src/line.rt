@@ -4,7 +4,6 @@ ghost use Rattle.std.specs.Str.{chars};
 ghost use Rattle.rst_text.specs.Shown.{block_of};
 ghost use Rattle.rst_text.specs.Text.{chars_of};
 ghost use Rattle.rst_markup_blocks.specs.Parts.{IsBlock, IsCall};
-ghost use Rattle.rst_markup_blocks.specs.Sizes.{indented_size};
 ghost use Rattle.rst_block_nodes.specs.LineBlocks.{indented_by};
 ghost use Rattle.rst_block.specs.Steps as spec;
 ghost use Rattle.rst_markup_blocks.specs.Begun.{IsBegun};

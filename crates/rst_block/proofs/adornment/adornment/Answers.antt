@@ -1,14 +1,10 @@
-use Rattle.std.proofs.Common.{◌≡◌, ℕ, Bool, List, [], ◌∷◌, drop, refl, sym, subst, ◌∙◌, ap}
-use Rattle.std.specs.Prelude.{◌==◌}
+use Rattle.std.proofs.Common.{[], ◌∷◌, drop, refl, sym, subst}
 use Rattle.rst_text.specs.Block.{Block}
 use Rattle.rst_text.specs.Shown.{block_of}
-use Rattle.rst_markup_blocks.specs.Conditions.{next_text}
-use Rattle.rst_markup_blocks.specs.Forms.{adorned_form}
-use Rattle.rst_markup_blocks.specs.Sizes.{third_text}
 use Rattle.rst_markup_blocks.specs.declared.form.Adorned.TheVariants.{Text, ShortOverline, ShortAdornment, Transition, Title}
 use Rattle.rst_block.specs.Constructs.{short_overline, short_adornment}
 use Rattle.rst_block.specs.NextLine.{IsText}
-use Rattle.rst_block.proofs.AdornedSteps.{form_at, form_is, adorned_next, text_next, wrong_next}
+use Rattle.rst_block.proofs.AdornedSteps.{form_is, adorned_next, text_next, wrong_next}
 use Rattle.rst_block.proofs.adornment.adornment.Goals as goal
 
 pub text_line-requires-clause-text : goal.text_line-requires-clause-text

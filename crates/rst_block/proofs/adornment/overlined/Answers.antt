@@ -1,9 +1,9 @@
-use Rattle.std.proofs.Common.{◌≡◌, ℕ, suc, ◌+◌, ◌-◌, ◌^◌, ◌<◌, ◌≤◌, ◌∷◌, [], ◌++◌, length, drop, Ok, Err, arith, rules, refl, sym, ◌∙◌, ap}
+use Rattle.std.proofs.Common.{◌≡◌, ◌+◌, ◌-◌, ◌≤◌, length, drop, arith, rules, refl, ◌∙◌, ap}
 use Rattle.rst_text.specs.Block.{Block, first_number}
 use Rattle.rst_text.specs.Shown.{block_of}
 use Rattle.std.specs.Prelude.{string_bytes}
 use Rattle.std.specs.Str.{chars}
-use Rattle.rst_text.specs.Block.{front_text, indentation}
+use Rattle.rst_text.specs.Block.{front_text}
 use Rattle.rst_markup_lines.specs.Front.{unindented}
 use Rattle.rst_markup_blocks.specs.Conditions.{next_text}
 use Rattle.rst_block.specs.Constructs.{Construct, overlined_title}

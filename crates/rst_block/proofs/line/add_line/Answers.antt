@@ -1,6 +1,4 @@
-use Rattle.std.proofs.Common.{◌≡◌, ℕ, suc, ◌+◌, ◌-◌, ◌^◌, ◌<◌, ◌≤◌, ◌∷◌, [], ◌++◌, length, drop, unwrap_or, Ok, Err, arith, rules, refl, sym, subst, ◌∙◌, ap}
-use Rattle.rst_text.specs.Block.{Block, first_number}
-use Rattle.rst_text.specs.Shown.{block_of}
+use Rattle.std.proofs.Common.{◌≡◌, ◌+◌, ◌-◌, arith, sym, ◌∙◌, ap}
 use Rattle.rst_block.specs.LinesSoFar.{HasLine, line_added}
 use Rattle.rst_block.specs.Meanings.{open_of}
 use Rattle.rst_block.specs.declared.open_block.OpenBlock.{OpenBlock}

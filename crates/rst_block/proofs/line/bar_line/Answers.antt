@@ -1,12 +1,12 @@
-use Rattle.std.proofs.Common.{◌≡◌, ℕ, suc, ◌+◌, ◌-◌, ◌^◌, ◌<◌, ◌≤◌, ◌∷◌, [], ◌++◌, length, drop, unwrap_or, Ok, Err, arith, rules, refl, sym, subst, ◌∙◌, ap}
-use Rattle.rst_text.specs.Block.{Block, first_number}
+use Rattle.std.proofs.Common.{◌≡◌, ℕ, ◌+◌, ◌-◌, ◌<◌, drop, unwrap_or, arith, rules, refl, sym, subst, ◌∙◌, ap}
+use Rattle.rst_text.specs.Block.{Block}
 use Rattle.rst_text.specs.Shown.{block_of}
 use Rattle.rst_markup_blocks.specs.declared.begun.Begun.TheVariants.{Line}
 use Rattle.rst_markup_blocks.specs.Sizes.{indented_size}
 use Rattle.rst_block_nodes.specs.LineBlocks.{indented_by, indented}
 use Rattle.rst_block.specs.LineRuns.{indentation_of, indented_line}
 use Rattle.rst_block.specs.Constructs as constructs
-use Rattle.rst_block.specs.LinesSoFar.{HasLine, line_added, lines_end_at}
+use Rattle.rst_block.specs.LinesSoFar.{HasLine, line_added}
 use Rattle.rst_block.specs.Meanings.{open_of, reads}
 use Rattle.rst_block.specs.NextLine.{IsNextConstruct}
 use Rattle.rst_block.specs.Rest.{no_run, open_lines}

@@ -1,7 +1,7 @@
-use Rattle.std.proofs.Common.{◌≡◌, ℕ, suc, ◌+◌, ◌-◌, ◌^◌, ◌<◌, ◌≤◌, ◌∷◌, [], ◌++◌, length, drop, Ok, Err, arith, rules, refl, sym, ◌∙◌, ap}
-use Rattle.rst_text.specs.Block.{Block, first_number}
+use Rattle.std.proofs.Common.{◌≡◌, ◌-◌, drop, ◌∙◌, ap}
+use Rattle.rst_text.specs.Block.{Block}
 use Rattle.rst_text.specs.Shown.{block_of}
-use Rattle.std.specs.Prelude.{string_bytes, slice_range}
+use Rattle.std.specs.Prelude.{string_bytes}
 use Rattle.std.specs.Str.{chars}
 use Rattle.rst_block.specs.LineRuns.{below_bar}
 use Rattle.rst_block.specs.LinesSoFar.{text_over}

@@ -1,5 +1,5 @@
-use Rattle.std.proofs.Common.{◌≡◌, ℕ, suc, ◌+◌, ◌-◌, ◌^◌, ◌<◌, ◌≤◌, ◌∷◌, [], ◌++◌, length, drop, Ok, Err, arith, rules, refl, sym, ◌∙◌, ap}
-use Rattle.rst_text.specs.Block.{Block, first_number}
+use Rattle.std.proofs.Common.{◌+◌, ◌-◌, ◌∷◌, [], ◌++◌, arith, ◌∙◌, ap}
+use Rattle.rst_text.specs.Block.{Block}
 use Rattle.rst_text.specs.Shown.{block_of}
 use Rattle.std.specs.Prelude.{string_bytes}
 use Rattle.rst_block.proofs.LineSteps.{over_lines, over_none}
