@@ -81,3 +81,7 @@ pub gives_more : {A : Type 0} (old mid new : OpenBlock) (a b c : List Node) (i :
     → Gives (λ (_ : A). HasGone old new c i) r
 gives_more old mid new a b c i r h e g =
     gives_map (λ _. HasMore mid new b) (λ _. HasGone old new c i) r (λ _ m. gone_as old new (a ++ b) c i i e refl (gone_more old mid new a b i h m)) g
+
+-- the same nodes and the same place
+pub gives_as : {A : Type 0} (old new : OpenBlock) (a b : List Node) (i j : ℕ) (r : Result A BlockFault) → a ≡ b → i ≡ j → Gives (λ (_ : A). HasGone old new a i) r → Gives (λ (_ : A). HasGone old new b j) r
+gives_as old new a b i j r e f g = gives_map (λ _. HasGone old new a i) (λ _. HasGone old new b j) r (λ _ h. gone_as old new a b i j e f h) g

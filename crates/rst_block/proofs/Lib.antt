@@ -1,4 +1,5 @@
 pub mod AdornedSteps
+pub mod AnnouncedLemmas
 pub mod AttributionsFound
 pub mod BegunLemmas
 pub mod Blocks
@@ -19,6 +20,7 @@ pub mod NextLines
 pub mod NumberedLemmas
 pub mod OpenRuns
 pub mod PlainItems
+pub mod ParagraphLemmas
 pub mod QuoteCounts
 pub mod QuoteSteps
 pub mod Quotes
@@ -29,6 +31,7 @@ pub mod Spelling
 pub mod Splitting
 pub mod Stack
 pub mod TableSteps
+pub mod TextLines
 pub mod TextsRead
 pub mod Walks
 pub mod Work

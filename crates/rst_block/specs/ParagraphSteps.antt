@@ -1,13 +1,17 @@
--- What is read of a paragraph, step by step. No rule of markup: it is what the definition of a paragraph gives, by the text of its lines.
-use Rattle.std.specs.Prelude.{ℕ, ◌+◌, ◌-◌, List, ◌++◌, drop, codes, if◌then◌else◌}
+-- What is read of paragraphs and of titles over an underline, step by step. No rule of markup: it is what their definitions give, part by part.
+use Rattle.std.specs.Prelude.{ℕ, ◌+◌, ◌-◌, false, List, [], ◌∷◌, ◌++◌, drop, codes, if◌then◌else◌, Option, unwrap_or}
+use Rattle.std.specs.Option.{option_to_list}
 use Rattle.rst_text.specs.Block.{Block, first_number}
 use Rattle.rst_tree.specs.declared.node.Node.{Node}
-use Rattle.rst_tree.specs.declared.note.Level.TheVariants.{Error}
+use Rattle.rst_tree.specs.declared.note.Level.TheVariants.{Error, Severe}
 use Rattle.rst_markup_lines.specs.Closing.{ends_in_colons}
+use Rattle.rst_markup_lines.specs.Front.{first}
+use Rattle.rst_markup_blocks.specs.Conditions.{next_text}
 use Rattle.rst_markup_blocks.specs.Sizes.{literal_size}
+use Rattle.rst_block_sections.specs.declared.heading.Style.{Style}
 use Rattle.rst_block.specs.Literals.{announced, text_paragraph, after_paragraph}
 use Rattle.rst_block.specs.Numbered.{Numbered, ◌>>=◌, just}
-use Rattle.rst_block.specs.Texts.{unless_blank}
+use Rattle.rst_block.specs.Texts.{shown, unless_blank}
 
 -- a paragraph that shows a text, from line i of a block up to line j, and the ERROR at an indented line that follows directly
 abbrev pub shown_paragraph : List ℕ → ℕ → ℕ → Block → Numbered (List Node)
@@ -24,3 +28,13 @@ paragraph_between t i j B = do
 -- the place after a paragraph that ends at line j and has this text, and after the literal block that it announces
 abbrev pub paragraph_end : List ℕ → ℕ → Block → ℕ
 paragraph_end t j B = j + (if ends_in_colons t then literal_size (drop j B) else 0)
+
+-- ---- titles
+
+-- the style of a title over its underline, by the two lines with which X begins
+abbrev pub under_style : Block → Style
+under_style X = record { character = unwrap_or (first (next_text X)) 32; overlined = false }
+
+-- the messages on a title over its underline where none is recognized, after the WARNING on the underline; X begins with these lines
+abbrev pub unexpected_notes : Option Node → List ℕ → Block → List Node
+unexpected_notes warning lines X = option_to_list warning ++ shown Severe (first_number (drop 1 X)) (codes "Unexpected section title.") lines ∷ []

@@ -70,7 +70,7 @@ fn announcing(alloc: Global, text: &str) -> Result<String, AllocError>
 {
     let before = text.strip_suffix("::").unwrap_or(text);
     let bare = before.trim_end();
-    if bare.len() < before.len() || bare.is_empty() {
+    if bare.len() < before.len() || is_blank(bare) {
         return String::from_str(alloc, bare);
     }
     let mut text = String::from_str(alloc, before)?;

@@ -1,14 +1,17 @@
 //! Lines of text: titles, items of definition lists and paragraphs.
-ghost use Rattle.std.specs.Prelude.{◌≡◌, ◌+◌, ◌-◌, ◌*◌, ◌^◌, ◌<◌, ◌≤◌, ◌==◌, length, drop, IfOk, IfSome};
+ghost use Rattle.std.specs.Prelude.{◌≡◌, ◌+◌, ◌-◌, ◌*◌, ◌^◌, ◌<◌, ◌≤◌, ◌==◌, length, drop, codes, string_bytes, IfOk, IfSome};
 ghost use Rattle.rst_text.specs.Shown.{block_of};
 ghost use Rattle.rst_markup_blocks.specs.Parts.{IsBlock, IsCall};
 ghost use Rattle.rst_block.specs.Steps as spec;
 ghost use Rattle.rst_block.specs.Meanings.{Keeps, comes, reads};
 ghost use Rattle.rst_block.specs.NextLine.{IsText};
-ghost use Rattle.rst_block.specs.OpenBlocks.{IsKept, IsPlaced, Gives, GoesOnWith, HasMore};
+ghost use Rattle.rst_block.specs.OpenBlocks.{IsKept, IsPlaced, Gives, GoesOnWith, HasGone, HasMore};
 ghost use Rattle.rst_block.specs.Constructs as constructs;
 ghost use Rattle.rst_block.specs.Texts.{source_of};
 ghost use Rattle.rst_block.specs.Titles as titles;
+ghost use Rattle.rst_block.specs.ParagraphSteps.{under_style, unexpected_notes};
+ghost use Rattle.rst_text.specs.Block.{front_text, first_number};
+ghost use Rattle.std.specs.Option.{option_to_list};
 
 use super::definition::definition;
 use super::fault::BlockFault;
@@ -47,25 +50,27 @@ pub(crate) fn text_line(
     let text = view.line(at, &mut pass.looks);
     let next = below_text(view, at, 1, &mut pass.looks);
     match text_form(text, next) {
-        TextForm::Definition => return definition(alloc, view, level, infos, pass),
+        TextForm::Definition => definition(alloc, view, level, infos, pass),
         TextForm::Paragraph => {
             level.close(alloc, view, pass)?;
             level.append(infos)?;
             paragraph(alloc, view, level, pass)?;
+            Ok(Step::Next)
         }
         TextForm::ShortUnderline => {
             level.close(alloc, view, pass)?;
             level.append(infos)?;
             put_short_underline(alloc, view, level)?;
             paragraph(alloc, view, level, pass)?;
+            Ok(Step::Next)
         }
         TextForm::Title { short } => {
             level.close(alloc, view, pass)?;
             level.append(infos)?;
             underlined(alloc, view, level, short, pass)?;
+            Ok(Step::Next)
         }
     }
-    Ok(Step::Next)
 }
 
 /// Puts the message on a possible underline behind the last node, where titles may stand.
@@ -102,7 +107,7 @@ fn underlined(
     short: bool,
     pass: &mut Pass,
 ) -> Result<(), BlockFault>
-    requires inside { level.old.at < length (block_of view.now) }
+    requires inside { level.old.at + 1 < length (block_of view.now) }
     requires short { length (block_of view.now) < 2 ^ 64 }
     requires few { pass.old.looks < 2 ^ 119 + 2 ^ 114 }
     requires placed { IsPlaced level.old }
@@ -114,35 +119,87 @@ fn underlined(
     let end = at.saturating_add(2);
     let lines = source(alloc, view, at, end, &mut pass.looks)?;
     let under = number_at(view, at.saturating_add(1));
-    let warning = if short {
-        let text = "Title underline too short.";
-        Some(message(alloc, Level::Warning, under, text, Some(lines.as_str()))?)
-    } else {
-        None
-    };
+    let warning = underline_warning(alloc, under, short, lines.as_str())?;
     if level.titles() {
-        let style = Style {
-            character: front(text_at(view, at.saturating_add(1), &mut pass.looks)).unwrap_or(' '),
-            overlined: false,
-        };
-        let text = view.line(at, &mut pass.looks);
-        let heading = heading_of(
-            alloc,
-            style,
-            text,
-            number_at(view, at),
-            warning,
-            lines,
-            pass,
-        )?;
-        level.go_to(end);
-        return level.push_heading(heading);
+        return put_title(alloc, view, level, warning, lines, pass);
     }
-    if let Some(warning) = warning {
-        level.push(warning)?;
+    put_unexpected(alloc, view, level, warning, lines.as_str())
+}
+
+/// The message on an underline that is shorter than its title, if it is, by the number of its line.
+fn underline_warning(
+    alloc: Global,
+    under: usize,
+    short: bool,
+    lines: &str,
+) -> Result<Option<Node>, BlockFault>
+    ensures { Gives (λ warning. warning ≡ titles.short_warning short under (codes "Title underline too short.") lines.now) result }
+{
+    if !short {
+        return Ok(None);
     }
+    let text = "Title underline too short.";
+    Ok(Some(message(alloc, Level::Warning, under, text, Some(lines))?))
+}
+
+/// Puts a title over its underline behind the last node.
+fn put_title(
+    alloc: Global,
+    view: &View<'_>,
+    level: &mut OpenBlock,
+    warning: Option<Node>,
+    lines: String,
+    pass: &mut Pass,
+) -> Result<(), BlockFault>
+    requires inside { level.old.at + 1 < length (block_of view.now) }
+    requires short { length (block_of view.now) < 2 ^ 64 }
+    requires few { pass.old.looks < 2 ^ 120 }
+    requires placed { IsPlaced level.old }
+    ensures later { IfOk result (λ _. level.old.at < level.new.at) }
+    ensures read { Gives (λ _. GoesOnWith (titles.title_item (under_style (drop level.old.at (block_of view.now))) (front_text (drop level.old.at (block_of view.now))) (first_number (drop level.old.at (block_of view.now))) warning (string_bytes lines) pass.old.numbers) level.old level.new (level.old.at + 2) pass.new.numbers) result }
+    ensures looks { pass.new.looks ≤ pass.old.looks + 2 }
+{
+    let at = level.at;
+    let under = text_at(view, at.saturating_add(1), &mut pass.looks);
+    let style = Style {
+        character: front(under).unwrap_or(' '),
+        overlined: false,
+    };
+    let text = view.line(at, &mut pass.looks);
+    let line = number_at(view, at);
+    let heading = heading_of(alloc, style, text, line, warning, lines, pass)?;
+    level.go_to(at.saturating_add(2));
+    level.push_heading(heading)
+}
+
+/// Puts the messages on a title over its underline where none may stand.
+fn put_unexpected(
+    alloc: Global,
+    view: &View<'_>,
+    level: &mut OpenBlock,
+    warning: Option<Node>,
+    lines: &str,
+) -> Result<(), BlockFault>
+    requires inside { level.old.at + 1 < length (block_of view.now) }
+    requires short { length (block_of view.now) < 2 ^ 64 }
+    ensures later { IfOk result (λ _. level.old.at < level.new.at) }
+    ensures gone { Gives (λ _. HasGone level.old level.new (unexpected_notes warning lines.now (drop level.old.at (block_of view.now))) (level.old.at + 2)) result }
+{
+    let under = number_at(view, level.at.saturating_add(1));
+    push_if_any(level, warning)?;
     let text = "Unexpected section title.";
-    let severe = message(alloc, Level::Severe, under, text, Some(lines.as_str()))?;
-    level.go_to(end);
+    let severe = message(alloc, Level::Severe, under, text, Some(lines))?;
+    level.go_to(level.at.saturating_add(2));
     level.push(severe)
+}
+
+/// Puts a node behind the last, if there is one.
+fn push_if_any(level: &mut OpenBlock, node: Option<Node>) -> Result<(), BlockFault>
+    ensures at { level.new.at ≡ level.old.at }
+    ensures more { Gives (λ _. HasMore level.old level.new (option_to_list node)) result }
+{
+    match node {
+        Some(node) => level.push(node),
+        None => Ok(()),
+    }
 }
