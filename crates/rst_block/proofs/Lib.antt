@@ -12,8 +12,12 @@ pub mod GoingOn
 pub mod LiteralLemmas
 pub mod Doctests
 pub mod LineSteps
+pub mod DirectiveFlags
+pub mod DirectiveReads
+pub mod Doctests
 pub mod Looked
 pub mod Made
+pub mod MarkupReads
 pub mod MeaningLemmas
 pub mod NextConstructs
 pub mod NextLines

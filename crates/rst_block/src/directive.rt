@@ -1,24 +1,34 @@
 //! Directives as blocks (Markup Specification, 'Directives').
-ghost use Rattle.std.specs.Prelude.{◌≡◌, ℕ, ◌+◌, ◌-◌, ◌*◌, ◌^◌, ◌<◌, ◌≤◌, ◌∷◌, length, drop, Ok, IfOk, IfSome};
+ghost use Rattle.std.specs.Prelude.{◌≡◌, ℕ, ◌+◌, ◌-◌, ◌*◌, ◌^◌, ◌<◌, ◌≤◌, [], ◌∷◌, true, length, drop, option_map, string_bytes, Some, None, Ok, IfOk, IfSome};
+ghost use Rattle.std.specs.Str.{chars};
 ghost use Rattle.rst_text.specs.Block.{Block, first_number};
 ghost use Rattle.rst_text.specs.Shown.{block_of};
 ghost use Rattle.rst_tree.specs.Faults as faults;
 ghost use Rattle.rst_tree.specs.declared.note.Level.TheVariants.{Error};
 ghost use Rattle.rst_tree.specs.declared.tag.Tag.TheVariants.{Title as TitleTag};
+ghost use Rattle.rst_markup_directives.specs.Argument as given;
+ghost use Rattle.rst_markup_directives.specs.Directive as directives;
 ghost use Rattle.rst_markup_directives.specs.Message.{fault_text};
 ghost use Rattle.rst_markup_directives.specs.Options.{choices_in};
 ghost use Rattle.rst_markup_directives.specs.Wrong.{fault_in};
 ghost use Rattle.rst_block_nodes.specs.Options.{directive_element};
 ghost use Rattle.rst_block_sections.specs.Sections.{filled};
+ghost use Rattle.rst_block.specs.Directives as meaning;
 ghost use Rattle.rst_block.specs.Directives.{titled_element};
 ghost use Rattle.rst_block.specs.LineRuns.{number_or};
+ghost use Rattle.rst_block.specs.MarkupSteps.{is_figure, is_replacement, place_in, read_of, reads_with};
+ghost use Rattle.rst_block.specs.Meanings.{Keeps, comes, within_at};
 ghost use Rattle.rst_block.specs.Numbered.{then_read, just};
-ghost use Rattle.rst_markup_directives.specs.Call.{IsArgumentIn, IsContentIn, IsDirectiveIn};
+ghost use Rattle.rst_markup_directives.specs.Call.{IsArgumentIn, IsContentIn, IsDirectiveIn, called_at};
+ghost use Rattle.rst_markup_directives.specs.declared.found.Place.{Place};
 ghost use Rattle.rst_markup_blocks.specs.Parts.{IsBlock, IsCall};
-ghost use Rattle.rst_block.specs.OpenBlocks.{Gives};
+ghost use Rattle.rst_block.specs.OpenBlocks.{Gives, IsKept, IsMoved, IsPlaced};
+ghost use Rattle.rst_block.specs.Paragraphs as paragraphs;
 ghost use Rattle.rst_block.specs.Steps as spec;
 ghost use Rattle.rst_block.specs.Texts.{joined, lines_in, shown, source_of, texted};
+ghost use Rattle.rst_block.specs.declared.step.Step.TheVariants.{Open};
 
+use super::explicit::put;
 use super::fault::BlockFault;
 use super::figure::OpenFigure;
 use super::open_block::OpenBlock;
@@ -28,7 +38,7 @@ use super::resume::Waits;
 use super::step::Step;
 use super::texts::{Pass, alone, excerpt, first_line_or, joined, number_at, source};
 use rst_block_nodes::{
-    code_block, directive_element, figure, image, message, with_text, with_title_class,
+    Numbers, code_block, directive_element, figure, image, message, with_text, with_title_class,
 };
 use rst_block_sections::{append, filled};
 use rst_markup_blocks::{Invocation, Part};
@@ -39,6 +49,7 @@ use rst_markup_directives::{
 use rst_text::{Looks, View};
 use rst_tree::{Level, Node, Tag, TreeFault};
 use std::alloc::Global;
+use std::mem;
 
 /// What a directive is, where `place` is where it stands.
 pub(crate) fn directive_at(
@@ -52,14 +63,13 @@ pub(crate) fn directive_at(
     requires call { IsCall (block_of view.now) at invocation.now }
     requires short { length (block_of view.now) < 2 ^ 64 }
     requires few { pass.old.looks < 2 ^ 119 + 2 ^ 115 }
+    ensures outcome { Gives (λ found. directives.outcome_of found ≡ meaning.called (within_at 0) (block_of view.now) at invocation.now place) result }
     ensures parts { IfOk result (IsDirectiveIn (block_of view.now)) }
+    ensures numbers { pass.new.numbers ≡ pass.old.numbers }
     ensures looks { IfOk result (λ _. pass.new.looks ≤ pass.old.looks + 2 ^ 72) }
 {
     let name = called(alloc, view, at, invocation, &mut pass.looks)?;
-    let paragraph = match name {
-        Some(Name::Replace) => is_single_paragraph(&inside(view, invocation.block), pass),
-        _ => false,
-    };
+    let paragraph = is_paragraph(name, view, invocation, pass);
     Ok(directive(
         alloc,
         view,
@@ -69,6 +79,37 @@ pub(crate) fn directive_at(
         paragraph,
         &mut pass.looks,
     )?)
+}
+
+/// Whether a directive of this name is a replacement text.
+fn is_replacement(name: Option<Name>) -> bool
+    ensures { result ≡ is_replacement name }
+{
+    matches!(name, Some(Name::Replace))
+}
+
+/// Whether the block of a replacement text is a single paragraph, which counts for no other directive.
+fn is_paragraph(
+    name: Option<Name>,
+    view: &View<'_>,
+    invocation: &Invocation,
+    pass: &mut Pass,
+) -> bool
+    requires block { IsBlock (block_of view.now) invocation.now.block }
+    requires short { length (block_of view.now) < 2 ^ 64 }
+    requires few { pass.old.looks < 2 ^ 119 + 2 ^ 116 }
+    ensures flag { (at : ℕ) (place : Place) → name ≡ called_at true (block_of view.now) at invocation.now → directives.directive_at true (block_of view.now) at invocation.now place result ≡ meaning.called (within_at 0) (block_of view.now) at invocation.now place }
+    ensures numbers { pass.new.numbers ≡ pass.old.numbers }
+    ensures looks { pass.new.looks ≤ pass.old.looks + 2 ^ 66 }
+{
+    if is_replacement(name) {
+        // No message is given for a test.
+        let numbers = mem::replace(&mut pass.numbers, Numbers::none());
+        let single = is_single_paragraph(&inside(view, invocation.block), pass);
+        pass.numbers = numbers;
+        return single;
+    }
+    false
 }
 
 /// A directive.
@@ -83,24 +124,21 @@ pub(crate) fn directive_block(
     requires inside { level.old.at < length (block_of view.now) }
     requires short { length (block_of view.now) < 2 ^ 64 }
     requires few { pass.old.looks < 2 ^ 119 + 2 ^ 113 }
+    requires later { level.old.at < invocation.now.block.to }
+    requires placed { IsPlaced level.old }
     ensures step { IfOk result (λ s. spec.IsStep (block_of view.now) level.old.at level.new.at s) }
+    ensures kept { IfOk result (λ _. IsKept level.old level.new) }
+    ensures read { Keeps result (λ s. comes level.new (block_of view.now) s pass.new.numbers) (reads_with level.old (block_of view.now) (meaning.directive_nodes (within_at level.old.depth) (block_of view.now) (record { start = level.old.at; stop = invocation.now.block.to }) invocation.now) invocation.now.block.to pass.old.numbers) }
     ensures looks { IfOk result (λ _. pass.new.looks ≤ pass.old.looks + 2 ^ 77) }
 {
     let at = level.at;
     let end = invocation.block.to;
-    let place = if level.titles() {
-        Place::Top
-    } else {
-        Place::Body
-    };
-    match directive_at(alloc, view, at, invocation, place, pass)? {
+    match directive_at(alloc, view, at, invocation, place_in(level.titles()), pass)? {
         Directive::Wrong { fault, .. } => {
             let name = excerpt(alloc, view.line(at, &mut pass.looks), invocation.name)?;
             let name = name.as_str();
             let error = wrong_directive(alloc, view, at, end, &fault, name, &mut pass.looks)?;
-            level.go_to(end);
-            level.push(error)?;
-            Ok(Step::Next)
+            put(level, error, end)
         }
         Directive::Found {
             name,
@@ -115,9 +153,16 @@ pub(crate) fn directive_block(
                 content,
                 end,
             };
-            directive_nodes(alloc, view, level, found, pass)
+            directive_nodes(alloc, view, level, &found, pass)
         }
     }
+}
+
+/// Where a directive stands in a block, by whether titles may stand there.
+fn place_in(titles: bool) -> Place
+    ensures { result ≡ place_in titles }
+{
+    if titles { Place::Top } else { Place::Body }
 }
 
 /// A right directive, which ends at `end`.
@@ -156,70 +201,80 @@ pub(crate) fn wrong_directive(
     )?)
 }
 
+fn is_code(name: Name) -> bool
+    ensures { result ≡ directives.is_code_name name }
+{
+    matches!(name, Name::Code)
+}
+
+fn is_figure(name: Name) -> bool
+    ensures { result ≡ is_figure name }
+{
+    matches!(name, Name::Figure)
+}
+
 /// What a right directive leaves, or the block that is read for it.
 fn directive_nodes(
     alloc: Global,
     view: &View<'_>,
     level: &mut OpenBlock,
-    found: Found,
+    found: &Found,
     pass: &mut Pass,
 ) -> Result<Step, BlockFault>
-    requires content { IsContentIn (block_of view.now) found.content }
-    requires argument { IsArgumentIn (block_of view.now) found.argument }
+    requires content { IsContentIn (block_of view.now) found.now.content }
+    requires argument { IsArgumentIn (block_of view.now) found.now.argument }
     requires inside { level.old.at < length (block_of view.now) }
     requires short { length (block_of view.now) < 2 ^ 64 }
     requires few { pass.old.looks < 2 ^ 119 + 2 ^ 114 }
+    requires later { level.old.at < found.now.end }
+    requires placed { IsPlaced level.old }
     ensures step { IfOk result (λ s. spec.IsStep (block_of view.now) level.old.at level.new.at s) }
+    ensures kept { IfOk result (λ _. IsKept level.old level.new) }
+    ensures read { Keeps result (λ s. comes level.new (block_of view.now) s pass.new.numbers) (reads_with level.old (block_of view.now) (meaning.right_by (given.given_in found.now.argument) found.now.name (within_at level.old.depth) (block_of view.now) (first_number (drop level.old.at (block_of view.now))) (read_of found.now) (source_of (block_of view.now) (record { start = level.old.at; stop = found.now.end }))) found.now.end pass.old.numbers) }
     ensures looks { IfOk result (λ _. pass.new.looks ≤ pass.old.looks + 2 ^ 76) }
 {
-    let line = number_at(view, level.at);
-    let options = found.options.as_slice();
-    match (found.name, &found.argument) {
-        (Name::Image, Argument::Uri(uri)) => {
-            let node = image(alloc, uri.as_str(), options, line, false, None)?;
-            level.go_to(found.end);
-            level.push(node)?;
-            Ok(Step::Next)
+    match &found.argument {
+        Argument::Title(title) => titled_block(alloc, view, level, found, *title, pass),
+        Argument::Uri(uri) => image_block(alloc, view, level, found, uri.as_str(), pass),
+        Argument::Language(language) => {
+            let language = Some(language.as_str());
+            code_nodes(alloc, view, level, found, language, pass)
         }
-        (Name::Figure, Argument::Uri(uri)) => {
-            let shown = image(alloc, uri.as_str(), options, line, true, None)?;
-            let node = filled(figure(alloc, options, line)?, alone(alloc, shown)?)?;
-            figure_block(alloc, view, level, node, &found, pass)
-        }
-        (Name::Code, _) => {
-            code_nodes(alloc, view, level, &found, pass)?;
-            Ok(Step::Next)
-        }
-        (Name::Admonition | Name::Topic, Argument::Title(title)) => {
-            let node = titled(alloc, view, &found, *title, line, pass)?;
-            Ok(opened(level, node, &found))
-        }
-        (name, _) => {
-            let node = directive_element(alloc, name, options, line)?;
-            Ok(opened(level, node, &found))
-        }
+        Argument::Absent => plain_block(alloc, view, level, found, pass),
     }
 }
 
-/// Opens the content of a directive, which stands in its element.
-fn opened(level: &mut OpenBlock, element: Node, found: &Found) -> Step
-    requires { level.old.at < 2 ^ 64 - 1 }
-    ensures { (B : Block) → IsContentIn B found.now.content → spec.IsStep B level.old.at level.new.at result }
-{
-    level.go_to(found.end);
-    Step::Open {
-        waits: Waits::Element(element),
-        first: found.content.first,
-        second: Some(found.content.second),
-    }
-}
-
-/// Opens the content of a figure.
-fn figure_block(
+/// An admonition or a topic.
+fn titled_block(
     alloc: Global,
     view: &View<'_>,
     level: &mut OpenBlock,
-    node: Node,
+    found: &Found,
+    title: Part,
+    pass: &mut Pass,
+) -> Result<Step, BlockFault>
+    requires content { IsContentIn (block_of view.now) found.now.content }
+    requires title { IsBlock (block_of view.now) title }
+    requires inside { level.old.at < length (block_of view.now) }
+    requires short { length (block_of view.now) < 2 ^ 64 }
+    requires few { pass.old.looks < 2 ^ 119 + 2 ^ 115 }
+    requires later { level.old.at < found.now.end }
+    requires placed { IsPlaced level.old }
+    ensures step { IfOk result (λ s. spec.IsStep (block_of view.now) level.old.at level.new.at s) }
+    ensures kept { IfOk result (λ _. IsKept level.old level.new) }
+    ensures read { Keeps result (λ s. comes level.new (block_of view.now) s pass.new.numbers) (reads_with level.old (block_of view.now) (meaning.titled_nodes (within_at level.old.depth) (block_of view.now) (first_number (drop level.old.at (block_of view.now))) (read_of found.now) (lines_in (block_of view.now) title)) found.now.end pass.old.numbers) }
+    ensures looks { IfOk result (λ _. pass.new.looks ≤ pass.old.looks + 2 ^ 75) }
+{
+    let line = number_at(view, level.at);
+    let node = titled(alloc, view, found, title, line, pass)?;
+    Ok(opened(level, Waits::Element(node), found))
+}
+
+/// A directive without an argument.
+fn plain_block(
+    alloc: Global,
+    view: &View<'_>,
+    level: &mut OpenBlock,
     found: &Found,
     pass: &mut Pass,
 ) -> Result<Step, BlockFault>
@@ -227,54 +282,124 @@ fn figure_block(
     requires inside { level.old.at < length (block_of view.now) }
     requires short { length (block_of view.now) < 2 ^ 64 }
     requires few { pass.old.looks < 2 ^ 119 + 2 ^ 115 }
+    requires later { level.old.at < found.now.end }
+    requires placed { IsPlaced level.old }
     ensures step { IfOk result (λ s. spec.IsStep (block_of view.now) level.old.at level.new.at s) }
+    ensures kept { IfOk result (λ _. IsKept level.old level.new) }
+    ensures read { Keeps result (λ s. comes level.new (block_of view.now) s pass.new.numbers) (reads_with level.old (block_of view.now) (meaning.right_by given.nothing found.now.name (within_at level.old.depth) (block_of view.now) (first_number (drop level.old.at (block_of view.now))) (read_of found.now) (source_of (block_of view.now) (record { start = level.old.at; stop = found.now.end }))) found.now.end pass.old.numbers) }
     ensures looks { IfOk result (λ _. pass.new.looks ≤ pass.old.looks + 2 ^ 75) }
 {
-    let at = level.at;
-    let figure = OpenFigure {
-        figure: node,
-        line: number_at(view, at),
-        source: source(alloc, view, at, found.end, &mut pass.looks)?,
-    };
-    let waits = Waits::Figure(Box::new(alloc, figure)?);
+    if is_code(found.name) {
+        return code_nodes(alloc, view, level, found, None, pass);
+    }
+    let line = number_at(view, level.at);
+    let node = directive_element(alloc, found.name, found.options.as_slice(), line)?;
+    Ok(opened(level, Waits::Element(node), found))
+}
+
+/// An image, or a figure with this image.
+fn image_block(
+    alloc: Global,
+    view: &View<'_>,
+    level: &mut OpenBlock,
+    found: &Found,
+    uri: &str,
+    pass: &mut Pass,
+) -> Result<Step, BlockFault>
+    requires content { IsContentIn (block_of view.now) found.now.content }
+    requires inside { level.old.at < length (block_of view.now) }
+    requires short { length (block_of view.now) < 2 ^ 64 }
+    requires few { pass.old.looks < 2 ^ 119 + 2 ^ 115 }
+    requires later { level.old.at < found.now.end }
+    requires placed { IsPlaced level.old }
+    ensures step { IfOk result (λ s. spec.IsStep (block_of view.now) level.old.at level.new.at s) }
+    ensures kept { IfOk result (λ _. IsKept level.old level.new) }
+    ensures read { Keeps result (λ s. comes level.new (block_of view.now) s pass.new.numbers) (reads_with level.old (block_of view.now) (meaning.right_by (given.uri (chars uri.now)) found.now.name (within_at level.old.depth) (block_of view.now) (first_number (drop level.old.at (block_of view.now))) (read_of found.now) (source_of (block_of view.now) (record { start = level.old.at; stop = found.now.end }))) found.now.end pass.old.numbers) }
+    ensures looks { IfOk result (λ _. pass.new.looks ≤ pass.old.looks + 2 ^ 75) }
+{
+    if is_figure(found.name) {
+        return figure_block(alloc, view, level, found, uri, pass);
+    }
+    let line = number_at(view, level.at);
+    let node = image(alloc, uri, found.options.as_slice(), line, false, None)?;
+    put(level, node, found.end)
+}
+
+/// Opens the content of a directive, for whose nodes its block waits.
+fn opened(level: &mut OpenBlock, waits: Waits, found: &Found) -> Step
+    requires later { level.old.at < found.now.end }
+    ensures opened { result ≡ Open waits found.now.content.first (Some found.now.content.second) }
+    ensures at { level.new.at ≡ found.now.end }
+    ensures moved { IsMoved level.old level.new }
+{
     level.go_to(found.end);
-    Ok(Step::Open {
+    Step::Open {
         waits,
         first: found.content.first,
         second: Some(found.content.second),
-    })
+    }
 }
 
-/// Program code.
+/// Opens the content of a figure with this image.
+fn figure_block(
+    alloc: Global,
+    view: &View<'_>,
+    level: &mut OpenBlock,
+    found: &Found,
+    uri: &str,
+    pass: &mut Pass,
+) -> Result<Step, BlockFault>
+    requires content { IsContentIn (block_of view.now) found.now.content }
+    requires inside { level.old.at < length (block_of view.now) }
+    requires short { length (block_of view.now) < 2 ^ 64 }
+    requires few { pass.old.looks < 2 ^ 119 + 2 ^ 116 }
+    requires later { level.old.at < found.now.end }
+    requires placed { IsPlaced level.old }
+    ensures step { IfOk result (λ s. spec.IsStep (block_of view.now) level.old.at level.new.at s) }
+    ensures kept { IfOk result (λ _. IsKept level.old level.new) }
+    ensures read { Keeps result (λ s. comes level.new (block_of view.now) s pass.new.numbers) (reads_with level.old (block_of view.now) (meaning.figure_of (within_at level.old.depth) (block_of view.now) (first_number (drop level.old.at (block_of view.now))) (read_of found.now) uri.now (source_of (block_of view.now) (record { start = level.old.at; stop = found.now.end }))) found.now.end pass.old.numbers) }
+    ensures looks { IfOk result (λ _. pass.new.looks ≤ pass.old.looks + 2 ^ 74) }
+{
+    let at = level.at;
+    let line = number_at(view, at);
+    let options = found.options.as_slice();
+    let shown = image(alloc, uri, options, line, true, None)?;
+    let figure = filled(figure(alloc, options, line)?, alone(alloc, shown)?)?;
+    let source = source(alloc, view, at, found.end, &mut pass.looks)?;
+    let waiting = OpenFigure {
+        figure,
+        line,
+        source,
+    };
+    let waits = Waits::Figure(Box::new(alloc, waiting)?);
+    Ok(opened(level, waits, found))
+}
+
+/// Program code in a language or in none.
 fn code_nodes(
     alloc: Global,
     view: &View<'_>,
     level: &mut OpenBlock,
     found: &Found,
+    language: Option<&str>,
     pass: &mut Pass,
-) -> Result<(), BlockFault>
+) -> Result<Step, BlockFault>
     requires content { IsContentIn (block_of view.now) found.now.content }
     requires inside { level.old.at < length (block_of view.now) }
     requires short { length (block_of view.now) < 2 ^ 64 }
-    requires few { pass.old.looks < 2 ^ 119 + 2 ^ 115 }
-    ensures later { IfOk result (λ _. level.old.at < level.new.at) }
-    ensures looks { IfOk result (λ _. pass.new.looks ≤ pass.old.looks + 2 ^ 75) }
+    requires few { pass.old.looks < 2 ^ 119 + 2 ^ 116 }
+    requires later { level.old.at < found.now.end }
+    requires placed { IsPlaced level.old }
+    ensures step { IfOk result (λ s. spec.IsStep (block_of view.now) level.old.at level.new.at s) }
+    ensures kept { IfOk result (λ _. IsKept level.old level.new) }
+    ensures read { Keeps result (λ s. comes level.new (block_of view.now) s pass.new.numbers) (reads_with level.old (block_of view.now) (just (meaning.code_nodes (block_of view.now) (first_number (drop level.old.at (block_of view.now))) (read_of found.now) (option_map (λ word. word.now) language.entry))) found.now.end pass.old.numbers) }
+    ensures looks { IfOk result (λ _. pass.new.looks ≤ pass.old.looks + 2 ^ 74) }
 {
     let line = number_at(view, level.at);
     let text = joined(alloc, &inside(view, found.content.second), &mut pass.looks)?;
-    let language = match &found.argument {
-        Argument::Language(language) => Some(language.as_str()),
-        _ => None,
-    };
-    let node = code_block(
-        alloc,
-        language,
-        found.options.as_slice(),
-        text.as_str(),
-        line,
-    )?;
-    level.go_to(found.end);
-    level.push(node)
+    let options = found.options.as_slice();
+    let node = code_block(alloc, language, options, text.as_str(), line)?;
+    put(level, node, found.end)
 }
 
 /// An admonition or a topic with its title and the messages of that.

@@ -9,17 +9,22 @@ ghost use Rattle.rst_tree.specs.declared.note.Level.TheVariants.{Error};
 ghost use Rattle.rst_markup_directives.specs.Message.{fault_text};
 ghost use Rattle.rst_markup_directives.specs.Options.{choices_in};
 ghost use Rattle.rst_markup_directives.specs.Wrong.{fault_in};
+ghost use Rattle.rst_markup_directives.specs.declared.found.Place.TheVariants.{Substitution};
 ghost use Rattle.rst_block_nodes.specs.Elements.{substitution_definition_node};
 ghost use Rattle.rst_block_nodes.specs.Options.{image_element};
 ghost use Rattle.rst_markup_directives.specs.Call.{IsContentIn};
 ghost use Rattle.rst_markup_blocks.specs.Parts.{IsBlock, IsCall};
 ghost use Rattle.rst_block_sections.specs.Sections.{filled};
 ghost use Rattle.rst_block.specs.Directives as directives;
+ghost use Rattle.rst_block.specs.MarkupSteps.{made_of, reads_with};
+ghost use Rattle.rst_block.specs.Meanings.{Keeps, comes, within_at};
 ghost use Rattle.rst_block.specs.OpenBlocks as blocks;
+ghost use Rattle.rst_block.specs.OpenBlocks.{IsKept, IsPlaced};
 ghost use Rattle.rst_block.specs.Steps as spec;
 ghost use Rattle.rst_block.specs.Texts as texts;
 
 use super::directive::{directive_at, wrong_directive};
+use super::explicit::put;
 use super::fault::BlockFault;
 use super::open_block::OpenBlock;
 use super::resume::Waits;
@@ -61,7 +66,11 @@ pub(crate) fn substitution_definition(
     requires inside { level.old.at < length (block_of view.now) }
     requires short { length (block_of view.now) < 2 ^ 64 }
     requires few { pass.old.looks < 2 ^ 119 + 2 ^ 113 }
+    requires later { level.old.at < end }
+    requires placed { IsPlaced level.old }
     ensures step { IfOk result (λ s. spec.IsStep (block_of view.now) level.old.at level.new.at s) }
+    ensures kept { IfOk result (λ _. IsKept level.old level.new) }
+    ensures read { Keeps result (λ s. comes level.new (block_of view.now) s pass.new.numbers) (reads_with level.old (block_of view.now) (directives.substitution_nodes (within_at level.old.depth) (block_of view.now) (record { start = level.old.at; stop = end }) written.now held) end pass.old.numbers) }
     ensures looks { IfOk result (λ _. pass.new.looks ≤ pass.old.looks + 2 ^ 77) }
 {
     let name = substitution_name(alloc, written)?;
@@ -76,9 +85,7 @@ pub(crate) fn substitution_definition(
             text.as_str(),
             Some(lines.as_str()),
         )?;
-        level.go_to(end);
-        level.push(warning)?;
-        return Ok(Step::Next);
+        return put(level, warning, end);
     };
     holding(alloc, view, level, name, &invocation, end, pass)
 }
@@ -108,7 +115,11 @@ fn holding(
     requires inside { level.old.at < length (block_of view.now) }
     requires short { length (block_of view.now) < 2 ^ 64 }
     requires few { pass.old.looks < 2 ^ 119 + 2 ^ 114 }
+    requires later { level.old.at < end }
+    requires placed { IsPlaced level.old }
     ensures step { IfOk result (λ s. spec.IsStep (block_of view.now) level.old.at level.new.at s) }
+    ensures kept { IfOk result (λ _. IsKept level.old level.new) }
+    ensures read { Keeps result (λ s. comes level.new (block_of view.now) s pass.new.numbers) (reads_with level.old (block_of view.now) (directives.holding (directives.called (within_at level.old.depth) (block_of view.now) level.old.at invocation.now Substitution) (within_at level.old.depth) (block_of view.now) (record { start = level.old.at; stop = end }) (string_bytes name) (texts.excerpt (front_text (drop level.old.at (block_of view.now))) invocation.now.name)) end pass.old.numbers) }
     ensures looks { IfOk result (λ _. pass.new.looks ≤ pass.old.looks + 2 ^ 76) }
 {
     let at = level.at;
@@ -125,9 +136,7 @@ fn holding(
                 invocation,
                 &mut pass.looks,
             )?;
-            level.go_to(end);
-            level.push(error)?;
-            Ok(Step::Next)
+            put(level, error, end)
         }
         Directive::Found {
             argument,
@@ -137,9 +146,7 @@ fn holding(
         } => match argument {
             Argument::Uri(uri) => {
                 let shown = image_named(alloc, uri.as_str(), &options, name.as_str(), line)?;
-                level.go_to(end);
-                level.push(shown)?;
-                Ok(Step::Next)
+                put(level, shown, end)
             }
             _ => replacement(alloc, view, level, name, content, end, pass),
         },
@@ -175,7 +182,11 @@ fn replacement(
     requires inside { level.old.at < length (block_of view.now) }
     requires short { length (block_of view.now) < 2 ^ 64 }
     requires few { pass.old.looks < 2 ^ 119 + 2 ^ 115 }
+    requires later { level.old.at < end }
+    requires placed { IsPlaced level.old }
     ensures step { IfOk result (λ s. spec.IsStep (block_of view.now) level.old.at level.new.at s) }
+    ensures kept { IfOk result (λ _. IsKept level.old level.new) }
+    ensures read { Keeps result (λ s. comes level.new (block_of view.now) s pass.new.numbers) (reads_with level.old (block_of view.now) (made_of (within_at level.old.depth) (block_of view.now) content (λ nodes. directives.replacement (string_bytes name) (first_number (drop level.old.at (block_of view.now))) (texts.source_of (block_of view.now) (record { start = level.old.at; stop = end })) (directives.first_paragraph nodes) ∷ [])) end pass.old.numbers) }
     ensures looks { IfOk result (λ _. pass.new.looks ≤ pass.old.looks + 2 ^ 75) }
 {
     let at = level.at;
