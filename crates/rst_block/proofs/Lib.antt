@@ -36,6 +36,7 @@ pub mod Splitting
 pub mod Stack
 pub mod TableSteps
 pub mod TextLines
+pub mod SubstitutionReads
 pub mod TextsRead
 pub mod Walks
 pub mod Work

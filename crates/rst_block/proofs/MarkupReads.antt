@@ -270,16 +270,18 @@ pub begun_kept : (read : Result (List Item × ℕ) ℕ) (old mid : OpenBlock) (m
 begun_kept read old mid m end closed w = record { depth = closed.depth; placed = placed_closed read old mid m no_run closed w }
 
 -- where the open run is nested too deeply, so is all
-pub begun_refused : {A : Type 0} (fault : BlockFault) (old mid : OpenBlock) (B : Block) (end n m : ℕ) (follows : A → Result (List Item × ℕ) ℕ) (joins : Bool) → joins ≡ is_markup (open_of old.run) → joins ≡ false
-    → Closes {A = A} (closed_run (suc deepest - old.depth) B (open_of old.run) n) old mid m no_run (Err fault) → Keeps (Err fault) follows (markup_reads old B end n)
+pub begun_refused : {A : Type 0} (result : Result A BlockFault) (fault : BlockFault) (old mid : OpenBlock) (B : Block) (end n m : ℕ) (follows : A → Result (List Item × ℕ) ℕ) (joins : Bool) → result ≡ Err fault
+    → joins ≡ is_markup (open_of old.run) → joins ≡ false → Closes {A = Unit {0}} (closed_run (suc deepest - old.depth) B (open_of old.run) n) old mid m no_run (Err fault)
+    → Keeps result follows (markup_reads old B end n)
 unfolding markup_after
-begun_refused NoMemory old mid B end n m follows joins e h closed = tt
-begun_refused (TooDeep line) old mid B end n m follows joins e h closed =
+begun_refused result NoMemory old mid B end n m follows joins r e h closed = rw r tt
+begun_refused result (TooDeep line) old mid B end n m follows joins r e h closed =
     let c = within_at old.depth in
     let s : Span = span_to old.at end in
+    rw r (
     same_before (done_of old) (rest_with c B (open_of old.run) (found_as explicit_markup s)) (closed_run c.levels B (open_of old.run) >>= markup_after old.depth B s end) n
     (markup_begins c B (open_of old.run) s n (new_run old.run s (sym e ∙ h)))
-    ∙ close_refused old B n line (markup_after old.depth B s end) closed
+    ∙ close_refused old B n line (markup_after old.depth B s end) closed)
 
 -- ---- answers
 
@@ -289,10 +291,10 @@ pub keeps_same : {A : Type 0} (r : Result A BlockFault) (follows : A → Result 
 keeps_same r follows read other e h = subst (λ x. Keeps r follows x) e h
 
 -- a call that can't go on leaves that to its caller
-pub refused_same : {A C : Type 0} (fault : BlockFault) (before_it : A → Result (List Item × ℕ) ℕ) (follows : C → Result (List Item × ℕ) ℕ) (read other : Result (List Item × ℕ) ℕ) → read ≡ other
-    → Keeps (Err fault) before_it read → Keeps (Err fault) follows other
-refused_same (TooDeep line) before_it follows read other e h = sym e ∙ h
-refused_same NoMemory before_it follows read other e h = tt
+pub refused_same : {A C : Type 0} (result : Result C BlockFault) (fault : BlockFault) (first : A → Result (List Item × ℕ) ℕ) (follows : C → Result (List Item × ℕ) ℕ) (read other : Result (List Item × ℕ) ℕ)
+    → result ≡ Err fault → read ≡ other → Keeps (Err fault) first read → Keeps result follows other
+refused_same result (TooDeep line) first follows read other r e h = rw r (sym e ∙ h)
+refused_same result NoMemory first follows read other r e h = rw r tt
 
 -- ---- explicit markup at the next line
 

@@ -1,8 +1,8 @@
-use Rattle.std.proofs.Common.{suc, ◌-◌}
+use Rattle.std.proofs.Common.{suc, ◌-◌, rules}
 use Rattle.rst_text.specs.Shown.{block_of}
 use Rattle.rst_block.specs.Meanings.{deepest, open_of}
 use Rattle.rst_block.specs.Rest.{closed_run}
-use Rattle.rst_block.proofs.MarkupReads.{joined_here, begun_here, begun_kept}
+use Rattle.rst_block.proofs.MarkupReads.{joined_here, begun_here, begun_kept, begun_refused}
 use Rattle.rst_block.proofs.explicit.begin_markup.Goals as goal
 
 pub returns-then-is_markup-clause-read : goal.returns-then-is_markup-clause-read
@@ -17,3 +17,8 @@ pub returns-clause-read : goal.returns-clause-read
 returns-clause-read c =
     begun_here c.args.level.now c.close.new.self (block_of c.args.view.now) c.args.end c.args.pass.now.numbers c.close.new.pass.numbers c.is_markup.result c.is_markup.ensures c.if-is_markup.false c.in_ok-close.ensures.closed
     c.requires.placed
+
+pub returns-in_err-close-clause-read : goal.returns-in_err-close-clause-read
+returns-in_err-close-clause-read c =
+    begun_refused c.from_residual.result c.in_err-close.field-0.0 c.args.level.now c.close.new.self (block_of c.args.view.now) c.args.end c.args.pass.now.numbers c.close.new.pass.numbers _ c.is_markup.result (search rules)
+    c.is_markup.ensures c.if-is_markup.false c.in_err-close.ensures.closed

@@ -1,6 +1,5 @@
-use Rattle.std.proofs.Common.{ap, drop, arith, ◌∙◌, sym}
+use Rattle.std.proofs.Common.{drop, arith, rules, ◌∙◌, sym}
 use Rattle.rst_text.specs.Shown.{block_of}
-use Rattle.rst_markup_blocks.specs.Explicit.{explicit_size}
 use Rattle.rst_block.specs.Markup.{markup_by}
 use Rattle.rst_block.specs.MarkupSteps.{markup_reads, reads_with}
 use Rattle.rst_block.specs.Meanings.{reads, within_at}
@@ -17,7 +16,9 @@ returns-in_err-begin_markup-clause-read c =
     let B = block_of c.args.view.now in
     let l = c.args.level.now in
     let n = c.args.pass.now.numbers in
-    refused_same _ _ _ (markup_reads l B c.end-end.result n) (reads l B n) (sym (explicit_reads l B n c.end-end.result c.requires.kind (c.end-end.ensures ∙ c.explicit-found.ensures.end))) c.in_err-begin_markup.ensures.read
+    let end = c.end-end.result in
+    refused_same c.from_residual.result c.in_err-begin_markup.field-0.0 _ _ (markup_reads l B end n) (reads l B n) (search rules)
+    (sym (explicit_reads l B n end c.requires.kind (c.end-end.ensures ∙ c.explicit-found.ensures.end))) c.in_err-begin_markup.ensures.read
 
 pub returns-clause-read : goal.returns-clause-read
 returns-clause-read c =

@@ -1,11 +1,45 @@
+use Rattle.std.proofs.Common.{[], ◌∷◌, List, drop, sym, ap, ◌∙◌}
+use Rattle.std.proofs.lemmas.Str.{encodes-chars}
+use Rattle.std.specs.Prelude.{string_bytes}
+use Rattle.rst_text.specs.Block.{front_text}
 use Rattle.rst_text.specs.Shown.{block_of}
+use Rattle.rst_tree.specs.declared.node.Node.{Node}
+use Rattle.rst_markup_directives.specs.Directive.{outcome_of}
+use Rattle.rst_markup_directives.specs.Options.{choices_in}
+use Rattle.rst_markup_directives.specs.declared.argument.Argument.{Argument}
+use Rattle.rst_markup_directives.specs.declared.found.Directive.TheVariants.{Found}
+use Rattle.rst_markup_directives.specs.declared.found.Place.TheVariants.{Substitution}
+use Rattle.rst_block.specs.Directives as directives
+use Rattle.rst_block.specs.MarkupSteps.{reads_with}
+use Rattle.rst_block.specs.Meanings.{within_at}
+use Rattle.rst_block.specs.Numbered.{Numbered, just}
+use Rattle.rst_block.specs.Texts.{excerpt}
+use Rattle.rst_block.proofs.MarkupReads.{keeps_same}
+use Rattle.rst_block.proofs.NextLines.{span_to}
+use Rattle.rst_block.proofs.SubstitutionReads.{image_holds}
 use Rattle.rst_block.proofs.substitution.holding.Goals as goal
 
 pub returns-in_ok-error-in-Wrong-clause-step : goal.returns-in_ok-error-in-Wrong-clause-step
 returns-in_ok-error-in-Wrong-clause-step c = c.put.ensures.step (block_of c.args.view.now)
 
 pub returns-in_ok-shown-in-Uri-clause-step : goal.returns-in_ok-shown-in-Uri-clause-step
-returns-in_ok-shown-in-Uri-clause-step c = c.put.ensures.step (block_of c.args.view.now)
+returns-in_ok-shown-in-Uri-clause-step c = c.put-in-Uri.ensures.step (block_of c.args.view.now)
 
 pub returns-in_ok-shown-in-Uri-clause-read : goal.returns-in_ok-shown-in-Uri-clause-read
-returns-in_ok-shown-in-Uri-clause-read c = ?
+returns-in_ok-shown-in-Uri-clause-read c =
+    let B = block_of c.args.view.now in
+    let l = c.args.level.now in
+    let end = c.args.end in
+    let m = c.directive_at.new.pass.numbers in
+    let d = within_at l.depth in
+    let outcome = directives.called d B l.at c.args.invocation.now Substitution in
+    let written = excerpt (front_text (drop l.at B)) c.args.invocation.now.name in
+    let node = c.in_ok-shown-in-Uri.shown in
+    let found = c.in-Found in
+    keeps_same c.put-in-Uri.result _ (reads_with l B (just (node ∷ [])) end m) (reads_with l B (directives.holding outcome d B (span_to l.at end) (string_bytes c.args.name) written) end c.args.pass.now.numbers)
+    (ap (λ (read : Numbered (List Node)). reads_with l B read end m)
+    (image_holds outcome found.name (choices_in found.options.items) found.content (string_bytes c.in-Uri.uri) c.as_str-in-Uri.result.now c.as_str-in-Uri-2.result.now (string_bytes c.args.name) written d B (span_to l.at end) c.number_at-line.result node
+    (sym c.in_ok-fault.ensures.outcome ∙ ap outcome_of found.is ∙ ap (λ (a : Argument). outcome_of (Found found.name a found.options found.content)) c.in-Uri.is)
+    c.as_str-in-Uri.ensures.value (encodes-chars c.as_str-in-Uri.result.now c.as_str-in-Uri.utf8) c.as_str-in-Uri-2.ensures.value c.number_at-line.ensures c.in_ok-shown-in-Uri.ensures)
+    ∙ ap (λ k. reads_with l B (directives.holding outcome d B (span_to l.at end) (string_bytes c.args.name) written) end k) c.directive_at.ensures.numbers)
+    (c.put-in-Uri.ensures.read B m)
