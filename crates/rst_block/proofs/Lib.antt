@@ -10,11 +10,9 @@ pub mod ListItems
 pub mod ListedItems
 pub mod GoingOn
 pub mod LiteralLemmas
-pub mod Doctests
 pub mod LineSteps
 pub mod DirectiveFlags
 pub mod DirectiveReads
-pub mod Doctests
 pub mod Looked
 pub mod Made
 pub mod MarkupReads
