@@ -64,10 +64,12 @@ behind_hanging i X = omega arith
 pub behind_item : (i : ℕ) (m : Marker) (X : Block) → i < i + item_size m X
 behind_item i m X = omega arith
 
+-- an item of a bullet list has as many lines as its marker says
 pub bullet_sized : (X : Block) (mark : ℕ) (marker : Marker) → IsBegun X (BulletMark mark marker) → bullet_size X ≡ item_size marker X
 unfolding bullet_size
 bullet_sized X mark marker h = ap (λ o. option_map_or (λ m. item_size m X) o 1) h.mark.1
 
+-- an enumerator of an item is the enumerator of its line
 listed_is : (o : Option Enumerator) (next : List ℕ) (e : Enumerator) → if_listed o next ≡ Some e → o ≡ Some e
 listed_is None next e h = h
 listed_is (Some f) next e h = by (is_loose next || begins_next f next) h
@@ -76,6 +78,7 @@ listed_is (Some f) next e h = by (is_loose next || begins_next f next) h
     by true k = k
     by false k = cc
 
+-- an item of an enumerated list has as many lines as its marker says
 pub enumerator_sized : (X : Block) (e : Enumerator) → IsBegun X (EnumeratorMark e) → enumerator_size X ≡ item_size e.marker X
 unfolding enumerator_size item_enumerator
 enumerator_sized X e h = ap (λ o. option_map_or (λ (f : Enumerator). item_size f.marker X) o 1) (listed_is (enumerator_of (front_text X)) (next_text X) e h.mark)
@@ -105,6 +108,7 @@ IsPlain (field_item m) kind = kind ≡ Field
 IsPlain (option_item m) kind = kind ≡ OptionItem
 IsPlain mark kind = ⊥
 
+-- the kind of the open list decides whether one of these items joins it
 pub plain_joins : (mark : ItemMark) (kind : ListKind) (o : Option ListKind) → IsPlain mark kind → JoinsOrNot mark kind o
 plain_joins (bullet_item c m) kind o h = absurd h
 plain_joins (enumerated_item e) kind o h = absurd h
@@ -140,6 +144,7 @@ plain_joins (option_item m) kind o h = rw h (by o)
 pub same_bullet : (c : ℕ) (m : Marker) → list_joining_after (joining_in (Bullet c)) (bullet_item c m) ≡ Some (joining_in (Bullet c))
 same_bullet c m = ap (λ (b : Bool). if b then Some (joining_in (Bullet c)) else None) (eq-eqb c c refl)
 
+-- where no list with this bullet is open, an item with it joins nothing
 pub other_bullet : (c : ℕ) (m : Marker) (o : Option ListKind) → (o ≡ Some (Bullet c) → ⊥) → next_joining (bullet_item c m) o ≡ None
 other_bullet c m None h = refl
 other_bullet c m (Some Definition) h = refl
@@ -150,6 +155,7 @@ other_bullet c m (Some (Enumerated q)) h = refl
 
 -- ---- what calls change, one after the other
 
+-- no messages change nothing
 pub after_none : (o : OpenRun) → with_infos [] o ≡ o
 after_none no_run = refl
 after_none (open_lines end lines) = refl
@@ -166,15 +172,18 @@ after_joined j (open_list l) B mark s h = refl
 after_joined j (open_lines end lines) B mark s h = absurd (cc)
 after_joined j (open_markup end) B mark s h = absurd (cc)
 
+-- the same run in another form
 pub run_is : (old new : OpenBlock) (o p : OpenRun) → HasRun old new o → o ≡ p → HasRun old new p
 run_is old new o p h e = subst (λ r. HasRun old new r) e h
 
+-- the open run changes twice
 pub run_then : (old mid new : OpenBlock) (o p : OpenRun) → HasRun old mid o → HasRun mid new p → HasRun old new p
 run_then old mid new o p h k = record { depth = k.depth ∙ h.depth; at = k.at ∙ h.at; nodes = k.nodes ∙ h.nodes; headings = k.headings ∙ h.headings; run = k.run }
 
 pub closed_is : (read : Result (List Item × ℕ) ℕ) (old new : OpenBlock) (next : ℕ) (o p : OpenRun) → IsClosed read old new next o → o ≡ p → IsClosed read old new next p
 closed_is read old new next o p h e = subst (λ r. IsClosed read old new next r) e h
 
+-- the open run ends, and then another is open
 pub closed_then : (read : Result (List Item × ℕ) ℕ) (old mid new : OpenBlock) (next : ℕ) (o p : OpenRun) → IsClosed read old mid next o → HasRun mid new p
     → IsClosed read old new next p
 closed_then read old mid new next o p h k = record {
@@ -204,6 +213,7 @@ item_reads l B mark stop = before (done_of l) (rest_with (within_at l.depth) B (
 abbrev pub item_then : ℕ → Block → ℕ → ItemMark → ℕ → OpenRun → Numbered (List Item)
 item_then depth B at mark stop o = item_by (within_at depth) B at mark (drop at B) >>= λ ns. rest (within_at depth) B stop (with_items ns o)
 
+-- what the block gives where an item joins the open list
 joined : (old mid : OpenBlock) (B : Block) (mark : ItemMark) (j : Joining) (stop n : ℕ) → joining_with (open_of old.run) (item_found old mark stop) ≡ Some j → done_of mid ≡ done_of old
     → item_reads old B mark stop n ≡ before (done_of mid) (item_then old.depth B old.at mark stop (joined_run j (open_of old.run) B (item_found old mark stop))) n
 joined old mid B mark j stop n h d =
@@ -218,12 +228,14 @@ after_run depth B at mark stop done = do
   ns ← item_by (within_at depth) B at mark (drop at B)
   before done (rest (within_at depth) B stop (with_items ns (begun_run (item_of_list mark) B (span_to at stop) (drop at B))))
 
+-- what came of the open run comes first
 run_first : (depth : ℕ) (B : Block) (at : ℕ) (mark : ItemMark) (stop : ℕ) (done : List Item) (k : ℕ)
     → after_run depth B at mark stop done k ≡ before done (item_then depth B at mark stop (begun_run (item_of_list mark) B (span_to at stop) (drop at B))) k
 unfolding after_run
 run_first depth B at mark stop done k =
     sym (before_then done (item_by (within_at depth) B at mark (drop at B)) (λ ns. rest (within_at depth) B stop (with_items ns (begun_run (item_of_list mark) B (span_to at stop) (drop at B)))) k)
 
+-- what the block gives where an item begins a list: the open run ends, then the item comes
 begins : (old : OpenBlock) (B : Block) (mark : ItemMark) (stop n : ℕ) → joining_with (open_of old.run) (item_found old mark stop) ≡ None
     → item_reads old B mark stop n ≡ before (done_of old) (closed_run (suc deepest - old.depth) B (open_of old.run) >>= after_run old.depth B old.at mark stop) n
 unfolding after_run
@@ -232,6 +244,7 @@ begins old B mark stop n h =
     (closed_run (suc deepest - old.depth) B (open_of old.run) >>= after_run old.depth B old.at mark stop) n
     (item_begins (within_at old.depth) B (open_of old.run) mark (span_to old.at stop) n h)
 
+-- the same, once the open run has ended
 begun : (old mid : OpenBlock) (B : Block) (mark : ItemMark) (stop n k : ℕ) (o : OpenRun) → joining_with (open_of old.run) (item_found old mark stop) ≡ None
     → IsClosed (closed_run (suc deepest - old.depth) B (open_of old.run) n) old mid k o → IsPlaced old
     → item_reads old B mark stop n ≡ before (done_of mid) (item_then old.depth B old.at mark stop (begun_run (item_of_list mark) B (span_to old.at stop) (drop old.at B))) k
@@ -257,6 +270,7 @@ pub record IsList (o : OpenRun) : Type 0 where
   pub list : ListSoFar
   pub is : o ≡ open_list list
 
+-- an item joins nothing but a list
 joined_is_list : (o : OpenRun) (B : Block) (mark : ItemMark) (j : Joining) (s : Span) → joining_with o (found_as (item_of_list mark) s) ≡ Some j
     → IsList (joined_run j o B (found_as (item_of_list mark) s))
 joined_is_list no_run B mark j s h = absurd (cc)
@@ -266,6 +280,7 @@ joined_is_list (open_list l) B mark j s h =
     let r : ListSoFar = record { joining = j; end = s.stop; notes_before = l.notes_before ++ infos_of (item_of_list mark); element = l.element; items = l.items; notes_after = l.notes_after } in
     record { list = r; is = refl }
 
+-- the step of an item gives the item in its list, and what comes after it
 step_reads : (old mid new : OpenBlock) (B : Block) (mark : ItemMark) (s : Step) (item : Within → Numbered (List Node)) (stop k m : ℕ) (o : OpenRun) → IsList o
     → ReadsItem new B s m item → item_by (within_at old.depth) B old.at mark (drop old.at B) k ≡ item (within_at old.depth) m
     → done_of new ≡ done_of mid → new.depth ≡ old.depth → new.at ≡ stop → open_of new.run ≡ o
@@ -307,6 +322,7 @@ item_begins_list old mid new B mark s item stop n k m found h run w moved at rea
     ∙ begun old mid B mark stop n k o h run w
     ∙ step_reads old mid new B mark s item stop k m o list reads same (done_moved mid new moved) (moved.depth ∙ run.depth) at (ap open_of moved.run ∙ run.run))
 
+-- the block stays as deep, and its titles stay among its nodes
 pub kept_joined : (old mid new : OpenBlock) (o : OpenRun) → HasRun old mid o → IsMoved mid new → IsPlaced old → IsKept old new
 kept_joined old mid new o run moved w = record { depth = moved.depth ∙ run.depth; placed = placed_moved mid new moved (placed_run old mid o run w) }
 

@@ -35,6 +35,7 @@ item_there i stop m X e = omega (arith, e, item_to i m X, behind_item i m X)
 
 -- ---- what is read where these items come next
 
+-- what the block gives where an item of a bullet list comes next
 pub bullet_reads : (l : OpenBlock) (B : Block) (mark : ℕ) (m : Marker) (stop n : ℕ) → IsBegun (drop l.at B) (BulletMark mark m) → stop ≡ (item_part l.at m (drop l.at B)).to
     → reads l B n ≡ item_reads l B (bullet_item mark m) stop n
 bullet_reads l B mark m stop n h e =
@@ -42,6 +43,7 @@ bullet_reads l B mark m stop n h e =
     ∙ ap (λ size. item_reads l B (bullet_item mark m) (l.at + size) n) (bullet_sized (drop l.at B) mark m h)
     ∙ ap (λ i. item_reads l B (bullet_item mark m) i n) (sym (e ∙ item_to l.at m (drop l.at B)))
 
+-- what the block gives where an item of an enumerated list comes next
 pub enumerated_reads : (l : OpenBlock) (B : Block) (mark : Enumerator) (stop n : ℕ) → IsBegun (drop l.at B) (EnumeratorMark mark) → stop ≡ (item_part l.at mark.marker (drop l.at B)).to
     → reads l B n ≡ item_reads l B (enumerated_item mark) stop n
 enumerated_reads l B mark stop n h e =
@@ -93,10 +95,12 @@ listed_refused result (TooDeep line) follows old mid B mark stop n k r found h e
 
 -- ---- bullets
 
+-- an item with a bullet joins the open list with this bullet
 pub bullet_joins : (l : OpenBlock) (mark : ℕ) (m : Marker) (stop : ℕ) → list_kind_in l.run ≡ Some (Bullet mark)
     → joining_with (open_of l.run) (item_found l (bullet_item mark m) stop) ≡ Some (joining_in (Bullet mark))
 bullet_joins l mark m stop e = joining_by_kind l.run (bullet_item mark m) (span_to l.at stop) ∙ rw e (same_bullet mark m)
 
+-- where no list with this bullet is open, the item begins one
 pub bullet_begins : (l : OpenBlock) (mark : ℕ) (m : Marker) (stop : ℕ) → (list_kind_in l.run ≡ Some (Bullet mark) → ⊥)
     → joining_with (open_of l.run) (item_found l (bullet_item mark m) stop) ≡ None
 bullet_begins l mark m stop h = joining_by_kind l.run (bullet_item mark m) (span_to l.at stop) ∙ other_bullet mark m (list_kind_in l.run) h
@@ -110,6 +114,7 @@ bullet_run read old mid new B mark m stop k line element o h run e l =
 
 -- ---- enumerators
 
+-- the open list decides whether an item with an enumerator joins it
 pub enumerated_joins : (l : OpenBlock) (mark : Enumerator) (stop : ℕ) (o : Option Joining) → o ≡ next_joining (enumerated_item mark) (list_kind_in l.run)
     → joining_with (open_of l.run) (item_found l (enumerated_item mark) stop) ≡ o
 enumerated_joins l mark stop o e = joining_by_kind l.run (enumerated_item mark) (span_to l.at stop) ∙ sym e

@@ -35,6 +35,7 @@ use Rattle.rst_block.specs.declared.step.Step.{Step}
 use Rattle.rst_block.proofs.ListItems.{IsPlain, plain_joins, joining_by_kind, after_joined, run_is, run_then, closed_is, closed_then, item_reads, item_refused, item_joins_list, item_begins_list, kept_joined, kept_begun, ReadsItem, hanging_to, behind_hanging}
 use Rattle.rst_block.proofs.NextLines.{span_to, begun_reads, text_reads}
 
+-- the list that such an item begins
 plain_begun : (mark : ItemMark) (kind : ListKind) (B X : Block) (s : Span) → IsPlain mark kind
     → with_infos (infos_of (item_of_list mark)) (begun_at (joining_in kind) s.stop (empty_list mark X)) ≡ begun_run (item_of_list mark) B s X
 plain_begun (bullet_item c m) kind B X s h = absurd h
@@ -73,6 +74,7 @@ plain_item old mid put new B mark kind s item stop n k m plain found opened note
           item_begins_list old put new B mark s item stop n k m found (by ∙ e.1) closed w moved at reads same)
     ]
 
+-- the block stays as deep, and its titles stay among its nodes
 pub plain_kept : (old mid put new : OpenBlock) (B : Block) (mark : ItemMark) (kind : ListKind) (element : Node) (o : OpenRun) (stop n k : ℕ)
     → IsPlain mark kind → IsOpened old mid B kind element stop n k → HasRun mid put o → IsMoved put new → IsPlaced old → IsKept old new
 plain_kept old mid put new B mark kind element o stop n k plain opened noted moved w =
@@ -95,11 +97,13 @@ plain_refused result (TooDeep line) follows old mid B mark kind element stop n k
 
 -- ---- what is read where these items come next
 
+-- what the block gives where a field comes next
 pub field_reads : (l : OpenBlock) (B : Block) (m : FieldMark) (stop n : ℕ) → IsBegun (drop l.at B) (FieldBegun m) → stop ≡ (hanging l.at m.marker (drop l.at B)).to
     → reads l B n ≡ item_reads l B (field_item m) stop n
 field_reads l B m stop n h e =
     begun_reads (FieldBegun m) l B n h tt ∙ ap (λ i. item_reads l B (field_item m) i n) (sym (e ∙ hanging_to l.at m.marker (drop l.at B)))
 
+-- what the block gives where an item of an option list comes next
 pub option_reads : (l : OpenBlock) (B : Block) (m : Marker) (stop n : ℕ) → IsBegun (drop l.at B) (OptionBegun m) → stop ≡ (hanging l.at m (drop l.at B)).to
     → reads l B n ≡ item_reads l B (option_item m) stop n
 option_reads l B m stop n h e =
@@ -117,6 +121,7 @@ definition_to i B part e =
 pub definition_there : (i : ℕ) (B : Block) (part : Part) → part ≡ indented_part (i + 1) (drop (i + 1) B) → i < part.to
 definition_there i B part e = omega (arith, definition_to i B part e, behind_hanging i (drop i B))
 
+-- what the block gives where an item of a definition list comes next
 pub definition_reads : (l : OpenBlock) (B : Block) (infos : List Node) (part : Part) (n : ℕ) → IsText l B infos
     → text_form (front_text (drop l.at B)) (next_text (drop l.at B)) ≡ DefinitionForm → part ≡ indented_part (l.at + 1) (drop (l.at + 1) B)
     → reads l B n ≡ item_reads l B (definition_item infos) part.to n
