@@ -31,10 +31,10 @@ two_last t h =
     let end : suc (length t - 1) ≡ length t = omega arith in
     sym (take-append-drop (length t - 2) t)
     ∙ ap (λ x. before_colons t ++ x) (
-      drop-cons t (length t - 2) 0 (omega arith)
-      ∙ ap (λ x. x ∷ drop (suc (length t - 2)) t) one
-      ∙ ap (λ n. 58 ∷ drop n t) next
-      ∙ ap (λ x. 58 ∷ x) (drop-cons t (length t - 1) 0 (omega arith) ∙ ap (λ x. x ∷ drop (suc (length t - 1)) t) two ∙ ap (λ n. 58 ∷ drop n t) end ∙ ap (λ x. 58 ∷ x) (drop_all (length t) t (omega arith)))
+    drop-cons t (length t - 2) 0 (omega arith)
+    ∙ ap (λ x. x ∷ drop (suc (length t - 2)) t) one
+    ∙ ap (λ n. 58 ∷ drop n t) next
+    ∙ ap (λ x. 58 ∷ x) (drop-cons t (length t - 1) 0 (omega arith) ∙ ap (λ x. x ∷ drop (suc (length t - 1)) t) two ∙ ap (λ n. 58 ∷ drop n t) end ∙ ap (λ x. 58 ∷ x) (drop_all (length t) t (omega arith)))
     )
 
 two_bytes : encodes (58 ∷ 58 ∷ []) ≡ 58 ∷ 58 ∷ []

@@ -271,6 +271,7 @@ colons_behind xs ys = by (length ys) refl
   where
     whole : (n : ℕ) → length ys ≡ n → length (xs ++ 10 ∷ ys) ≡ length xs + suc n
     whole n e = length-append xs (10 ∷ ys) ∙ ap (λ k. length xs + suc k) e
+
     by : (n : ℕ) → length ys ≡ n → ends_in_colons (xs ++ 10 ∷ ys) ≡ ends_in_colons ys
     by zero e =
         let w : length (xs ++ 10 ∷ ys) ≡ length xs + 1 = whole 0 e in
@@ -286,10 +287,23 @@ colons_behind xs ys = by (length ys) refl
         let b : length xs + suc (suc (suc n)) - 1 ≡ length xs + suc (suc n) = omega arith in
         let c : suc (suc n) - 2 ≡ n = omega arith in
         let d : suc (suc n) - 1 ≡ suc n = omega arith in
-        rw (w, e, a, b, c, d, later_at xs (10 ∷ ys) (suc n), later_at xs (10 ∷ ys) (suc (suc n)), escaped_behind xs ys n,
-          lt-ltb (length xs + suc n) (length xs + suc (suc (suc n))) (omega arith), lt-ltb (length xs + suc (suc n)) (length xs + suc (suc (suc n))) (omega arith),
-          lt-ltb n (suc (suc n)) (omega arith), lt-ltb (suc n) (suc (suc n)) (omega arith),
-          le-leb 2 (length xs + suc (suc (suc n))) (omega arith), le-leb 2 (suc (suc n)) (omega arith)) refl
+        rw (
+          w,
+          e,
+          a,
+          b,
+          c,
+          d,
+          later_at xs (10 ∷ ys) (suc n),
+          later_at xs (10 ∷ ys) (suc (suc n)),
+          escaped_behind xs ys n,
+          lt-ltb (length xs + suc n) (length xs + suc (suc (suc n))) (omega arith),
+          lt-ltb (length xs + suc (suc n)) (length xs + suc (suc (suc n))) (omega arith),
+          lt-ltb n (suc (suc n)) (omega arith),
+          lt-ltb (suc n) (suc (suc n)) (omega arith),
+          le-leb 2 (length xs + suc (suc (suc n))) (omega arith),
+          le-leb 2 (suc (suc n)) (omega arith),
+        ) refl
 
 -- the last of some lines tells whether their text ends in two colons
 pub colons_last : (n : ℕ) (X : Block) → n < length X → ends_in_colons (joined (take (suc n) X)) ≡ ends_in_colons (front_text (drop n X))

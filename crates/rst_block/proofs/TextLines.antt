@@ -65,7 +65,20 @@ text_plain l B infos h = by (begins_with 32 (front_text (drop l.at B))) refl
     by : (b : Bool) → begins_with 32 (front_text (drop l.at B)) ≡ b → is_loose (front_text (drop l.at B)) ≡ false
     by false e = is_loose_by (front_text (drop l.at B)) h.filled e
     by true e = absurd (no_quote (text_form (front_text (drop l.at B)) (next_text (drop l.at B))) (l.depth == 0) infos (drop l.at B)
-      (ap (λ k. construct_by k (l.depth == 0) (drop l.at B)) (sym (quote_kind (drop l.at B) h.filled e)) ∙ h.construct))
+        (ap (λ k. construct_by k (l.depth == 0) (drop l.at B)) (sym (quote_kind (drop l.at B) h.filled e)) ∙ h.construct))
+
+-- what the block gives where the end of its open run is refused
+pub text_refused : (form : TextForm) (l : OpenBlock) (B : Block) (infos : List Node) (n line : ℕ) → IsText l B infos
+    → text_form (front_text (drop l.at B)) (next_text (drop l.at B)) ≡ form → IsAlone (text_by form (l.depth == 0) infos (drop l.at B))
+    → closed_run (suc deepest - l.depth) B (open_of l.run) n ≡ Err line → reads l B n ≡ Err line
+text_refused form l B infos n line text f alone h =
+    text_reads form l B infos n text f
+    ∙ alone_refused l B (found_as (text_by form (l.depth == 0) infos (drop l.at B)) (span_to l.at (l.at + form_size form (drop l.at B)))) n line alone h
+
+-- the form of the text at a line, as it was found
+pub form_here : (B : Block) (i : ℕ) (t u : List ℕ) (found form : TextForm) → t ≡ front_text (drop i B) → u ≡ front_text (drop 1 (drop i B)) → found ≡ text_form t u → found ≡ form
+    → text_form (front_text (drop i B)) (next_text (drop i B)) ≡ form
+form_here B i t u found form e f h is = sym (h ∙ ap (λ x. text_form x u) e ∙ ap (text_form (front_text (drop i B))) f) ∙ is
 
 -- ---- nodes and items that come after the last
 
@@ -233,22 +246,6 @@ underlined_goes old mid pre new B infos short n m next e text f h =
     (ap (then_read (λ (items : List Item). just (map plain infos ++ items))) g.given)
     done (g.depth ∙ ended_depth old mid pre B infos n m e) g.at (ap open_of (g.run ∙ e.notes.run) ∙ e.closed.run)
 
--- ---- what ends a line of text early
-
--- the open run is nested too deeply, or memory ran out
-pub close_keeps : {C : Type 0} (A : Type 0) (form : TextForm) (old new : OpenBlock) (B : Block) (infos : List Node) (n next : ℕ) (e : BlockFault) (follows : C → Result (List Item × ℕ) ℕ)
-    → IsText old B infos → text_form (front_text (drop old.at B)) (next_text (drop old.at B)) ≡ form → IsAlone (text_by form (old.depth == 0) infos (drop old.at B))
-    → Closes {A = A} (closed_run (suc deepest - old.depth) B (open_of old.run) n) old new next no_run (Err e) → Keeps (Err e) follows (reads old B n)
-close_keeps A form old new B infos n next (TooDeep line) follows text f alone h =
-    text_reads form old B infos n text f
-    ∙ alone_refused old B (found_as (text_by form (old.depth == 0) infos (drop old.at B)) (span_to old.at (old.at + form_size form (drop old.at B)))) n line alone h
-close_keeps A form old new B infos n next NoMemory follows text f alone h = tt
-
--- memory ran out
-pub gives_keeps : {A C : Type 0} (P : A → Type 0) (e : BlockFault) (follows : C → Result (List Item × ℕ) ℕ) (read : Result (List Item × ℕ) ℕ) → Gives P (Err e) → Keeps (Err e) follows read
-gives_keeps P (TooDeep line) follows read h = absurd h
-gives_keeps P NoMemory follows read h = tt
-
 -- ---- titles and the messages on them
 
 pub goes_as : {A : Type 0} (read wanted : Result (List Item × ℕ) ℕ) (old new : OpenBlock) (i next : ℕ) (r : Result A BlockFault) → read ≡ wanted → Gives (λ (_ : A). GoesOnWith read old new i next) r
@@ -333,7 +330,7 @@ pub two_lines : (B : Block) (i : ℕ) (short : Bool) → text_form (front_text (
 two_lines B i short h = elim (cases_lt (i + 1) (length B)) [
   | inl inside ↦ inside
   | inr over ↦ (
-    let none : next_text (drop i B) ≡ [] = ap front_text (drop-drop 1 i B ∙ drop_all (i + 1) B over) in
-    let same : Paragraph ≡ Title short = sym (no_underline (front_text (drop i B))) ∙ ap (text_form (front_text (drop i B))) (sym none) ∙ h in
-    cc)
+      let none : next_text (drop i B) ≡ [] = ap front_text (drop-drop 1 i B ∙ drop_all (i + 1) B over) in
+      let same : Paragraph ≡ Title short = sym (no_underline (front_text (drop i B))) ∙ ap (text_form (front_text (drop i B))) (sym none) ∙ h in
+      cc)
 ]
