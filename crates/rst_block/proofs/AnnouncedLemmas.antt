@@ -1,5 +1,5 @@
 -- What a paragraph shows that announces a literal block.
-use Rattle.std.proofs.Common.{◌≡◌, ℕ, zero, suc, ◌+◌, ◌-◌, ◌<◌, ◌≤◌, ◌==◌, ◌⊎◌, inl, inr, Bool, true, false, cond, ◌&&◌, ◌||◌, List, [], ◌∷◌, ◌++◌, length, length-append, get_or, take, drop, Option, None, Some, Result, Ok, Err, refl, sym, ap, ◌∙◌, arith, ltb, leb, lt-ltb, le-ltb, leb-true, drop-cons, take-append-drop, Bor, IfOk, String}
+use Rattle.std.proofs.Common.{◌≡◌, ℕ, suc, ◌-◌, ◌<◌, ◌≤◌, ◌==◌, ◌⊎◌, inl, inr, Bool, true, false, ◌&&◌, ◌||◌, List, [], ◌∷◌, ◌++◌, length, length-append, get_or, take, drop, Option, None, Some, Result, Ok, Err, refl, sym, ap, ◌∙◌, arith, ltb, lt-ltb, le-ltb, leb-true, drop-cons, take-append-drop, Bor, IfOk, String}
 use Rattle.std.specs.Prelude.{MatchOption, unwrap_or, string_bytes, if◌then◌else◌}
 use Rattle.std.specs.Char.{is_whitespace}
 use Rattle.std.specs.Str.{IsUtf8, chars, drop_trailing_whitespace, trim_end}
@@ -7,11 +7,9 @@ use Rattle.std.specs.Str.Pattern.{FindsTextSuffix, StripsSuffix}
 use Rattle.std.proofs.lemmas.Bool.{and_parts, eqb-true}
 use Rattle.std.proofs.lemmas.List.{append_cancel_right, drop_all}
 use Rattle.std.proofs.lemmas.Str.{encodes-append, encode_ascii, encodes-chars, chars_from_encodes, chars-append, length-le-encodes}
-use Rattle.std.proofs.Math.Utf8.{encode, encodes}
+use Rattle.std.proofs.Math.Utf8.{encodes}
 use Rattle.rst_text.specs.Block.{is_blank}
 use Rattle.rst_text.specs.Text.{chars_of}
-use Rattle.rst_inline_scan.specs.Escapes.{is_escaped}
-use Rattle.rst_inline_scan.specs.Characters.{has}
 use Rattle.rst_markup_lines.specs.Closing.{ends_in_colons}
 use Rattle.rst_block.specs.Literals.{without_colons, announced}
 
@@ -21,21 +19,37 @@ use Rattle.rst_block.specs.Literals.{without_colons, announced}
 abbrev pub before_colons : List ℕ → List ℕ
 before_colons t = take (length t - 2) t
 
-two_last : (t : List ℕ) → ends_in_colons t ≡ true → t ≡ before_colons t ++ 58 ∷ 58 ∷ []
-two_last t h =
-    let some : 2 ≤ length t = leb-true 2 (length t) (and_parts _ _ h).0 in
+-- a text that ends in two colons has these two characters last
+record HasColons (t : List ℕ) : Type 0 where
+  some : 2 ≤ length t
+  one : get_or t (length t - 2) 0 ≡ 58
+  two : get_or t (length t - 1) 0 ≡ 58
+
+has_colons : (t : List ℕ) → ends_in_colons t ≡ true → HasColons t
+has_colons t h =
     let rest = and_parts _ _ (and_parts _ _ h).1 in
-    let one = eqb-true (get_or t (length t - 2) 0) 58 (and_parts (ltb (length t - 2) (length t)) (get_or t (length t - 2) 0 == 58) rest.0).1 in
-    let two = eqb-true (get_or t (length t - 1) 0) 58 (and_parts (ltb (length t - 1) (length t)) (get_or t (length t - 1) 0 == 58) (and_parts _ _ rest.1).0).1 in
-    let next : suc (length t - 2) ≡ length t - 1 = omega arith in
-    let end : suc (length t - 1) ≡ length t = omega arith in
+    record {
+      some = leb-true 2 (length t) (and_parts _ _ h).0;
+      one = eqb-true (get_or t (length t - 2) 0) 58 (and_parts (ltb (length t - 2) (length t)) (get_or t (length t - 2) 0 == 58) rest.0).1;
+      two = eqb-true (get_or t (length t - 1) 0) 58 (and_parts (ltb (length t - 1) (length t)) (get_or t (length t - 1) 0 == 58) (and_parts _ _ rest.1).0).1;
+    }
+
+two_last_of : (t : List ℕ) → HasColons t → t ≡ before_colons t ++ 58 ∷ 58 ∷ []
+two_last_of t h =
+    let next : suc (length t - 2) ≡ length t - 1 = omega (arith, h.some) in
+    let end : suc (length t - 1) ≡ length t = omega (arith, h.some) in
+    let last : drop (length t - 1) t ≡ 58 ∷ [] =
+    drop-cons t (length t - 1) 0 (omega (arith, h.some)) ∙ ap (λ x. x ∷ drop (suc (length t - 1)) t) h.two ∙ ap (λ n. 58 ∷ drop n t) end ∙ ap (λ x. 58 ∷ x) (drop_all (length t) t (omega arith)) in
     sym (take-append-drop (length t - 2) t)
     ∙ ap (λ x. before_colons t ++ x) (
-    drop-cons t (length t - 2) 0 (omega arith)
-    ∙ ap (λ x. x ∷ drop (suc (length t - 2)) t) one
+    drop-cons t (length t - 2) 0 (omega (arith, h.some))
+    ∙ ap (λ x. x ∷ drop (suc (length t - 2)) t) h.one
     ∙ ap (λ n. 58 ∷ drop n t) next
-    ∙ ap (λ x. 58 ∷ x) (drop-cons t (length t - 1) 0 (omega arith) ∙ ap (λ x. x ∷ drop (suc (length t - 1)) t) two ∙ ap (λ n. 58 ∷ drop n t) end ∙ ap (λ x. 58 ∷ x) (drop_all (length t) t (omega arith)))
+    ∙ ap (λ x. 58 ∷ x) last
     )
+
+two_last : (t : List ℕ) → ends_in_colons t ≡ true → t ≡ before_colons t ++ 58 ∷ 58 ∷ []
+two_last t h = two_last_of t (has_colons t h)
 
 two_bytes : encodes (58 ∷ 58 ∷ []) ≡ 58 ∷ 58 ∷ []
 two_bytes = ap (λ x. x ++ (x ++ [])) (encode_ascii 58 (omega arith))

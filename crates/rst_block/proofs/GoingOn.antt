@@ -1,6 +1,5 @@
 -- Blocks that go on, step by step.
-use Rattle.std.proofs.Common.{◌≡◌, ℕ, suc, ◌+◌, ◌-◌, List, [], ◌∷◌, ◌++◌, drop, map, Result, Ok, Err, refl, sym, ◌∙◌, ap, append_assoc, append-nil}
-use Rattle.rst_text.specs.Block.{Block}
+use Rattle.std.proofs.Common.{◌≡◌, ℕ, List, [], ◌++◌, Result, Ok, Err, refl, sym, ◌∙◌, ap, append_assoc, append-nil}
 use Rattle.rst_tree.specs.declared.node.Node.{Node}
 use Rattle.rst_block.specs.OpenBlocks.{IsMoved, HasMore, HasGone, Gives}
 use Rattle.rst_block.specs.declared.fault.BlockFault.{BlockFault}

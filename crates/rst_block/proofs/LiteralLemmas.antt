@@ -1,26 +1,21 @@
 -- Literal blocks and the paragraphs that announce them.
-use Rattle.std.proofs.Common.{◌≡◌, ℕ, zero, suc, ◌+◌, ◌-◌, ◌<◌, ◌≤◌, ◌==◌, ◌⊎◌, inl, inr, Bool, true, false, cond, not, ◌&&◌, ◌||◌, List, [], ◌∷◌, ◌++◌, length, length-append, length-drop, get_or, take, drop, Option, None, Some, refl, sym, ap, ◌∙◌, arith, append_assoc, append-nil, ltb, leb, lt-ltb, le-ltb, le-leb, drop-drop, drop-cons, take-append-drop, get_or-append-add}
-use Rattle.std.specs.Prelude.{encode_utf8_all, slice_index, nat_lt, codes, if◌then◌else◌}
-use Rattle.std.specs.Char.{is_whitespace}
-use Rattle.std.specs.Str.{IsUtf8, chars, drop_trailing_whitespace, trim_end}
-use Rattle.std.proofs.lemmas.Bool.{and_parts, eqb-true, cases_Bool, cases_lt}
-use Rattle.std.proofs.lemmas.List.{drop_all, take-append-le, append_cancel_right}
-use Rattle.std.proofs.lemmas.Str.{encodes-append, encode_ascii, encodes-chars, chars_from_encodes, chars-append, length-le-encodes, IsUtf8-append, IsUtf8-from_ascii}
-use Rattle.std.proofs.Math.Utf8.{encode, encodes}
-use Rattle.rst_text.specs.Block.{Line, Block, front_text, first_number, indentation, is_blank}
+use Rattle.std.proofs.Common.{◌≡◌, ℕ, zero, suc, ◌+◌, ◌-◌, ◌<◌, ◌≤◌, ◌==◌, ◌⊎◌, inl, inr, Bool, true, false, List, [], ◌∷◌, ◌++◌, length, length-append, length-drop, get_or, take, drop, None, Some, refl, sym, ap, ◌∙◌, arith, lt-ltb, le-ltb, le-leb, drop-drop, get_or-append-add}
+use Rattle.std.specs.Prelude.{codes, if◌then◌else◌}
+use Rattle.std.proofs.lemmas.Bool.{eqb-true}
+use Rattle.std.proofs.lemmas.List.{drop_all}
+use Rattle.rst_text.specs.Block.{Block, front_text, first_number, indentation, is_blank}
 use Rattle.rst_text.specs.Extent.{extent, past_blank}
 use Rattle.rst_tree.specs.declared.node.Node.{Node}
 use Rattle.rst_tree.specs.declared.tag.Tag.TheVariants.{LiteralBlock}
-use Rattle.rst_inline_scan.specs.Escapes.{escapes, is_escaped}
-use Rattle.rst_inline_scan.specs.Characters.{has}
+use Rattle.rst_inline_scan.specs.Escapes.{is_escaped}
 use Rattle.rst_markup_lines.specs.Adornment.{is_punctuation}
 use Rattle.rst_markup_lines.specs.Closing.{ends_in_colons}
-use Rattle.rst_markup_lines.specs.Front.{first, begins_with, is_loose}
-use Rattle.rst_markup_blocks.specs.Lines.{passes, lines_while}
-use Rattle.rst_markup_blocks.specs.Sizes.{quoted_size, quoted_by, literal_size, paragraph_len, run_size, paragraph_size, last_text}
-use Rattle.rst_markup_blocks.specs.declared.lines.LineTest.TheVariants.{Blank, Begins, Plain}
+use Rattle.rst_markup_lines.specs.Front.{first, begins_with}
+use Rattle.rst_markup_blocks.specs.Lines.{lines_while}
+use Rattle.rst_markup_blocks.specs.Sizes.{quoted_size, quoted_by, literal_size}
+use Rattle.rst_markup_blocks.specs.declared.lines.LineTest.TheVariants.{Blank, Begins}
 use Rattle.rst_block_nodes.specs.Elements.{preserved_node}
-use Rattle.rst_block.specs.Literals.{quoting_text, literal_node, indented_literal, quoted_literal, no_literal, literal_by, literal_nodes, without_colons, announced}
+use Rattle.rst_block.specs.Literals.{quoting_text, literal_node, indented_literal, quoted_literal, no_literal, literal_by, literal_nodes}
 use Rattle.rst_block.specs.Texts.{joined, lines_in, said, source_of, spelled, unless_blank, warned}
 use Rattle.rst_tree.specs.declared.note.Level.TheVariants.{Warning, Error}
 use Rattle.rst_block.specs.Within.{indented_part}

@@ -1,16 +1,16 @@
 -- Paragraphs, step by step.
-use Rattle.std.proofs.Common.{◌≡◌, ℕ, zero, suc, ◌+◌, ◌-◌, ◌<◌, ◌≤◌, Bool, true, false, not, List, [], ◌∷◌, ◌++◌, length, length-drop, take, drop, Result, Ok, Err, refl, sym, ap, ◌∙◌, arith, append_assoc, append-nil}
+use Rattle.std.proofs.Common.{◌≡◌, ℕ, suc, ◌+◌, ◌-◌, ◌<◌, ◌≤◌, Bool, true, false, not, List, [], ◌∷◌, ◌++◌, length, length-drop, take, drop, Ok, refl, sym, ap, ◌∙◌, arith, append_assoc, append-nil}
 use Rattle.std.specs.Prelude.{codes, if◌then◌else◌}
-use Rattle.rst_text.specs.Block.{Line, Block, front_text, first_number, is_blank}
+use Rattle.rst_text.specs.Block.{Block, front_text, first_number}
 use Rattle.rst_tree.specs.declared.node.Node.{Node}
 use Rattle.rst_tree.specs.declared.note.Level.TheVariants.{Error}
 use Rattle.rst_markup_lines.specs.Closing.{ends_in_colons}
 use Rattle.rst_markup_lines.specs.Front.{is_loose}
-use Rattle.rst_markup_blocks.specs.Lines.{passes, lines_while}
+use Rattle.rst_markup_blocks.specs.Lines.{lines_while}
 use Rattle.rst_markup_blocks.specs.Sizes.{literal_size, paragraph_len, run_size, paragraph_size, last_text}
 use Rattle.rst_markup_blocks.specs.declared.lines.LineTest.TheVariants.{Plain}
 use Rattle.rst_block.specs.Literals.{announced, text_paragraph, after_paragraph, literal_nodes, paragraph_nodes}
-use Rattle.rst_block.specs.Numbered.{Numbered, then_read, ◌>>=◌, just}
+use Rattle.rst_block.specs.Numbered.{then_read, ◌>>=◌, just}
 use Rattle.rst_block.specs.ParagraphSteps.{shown_paragraph, paragraph_between, paragraph_end}
 use Rattle.rst_block.specs.Texts.{joined, unless_blank}
 use Rattle.rst_block.proofs.LiteralLemmas.{lines_after, colons_last}

@@ -1,43 +1,39 @@
 -- Lines of text: what the block gives after a paragraph or a title over its underline.
-use Rattle.std.proofs.Common.{◌≡◌, ℕ, zero, suc, ◌+◌, ◌-◌, ◌<◌, ◌≤◌, Bool, true, false, not, List, [], ◌∷◌, ◌++◌, length, drop, map, codes, Option, Some, None, Result, Ok, Err, refl, sym, ◌∙◌, ap, subst, arith, inl, inr, append_assoc, append-nil}
-use Rattle.std.specs.Prelude.{◌==◌, unwrap_or, if◌then◌else◌}
-use Rattle.std.specs.Option.{option_to_list}
+use Rattle.std.proofs.Common.{◌≡◌, ℕ, suc, ◌+◌, ◌-◌, ◌<◌, Bool, true, false, List, [], ◌∷◌, ◌++◌, length, drop, map, codes, Option, None, Result, Ok, Err, refl, sym, ◌∙◌, ap, subst, inl, inr, append_assoc, append-nil}
+use Rattle.std.specs.Prelude.{◌==◌, unwrap_or}
 use Rattle.std.proofs.lemmas.Bool.{cases_lt}
 use Rattle.std.proofs.lemmas.List.{drop-drop, drop_all}
 use Rattle.rst_text.specs.Block.{Block, is_blank, front_text, first_number}
 use Rattle.rst_tree.specs.declared.node.Node.{Node}
-use Rattle.rst_tree.specs.declared.note.Level.TheVariants.{Info, Severe}
+use Rattle.rst_tree.specs.declared.note.Level.TheVariants.{Info}
 use Rattle.rst_markup_lines.specs.Adornment.{adornment_of}
 use Rattle.rst_markup_lines.specs.Front.{first, begins_with, is_loose}
 use Rattle.rst_markup_blocks.specs.Conditions.{next_text}
 use Rattle.rst_markup_blocks.specs.Forms.{text_form}
 use Rattle.rst_markup_blocks.specs.Kinds.{kind_at, first_kind}
-use Rattle.rst_markup_blocks.specs.Partition.{IsTextAt}
 use Rattle.rst_markup_blocks.specs.Sizes.{form_size, paragraph_size}
 use Rattle.rst_markup_blocks.specs.declared.form.TextForm.{TextForm}
 use Rattle.rst_markup_blocks.specs.declared.form.TextForm.TheVariants.{Paragraph, ShortUnderline, Definition, Title}
 use Rattle.rst_markup_blocks.specs.declared.kind.Kind.TheVariants as kinds
-use Rattle.rst_block_sections.specs.declared.heading.Style.{Style}
 use Rattle.rst_block_sections.specs.declared.heading.Heading.{Heading}
 use Rattle.rst_block_sections.specs.Sections.{title_of}
-use Rattle.rst_block.specs.Constructs.{Construct, block_quote, paragraph, underlined_title, short_underline, text_by, construct_by, construct_at, text_after}
+use Rattle.rst_block.specs.Constructs.{Construct, block_quote, paragraph, short_underline, text_by, construct_by}
 use Rattle.rst_block.specs.Joins.{alone_ending}
 use Rattle.rst_block.specs.Literals.{paragraph_nodes}
-use Rattle.rst_block.specs.Meanings.{Keeps, deepest, open_of, within_at, done_of, reads, comes}
+use Rattle.rst_block.specs.Meanings.{deepest, open_of, within_at, done_of, reads}
 use Rattle.rst_block.specs.NextLine.{IsText}
-use Rattle.rst_block.specs.Nodes.{piece_by, piece_of, ending_notes, plainly}
-use Rattle.rst_block.specs.Numbered.{Numbered, then_read, ◌>>=◌, just, before}
-use Rattle.rst_block.specs.OpenBlocks.{IsMoved, HasMore, HasTitle, HasGone, GoesOn, GoesOnWith, IsClosed, Closes, Gives, IsPlaced, IsKept}
+use Rattle.rst_block.specs.Nodes.{piece_by, ending_notes, plainly}
+use Rattle.rst_block.specs.Numbered.{Numbered, then_read, just, before}
+use Rattle.rst_block.specs.OpenBlocks.{IsMoved, HasMore, HasTitle, HasGone, GoesOn, GoesOnWith, IsClosed, Gives, IsPlaced, IsKept}
 use Rattle.rst_block.specs.ParagraphSteps.{under_style, unexpected_notes}
 use Rattle.rst_block.specs.Rest.{no_run, closed_run, rest}
 use Rattle.rst_block.specs.RestLaws.{found_as, IsAlone}
-use Rattle.rst_block.specs.Texts.{said, shown, source_of}
-use Rattle.rst_block.specs.Titles.{Item, plain, titled, title_item, short_warning, underline_warning, underline_item, underlined_nodes}
+use Rattle.rst_block.specs.Texts.{said, source_of}
+use Rattle.rst_block.specs.Titles.{Item, plain, titled, title_item, short_warning, underline_warning, underline_item}
 use Rattle.rst_block.specs.declared.fault.BlockFault.{BlockFault}
-use Rattle.rst_block.specs.declared.fault.BlockFault.TheVariants.{TooDeep, NoMemory}
 use Rattle.rst_block.specs.declared.open_block.OpenBlock.{OpenBlock}
 use Rattle.rst_block.proofs.Changes.{done_moved, done_more, done_title, placed_moved, placed_more, placed_title, placed_closed}
-use Rattle.rst_block.proofs.GoingOn.{gives_map, more_gone, gone_more, gone_gone}
+use Rattle.rst_block.proofs.GoingOn.{gives_map, gone_more, gone_gone}
 use Rattle.rst_block.proofs.NextLines.{span_to, text_reads, alone_rest, alone_reads, alone_refused}
 use Rattle.rst_block.proofs.NumberedLemmas.{before_before}
 use Rattle.rst_block.proofs.ParagraphLemmas.{after_infos}

@@ -1,7 +1,6 @@
-use Rattle.std.proofs.Common.{◌≡◌, ◌+◌, ◌-◌, ◌<◌, ◌≤◌, ℕ, List, [], ◌∷◌, ◌++◌, length, drop, take, codes, true, false, refl, sym, ap, ◌∙◌, arith}
+use Rattle.std.proofs.Common.{◌≡◌, ◌+◌, ℕ, [], ◌∷◌, drop, take, true, false, refl, sym, ap, ◌∙◌, arith}
 use Rattle.rst_text.specs.Block.{Block, front_text, is_blank}
 use Rattle.rst_text.specs.Shown.{block_of}
-use Rattle.rst_tree.specs.declared.node.Node.{Node}
 use Rattle.rst_markup_blocks.specs.Lines.{lines_while}
 use Rattle.rst_markup_blocks.specs.declared.lines.LineTest.TheVariants.{Begins}
 use Rattle.rst_block.specs.Literals.{literal_node, quoting_text}

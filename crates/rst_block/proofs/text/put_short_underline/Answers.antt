@@ -1,10 +1,8 @@
-use Rattle.std.proofs.Common.{◌≡◌, ◌+◌, ◌<◌, ℕ, ◌∷◌, [], List, true, false, drop, refl, sym, ap, ◌∙◌, arith, rules}
+use Rattle.std.proofs.Common.{◌≡◌, ◌+◌, ℕ, ◌∷◌, [], true, drop, sym, ◌∙◌, arith, rules}
 use Rattle.std.specs.Prelude.{◌==◌}
 use Rattle.rst_text.specs.Block.{Block}
 use Rattle.rst_text.specs.Shown.{block_of}
-use Rattle.rst_tree.specs.declared.node.Node.{Node}
 use Rattle.rst_block.specs.Constructs.{short_underline}
-use Rattle.rst_block.specs.OpenBlocks.{HasMore, Gives}
 use Rattle.rst_block.proofs.TextLines.{short_as}
 use Rattle.rst_block.proofs.text.put_short_underline.Goals as goal
 
