@@ -32,6 +32,7 @@ pub mod Resuming
 pub mod Spelling
 pub mod Splitting
 pub mod Stack
+pub mod StepLemmas
 pub mod TableSteps
 pub mod TextLines
 pub mod SubstitutionReads

@@ -1,11 +1,11 @@
 -- The blocks that wait, and the work that is left in them.
-use Rattle.std.proofs.Common.{◌≡◌, ℕ, ◌+◌, ◌-◌, ◌*◌, ◌<◌, ◌≤◌, ◌++◌, List, [], ◌∷◌, length, length-append, take, drop, map, Option, None, Some, arith, refl, ap, ◌∙◌}
+use Rattle.std.proofs.Common.{◌≡◌, ℕ, suc, ◌+◌, ◌-◌, ◌*◌, ◌<◌, ◌≤◌, ◌++◌, List, [], ◌∷◌, length, length-append, take, drop, map, Option, None, Some, arith, refl, ap, sym, subst, ◌∙◌}
 use Rattle.std.proofs.lemmas.List.{drop-append-le, take-append-le, map-append, length-map}
 use Rattle.rst_text.specs.Block.{Block}
 use Rattle.rst_text.specs.Shown.{placement_block}
 use Rattle.rst_markup_blocks.specs.declared.part.Part.{Part}
-use Rattle.rst_block.specs.Frames.{IsFrame, AreFrames, IsNow, HasSecond}
-use Rattle.rst_block.specs.Steps.{IsStep, IsNext, IsResumed}
+use Rattle.rst_block.specs.Frames.{IsFrame, AreFrames, AreNested, IsNow, HasSecond}
+use Rattle.rst_block.specs.Steps.{IsTable, IsStep, IsNext, IsResumed}
 use Rattle.rst_block.specs.declared.frame.Frame.{Frame}
 use Rattle.rst_block.specs.declared.step.Step.{Step}
 use Rattle.rst_block.specs.declared.step.Step.TheVariants.{Next, Open, Cells, Done}
@@ -35,13 +35,13 @@ all_left n room S fs lines at now = work (5 * n + 6) room (map (left S) fs) (cos
 pub next_of_step : (B : Block) (at on to : ℕ) (s : Step) → at ≤ on → on < length B → IsStep B on to s → IsNext B at to s
 next_of_step B at on to Next i j h = (omega (arith, i, j), omega (arith, i, h))
 next_of_step B at on to (Open w first second) i j h = (omega (arith, i, j), omega (arith, i, h.0), h.1, h.2, h.3)
-next_of_step B at on to (Cells table) i j h = (omega (arith, i, h.0), omega (arith, h.0, h.1))
+next_of_step B at on to (Cells table) i j h = (omega (arith, i, h.0), omega (arith, h.0, h.1), subst (λ k. IsTable k table) (sym h.0) h.2)
 next_of_step B at on to Done i j h = tt
 
 pub now_of_next : (B : Block) (at to : ℕ) (s : Step) → IsNext B at to s → IsNow B to s
 now_of_next B at to Next h = tt
 now_of_next B at to (Open w first second) h = (h.2, h.3, h.4)
-now_of_next B at to (Cells table) h = h.1
+now_of_next B at to (Cells table) h = (h.1, h.2)
 now_of_next B at to Done h = tt
 
 pub now_of_resumed : (B : Block) (at to : ℕ) (s : Step) → IsResumed B at to s → IsNow B to s
@@ -138,3 +138,14 @@ pub placed : (S : Block) (base : ℕ) (xs : List Frame) (f : Frame) → base ≤
 placed S base xs f h a i =
     let d : drop base (xs ++ f ∷ []) ≡ drop base xs ++ f ∷ [] = drop-append-le base xs (f ∷ []) h in
     (omega (arith, length-append xs (f ∷ []), h), d, take-append-le base xs (f ∷ []) h, rw d (pushed S (drop base xs) f a i))
+
+-- ---- how deep they stand
+
+-- one more block that waits stands in one block more than the last
+pub nested_push : (d : ℕ) (fs : List Frame) (f : Frame) → AreNested d fs → f.level.depth ≡ d + length fs → AreNested d (fs ++ f ∷ [])
+nested_push d [] f h e = (omega (arith, e), tt)
+nested_push d (g ∷ fs) f h e = (h.0, nested_push (suc d) fs f h.1 (omega (arith, e)))
+
+pub nested_pop : (d : ℕ) (fs : List Frame) (f : Frame) → AreNested d (fs ++ f ∷ []) → AreNested d fs × (f.level.depth ≡ d + length fs)
+nested_pop d [] f h = (tt, omega (arith, h.0))
+nested_pop d (g ∷ fs) f h = let r = nested_pop (suc d) fs f h.1 in ((h.0, r.0), omega (arith, r.1))

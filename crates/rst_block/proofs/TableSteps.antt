@@ -18,7 +18,7 @@ use Rattle.rst_markup_tables.specs.Tiling.{grid_by, grid_table, tiling_of}
 use Rattle.rst_markup_tables.specs.declared.results.TableDetail.{TableDetail}
 use Rattle.rst_markup_tables.specs.declared.results.TableFault.{TableFault}
 use Rattle.rst_markup_tables.specs.declared.results.TableResult.{TableResult}
-use Rattle.rst_markup_tables.specs.declared.results.TableResult.TheVariants.{Malformed}
+use Rattle.rst_markup_tables.specs.declared.results.TableResult.TheVariants.{Table, Malformed}
 use Rattle.rst_markup_tables.proofs.EndLemmas.{rows-size, simple_by_end}
 use Rattle.rst_markup_tables.proofs.RowLemmas.{dashes-length}
 use Rattle.rst_block.specs.Constructs.{Construct, grid, simple}
@@ -30,6 +30,7 @@ use Rattle.rst_block.specs.Numbered.{Numbered, then_read, ◌>>=◌, just, befor
 use Rattle.rst_block.specs.OpenBlocks.{IsMoved, HasMore, IsClosed, IsPlaced}
 use Rattle.rst_block.specs.Rest.{no_run, closed_run, rest}
 use Rattle.rst_block.specs.RestLaws.{IsAlone}
+use Rattle.rst_block.specs.Steps.{IsStep}
 use Rattle.rst_block.specs.Tables.{table_nodes}
 use Rattle.rst_block.specs.Texts.{shown, source_of}
 use Rattle.rst_block.specs.Titles.{Item, plain}
@@ -37,7 +38,7 @@ use Rattle.rst_block.specs.Within.{Within}
 use Rattle.rst_block.specs.declared.open_block.OpenBlock.{OpenBlock}
 use Rattle.rst_block.specs.declared.step.Step.TheVariants.{Cells}
 use Rattle.rst_block.proofs.Changes.{placed_closed}
-use Rattle.rst_block.proofs.NextConstructs.{next_of, next_found, next_alone}
+use Rattle.rst_block.proofs.NextConstructs.{next_of, next_found, next_alone, next_some}
 use Rattle.rst_block.proofs.NextLines.{span_to, gone_reads}
 use Rattle.rst_block.proofs.NumberedLemmas.{same_after, after_after, before_before, before_then}
 
@@ -139,3 +140,11 @@ malformed_reads old mid moved new B end fault n m h cl w g at more =
     gone_reads mid moved new B ns end m g at more (placed_closed (closed_run (suc deepest - old.depth) B (open_of old.run) n) old mid m no_run cl w)
     ∙ before_before (done_of mid) (map plain ns) (rest (within_at mid.depth) B end (open_of mid.run)) m
     ∙ table_comes old mid B (Malformed end fault) n m h cl w
+
+-- a table whose cells come next ends behind its first line
+pub table_steps : (l : OpenBlock) (B : Block) (t : TableResult) (to : ℕ) → IsNextTable l B t → ((end : ℕ) (fault : TableFault) → t ≡ Malformed end fault → ⊥) → to ≡ l.at → l.at < length B
+    → IsStep B l.at to (Cells t)
+table_steps l B (Table cols head rows end) to h f e i =
+    let stop : end ≡ l.at + h.lines = h.end in
+    (e, i, omega (arith, stop, next_some l B h.what h.lines h.next i))
+table_steps l B (Malformed end fault) to h f e i = absurd (f end fault refl)

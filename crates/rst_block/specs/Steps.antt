@@ -24,23 +24,23 @@ abbrev pub IsWaiting : Block → ℕ → Waits → Type 0
 IsWaiting B at (Quote line attribution rest end) = IsRest B at rest
 IsWaiting B at w = Unit {0}
 
--- a table, and not lines that are none
-abbrev pub IsTable : TableResult → Type 0
-IsTable (Table widths n rows end) = Unit {0}
-IsTable (Malformed end fault) = ⊥
+-- a table that ends behind a place, and not lines that are none
+abbrev pub IsTable : ℕ → TableResult → Type 0
+IsTable at (Table widths n rows end) = at < end
+IsTable at (Malformed end fault) = ⊥
 
 -- a step from one place to another
 abbrev pub IsStep : Block → ℕ → ℕ → Step → Type 0
 IsStep B at to Next = at < to
 IsStep B at to (Open w first second) = (at < to) × IsBlock B first × IsBlockIf B second × IsWaiting B to w
-IsStep B at to (Cells table) = (to ≡ at) × (at < length B) × IsTable table
+IsStep B at to (Cells table) = (to ≡ at) × (at < length B) × IsTable at table
 IsStep B at to Done = Unit {0}
 
 -- what comes next in a block that goes on at a place: a step, behind some that only go on, or the block's end
 abbrev pub IsNext : Block → ℕ → ℕ → Step → Type 0
 IsNext B at to Next = (at < length B) × (at < to)
 IsNext B at to (Open w first second) = (at < length B) × (at < to) × IsBlock B first × IsBlockIf B second × IsWaiting B to w
-IsNext B at to (Cells table) = (at ≤ to) × (to < length B) × IsTable table
+IsNext B at to (Cells table) = (at ≤ to) × (to < length B) × IsTable to table
 IsNext B at to Done = Unit {0}
 
 -- what follows a block inside

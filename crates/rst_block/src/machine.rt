@@ -1,9 +1,10 @@
 //! The machine: the constructs of a block one after the other, and the blocks inside them.
-ghost use Rattle.std.specs.Prelude.{◌≡◌, Ok, suc, ◌+◌, ◌-◌, ◌*◌, ◌^◌, ◌<◌, ◌≤◌, ◌++◌, ◌∷◌, [], length, drop, IfOk, IfSome, IfNone};
+ghost use Rattle.std.specs.Prelude.{◌≡◌, Ok, suc, ◌+◌, ◌-◌, ◌*◌, ◌^◌, ◌<◌, ◌≤◌, ◌++◌, ◌∷◌, [], length, drop, IfErr, IfOk, IfSome, IfNone};
 ghost use Rattle.rst_text.specs.Shown.{block_of};
 ghost use Rattle.rst_markup_blocks.specs.Parts.{IsBlock, IsCall};
 ghost use Rattle.rst_block.specs.Meanings.{Keeps, TellsBlank, comes, deepest, done_of, reads, text_items, within_at};
 ghost use Rattle.rst_block.specs.Steps as spec;
+ghost use Rattle.rst_block.specs.declared.fault.BlockFault.TheVariants.{NoMemory};
 ghost use Rattle.rst_block.specs.declared.step.Step.TheVariants.{Next, Open, Cells};
 ghost use Rattle.rst_block.specs.OpenBlocks.{IsKept, IsPlaced};
 ghost use Rattle.rst_block.specs.Nodes.{block_items};
@@ -36,7 +37,8 @@ const MOST_LOOKS: u128 = 1 << 119;
 
 /// Refuses to go on behind more looks than any document can take.
 fn go_on(pass: &Pass) -> Result<(), BlockFault>
-    ensures { IfOk result (λ _. pass.now.looks < 2 ^ 119) }
+    ensures few { IfOk result (λ _. pass.now.looks < 2 ^ 119) }
+    ensures memory { IfErr result (λ fault. fault ≡ NoMemory) }
 {
     if pass.looks.count() >= MOST_LOOKS {
         return Err(BlockFault::NoMemory);
@@ -85,7 +87,7 @@ fn read_blocks(
     requires short { length (block_of whole) < 2 ^ 64 }
     ensures frames { IfOk result (λ _. frames.new.items ≡ frames.old.items) }
     ensures placed { IfOk result IsPlaced }
-    ensures read { Keeps result (λ level. just (done_of level) pass.new.numbers) (block_items (within_at depth) (block_of whole) pass.old.numbers) }
+    ensures read { Keeps result (λ level. just (done_of level) pass.new.numbers) (block_items (within_at depth) (block_of whole.entry) pass.old.numbers) }
     ensures few { IfOk result (λ _. pass.new.looks < 2 ^ 119) }
 {
     let base = frames.len();
@@ -232,7 +234,7 @@ fn cells(
     requires few { pass.old.looks < 2 ^ 119 }
     requires placed { IsPlaced level.old }
     requires level { depth ≡ suc level.old.depth }
-    requires table { spec.IsTable found }
+    requires table { spec.IsTable level.old.at found }
     ensures frames { IfOk result (λ _. frames.new.items ≡ frames.old.items) }
     ensures next { IfOk result (λ s. s ≡ Next) }
     ensures later { IfOk result (λ _. level.old.at < level.new.at) }
@@ -247,8 +249,7 @@ fn cells(
         end,
     } = found
     else {
-        level.go_to(0);
-        return Ok(Step::Next);
+        unreachable!()
     };
     let line = view.number(level.at);
     let mut made = Vec::new(alloc);

@@ -11,7 +11,7 @@ use Rattle.rst_block.specs.Texts.{shown, source_of, warned}
 use Rattle.rst_block.proofs.Changes.{placed_closed}
 use Rattle.rst_block.proofs.NextConstructs.{next_some, next_refused, more_more}
 use Rattle.rst_block.proofs.NextLines.{span_to, close_refuses, gone_kept}
-use Rattle.rst_block.proofs.TableSteps.{IsNextTable, next_table, table_comes, malformed_reads}
+use Rattle.rst_block.proofs.TableSteps.{IsNextTable, next_table, table_comes, malformed_reads, table_steps}
 use Rattle.rst_block.proofs.table.table.Goals as goal
 
 pub returns-in_err-close-clause-read : goal.returns-in_err-close-clause-read
@@ -50,6 +50,11 @@ returns-in_ok-after_table-in-Malformed-clause-read c =
     ∙ ap (λ i. shown Error (first_number (drop mid.at B)) (malformed_text fault.detail) (source_of B (span_to mid.at end)) ∷ warned (codes "Blank line required after table.") (drop i B)) (c.push.ensures.at ∙ at) in
     ap (reads new B) c.in_ok-after_table-in-Malformed.ensures.numbers
     ∙ malformed_reads l mid gone new B end fault c.args.pass.now.numbers c.close.new.pass.numbers t c.in_ok-close.ensures.closed c.requires.placed c.go_to.ensures.moved at (subst (HasMore gone new) nodes more)
+
+pub returns-in_default-clause-step : goal.returns-in_default-clause-step
+returns-in_default-clause-step c =
+    let B : Block = block_of c.args.view.now in
+    table_steps c.args.level.now B c.args.found c.close.new.self.at (next_table c.args.level.now B c.args.found c.requires.table) c.in_default.not-Malformed c.close.ensures.at c.requires.inside
 
 pub returns-in_default-clause-kept : goal.returns-in_default-clause-kept
 returns-in_default-clause-kept c = record {
