@@ -37,5 +37,6 @@ pub mod TableSteps
 pub mod TextLines
 pub mod SubstitutionReads
 pub mod TextsRead
+pub mod Waiting
 pub mod Walks
 pub mod Work

@@ -4,7 +4,8 @@ ghost use Rattle.rst_text.specs.Shown.{block_of, source_of, IsPlacement, placeme
 ghost use Rattle.rst_markup_blocks.specs.Parts.{IsBlock};
 ghost use Rattle.rst_block.specs.Steps as spec;
 ghost use Rattle.rst_block.specs.Frames as frames;
-ghost use Rattle.rst_block.specs.Meanings.{IsNew};
+ghost use Rattle.rst_block.specs.Meanings.{IsNew, Keeps, after, done_of};
+ghost use Rattle.rst_block.specs.Nodes.{nodes_among};
 ghost use Rattle.rst_block.specs.OpenBlocks.{IsPlaced};
 
 use super::fault::BlockFault;
@@ -68,6 +69,7 @@ pub(crate) fn opened(
     requires second { spec.IsBlockIf (block_of view.now) second }
     requires waits { spec.IsWaiting (block_of view.now) level.old.at waits }
     requires short { length (block_of view.now) < 2 ^ 64 }
+    requires placed { IsPlaced level.old }
     ensures frame { frames.IsFrame (source_of view.now) result }
     ensures block { placement_block (source_of view.now) result.placement ≡ block_of view.now }
     ensures at { result.level.at ≡ level.old.at }
@@ -100,6 +102,8 @@ pub(crate) fn closed<'a>(
     requires frame { frames.IsFrame (source_of whole.now) frame }
     requires few { pass.old.looks < 2 ^ 119 + 2 ^ 109 }
     ensures ended { IfOk result (frames.IsEnded (source_of whole.now) frame level.new.at) }
+    ensures kept { IfOk result (frames.KeepsFrame frame depth level.new) }
+    ensures read { Keeps result (λ e. frames.ended_as (source_of whole.now) level.new e pass.new.numbers) (after frame.level (placement_block (source_of whole.now) frame.placement) frame.waits frame.second frame.nodes.items (nodes_among (done_of level.old)) pass.old.numbers) }
     ensures looks { IfOk result (λ _. pass.new.looks ≤ pass.old.looks + 2 ^ 90) }
 {
     let Frame {

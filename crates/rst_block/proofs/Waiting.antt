@@ -1,0 +1,190 @@
+-- A block inside one that waits has ended: the next part is read for the one that waits, or it goes on.
+use Rattle.std.proofs.Common.{◌≡◌, ◌⊎◌, ℕ, suc, ◌+◌, ◌-◌, ◌≤◌, List, [], ◌∷◌, ◌++◌, length, take, drop, map, Option, Some, None, Result, Ok, Err, arith, refl, sym, ◌∙◌, ap, subst, inl, inr}
+use Rattle.std.proofs.lemmas.Bool.{cases_lt}
+use Rattle.std.proofs.lemmas.Grind.{flat_map-append}
+use Rattle.std.proofs.lemmas.List.{take-append-drop}
+use Rattle.rst_text.specs.Block.{Block}
+use Rattle.rst_text.specs.Shown.{block_of, placement_block}
+use Rattle.rst_text.specs.declared.view.View.{View}
+use Rattle.rst_tree.specs.declared.node.Node.{Node}
+use Rattle.rst_markup_blocks.specs.Partition.{spans_from}
+use Rattle.rst_markup_blocks.specs.declared.part.Part.{Part}
+use Rattle.rst_block_sections.specs.declared.heading.Heading.{Heading}
+use Rattle.rst_block_sections.specs.Sections.{items_from, title_of}
+use Rattle.rst_block.specs.Frames.{ended_as}
+use Rattle.rst_block.specs.Meanings.{IsNew, Keeps, TellsBlank, after, comes, deepest, done_of, plug, reads, resumed, text_items, text_with, within_at}
+use Rattle.rst_block.specs.Nodes.{below_last_level, block_items, node_if, nodes_among, plainly}
+use Rattle.rst_block.specs.Numbered.{Numbered, then_read, ◌>>=◌, just}
+use Rattle.rst_block.specs.Texts.{lines_in}
+use Rattle.rst_block.specs.Titles.{Item, plain, titled}
+use Rattle.rst_block.specs.declared.fault.BlockFault.{BlockFault}
+use Rattle.rst_block.specs.declared.fault.BlockFault.TheVariants.{TooDeep, NoMemory}
+use Rattle.rst_block.specs.declared.frame.Ended.TheVariants.{Waiting, GoesOn}
+use Rattle.rst_block.specs.declared.frame.Frame.{Frame}
+use Rattle.rst_block.specs.declared.open_block.OpenBlock.{OpenBlock}
+use Rattle.rst_block.specs.declared.resume.Waits.{Waits}
+use Rattle.rst_block.specs.declared.step.Step.{Step}
+use Rattle.rst_block.specs.declared.step.Step.TheVariants.{Open}
+use Rattle.rst_block.proofs.MeaningLemmas.{part_means, done_means, plug_none, plug_same, plug_refused, reads_all}
+use Rattle.rst_block.proofs.RestLemmas.{nodes_among_plain}
+
+-- the nodes among nodes with titles between them
+pub among_items : (done : ℕ) (nodes : List Node) (hs : List Heading) → nodes_among (items_from done nodes hs) ≡ nodes
+unfolding items_from
+among_items done nodes [] = nodes_among_plain nodes
+among_items done nodes (h ∷ hs) =
+    let k : ℕ = h.before - done in
+    flat_map-append node_if (map plain (take k nodes)) (titled (title_of h) ∷ items_from (done + k) (drop k nodes) hs)
+    ∙ ap (λ (front : List Node). front ++ nodes_among (items_from (done + k) (drop k nodes) hs)) (nodes_among_plain (take k nodes))
+    ∙ ap (λ (back : List Node). take k nodes ++ back) (among_items (done + k) (drop k nodes) hs)
+    ∙ take-append-drop k nodes
+
+-- the nodes of a block that was read
+pub among_done : (l : OpenBlock) → nodes_among (done_of l) ≡ l.nodes.items
+among_done l = among_items 0 l.nodes.items l.headings.items
+
+-- what a block gives that waits for these lines
+abbrev pub waiting_for : OpenBlock → Block → Block → Waits → Option Part → List Node → Numbered (List Item)
+waiting_for l B X w second earlier = do
+  ns ← (within_at l.depth).inner X
+  after l B w second earlier ns
+
+-- the second part is read behind the first one
+pub second_reads : (S : Block) (f : Frame) (old level : OpenBlock) (p : Part) (X : Block) (nodes : List Node) (n : ℕ) → f.second ≡ Some p → level ≡ f.level
+    → X ≡ lines_in (placement_block S f.placement) p → nodes ≡ f.nodes.items ++ old.nodes.items
+    → waiting_for level (placement_block S f.placement) X f.waits None nodes n
+    ≡ after f.level (placement_block S f.placement) f.waits f.second f.nodes.items (nodes_among (done_of old)) n
+second_reads S f old level p X nodes n e l x m =
+    let B : Block = placement_block S f.placement in
+    ap (λ level. waiting_for level B X f.waits None nodes n) l
+    ∙ ap (λ Y. waiting_for f.level B Y f.waits None nodes n) x
+    ∙ ap (λ (earlier : List Node). waiting_for f.level B (lines_in B p) f.waits None earlier n) (m ∙ ap (λ (ns : List Node). f.nodes.items ++ ns) (sym (among_done old)))
+    ∙ ap (λ second. after f.level B f.waits second f.nodes.items (nodes_among (done_of old)) n) (sym e)
+
+-- the block goes on that waited
+pub last_reads : (S : Block) (f : Frame) (old level : OpenBlock) (X : Block) (nodes : List Node) (n : ℕ) → f.second ≡ None → level ≡ f.level
+    → X ≡ placement_block S f.placement → nodes ≡ f.nodes.items ++ old.nodes.items
+    → resumed level X f.waits nodes n ≡ after f.level (placement_block S f.placement) f.waits f.second f.nodes.items (nodes_among (done_of old)) n
+last_reads S f old level X nodes n e l x m =
+    let B : Block = placement_block S f.placement in
+    ap (λ level. resumed level X f.waits nodes n) l
+    ∙ ap (λ Y. resumed f.level Y f.waits nodes n) x
+    ∙ ap (λ (ns : List Node). resumed f.level B f.waits ns n) (m ∙ ap (λ (ns : List Node). f.nodes.items ++ ns) (sym (among_done old)))
+    ∙ ap (λ second. after f.level B f.waits second f.nodes.items (nodes_among (done_of old)) n) (sym e)
+
+-- ---- what all blocks give that wait
+
+-- the block that is read goes on, so all do
+pub plug_goes_on : (S : Block) (fs : List Frame) (r s : Numbered (List Item)) (m n : ℕ) (all : Result (List Item × ℕ) ℕ) → r m ≡ s n → plug S fs s n ≡ all → plug S fs r m ≡ all
+plug_goes_on S fs r s m n all h inv = plug_same S fs r s m n h ∙ inv
+
+-- it is refused, so all are
+pub plug_fails : {A C : Type 0} (S : Block) (fs : List Frame) (r : Numbered (List Item)) (n : ℕ) (all : Result (List Item × ℕ) ℕ) (e : BlockFault)
+    (f : A → Result (List Item × ℕ) ℕ) (g : C → Result (List Item × ℕ) ℕ) → plug S fs r n ≡ all → Keeps (Err e) f (r n) → Keeps (Err e) g all
+plug_fails S fs r n all (TooDeep line) f g inv h = sym inv ∙ plug_refused S fs r n line h
+plug_fails S fs r n all NoMemory f g inv h = tt
+
+-- the block that is read waits for a part, which is read next
+pub plug_opens : (S : Block) (fs : List Frame) (f : Frame) (old l : OpenBlock) (B X : Block) (w : Waits) (first : Part) (second : Option Part) (n : ℕ)
+    → f.level ≡ old → placement_block S f.placement ≡ B → f.waits ≡ w → f.second ≡ second → f.nodes.items ≡ [] → X ≡ lines_in B first
+    → l.depth ≡ suc old.depth → suc old.depth ≤ deepest → IsNew l
+    → plug S (fs ++ f ∷ []) (reads l X) n ≡ plug S fs (comes old B (Open w first second)) n
+plug_opens S fs f old l B X w first second n a b c d e x i j k =
+    let depth : f.level.depth ≡ old.depth = ap (λ (o : OpenBlock). o.depth) a in
+    part_means S fs f l X n (i ∙ ap suc (sym depth)) (omega (arith, depth, j)) k
+    ∙ ap (λ Y. plug S fs (waiting_for f.level (placement_block S f.placement) Y f.waits f.second f.nodes.items) n) x
+    ∙ ap (λ o. plug S fs (waiting_for o (placement_block S f.placement) (lines_in B first) f.waits f.second f.nodes.items) n) a
+    ∙ ap (λ C. plug S fs (waiting_for old C (lines_in B first) f.waits f.second f.nodes.items) n) b
+    ∙ ap (λ w. plug S fs (waiting_for old B (lines_in B first) w f.second f.nodes.items) n) c
+    ∙ ap (λ second. plug S fs (waiting_for old B (lines_in B first) w second f.nodes.items) n) d
+    ∙ ap (λ (earlier : List Node). plug S fs (waiting_for old B (lines_in B first) w second earlier) n) e
+
+-- a block was read, and the one that waits for it reads another part
+pub plug_waits : (S : Block) (fs : List Frame) (f g : Frame) (old l : OpenBlock) (part : View) (m n : ℕ) (all : Result (List Item × ℕ) ℕ)
+    → ended_as S l (Waiting g part) m ≡ after f.level (placement_block S f.placement) f.waits f.second f.nodes.items (nodes_among (done_of old)) n
+    → l.depth ≡ suc g.level.depth → suc g.level.depth ≤ deepest → IsNew l → plug S (fs ++ f ∷ []) (just (done_of old)) n ≡ all
+    → plug S (fs ++ g ∷ []) (reads l (block_of part)) m ≡ all
+plug_waits S fs f g old l part m n all h d i k inv =
+    part_means S fs g l (block_of part) m d i k
+    ∙ plug_same S fs (ended_as S l (Waiting g part)) (after f.level (placement_block S f.placement) f.waits f.second f.nodes.items (nodes_among (done_of old))) m n h
+    ∙ sym (done_means S fs f (done_of old) n)
+    ∙ inv
+
+-- or it goes on
+pub plug_ends : (S : Block) (fs : List Frame) (f : Frame) (old l : OpenBlock) (view : View) (s : Step) (m n : ℕ) (all : Result (List Item × ℕ) ℕ)
+    → ended_as S l (GoesOn view s) m ≡ after f.level (placement_block S f.placement) f.waits f.second f.nodes.items (nodes_among (done_of old)) n
+    → plug S (fs ++ f ∷ []) (just (done_of old)) n ≡ all → plug S fs (comes l (block_of view) s) m ≡ all
+plug_ends S fs f old l view s m n all h inv =
+    plug_same S fs (comes l (block_of view) s) (after f.level (placement_block S f.placement) f.waits f.second f.nodes.items (nodes_among (done_of old))) m n h
+    ∙ sym (done_means S fs f (done_of old) n)
+    ∙ inv
+
+-- or it can't go on
+pub plug_end_fails : {A C : Type 0} (S : Block) (fs : List Frame) (f : Frame) (old : OpenBlock) (n : ℕ) (all : Result (List Item × ℕ) ℕ) (e : BlockFault)
+    (g : A → Result (List Item × ℕ) ℕ) (k : C → Result (List Item × ℕ) ℕ) → plug S (fs ++ f ∷ []) (just (done_of old)) n ≡ all
+    → Keeps (Err e) g (after f.level (placement_block S f.placement) f.waits f.second f.nodes.items (nodes_among (done_of old)) n) → Keeps (Err e) k all
+plug_end_fails S fs f old n all e g k inv h =
+    plug_fails S fs (after f.level (placement_block S f.placement) f.waits f.second f.nodes.items (nodes_among (done_of old))) n all e g k (sym (done_means S fs f (done_of old) n) ∙ inv) h
+
+-- ---- texts
+
+-- a text that isn't too deep is a block
+pub text_there : (depth : ℕ) (B : Block) (n : ℕ) → depth ≤ deepest → text_items depth B n ≡ block_items (within_at depth) B n
+text_there depth B n h =
+    let k : suc deepest - depth ≡ suc (deepest - depth) = omega (arith, h) in
+    ap (λ levels. text_with levels depth B n) k
+
+-- a text below the last level must be blank
+pub text_below : (depth : ℕ) (B : Block) (n : ℕ) → depth ≡ suc deepest → text_items depth B n ≡ plainly (below_last_level B) n
+text_below depth B n e =
+    let k : suc deepest - depth ≡ 0 = omega (arith, e) in
+    ap (λ levels. text_with levels depth B n) k
+
+-- a text without lines gives nothing
+text_empty : (depth : ℕ) (n : ℕ) → depth ≤ deepest → text_items depth [] n ≡ Ok ([], n)
+unfolding spans_from
+text_empty depth n h = text_there depth [] n h
+
+no_lines : (B : Block) → length B ≡ 0 → B ≡ []
+no_lines [] e = refl
+no_lines (l ∷ ls) e = absurd (omega (arith, e))
+
+flat_below : {C : Type 0} (depth : ℕ) (B : Block) (l : OpenBlock) (n : ℕ) (done : C) → depth ≡ suc deepest → TellsBlank B (Ok done) → IsNew l → just (done_of l) n ≡ text_items depth B n
+flat_below depth B l n done e t k = ap (λ items. just items n) k.done ∙ sym (text_below depth B n e ∙ ap (then_read (λ nodes. just (map plain nodes))) (t n))
+
+-- a text without lines, or below the last level, that is blank
+pub flat_text : {C : Type 0} (depth : ℕ) (X B : Block) (l : OpenBlock) (n : ℕ) (done : C) → depth ≤ 251 → (length B ≡ 0) ⊎ (depth ≡ suc deepest)
+    → X ≡ B → TellsBlank X (Ok done) → IsNew l → just (done_of l) n ≡ text_items depth B n
+flat_text depth X B l n done h (inr e) x t k = flat_below depth B l n done e (subst (λ Y. TellsBlank Y (Ok done)) x t) k
+flat_text depth X B l n done h (inl e) x t k = elim (cases_lt depth 251) [
+  | inl low ↦ ap (λ items. just items n) k.done ∙ sym (ap (λ X. text_items depth X n) (no_lines B e) ∙ text_empty depth n (omega (arith, low)))
+  | inr high ↦ flat_below depth B l n done (omega (arith, h, high)) (subst (λ Y. TellsBlank Y (Ok done)) x t) k
+]
+
+no_refusal : (n line : ℕ) → below_last_level [] n ≡ Err line → ⊥
+unfolding below_last_level
+no_refusal n line h = let e : ok n ≡ Err line = h in cc
+  where
+    ok : ℕ → Result (List Node × ℕ) ℕ
+    ok n = Ok ([], n)
+
+-- one that isn't is refused
+pub flat_text_fails : {C : Type 0} (depth : ℕ) (X B : Block) (n : ℕ) (e : BlockFault) (f : C → Result (List Item × ℕ) ℕ) → (length B ≡ 0) ⊎ (depth ≡ suc deepest)
+    → X ≡ B → TellsBlank {A = Unit {0}} X (Err e) → Keeps (Err e) f (text_items depth B n)
+flat_text_fails depth X B n (TooDeep line) f (inr d) x t = text_below depth B n d ∙ ap (then_read (λ nodes. just (map plain nodes))) (ap (λ Y. below_last_level Y n) (sym x) ∙ t n)
+flat_text_fails depth X B n (TooDeep line) f (inl e) x t = absurd (no_refusal n line (ap (λ Y. below_last_level Y n) (sym (x ∙ no_lines B e)) ∙ t n))
+flat_text_fails depth X B n NoMemory f d x t = tt
+
+-- ---- a text begins and ends
+
+-- where no block waits, a text is what its first block gives
+pub plug_begins : (S : Block) (fs : List Frame) (l : OpenBlock) (B : Block) (depth n : ℕ) → fs ≡ [] → IsNew l → l.depth ≡ depth → plug S fs (reads l B) n ≡ block_items (within_at depth) B n
+plug_begins S fs l B depth n e k d =
+    ap (λ fs. plug S fs (reads l B) n) e
+    ∙ ap (λ (r : Numbered (List Item)). r n) (plug_none S (reads l B))
+    ∙ reads_all l B n k
+    ∙ ap (λ d. block_items (within_at d) B n) d
+
+pub plug_over : (S : Block) (fs : List Frame) (l : OpenBlock) (n : ℕ) (all : Result (List Item × ℕ) ℕ) → fs ≡ [] → plug S fs (just (done_of l)) n ≡ all → just (done_of l) n ≡ all
+plug_over S fs l n all e h =
+    ap (λ (r : Numbered (List Item)). r n) (sym (plug_none S (just (done_of l)))) ∙ ap (λ fs. plug S fs (just (done_of l)) n) (sym e) ∙ h
