@@ -65,18 +65,18 @@ reads_all l B n new =
     ∙ ap (λ o. rest c B 0 o n) new.run
     ∙ rest_is_all c B n
 
-not_zero : (d : ℕ) → (suc d == 0) ≡ false
+pub not_zero : (d : ℕ) → (suc d == 0) ≡ false
 not_zero d = ne_eqb (suc d) 0 (λ e. omega (arith, e))
 
-abbrev within_level : Bool → ℕ → ℕ → Within
+abbrev pub within_level : Bool → ℕ → ℕ → Within
 within_level titles levels left = record { titles = titles; code = true; levels = levels; inner = inner_nodes true left }
 
-within_is : (d : ℕ) → suc d ≤ deepest → within_at (suc d) ≡ within_level false (suc (deepest - suc d)) (deepest - suc d)
+pub within_is : (d : ℕ) → suc d ≤ deepest → within_at (suc d) ≡ within_level false (suc (deepest - suc d)) (deepest - suc d)
 within_is d h =
     let e : suc deepest - suc d ≡ suc (deepest - suc d) = omega (arith, h) in
     ap (λ b. within_level b (suc deepest - suc d) (deepest - suc d)) (not_zero d) ∙ ap (λ k. within_level false k (deepest - suc d)) e
 
-inner_is : (k : ℕ) (B : Block) (n : ℕ) → inner_nodes true (suc k) B n ≡ (block_items (within_level false (suc k) k) B >>= λ items. just (nodes_among items)) n
+pub inner_is : (k : ℕ) (B : Block) (n : ℕ) → inner_nodes true (suc k) B n ≡ (block_items (within_level false (suc k) k) B >>= λ items. just (nodes_among items)) n
 unfolding inner_nodes
 inner_is k B n = refl
 

@@ -1,10 +1,20 @@
-use Rattle.std.proofs.Common.{◌≡◌, ℕ, ◌+◌, ◌-◌, ◌*◌, ◌^◌, ◌<◌, [], ◌∷◌, length, length-append, length-drop, drop, arith, sym, ap, ◌∙◌}
-use Rattle.std.proofs.lemmas.List.{drop-append-le}
+use Rattle.std.proofs.Common.{◌≡◌, ◌⊎◌, inl, inr, ℕ, suc, ◌+◌, ◌-◌, ◌*◌, ◌^◌, ◌<◌, ◌≤◌, List, [], ◌∷◌, ◌++◌, length, length-append, length-drop, drop, arith, rules, refl, sym, ap, ◌∙◌}
+use Rattle.std.proofs.lemmas.List.{drop-append-le, drop_all, take_all}
 use Rattle.rst_text.specs.Block.{Block}
 use Rattle.rst_text.specs.Shown.{block_of, source_of, placement_block}
+use Rattle.rst_block.specs.Meanings.{comes, deepest, done_of, reads, within_at}
+use Rattle.rst_block.specs.Nodes.{block_items}
+use Rattle.rst_block.specs.Numbered.{just}
+use Rattle.rst_block.specs.Tables.{table_node}
 use Rattle.rst_block.specs.declared.frame.Frame.{Frame}
+use Rattle.rst_block.specs.declared.open_block.OpenBlock.{OpenBlock}
+use Rattle.rst_block.specs.declared.step.Step.{Step}
 use Rattle.rst_block.specs.declared.step.Step.TheVariants.{Next, Open, Cells}
-use Rattle.rst_block.proofs.Stack.{left, parts_left, now_of_resumed, cost_of_resumed, goes_on, stepped, opens, resumes, waits_again, second_left, parts_at_most, parts_at_least, taken, placed}
+use Rattle.rst_block.proofs.CellsRead.{entry_next, row_keeps, row_next, rows_made, table_keeps, table_kept, table_reads}
+use Rattle.rst_block.proofs.Stack.{left, parts_left, now_of_next, now_of_resumed, cost_of_resumed, goes_on, stepped, opens, resumes, waits_again, second_left, parts_at_most, parts_at_least, taken, placed, nested_push, nested_pop}
+use Rattle.rst_block.proofs.StepLemmas.{out_of_memory, refuses}
+use Rattle.rst_block.proofs.Waiting.{flat_text, flat_text_fails, plug_begins, plug_end_fails, plug_ends, plug_fails, plug_goes_on, plug_opens, plug_over, plug_waits}
+use Rattle.rst_block.proofs.machine.+machine.Goals.{read-else-len-gt0-via-then-len-gt0+else-depth-le-DEEPEST, read-else-len-gt0-via-else-len-gt0}
 use Rattle.rst_block.proofs.machine.+machine.Goals as goal
 
 pub read_blocks-closed-requires-clause-frame : goal.read_blocks-closed-requires-clause-frame
@@ -20,9 +30,9 @@ read_blocks-loop-now-smaller-in_ok-now-in-Next t c =
 pub read_blocks-loop-now-smaller-in_ok-now-in-Cells : goal.read_blocks-loop-now-smaller-in_ok-now-in-Cells
 read_blocks-loop-now-smaller-in_ok-now-in-Cells t c =
     let n : ℕ = length (block_of c.loop-now.view) in
-    let inside : c.loop-now.level.at < n = rw c.in-Cells.is at c.loop-now.invariant.now in
+    let now = rw c.in-Cells.is at c.loop-now.invariant.now in
     rw (c.in-Cells.is, c.in_ok-now-in-Cells.ensures.next, c.in_ok-now-in-Cells.ensures.frames) (goes_on (2 ^ 64) (250 - c.args.depth) (source_of c.args.whole) (drop c.len-base.result c.loop-now.frames.items)
-    n c.loop-now.level.at n c.cells.new.level.at (Cells c.in-Cells.table) Next (omega (arith, inside, c.in_ok-now-in-Cells.ensures.later)))
+    n c.loop-now.level.at n c.cells.new.level.at (Cells c.in-Cells.table) Next (omega (arith, now.0, c.in_ok-now-in-Cells.ensures.later)))
 
 pub read_blocks-loop-now-smaller-in_ok-now-in-Open : goal.read_blocks-loop-now-smaller-in_ok-now-in-Open
 read_blocks-loop-now-smaller-in_ok-now-in-Open t c =
@@ -45,6 +55,8 @@ read_blocks-loop-now-smaller-else-inner-gt-DEEPEST t c =
 
 pub read_blocks-loop-now-preserved-else-inner-gt-DEEPEST : goal.read_blocks-loop-now-preserved-else-inner-gt-DEEPEST
 read_blocks-loop-now-preserved-else-inner-gt-DEEPEST t c =
+    let S : Block = source_of c.args.whole in
+    let B : Block = block_of c.loop-now.view in
     let f : Frame = c.opened.result in
     let on = placed (source_of c.args.whole) c.len-base.result c.loop-now.frames.items f c.loop-now.invariant.base c.loop-now.invariant.waiting (rw c.loop-now.invariant.text at c.opened.ensures.frame) in
     record {
@@ -56,6 +68,15 @@ read_blocks-loop-now-preserved-else-inner-gt-DEEPEST t c =
       text = c.inside-view.ensures.text ∙ c.loop-now.invariant.text;
       short = omega (arith, c.inside-view.ensures.fewer, c.loop-now.invariant.short);
       now = tt;
+      depth = rw c.push.ensures.items (omega (arith, length-append c.loop-now.frames.items (f ∷ []), c.len.ensures.value, c.opened.ensures.depth, c.loop-now.invariant.base));
+      placed = c.opened.ensures.placed;
+      nested = rw (c.push.ensures.items, on.1) (nested_push c.args.depth (drop c.len-base.result c.loop-now.frames.items) f c.loop-now.invariant.nested
+          (ap (λ (l : OpenBlock). l.depth) c.opened.ensures.kept ∙ c.loop-now.invariant.depth ∙ ap (λ n. c.args.depth + n) (sym (length-drop c.len-base.result c.loop-now.frames.items))));
+      read = rw (c.push.ensures.items, on.1) (
+          plug_opens S (drop c.len-base.result c.loop-now.frames.items) f c.loop-now.level c.opened.new.level B (block_of c.inside-view.result) c.in-Open.waits c.in-Open.first c.in-Open.second c.loop-now.pass.numbers
+          c.opened.ensures.kept (ap (λ (T : Block). placement_block T f.placement) (sym c.loop-now.invariant.text) ∙ c.opened.ensures.block) c.opened.ensures.waits.0 c.opened.ensures.waits.1 c.opened.ensures.waits.2 c.inside-view.ensures.block
+          (omega (arith, c.opened.ensures.depth, c.loop-now.invariant.depth, c.len.ensures.value, c.loop-now.invariant.base)) (omega (arith, c.loop-now.invariant.depth, c.len.ensures.value, c.if-inner-gt-DEEPEST.false, c.loop-now.invariant.base)) c.opened.ensures.begun
+          ∙ rw c.in-Open.is at c.loop-now.invariant.read);
     }
 
 pub read_blocks-loop-now-smaller-in-Waiting : goal.read_blocks-loop-now-smaller-in-Waiting
@@ -80,6 +101,10 @@ read_blocks-loop-now-preserved-in-Waiting t c =
     let g : Frame = c.in-Waiting.frame in
     let off = taken S c.len-base.result c.loop-now.frames.items c.last_of.new.frames.items f c.in-Some.ensures.some.0 c.in-Some.ensures.some.1 c.loop-now.invariant.waiting in
     let e = rw c.in-Waiting.is at c.in_ok-frame-in-Some.ensures.ended in
+    let keeps = rw c.in-Waiting.is at c.in_ok-frame-in-Some.ensures.kept in
+    let fs : List Frame = drop c.len-base.result c.last_of.new.frames.items in
+    let nest = nested_pop c.args.depth fs f (rw off.1 at c.loop-now.invariant.nested) in
+    let long : length fs + 1 ≡ length c.loop-now.frames.items - c.len-base.result = omega (arith, length-drop c.len-base.result c.last_of.new.frames.items, ap length c.in-Some.ensures.some.0, length-append c.last_of.new.frames.items (f ∷ []), off.0) in
     let on = placed S c.len-base.result c.last_of.new.frames.items g off.0 off.3 e.0 in
     record {
       base = rw c.push-in-Waiting.ensures.items on.0;
@@ -90,6 +115,15 @@ read_blocks-loop-now-preserved-in-Waiting t c =
       text = e.5;
       short = omega (arith, e.6, off.4.1);
       now = tt;
+      depth = rw c.push-in-Waiting.ensures.items (omega (arith, length-append c.last_of.new.frames.items (g ∷ []), ap length c.in-Some.ensures.some.0, length-append c.last_of.new.frames.items (f ∷ []), c.len.ensures.value, keeps.2, c.loop-now.invariant.base, off.0));
+      placed = keeps.3;
+      nested = rw (c.push-in-Waiting.ensures.items, on.1) (nested_push c.args.depth fs g nest.0 (ap (λ (l : OpenBlock). l.depth) keeps.0 ∙ nest.1));
+      read = rw (c.push-in-Waiting.ensures.items, on.1) (
+          plug_waits S fs f g c.loop-now.level c.closed.new.level c.in-Waiting.part c.closed.new.pass.numbers c.loop-now.pass.numbers (block_items (within_at c.args.depth) (block_of c.args.whole) c.args.pass.now.numbers)
+          (rw c.in-Waiting.is at c.in_ok-frame-in-Some.ensures.read)
+          (omega (arith, keeps.2, ap (λ (l : OpenBlock). l.depth) keeps.0, nest.1, long, c.len.ensures.value))
+          (omega (arith, ap (λ (l : OpenBlock). l.depth) keeps.0, nest.1, long, c.loop-now.invariant.room)) keeps.1
+          (rw (c.in-Done.is, off.1) at c.loop-now.invariant.read));
     }
 
 pub read_blocks-loop-now-smaller : goal.read_blocks-loop-now-smaller
@@ -111,6 +145,9 @@ read_blocks-loop-now-preserved t c =
     let f : Frame = c.in-Some.frame in
     let off = taken S c.len-base.result c.loop-now.frames.items c.last_of.new.frames.items f c.in-Some.ensures.some.0 c.in-Some.ensures.some.1 c.loop-now.invariant.waiting in
     let e = rw c.in-GoesOn.is at c.in_ok-frame-in-Some.ensures.ended in
+    let keeps = rw c.in-GoesOn.is at c.in_ok-frame-in-Some.ensures.kept in
+    let fs : List Frame = drop c.len-base.result c.last_of.new.frames.items in
+    let nest = nested_pop c.args.depth fs f (rw off.1 at c.loop-now.invariant.nested) in
     record {
       base = off.0;
       under = c.loop-now.invariant.under;
@@ -120,4 +157,198 @@ read_blocks-loop-now-preserved t c =
       text = e.0;
       short = omega (arith, ap length e.1, off.4.1);
       now = now_of_resumed (block_of c.in-GoesOn.outer) f.level.at c.closed.new.level.at c.in-GoesOn.next e.2;
+      depth = omega (arith, keeps.depth, nest.1, length-drop c.len-base.result c.last_of.new.frames.items, off.0);
+      placed = keeps.placed;
+      nested = nest.0;
+      read = plug_ends S fs f c.loop-now.level c.closed.new.level c.in-GoesOn.outer c.in-GoesOn.next c.closed.new.pass.numbers c.loop-now.pass.numbers (block_items (within_at c.args.depth) (block_of c.args.whole) c.args.pass.now.numbers)
+          (rw c.in-GoesOn.is at c.in_ok-frame-in-Some.ensures.read) (rw (c.in-Done.is, off.1) at c.loop-now.invariant.read);
     }
+
+pub read_blocks-loop-now-preserved-in_ok-now-in-Next : goal.read_blocks-loop-now-preserved-in_ok-now-in-Next
+read_blocks-loop-now-preserved-in_ok-now-in-Next t c =
+    let S : Block = source_of c.args.whole in
+    let B : Block = block_of c.loop-now.view in
+    let s : Step = c.in_ok-now-in-Next.now in
+    record {
+      base = c.loop-now.invariant.base;
+      under = c.loop-now.invariant.under;
+      room = c.loop-now.invariant.room;
+      outer = c.loop-now.invariant.outer;
+      waiting = c.loop-now.invariant.waiting;
+      text = c.loop-now.invariant.text;
+      short = c.loop-now.invariant.short;
+      now = now_of_next B c.loop-now.level.at c.next.new.level.at s c.in_ok-now-in-Next.ensures.next;
+      depth = c.in_ok-now-in-Next.ensures.kept.depth ∙ c.loop-now.invariant.depth;
+      placed = c.in_ok-now-in-Next.ensures.kept.placed;
+      nested = c.loop-now.invariant.nested;
+      read = plug_goes_on S (drop c.len-base.result c.loop-now.frames.items) (comes c.next.new.level B s) (reads c.loop-now.level B) c.next.new.pass.numbers c.loop-now.pass.numbers
+          (block_items (within_at c.args.depth) (block_of c.args.whole) c.args.pass.now.numbers) c.in_ok-now-in-Next.ensures.read (rw c.in-Next.is at c.loop-now.invariant.read);
+    }
+
+pub read_blocks-loop-now-preserved-in_ok-now-in-Cells : goal.read_blocks-loop-now-preserved-in_ok-now-in-Cells
+read_blocks-loop-now-preserved-in_ok-now-in-Cells t c =
+    let S : Block = source_of c.args.whole in
+    let B : Block = block_of c.loop-now.view in
+    let s : Step = c.in_ok-now-in-Cells.now in
+    let same : c.cells.new.frames.items ≡ c.loop-now.frames.items = c.in_ok-now-in-Cells.ensures.frames in
+    record {
+      base = rw same c.loop-now.invariant.base;
+      under = c.loop-now.invariant.under;
+      room = rw same c.loop-now.invariant.room;
+      outer = rw same c.loop-now.invariant.outer;
+      waiting = rw same c.loop-now.invariant.waiting;
+      text = c.loop-now.invariant.text;
+      short = c.loop-now.invariant.short;
+      now = rw c.in_ok-now-in-Cells.ensures.next tt;
+      depth = rw same (c.in_ok-now-in-Cells.ensures.kept.depth ∙ c.loop-now.invariant.depth);
+      placed = c.in_ok-now-in-Cells.ensures.kept.placed;
+      nested = rw same c.loop-now.invariant.nested;
+      read = rw same (plug_goes_on S (drop c.len-base.result c.loop-now.frames.items) (comes c.cells.new.level B s) (comes c.loop-now.level B (Cells c.in-Cells.table)) c.cells.new.pass.numbers c.loop-now.pass.numbers
+          (block_items (within_at c.args.depth) (block_of c.args.whole) c.args.pass.now.numbers) c.in_ok-now-in-Cells.ensures.read (rw c.in-Cells.is at c.loop-now.invariant.read));
+    }
+
+pub read_blocks-loop-now-preserved-in_ok-now-in-Open : goal.read_blocks-loop-now-preserved-in_ok-now-in-Open
+read_blocks-loop-now-preserved-in_ok-now-in-Open t c =
+    let S : Block = source_of c.args.whole in
+    let B : Block = block_of c.loop-now.view in
+    let s : Step = c.in_ok-now-in-Open.now in
+    record {
+      base = c.loop-now.invariant.base;
+      under = c.loop-now.invariant.under;
+      room = c.loop-now.invariant.room;
+      outer = c.loop-now.invariant.outer;
+      waiting = c.loop-now.invariant.waiting;
+      text = c.loop-now.invariant.text;
+      short = c.loop-now.invariant.short;
+      now = now_of_resumed B c.loop-now.level.at c.flat.new.level.at s c.in_ok-now-in-Open.ensures.step;
+      depth = c.in_ok-now-in-Open.ensures.kept.depth ∙ c.loop-now.invariant.depth;
+      placed = c.in_ok-now-in-Open.ensures.kept.placed;
+      nested = c.loop-now.invariant.nested;
+      read = plug_goes_on S (drop c.len-base.result c.loop-now.frames.items) (comes c.flat.new.level B s) (comes c.loop-now.level B (Open c.in-Open.waits c.in-Open.first c.in-Open.second)) c.flat.new.pass.numbers c.loop-now.pass.numbers
+          (block_items (within_at c.args.depth) (block_of c.args.whole) c.args.pass.now.numbers) c.in_ok-now-in-Open.ensures.read (rw c.in-Open.is at c.loop-now.invariant.read);
+    }
+
+pub read_blocks-loop-now-init : goal.read_blocks-loop-now-init
+read_blocks-loop-now-init t c =
+    let base : ℕ = c.len-base.result in
+    let all : length c.args.frames.now.items ≤ base = omega (arith, c.len-base.ensures.value) in
+    let none : drop base c.args.frames.now.items ≡ [] = drop_all base c.args.frames.now.items all in
+    record {
+      base = omega (arith, c.len-base.ensures.value);
+      under = omega (arith, c.len-base.ensures.value, c.requires.room);
+      room = omega (arith, c.len-base.ensures.value, c.requires.depth);
+      outer = take_all base c.args.frames.now.items all;
+      waiting = rw none tt;
+      text = refl;
+      short = c.requires.short;
+      now = tt;
+      depth = omega (arith, c.len-base.ensures.value, c.new-level.ensures.depth);
+      placed = c.new-level.ensures.placed;
+      nested = rw none tt;
+      read = plug_begins (source_of c.args.whole) (drop base c.args.frames.now.items) c.new-level.result (block_of c.args.whole) c.args.depth c.args.pass.now.numbers none c.new-level.ensures.begun c.new-level.ensures.depth;
+    }
+
+pub read_blocks-returns-in_err-go_on-clause-read : goal.read_blocks-returns-in_err-go_on-clause-read
+read_blocks-returns-in_err-go_on-clause-read t c = refuses c.from_residual.result c.in_err-go_on.field-0.0 _ _ (search rules) (out_of_memory c.in_err-go_on.field-0.0 _ _ c.in_err-go_on.ensures.memory)
+
+pub read_blocks-returns-in_err-now-in-Next-clause-read : goal.read_blocks-returns-in_err-now-in-Next-clause-read
+read_blocks-returns-in_err-now-in-Next-clause-read t c =
+    refuses _ c.in_err-now-in-Next.field-0.0 _ _ (search rules)
+    (plug_fails (source_of c.args.whole) (drop c.len-base.result c.loop-now.frames.items) (reads c.loop-now.level (block_of c.loop-now.view)) c.loop-now.pass.numbers
+    (block_items (within_at c.args.depth) (block_of c.args.whole) c.args.pass.now.numbers) c.in_err-now-in-Next.field-0.0 _ _ (rw c.in-Next.is at c.loop-now.invariant.read) c.in_err-now-in-Next.ensures.read)
+
+pub read_blocks-returns-in_err-now-in-Cells-clause-read : goal.read_blocks-returns-in_err-now-in-Cells-clause-read
+read_blocks-returns-in_err-now-in-Cells-clause-read t c =
+    refuses _ c.in_err-now-in-Cells.field-0.0 _ _ (search rules)
+    (plug_fails (source_of c.args.whole) (drop c.len-base.result c.loop-now.frames.items) (comes c.loop-now.level (block_of c.loop-now.view) (Cells c.in-Cells.table)) c.loop-now.pass.numbers
+    (block_items (within_at c.args.depth) (block_of c.args.whole) c.args.pass.now.numbers) c.in_err-now-in-Cells.field-0.0 _ _ (rw c.in-Cells.is at c.loop-now.invariant.read) c.in_err-now-in-Cells.ensures.read)
+
+pub read_blocks-returns-in_err-now-in-Open-clause-read : goal.read_blocks-returns-in_err-now-in-Open-clause-read
+read_blocks-returns-in_err-now-in-Open-clause-read t c =
+    refuses _ c.in_err-now-in-Open.field-0.0 _ _ (search rules)
+    (plug_fails (source_of c.args.whole) (drop c.len-base.result c.loop-now.frames.items) (comes c.loop-now.level (block_of c.loop-now.view) (Open c.in-Open.waits c.in-Open.first c.in-Open.second)) c.loop-now.pass.numbers
+    (block_items (within_at c.args.depth) (block_of c.args.whole) c.args.pass.now.numbers) c.in_err-now-in-Open.field-0.0 _ _ (rw c.in-Open.is at c.loop-now.invariant.read) c.in_err-now-in-Open.ensures.read)
+
+pub read_blocks-returns-in-None-clause-read : goal.read_blocks-returns-in-None-clause-read
+read_blocks-returns-in-None-clause-read t c =
+    let none : drop c.len-base.result c.loop-now.frames.items ≡ [] = drop_all c.len-base.result c.loop-now.frames.items (omega (arith, c.in-None.ensures.none.1)) in
+    plug_over (source_of c.args.whole) (drop c.len-base.result c.loop-now.frames.items) c.loop-now.level c.loop-now.pass.numbers (block_items (within_at c.args.depth) (block_of c.args.whole) c.args.pass.now.numbers) none
+    (rw c.in-Done.is at c.loop-now.invariant.read)
+
+pub read_blocks-returns-in_err-frame-in-Some-clause-read : goal.read_blocks-returns-in_err-frame-in-Some-clause-read
+read_blocks-returns-in_err-frame-in-Some-clause-read t c =
+    let off = taken (source_of c.args.whole) c.len-base.result c.loop-now.frames.items c.last_of.new.frames.items c.in-Some.frame c.in-Some.ensures.some.0 c.in-Some.ensures.some.1 c.loop-now.invariant.waiting in
+    refuses _ c.in_err-frame-in-Some.field-0.0 _ _ (search rules)
+    (plug_end_fails (source_of c.args.whole) (drop c.len-base.result c.last_of.new.frames.items) c.in-Some.frame c.loop-now.level c.loop-now.pass.numbers
+    (block_items (within_at c.args.depth) (block_of c.args.whole) c.args.pass.now.numbers) c.in_err-frame-in-Some.field-0.0 _ _ (rw (c.in-Done.is, off.1) at c.loop-now.invariant.read) c.in_err-frame-in-Some.ensures.read)
+
+pub read-returns-in_err-go_on-clause-read : goal.read-returns-in_err-go_on-clause-read
+read-returns-in_err-go_on-clause-read t c = refuses c.from_residual.result c.in_err-go_on.field-0.0 _ _ (search rules) (out_of_memory c.in_err-go_on.field-0.0 _ _ c.in_err-go_on.ensures.memory)
+
+pub read-returns-in_err-go_on-2-clause-read : goal.read-returns-in_err-go_on-2-clause-read
+read-returns-in_err-go_on-2-clause-read t c = refuses _ c.in_err-go_on-2.field-0.0 _ _ (search rules) (out_of_memory c.in_err-go_on-2.field-0.0 _ _ c.in_err-go_on-2.ensures.memory)
+
+pub read-returns-in_err-not_blank-clause-read : goal.read-returns-in_err-not_blank-clause-read
+read-returns-in_err-not_blank-clause-read t c =
+    let flat : (length c.args.lines.now ≡ 0) ⊎ (c.args.depth ≡ suc deepest) = elim c.else-len-gt0.branch [
+      | read-else-len-gt0-via-then-len-gt0+else-depth-le-DEEPEST w ↦ inr (omega (arith, w.if-depth-le-DEEPEST.false, c.requires.depth))
+      | read-else-len-gt0-via-else-len-gt0 w ↦ inl (omega (arith, w.if-len-gt0.false, c.len.ensures, ap length c.whole-whole.ensures))
+    ] in
+    refuses c.from_residual-in_err-not_blank.result c.in_err-not_blank.field-0.0 _ _ (search rules)
+    (flat_text_fails c.args.depth (block_of c.whole-whole.result) c.args.lines.now c.args.pass.now.numbers c.in_err-not_blank.field-0.0 _ flat c.whole-whole.ensures c.in_err-not_blank.ensures.blank)
+
+pub read-returns-clause-read : goal.read-returns-clause-read
+read-returns-clause-read t c =
+    let flat : (length c.args.lines.now ≡ 0) ⊎ (c.args.depth ≡ suc deepest) = elim c.else-len-gt0.branch [
+      | read-else-len-gt0-via-then-len-gt0+else-depth-le-DEEPEST w ↦ inr (omega (arith, w.if-depth-le-DEEPEST.false, c.requires.depth))
+      | read-else-len-gt0-via-else-len-gt0 w ↦ inl (omega (arith, w.if-len-gt0.false, c.len.ensures, ap length c.whole-whole.ensures))
+    ] in
+    ap (λ k. just (done_of c.new.result) k) c.in_ok-not_blank.ensures.numbers
+    ∙ flat_text c.args.depth (block_of c.whole-whole.result) c.args.lines.now c.new.result c.args.pass.now.numbers c.in_ok-not_blank.field-0 c.requires.depth flat c.whole-whole.ensures c.in_ok-not_blank.ensures.blank c.new.ensures.begun
+
+pub cells-returns-in_err-row_of-clause-read : goal.cells-returns-in_err-row_of-clause-read
+cells-returns-in_err-row_of-clause-read t c =
+    refuses c.from_residual.result c.in_err-row_of.field-0.0 _ _ (search rules)
+    (table_keeps c.args.level.now (block_of c.args.view.now) c.args.depth c.args.found c.in-Table.cols c.in-Table.head c.in-Table.end c.as_slice-cells-items.result.now c.in-Table.rows c.loop-cells.cells-index c.cells-item.result
+    c.deref.result.now c.loop-cells.made.items c.args.pass.now.numbers c.loop-cells.pass.numbers c.in_err-row_of.field-0.0 _ _ c.in-Table.is c.requires.level (omega arith) c.cells-item.is c.deref.ensures.value c.as_slice-cells-items.ensures
+    c.loop-cells.invariant.made c.in_err-row_of.ensures.row)
+
+pub cells-loop-cells-preserved : goal.cells-loop-cells-preserved
+cells-loop-cells-preserved t c = record {
+  frames = c.in_ok-row_of.ensures.frames ∙ c.loop-cells.invariant.frames;
+  few = c.in_ok-row_of.ensures.few;
+  made = row_next c.args.depth c.as_slice-cells-items.result.now c.loop-cells.cells-index c.cells-item.result c.deref.result.now c.loop-cells.made.items c.push.new.self.items c.in_ok-row_of.field-0 c.loop-cells.pass.numbers
+      c.row_of.new.pass.numbers _ (omega arith) c.cells-item.is c.deref.ensures.value c.in_ok-row_of.ensures.row c.in_ok-push.ensures.items c.loop-cells.invariant.made;
+}
+
+pub cells-returns-clause-kept : goal.cells-returns-clause-kept
+cells-returns-clause-kept t c =
+    table_kept c.args.level.now c.go_to.new.self c.push-2.new.self c.after_table.new.level _ _ c.go_to.ensures.moved c.in_ok-push-2.ensures.more c.in_ok-after_table.ensures.more c.requires.placed
+
+pub cells-returns-clause-read : goal.cells-returns-clause-read
+cells-returns-clause-read t c =
+    let B : Block = block_of c.args.view.now in
+    let behind = rw c.in-Table.is at c.requires.table in
+    ap (λ k. reads c.after_table.new.level B k) c.in_ok-after_table.ensures.numbers
+    ∙ table_reads c.args.level.now c.go_to.new.self c.push-2.new.self c.after_table.new.level B c.args.depth c.args.found c.in-Table.cols c.in-Table.head c.in-Table.end c.in-Table.rows c.loop-cells.made.items c.in_ok-table.table
+    c.args.pass.now.numbers c.loop-cells.pass.numbers c.in-Table.is c.requires.level
+    (rows_made c.args.depth c.as_slice-cells-items.result.now c.in-Table.rows c.loop-cells.cells-index c.loop-cells.made.items c.args.pass.now.numbers c.loop-cells.pass.numbers (omega arith) c.as_slice-cells-items.ensures
+    c.loop-cells.invariant.made)
+    (c.in_ok-table.ensures ∙ ap (λ widths. table_node widths c.in-Table.head c.loop-cells.made.items c.number-line.result) c.as_slice.ensures
+    ∙ ap (λ line. table_node c.in-Table.cols c.in-Table.head c.loop-cells.made.items line) c.number-line.ensures)
+    c.go_to.ensures.moved (c.go_to.ensures.there behind) c.in_ok-push-2.ensures.more c.in_ok-after_table.ensures.more c.requires.placed
+
+pub row_of-returns-in_err-nodes-clause-row : goal.row_of-returns-in_err-nodes-clause-row
+row_of-returns-in_err-nodes-clause-row t c =
+    refuses c.from_residual-in_err-nodes.result c.in_err-nodes.field-0.0 _ _ (search rules)
+    (row_keeps c.args.depth c.args.cells.now c.loop-cell.cell-index c.cell-item.result c.in_ok-lines.lines c.loop-cell.entries.items c.args.pass.now.numbers c.loop-cell.pass.numbers c.in_err-nodes.field-0.0 _ _ c.requires.inner
+    c.requires.depth (omega arith) c.cell-item.is (c.in_ok-lines.ensures ∙ c.as_slice.ensures.value) c.loop-cell.invariant.made c.in_err-nodes.ensures.read)
+
+pub row_of-loop-cell-preserved : goal.row_of-loop-cell-preserved
+row_of-loop-cell-preserved t c = record {
+  frames = c.in_ok-nodes.ensures.frames ∙ c.loop-cell.invariant.frames;
+  few = c.in_ok-nodes.ensures.few;
+  made = entry_next c.args.depth c.args.cells.now c.loop-cell.cell-index c.cell-item.result c.in_ok-lines.lines c.in_ok-nodes.field-0 c.loop-cell.entries.items c.push.new.self.items c.in_ok-entry_of.field-0 c.loop-cell.pass.numbers
+      c.read.new.pass.numbers _ c.requires.inner c.requires.depth (omega arith) c.cell-item.is (c.in_ok-lines.ensures ∙ c.as_slice.ensures.value) c.in_ok-nodes.ensures.read c.in_ok-entry_of.ensures c.in_ok-push.ensures.items
+      c.loop-cell.invariant.made;
+}

@@ -1,6 +1,13 @@
 use Rattle.std.proofs.Common.{◌≡◌, ◌+◌, ◌-◌, ◌*◌, ◌^◌, ◌<◌, ◌≤◌, length, take, drop}
 use Rattle.rst_text.specs.Shown.{block_of, source_of}
-use Rattle.rst_block.specs.Frames.{AreFrames, IsNow}
+use Rattle.rst_markup_tables.specs.Results.{cells_of}
+use Rattle.rst_block.specs.Frames.{AreFrames, AreNested, IsNow}
+use Rattle.rst_block.specs.Meanings.{comes, plug, within_at}
+use Rattle.rst_block.specs.Nodes.{block_items}
+use Rattle.rst_block.specs.Numbered.{each}
+use Rattle.rst_block.specs.OpenBlocks.{IsPlaced}
+use Rattle.rst_block.specs.Tables.{entry_of, row_of}
+use Rattle.rst_block.proofs.CellsRead.{each_after, row_after}
 use Rattle.rst_block.proofs.Stack.{all_left}
 use Rattle.rst_block.proofs.machine.+machine.Given as goal
 
@@ -16,6 +23,7 @@ decreases-cells l = 4 * (251 - l.depth) + 4
 abbrev pub decreases-row_of : goal.decreases-row_of
 decreases-row_of l = 4 * (251 - l.depth) + 3
 
+-- the blocks that wait make of what comes in the block that is read all that the text gives
 abbrev pub invariant-read_blocks-loop-now : goal.invariant-read_blocks-loop-now
 invariant-read_blocks-loop-now l = record {
   base : l.base ≤ length l.frames.items;
@@ -26,13 +34,25 @@ invariant-read_blocks-loop-now l = record {
   text : source_of l.view ≡ source_of l.whole;
   short : length (block_of l.view) < 2 ^ 64;
   now : IsNow (block_of l.view) l.level.at l.now;
+  depth : l.level.depth ≡ l.depth + (length l.frames.items - l.base);
+  placed : IsPlaced l.level;
+  nested : AreNested l.depth (drop l.base l.frames.items);
+  read : plug (source_of l.whole) (drop l.base l.frames.items) (comes l.level (block_of l.view) l.now) l.pass.numbers ≡ block_items (within_at l.depth) (block_of l.whole) l.fn.pass.numbers;
 }
 
 abbrev pub decreases-read_blocks-loop-now : goal.decreases-read_blocks-loop-now
 decreases-read_blocks-loop-now l = all_left (2 ^ 64) (250 - l.depth) (source_of l.whole) (drop l.base l.frames.items) (length (block_of l.view)) l.level.at l.now
 
 abbrev pub invariant-row_of-loop-cell : goal.invariant-row_of-loop-cell
-invariant-row_of-loop-cell l = (l.frames.items ≡ l.fn.frames.items) × (l.pass.looks < 2 ^ 119)
+invariant-row_of-loop-cell l = record {
+  frames : l.frames.items ≡ l.fn.frames.items;
+  few : l.pass.looks < 2 ^ 119;
+  made : row_after l.depth l.entries.items (drop l.cell-index l.fn.cells) l.pass.numbers ≡ each (entry_of (within_at (l.depth - 1))) l.fn.cells l.fn.pass.numbers;
+}
 
 abbrev pub invariant-cells-loop-cells : goal.invariant-cells-loop-cells
-invariant-cells-loop-cells l = (l.frames.items ≡ l.fn.frames.items) × (l.pass.looks < 2 ^ 119)
+invariant-cells-loop-cells l = record {
+  frames : l.frames.items ≡ l.fn.frames.items;
+  few : l.pass.looks < 2 ^ 119;
+  made : each_after (row_of (within_at (l.depth - 1))) l.made.items (cells_of (drop l.cells-index l.cells-items)) l.pass.numbers ≡ each (row_of (within_at (l.depth - 1))) (cells_of l.cells-items) l.fn.pass.numbers;
+}
