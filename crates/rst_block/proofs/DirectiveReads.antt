@@ -10,8 +10,6 @@ use Rattle.rst_markup_directives.specs.Argument.{nothing, uri, language, given_i
 use Rattle.rst_markup_directives.specs.Directive.{Read, is_code_name}
 use Rattle.rst_markup_directives.specs.Options.{choices_in}
 use Rattle.rst_markup_directives.specs.declared.argument.Argument.{Argument}
-use Rattle.rst_markup_directives.specs.declared.argument.Argument.TheVariants.{Language}
-use Rattle.rst_markup_directives.specs.declared.found.Content.{Content}
 use Rattle.rst_markup_directives.specs.declared.name.Name.{Name}
 use Rattle.rst_markup_directives.specs.declared.name.Name.TheVariants.{Figure, Code}
 use Rattle.rst_markup_directives.specs.declared.options.Setting.{Setting}
@@ -22,7 +20,7 @@ use Rattle.rst_block.specs.Figures.{caption_error, figure_nodes}
 use Rattle.rst_block.specs.LineRuns.{number_or}
 use Rattle.rst_block.specs.MarkupSteps.{is_figure, made_of, reads_with}
 use Rattle.rst_block.specs.Meanings.{within_at, reads_from, comes}
-use Rattle.rst_block.specs.Numbered.{Numbered, then_read, just}
+use Rattle.rst_block.specs.Numbered.{then_read, just}
 use Rattle.rst_block.specs.OpenBlocks.{IsMoved}
 use Rattle.rst_block.specs.Texts.{joined, texted}
 use Rattle.rst_block.specs.Within.{Within}

@@ -8,7 +8,6 @@ use Rattle.rst_tree.specs.declared.node.Node.TheVariants.{Element, Text}
 use Rattle.rst_tree.proofs.Changes.{nodes_of-forest_of}
 use Rattle.rst_markup_lines.specs.ExplicitMarks.{dots}
 use Rattle.rst_markup_lines.specs.declared.marker.Marker.{Marker}
-use Rattle.rst_markup_blocks.specs.Begun.{IsBegun}
 use Rattle.rst_markup_blocks.specs.Explicit.{is_explicit_kind, explicit_of, explicit_size}
 use Rattle.rst_markup_blocks.specs.ExplicitLaws.{explicit_within}
 use Rattle.rst_markup_blocks.specs.Kinds.{row_holds, kinds as all_kinds, first_kind, kind_at}
@@ -26,7 +25,7 @@ use Rattle.rst_block.specs.Directives.{content_nodes}
 use Rattle.rst_block.specs.Joins.{joining_after}
 use Rattle.rst_block.specs.Markup.{markup_by, markup_nodes}
 use Rattle.rst_block.specs.MarkupSteps.{is_markup, markup_reads, reads_with, made_of, GoesOnWith}
-use Rattle.rst_block.specs.Meanings.{joining_in, open_of, deepest, within_at, done_of, reads, reads_from, resumed, after, comes, Keeps}
+use Rattle.rst_block.specs.Meanings.{joining_in, open_of, deepest, within_at, done_of, reads, reads_from, resumed, comes, Keeps}
 use Rattle.rst_block.specs.Numbered.{Numbered, then_read, ◌>>=◌, just, before}
 use Rattle.rst_block.specs.OpenBlocks.{IsMoved, HasRun, HasMore, IsClosed, Closes, IsPlaced, IsKept}
 use Rattle.rst_block.specs.Rest.{OpenRun, no_run, open_list, open_lines, open_markup, end_of_run, closed_run, joining_with, rest, rest_with}

@@ -6,9 +6,8 @@ use Rattle.rst_text.specs.Block.{Block, first_number}
 use Rattle.rst_tree.specs.declared.node.Node.{Node}
 use Rattle.rst_tree.specs.declared.note.Level.TheVariants.{Warning}
 use Rattle.rst_markup_blocks.specs.Partition.{Span}
-use Rattle.rst_markup_blocks.specs.declared.forms.Invocation.{Invocation}
 use Rattle.rst_markup_directives.specs.Argument.{uri}
-use Rattle.rst_markup_directives.specs.Directive.{Read, Outcome, found}
+use Rattle.rst_markup_directives.specs.Directive.{Outcome, found}
 use Rattle.rst_markup_directives.specs.Options.{Choice}
 use Rattle.rst_markup_directives.specs.declared.found.Content.{Content}
 use Rattle.rst_markup_directives.specs.declared.name.Name.{Name}
@@ -18,7 +17,7 @@ use Rattle.rst_block_nodes.specs.Texts.{message_node}
 use Rattle.rst_block_nodes.specs.Values.{normalized, unescaped}
 use Rattle.rst_block_sections.specs.Sections.{filled}
 use Rattle.rst_block.specs.Directives.{about, holding, substitution_nodes}
-use Rattle.rst_block.specs.Numbered.{Numbered, just}
+use Rattle.rst_block.specs.Numbered.{just}
 use Rattle.rst_block.specs.Texts.{source_of}
 use Rattle.rst_block.specs.Within.{Within}
 

@@ -1,5 +1,5 @@
 //! Directives as blocks (Markup Specification, 'Directives').
-ghost use Rattle.std.specs.Prelude.{◌≡◌, ℕ, ◌+◌, ◌-◌, ◌*◌, ◌^◌, ◌<◌, ◌≤◌, [], ◌∷◌, true, length, drop, option_map, string_bytes, Some, None, Ok, IfOk, IfSome};
+ghost use Rattle.std.specs.Prelude.{◌≡◌, ℕ, ◌+◌, ◌-◌, ◌*◌, ◌^◌, ◌<◌, ◌≤◌, [], ◌∷◌, true, length, drop, option_map, Some, Ok, IfOk, IfSome};
 ghost use Rattle.std.specs.Str.{chars};
 ghost use Rattle.rst_text.specs.Block.{Block, first_number};
 ghost use Rattle.rst_text.specs.Shown.{block_of};
@@ -23,7 +23,6 @@ ghost use Rattle.rst_markup_directives.specs.Call.{IsArgumentIn, IsContentIn, Is
 ghost use Rattle.rst_markup_directives.specs.declared.found.Place.{Place};
 ghost use Rattle.rst_markup_blocks.specs.Parts.{IsBlock, IsCall};
 ghost use Rattle.rst_block.specs.OpenBlocks.{Gives, IsKept, IsMoved, IsPlaced};
-ghost use Rattle.rst_block.specs.Paragraphs as paragraphs;
 ghost use Rattle.rst_block.specs.Steps as spec;
 ghost use Rattle.rst_block.specs.Texts.{joined, lines_in, shown, source_of, texted};
 ghost use Rattle.rst_block.specs.declared.step.Step.TheVariants.{Open};
@@ -103,7 +102,7 @@ fn is_paragraph(
     ensures looks { pass.new.looks ≤ pass.old.looks + 2 ^ 66 }
 {
     if is_replacement(name) {
-        // No message is given for a test.
+        // The test gives no message: the numbers stay as they are.
         let numbers = mem::replace(&mut pass.numbers, Numbers::none());
         let single = is_single_paragraph(&inside(view, invocation.block), pass);
         pass.numbers = numbers;

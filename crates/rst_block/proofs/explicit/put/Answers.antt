@@ -1,5 +1,4 @@
 use Rattle.std.proofs.Common.{[], ◌∷◌, ap}
-use Rattle.rst_block.specs.MarkupSteps.{GoesOnWith}
 use Rattle.rst_block.proofs.MarkupReads.{goes_on_once, goes_on_reads, goes_on_kept}
 use Rattle.rst_block.proofs.explicit.put.Goals as goal
 
