@@ -24,10 +24,10 @@ use Rattle.rst_block.specs.Constructs.{explicit_markup}
 use Rattle.rst_block.specs.Directives.{content_nodes}
 use Rattle.rst_block.specs.Joins.{joining_after}
 use Rattle.rst_block.specs.Markup.{markup_by, markup_nodes}
-use Rattle.rst_block.specs.MarkupSteps.{is_markup, markup_reads, reads_with, made_of, GoesOnWith}
+use Rattle.rst_block.specs.MarkupSteps.{is_markup, markup_reads, reads_with, made_of}
 use Rattle.rst_block.specs.Meanings.{joining_in, open_of, deepest, within_at, done_of, reads, reads_from, resumed, comes, Keeps}
 use Rattle.rst_block.specs.Numbered.{Numbered, then_read, ◌>>=◌, just, before}
-use Rattle.rst_block.specs.OpenBlocks.{IsMoved, HasRun, HasMore, IsClosed, Closes, IsPlaced, IsKept}
+use Rattle.rst_block.specs.OpenBlocks.{IsMoved, HasRun, HasMore, HasMoreAt, IsClosed, Closes, IsPlaced, IsKept}
 use Rattle.rst_block.specs.Rest.{OpenRun, no_run, open_list, open_lines, open_markup, end_of_run, closed_run, joining_with, rest, rest_with}
 use Rattle.rst_block.specs.RestLaws.{found_as}
 use Rattle.rst_block.specs.Texts.{lines_in}
@@ -65,11 +65,11 @@ moved_reads old new B more at m e =
 at_line : OpenBlock → ℕ → OpenBlock
 at_line l at = record { depth = l.depth; at = at; nodes = l.nodes; run = l.run; headings = l.headings }
 
-moved_more : (old new : OpenBlock) (more : List Node) (at : ℕ) → GoesOnWith old new more at → HasMore (at_line old at) new more
+moved_more : (old new : OpenBlock) (more : List Node) (at : ℕ) → HasMoreAt old new more at → HasMore (at_line old at) new more
 unfolding at_line
 moved_more old new more at h = record { depth = h.depth; at = h.at; nodes = h.nodes; headings = h.headings; run = h.run }
 
-pub goes_on_reads : (old new : OpenBlock) (B : Block) (more : List Node) (at : ℕ) → GoesOnWith old new more at → IsPlaced old → reads new B ≡ reads_from old B more at
+pub goes_on_reads : (old new : OpenBlock) (B : Block) (more : List Node) (at : ℕ) → HasMoreAt old new more at → IsPlaced old → reads new B ≡ reads_from old B more at
 unfolding at_line
 goes_on_reads old new B more at h w =
     ap (λ items. before items (rest (within_at new.depth) B new.at (open_of new.run))) (done_more (at_line old at) new more (moved_more old new more at h) w)
@@ -77,7 +77,7 @@ goes_on_reads old new B more at h w =
     ∙ ap (λ i. before (done_of old ++ map plain more) (rest (within_at old.depth) B i (open_of new.run))) h.at
     ∙ ap (λ r. before (done_of old ++ map plain more) (rest (within_at old.depth) B at (open_of r))) h.run
 
-pub goes_on_kept : (old new : OpenBlock) (more : List Node) (at : ℕ) → GoesOnWith old new more at → IsPlaced old → IsKept old new
+pub goes_on_kept : (old new : OpenBlock) (more : List Node) (at : ℕ) → HasMoreAt old new more at → IsPlaced old → IsKept old new
 unfolding at_line
 goes_on_kept old new more at h w = record { depth = h.depth; placed = placed_more (at_line old at) new more (moved_more old new more at h) w }
 
@@ -88,7 +88,7 @@ pub kept_kept : (old mid new : OpenBlock) → IsKept old mid → IsKept mid new 
 kept_kept old mid new h k = record { depth = k.depth ∙ h.depth; placed = k.placed }
 
 -- nodes that come after the last in two calls
-pub goes_on_twice : (old mid next new : OpenBlock) (some more : List Node) (at : ℕ) → IsMoved old mid → mid.at ≡ at → HasMore mid next some → HasMore next new more → GoesOnWith old new (some ++ more) at
+pub goes_on_twice : (old mid next new : OpenBlock) (some more : List Node) (at : ℕ) → IsMoved old mid → mid.at ≡ at → HasMore mid next some → HasMore next new more → HasMoreAt old new (some ++ more) at
 goes_on_twice old mid next new some more at m e h k = record {
   depth = k.depth ∙ h.depth ∙ m.depth;
   at = k.at ∙ h.at ∙ e;
@@ -97,7 +97,7 @@ goes_on_twice old mid next new some more at m e h k = record {
   run = k.run ∙ h.run ∙ m.run;
 }
 
-pub goes_on_once : (old mid new : OpenBlock) (more : List Node) (at : ℕ) → IsMoved old mid → mid.at ≡ at → HasMore mid new more → GoesOnWith old new more at
+pub goes_on_once : (old mid new : OpenBlock) (more : List Node) (at : ℕ) → IsMoved old mid → mid.at ≡ at → HasMore mid new more → HasMoreAt old new more at
 goes_on_once old mid new more at m e h = record {
   depth = h.depth ∙ m.depth;
   at = h.at ∙ e;

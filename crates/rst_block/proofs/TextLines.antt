@@ -24,7 +24,7 @@ use Rattle.rst_block.specs.Meanings.{deepest, open_of, within_at, done_of, reads
 use Rattle.rst_block.specs.NextLine.{IsText}
 use Rattle.rst_block.specs.Nodes.{piece_by, ending_notes, plainly}
 use Rattle.rst_block.specs.Numbered.{Numbered, then_read, just, before}
-use Rattle.rst_block.specs.OpenBlocks.{IsMoved, HasMore, HasTitle, HasGone, GoesOn, GoesOnWith, IsClosed, Gives, IsPlaced, IsKept}
+use Rattle.rst_block.specs.OpenBlocks.{IsMoved, HasMore, HasTitle, HasMoreAt, ReadsNodes, ReadsItems, IsClosed, Gives, IsPlaced, IsKept}
 use Rattle.rst_block.specs.ParagraphSteps.{under_style, unexpected_notes}
 use Rattle.rst_block.specs.Rest.{no_run, closed_run, rest}
 use Rattle.rst_block.specs.RestLaws.{found_as, IsAlone}
@@ -78,21 +78,21 @@ form_here B i t u found form e f h is = sym (h ∙ ap (λ x. text_form x u) e �
 
 -- ---- nodes and items that come after the last
 
-pub done_gone : (old new : OpenBlock) (more : List Node) (i : ℕ) → HasGone old new more i → IsPlaced old → done_of new ≡ done_of old ++ map plain more
+pub done_gone : (old new : OpenBlock) (more : List Node) (i : ℕ) → HasMoreAt old new more i → IsPlaced old → done_of new ≡ done_of old ++ map plain more
 done_gone old new more i h w =
     let there : OpenBlock = record old { at = new.at } in
     let m : HasMore there new more = record { depth = h.depth; at = refl; nodes = h.nodes; headings = h.headings; run = h.run } in
     done_more there new more m w
 
-pub placed_gone : (old new : OpenBlock) (more : List Node) (i : ℕ) → HasGone old new more i → IsPlaced old → IsPlaced new
+pub placed_gone : (old new : OpenBlock) (more : List Node) (i : ℕ) → HasMoreAt old new more i → IsPlaced old → IsPlaced new
 placed_gone old new more i h w =
     let there : OpenBlock = record old { at = new.at } in
     let m : HasMore there new more = record { depth = h.depth; at = refl; nodes = h.nodes; headings = h.headings; run = h.run } in
     placed_more there new more m w
 
 -- nodes are items
-pub gone_items : (read : Result (List Item × ℕ) ℕ) (old new : OpenBlock) (more : List Node) (i next : ℕ) → read ≡ Ok (map plain more, next) → IsPlaced old → HasGone old new more i
-    → GoesOnWith read old new i next
+pub gone_items : (read : Result (List Item × ℕ) ℕ) (old new : OpenBlock) (more : List Node) (i next : ℕ) → read ≡ Ok (map plain more, next) → IsPlaced old → HasMoreAt old new more i
+    → ReadsItems read old new i next
 gone_items read old new more i next e w h = record {
   more = map plain more;
   given = e;
@@ -140,7 +140,7 @@ plain_given read m next ns e = ap (then_read (λ (nodes : List Node). just (map 
 pub record IsEnded (old mid pre : OpenBlock) (B : Block) (more : List Node) (n m : ℕ) : Type 0 where
   pub closed : IsClosed (closed_run (suc deepest - old.depth) B (open_of old.run) n) old mid m no_run
   pub placed : IsPlaced old
-  pub notes : HasGone mid pre more mid.at
+  pub notes : HasMoreAt mid pre more mid.at
 
 ended_placed : (old mid pre : OpenBlock) (B : Block) (notes : List Node) (n m : ℕ) → IsEnded old mid pre B notes n m → IsPlaced mid
 ended_placed old mid pre B notes n m e = placed_closed (closed_run (suc deepest - old.depth) B (open_of old.run) n) old mid m no_run e.closed e.placed
@@ -161,20 +161,20 @@ ended_more old mid pre new B notes more n m e h = record { closed = e.closed; pl
 
 -- a paragraph in the place of the old block
 goes_here : (old mid pre new : OpenBlock) (B : Block) (notes : List Node) (n m next : ℕ) → IsEnded old mid pre B notes n m
-    → GoesOn (paragraph_nodes [] (drop pre.at B) m) pre new (pre.at + paragraph_size (drop pre.at B)) next
-    → GoesOn (paragraph_nodes [] (drop old.at B) m) pre new (old.at + paragraph_size (drop old.at B)) next
+    → ReadsNodes (paragraph_nodes [] (drop pre.at B) m) pre new (pre.at + paragraph_size (drop pre.at B)) next
+    → ReadsNodes (paragraph_nodes [] (drop old.at B) m) pre new (old.at + paragraph_size (drop old.at B)) next
 goes_here old mid pre new B notes n m next e g =
-    subst (λ i. GoesOn (paragraph_nodes [] (drop i B) m) pre new (i + paragraph_size (drop i B)) next) (ended_at old mid pre B notes n m e) g
+    subst (λ i. ReadsNodes (paragraph_nodes [] (drop i B) m) pre new (i + paragraph_size (drop i B)) next) (ended_at old mid pre B notes n m e) g
 
 whole_gone : (old mid pre new : OpenBlock) (B : Block) (notes : List Node) (n m next : ℕ) (e : IsEnded old mid pre B notes n m)
-    → (g : GoesOn (paragraph_nodes [] (drop old.at B) m) pre new (old.at + paragraph_size (drop old.at B)) next)
-    → HasGone mid new (notes ++ g.more) (old.at + paragraph_size (drop old.at B))
+    → (g : ReadsNodes (paragraph_nodes [] (drop old.at B) m) pre new (old.at + paragraph_size (drop old.at B)) next)
+    → HasMoreAt mid new (notes ++ g.more) (old.at + paragraph_size (drop old.at B))
 whole_gone old mid pre new B notes n m next e g = gone_gone mid pre new notes g.more mid.at (old.at + paragraph_size (drop old.at B)) e.notes g.gone
 
 paragraph_reads : (form : TextForm) (old mid pre new : OpenBlock) (B : Block) (infos notes : List Node) (n m next : ℕ) → IsEnded old mid pre B notes n m → IsText old B infos
     → text_form (front_text (drop old.at B)) (next_text (drop old.at B)) ≡ form → text_by form (old.depth == 0) infos (drop old.at B) ≡ paragraph notes
     → form_size form (drop old.at B) ≡ paragraph_size (drop old.at B)
-    → GoesOn (paragraph_nodes [] (drop old.at B) m) pre new (old.at + paragraph_size (drop old.at B)) next
+    → ReadsNodes (paragraph_nodes [] (drop old.at B) m) pre new (old.at + paragraph_size (drop old.at B)) next
     → reads new B next ≡ reads old B n
 paragraph_reads form old mid pre new B infos notes n m next e text f is size g =
     let X : Block = drop old.at B in
@@ -186,7 +186,7 @@ paragraph_reads form old mid pre new B infos notes n m next e text f is size g =
     (whole.depth ∙ e.closed.depth) (whole.at ∙ ap (λ k. old.at + k) (sym size)) (ap open_of whole.run ∙ e.closed.run)
 
 pub paragraph_kept : (old mid pre new : OpenBlock) (B : Block) (notes : List Node) (n m next : ℕ) → IsEnded old mid pre B notes n m
-    → GoesOn (paragraph_nodes [] (drop pre.at B) m) pre new (pre.at + paragraph_size (drop pre.at B)) next → IsKept old new
+    → ReadsNodes (paragraph_nodes [] (drop pre.at B) m) pre new (pre.at + paragraph_size (drop pre.at B)) next → IsKept old new
 paragraph_kept old mid pre new B notes n m next e g = record {
   depth = g.gone.depth ∙ ended_depth old mid pre B notes n m e;
   placed = placed_gone pre new g.more (pre.at + paragraph_size (drop pre.at B)) g.gone (pre_placed old mid pre B notes n m e);
@@ -195,7 +195,7 @@ paragraph_kept old mid pre new B notes n m next e g = record {
 -- a paragraph after the end of the open run
 pub paragraph_goes : (old mid pre new : OpenBlock) (B : Block) (infos : List Node) (n m next : ℕ) → IsEnded old mid pre B infos n m → IsText old B infos
     → text_form (front_text (drop old.at B)) (next_text (drop old.at B)) ≡ Paragraph
-    → GoesOn (paragraph_nodes [] (drop pre.at B) m) pre new (pre.at + paragraph_size (drop pre.at B)) next → reads new B next ≡ reads old B n
+    → ReadsNodes (paragraph_nodes [] (drop pre.at B) m) pre new (pre.at + paragraph_size (drop pre.at B)) next → reads new B next ≡ reads old B n
 paragraph_goes old mid pre new B infos n m next e text f g =
     paragraph_reads Paragraph old mid pre new B infos infos n m next e text f refl refl (goes_here old mid pre new B infos n m next e g)
 
@@ -209,7 +209,7 @@ short_ended old mid pre new B infos n m e h =
 
 pub short_goes : (old mid pre new : OpenBlock) (B : Block) (infos : List Node) (n m next : ℕ) → IsEnded old mid pre B (infos ++ short_underline (old.depth == 0) (drop old.at B)) n m
     → IsText old B infos → text_form (front_text (drop old.at B)) (next_text (drop old.at B)) ≡ ShortUnderline
-    → GoesOn (paragraph_nodes [] (drop pre.at B) m) pre new (pre.at + paragraph_size (drop pre.at B)) next → reads new B next ≡ reads old B n
+    → ReadsNodes (paragraph_nodes [] (drop pre.at B) m) pre new (pre.at + paragraph_size (drop pre.at B)) next → reads new B next ≡ reads old B n
 short_goes old mid pre new B infos n m next e text f g =
     let notes : List Node = infos ++ short_underline (old.depth == 0) (drop old.at B) in
     paragraph_reads ShortUnderline old mid pre new B infos notes n m next e text f refl refl (goes_here old mid pre new B notes n m next e g)
@@ -221,19 +221,19 @@ abbrev pub underlined_at : ℕ → ℕ → Bool → Block → Numbered (List Ite
 underlined_at depth i short B = underline_item (depth == 0) short (source_of B (record { start = i; stop = i + 2 })) (drop i B)
 
 underlined_here : (old mid pre new : OpenBlock) (B : Block) (notes : List Node) (short : Bool) (n m next : ℕ) → IsEnded old mid pre B notes n m
-    → GoesOnWith (underlined_at pre.depth pre.at short B m) pre new (pre.at + 2) next
-    → GoesOnWith (underlined_at old.depth old.at short B m) pre new (old.at + 2) next
+    → ReadsItems (underlined_at pre.depth pre.at short B m) pre new (pre.at + 2) next
+    → ReadsItems (underlined_at old.depth old.at short B m) pre new (old.at + 2) next
 underlined_here old mid pre new B notes short n m next e g =
-    subst (λ i. GoesOnWith (underlined_at old.depth i short B m) pre new (i + 2) next) (ended_at old mid pre B notes n m e)
-    (subst (λ d. GoesOnWith (underlined_at d pre.at short B m) pre new (pre.at + 2) next) (ended_depth old mid pre B notes n m e) g)
+    subst (λ i. ReadsItems (underlined_at old.depth i short B m) pre new (i + 2) next) (ended_at old mid pre B notes n m e)
+    (subst (λ d. ReadsItems (underlined_at d pre.at short B m) pre new (pre.at + 2) next) (ended_depth old mid pre B notes n m e) g)
 
 pub underlined_kept : (old mid pre new : OpenBlock) (B : Block) (notes : List Node) (short : Bool) (n m next : ℕ) → IsEnded old mid pre B notes n m
-    → GoesOnWith (underlined_at pre.depth pre.at short B m) pre new (pre.at + 2) next → IsKept old new
+    → ReadsItems (underlined_at pre.depth pre.at short B m) pre new (pre.at + 2) next → IsKept old new
 underlined_kept old mid pre new B notes short n m next e g = record { depth = g.depth ∙ ended_depth old mid pre B notes n m e; placed = g.placed }
 
 pub underlined_goes : (old mid pre new : OpenBlock) (B : Block) (infos : List Node) (short : Bool) (n m next : ℕ) → IsEnded old mid pre B infos n m → IsText old B infos
     → text_form (front_text (drop old.at B)) (next_text (drop old.at B)) ≡ Title short
-    → GoesOnWith (underlined_at pre.depth pre.at short B m) pre new (pre.at + 2) next → reads new B next ≡ reads old B n
+    → ReadsItems (underlined_at pre.depth pre.at short B m) pre new (pre.at + 2) next → reads new B next ≡ reads old B n
 underlined_goes old mid pre new B infos short n m next e text f h =
     let g = underlined_here old mid pre new B infos short n m next e h in
     let done : done_of new ≡ done_of mid ++ (map plain infos ++ g.more) =
@@ -244,12 +244,12 @@ underlined_goes old mid pre new B infos short n m next e text f h =
 
 -- ---- titles and the messages on them
 
-pub goes_as : {A : Type 0} (read wanted : Result (List Item × ℕ) ℕ) (old new : OpenBlock) (i next : ℕ) (r : Result A BlockFault) → read ≡ wanted → Gives (λ (_ : A). GoesOnWith read old new i next) r
-    → Gives (λ (_ : A). GoesOnWith wanted old new i next) r
-goes_as read wanted old new i next r e g = gives_map (λ _. GoesOnWith read old new i next) (λ _. GoesOnWith wanted old new i next) r (λ _ h. subst (λ x. GoesOnWith x old new i next) e h) g
+pub goes_as : {A : Type 0} (read wanted : Result (List Item × ℕ) ℕ) (old new : OpenBlock) (i next : ℕ) (r : Result A BlockFault) → read ≡ wanted → Gives (λ (_ : A). ReadsItems read old new i next) r
+    → Gives (λ (_ : A). ReadsItems wanted old new i next) r
+goes_as read wanted old new i next r e g = gives_map (λ _. ReadsItems read old new i next) (λ _. ReadsItems wanted old new i next) r (λ _ h. subst (λ x. ReadsItems x old new i next) e h) g
 
 pub title_goes_on : (old mid new : OpenBlock) (h : Heading) (read : Result (List Item × ℕ) ℕ) (next : ℕ) → IsMoved old mid → mid.at ≡ old.at + 2 → IsPlaced old
-    → read ≡ Ok (titled (title_of h) ∷ [], next) → HasTitle mid new h → GoesOnWith read old new (old.at + 2) next
+    → read ≡ Ok (titled (title_of h) ∷ [], next) → HasTitle mid new h → ReadsItems read old new (old.at + 2) next
 title_goes_on old mid new h read next moved at w e m = record {
   more = titled (title_of h) ∷ [];
   given = e;
@@ -261,9 +261,9 @@ title_goes_on old mid new h read next moved at w e m = record {
 }
 
 pub title_gives : {A : Type 0} (old mid new : OpenBlock) (h : Heading) (read : Result (List Item × ℕ) ℕ) (next : ℕ) (r : Result A BlockFault) → IsMoved old mid → mid.at ≡ old.at + 2 → IsPlaced old
-    → read ≡ Ok (titled (title_of h) ∷ [], next) → Gives (λ (_ : A). HasTitle mid new h) r → Gives (λ (_ : A). GoesOnWith read old new (old.at + 2) next) r
+    → read ≡ Ok (titled (title_of h) ∷ [], next) → Gives (λ (_ : A). HasTitle mid new h) r → Gives (λ (_ : A). ReadsItems read old new (old.at + 2) next) r
 title_gives old mid new h read next r moved at w e g =
-    gives_map (λ _. HasTitle mid new h) (λ _. GoesOnWith read old new (old.at + 2) next) r (λ _ m. title_goes_on old mid new h read next moved at w e m) g
+    gives_map (λ _. HasTitle mid new h) (λ _. ReadsItems read old new (old.at + 2) next) r (λ _ m. title_goes_on old mid new h read next moved at w e m) g
 
 next_line : (B : Block) (i j : ℕ) → j ≡ i + 1 → drop j B ≡ drop 1 (drop i B)
 next_line B i j e = ap (λ k. drop k B) e ∙ sym (drop-drop 1 i B)

@@ -1,5 +1,5 @@
 -- What a block that is read gives where explicit markup stands at its next line. No rule of markup.
-use Rattle.std.specs.Prelude.{◌≡◌, ℕ, Bool, true, false, List, ◌++◌, Option, Some, if◌then◌else◌}
+use Rattle.std.specs.Prelude.{ℕ, Bool, true, false, List, Option, Some, if◌then◌else◌}
 use Rattle.rst_text.specs.Block.{Block}
 use Rattle.rst_tree.specs.declared.node.Node.{Node}
 use Rattle.rst_markup_directives.specs.Argument.{given_in}
@@ -41,14 +41,6 @@ abbrev pub made_of : Within → Block → Content → (List Node → List Node) 
 made_of c B content make = do
   nodes ← content_nodes c B content
   just (make nodes)
-
--- more nodes come after the last, and the block goes on at this line
-pub record GoesOnWith (old new : OpenBlock) (more : List Node) (next : ℕ) : Type 0 where
-  pub depth : new.depth ≡ old.depth
-  pub at : new.at ≡ next
-  pub nodes : new.nodes.items ≡ old.nodes.items ++ more
-  pub headings : new.headings.items ≡ old.headings.items
-  pub run : new.run ≡ old.run
 
 -- ---- directives
 

@@ -120,7 +120,7 @@ pub record IsKept (old new : OpenBlock) : Type 0 where
 -- ---- a block that goes on
 
 -- more nodes come after the last, and the block goes on at a place; nothing else changes
-pub record HasGone (old new : OpenBlock) (more : List Node) (place : ℕ) : Type 0 where
+pub record HasMoreAt (old new : OpenBlock) (more : List Node) (place : ℕ) : Type 0 where
   pub depth : new.depth ≡ old.depth
   pub at : new.at ≡ place
   pub nodes : new.nodes.items ≡ old.nodes.items ++ more
@@ -128,13 +128,13 @@ pub record HasGone (old new : OpenBlock) (more : List Node) (place : ℕ) : Type
   pub run : new.run ≡ old.run
 
 -- What is read are nodes, and then the next message on a text has this number. The nodes come after the last, and the block goes on at a place.
-pub record GoesOn (read : Result (List Node × ℕ) ℕ) (old new : OpenBlock) (place next : ℕ) : Type 0 where
+pub record ReadsNodes (read : Result (List Node × ℕ) ℕ) (old new : OpenBlock) (place next : ℕ) : Type 0 where
   pub more : List Node
   pub given : read ≡ Ok (more, next)
-  pub gone : HasGone old new more place
+  pub gone : HasMoreAt old new more place
 
 -- The same of items, of which some may be titles. They come after the last item, each title among the nodes.
-pub record GoesOnWith (read : Result (List Item × ℕ) ℕ) (old new : OpenBlock) (place next : ℕ) : Type 0 where
+pub record ReadsItems (read : Result (List Item × ℕ) ℕ) (old new : OpenBlock) (place next : ℕ) : Type 0 where
   pub more : List Item
   pub given : read ≡ Ok (more, next)
   pub depth : new.depth ≡ old.depth

@@ -10,7 +10,7 @@ ghost use Rattle.rst_block.specs.Steps as spec;
 ghost use Rattle.rst_markup_blocks.specs.Begun.{IsBegun};
 ghost use Rattle.rst_markup_blocks.specs.declared.begun.Begun.TheVariants.{Doctest};
 ghost use Rattle.rst_block.specs.Meanings.{Keeps, reads};
-ghost use Rattle.rst_block.specs.OpenBlocks.{IsKept, IsPlaced, Gives, GoesOn, HasGone};
+ghost use Rattle.rst_block.specs.OpenBlocks.{IsKept, IsPlaced, Gives, ReadsNodes, HasMoreAt};
 ghost use Rattle.rst_block.specs.Literals as literals;
 ghost use Rattle.rst_block.specs.ParagraphSteps as parts;
 ghost use Rattle.rst_markup_blocks.specs.Lines.{lines_while};
@@ -90,7 +90,7 @@ pub(crate) fn paragraph(
     requires few { pass.old.looks < 2 ^ 119 + 2 ^ 114 }
     requires plain { is_loose (front_text (drop level.old.at (block_of view.now))) ≡ false }
     ensures later { IfOk result (λ _. level.old.at < level.new.at) }
-    ensures read { Gives (λ _. GoesOn (literals.paragraph_nodes [] (drop level.old.at (block_of view.now)) pass.old.numbers) level.old level.new (level.old.at + paragraph_size (drop level.old.at (block_of view.now))) pass.new.numbers) result }
+    ensures read { Gives (λ _. ReadsNodes (literals.paragraph_nodes [] (drop level.old.at (block_of view.now)) pass.old.numbers) level.old level.new (level.old.at + paragraph_size (drop level.old.at (block_of view.now))) pass.new.numbers) result }
     ensures looks { IfOk result (λ _. pass.new.looks ≤ pass.old.looks + 2 ^ 76) }
 {
     let at = level.at;
@@ -118,7 +118,7 @@ fn paragraph_of(
     requires few { pass.old.looks < 2 ^ 119 + 2 ^ 114 + 2 ^ 70 }
     requires behind { level.old.at < end }
     ensures later { IfOk result (λ _. level.old.at < level.new.at) }
-    ensures read { Gives (λ _. GoesOn (parts.paragraph_between (chars text.now) level.old.at end (block_of view.now) pass.old.numbers) level.old level.new (parts.paragraph_end (chars text.now) end (block_of view.now)) pass.new.numbers) result }
+    ensures read { Gives (λ _. ReadsNodes (parts.paragraph_between (chars text.now) level.old.at end (block_of view.now) pass.old.numbers) level.old level.new (parts.paragraph_end (chars text.now) end (block_of view.now)) pass.new.numbers) result }
     ensures looks { IfOk result (λ _. pass.new.looks ≤ pass.old.looks + 2 ^ 75 + 2 ^ 70) }
 {
     if !ends_in_colons(text) {
@@ -143,7 +143,7 @@ fn put_paragraph(
     requires short { length (block_of view.now) < 2 ^ 64 }
     requires few { pass.old.looks < 2 ^ 120 }
     ensures at { level.new.at ≡ level.old.at }
-    ensures read { Gives (λ _. GoesOn (parts.shown_paragraph (chars text.now) level.old.at end (block_of view.now) pass.old.numbers) level.old level.new level.old.at pass.new.numbers) result }
+    ensures read { Gives (λ _. ReadsNodes (parts.shown_paragraph (chars text.now) level.old.at end (block_of view.now) pass.old.numbers) level.old level.new level.old.at pass.new.numbers) result }
     ensures looks { IfOk result (λ _. pass.new.looks ≤ pass.old.looks + 1) }
 {
     put_shown(alloc, view, level, text, pass)?;
@@ -169,7 +169,7 @@ fn put_shown(
     pass: &mut Pass,
 ) -> Result<(), BlockFault>
     ensures at { level.new.at ≡ level.old.at }
-    ensures read { Gives (λ _. GoesOn (literals.text_paragraph (first_number (drop level.old.at (block_of view.now))) (chars text.now) pass.old.numbers) level.old level.new level.old.at pass.new.numbers) result }
+    ensures read { Gives (λ _. ReadsNodes (literals.text_paragraph (first_number (drop level.old.at (block_of view.now))) (chars text.now) pass.old.numbers) level.old level.new level.old.at pass.new.numbers) result }
     ensures looks { pass.new.looks ≡ pass.old.looks }
 {
     if is_blank(text) {
@@ -195,7 +195,7 @@ fn literal(
     requires few { pass.old.looks < 2 ^ 119 + 2 ^ 115 }
     requires behind { level.old.at < end }
     ensures later { IfOk result (λ _. level.old.at < level.new.at) }
-    ensures gone { Gives (λ _. HasGone level.old level.new (literals.literal_nodes (first_number (drop (end - 1) (block_of view.now))) (drop end (block_of view.now))) (end + literal_size (drop end (block_of view.now)))) result }
+    ensures gone { Gives (λ _. HasMoreAt level.old level.new (literals.literal_nodes (first_number (drop (end - 1) (block_of view.now))) (drop end (block_of view.now))) (end + literal_size (drop end (block_of view.now)))) result }
     ensures numbers { pass.new.numbers ≡ pass.old.numbers }
     ensures looks { IfOk result (λ _. pass.new.looks ≤ pass.old.looks + 2 ^ 75) }
 {
@@ -236,7 +236,7 @@ fn indented_literal(
     requires few { pass.old.looks < 2 ^ 119 + 2 ^ 116 }
     requires behind { level.old.at < start }
     ensures later { IfOk result (λ _. level.old.at < level.new.at) }
-    ensures gone { Gives (λ _. HasGone level.old level.new (literals.indented_literal (drop start (block_of view.now))) (start + extent 1 (drop start (block_of view.now)))) result }
+    ensures gone { Gives (λ _. HasMoreAt level.old level.new (literals.indented_literal (drop start (block_of view.now))) (start + extent 1 (drop start (block_of view.now)))) result }
     ensures numbers { pass.new.numbers ≡ pass.old.numbers }
     ensures looks { IfOk result (λ _. pass.new.looks ≤ pass.old.looks + 2 ^ 74) }
 {
@@ -270,7 +270,7 @@ fn quoted_literal(
     requires behind { level.old.at < start }
     requires quoted { begins_with quote (front_text (drop start (block_of view.now))) ≡ true }
     ensures later { IfOk result (λ _. level.old.at < level.new.at) }
-    ensures gone { Gives (λ _. HasGone level.old level.new (literals.quoted_literal (lines_while (Begins quote) (drop start (block_of view.now))) (drop start (block_of view.now))) (start + lines_while (Begins quote) (drop start (block_of view.now)))) result }
+    ensures gone { Gives (λ _. HasMoreAt level.old level.new (literals.quoted_literal (lines_while (Begins quote) (drop start (block_of view.now))) (drop start (block_of view.now))) (start + lines_while (Begins quote) (drop start (block_of view.now)))) result }
     ensures numbers { pass.new.numbers ≡ pass.old.numbers }
     ensures looks { IfOk result (λ _. pass.new.looks ≤ pass.old.looks + 2 ^ 74) }
 {

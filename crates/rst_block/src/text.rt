@@ -5,7 +5,7 @@ ghost use Rattle.rst_markup_blocks.specs.Parts.{IsBlock, IsCall};
 ghost use Rattle.rst_block.specs.Steps as spec;
 ghost use Rattle.rst_block.specs.Meanings.{Keeps, comes, reads};
 ghost use Rattle.rst_block.specs.NextLine.{IsText};
-ghost use Rattle.rst_block.specs.OpenBlocks.{IsKept, IsPlaced, Gives, GoesOnWith, HasGone, HasMore};
+ghost use Rattle.rst_block.specs.OpenBlocks.{IsKept, IsPlaced, Gives, ReadsItems, HasMoreAt, HasMore};
 ghost use Rattle.rst_block.specs.Constructs as constructs;
 ghost use Rattle.rst_block.specs.Texts.{source_of};
 ghost use Rattle.rst_block.specs.Titles as titles;
@@ -112,7 +112,7 @@ fn underlined(
     requires few { pass.old.looks < 2 ^ 119 + 2 ^ 114 }
     requires placed { IsPlaced level.old }
     ensures later { IfOk result (λ _. level.old.at < level.new.at) }
-    ensures read { Gives (λ _. GoesOnWith (titles.underline_item (level.old.depth == 0) short (source_of (block_of view.now) (record { start = level.old.at; stop = level.old.at + 2 })) (drop level.old.at (block_of view.now)) pass.old.numbers) level.old level.new (level.old.at + 2) pass.new.numbers) result }
+    ensures read { Gives (λ _. ReadsItems (titles.underline_item (level.old.depth == 0) short (source_of (block_of view.now) (record { start = level.old.at; stop = level.old.at + 2 })) (drop level.old.at (block_of view.now)) pass.old.numbers) level.old level.new (level.old.at + 2) pass.new.numbers) result }
     ensures looks { IfOk result (λ _. pass.new.looks ≤ pass.old.looks + 2 ^ 76) }
 {
     let at = level.at;
@@ -156,7 +156,7 @@ fn put_title(
     requires few { pass.old.looks < 2 ^ 120 }
     requires placed { IsPlaced level.old }
     ensures later { IfOk result (λ _. level.old.at < level.new.at) }
-    ensures read { Gives (λ _. GoesOnWith (titles.title_item (under_style (drop level.old.at (block_of view.now))) (front_text (drop level.old.at (block_of view.now))) (first_number (drop level.old.at (block_of view.now))) warning (string_bytes lines) pass.old.numbers) level.old level.new (level.old.at + 2) pass.new.numbers) result }
+    ensures read { Gives (λ _. ReadsItems (titles.title_item (under_style (drop level.old.at (block_of view.now))) (front_text (drop level.old.at (block_of view.now))) (first_number (drop level.old.at (block_of view.now))) warning (string_bytes lines) pass.old.numbers) level.old level.new (level.old.at + 2) pass.new.numbers) result }
     ensures looks { pass.new.looks ≤ pass.old.looks + 2 }
 {
     let at = level.at;
@@ -183,7 +183,7 @@ fn put_unexpected(
     requires inside { level.old.at + 1 < length (block_of view.now) }
     requires short { length (block_of view.now) < 2 ^ 64 }
     ensures later { IfOk result (λ _. level.old.at < level.new.at) }
-    ensures gone { Gives (λ _. HasGone level.old level.new (unexpected_notes warning lines.now (drop level.old.at (block_of view.now))) (level.old.at + 2)) result }
+    ensures gone { Gives (λ _. HasMoreAt level.old level.new (unexpected_notes warning lines.now (drop level.old.at (block_of view.now))) (level.old.at + 2)) result }
 {
     let under = number_at(view, level.at.saturating_add(1));
     push_if_any(level, warning)?;

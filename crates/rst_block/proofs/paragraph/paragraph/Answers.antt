@@ -4,7 +4,7 @@ use Rattle.rst_text.specs.Block.{Block}
 use Rattle.rst_text.specs.Shown.{block_of}
 use Rattle.rst_markup_blocks.specs.Sizes.{paragraph_size}
 use Rattle.rst_block.specs.Literals.{paragraph_nodes}
-use Rattle.rst_block.specs.OpenBlocks.{GoesOn}
+use Rattle.rst_block.specs.OpenBlocks.{ReadsNodes}
 use Rattle.rst_block.specs.ParagraphSteps.{paragraph_between, paragraph_end}
 use Rattle.rst_block.specs.Texts.{joined}
 use Rattle.rst_block.proofs.GoingOn.{gives_map, gone_as}
@@ -24,8 +24,8 @@ returns-then-end-at-clause-read c =
       end = c.lines_end-end.ensures.end;
       text = c.line-text.ensures.text ∙ one_line (drop at B) (end - at) (omega (arith, c.requires.inside, length-drop at B)) one;
     } in
-    gives_map (λ _. GoesOn (paragraph_between t at end B c.args.pass.now.numbers) c.args.level.now c.paragraph_of.new.level (paragraph_end t end B) c.paragraph_of.new.pass.numbers)
-    (λ _. GoesOn (paragraph_nodes [] (drop at B) c.args.pass.now.numbers) c.args.level.now c.paragraph_of.new.level (at + paragraph_size (drop at B)) c.paragraph_of.new.pass.numbers)
+    gives_map (λ _. ReadsNodes (paragraph_between t at end B c.args.pass.now.numbers) c.args.level.now c.paragraph_of.new.level (paragraph_end t end B) c.paragraph_of.new.pass.numbers)
+    (λ _. ReadsNodes (paragraph_nodes [] (drop at B) c.args.pass.now.numbers) c.args.level.now c.paragraph_of.new.level (at + paragraph_size (drop at B)) c.paragraph_of.new.pass.numbers)
     c.paragraph_of.result
     (λ _ g. record {
       more = g.more;
@@ -55,8 +55,8 @@ returns-clause-read c =
       end = c.lines_end-end.ensures.end;
       text = ap chars c.as_str.ensures.value ∙ c.in_ok-text.ensures.text;
     } in
-    gives_map (λ _. GoesOn (paragraph_between t at end B c.args.pass.now.numbers) c.args.level.now c.paragraph_of-2.new.level (paragraph_end t end B) c.paragraph_of-2.new.pass.numbers)
-    (λ _. GoesOn (paragraph_nodes [] (drop at B) c.args.pass.now.numbers) c.args.level.now c.paragraph_of-2.new.level (at + paragraph_size (drop at B)) c.paragraph_of-2.new.pass.numbers)
+    gives_map (λ _. ReadsNodes (paragraph_between t at end B c.args.pass.now.numbers) c.args.level.now c.paragraph_of-2.new.level (paragraph_end t end B) c.paragraph_of-2.new.pass.numbers)
+    (λ _. ReadsNodes (paragraph_nodes [] (drop at B) c.args.pass.now.numbers) c.args.level.now c.paragraph_of-2.new.level (at + paragraph_size (drop at B)) c.paragraph_of-2.new.pass.numbers)
     c.paragraph_of-2.result
     (λ _ g. record {
       more = g.more;

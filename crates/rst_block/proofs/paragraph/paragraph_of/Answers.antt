@@ -6,7 +6,7 @@ use Rattle.rst_tree.specs.declared.node.Node.{Node}
 use Rattle.rst_markup_lines.specs.Closing.{ends_in_colons}
 use Rattle.rst_markup_blocks.specs.Sizes.{literal_size}
 use Rattle.rst_block.specs.Literals.{literal_nodes}
-use Rattle.rst_block.specs.OpenBlocks.{HasGone, GoesOn}
+use Rattle.rst_block.specs.OpenBlocks.{HasMoreAt, ReadsNodes}
 use Rattle.rst_block.specs.ParagraphSteps.{paragraph_between, paragraph_end}
 use Rattle.rst_block.proofs.GoingOn.{gives_map, gone_as, gone_gone, gone_moved}
 use Rattle.rst_block.proofs.ParagraphLemmas.{between_plain, between_colons, end_plain, end_colons}
@@ -41,8 +41,8 @@ returns-clause-read c =
     let new = c.literal.new.level in
     let given = between_colons t u at end c.args.pass.now.numbers c.put_paragraph-2.new.pass.numbers B read.more colons (ap chars c.as_str.ensures.value ∙ c.in_ok-shown.ensures) c.requires.behind read.given
     ∙ ap (λ k. Ok (read.more ++ L, k)) (sym c.literal.ensures.numbers) in
-    gives_map (λ _. HasGone mid new L (end + literal_size (drop end B)))
-    (λ _. GoesOn (paragraph_between t at end B c.args.pass.now.numbers) c.args.level.now new (paragraph_end t end B) c.literal.new.pass.numbers) c.literal.result
+    gives_map (λ _. HasMoreAt mid new L (end + literal_size (drop end B)))
+    (λ _. ReadsNodes (paragraph_between t at end B c.args.pass.now.numbers) c.args.level.now new (paragraph_end t end B) c.literal.new.pass.numbers) c.literal.result
     (λ _ g. record {
       more = read.more ++ L;
       given = given;

@@ -2,7 +2,7 @@ use Rattle.std.proofs.Common.{◌≡◌, ◌+◌, ℕ, List, drop, sym, ap, ◌�
 use Rattle.std.specs.Prelude.{◌==◌, string_bytes}
 use Rattle.rst_text.specs.Block.{Block, front_text, first_number}
 use Rattle.rst_text.specs.Shown.{block_of}
-use Rattle.rst_block.specs.OpenBlocks.{HasGone, GoesOnWith}
+use Rattle.rst_block.specs.OpenBlocks.{HasMoreAt, ReadsItems}
 use Rattle.rst_block.specs.ParagraphSteps.{under_style, unexpected_notes}
 use Rattle.rst_block.specs.Texts.{source_of}
 use Rattle.rst_block.specs.Titles.{title_item, underline_item}
@@ -37,6 +37,6 @@ returns-clause-read c =
     let warning = warning_as B at c.saturating_add.result c.saturating_add-end.result c.number_at-under.result c.args.short c.as_str.result.now c.in_ok-warning.warning place end c.number_at-under.ensures (c.as_str.ensures.value ∙ c.in_ok-lines.ensures.bytes) c.in_ok-warning.ensures in
     let notes = unexpected_notes c.in_ok-warning.warning c.as_str-2.result.now (drop at B) in
     let read = underline_item (old.depth == 0) c.args.short (source_of B (record { start = at; stop = at + 2 })) (drop at B) n in
-    gives_map (λ _. HasGone old c.put_unexpected.new.level notes (at + 2)) (λ _. GoesOnWith read old c.put_unexpected.new.level (at + 2) n) c.put_unexpected.result
+    gives_map (λ _. HasMoreAt old c.put_unexpected.new.level notes (at + 2)) (λ _. ReadsItems read old c.put_unexpected.new.level (at + 2) n) c.put_unexpected.result
     (λ _ h. gone_items read old c.put_unexpected.new.level notes (at + 2) n (unexpected_as (old.depth == 0) c.args.short B at n c.as_str-2.result.now c.in_ok-warning.warning (sym c.titles.ensures ∙ c.if-titles.false) bytes warning) c.requires.placed h)
     c.put_unexpected.ensures.gone
