@@ -48,6 +48,14 @@ use Rattle.rst_block.proofs.RestLemmas.{markup_joins, markup_begins}
 
 -- ---- a block that goes on
 
+-- more nodes come after the last, and the block goes on at this line
+pub record GoesOnWith (old new : OpenBlock) (more : List Node) (next : ℕ) : Type 0 where
+  pub depth : new.depth ≡ old.depth
+  pub at : new.at ≡ next
+  pub nodes : new.nodes.items ≡ old.nodes.items ++ more
+  pub headings : new.headings.items ≡ old.headings.items
+  pub run : new.run ≡ old.run
+
 -- a block with these nodes so far, which is read from a place on
 reads_is : (new : OpenBlock) (B : Block) (more : List Node) (done : List Item) (depth at : ℕ) (o : OpenRun) → done_of new ≡ done → new.depth ≡ depth → open_of new.run ≡ o
     → reads_from new B more at ≡ before (done ++ map plain more) (rest (within_at depth) B at o)
