@@ -37,7 +37,7 @@ use super::resume::Waits;
 use super::step::Step;
 use super::texts::{Pass, alone, excerpt, first_line_or, joined, number_at, source};
 use rst_block_nodes::{
-    Numbers, code_block, directive_element, figure, image, message, with_text, with_title_class,
+    code_block, directive_element, figure, image, message, with_text, with_title_class,
 };
 use rst_block_sections::{append, filled};
 use rst_markup_blocks::{Invocation, Part};
@@ -48,7 +48,6 @@ use rst_markup_directives::{
 use rst_text::{Looks, View};
 use rst_tree::{Level, Node, Tag, TreeFault};
 use std::alloc::Global;
-use std::mem;
 
 /// What a directive is, where `place` is where it stands.
 pub(crate) fn directive_at(
@@ -68,7 +67,7 @@ pub(crate) fn directive_at(
     ensures looks { IfOk result (λ _. pass.new.looks ≤ pass.old.looks + 2 ^ 72) }
 {
     let name = called(alloc, view, at, invocation, &mut pass.looks)?;
-    let paragraph = is_paragraph(name, view, invocation, pass);
+    let paragraph = is_paragraph(name, view, invocation, &mut pass.looks);
     Ok(directive(
         alloc,
         view,
@@ -92,21 +91,16 @@ fn is_paragraph(
     name: Option<Name>,
     view: &View<'_>,
     invocation: &Invocation,
-    pass: &mut Pass,
+    looks: &mut Looks,
 ) -> bool
     requires block { IsBlock (block_of view.now) invocation.now.block }
     requires short { length (block_of view.now) < 2 ^ 64 }
-    requires few { pass.old.looks < 2 ^ 119 + 2 ^ 116 }
+    requires few { looks.old < 2 ^ 119 + 2 ^ 116 }
     ensures flag { (at : ℕ) (place : Place) → name ≡ called_at true (block_of view.now) at invocation.now → directives.directive_at true (block_of view.now) at invocation.now place result ≡ meaning.called (within_at 0) (block_of view.now) at invocation.now place }
-    ensures numbers { pass.new.numbers ≡ pass.old.numbers }
-    ensures looks { pass.new.looks ≤ pass.old.looks + 2 ^ 66 }
+    ensures looks { looks.new ≤ looks.old + 2 ^ 66 }
 {
     if is_replacement(name) {
-        // The test gives no message: the numbers stay as they are.
-        let numbers = mem::replace(&mut pass.numbers, Numbers::none());
-        let single = is_single_paragraph(&inside(view, invocation.block), pass);
-        pass.numbers = numbers;
-        return single;
+        return is_single_paragraph(&inside(view, invocation.block), looks);
     }
     false
 }

@@ -32,7 +32,7 @@ use rst_markup_blocks::{
     text_form,
 };
 use rst_markup_lines::{begins_with, ends_in_colons, front, is_blank, is_punctuation};
-use rst_text::{View, skip};
+use rst_text::{Looks, View, skip};
 use rst_tree::{Level, Tag};
 use std::alloc::{AllocError, Global};
 
@@ -298,20 +298,20 @@ fn quoted_literal(
 }
 
 /// Whether the lines of a block in a block are one paragraph that doesn't vanish, and nothing else.
-pub(crate) fn is_single_paragraph(view: &View<'_>, pass: &mut Pass) -> bool
+pub(crate) fn is_single_paragraph(view: &View<'_>, looks: &mut Looks) -> bool
     requires short { length (block_of view.now) < 2 ^ 64 }
-    requires few { pass.old.looks < 2 ^ 119 + 2 ^ 116 }
+    requires few { looks.old < 2 ^ 119 + 2 ^ 116 }
     ensures paragraph { result ≡ paragraphs.is_single_paragraph (block_of view.now) }
-    ensures looks { pass.new.looks ≤ pass.old.looks + 2 ^ 66 }
+    ensures looks { looks.new ≤ looks.old + 2 ^ 66 }
 {
-    if view.len() == 0 || !begins_paragraph(view, pass) {
+    if view.len() == 0 || !begins_paragraph(view, looks) {
         return false;
     }
-    let end = lines_end(view, 0, LineTest::Plain, &mut pass.looks);
+    let end = lines_end(view, 0, LineTest::Plain, looks);
     if end < view.len() {
         return false;
     }
-    1 < end || !is_colons(view.line(0, &mut pass.looks))
+    1 < end || !is_colons(view.line(0, looks))
 }
 
 /// Whether a text is nothing but the two colons that announce a literal block.
@@ -322,16 +322,16 @@ fn is_colons(text: &str) -> bool
 }
 
 /// Whether the first line of a block in a block begins a paragraph.
-fn begins_paragraph(view: &View<'_>, pass: &mut Pass) -> bool
+fn begins_paragraph(view: &View<'_>, looks: &mut Looks) -> bool
     requires inside { 0 < length (block_of view.now) }
     requires short { length (block_of view.now) < 2 ^ 64 }
-    requires few { pass.old.looks < 2 ^ 119 + 2 ^ 117 }
+    requires few { looks.old < 2 ^ 119 + 2 ^ 117 }
     ensures paragraph { result ≡ paragraphs.begins_paragraph (block_of view.now) }
-    ensures looks { pass.new.looks ≤ pass.old.looks + 2 ^ 64 }
+    ensures looks { looks.new ≤ looks.old + 2 ^ 64 }
 {
-    let text = view.line(0, &mut pass.looks);
-    let next = below_text(view, 0, 1, &mut pass.looks);
-    begins_text(view, next, pass)
+    let text = view.line(0, looks);
+    let next = below_text(view, 0, 1, looks);
+    begins_text(view, next, looks)
         && matches!(
             text_form(text, next),
             TextForm::Paragraph | TextForm::ShortUnderline
@@ -339,18 +339,18 @@ fn begins_paragraph(view: &View<'_>, pass: &mut Pass) -> bool
 }
 
 /// Whether the first line of a block in a block, before the next, begins text.
-fn begins_text(view: &View<'_>, next: &str, pass: &mut Pass) -> bool
+fn begins_text(view: &View<'_>, next: &str, looks: &mut Looks) -> bool
     requires inside { 0 < length (block_of view.now) }
     requires short { length (block_of view.now) < 2 ^ 64 }
     requires next { chars next.now ≡ next_text (block_of view.now) }
-    requires few { pass.old.looks < 2 ^ 119 + 2 ^ 118 }
+    requires few { looks.old < 2 ^ 119 + 2 ^ 118 }
     ensures text { result ≡ paragraphs.begins_text (block_of view.now) }
-    ensures looks { pass.new.looks ≤ pass.old.looks + 2 ^ 63 }
+    ensures looks { looks.new ≤ looks.old + 2 ^ 63 }
 {
-    match begun_at(view, 0, &mut pass.looks) {
+    match begun_at(view, 0, looks) {
         Begun::Text => true,
         Begun::Adornment(mark) => matches!(
-            adorned_at(view, 0, false, mark, next, &mut pass.looks),
+            adorned_at(view, 0, false, mark, next, looks),
             Adorned::Text | Adorned::ShortAdornment
         ),
         _ => false,
