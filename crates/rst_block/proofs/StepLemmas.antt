@@ -4,18 +4,17 @@ use Rattle.std.specs.Prelude.{◌==◌, if◌then◌else◌}
 use Rattle.rst_text.specs.Block.{Block, is_blank, front_text}
 use Rattle.rst_markup_blocks.specs.Begun.{IsBegun}
 use Rattle.rst_markup_blocks.specs.Ends.{row_size}
-use Rattle.rst_markup_blocks.specs.Kinds.{row_holds, later_kinds, first_kind, kind_at}
+use Rattle.rst_markup_blocks.specs.Kinds.{row_holds, first_kind, kind_at}
 use Rattle.rst_markup_blocks.specs.Partition.{construct_size, IsBlankAt}
 use Rattle.rst_markup_blocks.specs.declared.begun.Begun.TheVariants.{Blank, Grid, Simple, Text}
 use Rattle.rst_markup_blocks.specs.declared.kind.Kind.{Kind}
 use Rattle.rst_markup_blocks.specs.declared.kind.Kind.TheVariants as kinds
 use Rattle.rst_markup_blocks.specs.declared.part.Part.{Part}
-use Rattle.rst_markup_blocks.proofs.KindRows.{kind_at_is}
 use Rattle.rst_markup_tables.specs.GridTable.{IsGridTable}
 use Rattle.rst_markup_tables.specs.SimpleTable.{simple_table}
 use Rattle.rst_markup_tables.specs.declared.results.TableResult.{TableResult}
 use Rattle.rst_markup_tables.proofs.TilingLemmas.{grid_table-is}
-use Rattle.rst_block.specs.MeaningLaws.{IsBlankPart, IsRefused}
+use Rattle.rst_block.specs.MeaningLaws.{IsBlankPart}
 use Rattle.rst_block.specs.Meanings.{Keeps, TellsBlank, comes, deepest, done_of, open_of, reads, resumed, within_at}
 use Rattle.rst_block.specs.NextLine.{IsText, IsTableAt}
 use Rattle.rst_block.specs.Nodes.{below_last_level}

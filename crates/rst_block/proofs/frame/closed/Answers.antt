@@ -1,5 +1,4 @@
 use Rattle.std.proofs.Common.{◌++◌, rules, ap, ◌∙◌}
-use Rattle.rst_text.specs.Block.{Block}
 use Rattle.rst_text.specs.Shown.{block_of, source_of}
 use Rattle.rst_block.specs.Texts.{lines_in}
 use Rattle.rst_block.specs.declared.open_block.OpenBlock.{OpenBlock}

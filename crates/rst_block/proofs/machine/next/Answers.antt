@@ -1,5 +1,4 @@
-use Rattle.std.proofs.Common.{◌≡◌, ◌≤◌, length, arith, rules, ◌∙◌}
-use Rattle.rst_text.specs.Block.{Block}
+use Rattle.std.proofs.Common.{arith, rules, ◌∙◌}
 use Rattle.rst_text.specs.Shown.{block_of}
 use Rattle.rst_block.proofs.StepLemmas.{kept_as, kept_twice, out_of_memory, over_fails, over_kept, over_reads, refuses}
 use Rattle.rst_block.proofs.machine.next.Goals as goal

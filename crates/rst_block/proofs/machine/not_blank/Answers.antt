@@ -1,4 +1,4 @@
-use Rattle.std.proofs.Common.{◌<◌, ◌≤◌, length, arith, ◌∙◌, ap, sym, Err}
+use Rattle.std.proofs.Common.{arith, ◌∙◌, ap, sym, Err}
 use Rattle.rst_text.specs.Block.{Block}
 use Rattle.rst_text.specs.Shown.{block_of}
 use Rattle.rst_block.proofs.Depths.{blank_up_to, text_at_place}

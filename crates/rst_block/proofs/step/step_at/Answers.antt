@@ -1,5 +1,4 @@
-use Rattle.std.proofs.Common.{◌+◌, arith}
-use Rattle.rst_text.specs.Block.{Block}
+use Rattle.std.proofs.Common.{arith}
 use Rattle.rst_text.specs.Shown.{block_of}
 use Rattle.rst_block.proofs.StepLemmas.{blank_reads, grid_there, text_is}
 use Rattle.rst_block.proofs.step.step_at.Goals as goal
