@@ -1,6 +1,6 @@
 -- What the state of the machine means: what the block that is read gives, what it gives by what comes next in it, and what the blocks that wait make
 -- of that. No rule of markup: each step leaves the meaning as it is.
-use Rattle.std.specs.Prelude.{◌≡◌, ℕ, zero, suc, ◌-◌, ◌==◌, true, List, [], ◌∷◌, ◌++◌, drop, map, Option, Some, None, string_bytes, box_value, Result, Ok, Err, if◌then◌else◌}
+use Rattle.std.specs.Prelude.{◌≡◌, ℕ, zero, suc, ◌-◌, ◌==◌, true, List, [], ◌∷◌, ◌++◌, drop, map, Option, Some, None, string_bytes, box_value, Result, Ok, Err}
 use Rattle.std.specs.Option.{option_map}
 use Rattle.rst_text.specs.Block.{Block}
 use Rattle.rst_text.specs.Shown.{placement_block}

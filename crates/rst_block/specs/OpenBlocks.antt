@@ -4,7 +4,7 @@ use Rattle.rst_tree.specs.declared.node.Node.{Node}
 use Rattle.rst_block_sections.specs.declared.heading.Heading.{Heading}
 use Rattle.rst_block.specs.Joins.{Joining}
 use Rattle.rst_block.specs.Meanings.{open_of, done_of}
-use Rattle.rst_block.specs.Rest.{OpenRun, no_run, open_list, with_items}
+use Rattle.rst_block.specs.Rest.{OpenRun, open_list, with_items}
 use Rattle.rst_block.specs.Titles.{Item, plain}
 use Rattle.rst_block.specs.declared.fault.BlockFault.{BlockFault}
 use Rattle.rst_block.specs.declared.fault.BlockFault.TheVariants.{TooDeep, NoMemory}
