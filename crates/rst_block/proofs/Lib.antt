@@ -14,8 +14,6 @@ pub mod LiteralLemmas
 pub mod LineSteps
 pub mod DirectiveFlags
 pub mod DirectiveReads
-pub mod GoingOn
-pub mod LiteralLemmas
 pub mod Looked
 pub mod Made
 pub mod MarkupReads
