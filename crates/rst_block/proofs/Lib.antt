@@ -3,6 +3,7 @@ pub mod AnnouncedLemmas
 pub mod AttributionsFound
 pub mod BegunLemmas
 pub mod Blocks
+pub mod BudgetLemmas
 pub mod CellsRead
 pub mod Changes
 pub mod Depths

@@ -1,4 +1,5 @@
 //! Laws on the definitions, each by a function that does nothing and whose contract is the law.
+ghost use Rattle.rst_block.specs.BudgetLaws as budget;
 ghost use Rattle.rst_block.specs.Begins.{MarksTellConstructs};
 ghost use Rattle.rst_block.specs.MeaningLaws as meaning;
 ghost use Rattle.rst_block.specs.RestLaws as law;
@@ -70,4 +71,11 @@ pub(crate) fn changes_are_read()
     ensures title { meaning.TitleIsLast }
     ensures nodes_placed { meaning.NodesKeepPlaces }
     ensures title_placed { meaning.TitlesArePlaced }
+{}
+
+/// The budget of a block allows 128 looks for each line of it and of all blocks and cells inside, and its floor asks for no more
+/// looks than there are lines of these.
+pub fn budget_bounds_totals()
+    ensures high { budget.TotalIsWithinBudget }
+    ensures low { budget.FloorIsWithinTotal }
 {}
