@@ -31,6 +31,7 @@ pub mod Quotes
 pub mod Reached
 pub mod RestLemmas
 pub mod Resuming
+pub mod ScanLemmas
 pub mod Spelling
 pub mod Splitting
 pub mod Stack
@@ -39,6 +40,7 @@ pub mod TableSteps
 pub mod TextLines
 pub mod SubstitutionReads
 pub mod TextsRead
+pub mod UnpaidLemmas
 pub mod Waiting
 pub mod Walks
 pub mod Work

@@ -1,7 +1,8 @@
 //! Laws on the definitions, each by a function that does nothing and whose contract is the law.
-ghost use Rattle.rst_block.specs.BudgetLaws as budget;
 ghost use Rattle.rst_block.specs.Begins.{MarksTellConstructs};
+ghost use Rattle.rst_block.specs.BudgetLaws as budget;
 ghost use Rattle.rst_block.specs.MeaningLaws as meaning;
+ghost use Rattle.rst_block.specs.Reaches as reaches;
 ghost use Rattle.rst_block.specs.RestLaws as law;
 
 /// The construct at a line is the one with the mark that is found there.
@@ -78,4 +79,12 @@ pub(crate) fn changes_are_read()
 pub fn budget_bounds_totals()
     ensures high { budget.TotalIsWithinBudget }
     ensures low { budget.FloorIsWithinTotal }
+{}
+
+/// No line is in the reaches of more than four constructs of a block. From the first line on, each construct pays for its reach
+/// out of what is unpaid.
+pub fn few_reaches_share_a_line()
+    ensures paid { reaches.ReachesArePaid }
+    ensures lines { reaches.LinesArePaid }
+    ensures few { reaches.AtMostFour }
 {}
