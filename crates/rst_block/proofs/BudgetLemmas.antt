@@ -2,7 +2,7 @@
 use Rattle.std.proofs.Common.{◌≡◌, ℕ, zero, suc, ◌+◌, ◌-◌, ◌*◌, ◌<◌, ◌≤◌, max, Bool, true, false, cond, List, [], ◌∷◌, length, arith, refl}
 use Rattle.std.proofs.Math.Nat.{mul-le-mul_left, mul-le-mul_right}
 use Rattle.rst_text.specs.Block.{Line, Block}
-use Rattle.rst_block.specs.Budget.{unread, is_bare, sum_of, filled_sum, deepest, depth, cells_budget, budget, floor, total}
+use Rattle.rst_block.specs.Budget.{unread, is_bare, sum_of, filled_sum, deepest_of, depth, cells_budget, budget, floor, total}
 use Rattle.rst_block.specs.BudgetLaws.{AreFilled, AreInside}
 use Rattle.rst_block.specs.Inside.{inside, cells}
 
@@ -26,8 +26,8 @@ sum_scale f [] = refl
 sum_scale f (C ∷ Cs) = omega (arith, sum_scale f Cs)
 
 -- the lines of blocks, each times its depth, are no more than all their lines times the greatest depth
-deep_sum : (g : Block → ℕ) (Cs : List Block) → AreFilled Cs → sum_of (λ C. length C * suc (g C)) Cs ≤ sum_of length Cs * deepest g Cs
-unfolding sum_of deepest
+deep_sum : (g : Block → ℕ) (Cs : List Block) → AreFilled Cs → sum_of (λ C. length C * suc (g C)) Cs ≤ sum_of length Cs * deepest_of g Cs
+unfolding sum_of deepest_of
 deep_sum g [] h = omega arith
 deep_sum g (C ∷ Cs) h = by (is_bare C) h.0 (deep_sum g Cs h.1)
   where
@@ -39,10 +39,10 @@ deep_sum g (C ∷ Cs) h = by (is_bare C) h.0 (deep_sum g Cs h.1)
         distr : (n m k : ℕ) → (n + m) * k ≡ n * k + m * k
         distr n m k = grind arith
 
-    by : (b : Bool) → (b ≡ true → length C ≡ 0) → sum_of (λ C. length C * suc (g C)) Cs ≤ sum_of length Cs * deepest g Cs
-        → length C * suc (g C) + sum_of (λ C. length C * suc (g C)) Cs ≤ (length C + sum_of length Cs) * max (cond b 0 (suc (g C))) (deepest g Cs)
-    by true z i = add (length C) (sum_of length Cs) 0 (deepest g Cs) (length C * suc (g C)) (rw (z refl) (omega arith)) i
-    by false z i = add (length C) (sum_of length Cs) (suc (g C)) (deepest g Cs) (length C * suc (g C)) (mul_le (length C) (length C) (suc (g C)) (max (suc (g C)) (deepest g Cs)) (omega arith) (omega arith)) i
+    by : (b : Bool) → (b ≡ true → length C ≡ 0) → sum_of (λ C. length C * suc (g C)) Cs ≤ sum_of length Cs * deepest_of g Cs
+        → length C * suc (g C) + sum_of (λ C. length C * suc (g C)) Cs ≤ (length C + sum_of length Cs) * max (cond b 0 (suc (g C))) (deepest_of g Cs)
+    by true z i = add (length C) (sum_of length Cs) 0 (deepest_of g Cs) (length C * suc (g C)) (rw (z refl) (omega arith)) i
+    by false z i = add (length C) (sum_of length Cs) (suc (g C)) (deepest_of g Cs) (length C * suc (g C)) (mul_le (length C) (length C) (suc (g C)) (max (suc (g C)) (deepest_of g Cs)) (omega arith) (omega arith)) i
 
 pub high : (a : AreInside) (code : Bool) (levels : ℕ) (titles : Bool) (B : Block) → 128 * total code levels titles B ≤ budget code levels titles B
 unfolding total depth cells_budget
@@ -58,8 +58,8 @@ high a code (suc levels) titles B =
     let parts = sum_add (λ C. 128 * own C) k Cs in
     let scaled = sum_scale own Cs in
     let deep = deep_sum g Cs (a.filled (unread code titles) B) in
-    let wide : sum_of length Cs * deepest g Cs ≤ length B * deepest g Cs = mul_le (sum_of length Cs) (length B) (deepest g Cs) (deepest g Cs) (a.within (unread code titles) B) (omega arith) in
-    let more : length B * suc (deepest g Cs) ≡ length B + length B * deepest g Cs = grind arith in
+    let wide : sum_of length Cs * deepest_of g Cs ≤ length B * deepest_of g Cs = mul_le (sum_of length Cs) (length B) (deepest_of g Cs) (deepest_of g Cs) (a.within (unread code titles) B) (omega arith) in
+    let more : length B * suc (deepest_of g Cs) ≡ length B + length B * deepest_of g Cs = grind arith in
     omega (arith, one, two, parts, scaled, deep, wide, more)
 
 filled_le : (f g : Block → ℕ) → ((C : Block) → f C ≤ g C) → (Cs : List Block) → filled_sum f Cs ≤ sum_of g Cs

@@ -12,6 +12,7 @@ pub mod ListItems
 pub mod ListedItems
 pub mod GoingOn
 pub mod LiteralLemmas
+pub mod LedgerLemmas
 pub mod LineSteps
 pub mod DirectiveFlags
 pub mod DirectiveReads

@@ -24,15 +24,15 @@ unfoldable pub filled_sum : (Block → ℕ) → List Block → ℕ
 filled_sum f [] = 0
 filled_sum f (C ∷ Cs) = (if is_bare C then 0 else f C) + filled_sum f Cs
 
--- how deep some blocks are, by how deep those inside each of them are: 0 where there is none but bare ones
-unfoldable pub deepest : (Block → ℕ) → List Block → ℕ
-deepest g [] = 0
-deepest g (C ∷ Cs) = max (if is_bare C then 0 else suc (g C)) (deepest g Cs)
+-- how many levels some blocks have, their own among them, by how many there are below each: 0 where there is none but bare ones
+unfoldable pub deepest_of : (Block → ℕ) → List Block → ℕ
+deepest_of g [] = 0
+deepest_of g (C ∷ Cs) = max (if is_bare C then 0 else suc (g C)) (deepest_of g Cs)
 
 -- The largest number of levels by which a block that is opened inside, cells not entered, is deeper. So many levels may still be opened.
 unfoldable pub depth : Bool → (levels : ℕ) → Bool → Block → ℕ
 depth code zero titles B = 0
-depth code (suc levels) titles B = deepest (depth code levels false) (inside (unread code titles) B)
+depth code (suc levels) titles B = deepest_of (depth code levels false) (inside (unread code titles) B)
 
 -- the budgets of the cells that are reached without passing through another cell
 unfoldable pub cells_budget : Bool → (levels : ℕ) → Bool → Block → ℕ

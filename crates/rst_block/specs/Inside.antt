@@ -2,7 +2,6 @@
 use Rattle.std.specs.Prelude.{ℕ, zero, suc, ◌+◌, Bool, List, [], ◌∷◌, length, take, drop, map, flat_map, Option, None, Some, if◌then◌else◌}
 use Rattle.rst_text.specs.Block.{Block}
 use Rattle.rst_markup_blocks.specs.Explicit.{explicit_of}
-use Rattle.rst_markup_blocks.specs.Partition.{Span, spans_from}
 use Rattle.rst_markup_blocks.specs.declared.attribution.Attribution.{Attribution}
 use Rattle.rst_markup_blocks.specs.declared.forms.Explicit.{Explicit}
 use Rattle.rst_markup_blocks.specs.declared.forms.Explicit.TheVariants.{Footnote, Citation, Substitution, Directive}
@@ -19,9 +18,10 @@ use Rattle.rst_markup_tables.specs.Tiling.{grid_table}
 use Rattle.rst_markup_tables.specs.declared.results.Cell.{Cell}
 use Rattle.rst_markup_tables.specs.declared.results.TableResult.{TableResult}
 use Rattle.rst_markup_tables.specs.declared.results.TableResult.TheVariants.{Table, Malformed}
-use Rattle.rst_block.specs.Constructs.{ItemMark, bullet_item, enumerated_item, definition_item, field_item, option_item, Construct, block_quote, item_of_list, grid, simple, explicit_markup, construct_at}
+use Rattle.rst_block.specs.Constructs.{ItemMark, bullet_item, enumerated_item, definition_item, field_item, option_item, Construct, block_quote, item_of_list, grid, simple, explicit_markup, Found}
 use Rattle.rst_block.specs.Directives.{called}
 use Rattle.rst_block.specs.Quotes.{first_attribution, quote_after}
+use Rattle.rst_block.specs.Rest.{found_from}
 use Rattle.rst_block.specs.Texts.{lines_in}
 use Rattle.rst_block.specs.Within.{Within, hanging, indented_part, item_part}
 
@@ -103,9 +103,9 @@ opened_by (item_of_list mark) c B i X = lines_in B (part_of_item i mark X) ∷ [
 opened_by explicit_markup c B i X = markup_blocks (explicit_of i X) c B i
 opened_by _ c B i X = []
 
--- the blocks that the construct in line i opens
-abbrev pub opened_at : Within → Block → ℕ → List Block
-opened_at c B i = opened_by (construct_at c.titles (drop i B)) c B i (drop i B)
+-- the blocks that a construct of a block opens
+abbrev pub opened_of : Within → Block → Found → List Block
+opened_of c B f = opened_by f.what c B f.span.start (drop f.span.start B)
 
 -- the cells of a table, by row; no cell of a malformed table is read
 abbrev pub cells_of : TableResult → List Block
@@ -118,27 +118,19 @@ cells_by grid B i = cells_of (grid_table B i)
 cells_by simple B i = cells_of (simple_table B i)
 cells_by _ B i = []
 
--- the cells that the construct in line i has
-abbrev pub cells_at : Within → Block → ℕ → List Block
-cells_at c B i = cells_by (construct_at c.titles (drop i B)) B i
+-- the cells that a construct of a block has
+abbrev pub cells_with : Block → Found → List Block
+cells_with B f = cells_by f.what B f.span.start
 
 -- ---- blocks
 
--- the blocks that the constructs of some lines open, in order
-abbrev pub opened_in : Within → Block → List Span → List Block
-opened_in c B ss = flat_map (λ (s : Span). opened_at c B s.start) ss
-
--- the cells of the tables of some lines
-abbrev pub cells_in : Within → Block → List Span → List Block
-cells_in c B ss = flat_map (λ (s : Span). cells_at c B s.start) ss
-
--- the blocks that are opened in a block from line i on
+-- the blocks that are opened in a block from line i on, in order
 abbrev pub inside_from : Within → Block → ℕ → List Block
-inside_from c B i = opened_in c B (spans_from c.titles i 0 (drop i B))
+inside_from c B i = flat_map (opened_of c B) (found_from c.titles B i)
 
 -- the cells of a block's tables from line i on
 abbrev pub cells_from : Within → Block → ℕ → List Block
-cells_from c B i = cells_in c B (spans_from c.titles i 0 (drop i B))
+cells_from c B i = flat_map (cells_with B) (found_from c.titles B i)
 
 -- the blocks that are opened in a block, in order
 abbrev pub inside : Within → Block → List Block

@@ -1,6 +1,7 @@
 //! Laws on the definitions, each by a function that does nothing and whose contract is the law.
 ghost use Rattle.rst_block.specs.Begins.{MarksTellConstructs};
 ghost use Rattle.rst_block.specs.BudgetLaws as budget;
+ghost use Rattle.rst_block.specs.LedgerLaws as ledger;
 ghost use Rattle.rst_block.specs.MeaningLaws as meaning;
 ghost use Rattle.rst_block.specs.Reaches as reaches;
 ghost use Rattle.rst_block.specs.RestLaws as law;
@@ -87,4 +88,16 @@ pub fn few_reaches_share_a_line()
     ensures paid { reaches.ReachesArePaid }
     ensures lines { reaches.LinesArePaid }
     ensures few { reaches.AtMostFour }
+{}
+
+/// How many looks a reading may still take, and has to take at least, by the state of the machine: at a block's begin as many as
+/// its total says, and at its end none. A blank line, a construct and a block inside take no more of them than they leave.
+pub fn looks_are_paid()
+    ensures begun { ledger.BlocksBegin }
+    ensures ended { ledger.BlocksEnd }
+    ensures blank { ledger.BlankLineIsPaid }
+    ensures construct { ledger.ConstructIsPaid }
+    ensures counted { ledger.LastIsCounted }
+    ensures opened { ledger.OpenedIsPaid }
+    ensures second { ledger.SecondIsPaid }
 {}
