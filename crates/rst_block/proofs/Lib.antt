@@ -4,8 +4,10 @@ pub mod AttributionsFound
 pub mod BegunLemmas
 pub mod Blocks
 pub mod BudgetLemmas
+pub mod CellFacts
 pub mod CellsRead
 pub mod Changes
+pub mod ContentFacts
 pub mod Depths
 pub mod Doctests
 pub mod ListItems
@@ -18,12 +20,16 @@ pub mod DirectiveFlags
 pub mod DirectiveReads
 pub mod Looked
 pub mod Made
+pub mod MarkFacts
+pub mod MarkupFacts
 pub mod MarkupReads
 pub mod MeaningLemmas
 pub mod NextConstructs
 pub mod NextLines
 pub mod NumberedLemmas
 pub mod OpenRuns
+pub mod OpenedFacts
+pub mod PartFacts
 pub mod PlainItems
 pub mod ParagraphLemmas
 pub mod QuoteCounts

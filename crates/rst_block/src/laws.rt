@@ -75,9 +75,12 @@ pub(crate) fn changes_are_read()
     ensures title_placed { meaning.TitlesArePlaced }
 {}
 
-/// The budget of a block allows 128 looks for each line of it and of all blocks and cells inside, and its floor asks for no more
-/// looks than there are lines of these.
+/// The blocks that are opened in a block whose lines don't end in white stand in its lines, one after another, and each begins with
+/// a line that isn't blank. So the block's budget allows 128 looks for each line of it and of all blocks and cells inside. Its floor
+/// asks for no more looks than there are lines of these.
 pub fn budget_bounds_totals()
+    ensures inside { budget.BlocksAreInside }
+    ensures cells { budget.CellsAreTrimmed }
     ensures high { budget.TotalIsWithinBudget }
     ensures low { budget.FloorIsWithinTotal }
 {}
