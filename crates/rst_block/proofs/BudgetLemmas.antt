@@ -1,11 +1,10 @@
 -- What the lines of all blocks inside a block cost is within the budget.
-use Rattle.std.proofs.Common.{◌≡◌, ℕ, zero, suc, ◌+◌, ◌-◌, ◌*◌, ◌<◌, ◌≤◌, max, Bool, true, false, cond, List, [], ◌∷◌, length, arith, refl, sym, ◌∙◌}
-use Rattle.std.proofs.Math.Nat.{mul-le-mul_left, mul-le-mul_right}
+use Rattle.std.proofs.Common.{◌≡◌, ℕ, zero, suc, ◌+◌, ◌*◌, ◌≤◌, max, Bool, true, false, cond, List, [], ◌∷◌, length, arith, refl, sym, ◌∙◌}
 use Rattle.std.specs.List.{AllByRecursion}
 use Rattle.std.proofs.lemmas.Bool.{and_parts}
-use Rattle.rst_text.specs.Block.{Line, Block, front_text, is_blank}
+use Rattle.rst_text.specs.Block.{Block, is_blank}
 use Rattle.rst_block.specs.Budget.{unread, is_bare, sum_of, filled_sum, deepest_of, depth, cells_budget, budget, floor, total}
-use Rattle.rst_block.specs.BudgetLaws.{is_trimmed, IsFronted, AreWithin, BlocksAreInside, CellsAreTrimmed}
+use Rattle.rst_block.specs.BudgetLaws.{is_trimmed, IsFronted, BlocksAreInside, CellsAreTrimmed}
 use Rattle.rst_block.specs.Inside.{inside, cells}
 use Rattle.rst_block.specs.Within.{Within}
 

@@ -1,24 +1,21 @@
 -- No line of a table's cell ends with a white character.
-use Rattle.std.proofs.Common.{◌≡◌, ℕ, suc, ◌+◌, ◌-◌, Bool, true, false, not, ◌&&◌, List, [], ◌∷◌, ◌++◌, map, filter, take, drop, length, Option, None, Some, refl, ap, ◌∙◌}
+use Rattle.std.proofs.Common.{◌≡◌, ℕ, ◌+◌, ◌-◌, true, List, [], ◌∷◌, ◌++◌, map, filter, take, drop, length, Option, None, Some, refl}
 use Rattle.std.specs.Prelude.{flat_map, ◌==◌}
-use Rattle.std.specs.List.{list_all, range_with_len, AllByRecursion}
-use Rattle.std.specs.Str.{drop_trailing_whitespace}
-use Rattle.rst_text.specs.Block.{Line, Block, shorten, first_number}
+use Rattle.std.specs.List.{range_with_len, AllByRecursion}
+use Rattle.rst_text.specs.Block.{Block, first_number}
 use Rattle.rst_text.specs.Extent.{least_indent}
-use Rattle.rst_text.specs.Lines.{ends_white}
 use Rattle.rst_text.proofs.LineTexts.{ends_white-trimmed}
 use Rattle.rst_markup_blocks.specs.TableRows.{grid_size, grid_bottom, simple_size, head_border}
 use Rattle.rst_markup_tables.specs.Cells.{characters, cut_places, cell_line, cell_block}
-use Rattle.rst_markup_tables.specs.GridTable.{head_of, with_dashes, grid_fault, is_row, is_column, cell_of, row_cells, malformed, tiled}
+use Rattle.rst_markup_tables.specs.GridTable.{head_of, with_dashes, grid_fault, is_row, is_column, cell_of, row_cells, tiled}
 use Rattle.rst_markup_tables.specs.Counts.{below}
-use Rattle.rst_markup_tables.specs.Places.{Row, Grid, rows_of}
+use Rattle.rst_markup_tables.specs.Places.{Grid, rows_of}
 use Rattle.rst_markup_tables.specs.SimpleTable.{simple_rows, row_spans, lines_of_row, span_of, right_of, entry, row_entries, simple_fault, simple_by, simple_table}
 use Rattle.rst_markup_tables.specs.Tiling.{tiling_of, grid_by, grid_table}
 use Rattle.rst_markup_tables.specs.declared.results.Cell.{Cell}
 use Rattle.rst_markup_tables.specs.declared.results.TableDetail.{TableDetail}
-use Rattle.rst_markup_tables.specs.declared.results.TableResult.{TableResult}
 use Rattle.rst_block.specs.BudgetLaws.{is_trimmed}
-use Rattle.rst_block.specs.Constructs.{Construct, nothing, block_quote, item_of_list, doctest_block, bar_line, grid, simple, explicit_markup, transition, overlined_title, misplaced_lines, underlined_title, paragraph, Found}
+use Rattle.rst_block.specs.Constructs.{Construct, grid, simple, Found}
 use Rattle.rst_block.specs.Inside.{cells_of, cells_by, cells_with, cells}
 use Rattle.rst_block.specs.Rest.{found_from}
 use Rattle.rst_block.specs.Within.{Within}

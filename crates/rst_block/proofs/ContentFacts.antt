@@ -1,11 +1,9 @@
 -- The content of a directive as blocks: the lines before its options and those after them stand in its block, and begin with a line that isn't blank.
-use Rattle.std.proofs.Common.{◌≡◌, ℕ, zero, suc, ◌+◌, ◌-◌, ◌≤◌, ◌==◌, Bool, true, false, not, ◌&&◌, cond, List, [], ◌∷◌, map, length, take, drop, length-drop, Option, None, Some, option_map, Result, Ok, Err, arith, refl, sym, ap, ◌∙◌, subst}
-use Rattle.std.specs.List.{prefix_len, AllByRecursion}
+use Rattle.std.proofs.Common.{◌≡◌, ℕ, suc, ◌+◌, ◌-◌, ◌≤◌, ◌==◌, Bool, true, false, not, ◌&&◌, cond, List, [], ◌∷◌, map, length, take, drop, length-drop, Option, None, Some, option_map, Result, Ok, Err, arith, sym, ap, ◌∙◌, subst}
+use Rattle.std.specs.List.{prefix_len}
 use Rattle.std.proofs.lemmas.List.{drop-drop}
 use Rattle.rst_text.specs.Block.{Line, Block, cut, is_blank}
-use Rattle.rst_text.proofs.CutLaws.{take-cut, drop-cut, length-cut}
-use Rattle.rst_markup_blocks.specs.Lines.{lines_while}
-use Rattle.rst_markup_blocks.specs.Parts.{IsBlock}
+use Rattle.rst_text.proofs.CutLaws.{take-cut, drop-cut}
 use Rattle.rst_markup_blocks.specs.RowLaws.{while_le}
 use Rattle.rst_markup_blocks.specs.declared.forms.Invocation.{Invocation}
 use Rattle.rst_markup_blocks.specs.declared.lines.LineTest.TheVariants.{Blank}
@@ -15,7 +13,7 @@ use Rattle.rst_markup_directives.specs.Call.{part_of, content_of, is_empty}
 use Rattle.rst_markup_directives.specs.Characters.{Text}
 use Rattle.rst_markup_directives.specs.Directive.{Read, Outcome, found, wrong, run_in, is_code_name, options_of, read_parts, read_by, read_block, read_at, outcome_at, of_block, judged, named_at, lines_at, is_late, directive_at}
 use Rattle.rst_markup_directives.specs.Judgement.{content_fault}
-use Rattle.rst_markup_directives.specs.Layout.{begins_field, before_field, content_alone, parts_with_argument, parts_without_argument, layout_at, layout_of}
+use Rattle.rst_markup_directives.specs.Layout.{begins_field, before_field, content_alone, parts_without_argument, layout_at, layout_of}
 use Rattle.rst_markup_directives.specs.Lines.{first_run, blank_len, behind_blank}
 use Rattle.rst_markup_directives.specs.Options.{Choice}
 use Rattle.rst_markup_directives.specs.Wrong.{Wrong, Fault, and_then, unless, fault_in}
@@ -81,10 +79,10 @@ rest_laid first run H h f r =
     let Y : Block = drop (length run) H in
     let place : drop (blank_len Y) Y ≡ drop (behind_blank H (length run)) H = drop-drop (blank_len Y) (length run) H in
     record {
-  ordered = omega (arith, f);
-  within = omega (arith, r, while_le Blank Y, length-drop (length run) H);
-  fronted = subst IsFronted place (blanks_fronted Y (trimmed_drop (length run) H h));
-}
+      ordered = omega (arith, f);
+      within = omega (arith, r, while_le Blank Y, length-drop (length run) H);
+      fronted = subst IsFronted place (blanks_fronted Y (trimmed_drop (length run) H h));
+    }
 
 without_laid : (run : List Text) (H : Block) → is_trimmed H ≡ true → length run ≤ length H
     → let layout = parts_without_argument run (length H) (behind_blank H (length run)) in IsLaid layout.first layout.second H
@@ -129,9 +127,9 @@ content_in B block first second h count laid =
     let one : lines_in B (part_of block 0 first) ≡ take (first - 0) (drop 0 H) = part_is B block 0 first (omega arith) (omega (arith, count, laid.ordered, laid.within)) in
     let two : lines_in B (part_of block second (length H)) ≡ take (length H - second) (drop second H) = part_is B block second (length H) laid.within (omega (arith, count)) in
     record {
-  few = omega (arith, ap length one, ap length two, (take_le (first - 0) (drop 0 H)).0, (take_le (length H - second) (drop second H)).0, laid.ordered, laid.within);
-  fronted = (subst IsFronted (sym one) (take_fronted (first - 0) (drop 0 H) h), (subst IsFronted (sym two) (take_fronted (length H - second) (drop second H) laid.fronted), tt));
-}
+      few = omega (arith, ap length one, ap length two, (take_le (first - 0) (drop 0 H)).0, (take_le (length H - second) (drop second H)).0, laid.ordered, laid.within);
+      fronted = (subst IsFronted (sym one) (take_fronted (first - 0) (drop 0 H) h), (subst IsFronted (sym two) (take_fronted (length H - second) (drop second H) laid.fronted), tt));
+    }
 
 abbrev MayBeIn : ℕ → Block → Result Read Wrong → Type 0
 MayBeIn n B (Ok read) = AreWithin n (content_blocks B read.content)

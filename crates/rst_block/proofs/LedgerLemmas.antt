@@ -1,19 +1,18 @@
 -- What may still be taken of looks, and has to be taken, falls with each line, each construct and each block by what these take.
-use Rattle.std.proofs.Common.{◌≡◌, ℕ, zero, suc, ◌+◌, ◌-◌, ◌*◌, ◌<◌, ◌≤◌, Bool, true, false, List, [], ◌∷◌, ◌++◌, length, length-drop, drop, Option, Some, None, arith, refl, ap, sym, ◌∙◌}
+use Rattle.std.proofs.Common.{◌≡◌, ℕ, suc, ◌+◌, ◌-◌, ◌*◌, ◌<◌, ◌≤◌, Bool, true, false, List, [], ◌∷◌, ◌++◌, length, length-drop, drop, Option, Some, None, arith, ap, ◌∙◌}
 use Rattle.std.specs.Prelude.{◌==◌, flat_map}
-use Rattle.std.proofs.lemmas.List.{drop_all, drop-drop}
+use Rattle.std.proofs.lemmas.List.{drop-drop}
 use Rattle.rst_text.specs.Block.{Block}
-use Rattle.rst_text.specs.Shown.{placement_block}
 use Rattle.rst_markup_blocks.specs.Partition.{construct_size, construct_end, IsBlankAt, IsTextAt}
 use Rattle.rst_markup_blocks.specs.declared.part.Part.{Part}
 use Rattle.rst_markup_blocks.proofs.PartitionLemmas.{end_inside}
-use Rattle.rst_block.specs.Budget.{unread, sum_of, total}
+use Rattle.rst_block.specs.Budget.{sum_of, total}
 use Rattle.rst_block.specs.Inside.{opened_of, cells_with, inside_from, cells_from}
-use Rattle.rst_block.specs.Ledger.{unread_at, total_at, totals, still_inside, most_from, least_from, goes_on_at, still_before, part_blocks, quotes_left, run_looks, quote_looks, end_looks, next_blocks, next_cells, place_after, most_after, least_after, most_in, least_in, most_left, least_left, GoesOn, IsPaid, Takes}
+use Rattle.rst_block.specs.Ledger.{unread_at, total_at, totals, still_inside, most_from, least_from, run_looks, end_looks, next_blocks, next_cells, place_after, most_after, least_after, most_in, least_in, most_left, least_left, GoesOn, IsPaid, Takes}
 use Rattle.rst_block.specs.LedgerLaws.{IsBegun, IsCounted}
 use Rattle.rst_block.specs.Meanings.{deepest}
 use Rattle.rst_block.specs.Reaches.{unpaid, reach_at}
-use Rattle.rst_block.specs.Rest.{found_from, found_in}
+use Rattle.rst_block.specs.Rest.{found_in}
 use Rattle.rst_block.specs.Texts.{lines_in}
 use Rattle.rst_block.specs.Within.{Within}
 use Rattle.rst_block.specs.declared.frame.Frame.{Frame}
@@ -56,9 +55,9 @@ past_construct depth B i h =
     let f : Block → ℕ = total true (deepest - depth) false in
     let j : ℕ = construct_end (depth == 0) B i in
     let a : totals depth (inside_from c B i) ≡ totals depth (opened_of c B (found_in (depth == 0) B i)) + totals depth (inside_from c B j) =
-        ap (λ fs. totals depth (flat_map (opened_of c B) fs)) (found_text c.titles B i h) ∙ sum_append f (opened_of c B (found_in (depth == 0) B i)) (inside_from c B j) in
+    ap (λ fs. totals depth (flat_map (opened_of c B) fs)) (found_text c.titles B i h) ∙ sum_append f (opened_of c B (found_in (depth == 0) B i)) (inside_from c B j) in
     let b : totals depth (cells_from c B i) ≡ totals depth (cells_with B (found_in (depth == 0) B i)) + totals depth (cells_from c B j) =
-        ap (λ fs. totals depth (flat_map (cells_with B) fs)) (found_text c.titles B i h) ∙ sum_append f (cells_with B (found_in (depth == 0) B i)) (cells_from c B j) in
+    ap (λ fs. totals depth (flat_map (cells_with B) fs)) (found_text c.titles B i h) ∙ sum_append f (cells_with B (found_in (depth == 0) B i)) (cells_from c B j) in
     omega (arith, a, b)
 
 -- ---- one block
@@ -102,9 +101,9 @@ blank_line old new B before after inside blank d p r few some =
     let l : least_from new.depth B new.at ≡ least_from old.depth B (suc old.at) = ap (λ k. least_from k B new.at) d ∙ ap (least_from old.depth B) p in
     let s = past_blank old.depth B old.at blank in
     record {
-  no_more = omega (arith, m, s, ap run_looks r, next_line B old.at inside, few);
-  no_less = omega (arith, l, s, inside, some);
-}
+      no_more = omega (arith, m, s, ap run_looks r, next_line B old.at inside, few);
+      no_less = omega (arith, l, s, inside, some);
+    }
 
 -- what is unpaid after a construct
 after_construct : (titles : Bool) (B : Block) (i : ℕ) → IsTextAt B i → reach_at titles (drop i B) + unpaid (drop (construct_end titles B i) B) ≤ unpaid (drop i B)
@@ -139,9 +138,9 @@ construct old new B s before after inside text h = by s h.goes h.place h.blocks 
         let l = ap (least_from D B) p in
         let inner = past_construct D B old.at text in
         record {
-      no_more = omega (arith, m, b, c, inner, few, after_construct (D == 0) B old.at text);
-      no_less = omega (arith, l, b, c, inner, h.least, ends.0, ends.1);
-    }
+          no_more = omega (arith, m, b, c, inner, few, after_construct (D == 0) B old.at text);
+          no_less = omega (arith, l, b, c, inner, h.least, ends.0, ends.1);
+        }
 
     same : (t : Step) → GoesOn t → place_after new t ≡ j → totals D (next_blocks B t) ≡ opened → totals D (next_cells t) ≡ cells → after + end_looks new t ≤ before + run_looks old.run + 32 * reach_at (D == 0) (drop old.at B)
         → Takes (most_left old B Next) (least_left old B Next) before

@@ -1,8 +1,8 @@
 -- A mark says whether anything stands after it.
 use Rattle.std.proofs.Common.{◌≡◌, ℕ, zero, suc, ◌+◌, ◌-◌, Bool, true, false, not, ◌&&◌, ◌||◌, cond, List, [], ◌∷◌, map, drop, take, Option, None, Some, option_map, arith, refl, sym, ap, ◌∙◌}
-use Rattle.std.specs.Prelude.{IfSome, unwrap_or, ◌==◌}
+use Rattle.std.specs.Prelude.{IfSome, ◌==◌}
 use Rattle.std.specs.List.{last_or}
-use Rattle.std.specs.Option.{option_and_then, option_or}
+use Rattle.std.specs.Option.{option_and_then}
 use Rattle.std.proofs.lemmas.List.{drop-drop}
 use Rattle.rst_text.specs.Block.{is_blank, indentation}
 use Rattle.rst_markup_lines.specs.Enumerator.{written_at, framed, between_parentheses, before_one, enumerator_of}
@@ -10,7 +10,7 @@ use Rattle.rst_markup_lines.specs.ExplicitMarks.{dots, label_kind, labelled, lab
 use Rattle.rst_markup_lines.specs.Field.{field_with, is_no_name, field_if, field_of}
 use Rattle.rst_markup_lines.specs.Front.{begins_with, first}
 use Rattle.rst_markup_lines.specs.Marker.{marker_of, is_bullet, bullet_by, bullet}
-use Rattle.rst_markup_lines.specs.OptionMarker.{PlacedOption, moved, with_next, options_from, option_at, tail_at, tail_behind, option_tail, last_if, argument_width, shifted, marker_by, marker_of_options, option_marker}
+use Rattle.rst_markup_lines.specs.OptionMarker.{PlacedOption, moved, with_next, options_from, option_at, tail_at, tail_behind, option_tail, last_if, argument_width, marker_by, option_marker}
 use Rattle.rst_markup_lines.specs.declared.enumerator.Enumerator.{Enumerator}
 use Rattle.rst_markup_lines.specs.declared.enumerator.Format.{Format}
 use Rattle.rst_markup_lines.specs.declared.enumerator.Format.TheVariants.{Parentheses, Parenthesis, Period}

@@ -1,5 +1,5 @@
 -- The blocks that explicit markup opens stand in its lines, one after another, and begin with a line that isn't blank.
-use Rattle.std.proofs.Common.{◌≡◌, ℕ, suc, ◌+◌, ◌-◌, ◌<◌, ◌≤◌, Bool, true, false, cond, List, [], ◌∷◌, length, drop, length-drop, Option, None, Some, arith, refl, sym, ap, ◌∙◌}
+use Rattle.std.proofs.Common.{◌≡◌, ℕ, ◌+◌, ◌-◌, ◌<◌, ◌≤◌, Bool, true, false, cond, List, length, drop, Option, None, Some, arith, refl, ap, ◌∙◌}
 use Rattle.std.specs.Prelude.{IfSome, unwrap_or, option_map}
 use Rattle.std.specs.Option.{option_and_then}
 use Rattle.std.proofs.lemmas.List.{drop-drop}
@@ -15,10 +15,10 @@ use Rattle.rst_markup_lines.specs.declared.explicit_marks.TargetMark.TheVariants
 use Rattle.rst_markup_lines.specs.declared.marker.Marker.{Marker}
 use Rattle.rst_markup_lines.specs.declared.place.Characters.{Characters}
 use Rattle.rst_markup_blocks.specs.Conditions.{next_text}
-use Rattle.rst_markup_blocks.specs.Explicit.{call_of, call_by, held_of, label_with, explicit_by, dots_alone, behind_dots, anonymous_of, explicit_with, explicit_of, explicit_size, explicit_end}
-use Rattle.rst_markup_blocks.specs.ExplicitMarkup.{explicit_form, explicit_rows, first_form, substitution_form, hanging_part}
+use Rattle.rst_markup_blocks.specs.Explicit.{call_of, call_by, held_of, label_with, explicit_by, behind_dots, anonymous_of, explicit_with, explicit_of, explicit_size, explicit_end}
+use Rattle.rst_markup_blocks.specs.ExplicitMarkup.{explicit_form, substitution_form, hanging_part}
 use Rattle.rst_markup_blocks.specs.Parts.{IsBlock}
-use Rattle.rst_markup_blocks.specs.Sizes.{hanging_size, indented_size}
+use Rattle.rst_markup_blocks.specs.Sizes.{hanging_size}
 use Rattle.rst_markup_blocks.specs.declared.explicit_markup.ExplicitForm.{ExplicitForm}
 use Rattle.rst_markup_blocks.specs.declared.explicit_markup.ExplicitForm.TheVariants.{Label, Target, Substitution, Directive, Comment}
 use Rattle.rst_markup_blocks.specs.declared.forms.CommentCause.TheVariants.{Plain}
@@ -27,7 +27,6 @@ use Rattle.rst_markup_blocks.specs.declared.forms.Explicit.TheVariants.{EmptyCom
 use Rattle.rst_markup_blocks.specs.declared.forms.Invocation.{Invocation}
 use Rattle.rst_markup_blocks.specs.declared.part.Part.{Part}
 use Rattle.rst_markup_blocks.proofs.ExplicitLemmas.{explicit_ends, hanging_block}
-use Rattle.rst_markup_directives.specs.declared.found.Place.{Place}
 use Rattle.rst_markup_directives.specs.declared.found.Place.TheVariants.{Top, Body, Substitution as InDefinition}
 use Rattle.rst_block.specs.Budget.{sum_of}
 use Rattle.rst_block.specs.BudgetLaws.{is_trimmed, IsFronted, AreWithin}
@@ -35,7 +34,7 @@ use Rattle.rst_block.specs.Inside.{substitution_blocks, markup_blocks}
 use Rattle.rst_block.specs.Texts.{lines_in}
 use Rattle.rst_block.specs.Within.{Within}
 use Rattle.rst_block.proofs.ContentFacts.{none_within, more_within, directive_within, held_within}
-use Rattle.rst_block.proofs.MarkFacts.{Tells, dots_tell, label_tells, directive_tells}
+use Rattle.rst_block.proofs.MarkFacts.{Tells, label_tells, directive_tells}
 use Rattle.rst_block.proofs.PartFacts.{hanging_fronted, hanging_from, hanging_le}
 
 -- ---- marks of forms

@@ -1,21 +1,18 @@
 -- The blocks that a construct opens stand in its lines, one after another, and begin with a line that isn't blank.
 use Rattle.std.proofs.Common.{◌≡◌, ⊎_elim, ℕ, zero, suc, ◌+◌, ◌-◌, ◌<◌, ◌≤◌, Bool, true, false, not, ◌&&◌, ◌||◌, cond, List, [], ◌∷◌, ◌++◌, length, take, drop, length-drop, Option, None, Some, arith, refl, sym, ap, ◌∙◌, subst, leb, ltb, inl, inr, ◌⊎◌}
-use Rattle.std.specs.Prelude.{IfSome, is_some, flat_map}
-use Rattle.std.specs.List.{AllByRecursion}
+use Rattle.std.specs.Prelude.{IfSome, is_some}
 use Rattle.std.specs.Option.{option_map_or}
 use Rattle.std.proofs.lemmas.Bool.{cases_Bool as cases_bool, cases_lt}
 use Rattle.std.proofs.lemmas.List.{drop-drop}
 use Rattle.rst_text.specs.Block.{Block, front_text, is_blank}
 use Rattle.rst_text.specs.Characters.{columns}
 use Rattle.rst_text.specs.Extent.{extent}
-use Rattle.rst_text.proofs.CutLaws.{length-cut}
 use Rattle.rst_tree.specs.declared.node.Node.{Node}
 use Rattle.rst_markup_lines.specs.Adornment.{adornment_of}
 use Rattle.rst_markup_lines.specs.Enumerator.{enumerator_of, begins_next}
-use Rattle.rst_markup_lines.specs.ExplicitMarks.{dots, directive_of}
 use Rattle.rst_markup_lines.specs.Field.{field_of}
 use Rattle.rst_markup_lines.specs.Front.{begins_with, first, is_loose}
-use Rattle.rst_markup_lines.specs.Marker.{bullet, bullet_by, line_bar}
+use Rattle.rst_markup_lines.specs.Marker.{bullet, line_bar}
 use Rattle.rst_markup_lines.specs.OptionMarker.{option_marker}
 use Rattle.rst_markup_lines.specs.declared.adornment.Adornment.{Adornment}
 use Rattle.rst_markup_lines.specs.declared.enumerator.Enumerator.{Enumerator}
@@ -26,8 +23,8 @@ use Rattle.rst_markup_blocks.specs.Ends.{row_size}
 use Rattle.rst_markup_blocks.specs.Forms.{text_form, over_underline, underlined, adorned_form}
 use Rattle.rst_markup_blocks.specs.Kinds.{kind_at, row_holds}
 use Rattle.rst_markup_blocks.specs.Lines.{lines_while}
-use Rattle.rst_markup_blocks.specs.Partition.{construct_size, construct_end, IsBlankAt, IsTextAt}
-use Rattle.rst_markup_blocks.specs.Sizes.{hanging_size, item_size, text_size, adornment_size, adorned_size, third_text}
+use Rattle.rst_markup_blocks.specs.Partition.{construct_size, construct_end}
+use Rattle.rst_markup_blocks.specs.Sizes.{hanging_size, text_size, adornment_size, adorned_size, third_text}
 use Rattle.rst_markup_blocks.specs.declared.attribution.Attribution.{Attribution}
 use Rattle.rst_markup_blocks.specs.declared.form.Adorned.{Adorned}
 use Rattle.rst_markup_blocks.specs.declared.form.Adorned.TheVariants.{Text as AdornedText, ShortOverline, ShortAdornment, Transition, Title as AdornedTitle, InvalidMarker, Incomplete, MissingUnderline, Mismatch, Unexpected}
@@ -43,10 +40,10 @@ use Rattle.rst_markup_blocks.proofs.PartitionLemmas.{end_inside}
 use Rattle.rst_markup_blocks.proofs.RowLemmas.{row_of_kind}
 use Rattle.rst_block.specs.Budget.{sum_of}
 use Rattle.rst_block.specs.BudgetLaws.{is_trimmed, IsFronted, AreWithin}
-use Rattle.rst_block.specs.Constructs.{Construct, item_of_list, bullet_item, enumerated_item, field_item, option_item, bar_line, bullet_with, plain_text, text_after, text_by, adorned, adorned_by, construct_by}
+use Rattle.rst_block.specs.Constructs.{item_of_list, enumerated_item, field_item, option_item, bar_line, plain_text, text_after, text_by, adorned, adorned_by, construct_by}
 use Rattle.rst_block.specs.Inside.{quoted_by, quoted, quoted_blocks, opened_by, opened_of, inside_from, inside}
 use Rattle.rst_block.specs.Quotes.{first_attribution, quote_after}
-use Rattle.rst_block.specs.Rest.{found_from, found_in}
+use Rattle.rst_block.specs.Rest.{found_in}
 use Rattle.rst_block.specs.Texts.{lines_in}
 use Rattle.rst_block.specs.Within.{Within, hanging, indented_part, item_part}
 use Rattle.rst_block.proofs.ContentFacts.{none_within, more_within}

@@ -1,15 +1,13 @@
 -- Parts of a block as blocks: how many lines they have, and that they begin with a line that isn't blank.
-use Rattle.std.proofs.Common.{◌≡◌, ⊎_elim, ℕ, zero, suc, ◌+◌, ◌-◌, ◌<◌, ◌≤◌, min, Bool, true, false, not, ◌&&◌, ◌||◌, ◌==◌, cond, List, [], ◌∷◌, ◌++◌, length, take, drop, map, length-drop, arith, refl, sym, ap, ◌∙◌, eqb, leb, inl, inr}
-use Rattle.std.specs.List.{list_all, AllByRecursion}
+use Rattle.std.proofs.Common.{◌≡◌, ℕ, zero, suc, ◌+◌, ◌-◌, ◌<◌, ◌≤◌, min, Bool, true, false, not, ◌&&◌, ◌||◌, ◌==◌, cond, List, [], ◌∷◌, length, take, drop, map, length-drop, arith, refl, sym, ap, ◌∙◌, leb}
 use Rattle.std.specs.Char.{is_whitespace}
-use Rattle.std.proofs.lemmas.Bool.{eqb-true, leb-true, and_parts, cases_Bool, cases_lt}
+use Rattle.std.proofs.lemmas.Bool.{eqb-true, leb-true, and_parts}
 use Rattle.std.proofs.lemmas.List.{drop-drop}
 use Rattle.rst_text.specs.Block.{Line, Block, front_text, is_blank, indentation, shorten, shorten_all, cut}
-use Rattle.rst_text.specs.Extent.{extent, least_indent}
+use Rattle.rst_text.specs.Extent.{extent}
 use Rattle.rst_text.specs.Lines.{ends_white}
 use Rattle.rst_text.specs.MayCut.{is_indented}
-use Rattle.rst_text.proofs.Indented.{is_indented-drop, is_indented-least}
-use Rattle.rst_markup_lines.specs.Front.{begins_with}
+use Rattle.rst_text.proofs.Indented.{is_indented-least}
 use Rattle.rst_markup_lines.specs.declared.marker.Marker.{Marker}
 use Rattle.rst_markup_blocks.specs.ExplicitMarkup.{hanging_part, least_of}
 use Rattle.rst_markup_blocks.specs.Lines.{lines_while}
@@ -17,8 +15,7 @@ use Rattle.rst_markup_blocks.specs.Sizes.{hanging_size, item_size, least_below}
 use Rattle.rst_markup_blocks.specs.declared.lines.LineTest.TheVariants.{Blank}
 use Rattle.rst_markup_blocks.specs.declared.part.Part.{Part}
 use Rattle.rst_markup_blocks.proofs.PartLemmas.{hanging_is}
-use Rattle.rst_block.specs.Budget.{sum_of}
-use Rattle.rst_block.specs.BudgetLaws.{is_trimmed, IsFronted, AreWithin}
+use Rattle.rst_block.specs.BudgetLaws.{is_trimmed, IsFronted}
 use Rattle.rst_block.specs.Texts.{lines_in}
 use Rattle.rst_block.specs.Within.{hanging, indented_part, item_part}
 use Rattle.rst_block.proofs.MarkFacts.{Tells}

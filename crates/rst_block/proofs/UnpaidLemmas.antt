@@ -1,5 +1,5 @@
 -- How the reaches of a block's constructs share lines.
-use Rattle.std.proofs.Common.{⊎_elim, ◌≡◌, ℕ, zero, suc, ◌+◌, ◌-◌, ◌*◌, ◌<◌, ◌≤◌, min, max, Bool, true, false, not, ◌&&◌, cond, List, [], ◌∷◌, length, drop, length-drop, refl, sym, ap, ap₂, ◌∙◌, arith}
+use Rattle.std.proofs.Common.{◌≡◌, ℕ, zero, suc, ◌+◌, ◌-◌, ◌*◌, ◌<◌, ◌≤◌, min, Bool, true, false, not, ◌&&◌, cond, List, [], ◌∷◌, length, drop, length-drop, refl, ap, ◌∙◌, arith}
 use Rattle.std.proofs.Math.Nat.{max-le}
 use Rattle.std.specs.List.{list_all, prefix_len}
 use Rattle.std.proofs.lemmas.Bool.{and_parts}
@@ -13,12 +13,12 @@ use Rattle.rst_markup_lines.specs.Border.{is_grid_border, is_simple_border}
 use Rattle.rst_markup_blocks.specs.Ends.{row_size, row_reach}
 use Rattle.rst_markup_blocks.specs.Kinds.{kind_at, row_holds}
 use Rattle.rst_markup_blocks.specs.Lines.{lines_while}
-use Rattle.rst_markup_blocks.specs.Partition.{construct_size, construct_end}
+use Rattle.rst_markup_blocks.specs.Partition.{construct_size}
 use Rattle.rst_markup_blocks.specs.RowLaws.{while_le}
-use Rattle.rst_markup_blocks.specs.ReachLaws.{grid_scan_le, simple_scan_le}
-use Rattle.rst_markup_blocks.specs.TableLaws.{grid_size_le, simple_size_le}
+use Rattle.rst_markup_blocks.specs.ReachLaws.{simple_scan_le}
+use Rattle.rst_markup_blocks.specs.TableLaws.{grid_size_le}
 use Rattle.rst_markup_blocks.specs.TableLines.{is_drawn, border_len, is_lower_border}
-use Rattle.rst_markup_blocks.specs.TableRows.{grid_size, grid_scan, grid_reach, simple_size, simple_scan, simple_reach, is_lower_border_at}
+use Rattle.rst_markup_blocks.specs.TableRows.{grid_size, grid_scan, grid_reach, simple_size, simple_scan, simple_reach}
 use Rattle.rst_markup_blocks.specs.declared.lines.LineTest.TheVariants.{Drawn}
 use Rattle.rst_markup_blocks.specs.declared.kind.Kind.{Kind}
 use Rattle.rst_markup_blocks.specs.declared.kind.Kind.TheVariants.{Blank, Quote, Bullet, Enumerator, Field, OptionItem, Doctest, Line as BarLine, Grid, Simple, Explicit, Anonymous, Adornment, Text}
@@ -102,11 +102,11 @@ grid_over X fits =
     let Y : Block = drop g X in
     let each : (k : ℕ) → k < m - g → is_behind_grid (front_text (drop k Y)) ≡ true =
     λ k small.
-      let place : drop k Y ≡ drop (g + k) X = shift g k X in
-      let drawn : is_drawn (front_text (drop (g + k) X)) ≡ true = while_pass X (g + k) (omega (arith, small)) in
-      let inside : g + k < grid_scan X = omega (arith, small, while_le Drawn X) in
-      let none : is_grid_border (front_text (drop (g + k) X)) ≡ false = no_grid X (g + k) (omega arith) inside in
-      rw place (rw (drawn, none) refl)
+    let place : drop k Y ≡ drop (g + k) X = shift g k X in
+    let drawn : is_drawn (front_text (drop (g + k) X)) ≡ true = while_pass X (g + k) (omega (arith, small)) in
+    let inside : g + k < grid_scan X = omega (arith, small, while_le Drawn X) in
+    let none : is_grid_border (front_text (drop (g + k) X)) ≡ false = no_grid X (g + k) (omega arith) inside in
+    rw place (rw (drawn, none) refl)
     in
     omega (arith, passing is_behind_grid (m - g) Y each, length-drop g X, fits, while_le Drawn X)
 
@@ -118,9 +118,9 @@ simple_over X fits =
     let Y : Block = drop g X in
     let each : (k : ℕ) → k < m - g → is_behind_simple (front_text (drop k Y)) ≡ true =
     λ k small.
-      let place : drop k Y ≡ drop (g + k) X = shift g k X in
-      let none : is_lower_border (front_text (drop (g + k) X)) ≡ false = no_simple X (g + k) (omega arith) (omega (arith, small)) in
-      rw place (rw none refl)
+    let place : drop k Y ≡ drop (g + k) X = shift g k X in
+    let none : is_lower_border (front_text (drop (g + k) X)) ≡ false = no_simple X (g + k) (omega arith) (omega (arith, small)) in
+    rw place (rw none refl)
     in
     omega (arith, passing is_behind_simple (m - g) Y each, length-drop g X, simple_scan_le X)
 

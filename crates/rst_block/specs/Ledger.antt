@@ -19,7 +19,7 @@ use Rattle.rst_block.specs.declared.resume.Waits.TheVariants.{Quote}
 use Rattle.rst_block.specs.declared.run.Run.{Run}
 use Rattle.rst_block.specs.declared.run.Run.TheVariants.{None as NoRun}
 use Rattle.rst_block.specs.declared.step.Step.{Step}
-use Rattle.rst_block.specs.declared.step.Step.TheVariants.{Next, Open, Cells, Done}
+use Rattle.rst_block.specs.declared.step.Step.TheVariants.{Open, Cells, Done}
 
 -- ---- blocks
 

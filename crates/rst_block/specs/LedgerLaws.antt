@@ -1,10 +1,10 @@
 -- Laws on the looks that a reading may still take, and has to take at least.
-use Rattle.std.specs.Prelude.{◌≡◌, ℕ, suc, ◌+◌, ◌-◌, ◌*◌, ◌<◌, ◌≤◌, List, [], ◌∷◌, ◌++◌, length, Option, None, Some}
+use Rattle.std.specs.Prelude.{◌≡◌, ℕ, suc, ◌+◌, ◌*◌, ◌<◌, ◌≤◌, List, [], ◌∷◌, ◌++◌, length, Option, None, Some}
 use Rattle.rst_text.specs.Block.{Block}
 use Rattle.rst_text.specs.Shown.{placement_block}
 use Rattle.rst_markup_blocks.specs.Partition.{IsBlankAt, IsTextAt}
 use Rattle.rst_markup_blocks.specs.declared.part.Part.{Part}
-use Rattle.rst_block.specs.Ledger.{total_at, totals, most_from, least_from, run_looks, most_after, least_after, most_in, least_in, most_left, least_left, IsPaid, Takes}
+use Rattle.rst_block.specs.Ledger.{total_at, most_from, least_from, run_looks, most_after, least_after, most_in, least_in, most_left, least_left, IsPaid, Takes}
 use Rattle.rst_block.specs.Meanings.{deepest}
 use Rattle.rst_block.specs.Texts.{lines_in}
 use Rattle.rst_block.specs.declared.frame.Frame.{Frame}

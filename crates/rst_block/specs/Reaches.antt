@@ -1,5 +1,5 @@
 -- How the reaches of a block's constructs share lines. No rule of markup: it bounds the time.
-use Rattle.std.specs.Prelude.{◌≡◌, ℕ, suc, ◌+◌, ◌-◌, ◌*◌, ◌≤◌, Bool, true, false, not, ◌&&◌, List, [], ◌∷◌, length, drop, if◌then◌else◌}
+use Rattle.std.specs.Prelude.{◌≡◌, ℕ, suc, ◌+◌, ◌-◌, ◌*◌, ◌≤◌, Bool, false, not, ◌&&◌, List, [], ◌∷◌, length, drop, if◌then◌else◌}
 use Rattle.rst_text.specs.Block.{Block, front_text, is_blank}
 use Rattle.rst_markup_lines.specs.Border.{is_grid_border}
 use Rattle.rst_markup_blocks.specs.Ends.{row_reach}
