@@ -25,7 +25,7 @@ use Rattle.rst_block.proofs.MeaningLemmas.{not_zero}
 use Rattle.rst_block.proofs.RestLemmas.{found_over, found_blank, found_text}
 use Rattle.rst_block.proofs.UnpaidLemmas.{begin, paid, passed}
 
-sum_append : (f : Block → ℕ) (Cs Ds : List Block) → sum_of f (Cs ++ Ds) ≡ sum_of f Cs + sum_of f Ds
+pub sum_append : (f : Block → ℕ) (Cs Ds : List Block) → sum_of f (Cs ++ Ds) ≡ sum_of f Cs + sum_of f Ds
 unfolding sum_of
 sum_append f [] Ds = omega arith
 sum_append f (C ∷ Cs) Ds = omega (arith, sum_append f Cs Ds)

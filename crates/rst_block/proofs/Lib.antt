@@ -49,5 +49,6 @@ pub mod SubstitutionReads
 pub mod TextsRead
 pub mod UnpaidLemmas
 pub mod Waiting
+pub mod WaitingLooks
 pub mod Walks
 pub mod Work

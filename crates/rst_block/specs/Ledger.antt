@@ -152,3 +152,20 @@ pub record IsPaid (old new : OpenBlock) (B : Block) (s : Step) (before after : �
 pub record Takes (most least before : ℕ) (most_then least_then after : ℕ) : Type 0 where
   pub no_more : after + most_then ≤ before + most
   pub no_less : before + least ≤ after + least_then
+
+-- a block waits for no further quotes
+abbrev pub WaitsForOne : Waits → Type 0
+WaitsForOne (Quote line attribution (Some p) end) = ⊥
+WaitsForOne w = Unit {0}
+
+-- The quotes of a part were begun, with so many looks before and after: the first one comes next, and the others are still to be read. It took 16 looks
+-- at most for each of their lines.
+pub record AreQuotesPaid (old new : OpenBlock) (B : Block) (p : Part) (end : ℕ) (s : Step) (before after : ℕ) : Type 0 where
+  pub goes : GoesOn s
+  pub depth : new.depth ≡ old.depth
+  pub run : new.run ≡ old.run
+  pub place : place_after new s ≡ end
+  pub blocks : totals old.depth (next_blocks B s) ≡ totals old.depth (quoted_blocks (lines_in B p))
+  pub cells : next_cells s ≡ []
+  pub most : after + end_looks new s ≤ before + run_looks old.run + 1 + 16 * (p.to - p.from)
+  pub least : before ≤ after

@@ -1,18 +1,33 @@
 -- Laws on the looks that a reading may still take, and has to take at least.
-use Rattle.std.specs.Prelude.{◌≡◌, ℕ, suc, ◌+◌, ◌*◌, ◌<◌, ◌≤◌, List, [], ◌∷◌, ◌++◌, length, Option, None, Some}
+use Rattle.std.specs.Prelude.{◌≡◌, ℕ, suc, ◌+◌, ◌-◌, ◌*◌, ◌<◌, ◌≤◌, true, false, List, [], ◌∷◌, ◌++◌, length, drop, Option, None, Some, Box}
+use Rattle.std.specs.declared.alloc.Global.{Global}
 use Rattle.rst_text.specs.Block.{Block}
 use Rattle.rst_text.specs.Shown.{placement_block}
+use Rattle.rst_markup_blocks.specs.Lines.{lines_while}
 use Rattle.rst_markup_blocks.specs.Partition.{IsBlankAt, IsTextAt}
+use Rattle.rst_markup_blocks.specs.declared.attribution.Attribution.{Attribution}
+use Rattle.rst_markup_blocks.specs.declared.lines.LineTest.TheVariants.{Blank}
 use Rattle.rst_markup_blocks.specs.declared.part.Part.{Part}
-use Rattle.rst_block.specs.Ledger.{total_at, most_from, least_from, run_looks, most_after, least_after, most_in, least_in, most_left, least_left, IsPaid, Takes}
+use Rattle.rst_markup_tables.specs.Ends.{end_of}
+use Rattle.rst_markup_tables.specs.declared.results.Cell.{Cell}
+use Rattle.rst_markup_tables.specs.declared.results.TableResult.{TableResult}
+use Rattle.rst_markup_tables.specs.declared.results.TableResult.TheVariants.{Table}
+use Rattle.rst_block_nodes.specs.declared.texted.Texted.{Texted}
+use Rattle.rst_block.specs.Budget.{sum_of, total}
+use Rattle.rst_block.specs.Inside.{quoted_blocks, cells_of}
+use Rattle.rst_block.specs.Ledger.{total_at, totals, most_from, least_from, run_looks, quote_looks, quotes_left, part_blocks, most_after, least_after, most_in, least_in, most_left, least_left, WaitsForOne, IsPaid, AreQuotesPaid, Takes}
+use Rattle.rst_block.specs.MeaningLaws.{front_of}
 use Rattle.rst_block.specs.Meanings.{deepest}
+use Rattle.rst_block.specs.Quotes.{first_attribution}
+use Rattle.rst_block.specs.Steps.{rest_of}
 use Rattle.rst_block.specs.Texts.{lines_in}
 use Rattle.rst_block.specs.declared.frame.Frame.{Frame}
 use Rattle.rst_block.specs.declared.open_block.OpenBlock.{OpenBlock}
 use Rattle.rst_block.specs.declared.resume.Waits.{Waits}
+use Rattle.rst_block.specs.declared.resume.Waits.TheVariants.{Quote}
 use Rattle.rst_block.specs.declared.run.Run.TheVariants.{None as NoRun}
 use Rattle.rst_block.specs.declared.step.Step.{Step}
-use Rattle.rst_block.specs.declared.step.Step.TheVariants.{Next, Open, Done}
+use Rattle.rst_block.specs.declared.step.Step.TheVariants.{Next, Open, Cells, Done}
 
 -- ---- one block
 
@@ -61,3 +76,52 @@ abbrev pub SecondIsPaid : Type 0
 SecondIsPaid = (l new : OpenBlock) (B : Block) (w : Waits) (second : Part) → l.depth < deepest → new.depth ≡ suc l.depth → new.at ≡ 0 → new.run ≡ NoRun
     → (most_after l B w None + most_left new (lines_in B second) Next ≤ most_after l B w (Some second))
     × (least_after l B w (Some second) ≤ least_after l B w None + least_left new (lines_in B second) Next)
+
+-- ---- quotes
+
+-- a part without an attribution is one quote
+abbrev pub QuoteIsOne : Type 0
+QuoteIsOne = (B : Block) (p : Part) (line : ℕ) → first_attribution (lines_in B p) ≡ None → 1 ≤ length (lines_in B p)
+    → quoted_blocks (lines_in B p) ≡ lines_in B p ∷ quotes_left B (Quote line None None p.to)
+
+-- a part with an attribution is the quote of the lines before that, and the quotes of what is left after it
+abbrev pub QuotesAreSplit : Type 0
+QuotesAreSplit = (B : Block) (p : Part) (k next line : ℕ) (a : Attribution) (made : Option (Box Texted Global)) → first_attribution (lines_in B p) ≡ Some (k, a)
+    → next ≡ a.end + lines_while Blank (drop a.end (lines_in B p)) → p.to ≤ length B
+    → quoted_blocks (lines_in B p) ≡ lines_in B (front_of p k) ∷ quotes_left B (Quote line made (rest_of p next) p.to)
+
+-- ---- what a block does that waited
+
+-- it goes on, where it waits for nothing more
+abbrev pub ResumedIsPaid : Type 0
+ResumedIsPaid = (l new : OpenBlock) (B : Block) (w : Waits) (before after : ℕ) → WaitsForOne w → new.depth ≡ l.depth → new.at ≡ l.at → run_looks new.run ≤ run_looks l.run
+    → after ≤ before + quote_looks w → before ≤ after
+    → Takes (most_after l B w None) (least_after l B w None) before (most_left new B Next) (least_left new B Next) after
+
+-- it waits for the next quote
+abbrev pub QuotesArePaid : Type 0
+QuotesArePaid = (l new : OpenBlock) (B : Block) (line end : ℕ) (made : Option (Box Texted Global)) (p : Part) (s : Step) (before after : ℕ) → AreQuotesPaid l new B p end s before after
+    → Takes (most_after l B (Quote line made (Some p) end) None) (least_after l B (Quote line made (Some p) end) None) before (most_left new B s) (least_left new B s) after
+
+-- below the last level: its parts are blank, and a look or more, no more than 128, is taken at each of their lines
+abbrev pub LastBlockIsPaid : Type 0
+LastBlockIsPaid = (l : OpenBlock) (B : Block) (w : Waits) (first : Part) (second : Option Part) (before after : ℕ) → l.depth ≡ deepest
+    → after ≤ before + 128 * sum_of length (lines_in B first ∷ part_blocks B second) → before + sum_of length (lines_in B first ∷ part_blocks B second) ≤ after
+    → Takes (most_left l B (Open w first second)) (least_left l B (Open w first second)) before (most_after l B w None) (least_after l B w None) after
+
+-- ---- cells
+
+-- a cell is a text that stands in one block more than its table
+abbrev pub CellIsText : Type 0
+CellIsText = (depth : ℕ) (C : Block) → total_at (suc depth) C ≡ total true (deepest - depth) false C
+
+-- the cells of rows are those of the first, and those of the others
+abbrev pub CellsAreOfRows : Type 0
+CellsAreOfRows = (depth n m end : ℕ) (widths : List ℕ) (row : List Cell) (rows : List (List Cell))
+    → totals depth (cells_of (Table widths n (row ∷ rows) end)) ≡ totals depth (cells_of (Table widths m (row ∷ []) end)) + totals depth (cells_of (Table widths m rows end))
+
+-- a block goes on after a table, once the cells are read, with one look more at most
+abbrev pub TableIsPaid : Type 0
+TableIsPaid = (l new : OpenBlock) (B : Block) (t : TableResult) (before mid after : ℕ) → new.depth ≡ l.depth → new.at ≡ end_of t → new.run ≡ l.run
+    → mid ≤ before + 128 * totals l.depth (cells_of t) → before + totals l.depth (cells_of t) ≤ mid → after ≤ mid + 1 → mid ≤ after
+    → Takes (most_left l B (Cells t)) (least_left l B (Cells t)) before (most_left new B Next) (least_left new B Next) after

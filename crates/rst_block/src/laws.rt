@@ -104,3 +104,16 @@ pub fn looks_are_paid()
     ensures opened { ledger.OpenedIsPaid }
     ensures second { ledger.SecondIsPaid }
 {}
+
+/// What blocks that wait may still take of looks, and have to take: as they go on, wait for the next quote, are below the last
+/// level, or have read the cells of a table.
+pub(crate) fn waiting_blocks_are_paid()
+    ensures quote { ledger.QuoteIsOne }
+    ensures quotes { ledger.QuotesAreSplit }
+    ensures resumed { ledger.ResumedIsPaid }
+    ensures next_quote { ledger.QuotesArePaid }
+    ensures flat { ledger.LastBlockIsPaid }
+    ensures cell { ledger.CellIsText }
+    ensures rows { ledger.CellsAreOfRows }
+    ensures table { ledger.TableIsPaid }
+{}
