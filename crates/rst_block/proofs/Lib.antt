@@ -14,6 +14,7 @@ pub mod ListItems
 pub mod ListedItems
 pub mod GoingOn
 pub mod LiteralLemmas
+pub mod InsideReads
 pub mod LedgerLemmas
 pub mod LineSteps
 pub mod DirectiveFlags

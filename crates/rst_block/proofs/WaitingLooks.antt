@@ -118,9 +118,9 @@ resumed l new B w before after one d p r few some =
     let m : most_from new.depth B new.at ≡ most_from l.depth B (goes_on_at l w) = ap (λ k. most_from k B new.at) d ∙ ap (most_from l.depth B) (p ∙ sym q.1) in
     let n : least_from new.depth B new.at ≡ least_from l.depth B (goes_on_at l w) = ap (λ k. least_from k B new.at) d ∙ ap (least_from l.depth B) (p ∙ sym q.1) in
     record {
-  no_more = omega (arith, few, r, m);
-  no_less = omega (arith, some, n, ap (totals l.depth) q.0);
-}
+      no_more = omega (arith, few, r, m);
+      no_less = omega (arith, some, n, ap (totals l.depth) q.0);
+    }
 
 pub quotes_go_on : (l new : OpenBlock) (B : Block) (line end : ℕ) (made : Option (Box Texted Global)) (p : Part) (s : Step) (before after : ℕ) → AreQuotesPaid l new B p end s before after
     → Takes (most_after l B (Quote line made (Some p) end) None) (least_after l B (Quote line made (Some p) end) None) before (most_left new B s) (least_left new B s) after
@@ -169,9 +169,9 @@ last_block l B w first second before after d few some =
     let flat = flat_totals l.depth parts d in
     let split : totals l.depth (parts ++ quotes_left B w) ≡ totals l.depth parts + totals l.depth (quotes_left B w) = sum_append f parts (quotes_left B w) in
     record {
-  no_more = omega (arith, few, flat, split);
-  no_less = omega (arith, some, flat, split);
-}
+      no_more = omega (arith, few, flat, split);
+      no_less = omega (arith, some, flat, split);
+    }
 
 -- ---- cells
 
@@ -203,6 +203,6 @@ table_read l new B t before mid after d p r few some one more =
     let m : most_from new.depth B new.at ≡ most_from l.depth B (end_of t) = ap (λ k. most_from k B new.at) d ∙ ap (most_from l.depth B) p in
     let n : least_from new.depth B new.at ≡ least_from l.depth B (end_of t) = ap (λ k. least_from k B new.at) d ∙ ap (least_from l.depth B) p in
     record {
-  no_more = omega (arith, few, one, m, ap run_looks r);
-  no_less = omega (arith, some, more, n);
-}
+      no_more = omega (arith, few, one, m, ap run_looks r);
+      no_less = omega (arith, some, more, n);
+    }

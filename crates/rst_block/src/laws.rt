@@ -1,6 +1,7 @@
 //! Laws on the definitions, each by a function that does nothing and whose contract is the law.
 ghost use Rattle.rst_block.specs.Begins.{MarksTellConstructs};
 ghost use Rattle.rst_block.specs.BudgetLaws as budget;
+ghost use Rattle.rst_block.specs.InsideLaws as inside;
 ghost use Rattle.rst_block.specs.LedgerLaws as ledger;
 ghost use Rattle.rst_block.specs.MeaningLaws as meaning;
 ghost use Rattle.rst_block.specs.Reaches as reaches;
@@ -116,4 +117,10 @@ pub(crate) fn waiting_blocks_are_paid()
     ensures cell { ledger.CellIsText }
     ensures rows { ledger.CellsAreOfRows }
     ensures table { ledger.TableIsPaid }
+{}
+
+/// The blocks inside a construct are those that are read for it: what it gives depends on no other block than those that it opens
+/// and its cells.
+pub fn inside_is_read()
+    ensures { inside.InsideIsRead }
 {}
