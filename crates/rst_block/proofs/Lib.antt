@@ -10,6 +10,7 @@ pub mod Changes
 pub mod ContentFacts
 pub mod Depths
 pub mod Doctests
+pub mod DocumentLooks
 pub mod ListItems
 pub mod ListedItems
 pub mod GoingOn

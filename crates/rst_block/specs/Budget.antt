@@ -1,6 +1,7 @@
 -- How many looks at lines the reading of a block may take, and has to take at least. No rule of markup: it bounds the time.
-use Rattle.std.specs.Prelude.{ℕ, zero, suc, ◌+◌, ◌*◌, max, Bool, false, List, [], ◌∷◌, length, if◌then◌else◌}
+use Rattle.std.specs.Prelude.{ℕ, zero, suc, ◌+◌, ◌*◌, max, Bool, true, false, List, [], ◌∷◌, length, if◌then◌else◌}
 use Rattle.std.specs.List.{list_all}
+use Rattle.rst_settings.specs.Profile.{Profile}
 use Rattle.rst_text.specs.Block.{Line, Block, is_blank}
 use Rattle.rst_block.specs.Inside.{inside, cells}
 use Rattle.rst_block.specs.Numbered.{just}
@@ -56,3 +57,11 @@ unfoldable pub total : Bool → (levels : ℕ) → Bool → Block → ℕ
 total code zero titles B = length B
 total code (suc levels) titles B =
     length B + (sum_of (total code levels false) (inside (unread code titles) B) + sum_of (total code levels false) (cells (unread code titles) B))
+
+-- the budget of a document: as many levels may be opened below it as the profile says, and one more for blocks that are too deep and must be blank
+abbrev pub document_budget : Profile → Block → ℕ
+document_budget profile B = budget profile.code (suc profile.nesting) true B
+
+-- the floor of a document
+abbrev pub document_floor : Profile → Block → ℕ
+document_floor profile B = floor profile.code (suc profile.nesting) true B

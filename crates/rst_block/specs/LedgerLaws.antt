@@ -1,7 +1,10 @@
 -- Laws on the looks that a reading may still take, and has to take at least.
 use Rattle.std.specs.Prelude.{◌≡◌, ℕ, suc, ◌+◌, ◌-◌, ◌*◌, ◌<◌, ◌≤◌, true, false, List, [], ◌∷◌, ◌++◌, length, drop, Option, None, Some, Box}
 use Rattle.std.specs.declared.alloc.Global.{Global}
+use Rattle.rst_settings.specs.Profile.{Profile, profile_of}
+use Rattle.rst_settings.specs.declared.Settings.{Settings}
 use Rattle.rst_text.specs.Block.{Block}
+use Rattle.rst_text.specs.Lines.{are_lines}
 use Rattle.rst_text.specs.Shown.{placement_block}
 use Rattle.rst_markup_blocks.specs.Lines.{lines_while}
 use Rattle.rst_markup_blocks.specs.Partition.{IsBlankAt, IsTextAt}
@@ -13,7 +16,7 @@ use Rattle.rst_markup_tables.specs.declared.results.Cell.{Cell}
 use Rattle.rst_markup_tables.specs.declared.results.TableResult.{TableResult}
 use Rattle.rst_markup_tables.specs.declared.results.TableResult.TheVariants.{Table}
 use Rattle.rst_block_nodes.specs.declared.texted.Texted.{Texted}
-use Rattle.rst_block.specs.Budget.{sum_of, total}
+use Rattle.rst_block.specs.Budget.{sum_of, total, document_budget, document_floor}
 use Rattle.rst_block.specs.Inside.{quoted_blocks, cells_of}
 use Rattle.rst_block.specs.Ledger.{total_at, totals, most_from, least_from, run_looks, quote_looks, quotes_left, part_blocks, most_after, least_after, most_in, least_in, most_left, least_left, WaitsForOne, IsPaid, AreQuotesPaid, Takes}
 use Rattle.rst_block.specs.MeaningLaws.{front_of}
@@ -125,3 +128,21 @@ abbrev pub TableIsPaid : Type 0
 TableIsPaid = (l new : OpenBlock) (B : Block) (t : TableResult) (before mid after : ℕ) → new.depth ≡ l.depth → new.at ≡ end_of t → new.run ≡ l.run
     → mid ≤ before + 128 * totals l.depth (cells_of t) → before + totals l.depth (cells_of t) ≤ mid → after ≤ mid + 1 → mid ≤ after
     → Takes (most_left l B (Cells t)) (least_left l B (Cells t)) before (most_left new B Next) (least_left new B Next) after
+
+-- ---- texts
+
+-- a text without lines takes no look
+abbrev pub EmptyTextIsFree : Type 0
+EmptyTextIsFree = (depth : ℕ) → total_at depth [] ≡ 0
+
+-- a text below the last level takes a look for each of its lines
+abbrev pub LastTextIsFlat : Type 0
+LastTextIsFlat = (B : Block) → total_at (suc deepest) B ≡ length B
+
+-- the looks that a document may take are within its budget, and those that it has to take are no fewer than its floor
+pub record IsBounded (profile : Profile) (B : Block) : Type 0 where
+  pub budget : 128 * total_at 0 B ≤ document_budget profile B
+  pub floor : document_floor profile B ≤ total_at 0 B
+
+abbrev pub DocumentIsBounded : Type 0
+DocumentIsBounded = (settings : Settings) (B : Block) → are_lines B ≡ true → IsBounded (profile_of settings) B

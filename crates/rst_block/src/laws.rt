@@ -124,3 +124,11 @@ pub(crate) fn waiting_blocks_are_paid()
 pub fn inside_is_read()
     ensures { inside.InsideIsRead }
 {}
+
+/// What a text takes: none without lines, and one for each line below the last level. A document takes no more looks than its
+/// budget allows and no fewer than its floor asks for, where it takes one to 128 for each line of it and of all inside.
+pub fn documents_are_bounded()
+    ensures empty { ledger.EmptyTextIsFree }
+    ensures flat { ledger.LastTextIsFlat }
+    ensures bounded { ledger.DocumentIsBounded }
+{}
