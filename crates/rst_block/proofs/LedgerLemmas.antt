@@ -3,7 +3,11 @@ use Rattle.std.proofs.Common.{◌≡◌, ℕ, suc, ◌+◌, ◌-◌, ◌*◌, �
 use Rattle.std.specs.Prelude.{◌==◌, flat_map}
 use Rattle.std.proofs.lemmas.List.{drop-drop}
 use Rattle.rst_text.specs.Block.{Block}
+use Rattle.rst_markup_blocks.specs.Ends.{row_size, row_reach}
+use Rattle.rst_markup_blocks.specs.Kinds.{kind_at}
 use Rattle.rst_markup_blocks.specs.Partition.{construct_size, construct_end, IsBlankAt, IsTextAt}
+use Rattle.rst_markup_blocks.specs.declared.kind.Kind.{Kind}
+use Rattle.rst_markup_blocks.specs.declared.kind.Kind.TheVariants.{Blank, Quote, Bullet, Enumerator, Field, OptionItem, Doctest, Line, Grid, Simple, Explicit, Anonymous, Adornment, Text}
 use Rattle.rst_markup_blocks.specs.declared.part.Part.{Part}
 use Rattle.rst_markup_blocks.proofs.PartitionLemmas.{end_inside}
 use Rattle.rst_block.specs.Budget.{sum_of, total}
@@ -111,7 +115,7 @@ after_construct titles B i text =
     let d : drop (construct_size titles (drop i B)) (drop i B) ≡ drop (construct_end titles B i) B = drop-drop (construct_size titles (drop i B)) i B in
     omega (arith, paid titles (drop i B) text, ap unpaid d)
 
-pub construct : (old new : OpenBlock) (B : Block) (s : Step) (before after : ℕ) → old.at < length B → IsTextAt B old.at → IsPaid old new B s before after
+pub construct : (old new : OpenBlock) (B : Block) (s : Step) (before after : ℕ) → old.at < length B → IsTextAt B old.at → IsPaid 32 old new B s before after
     → Takes (most_left old B Next) (least_left old B Next) before (most_left new B s) (least_left new B s) after
 unfolding sum_of
 construct old new B s before after inside text h = by s h.goes h.place h.blocks h.cells h.most
@@ -154,6 +158,40 @@ construct old new B s before after inside text h = by s h.goes h.place h.blocks 
     by (Open w first second) g p b c few = same (Open w first second) g p b c few
     by (Cells t) g p b c few = same (Cells t) g p b c few
     by Done g p b c few = absurd g
+
+-- a reach has a line or more
+reach_some : (titles : Bool) (X : Block) → 1 ≤ construct_size titles X → 1 ≤ reach_at titles X
+unfolding construct_size
+reach_some titles X h = by (kind_at X) h
+  where
+    by : (k : Kind) → 1 ≤ row_size k titles X → 1 ≤ row_reach k titles X
+    by Grid h = omega (arith, h)
+    by Simple h = omega (arith, h)
+    by Blank h = omega (arith, h)
+    by Quote h = omega (arith, h)
+    by Bullet h = omega (arith, h)
+    by Enumerator h = omega (arith, h)
+    by Field h = omega (arith, h)
+    by OptionItem h = omega (arith, h)
+    by Doctest h = omega (arith, h)
+    by Line h = omega (arith, h)
+    by Explicit h = omega (arith, h)
+    by Anonymous h = omega (arith, h)
+    by Adornment h = omega (arith, h)
+    by Text h = omega (arith, h)
+
+pub started : (old new : OpenBlock) (B : Block) (s : Step) (before mid after : ℕ) → old.at < length B → before ≤ mid → mid ≤ before + 3 → IsPaid 29 old new B s mid after → IsPaid 32 old new B s before after
+started old new B s before mid after inside some few h =
+    let reach : 1 ≤ reach_at (old.depth == 0) (drop old.at B) = reach_some (old.depth == 0) (drop old.at B) (omega (arith, (end_inside (old.depth == 0) B old.at inside).0)) in
+    record {
+  goes = h.goes;
+  depth = h.depth;
+  place = h.place;
+  blocks = h.blocks;
+  cells = h.cells;
+  most = omega (arith, h.most, few, reach);
+  least = omega (arith, h.least, some);
+}
 
 -- ---- blocks that wait
 

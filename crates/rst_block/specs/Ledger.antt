@@ -138,14 +138,14 @@ GoesOn Done = ⊥
 GoesOn s = Unit {0}
 
 -- A construct was read, with so many looks before and after: what comes next is what the construct opens, and then the block goes on after the
--- construct. It took a look at least for each of its lines, and no more than 32 for each line of its reach.
-pub record IsPaid (old new : OpenBlock) (B : Block) (s : Step) (before after : ℕ) : Type 0 where
+-- construct. It took a look at least for each of its lines, and no more than this many for each line of its reach.
+pub record IsPaid (each : ℕ) (old new : OpenBlock) (B : Block) (s : Step) (before after : ℕ) : Type 0 where
   pub goes : GoesOn s
   pub depth : new.depth ≡ old.depth
   pub place : place_after new s ≡ construct_end (old.depth == 0) B old.at
   pub blocks : totals old.depth (next_blocks B s) ≡ totals old.depth (opened_of (unread_at old.depth) B (found_in (old.depth == 0) B old.at))
   pub cells : totals old.depth (next_cells s) ≡ totals old.depth (cells_with B (found_in (old.depth == 0) B old.at))
-  pub most : after + end_looks new s ≤ before + run_looks old.run + 32 * reach_at (old.depth == 0) (drop old.at B)
+  pub most : after + end_looks new s ≤ before + run_looks old.run + each * reach_at (old.depth == 0) (drop old.at B)
   pub least : before + construct_size (old.depth == 0) (drop old.at B) ≤ after
 
 -- a call took looks: what may still be taken is so much less, and what has to be taken no less than it leaves
