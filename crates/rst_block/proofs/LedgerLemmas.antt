@@ -184,14 +184,14 @@ pub started : (old new : OpenBlock) (B : Block) (s : Step) (before mid after : â
 started old new B s before mid after inside some few h =
     let reach : 1 â‰¤ reach_at (old.depth == 0) (drop old.at B) = reach_some (old.depth == 0) (drop old.at B) (omega (arith, (end_inside (old.depth == 0) B old.at inside).0)) in
     record {
-  goes = h.goes;
-  depth = h.depth;
-  place = h.place;
-  blocks = h.blocks;
-  cells = h.cells;
-  most = omega (arith, h.most, few, reach);
-  least = omega (arith, h.least, some);
-}
+      goes = h.goes;
+      depth = h.depth;
+      place = h.place;
+      blocks = h.blocks;
+      cells = h.cells;
+      most = omega (arith, h.most, few, reach);
+      least = omega (arith, h.least, some);
+    }
 
 -- ---- blocks that wait
 

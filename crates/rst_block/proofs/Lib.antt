@@ -31,6 +31,7 @@ pub mod NextLines
 pub mod NumberedLemmas
 pub mod OpenRuns
 pub mod OpenedFacts
+pub mod PaidSteps
 pub mod PartFacts
 pub mod PlainItems
 pub mod ParagraphLemmas
