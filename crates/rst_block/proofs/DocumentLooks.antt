@@ -1,16 +1,16 @@
 -- What whole texts take of looks.
-use Rattle.std.proofs.Common.{◌≡◌, ℕ, zero, suc, ◌+◌, ◌-◌, ◌*◌, ◌≤◌, Bool, true, false, not, ◌&&◌, List, [], ◌∷◌, length, arith, refl, ap, ◌∙◌}
+use Rattle.std.proofs.Common.{◌≡◌, ℕ, zero, suc, ◌-◌, Bool, true, false, [], ◌∷◌, length, arith, refl}
 use Rattle.std.specs.Prelude.{◌==◌}
 use Rattle.std.proofs.lemmas.Bool.{and_parts}
 use Rattle.rst_settings.specs.Profile.{profile_of}
 use Rattle.rst_settings.specs.declared.Settings.{Settings}
-use Rattle.rst_text.specs.Block.{Line, Block}
-use Rattle.rst_text.specs.Lines.{is_line_end, ends_white, is_line_text, are_lines}
+use Rattle.rst_text.specs.Block.{Block}
+use Rattle.rst_text.specs.Lines.{ends_white, is_line_text, are_lines}
 use Rattle.rst_text.proofs.LineTexts.{is_line_text-parts}
 use Rattle.rst_markup_blocks.specs.Partition.{spans_from}
 use Rattle.rst_block.specs.Budget.{sum_of, total}
 use Rattle.rst_block.specs.BudgetLaws.{is_trimmed}
-use Rattle.rst_block.specs.Ledger.{total_at, unread_at}
+use Rattle.rst_block.specs.Ledger.{total_at}
 use Rattle.rst_block.specs.LedgerLaws.{IsBounded}
 use Rattle.rst_block.specs.Meanings.{deepest}
 use Rattle.rst_block.proofs.BudgetLemmas.{high, low}

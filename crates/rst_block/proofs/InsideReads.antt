@@ -1,23 +1,20 @@
 -- What a construct gives depends on no other block than those that it opens and its cells.
-use Rattle.std.proofs.Common.{◌≡◌, ℕ, zero, suc, ◌+◌, ◌-◌, Bool, cond, List, [], ◌∷◌, ◌++◌, map, take, drop, length, Option, None, Some, Result, Ok, Err, refl, sym, ap, ◌∙◌, subst}
+use Rattle.std.proofs.Common.{◌≡◌, ℕ, zero, suc, ◌+◌, cond, List, [], ◌∷◌, ◌++◌, map, take, drop, length, Option, None, Some, refl, ap, ◌∙◌, subst}
 use Rattle.std.specs.Prelude.{flat_map, slice_range}
-use Rattle.std.specs.List.{AllByRecursion}
 use Rattle.rst_text.specs.Block.{Block, front_text, first_number}
 use Rattle.rst_tree.specs.declared.node.Node.{Node}
 use Rattle.rst_tree.specs.declared.tag.Tag.{Tag}
-use Rattle.rst_tree.specs.declared.tag.Tag.TheVariants.{Attribution as AttributionTag, Title as TitleTag, FieldName, DefinitionListItem, Definition, Field, FieldBody, OptionListItem, Description}
+use Rattle.rst_tree.specs.declared.tag.Tag.TheVariants.{Attribution as AttributionTag, Title as TitleTag, FieldName, DefinitionListItem, Definition, Field, FieldBody}
 use Rattle.rst_markup_blocks.specs.Attributions.{attribution_part}
 use Rattle.rst_markup_blocks.specs.Explicit.{explicit_of}
 use Rattle.rst_markup_blocks.specs.Partition.{Span}
 use Rattle.rst_markup_blocks.specs.declared.attribution.Attribution.{Attribution}
 use Rattle.rst_markup_blocks.specs.declared.forms.Explicit.{Explicit}
 use Rattle.rst_markup_blocks.specs.declared.forms.Explicit.TheVariants.{Footnote, Citation, Target, Anonymous, Substitution, Directive, Comment, EmptyComment}
-use Rattle.rst_markup_blocks.specs.declared.forms.Invocation.{Invocation}
 use Rattle.rst_markup_blocks.specs.declared.part.Part.{Part}
 use Rattle.rst_markup_directives.specs.Argument.{Given, nothing as no_argument, title, uri, language}
 use Rattle.rst_markup_directives.specs.Directive.{Read, Outcome, found, wrong}
 use Rattle.rst_markup_directives.specs.declared.found.Content.{Content}
-use Rattle.rst_markup_directives.specs.declared.found.Place.{Place}
 use Rattle.rst_markup_directives.specs.declared.found.Place.TheVariants.{Top, Body, Substitution as InDefinition}
 use Rattle.rst_markup_directives.specs.declared.name.Name.{Name}
 use Rattle.rst_markup_directives.specs.declared.name.Name.TheVariants.{Figure, Code}
@@ -29,8 +26,8 @@ use Rattle.rst_markup_tables.specs.declared.results.TableResult.TheVariants.{Tab
 use Rattle.rst_block.specs.Constructs.{ItemMark, bullet_item, enumerated_item, definition_item, field_item, option_item, Construct, nothing, block_quote, item_of_list, doctest_block, bar_line, grid, simple, explicit_markup, transition, overlined_title, misplaced_lines, underlined_title, paragraph, Found}
 use Rattle.rst_block_nodes.specs.Options.{directive_element}
 use Rattle.rst_block_sections.specs.Sections.{filled}
-use Rattle.rst_block.specs.Directives.{content_nodes, called, titled_element, right_by, directive_by, definition_by, holding, substitution_by}
-use Rattle.rst_block.specs.Inside.{quoted_by, quoted, part_of_item, content_blocks, directive_content, directive_blocks, definition_content, definition_blocks, substitution_blocks, markup_blocks, opened_by, opened_of, cells_of, cells_by, cells_with}
+use Rattle.rst_block.specs.Directives.{content_nodes, called, titled_element, right_by, directive_by, definition_by, holding}
+use Rattle.rst_block.specs.Inside.{quoted_by, quoted, part_of_item, content_blocks, directive_content, directive_blocks, definition_content, definition_blocks, markup_blocks, opened_by, opened_of, cells_of, cells_by, cells_with}
 use Rattle.rst_block.specs.InsideLaws.{AgreeOn, reading}
 use Rattle.rst_block.specs.LineRuns.{number_or}
 use Rattle.rst_block.specs.Lists.{item_by, item_with}
@@ -40,7 +37,6 @@ use Rattle.rst_block.specs.Numbered.{Numbered, then_read, ◌>>=◌, just, each}
 use Rattle.rst_block.specs.Quotes.{first_attribution, quote_after, quote_node, quotes_by, quotes}
 use Rattle.rst_block.specs.Tables.{entry_of, row_of, table_nodes}
 use Rattle.rst_block.specs.Texts.{joined, lines_in, texted, termed}
-use Rattle.rst_block.specs.Titles.{Item}
 use Rattle.rst_block.specs.Within.{Within, hanging, indented_part}
 use Rattle.rst_block.proofs.NumberedLemmas.{same_after}
 

@@ -1,5 +1,5 @@
 -- What blocks that wait may still take of looks, and have to take.
-use Rattle.std.proofs.Common.{◌≡◌, ℕ, zero, suc, ◌+◌, ◌-◌, ◌*◌, ◌<◌, ◌≤◌, ltb, Bool, true, false, cond, List, [], ◌∷◌, ◌++◌, length, length-drop, map, take, drop, Option, Some, None, arith, refl, ap, sym, ◌∙◌, inl, inr}
+use Rattle.std.proofs.Common.{◌≡◌, ℕ, zero, suc, ◌+◌, ◌-◌, ◌*◌, ◌≤◌, Bool, true, false, cond, List, [], ◌∷◌, ◌++◌, length, length-drop, map, take, drop, Option, Some, None, arith, refl, ap, sym, ◌∙◌, inl, inr}
 use Rattle.std.specs.Prelude.{Box, flat_map, ◌==◌, if◌then◌else◌}
 use Rattle.std.specs.declared.alloc.Global.{Global}
 use Rattle.std.proofs.lemmas.Bool.{cases_lt, lt-ltb, le-ltb}
@@ -7,7 +7,6 @@ use Rattle.std.proofs.lemmas.List.{drop_all, drop-drop}
 use Rattle.rst_text.specs.Block.{Block}
 use Rattle.rst_text.proofs.CutLaws.{take-cut, drop-cut, length-cut}
 use Rattle.rst_markup_blocks.specs.Lines.{lines_while}
-use Rattle.rst_markup_blocks.specs.RowLaws.{while_le}
 use Rattle.rst_markup_blocks.specs.declared.attribution.Attribution.{Attribution}
 use Rattle.rst_markup_blocks.specs.declared.lines.LineTest.TheVariants.{Blank}
 use Rattle.rst_markup_blocks.specs.declared.part.Part.{Part}
@@ -18,7 +17,7 @@ use Rattle.rst_markup_tables.specs.declared.results.TableResult.TheVariants.{Tab
 use Rattle.rst_block_nodes.specs.declared.texted.Texted.{Texted}
 use Rattle.rst_block.specs.Budget.{sum_of, total}
 use Rattle.rst_block.specs.Inside.{quoted_by, quoted, quoted_blocks, cells_of}
-use Rattle.rst_block.specs.Ledger.{total_at, totals, most_from, least_from, goes_on_at, still_before, part_blocks, quotes_left, run_looks, quote_looks, end_looks, next_blocks, next_cells, place_after, most_after, least_after, most_left, least_left, GoesOn, WaitsForOne, AreQuotesPaid, Takes}
+use Rattle.rst_block.specs.Ledger.{total_at, totals, most_from, least_from, goes_on_at, part_blocks, quotes_left, run_looks, quote_looks, end_looks, next_blocks, next_cells, place_after, most_after, least_after, most_left, least_left, GoesOn, WaitsForOne, AreQuotesPaid, Takes}
 use Rattle.rst_block.specs.MeaningLaws.{front_of}
 use Rattle.rst_block.specs.Meanings.{deepest}
 use Rattle.rst_block.specs.Quotes.{first_attribution, quote_after}
