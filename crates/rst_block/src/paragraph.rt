@@ -9,7 +9,9 @@ ghost use Rattle.rst_block.specs.Paragraphs as paragraphs;
 ghost use Rattle.rst_block.specs.Steps as spec;
 ghost use Rattle.rst_markup_blocks.specs.Begun.{IsBegun};
 ghost use Rattle.rst_markup_blocks.specs.declared.begun.Begun.TheVariants.{Doctest};
+ghost use Rattle.rst_block.specs.Ledger.{IsPaid};
 ghost use Rattle.rst_block.specs.Meanings.{Keeps, reads};
+ghost use Rattle.rst_block.specs.declared.step.Step.TheVariants.{Next};
 ghost use Rattle.rst_block.specs.OpenBlocks.{IsKept, IsPlaced, Gives, ReadsNodes, HasMoreAt};
 ghost use Rattle.rst_block.specs.Literals as literals;
 ghost use Rattle.rst_block.specs.ParagraphSteps as parts;
@@ -51,6 +53,7 @@ pub(crate) fn doctest_block(
     ensures later { IfOk result (λ _. level.old.at < level.new.at) }
     ensures kept { IfOk result (λ _. IsKept level.old level.new) }
     ensures read { Keeps result (λ _. reads level.new (block_of view.now) pass.new.numbers) (reads level.old (block_of view.now) pass.old.numbers) }
+    ensures paid { IfOk result (λ _. IsPaid 29 level.old level.new (block_of view.now) Next pass.old.looks pass.new.looks) }
     ensures looks { IfOk result (λ _. pass.new.looks ≤ pass.old.looks + 2 ^ 79) }
 {
     level.close(alloc, view, pass)?;

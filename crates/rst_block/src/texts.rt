@@ -66,6 +66,7 @@ pub(crate) fn joined(
     requires few { looks.old < 2 ^ 120 }
     ensures bytes { IfOk result (λ text. string_bytes text ≡ spec.spelled (block_of view.now)) }
     ensures text { IfOk result (λ text. chars_of text ≡ spec.joined (block_of view.now)) }
+    ensures each { IfOk result (λ _. looks.new ≡ looks.old + length (block_of view.now)) }
     ensures looks { looks.new ≤ looks.old + 2 ^ 64 }
 {
     let mut text = String::with_capacity(alloc, usual_size(view.len()))?;
@@ -90,6 +91,7 @@ pub(crate) fn source(
     requires few { looks.old < 2 ^ 120 }
     ensures bytes { IfOk result (λ text. string_bytes text ≡ spec.source_of (block_of view.now) (record { start = from; stop = to })) }
     ensures text { IfOk result (λ text. chars_of text ≡ spec.joined (slice_range (block_of view.now) from to)) }
+    ensures each { IfOk result (λ _. looks.new ≡ looks.old + length (slice_range (block_of view.now) from to)) }
     ensures looks { looks.new ≤ looks.old + 2 ^ 64 }
 {
     joined(alloc, &lines_between(view, from, to), looks)
