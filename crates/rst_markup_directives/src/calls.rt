@@ -62,6 +62,7 @@ pub fn directive(
     ensures outcome { Gives (λ found. directives.outcome_of found ≡ directives.directive_at true (block_of view.now) at invocation.now place paragraph) result }
     ensures parts { Gives (λ found. spec.IsDirectiveIn (block_of view.now) found) result }
     ensures looks { looks.new ≤ looks.old + 1 + 2 * (invocation.now.block.to - invocation.now.block.from) }
+    ensures low { looks.old + 1 ≤ looks.new }
 {
     let block = invocation.block;
     let name = called(alloc, view, at, invocation, looks)?;
@@ -125,6 +126,7 @@ fn first_run<'a>(
     ensures texts { IfOk result (λ run. texts_of run.items ≡ directives.run_in name late (block_of lines.now)) }
     ensures within { IfOk result (λ run. length run.items ≤ length (block_of lines.now)) }
     ensures looks { looks.new ≤ looks.old + length (block_of lines.now) }
+    ensures low { looks.old ≤ looks.new }
 {
     if late && is_code(name) {
         return Ok(Vec::new(alloc));
@@ -154,6 +156,7 @@ fn read(
     requires few { looks.old < 2 ^ 120 + 1 }
     ensures reading { Gives (λ reading. directives.reading_in reading ≡ directives.read_block name late block (cut (block_of view.now) block.from block.to block.first_cut block.rest_cut)) result }
     ensures looks { looks.new ≤ looks.old + 2 * (block.to - block.from) }
+    ensures low { looks.old ≤ looks.new }
 {
     let lines = lines_of(view, block);
     let run = first_run(alloc, name, late, &lines, looks)?;
