@@ -2,7 +2,8 @@
 use Rattle.std.proofs.Common.{◌≡◌, ℕ, suc, ◌-◌, ◌<◌, ◌≤◌, Bool, true, false, cond, [], ◌∷◌, refl, length, drop, length-drop, arith}
 use Rattle.rst_text.specs.Block.{Block, is_blank}
 use Rattle.rst_text.specs.Reach.{reach, through_text}
-use Rattle.rst_markup_blocks.specs.Sizes.{hanging_size, item_size, least_below}
+use Rattle.rst_markup_blocks.specs.Conditions.{next_text}
+use Rattle.rst_markup_blocks.specs.Sizes.{hanging_size, item_size, least_below, overline_looks}
 use Rattle.rst_markup_blocks.specs.RowLaws.{below_le}
 use Rattle.rst_markup_blocks.proofs.ExplicitLemmas.{hanging_le}
 use Rattle.rst_markup_lines.specs.declared.marker.Marker.{Marker}
@@ -39,3 +40,9 @@ reach_item B i m h =
 pub bare_item : (m : Marker) (X : Block) → m.bare ≡ true → item_size m X ≡ hanging_size X
 unfolding least_below hanging_size
 bare_item m X bare = rw bare refl
+
+-- below the line of a block of one line there is none to look at
+pub no_next : (B : Block) → length B ≤ 1 → overline_looks (next_text B) ≡ 0
+no_next [] few = refl
+no_next (l ∷ []) few = refl
+no_next (l ∷ m ∷ ls) few = absurd (omega arith)

@@ -219,6 +219,7 @@ fn target_of(
     requires few { looks.old < 2 ^ 120 }
     ensures node { blocks.Gives (λ node. node ≡ target_node (option_map (excerpt (front_text (drop at (block_of view.now)))) name) text.now (first_number (drop at (block_of view.now)))) result }
     ensures looks { looks.new ≤ looks.old + 1 }
+    ensures low { looks.old ≤ looks.new }
 {
     let line = number_at(view, at);
     match name {
@@ -289,7 +290,7 @@ fn label_text(
     requires inside { at < length (block_of view.now) }
     requires few { looks.old < 2 ^ 120 }
     ensures text { IfOk result (λ label. string_bytes label ≡ excerpt (front_text (drop at (block_of view.now))) place) }
-    ensures looks { looks.new ≤ looks.old + 1 }
+    ensures looks { looks.new ≡ looks.old + 1 }
 {
     excerpt(alloc, view.line(at, looks), place)
 }

@@ -16,7 +16,7 @@ ghost use Rattle.rst_block.specs.OpenBlocks.{IsKept, IsPlaced, Gives, ReadsNodes
 ghost use Rattle.rst_block.specs.Literals as literals;
 ghost use Rattle.rst_block.specs.ParagraphSteps as parts;
 ghost use Rattle.rst_markup_blocks.specs.Lines.{lines_while};
-ghost use Rattle.rst_markup_blocks.specs.Sizes.{paragraph_size, literal_size};
+ghost use Rattle.rst_markup_blocks.specs.Sizes.{overline_looks, paragraph_size, literal_size};
 ghost use Rattle.rst_markup_blocks.specs.declared.lines.LineTest.TheVariants.{Begins};
 ghost use Rattle.rst_markup_lines.specs.Closing as closing;
 ghost use Rattle.rst_markup_lines.specs.Front.{begins_with, is_loose};
@@ -300,12 +300,15 @@ fn quoted_literal(
     level.push(error)
 }
 
-/// Whether the lines of a block in a block are one paragraph that doesn't vanish, and nothing else.
+/// Whether the lines of a block in a block are one paragraph that doesn't vanish, and nothing else. It makes at most six looks more
+/// than there are lines.
 pub(crate) fn is_single_paragraph(view: &View<'_>, looks: &mut Looks) -> bool
     requires short { length (block_of view.now) < 2 ^ 64 }
     requires few { looks.old < 2 ^ 119 + 2 ^ 116 }
     ensures paragraph { result ≡ paragraphs.is_single_paragraph (block_of view.now) }
     ensures looks { looks.new ≤ looks.old + 2 ^ 66 }
+    ensures most { looks.new ≤ looks.old + length (block_of view.now) + 6 }
+    ensures low { looks.old ≤ looks.new }
 {
     if view.len() == 0 || !begins_paragraph(view, looks) {
         return false;
@@ -330,7 +333,8 @@ fn begins_paragraph(view: &View<'_>, looks: &mut Looks) -> bool
     requires short { length (block_of view.now) < 2 ^ 64 }
     requires few { looks.old < 2 ^ 119 + 2 ^ 117 }
     ensures paragraph { result ≡ paragraphs.begins_paragraph (block_of view.now) }
-    ensures looks { looks.new ≤ looks.old + 2 ^ 64 }
+    ensures looks { looks.new ≤ looks.old + 5 + overline_looks (next_text (block_of view.now)) }
+    ensures low { looks.old ≤ looks.new }
 {
     let text = view.line(0, looks);
     let next = below_text(view, 0, 1, looks);
@@ -348,7 +352,8 @@ fn begins_text(view: &View<'_>, next: &str, looks: &mut Looks) -> bool
     requires next { chars next.now ≡ next_text (block_of view.now) }
     requires few { looks.old < 2 ^ 119 + 2 ^ 118 }
     ensures text { result ≡ paragraphs.begins_text (block_of view.now) }
-    ensures looks { looks.new ≤ looks.old + 2 ^ 63 }
+    ensures looks { looks.new ≤ looks.old + 3 + overline_looks (next_text (block_of view.now)) }
+    ensures low { looks.old ≤ looks.new }
 {
     match begun_at(view, 0, looks) {
         Begun::Text => true,
