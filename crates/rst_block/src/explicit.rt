@@ -83,6 +83,7 @@ fn begin_markup(
     ensures kept { IfOk result (λ _. IsKept level.old level.new) }
     ensures read { Keeps result (λ _. reads_with level.new (block_of view.now) (markup.markup_nodes (within_at level.new.depth) (block_of view.now) (record { start = level.old.at; stop = end })) end pass.new.numbers) (markup_reads level.old (block_of view.now) end pass.old.numbers) }
     ensures looks { pass.new.looks ≤ pass.old.looks + 1 }
+    ensures low { pass.old.looks ≤ pass.new.looks }
 {
     if is_markup(&level.run) {
         level.run = Run::Explicit { end };

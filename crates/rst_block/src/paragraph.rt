@@ -148,6 +148,7 @@ fn put_paragraph(
     ensures at { level.new.at ≡ level.old.at }
     ensures read { Gives (λ _. ReadsNodes (parts.shown_paragraph (chars text.now) level.old.at end (block_of view.now) pass.old.numbers) level.old level.new level.old.at pass.new.numbers) result }
     ensures looks { IfOk result (λ _. pass.new.looks ≤ pass.old.looks + 1) }
+    ensures low { IfOk result (λ _. pass.old.looks ≤ pass.new.looks) }
 {
     put_shown(alloc, view, level, text, pass)?;
     if is_blank(text_at(view, end, &mut pass.looks)) {
