@@ -65,6 +65,8 @@ pub(crate) fn directive_at(
     ensures parts { IfOk result (IsDirectiveIn (block_of view.now)) }
     ensures numbers { pass.new.numbers ≡ pass.old.numbers }
     ensures looks { IfOk result (λ _. pass.new.looks ≤ pass.old.looks + 2 ^ 72) }
+    ensures most { IfOk result (λ _. pass.new.looks ≤ pass.old.looks + 9 + 2 * (invocation.now.block.to - invocation.now.block.from)) }
+    ensures low { IfOk result (λ _. pass.old.looks + 2 ≤ pass.new.looks) }
 {
     let name = called(alloc, view, at, invocation, &mut pass.looks)?;
     let paragraph = is_paragraph(name, view, invocation, &mut pass.looks);
