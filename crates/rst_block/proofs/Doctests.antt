@@ -1,8 +1,6 @@
 -- Doctest blocks.
-use Rattle.std.proofs.Common.{◌≡◌, ℕ, ◌+◌, ◌-◌, ◌*◌, ◌≤◌, List, length, drop, arith, refl, ◌∙◌, ap}
-use Rattle.std.specs.Prelude.{slice_range}
+use Rattle.std.proofs.Common.{◌≡◌, ℕ, ◌+◌, List, drop, refl, sym, ◌∙◌, ap}
 use Rattle.rst_text.specs.Block.{Block, first_number}
-use Rattle.rst_text.specs.Reach.{reach}
 use Rattle.rst_tree.specs.declared.node.Node.{Node}
 use Rattle.rst_tree.specs.declared.tag.Tag.TheVariants.{DoctestBlock}
 use Rattle.rst_markup_blocks.specs.Lines.{lines_while}
@@ -12,7 +10,6 @@ use Rattle.rst_block_nodes.specs.Elements.{preserved_node}
 use Rattle.rst_block.specs.Literals.{doctest_node}
 use Rattle.rst_block.specs.Texts.{source_of}
 use Rattle.rst_block.proofs.NextLines.{span_to}
-use Rattle.rst_block.proofs.PartFacts.{take_le}
 
 -- a doctest block ends before the first blank line
 pub doctest_end : (B : Block) (i at stop : ℕ) → i ≡ at → stop ≡ i + lines_while Filled (drop i B) → stop ≡ at + doctest_size (drop at B)
@@ -22,14 +19,3 @@ doctest_end B i at stop e h = h ∙ ap (λ k. k + lines_while Filled (drop k B))
 pub doctest_is : (B : Block) (i at stop line : ℕ) (text : List ℕ) (node : Node) → i ≡ at → node ≡ preserved_node DoctestBlock line text → line ≡ first_number (drop i B) → text ≡ source_of B (span_to i stop)
     → node ≡ doctest_node B (span_to at stop)
 doctest_is B i at stop line text node e n l t = rw (n, l, t, e) refl
-
--- the looks at a doctest block: at each of its lines, and at the line after it, and then at its lines again
-pub doctest_looks : (B : Block) (i at stop before closed end after run : ℕ) → i ≡ at → stop ≡ i + lines_while Filled (drop i B) → before ≤ closed → closed ≤ before + run
-    → end ≤ closed + reach (lines_while Filled (drop i B)) (drop i B) → closed + lines_while Filled (drop i B) ≤ end → after ≡ end + length (slice_range B i stop)
-    → (after ≤ before + run + 29 * reach (doctest_size (drop at B)) (drop at B)) × (before + doctest_size (drop at B) ≤ after)
-unfolding doctest_size
-doctest_looks B i at stop before closed end after run e s low high most least again =
-    let few = (take_le (stop - i) (drop i B)).0 in
-    let size : lines_while Filled (drop i B) ≡ lines_while Filled (drop at B) = ap (λ k. lines_while Filled (drop k B)) e in
-    let far : reach (lines_while Filled (drop i B)) (drop i B) ≡ reach (lines_while Filled (drop at B)) (drop at B) = ap (λ k. reach (lines_while Filled (drop k B)) (drop k B)) e in
-    (omega (arith, high, most, again, few, s, size, far), omega (arith, low, least, again, size))

@@ -321,7 +321,7 @@ reached (k ∷ ks) more X w h = by (row_holds k X) h (reached ks more X w.1)
     by false h others = others h
 
 -- an anonymous target doesn't begin with dots
-pub no_dots : (X : Block) → kind_at X ≡ kinds.Anonymous → dots (front_text X) ≡ None
+no_dots : (X : Block) → kind_at X ≡ kinds.Anonymous → dots (front_text X) ≡ None
 unfolding kind_at first_kind
 no_dots X h =
     by (dots (front_text X)) refl (reached (take 10 all_kinds) (drop 10 all_kinds) X (refl, (refl, (refl, (refl, (refl, (refl, (refl, (refl, (refl, (refl, tt)))))))))) h)

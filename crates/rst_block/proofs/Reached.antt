@@ -1,9 +1,8 @@
 -- Few lines are looked at: no more than a block has.
-use Rattle.std.proofs.Common.{◌≡◌, ℕ, suc, ◌-◌, ◌<◌, ◌≤◌, Bool, true, false, cond, [], ◌∷◌, refl, length, drop, length-drop, arith}
+use Rattle.std.proofs.Common.{◌≡◌, ℕ, suc, ◌-◌, ◌<◌, ◌≤◌, Bool, true, false, cond, [], ◌∷◌, length, drop, length-drop, arith}
 use Rattle.rst_text.specs.Block.{Block, is_blank}
 use Rattle.rst_text.specs.Reach.{reach, through_text}
-use Rattle.rst_markup_blocks.specs.Conditions.{next_text}
-use Rattle.rst_markup_blocks.specs.Sizes.{hanging_size, item_size, least_below, overline_looks}
+use Rattle.rst_markup_blocks.specs.Sizes.{hanging_size, item_size, least_below}
 use Rattle.rst_markup_blocks.specs.RowLaws.{below_le}
 use Rattle.rst_markup_blocks.proofs.ExplicitLemmas.{hanging_le}
 use Rattle.rst_markup_lines.specs.declared.marker.Marker.{Marker}
@@ -35,14 +34,3 @@ reach_item B i m h =
     let w = below_le (least_below m) X (omega (arith, n)) in
     let r = reach_le (item_size m X) X w in
     omega (arith, n, r)
-
--- an item whose marker is bare has the lines of a hanging block
-pub bare_item : (m : Marker) (X : Block) → m.bare ≡ true → item_size m X ≡ hanging_size X
-unfolding least_below hanging_size
-bare_item m X bare = rw bare refl
-
--- below the line of a block of one line there is none to look at
-pub no_next : (B : Block) → length B ≤ 1 → overline_looks (next_text B) ≡ 0
-no_next [] few = refl
-no_next (l ∷ []) few = refl
-no_next (l ∷ m ∷ ls) few = absurd (omega arith)

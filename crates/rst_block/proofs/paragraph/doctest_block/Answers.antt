@@ -1,4 +1,4 @@
-use Rattle.std.proofs.Common.{◌≡◌, ◌+◌, [], ◌∷◌, drop, arith, rules, refl, sym, ◌∙◌}
+use Rattle.std.proofs.Common.{◌≡◌, ℕ, ◌+◌, ◌<◌, ◌≤◌, List, [], ◌∷◌, drop, length-drop, arith, rules, refl, sym, ◌∙◌}
 use Rattle.std.specs.Prelude.{◌==◌}
 use Rattle.rst_text.specs.Block.{Block}
 use Rattle.rst_text.specs.Shown.{block_of}
@@ -8,9 +8,9 @@ use Rattle.rst_block.specs.Constructs.{Found, doctest_block}
 use Rattle.rst_block.specs.Literals.{doctest_node}
 use Rattle.rst_block.specs.OpenBlocks.{HasMore}
 use Rattle.rst_block.specs.RestLaws.{found_as}
+use Rattle.rst_block.proofs.Changes.{placed_closed}
 use Rattle.rst_block.proofs.NextLines.{span_to, begun_within, begun_reads, alone_refused, alone_gone, close_refuses, gives_keeps, gives_kept, gone_kept}
-use Rattle.rst_block.proofs.Doctests.{doctest_end, doctest_is, doctest_looks}
-use Rattle.rst_block.proofs.PaidSteps.{paid_alone}
+use Rattle.rst_block.proofs.Doctests.{doctest_end, doctest_is}
 use Rattle.rst_block.proofs.paragraph.doctest_block.Goals as goal
 
 pub returns-in_err-close-clause-read : goal.returns-in_err-close-clause-read
@@ -39,15 +39,3 @@ returns-clause-read c =
     (λ _ h. alone_gone l c.close.new.self c.go_to.new.self c.push.new.self B (found_as doctest_block (span_to l.at (l.at + doctest_size (drop l.at B)))) (c.in_ok-node.node ∷ []) (c.in_ok-node.node ∷ []) _ _ _ tt
     c.in_ok-close.ensures.closed c.requires.placed (rw (node, stop) refl) refl c.go_to.ensures.moved (goes ∙ stop) h
     ∙ sym (begun_reads Doctest l B _ c.requires.begun tt))
-
-pub returns-clause-paid : goal.returns-clause-paid
-returns-clause-paid c =
-    let B : Block = block_of c.args.view.now in
-    let l = c.args.level.now in
-    let at : c.close.new.self.at ≡ l.at = c.close.ensures.at in
-    let stop : c.lines_end-end.result ≡ l.at + doctest_size (drop l.at B) = doctest_end B c.close.new.self.at l.at c.lines_end-end.result at c.lines_end-end.ensures.end in
-    let goes : c.go_to.new.self.at ≡ c.lines_end-end.result = c.go_to.ensures.there (omega (arith, stop, at, (begun_within Doctest (l.depth == 0) B l.at c.requires.begun c.requires.inside).0)) in
-    let looks = doctest_looks B c.close.new.self.at l.at c.lines_end-end.result _ _ _ _ _ at c.lines_end-end.ensures.end c.close.ensures.low c.close.ensures.run c.lines_end-end.ensures.looks c.lines_end-end.ensures.low c.in_ok-text.ensures.each in
-    gives_kept c.push.result (λ _. HasMore c.go_to.new.self c.push.new.self (c.in_ok-node.node ∷ [])) _ c.push.ensures.more
-    (λ _ h. paid_alone 29 Doctest l c.close.new.self c.go_to.new.self c.push.new.self B _ _ (c.in_ok-node.node ∷ []) _ _ c.requires.begun tt refl refl
-    c.in_ok-close.ensures.closed c.go_to.ensures.moved (goes ∙ stop) h looks.0 looks.1)
