@@ -63,7 +63,7 @@ pub titled_comes : (old new : OpenBlock) (B : Block) (read : Read) (lines : Bloc
 titled_comes old new B read lines end n m line at node s h l e a moved =
     let c = within_at old.depth in
     ap (λ s. comes new B s m) e
-    ∙ content_comes old new B (Element node) read.content (λ ns. filled node ns ∷ []) end m moved a (λ ns. refl)
+    ∙ content_comes B (Element node) read.content (λ ns. filled node ns ∷ []) m moved a (λ ns. refl)
     ∙ ap (then_read (λ ns. reads_from old B ns end))
     (sym (titled_then (texted TitleTag (number_or line lines) (joined lines) (number_or line lines) n) (titled_element read.name (directive_element read.name read.options line)) (content_nodes c B read.content) node m h))
     ∙ ap (λ k. reads_with old B (titled_nodes c B k read lines) end n) l
@@ -74,7 +74,7 @@ pub plain_comes : (old new : OpenBlock) (B : Block) (read : Read) (end n line at
 plain_comes old new B read end n line at node slice s h o l e a moved =
     let c = within_at old.depth in
     ap (λ s. comes new B s n) e
-    ∙ content_comes old new B (Element node) read.content (λ ns. filled node ns ∷ []) end n moved a (λ ns. refl)
+    ∙ content_comes B (Element node) read.content (λ ns. filled node ns ∷ []) n moved a (λ ns. refl)
     ∙ ap (λ x. reads_with old B (made_of c B read.content (λ ns. filled x ns ∷ [])) end n) (h ∙ ap (λ os. directive_element read.name os line) o ∙ ap (directive_element read.name read.options) l)
 
 -- ---- elements

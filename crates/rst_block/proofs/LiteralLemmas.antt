@@ -1,4 +1,4 @@
--- Literal blocks and the paragraphs that announce them.
+-- Literal blocks and the paragraphs that announce them, and doctest blocks.
 use Rattle.std.proofs.Common.{◌≡◌, ℕ, zero, suc, ◌+◌, ◌-◌, ◌<◌, ◌≤◌, ◌==◌, ◌⊎◌, inl, inr, Bool, true, false, List, [], ◌∷◌, ◌++◌, length, length-append, length-drop, get_or, take, drop, None, Some, refl, sym, ap, ◌∙◌, arith, lt-ltb, le-ltb, le-leb, drop-drop, get_or-append-add}
 use Rattle.std.specs.Prelude.{codes, if◌then◌else◌}
 use Rattle.std.proofs.lemmas.Bool.{eqb-true}
@@ -6,19 +6,20 @@ use Rattle.std.proofs.lemmas.List.{drop_all}
 use Rattle.rst_text.specs.Block.{Block, front_text, first_number, indentation, is_blank}
 use Rattle.rst_text.specs.Extent.{extent, past_blank}
 use Rattle.rst_tree.specs.declared.node.Node.{Node}
-use Rattle.rst_tree.specs.declared.tag.Tag.TheVariants.{LiteralBlock}
+use Rattle.rst_tree.specs.declared.tag.Tag.TheVariants.{LiteralBlock, DoctestBlock}
 use Rattle.rst_inline_scan.specs.Escapes.{is_escaped}
 use Rattle.rst_markup_lines.specs.Adornment.{is_punctuation}
 use Rattle.rst_markup_lines.specs.Closing.{ends_in_colons}
 use Rattle.rst_markup_lines.specs.Front.{first, begins_with}
 use Rattle.rst_markup_blocks.specs.Lines.{lines_while}
-use Rattle.rst_markup_blocks.specs.Sizes.{quoted_size, quoted_by, literal_size}
-use Rattle.rst_markup_blocks.specs.declared.lines.LineTest.TheVariants.{Blank, Begins}
+use Rattle.rst_markup_blocks.specs.Sizes.{quoted_size, quoted_by, literal_size, doctest_size}
+use Rattle.rst_markup_blocks.specs.declared.lines.LineTest.TheVariants.{Blank, Begins, Filled}
 use Rattle.rst_block_nodes.specs.Elements.{preserved_node}
-use Rattle.rst_block.specs.Literals.{quoting_text, literal_node, indented_literal, quoted_literal, no_literal, literal_by, literal_nodes}
+use Rattle.rst_block.specs.Literals.{quoting_text, literal_node, indented_literal, quoted_literal, no_literal, literal_by, literal_nodes, doctest_node}
 use Rattle.rst_block.specs.Texts.{joined, lines_in, said, source_of, spelled, unless_blank, warned}
 use Rattle.rst_tree.specs.declared.note.Level.TheVariants.{Warning, Error}
 use Rattle.rst_block.specs.Within.{indented_part}
+use Rattle.rst_block.proofs.NextConstructs.{span_to}
 
 -- ---- how many lines a literal block has
 
@@ -137,13 +138,6 @@ begins_first (d ∷ ds) c h = ap Some (eqb-true d c h)
 other_first : (t : List ℕ) (c : ℕ) → begins_with 32 t ≡ false → first t ≡ Some c → (c == 32) ≡ false
 other_first [] c h f = cc
 other_first (d ∷ ds) c h f = let same : d ≡ c = cc in ap (λ x. x == 32) (sym same) ∙ h
-
-pub first_begins : (t : List ℕ) (c : ℕ) → first t ≡ Some c → begins_with c t ≡ true
-first_begins [] c f = cc
-first_begins (d ∷ ds) c f = let same : d ≡ c = cc in ap (λ x. d == x) (sym same) ∙ by d
-  where
-    by : (d : ℕ) → (d == d) ≡ true
-    by d = grind arith
 
 pub nodes_indented : (last : ℕ) (Y : Block) → begins_with 32 (front_text (behind_blanks Y)) ≡ true → literal_nodes last Y ≡ indented_literal (behind_blanks Y)
 nodes_indented last Y h = ap (λ o. literal_by o last (behind_blanks Y)) (begins_first (front_text (behind_blanks Y)) 32 h)
@@ -355,3 +349,14 @@ none_here B i j last e f =
       ap (no_literal last) (sym same) ∙ sym (nodes_none last (drop i B) front),
       omega (arith, size_none (drop i B) front),
     )
+
+-- ---- doctest blocks
+
+-- a doctest block ends before the first blank line
+pub doctest_end : (B : Block) (i at stop : ℕ) → i ≡ at → stop ≡ i + lines_while Filled (drop i B) → stop ≡ at + doctest_size (drop at B)
+unfolding doctest_size
+doctest_end B i at stop e h = h ∙ ap (λ k. k + lines_while Filled (drop k B)) e
+
+pub doctest_is : (B : Block) (i at stop line : ℕ) (text : List ℕ) (node : Node) → i ≡ at → node ≡ preserved_node DoctestBlock line text → line ≡ first_number (drop i B) → text ≡ source_of B (span_to i stop)
+    → node ≡ doctest_node B (span_to at stop)
+doctest_is B i at stop line text node e n l t = rw (n, l, t, e) refl

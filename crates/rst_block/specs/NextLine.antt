@@ -12,18 +12,16 @@ use Rattle.rst_markup_tables.specs.declared.results.TableResult.{TableResult}
 use Rattle.rst_block.specs.Constructs.{Construct, construct_at, text_after}
 use Rattle.rst_block.specs.declared.open_block.OpenBlock.{OpenBlock}
 
--- a text, after these messages that say why it is one: its line isn't blank, and its construct is that of the text, of as many lines
-pub record IsText (l : OpenBlock) (B : Block) (infos : List Node) : Type 0 where
-  pub filled : IsTextAt B l.at
-  pub construct : construct_at (l.depth == 0) (drop l.at B) ≡ text_after (l.depth == 0) infos (drop l.at B)
-  pub size : construct_size (l.depth == 0) (drop l.at B) ≡ text_size (drop l.at B)
-
--- a grid table or a simple table, of which this is found
-abbrev pub IsTableAt : Block → ℕ → TableResult → Type 0
-IsTableAt B i found = (IsBegun (drop i B) Grid × (found ≡ grid_table B i)) ⊎ (IsBegun (drop i B) Simple × (found ≡ simple_table B i))
-
 -- a construct of so many lines
 pub record IsNextConstruct (l : OpenBlock) (B : Block) (what : Construct) (lines : ℕ) : Type 0 where
   pub filled : IsTextAt B l.at
   pub construct : construct_at (l.depth == 0) (drop l.at B) ≡ what
   pub size : construct_size (l.depth == 0) (drop l.at B) ≡ lines
+
+-- a text, after these messages that say why it is one
+abbrev pub IsText : OpenBlock → Block → List Node → Type 0
+IsText l B infos = IsNextConstruct l B (text_after (l.depth == 0) infos (drop l.at B)) (text_size (drop l.at B))
+
+-- a grid table or a simple table, of which this is found
+abbrev pub IsTableAt : Block → ℕ → TableResult → Type 0
+IsTableAt B i found = (IsBegun (drop i B) Grid × (found ≡ grid_table B i)) ⊎ (IsBegun (drop i B) Simple × (found ≡ simple_table B i))

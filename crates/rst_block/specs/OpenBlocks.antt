@@ -39,13 +39,17 @@ pub record HasRun (old new : OpenBlock) (o : OpenRun) : Type 0 where
   pub headings : new.headings.items ≡ old.headings.items
   pub run : open_of new.run ≡ o
 
--- more nodes come after the last, and nothing else changes
-pub record HasMore (old new : OpenBlock) (more : List Node) : Type 0 where
+-- more nodes come after the last, and the block goes on at a place; nothing else changes
+pub record HasMoreAt (old new : OpenBlock) (more : List Node) (place : ℕ) : Type 0 where
   pub depth : new.depth ≡ old.depth
-  pub at : new.at ≡ old.at
+  pub at : new.at ≡ place
   pub nodes : new.nodes.items ≡ old.nodes.items ++ more
   pub headings : new.headings.items ≡ old.headings.items
   pub run : new.run ≡ old.run
+
+-- more nodes come after the last, and nothing else changes
+abbrev pub HasMore : OpenBlock → OpenBlock → List Node → Type 0
+HasMore old new more = HasMoreAt old new more old.at
 
 -- an item comes after the last of an open list; where no list is open, it comes after the last node
 abbrev pub HasItemIn : OpenRun → OpenBlock → OpenBlock → Node → Type 0
@@ -118,14 +122,6 @@ pub record IsKept (old new : OpenBlock) : Type 0 where
   pub placed : IsPlaced new
 
 -- ---- a block that goes on
-
--- more nodes come after the last, and the block goes on at a place; nothing else changes
-pub record HasMoreAt (old new : OpenBlock) (more : List Node) (place : ℕ) : Type 0 where
-  pub depth : new.depth ≡ old.depth
-  pub at : new.at ≡ place
-  pub nodes : new.nodes.items ≡ old.nodes.items ++ more
-  pub headings : new.headings.items ≡ old.headings.items
-  pub run : new.run ≡ old.run
 
 -- What is read are nodes, and then the next message on a text has this number. The nodes come after the last, and the block goes on at a place.
 pub record ReadsNodes (read : Result (List Node × ℕ) ℕ) (old new : OpenBlock) (place next : ℕ) : Type 0 where

@@ -9,9 +9,9 @@ use Rattle.rst_block.specs.MarkupSteps.{read_of, reads_with}
 use Rattle.rst_block.specs.Meanings.{within_at}
 use Rattle.rst_block.specs.Numbered.{Numbered, just}
 use Rattle.rst_block.specs.Texts.{source_of}
+use Rattle.rst_block.proofs.Calls.{keeps_as}
 use Rattle.rst_block.proofs.DirectiveReads.{code_by, plain_by, plain_comes}
-use Rattle.rst_block.proofs.MarkupReads.{keeps_same}
-use Rattle.rst_block.proofs.NextLines.{span_to}
+use Rattle.rst_block.proofs.NextConstructs.{span_to}
 use Rattle.rst_block.proofs.directive.plain_block.Goals as goal
 
 pub returns-then-is_code-clause-read : goal.returns-then-is_code-clause-read
@@ -22,7 +22,7 @@ returns-then-is_code-clause-read c =
     let n = c.args.pass.now.numbers in
     let line = first_number (drop l.at B) in
     let lines = source_of B (span_to l.at f.end) in
-    keeps_same c.code_nodes.result _ (reads_with l B (just (code_nodes B line (read_of f) None)) f.end n) (reads_with l B (right_by nothing f.name (within_at l.depth) B line (read_of f) lines) f.end n)
+    keeps_as c.code_nodes.result _ _ _
     (ap (λ (read : Numbered (List Node)). reads_with l B read f.end n) (code_by f.name c.is_code.result (within_at l.depth) B line (read_of f) lines c.is_code.ensures c.if-is_code.true))
     c.code_nodes.ensures.read
 

@@ -33,4 +33,4 @@ returns-clause-line c =
         ap (λ (m : OpenBlock). m.at) w.level-is,
       )
     ] in
-    (line_gone l c.match-level.level c.go_to.new.self _ put.0 c.go_to.ensures.moved, λ later. c.go_to.ensures.there (omega (arith, put.1, later)))
+    (line_gone put.0 c.go_to.ensures.moved, λ later. c.go_to.ensures.there (omega (arith, put.1, later)))
