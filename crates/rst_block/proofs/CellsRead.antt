@@ -13,11 +13,10 @@ use Rattle.rst_block_nodes.specs.Elements.{element_of, entry_node}
 use Rattle.rst_block_sections.specs.Sections.{filled}
 use Rattle.rst_block.specs.Constructs.{grid}
 use Rattle.rst_block.specs.Joins.{alone_ending}
-use Rattle.rst_block.specs.Meanings.{Keeps, comes, deepest, done_of, open_of, reads, reads_from, text_items, text_with, within_at}
+use Rattle.rst_block.specs.Meanings.{Keeps, comes, deepest, done_of, reads, reads_from, text_items, text_with, within_at}
 use Rattle.rst_block.specs.Nodes.{below_last_level, block_items, ending_notes, inner_nodes, nodes_among}
 use Rattle.rst_block.specs.Numbered.{Numbered, then_read, ◌>>=◌, just, each}
 use Rattle.rst_block.specs.OpenBlocks.{IsMoved, HasMore, IsPlaced}
-use Rattle.rst_block.specs.Rest.{rest}
 use Rattle.rst_block.specs.Tables.{entry_of, row_of, table_node}
 use Rattle.rst_block.specs.Titles.{Item, plain}
 use Rattle.rst_block.specs.declared.fault.BlockFault.{BlockFault}

@@ -8,7 +8,7 @@ use Rattle.rst_block_sections.specs.declared.heading.Heading.{Heading}
 use Rattle.rst_block.specs.Meanings.{open_of, within_at, done_of, reads, reads_from, with_item}
 use Rattle.rst_block.specs.Numbered.{before}
 use Rattle.rst_block.specs.OpenBlocks.{IsMoved, HasRun, HasMoreAt, HasMore, IsClosed, HasItemIn, HasItem, HasTitle, placed_after, AreWithin, IsPlaced, IsKept}
-use Rattle.rst_block.specs.Rest.{OpenRun, no_run, open_list, open_lines, open_markup, with_items, rest}
+use Rattle.rst_block.specs.Rest.{OpenRun, no_run, open_list, open_lines, open_markup, rest}
 use Rattle.rst_block.specs.Titles.{Item, plain, titled}
 use Rattle.rst_block.specs.declared.open_block.OpenBlock.{OpenBlock}
 

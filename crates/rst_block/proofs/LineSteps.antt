@@ -1,5 +1,5 @@
 -- A line of a line block at the next line of a block: it joins the open line block, or begins one.
-use Rattle.std.proofs.Common.{◌≡◌, ℕ, suc, ◌+◌, ◌-◌, ◌<◌, ◌≤◌, Bool, true, false, List, [], ◌∷◌, ◌++◌, length, length-drop, take, drop, Some, None, unwrap_or, Result, Err, arith, refl, sym, ◌∙◌, ap, subst, append_assoc, string_bytes, encode_utf8_all, IsUtf8, chars}
+use Rattle.std.proofs.Common.{◌≡◌, ℕ, ◌+◌, ◌-◌, ◌<◌, ◌≤◌, Bool, true, false, List, [], ◌∷◌, ◌++◌, length, length-drop, take, drop, Some, None, unwrap_or, Err, arith, refl, sym, ◌∙◌, ap, append_assoc, string_bytes, encode_utf8_all, IsUtf8, chars}
 use Rattle.std.specs.Prelude.{if◌then◌else◌, box_value}
 use Rattle.std.specs.declared.string.String.{String}
 use Rattle.std.proofs.lemmas.Str.{chars-append, chars_from_encodes, encode_ascii}
@@ -13,11 +13,11 @@ use Rattle.rst_block.specs.Constructs.{bar_line, Found}
 use Rattle.rst_block.specs.Joins.{lines_from, joining_after}
 use Rattle.rst_block.specs.LineRuns.{below_bar, bar_lines, number_or, indentation_of, indented_line, indented_lines}
 use Rattle.rst_block.specs.LinesSoFar.{HasLine, line_added, lines_end_at, text_over}
-use Rattle.rst_block.specs.Meanings.{deepest, joining_in, open_of, within_at, done_of, reads}
+use Rattle.rst_block.specs.Meanings.{joining_in, open_of, within_at, done_of, reads}
 use Rattle.rst_block.specs.NextLine.{IsNextConstruct}
 use Rattle.rst_block.specs.Numbered.{Numbered, ◌>>=◌, before}
 use Rattle.rst_block.specs.OpenBlocks.{IsMoved, HasRun, IsPlaced, IsKept}
-use Rattle.rst_block.specs.Rest.{OpenRun, no_run, open_list, open_lines, open_markup, closed_run, joining_with, last_indent, rest, rest_with}
+use Rattle.rst_block.specs.Rest.{OpenRun, no_run, open_list, open_lines, open_markup, joining_with, last_indent, rest, rest_with}
 use Rattle.rst_block.specs.RestLaws.{found_as}
 use Rattle.rst_block.specs.Texts.{joined}
 use Rattle.rst_block.specs.Titles.{Item}

@@ -1,5 +1,5 @@
 -- Items of lists: where an item ends, which list it joins, and what the block gives where it joins the open list or begins one.
-use Rattle.std.proofs.Common.{◌≡◌, ℕ, suc, ◌+◌, ◌-◌, ◌<◌, Bool, true, false, List, [], ◌∷◌, ◌++◌, length, drop, Option, Some, None, Result, Ok, Err, arith, refl, sym, ◌∙◌, ap, subst, append-nil, ne_eqb, eq-eqb, inl, inr}
+use Rattle.std.proofs.Common.{◌≡◌, ℕ, ◌+◌, ◌<◌, Bool, true, false, List, [], ◌∷◌, ◌++◌, length, drop, Option, Some, None, Result, Ok, Err, arith, refl, sym, ◌∙◌, ap, subst, append-nil, ne_eqb, eq-eqb, inl, inr}
 use Rattle.std.specs.Prelude.{◌⊎◌, ◌||◌, if◌then◌else◌, slice_range}
 use Rattle.std.specs.Option.{option_and_then, option_map_or}
 use Rattle.std.proofs.lemmas.List.{drop-drop}
@@ -40,7 +40,7 @@ use Rattle.rst_block.specs.declared.fault.BlockFault.TheVariants.{TooDeep, NoMem
 use Rattle.rst_block.specs.declared.open_block.OpenBlock.{OpenBlock}
 use Rattle.rst_block.specs.declared.resume.Waits.TheVariants.{ListItem as InItem}
 use Rattle.rst_block.specs.declared.run.ListKind.{ListKind}
-use Rattle.rst_block.specs.declared.run.ListKind.TheVariants.{Bullet, Enumerated, Definition, Field, OptionItem}
+use Rattle.rst_block.specs.declared.run.ListKind.TheVariants.{Bullet, Definition, Field, OptionItem}
 use Rattle.rst_block.specs.declared.run.Run.{Run}
 use Rattle.rst_block.specs.declared.run.Run.TheVariants.{None as NoRun, List as ListRun, Lines, Explicit}
 use Rattle.rst_block.specs.declared.step.Step.{Step}

@@ -1,5 +1,5 @@
 -- What a block gives once explicit markup in it is read.
-use Rattle.std.proofs.Common.{◌≡◌, ℕ, suc, ◌+◌, ◌-◌, ◌<◌, ◌≤◌, Bool, true, false, cond, length, length-drop, List, [], ◌∷◌, ◌++◌, take, drop, map, Option, Some, None, Result, Ok, Err, arith, refl, sym, ◌∙◌, ap, subst, append_assoc}
+use Rattle.std.proofs.Common.{◌≡◌, ℕ, ◌+◌, ◌<◌, ◌≤◌, Bool, true, false, length, length-drop, List, [], ◌∷◌, ◌++◌, drop, map, Option, Some, None, Result, Ok, Err, arith, refl, sym, ◌∙◌, ap, append_assoc}
 use Rattle.std.specs.Prelude.{box_value, is_some, ◌&&◌, if◌then◌else◌}
 use Rattle.std.proofs.lemmas.Bool.{eqb-true}
 use Rattle.rst_text.specs.Block.{Block, front_text}

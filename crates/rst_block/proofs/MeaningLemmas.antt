@@ -1,5 +1,5 @@
 -- The meaning of the machine's state: where blocks begin, wait and end.
-use Rattle.std.proofs.Common.{◌≡◌, ℕ, suc, ◌-◌, ◌≤◌, Bool, true, false, List, [], ◌∷◌, ◌++◌, Option, Some, None, Ok, Err, arith, refl, sym, ◌∙◌, ap, ne_eqb, inl, inr}
+use Rattle.std.proofs.Common.{◌≡◌, ℕ, suc, ◌-◌, ◌≤◌, Bool, true, false, List, [], ◌∷◌, ◌++◌, None, Err, arith, refl, sym, ◌∙◌, ap, ne_eqb}
 use Rattle.std.specs.Prelude.{◌==◌}
 use Rattle.rst_text.specs.Block.{Block}
 use Rattle.rst_text.specs.Shown.{placement_block}
@@ -10,7 +10,7 @@ use Rattle.rst_markup_blocks.specs.declared.part.Part.{Part}
 use Rattle.rst_block_nodes.specs.Elements.{element_of}
 use Rattle.rst_block.specs.Lists.{item_with, list_item}
 use Rattle.rst_block.specs.Meanings.{IsNew, open_of, deepest, within_at, done_of, reads, with_item, resumed, after, plug, comes}
-use Rattle.rst_block.specs.Nodes.{block_items, inner_nodes, below_last_level, nodes_among}
+use Rattle.rst_block.specs.Nodes.{block_items, inner_nodes, nodes_among}
 use Rattle.rst_block.specs.Numbered.{Numbered, then_read, ◌>>=◌, just, before}
 use Rattle.rst_block.specs.Rest.{ListSoFar, open_list, with_items, rest}
 use Rattle.rst_block.specs.Texts.{lines_in}

@@ -1,5 +1,5 @@
 -- A table at the next line of a block: its cells are read next, or it is malformed and its message takes its place.
-use Rattle.std.proofs.Common.{◌≡◌, ℕ, suc, ◌+◌, ◌-◌, ◌<◌, ◌≤◌, List, ◌∷◌, ◌++◌, length, take, drop, map, Option, Some, None, arith, refl, sym, ◌∙◌, ap, inl, inr}
+use Rattle.std.proofs.Common.{◌≡◌, ℕ, ◌+◌, ◌<◌, ◌≤◌, List, ◌∷◌, ◌++◌, length, take, drop, map, Option, Some, None, arith, refl, sym, ◌∙◌, ap, inl, inr}
 use Rattle.std.proofs.lemmas.List.{map-append}
 use Rattle.rst_text.specs.Block.{Block, first_number}
 use Rattle.rst_tree.specs.declared.node.Node.{Node}
@@ -25,12 +25,12 @@ use Rattle.rst_markup_tables.proofs.RowLemmas.{dashes-length}
 use Rattle.rst_markup_tables.proofs.TilingLemmas.{grid_table-is}
 use Rattle.rst_block.specs.Constructs.{Construct, grid, simple}
 use Rattle.rst_block.specs.Joins.{alone_ending}
-use Rattle.rst_block.specs.Meanings.{deepest, open_of, within_at, done_of, reads, reads_from, comes}
+use Rattle.rst_block.specs.Meanings.{within_at, done_of, reads, reads_from, comes}
 use Rattle.rst_block.specs.NextLine.{IsNextConstruct, IsTableAt}
 use Rattle.rst_block.specs.Nodes.{piece_of, plainly, ending_notes}
 use Rattle.rst_block.specs.Numbered.{Numbered, then_read, ◌>>=◌, just, before}
-use Rattle.rst_block.specs.OpenBlocks.{IsMoved, HasMore, IsClosed, IsPlaced}
-use Rattle.rst_block.specs.Rest.{no_run, closed_run, rest}
+use Rattle.rst_block.specs.OpenBlocks.{IsMoved, HasMore}
+use Rattle.rst_block.specs.Rest.{no_run, rest}
 use Rattle.rst_block.specs.RestLaws.{IsAlone}
 use Rattle.rst_block.specs.Steps.{IsStep}
 use Rattle.rst_block.specs.Tables.{table_nodes}

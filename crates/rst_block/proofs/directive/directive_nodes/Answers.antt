@@ -1,13 +1,12 @@
-use Rattle.std.proofs.Common.{List, Some, drop, ap}
+use Rattle.std.proofs.Common.{List, drop, ap}
 use Rattle.std.proofs.lemmas.Str.{encodes-chars}
 use Rattle.rst_text.specs.Block.{first_number}
 use Rattle.rst_text.specs.Shown.{block_of}
 use Rattle.rst_tree.specs.declared.node.Node.{Node}
 use Rattle.rst_markup_directives.specs.Argument.{given_in}
-use Rattle.rst_block.specs.Directives.{code_nodes, right_by}
 use Rattle.rst_block.specs.MarkupSteps.{read_of, reads_with}
 use Rattle.rst_block.specs.Meanings.{within_at}
-use Rattle.rst_block.specs.Numbered.{Numbered, just}
+use Rattle.rst_block.specs.Numbered.{Numbered}
 use Rattle.rst_block.specs.Texts.{source_of}
 use Rattle.rst_block.proofs.Calls.{keeps_as}
 use Rattle.rst_block.proofs.DirectiveReads.{language_by}

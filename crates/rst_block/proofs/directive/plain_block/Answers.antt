@@ -1,13 +1,11 @@
-use Rattle.std.proofs.Common.{List, None, drop, ap, ◌∙◌}
+use Rattle.std.proofs.Common.{List, drop, ap, ◌∙◌}
 use Rattle.rst_text.specs.Block.{first_number}
 use Rattle.rst_text.specs.Shown.{block_of}
 use Rattle.rst_tree.specs.declared.node.Node.{Node}
-use Rattle.rst_markup_directives.specs.Argument.{nothing}
 use Rattle.rst_markup_directives.specs.Options.{choices_in}
-use Rattle.rst_block.specs.Directives.{code_nodes, right_by}
 use Rattle.rst_block.specs.MarkupSteps.{read_of, reads_with}
 use Rattle.rst_block.specs.Meanings.{within_at}
-use Rattle.rst_block.specs.Numbered.{Numbered, just}
+use Rattle.rst_block.specs.Numbered.{Numbered}
 use Rattle.rst_block.specs.Texts.{source_of}
 use Rattle.rst_block.proofs.Calls.{keeps_as}
 use Rattle.rst_block.proofs.DirectiveReads.{code_by, plain_by, plain_comes}

@@ -1,5 +1,4 @@
 use Rattle.std.proofs.Common.{◌≡◌, ◌+◌, [], ◌∷◌, drop, arith, rules, refl, ◌∙◌}
-use Rattle.std.specs.Prelude.{◌==◌}
 use Rattle.rst_text.specs.Block.{Block}
 use Rattle.rst_text.specs.Shown.{block_of}
 use Rattle.rst_markup_blocks.specs.Sizes.{doctest_size}

@@ -1,12 +1,9 @@
 use Rattle.std.proofs.Common.{◌≡◌, ◌+◌, ◌-◌, ◌<◌, ◌≤◌, ◌⊎◌, inl, inr, ℕ, [], ◌∷◌, length, drop, true, false, Some, refl, sym, ap, ◌∙◌, arith}
 use Rattle.rst_text.specs.Block.{Block, front_text, first_number}
-use Rattle.rst_text.specs.Extent.{extent}
 use Rattle.rst_text.specs.Shown.{block_of}
 use Rattle.rst_markup_lines.specs.Front.{first, begins_with}
-use Rattle.rst_markup_blocks.specs.Lines.{lines_while}
 use Rattle.rst_markup_blocks.specs.Sizes.{literal_size}
-use Rattle.rst_markup_blocks.specs.declared.lines.LineTest.TheVariants.{Begins}
-use Rattle.rst_block.specs.Literals.{indented_literal, quoted_literal, no_literal, literal_nodes}
+use Rattle.rst_block.specs.Literals.{no_literal, literal_nodes}
 use Rattle.rst_block.proofs.Calls.{gives_map}
 use Rattle.rst_block.proofs.Changes.{more_as, moved_more}
 use Rattle.rst_block.proofs.LiteralLemmas.{no_literal_is, indented_here, quoted_here, other_here, none_here}

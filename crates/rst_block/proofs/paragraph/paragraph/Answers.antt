@@ -1,11 +1,7 @@
-use Rattle.std.proofs.Common.{◌≡◌, ◌+◌, ◌-◌, ℕ, List, [], drop, length-drop, take, refl, sym, ap, ◌∙◌, arith}
+use Rattle.std.proofs.Common.{◌≡◌, ◌-◌, ℕ, List, drop, length-drop, take, refl, sym, ap, ◌∙◌, arith}
 use Rattle.std.specs.Str.{chars}
 use Rattle.rst_text.specs.Block.{Block}
 use Rattle.rst_text.specs.Shown.{block_of}
-use Rattle.rst_markup_blocks.specs.Sizes.{paragraph_size}
-use Rattle.rst_block.specs.Literals.{paragraph_nodes}
-use Rattle.rst_block.specs.OpenBlocks.{ReadsNodes}
-use Rattle.rst_block.specs.ParagraphSteps.{paragraph_between, paragraph_end}
 use Rattle.rst_block.specs.Texts.{joined}
 use Rattle.rst_block.proofs.Calls.{gives_map}
 use Rattle.rst_block.proofs.Changes.{more_as}

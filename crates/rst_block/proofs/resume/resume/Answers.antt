@@ -1,13 +1,12 @@
-use Rattle.std.proofs.Common.{◌≡◌, List, [], ◌∷◌, string_bytes, option_map, box_value, sym, ap, subst, ◌∙◌}
+use Rattle.std.proofs.Common.{◌≡◌, List, [], ◌∷◌, string_bytes, option_map, box_value, sym, ap, ◌∙◌}
 use Rattle.rst_text.specs.Block.{Block}
 use Rattle.rst_text.specs.Shown.{block_of}
 use Rattle.rst_tree.specs.declared.node.Node.{Node}
 use Rattle.rst_tree.specs.declared.tag.Tag.TheVariants.{ListItem}
 use Rattle.rst_block_nodes.specs.Elements.{element_of}
-use Rattle.rst_block_sections.specs.Sections.{filled}
 use Rattle.rst_block.specs.Directives.{first_paragraph, replacement}
 use Rattle.rst_block.specs.Figures.{caption_error, figure_nodes}
-use Rattle.rst_block.specs.Meanings.{Keeps, after_quote, comes, quote_by, resumed}
+use Rattle.rst_block.specs.Meanings.{after_quote, quote_by, resumed}
 use Rattle.rst_block.specs.declared.figure.OpenFigure.{OpenFigure}
 use Rattle.rst_block.specs.declared.substitution.OpenReplacement.{OpenReplacement}
 use Rattle.rst_block.proofs.Calls.{keeps_as}

@@ -1,4 +1,4 @@
-use Rattle.std.proofs.Common.{[], ◌∷◌, List, drop, sym, ap, ◌∙◌}
+use Rattle.std.proofs.Common.{List, drop, sym, ap, ◌∙◌}
 use Rattle.std.proofs.lemmas.Str.{encodes-chars}
 use Rattle.std.specs.Prelude.{string_bytes}
 use Rattle.rst_text.specs.Block.{front_text}
@@ -12,7 +12,7 @@ use Rattle.rst_markup_directives.specs.declared.found.Place.TheVariants.{Substit
 use Rattle.rst_block.specs.Directives as directives
 use Rattle.rst_block.specs.MarkupSteps.{reads_with}
 use Rattle.rst_block.specs.Meanings.{within_at}
-use Rattle.rst_block.specs.Numbered.{Numbered, just}
+use Rattle.rst_block.specs.Numbered.{Numbered}
 use Rattle.rst_block.specs.Texts.{excerpt}
 use Rattle.rst_block.proofs.Calls.{keeps_as}
 use Rattle.rst_block.proofs.NextConstructs.{span_to}

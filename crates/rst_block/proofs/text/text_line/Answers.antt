@@ -1,4 +1,4 @@
-use Rattle.std.proofs.Common.{◌≡◌, drop, ap, ◌∙◌, arith, rules}
+use Rattle.std.proofs.Common.{drop, ap, ◌∙◌, arith, rules}
 use Rattle.rst_text.specs.Block.{front_text}
 use Rattle.rst_text.specs.Shown.{block_of}
 use Rattle.rst_markup_lines.specs.Front.{is_loose}

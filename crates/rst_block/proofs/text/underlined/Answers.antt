@@ -1,5 +1,4 @@
 use Rattle.std.proofs.Common.{◌≡◌, ◌+◌, sym, ap, subst, ◌∙◌, arith}
-use Rattle.std.specs.Prelude.{string_bytes}
 use Rattle.rst_text.specs.Shown.{block_of}
 use Rattle.rst_block.specs.OpenBlocks.{ReadsItems}
 use Rattle.rst_block.specs.Texts.{source_of}
