@@ -38,7 +38,7 @@ each_after f made left = do
   more ← each f left
   just (made ++ more)
 
-pub each_step : {S A : Type 0} (f : S → Numbered A) (x : S) (xs : List S) (made : List A) (a : A) (n m : ℕ) → f x n ≡ Ok (a, m)
+each_step : {S A : Type 0} (f : S → Numbered A) (x : S) (xs : List S) (made : List A) (a : A) (n m : ℕ) → f x n ≡ Ok (a, m)
     → each_after f (made ++ a ∷ []) xs m ≡ each_after f made (x ∷ xs) n
 each_step f x xs made a n m h =
     sym (
@@ -46,24 +46,24 @@ each_step f x xs made a n m h =
     ∙ after_after (each f xs m) (λ others. just (a ∷ others)) (λ more. just (made ++ more))
     ∙ same_after (each f xs m) (λ others. just (made ++ a ∷ others)) (λ others. just ((made ++ a ∷ []) ++ others)) (λ others k. ap (λ items. just items k) (sym (append_assoc made (a ∷ []) others))))
 
-pub each_refused : {S A : Type 0} (f : S → Numbered A) (x : S) (xs : List S) (made : List A) (n line : ℕ) → f x n ≡ Err line → each_after f made (x ∷ xs) n ≡ Err line
+each_refused : {S A : Type 0} (f : S → Numbered A) (x : S) (xs : List S) (made : List A) (n line : ℕ) → f x n ≡ Err line → each_after f made (x ∷ xs) n ≡ Err line
 each_refused f x xs made n line h = ap (λ r. then_read (λ more. just (made ++ more)) (then_read (λ a. each f xs >>= λ others. just (a ∷ others)) r)) h
 
 -- the same where the things stand in a list of others
-pub each_next : {T S A : Type 0} (f : S → Numbered A) (v : T → S) (ts : List T) (i : ℕ) (t : T) (made : List A) (a : A) (n m : ℕ) → i < length ts → t ≡ get_or ts i t → f (v t) n ≡ Ok (a, m)
+each_next : {T S A : Type 0} (f : S → Numbered A) (v : T → S) (ts : List T) (i : ℕ) (t : T) (made : List A) (a : A) (n m : ℕ) → i < length ts → t ≡ get_or ts i t → f (v t) n ≡ Ok (a, m)
     → each_after f (made ++ a ∷ []) (map v (drop (i + 1) ts)) m ≡ each_after f made (map v (drop i ts)) n
 each_next f v ts i t made a n m h e k =
     let j : i + 1 ≡ suc i = omega arith in
     let d : drop i ts ≡ t ∷ drop (i + 1) ts = drop-cons ts i t h ∙ ap (λ u. u ∷ drop (suc i) ts) (sym e) ∙ ap (λ j. t ∷ drop j ts) (sym j) in
     each_step f (v t) (map v (drop (i + 1) ts)) made a n m k ∙ ap (λ us. each_after f made (map v us) n) (sym d)
 
-pub each_fails : {T S A : Type 0} (f : S → Numbered A) (v : T → S) (ts : List T) (i : ℕ) (t : T) (made : List A) (n line : ℕ) → i < length ts → t ≡ get_or ts i t → f (v t) n ≡ Err line
+each_fails : {T S A : Type 0} (f : S → Numbered A) (v : T → S) (ts : List T) (i : ℕ) (t : T) (made : List A) (n line : ℕ) → i < length ts → t ≡ get_or ts i t → f (v t) n ≡ Err line
     → each_after f made (map v (drop i ts)) n ≡ Err line
 each_fails f v ts i t made n line h e k =
     let d : drop i ts ≡ t ∷ drop (suc i) ts = drop-cons ts i t h ∙ ap (λ u. u ∷ drop (suc i) ts) (sym e) in
     ap (λ us. each_after f made (map v us) n) d ∙ each_refused f (v t) (map v (drop (suc i) ts)) made n line k
 
-pub each_ends : {T S A : Type 0} (f : S → Numbered A) (v : T → S) (ts : List T) (i : ℕ) (made : List A) (n : ℕ) → length ts ≤ i
+each_ends : {T S A : Type 0} (f : S → Numbered A) (v : T → S) (ts : List T) (i : ℕ) (made : List A) (n : ℕ) → length ts ≤ i
     → each_after f made (map v (drop i ts)) n ≡ Ok (made, n)
 each_ends f v ts i made n h = ap (λ us. each_after f made (map v us) n) (drop_all i ts h) ∙ ap (λ items. just items n) (append-nil made)
 
@@ -72,7 +72,7 @@ each_ends f v ts i made n h = ap (λ us. each_after f made (map v us) n) (drop_a
 abbrev same : Cell → Cell
 same cell = cell
 
-pub map_same : (cells : List Cell) → map same cells ≡ cells
+map_same : (cells : List Cell) → map same cells ≡ cells
 map_same [] = refl
 map_same (c ∷ cs) = ap (λ ds. c ∷ ds) (map_same cs)
 
@@ -89,7 +89,7 @@ text_as d (suc k) B n h e =
     ∙ ap (λ left. inner_nodes true (suc left) B n) j
 
 -- the nodes of a cell's lines
-pub text_inside : (depth : ℕ) (B : Block) (n : ℕ) → 1 ≤ depth → depth ≤ 251 → (text_items depth B >>= λ items. just (nodes_among items)) n ≡ (within_at (depth - 1)).inner B n
+text_inside : (depth : ℕ) (B : Block) (n : ℕ) → 1 ≤ depth → depth ≤ 251 → (text_items depth B >>= λ items. just (nodes_among items)) n ≡ (within_at (depth - 1)).inner B n
 text_inside depth B n low high =
     let d : ℕ = depth - 1 in
     let e : depth ≡ suc (depth - 1) = omega (arith, low) in
@@ -98,7 +98,7 @@ text_inside depth B n low high =
     ∙ ap (λ depth. (text_with (deepest - d) depth B >>= λ items. just (nodes_among items)) n) e
     ∙ text_as d (deepest - d) B n (omega (arith, high)) refl
 
-pub entry_reads : (depth : ℕ) (cell : Cell) (B : Block) (level : OpenBlock) (node : Node) (n m : ℕ) → 1 ≤ depth → depth ≤ 251 → B ≡ cell.lines
+entry_reads : (depth : ℕ) (cell : Cell) (B : Block) (level : OpenBlock) (node : Node) (n m : ℕ) → 1 ≤ depth → depth ≤ 251 → B ≡ cell.lines
     → just (done_of level) m ≡ text_items depth B n → node ≡ filled (entry_node cell.morerows cell.morecols 0) level.nodes.items
     → entry_of (within_at (depth - 1)) cell n ≡ Ok (node, m)
 entry_reads depth cell B level node n m low high b h e =
@@ -108,7 +108,7 @@ entry_reads depth cell B level node n m low high b h e =
     ∙ ap (λ (ns : List Node). Ok (F ns, m)) (among_done level)
     ∙ ap (λ made. Ok (made, m)) (sym e)
 
-pub entry_refused : (depth : ℕ) (cell : Cell) (B : Block) (n line : ℕ) → 1 ≤ depth → depth ≤ 251 → B ≡ cell.lines → text_items depth B n ≡ Err line
+entry_refused : (depth : ℕ) (cell : Cell) (B : Block) (n line : ℕ) → 1 ≤ depth → depth ≤ 251 → B ≡ cell.lines → text_items depth B n ≡ Err line
     → entry_of (within_at (depth - 1)) cell n ≡ Err line
 entry_refused depth cell B n line low high b h =
     let F : List Node → Node = λ ns. filled (entry_node cell.morerows cell.morecols 0) ns in
@@ -121,7 +121,7 @@ entry_refused depth cell B n line low high b h =
 abbrev pub row_after : ℕ → List Node → List Cell → Numbered (List Node)
 row_after depth made left = each_after (entry_of (within_at (depth - 1))) made (map same left)
 
-pub row_fails : (depth : ℕ) (cells : List Cell) (i : ℕ) (cell : Cell) (made : List Node) (n m line : ℕ) → i < length cells → cell ≡ get_or cells i cell
+row_fails : (depth : ℕ) (cells : List Cell) (i : ℕ) (cell : Cell) (made : List Node) (n m line : ℕ) → i < length cells → cell ≡ get_or cells i cell
     → row_after depth made (drop i cells) m ≡ each (entry_of (within_at (depth - 1))) cells n → entry_of (within_at (depth - 1)) cell m ≡ Err line
     → row_of (within_at (depth - 1)) cells n ≡ Err line
 row_fails depth cells i cell made n m line h c inv e =

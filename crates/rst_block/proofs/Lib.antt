@@ -13,7 +13,6 @@ pub mod LineSteps
 pub mod ListItems
 pub mod LiteralLemmas
 pub mod Looked
-pub mod Made
 pub mod MarkupReads
 pub mod MeaningLemmas
 pub mod NextConstructs

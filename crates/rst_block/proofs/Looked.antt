@@ -21,7 +21,7 @@ through_le (l ∷ ls) = by (is_blank l.text) (through_le ls)
     by true h = omega arith
     by false h = omega arith
 
-pub reach_le : (n : ℕ) (X : Block) → n ≤ length X → reach n X ≤ length X
+reach_le : (n : ℕ) (X : Block) → n ≤ length X → reach n X ≤ length X
 reach_le n X h = omega (arith, through_le (drop n X), length-drop n X)
 
 pub reach_hanging : (B : Block) (i : ℕ) → i < length B → reach (hanging_size (drop i B)) (drop i B) ≤ length B

@@ -27,7 +27,7 @@ use Rattle.rst_block.proofs.OpenRuns.{rest_is_all}
 -- ---- blocks that wait
 
 -- what the innermost of some blocks that wait makes of what is read, the others go on with
-pub plug_push : (S : Block) (fs : List Frame) (f : Frame) (read : Numbered (List Item))
+plug_push : (S : Block) (fs : List Frame) (f : Frame) (read : Numbered (List Item))
     → plug S (fs ++ f ∷ []) read ≡ plug S fs (read >>= λ items. after f.level (placement_block S f.placement) f.waits f.second f.nodes.items (nodes_among items))
 unfolding plug
 plug_push S [] f read = refl
@@ -63,7 +63,7 @@ reads_all l B n new =
     ∙ ap (λ o. rest c B 0 o n) new.run
     ∙ rest_is_all c B n
 
-pub not_zero : (d : ℕ) → (suc d == 0) ≡ false
+not_zero : (d : ℕ) → (suc d == 0) ≡ false
 not_zero d = ne_eqb (suc d) 0 (λ e. omega (arith, e))
 
 abbrev pub within_level : Bool → ℕ → ℕ → Within
@@ -79,7 +79,7 @@ unfolding inner_nodes
 inner_is k B n = refl
 
 -- a block inside another gives the nodes that it means
-pub inner_all : (l : OpenBlock) (d : ℕ) (B : Block) (n : ℕ) → l.depth ≡ suc d → suc d ≤ deepest → IsNew l
+inner_all : (l : OpenBlock) (d : ℕ) (B : Block) (n : ℕ) → l.depth ≡ suc d → suc d ≤ deepest → IsNew l
     → (reads l B >>= λ items. just (nodes_among items)) n ≡ (within_at d).inner B n
 inner_all l d B n e h new =
     let k : deepest - d ≡ suc (deepest - suc d) = omega (arith, h) in

@@ -37,6 +37,7 @@ use Rattle.rst_block.specs.declared.step.Step.TheVariants.{Done}
 use Rattle.rst_block.proofs.BegunLemmas.{marks_tell_constructs}
 use Rattle.rst_block.proofs.Changes.{done_moved, done_more, done_closed, done_title, kept_moved, kept_closed, reads_is}
 use Rattle.rst_block.proofs.NumberedLemmas.{same_after, before_before, before_then, same_before, at_number}
+pub use Rattle.rst_block.proofs.RestLemmas.{span_to}
 use Rattle.rst_block.proofs.RestLemmas.{rest_over, rest_blank, rest_text, alone_begins}
 
 -- ---- what begins at the next line
@@ -101,10 +102,6 @@ end_behind old mid end lines length e h within few = omega (arith, e, h, within,
 pub goes_behind : (old mid moved end lines length : ℕ) → mid ≡ old → end ≡ min (mid + lines) 18446744073709551615 → old < old + lines → old + lines ≤ length → length < 2 ^ 64 → (mid < end → moved ≡ end)
     → moved ≡ old + lines
 goes_behind old mid moved end lines length e h some within few there = let at : moved ≡ end = there (omega (arith, e, h, some, within, few)) in omega (arith, at, e, h, within, few)
-
--- the lines from one place to another
-abbrev pub span_to : ℕ → ℕ → Span
-span_to i j = record { start = i; stop = j }
 
 -- the next construct with its lines
 abbrev pub next_found : OpenBlock → Construct → ℕ → Found

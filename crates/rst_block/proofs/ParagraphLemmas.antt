@@ -74,7 +74,7 @@ end_colons t j B h = rw h refl
 -- ---- all of a paragraph
 
 -- a paragraph's own lines are those from its first one on that are neither blank nor indented
-pub own_lines : (X : Block) → 1 ≤ length X → is_loose (front_text X) ≡ false → lines_while Plain X ≡ paragraph_len X
+own_lines : (X : Block) → 1 ≤ length X → is_loose (front_text X) ≡ false → lines_while Plain X ≡ paragraph_len X
 unfolding lines_while paragraph_len run_size
 own_lines [] h p = absurd (omega arith)
 own_lines (l ∷ ls) h p = rw p refl
@@ -103,7 +103,7 @@ pub record IsParagraph (B : Block) (i j : ℕ) (t : List ℕ) : Type 0 where
   pub end : j ≡ i + lines_while Plain (drop i B)
   pub text : t ≡ joined (take (j - i) (drop i B))
 
-pub len_is : (B : Block) (i j : ℕ) (t : List ℕ) → IsParagraph B i j t → j ≡ i + paragraph_len (drop i B)
+len_is : (B : Block) (i j : ℕ) (t : List ℕ) → IsParagraph B i j t → j ≡ i + paragraph_len (drop i B)
 len_is B i j t p = p.end ∙ ap (λ n. i + n) (own_lines (drop i B) (omega (arith, p.inside, length-drop i B)) p.plain)
 
 pub ends_later : (B : Block) (i j : ℕ) (t : List ℕ) → IsParagraph B i j t → i < j

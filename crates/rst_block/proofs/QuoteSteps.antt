@@ -42,7 +42,7 @@ use Rattle.rst_block.proofs.NumberedLemmas.{same_after, after_after, before_befo
 use Rattle.rst_block.proofs.QuoteCounts.{attribution_within, quotes_enough, quotes_same}
 
 -- the first of some quotes, and the others
-pub quotes_first : (c : Within) (m : ℕ) (Q : Block) (n : ℕ) → 1 ≤ length Q → length Q ≤ m → quotes c m Q n ≡ quotes_by c (quotes c m) Q (first_attribution Q) n
+quotes_first : (c : Within) (m : ℕ) (Q : Block) (n : ℕ) → 1 ≤ length Q → length Q ≤ m → quotes c m Q n ≡ quotes_by c (quotes c m) Q (first_attribution Q) n
 quotes_first c m [] n some h = absurd (omega (arith, some))
 quotes_first c zero (l ∷ ls) n some h = absurd (omega (arith, h))
 quotes_first c (suc m) (l ∷ ls) n some h =

@@ -21,9 +21,6 @@ pub record Copies (from count : ℕ) (text part rest : List ℕ) (left : ℕ) : 
   pub value : part ++ encode_utf8_all (take left (chars rest)) ≡ encode_utf8_all (take count (drop from (chars text)))
   pub utf8 : IsUtf8 rest
 
-pub Copies-start : (from count left : ℕ) (text part rest : List ℕ) → IsUtf8 rest → part ≡ [] → chars rest ≡ drop from (chars text) → left ≡ count → Copies from count text part rest left
-Copies-start from count left text part rest good none is same = record { value = rw (none, is, same) refl; utf8 = good }
-
 pub Copies-step : (from count left next c : ℕ) (text part rest after more : List ℕ) → Copies from count text part rest left → rest ≡ encode c ++ after → left ≡ suc next → more ≡ part ++ encode c
     → Copies from count text more after next
 Copies-step from count left next c text part rest after more s e one is = record {
@@ -64,7 +61,7 @@ join_more c t (s ∷ ts) u = ap (λ x. t ++ c ∷ x) (join_more c s ts u) ∙ sy
 joined_front : (i : ℕ) (B : Block) → joined (take i B) ≡ join_with_byte 10 (take i (map (λ (l : Line). l.text) B))
 joined_front i B = ap (join_with_byte 10) (sym (take-map (λ (l : Line). l.text) i B))
 
-pub spelled_first : (B : Block) → 0 < length B → spelled (take 1 B) ≡ encode_utf8_all (front_text (drop 0 B))
+spelled_first : (B : Block) → 0 < length B → spelled (take 1 B) ≡ encode_utf8_all (front_text (drop 0 B))
 spelled_first [] h = absurd (omega arith)
 spelled_first (l ∷ ls) h = refl
 
@@ -77,7 +74,7 @@ joined_more (suc i) (l ∷ ls) z h =
     ∙ join_more 10 l.text (take i (map (λ (m : Line). m.text) ls)) (front_text (drop i ls))
     ∙ ap (λ t. t ++ 10 ∷ front_text (drop i ls)) (sym (joined_front (suc i) (l ∷ ls)))
 
-pub spelled_more : (i : ℕ) (B : Block) → 0 < i → i < length B → spelled (take (suc i) B) ≡ (spelled (take i B) ++ 10 ∷ []) ++ encode_utf8_all (front_text (drop i B))
+spelled_more : (i : ℕ) (B : Block) → 0 < i → i < length B → spelled (take (suc i) B) ≡ (spelled (take i B) ++ 10 ∷ []) ++ encode_utf8_all (front_text (drop i B))
 spelled_more i B z h =
     let more : List ℕ = encodes (front_text (drop i B)) in
     ap encodes (joined_more i B z h)

@@ -54,7 +54,7 @@ grid_by_end line i T None = by (tiling_of (with_dashes T (head_of T))) ∙ ap (�
     by (Some rs) = refl
 
 -- a grid table ends where its row does
-pub grid_end : (B : Block) (i : ℕ) → end_of (grid_table B i) ≡ i + grid_size (drop i B)
+grid_end : (B : Block) (i : ℕ) → end_of (grid_table B i) ≡ i + grid_size (drop i B)
 grid_end B i =
     let X : Block = drop i B in
     let T : Grid = rows_of (take (grid_size X) X) in
@@ -62,7 +62,7 @@ grid_end B i =
     grid_by_end (first_number X) i T (grid_fault (grid_bottom X) T) ∙ ap (λ n. i + n) (rows-size (grid_size X) X inside)
 
 -- and so does a simple table
-pub simple_end : (B : Block) (i : ℕ) → end_of (simple_table B i) ≡ i + simple_size (drop i B)
+simple_end : (B : Block) (i : ℕ) → end_of (simple_table B i) ≡ i + simple_size (drop i B)
 simple_end B i =
     let X : Block = drop i B in
     let T : Grid = rows_of (take (simple_size X) X) in

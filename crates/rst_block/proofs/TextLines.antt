@@ -179,17 +179,3 @@ pub short_as : {titles : Bool} (B : Block) (i : ℕ) {j line : ℕ} {node : Node
     → node ≡ said Info line (codes "Possible title underline, too short for the title.\nTreating it as ordinary text because it's so short.")
     → node ∷ [] ≡ short_underline titles (drop i B)
 short_as B i t e l is = rw (t, is, under_number B i e l) refl
-
--- under a title there is a line
-no_underline : (t : List ℕ) → text_form t [] ≡ Paragraph
-unfolding text_form adornment_of
-no_underline t = refl
-
-pub two_lines : (B : Block) (i : ℕ) (short : Bool) → text_form (front_text (drop i B)) (next_text (drop i B)) ≡ Title short → i + 1 < length B
-two_lines B i short h = elim (cases_lt (i + 1) (length B)) [
-  | inl inside ↦ inside
-  | inr over ↦ (
-      let none : next_text (drop i B) ≡ [] = ap front_text (drop-drop 1 i B ∙ drop_all (i + 1) B over) in
-      let same : Paragraph ≡ Title short = sym (no_underline (front_text (drop i B))) ∙ ap (text_form (front_text (drop i B))) (sym none) ∙ h in
-      cc)
-]

@@ -35,7 +35,7 @@ use Rattle.rst_block.proofs.RestLemmas.{nodes_among_plain}
 -- ---- the nodes of the one inside
 
 -- the nodes among nodes with titles between them
-pub among_items : (done : ℕ) (nodes : List Node) (hs : List Heading) → nodes_among (items_from done nodes hs) ≡ nodes
+among_items : (done : ℕ) (nodes : List Node) (hs : List Heading) → nodes_among (items_from done nodes hs) ≡ nodes
 unfolding items_from
 among_items done nodes [] = nodes_among_plain nodes
 among_items done nodes (h ∷ hs) =

@@ -4,8 +4,8 @@ use Rattle.rst_text.specs.Shown.{block_of}
 use Rattle.rst_markup_lines.specs.Front.{is_loose}
 use Rattle.rst_block.proofs.Calls.{close_refuses}
 use Rattle.rst_block.proofs.Changes.{kept_closed, kept_more, kept_then}
-use Rattle.rst_block.proofs.NextConstructs.{next_of_form, has_ended, next_refused}
-use Rattle.rst_block.proofs.TextLines.{text_plain, form_here, two_lines, paragraph_goes, short_more, underlined_goes, kept_items}
+use Rattle.rst_block.proofs.NextConstructs.{next_of_form, next_within, has_ended, next_refused}
+use Rattle.rst_block.proofs.TextLines.{text_plain, form_here, paragraph_goes, short_more, underlined_goes, kept_items}
 use Rattle.rst_block.proofs.text.text_line.Goals as goal
 
 pub returns-in_err-close-in-Paragraph-clause-read : goal.returns-in_err-close-in-Paragraph-clause-read
@@ -42,10 +42,8 @@ paragraph-requires-in-ShortUnderline-clause-plain c =
 
 pub underlined-requires-clause-inside : goal.underlined-requires-clause-inside
 underlined-requires-clause-inside c =
-    let B = block_of c.args.view.now in
-    let l = c.args.level.now in
-    let form = form_here B l.at c.line-text.ensures.text c.below_text-next.ensures.text c.text_form.ensures c.in-Title.is in
-    omega (arith, two_lines B l.at c.in-Title.short form, c.append-in-Title.ensures.at, c.close-in-Title.ensures.at)
+    let form = form_here (block_of c.args.view.now) c.args.level.now.at c.line-text.ensures.text c.below_text-next.ensures.text c.text_form.ensures c.in-Title.is in
+    omega (arith, next_within (next_of_form c.args.infos.items c.requires.text form) c.requires.inside, c.append-in-Title.ensures.at, c.close-in-Title.ensures.at)
 
 pub underlined-requires-clause-placed : goal.underlined-requires-clause-placed
 underlined-requires-clause-placed c = (kept_then (kept_closed c.in_ok-close-in-Title.ensures.closed c.requires.placed) (kept_more c.in_ok-append-in-Title.ensures.more)).placed
