@@ -14,9 +14,8 @@ use Rattle.rst_markup_blocks.specs.Sizes.{adornment_size, adorned_size, fixed_si
 use Rattle.rst_markup_blocks.specs.declared.begun.Begun.TheVariants as begun
 use Rattle.rst_markup_blocks.specs.declared.form.Adorned.{Adorned}
 use Rattle.rst_block_sections.specs.declared.heading.Style.{Style}
-use Rattle.rst_block.specs.Adornments.{IsMessageOn}
 use Rattle.rst_block.specs.Constructs.{adorned_by, misplaced_lines}
-use Rattle.rst_block.specs.NextLine.{IsNextConstruct}
+use Rattle.rst_block.specs.NextLine.{IsNextConstruct, IsMessageOn}
 use Rattle.rst_block.specs.Texts.{source_of}
 use Rattle.rst_block.specs.Titles.{Item, short_warning, title_item, overlined_nodes}
 use Rattle.rst_block.specs.declared.open_block.OpenBlock.{OpenBlock}

@@ -12,11 +12,11 @@ use Rattle.rst_block_nodes.specs.declared.line_blocks.BarText.{BarText}
 use Rattle.rst_block.specs.Constructs.{bar_line, Found}
 use Rattle.rst_block.specs.Joins.{lines_from, joining_after}
 use Rattle.rst_block.specs.LineRuns.{below_bar, bar_lines, number_or, indentation_of, indented_line, indented_lines}
-use Rattle.rst_block.specs.LinesSoFar.{HasLine, line_added, lines_end_at, text_over}
+use Rattle.rst_block.specs.TextSteps.{text_over}
 use Rattle.rst_block.specs.Meanings.{joining_in, open_of, within_at, done_of, reads}
 use Rattle.rst_block.specs.NextLine.{IsNextConstruct}
 use Rattle.rst_block.specs.Numbered.{Numbered, ◌>>=◌, before}
-use Rattle.rst_block.specs.OpenBlocks.{IsMoved, HasRun, IsPlaced, IsKept}
+use Rattle.rst_block.specs.OpenBlocks.{IsMoved, HasRun, IsPlaced, IsKept, HasLine, line_added, lines_end_at}
 use Rattle.rst_block.specs.Rest.{OpenRun, no_run, open_list, open_lines, open_markup, joining_with, last_indent, rest, rest_with}
 use Rattle.rst_block.specs.RestLaws.{found_as}
 use Rattle.rst_block.specs.Texts.{joined}

@@ -24,12 +24,11 @@ use Rattle.rst_markup_blocks.specs.declared.part.Part.{Part}
 use Rattle.rst_block_nodes.specs.Elements.{bullet_list_node}
 use Rattle.rst_block.specs.Constructs.{ItemMark, bullet_item, enumerated_item, definition_item, field_item, option_item, item_of_list, Found}
 use Rattle.rst_block.specs.Joins.{Joining, list_joining_after}
-use Rattle.rst_block.specs.ListNotes.{with_infos}
 use Rattle.rst_block.specs.Lists.{item_by, list_item, item_with, option_group, infos_of, empty_list}
 use Rattle.rst_block.specs.Meanings.{joining_in, open_of, list_kind_in, within_at, done_of, reads, comes, Keeps}
 use Rattle.rst_block.specs.NextLine.{IsText, IsNextConstruct}
 use Rattle.rst_block.specs.Numbered.{Numbered, then_read, ◌>>=◌, just, before}
-use Rattle.rst_block.specs.OpenBlocks.{joined_at, begun_at, IsMoved, HasRun, IsClosed, Closes, Gives, IsPlaced, IsKept}
+use Rattle.rst_block.specs.OpenBlocks.{joined_at, begun_at, IsMoved, HasRun, IsClosed, Closes, Gives, IsPlaced, IsKept, with_infos}
 use Rattle.rst_block.specs.Rest.{ListSoFar, OpenRun, no_run, open_list, open_lines, open_markup, joining_with, joined_run, begun_run, with_items, rest, rest_with}
 use Rattle.rst_block.specs.RestLaws.{found_as}
 use Rattle.rst_block.specs.Texts.{termed, texted}

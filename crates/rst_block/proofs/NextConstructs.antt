@@ -10,7 +10,7 @@ use Rattle.rst_markup_blocks.specs.Conditions.{next_text}
 use Rattle.rst_markup_blocks.specs.Ends.{row_size}
 use Rattle.rst_markup_blocks.specs.Forms.{text_form}
 use Rattle.rst_markup_blocks.specs.Kinds.{kind_at, first_kind}
-use Rattle.rst_markup_blocks.specs.Partition.{Span, construct_size, IsTextAt}
+use Rattle.rst_markup_blocks.specs.Partition.{construct_size, IsTextAt}
 use Rattle.rst_markup_blocks.specs.Sizes.{text_size, form_size}
 use Rattle.rst_markup_blocks.specs.declared.begun.Begun.{Begun}
 use Rattle.rst_markup_blocks.specs.declared.begun.Begun.TheVariants.{Blank}

@@ -11,7 +11,7 @@ use Rattle.rst_markup_blocks.specs.Sizes.{literal_size, paragraph_len, run_size,
 use Rattle.rst_markup_blocks.specs.declared.lines.LineTest.TheVariants.{Plain}
 use Rattle.rst_block.specs.Literals.{announced, text_paragraph, after_paragraph, literal_nodes, paragraph_nodes}
 use Rattle.rst_block.specs.Numbered.{then_read, ◌>>=◌, just}
-use Rattle.rst_block.specs.ParagraphSteps.{shown_paragraph, paragraph_between, paragraph_end}
+use Rattle.rst_block.specs.TextSteps.{shown_paragraph, paragraph_between, paragraph_end}
 use Rattle.rst_block.specs.Texts.{joined, unless_blank}
 use Rattle.rst_block.proofs.LiteralLemmas.{lines_after, colons_last}
 use Rattle.rst_block.proofs.NumberedLemmas.{same_after, after_after}

@@ -1,9 +1,7 @@
 -- The count that bounds the quotes of some lines may be any that is large enough.
-use Rattle.std.proofs.Common.{◌≡◌, ℕ, zero, suc, ◌+◌, ◌-◌, ◌<◌, ◌≤◌, Bool, true, false, List, [], ◌∷◌, ◌++◌, length, length-drop, drop, take, Option, Some, None, arith, refl, sym, ap, option_map, option_and_then, is_some, if◌then◌else◌}
-use Rattle.std.specs.Prelude.{◌==◌}
-use Rattle.std.specs.List.{list_all}
+use Rattle.std.proofs.Common.{◌≡◌, ℕ, zero, suc, ◌+◌, ◌-◌, ◌<◌, ◌≤◌, Bool, true, false, List, [], ◌∷◌, ◌++◌, length, length-drop, drop, take, Option, Some, None, arith, refl, ap, option_map, option_and_then, is_some, if◌then◌else◌}
 use Rattle.std.specs.Option.{option_map_or}
-use Rattle.rst_text.specs.Block.{Line, Block, front_text, is_blank, first_number, indentation}
+use Rattle.rst_text.specs.Block.{Block, front_text, is_blank, first_number, indentation}
 use Rattle.rst_text.specs.Places.{first_from, IsFirst}
 use Rattle.rst_text.proofs.PlacesLemmas.{first_from-IsFirst}
 use Rattle.rst_tree.specs.declared.node.Node.{Node}
@@ -12,8 +10,7 @@ use Rattle.rst_markup_lines.specs.Attribution.{attribution_of}
 use Rattle.rst_markup_blocks.specs.Attributions.{level_lines, attribution_with, attribution_behind, attribution_by, attribution_at, attribution_part}
 use Rattle.rst_markup_blocks.specs.Conditions.{text_at, next_text}
 use Rattle.rst_markup_blocks.specs.Lines.{lines_while}
-use Rattle.rst_markup_blocks.specs.RowLaws.{while_le}
-use Rattle.rst_markup_blocks.specs.declared.lines.LineTest.TheVariants.{Blank, Filled}
+use Rattle.rst_markup_blocks.specs.declared.lines.LineTest.TheVariants.{Blank}
 use Rattle.rst_markup_blocks.specs.declared.attribution.Attribution.{Attribution}
 use Rattle.rst_markup_blocks.proofs.AttributionLemmas.{level_lines-le}
 use Rattle.rst_block.specs.Numbered.{Numbered, then_read, ◌>>=◌, just}

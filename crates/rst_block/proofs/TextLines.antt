@@ -1,12 +1,9 @@
 -- Lines of text: what the block gives after a paragraph or a title over its underline.
-use Rattle.std.proofs.Common.{◌≡◌, ℕ, ◌+◌, ◌<◌, Bool, true, false, List, [], ◌∷◌, ◌++◌, length, drop, map, codes, Option, Result, Ok, refl, sym, ◌∙◌, ap, subst, inl, inr, append_assoc, append-nil}
+use Rattle.std.proofs.Common.{◌≡◌, ℕ, ◌+◌, Bool, true, false, List, [], ◌∷◌, ◌++◌, drop, map, codes, Option, Result, Ok, refl, sym, ◌∙◌, ap, subst, append_assoc, append-nil}
 use Rattle.std.specs.Prelude.{◌==◌, unwrap_or}
-use Rattle.std.proofs.lemmas.Bool.{cases_lt}
-use Rattle.std.proofs.lemmas.List.{drop-drop, drop_all}
 use Rattle.rst_text.specs.Block.{Block, is_blank, front_text, first_number}
 use Rattle.rst_tree.specs.declared.node.Node.{Node}
 use Rattle.rst_tree.specs.declared.note.Level.TheVariants.{Info}
-use Rattle.rst_markup_lines.specs.Adornment.{adornment_of}
 use Rattle.rst_markup_lines.specs.Front.{first, begins_with, is_loose}
 use Rattle.rst_markup_blocks.specs.Conditions.{next_text}
 use Rattle.rst_markup_blocks.specs.Forms.{text_form}
@@ -24,7 +21,7 @@ use Rattle.rst_block.specs.NextLine.{IsText, IsNextConstruct}
 use Rattle.rst_block.specs.Nodes.{plainly}
 use Rattle.rst_block.specs.Numbered.{Numbered, then_read, just}
 use Rattle.rst_block.specs.OpenBlocks.{IsMoved, HasMoreAt, HasMore, HasTitle, ReadsNodes, ReadsItems, IsPlaced, IsKept}
-use Rattle.rst_block.specs.ParagraphSteps.{under_style, unexpected_notes}
+use Rattle.rst_block.specs.TextSteps.{under_style, unexpected_notes}
 use Rattle.rst_block.specs.Texts.{said, source_of}
 use Rattle.rst_block.specs.Titles.{Item, plain, titled, title_item, short_warning, underline_warning, underline_item}
 use Rattle.rst_block.specs.declared.open_block.OpenBlock.{OpenBlock}

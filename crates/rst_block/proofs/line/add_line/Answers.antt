@@ -1,5 +1,5 @@
 use Rattle.std.proofs.Common.{◌≡◌, arith, sym, ◌∙◌, ap}
-use Rattle.rst_block.specs.LinesSoFar.{HasLine, line_added}
+use Rattle.rst_block.specs.OpenBlocks.{HasLine, line_added}
 use Rattle.rst_block.specs.Meanings.{open_of}
 use Rattle.rst_block.specs.declared.open_block.OpenBlock.{OpenBlock}
 use Rattle.rst_block.specs.declared.run.Run.{Run}

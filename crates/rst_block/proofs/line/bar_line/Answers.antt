@@ -4,9 +4,8 @@ use Rattle.rst_markup_blocks.specs.declared.begun.Begun.TheVariants.{Line}
 use Rattle.rst_markup_blocks.specs.Sizes.{indented_size}
 use Rattle.rst_block_nodes.specs.LineBlocks.{indented_by, indented}
 use Rattle.rst_block.specs.LineRuns.{indentation_of, indented_line}
-use Rattle.rst_block.specs.LinesSoFar.{HasLine, line_added}
 use Rattle.rst_block.specs.Meanings.{open_of, reads}
-use Rattle.rst_block.specs.OpenBlocks.{HasRun}
+use Rattle.rst_block.specs.OpenBlocks.{HasRun, HasLine, line_added}
 use Rattle.rst_block.specs.Rest.{open_lines}
 use Rattle.rst_block.specs.declared.open_block.OpenBlock.{OpenBlock}
 use Rattle.rst_block.specs.declared.run.Run.TheVariants.{Lines}

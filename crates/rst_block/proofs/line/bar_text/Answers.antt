@@ -4,7 +4,7 @@ use Rattle.rst_text.specs.Shown.{block_of}
 use Rattle.std.specs.Prelude.{string_bytes}
 use Rattle.std.specs.Str.{chars}
 use Rattle.rst_block.specs.LineRuns.{below_bar}
-use Rattle.rst_block.specs.LinesSoFar.{text_over}
+use Rattle.rst_block.specs.TextSteps.{text_over}
 use Rattle.rst_block.specs.Texts.{lines_in}
 use Rattle.rst_block.specs.Within.{indented_part}
 use Rattle.rst_block.proofs.LineSteps.{full_line, bare_line}
