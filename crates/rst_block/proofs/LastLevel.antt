@@ -2,6 +2,7 @@
 use Rattle.std.proofs.Common.{◌≡◌, ◌⊎◌, ℕ, suc, ◌+◌, ◌-◌, ◌<◌, ◌≤◌, Bool, true, false, List, [], ◌∷◌, length, drop, map, Option, Some, None, Result, Ok, Err, arith, refl, sym, ◌∙◌, ap, subst, inl, inr}
 use Rattle.std.specs.Prelude.{if◌then◌else◌}
 use Rattle.std.proofs.lemmas.Bool.{cases_lt}
+use Rattle.std.proofs.lemmas.List.{nil_from_length}
 use Rattle.rst_text.specs.Block.{Line, Block, is_blank, first_number}
 use Rattle.rst_tree.specs.declared.node.Node.{Node}
 use Rattle.rst_markup_blocks.specs.Lines.{lines_while}
@@ -113,10 +114,6 @@ text_empty : (depth : ℕ) (n : ℕ) → depth ≤ deepest → text_items depth 
 unfolding spans_from
 text_empty depth n h = text_there depth [] n h
 
-no_lines : (B : Block) → length B ≡ 0 → B ≡ []
-no_lines [] e = refl
-no_lines (l ∷ ls) e = absurd (omega (arith, e))
-
 flat_below : {C : Type 0} (depth : ℕ) (B : Block) (l : OpenBlock) (n : ℕ) (done : C) → depth ≡ suc deepest → TellsBlank B (Ok done) → IsNew l → just (done_of l) n ≡ text_items depth B n
 flat_below depth B l n done e t k = ap (λ items. just items n) k.done ∙ sym (text_below depth B n e ∙ ap (then_read (λ nodes. just (map plain nodes))) (t n))
 
@@ -125,7 +122,7 @@ pub flat_text : {C : Type 0} (depth : ℕ) (X B : Block) (l : OpenBlock) (n : �
     → X ≡ B → TellsBlank X (Ok done) → IsNew l → just (done_of l) n ≡ text_items depth B n
 flat_text depth X B l n done h (inr e) x t k = flat_below depth B l n done e (subst (λ Y. TellsBlank Y (Ok done)) x t) k
 flat_text depth X B l n done h (inl e) x t k = elim (cases_lt depth 251) [
-  | inl low ↦ ap (λ items. just items n) k.done ∙ sym (ap (λ X. text_items depth X n) (no_lines B e) ∙ text_empty depth n (omega (arith, low)))
+  | inl low ↦ ap (λ items. just items n) k.done ∙ sym (ap (λ X. text_items depth X n) (nil_from_length B e) ∙ text_empty depth n (omega (arith, low)))
   | inr high ↦ flat_below depth B l n done (omega (arith, h, high)) (subst (λ Y. TellsBlank Y (Ok done)) x t) k
 ]
 
@@ -140,5 +137,5 @@ no_refusal n line h = let e : ok n ≡ Err line = h in cc
 pub flat_text_fails : {C : Type 0} (depth : ℕ) (X B : Block) (n : ℕ) (e : BlockFault) (f : C → Result (List Item × ℕ) ℕ) → (length B ≡ 0) ⊎ (depth ≡ suc deepest)
     → X ≡ B → TellsBlank {A = Unit {0}} X (Err e) → Keeps (Err e) f (text_items depth B n)
 flat_text_fails depth X B n (TooDeep line) f (inr d) x t = text_below depth B n d ∙ ap (then_read (λ nodes. just (map plain nodes))) (ap (λ Y. below_last_level Y n) (sym x) ∙ t n)
-flat_text_fails depth X B n (TooDeep line) f (inl e) x t = absurd (no_refusal n line (ap (λ Y. below_last_level Y n) (sym (x ∙ no_lines B e)) ∙ t n))
+flat_text_fails depth X B n (TooDeep line) f (inl e) x t = absurd (no_refusal n line (ap (λ Y. below_last_level Y n) (sym (x ∙ nil_from_length B e)) ∙ t n))
 flat_text_fails depth X B n NoMemory f d x t = tt

@@ -19,7 +19,7 @@ use Rattle.rst_block.specs.Literals.{quoting_text, literal_node, indented_litera
 use Rattle.rst_block.specs.Texts.{joined, lines_in, said, source_of, spelled, unless_blank, warned}
 use Rattle.rst_tree.specs.declared.note.Level.TheVariants.{Warning, Error}
 use Rattle.rst_block.specs.Within.{indented_part}
-use Rattle.rst_block.proofs.NextConstructs.{span_to}
+use Rattle.rst_block.proofs.RestLemmas.{lines_after, span_to}
 
 -- ---- how many lines a literal block has
 
@@ -182,10 +182,6 @@ quoted_node B i j c line bytes h e l s =
     ∙ ap (preserved_node LiteralBlock (first_number (take n (drop i B)))) (s ∙ ap (λ k. spelled (take k (drop i B))) lines)
 
 -- ---- texts and lines
-
--- the lines after the first ones of those from a place on
-pub lines_after : (B : Block) (i n j : ℕ) → j ≡ i + n → drop n (drop i B) ≡ drop j B
-lines_after B i n j e = drop-drop n i B ∙ ap (λ k. drop k B) (sym e)
 
 -- no message where a line is blank, and one where it isn't
 pub none_said : (n i j : ℕ) (text : List ℕ) (B : Block) → j ≡ i + n → is_blank (front_text (drop j B)) ≡ true → unless_blank Error text (drop n (drop i B)) ≡ []

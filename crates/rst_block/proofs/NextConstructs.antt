@@ -1,7 +1,7 @@
 -- The next construct of a block: what begins at its next line, what the block gives by it, and what it gives once the open run has ended.
 use Rattle.std.proofs.Common.{◌≡◌, ℕ, suc, ◌+◌, ◌-◌, ◌^◌, ◌<◌, ◌≤◌, min, Bool, true, false, List, [], ◌∷◌, ◌++◌, length, drop, map, Ok, Err, arith, refl, sym, ◌∙◌, ap}
 use Rattle.std.specs.Prelude.{◌==◌}
-use Rattle.std.proofs.lemmas.List.{drop-drop, map-append}
+use Rattle.std.proofs.lemmas.List.{map-append}
 use Rattle.rst_text.specs.Block.{Block, is_blank, front_text, first_number}
 use Rattle.rst_tree.specs.declared.node.Node.{Node}
 use Rattle.rst_tree.specs.declared.note.Level.{Level}
@@ -37,7 +37,7 @@ use Rattle.rst_block.specs.declared.step.Step.TheVariants.{Done}
 use Rattle.rst_block.proofs.BegunLemmas.{marks_tell_constructs}
 use Rattle.rst_block.proofs.Changes.{done_moved, done_more, done_closed, done_title, kept_moved, kept_closed, reads_is}
 use Rattle.rst_block.proofs.NumberedLemmas.{same_after, before_before, before_then, same_before, at_number}
-pub use Rattle.rst_block.proofs.RestLemmas.{span_to}
+pub use Rattle.rst_block.proofs.RestLemmas.{lines_after, span_to}
 use Rattle.rst_block.proofs.RestLemmas.{rest_over, rest_blank, rest_text, alone_begins}
 
 -- ---- what begins at the next line
@@ -89,10 +89,6 @@ next_some {l} {B} h inside = omega (arith, h.size, (end_inside (l.depth == 0) B 
 
 pub next_within : {l : OpenBlock} {B : Block} {what : Construct} {lines : ℕ} → IsNextConstruct l B what lines → l.at < length B → l.at + lines ≤ length B
 next_within {l} {B} h inside = omega (arith, h.size, (end_inside (l.depth == 0) B l.at inside).1)
-
--- the lines below the next one
-pub line_below : (B : Block) (i j : ℕ) → j ≡ i + 1 → drop j B ≡ drop 1 (drop i B)
-line_below B i j e = ap (λ k. drop k B) e ∙ sym (drop-drop 1 i B)
 
 -- the place behind its lines
 pub end_behind : (old mid end lines length : ℕ) → mid ≡ old → end ≡ min (mid + lines) 18446744073709551615 → old + lines ≤ length → length < 2 ^ 64 → end ≡ old + lines

@@ -236,28 +236,28 @@ fits_joined (underlined_title infos short) s fs j x next h e = joins_none j x ne
 fits_joined (paragraph infos) s fs j x next h e = joins_none j x next h e
 
 -- the lines of a line block with one more
-lines_after : (B : Block) (last : ℕ) (fs : List Found) (x : Found) (what : Construct) (s : Span)
+line_then : (B : Block) (last : ℕ) (fs : List Found) (x : Found) (what : Construct) (s : Span)
     → ((last : ℕ) → indented_lines B last (fs ++ x ∷ []) ≡ indented_lines B last fs ++ indented_lines B (last_indent last (indented_lines B last fs)) (x ∷ []))
     → indented_lines B last (record { what = what; span = s } ∷ (fs ++ x ∷ []))
     ≡ indented_lines B last (record { what = what; span = s } ∷ fs) ++ indented_lines B (last_indent last (indented_lines B last (record { what = what; span = s } ∷ fs))) (x ∷ [])
-lines_after B last fs x (bar_line m) s h = ap (λ ls. indented_line (indentation_of last m) B m s ∷ ls) (h (indentation_of last m))
-lines_after B last fs x nothing s h = h last
-lines_after B last fs x block_quote s h = h last
-lines_after B last fs x (item_of_list mark) s h = h last
-lines_after B last fs x doctest_block s h = h last
-lines_after B last fs x grid s h = h last
-lines_after B last fs x simple s h = h last
-lines_after B last fs x explicit_markup s h = h last
-lines_after B last fs x transition s h = h last
-lines_after B last fs x (overlined_title mark short) s h = h last
-lines_after B last fs x (misplaced_lines level text) s h = h last
-lines_after B last fs x (underlined_title infos short) s h = h last
-lines_after B last fs x (paragraph infos) s h = h last
+line_then B last fs x (bar_line m) s h = ap (λ ls. indented_line (indentation_of last m) B m s ∷ ls) (h (indentation_of last m))
+line_then B last fs x nothing s h = h last
+line_then B last fs x block_quote s h = h last
+line_then B last fs x (item_of_list mark) s h = h last
+line_then B last fs x doctest_block s h = h last
+line_then B last fs x grid s h = h last
+line_then B last fs x simple s h = h last
+line_then B last fs x explicit_markup s h = h last
+line_then B last fs x transition s h = h last
+line_then B last fs x (overlined_title mark short) s h = h last
+line_then B last fs x (misplaced_lines level text) s h = h last
+line_then B last fs x (underlined_title infos short) s h = h last
+line_then B last fs x (paragraph infos) s h = h last
 
 lines_push : (B : Block) (last : ℕ) (fs : List Found) (x : Found)
     → indented_lines B last (fs ++ x ∷ []) ≡ indented_lines B last fs ++ indented_lines B (last_indent last (indented_lines B last fs)) (x ∷ [])
 lines_push B last [] x = refl
-lines_push B last (f ∷ fs) x = lines_after B last fs x f.what f.span (λ last. lines_push B last fs x)
+lines_push B last (f ∷ fs) x = line_then B last fs x f.what f.span (λ last. lines_push B last fs x)
 
 list_with : Joining → ℕ → List Node → Node → List Node → List Node → OpenRun
 list_with j end notes element items after =

@@ -55,8 +55,9 @@ begun titles i (l ∷ ls) h some = rw h (ap (λ (S : List Span). span_to i (i + 
         let f : suc i + n ≡ i + suc n = omega arith in
         ap (λ k. spans_from titles (suc i) k ls) e ∙ skipped titles (suc i) n ls ∙ ap (λ j. spans_from titles j 0 (drop n ls)) f
 
-one_more : (i : ℕ) (B : Block) → drop 1 (drop i B) ≡ drop (suc i) B
-one_more i B = let e : i + 1 ≡ suc i = omega arith in drop-drop 1 i B ∙ ap (λ n. drop n B) e
+-- the lines after the first ones of those from a place on
+pub lines_after : (B : Block) (i n j : ℕ) → j ≡ i + n → drop n (drop i B) ≡ drop j B
+lines_after B i n j e = drop-drop n i B ∙ ap (λ k. drop k B) (sym e)
 
 -- a line that isn't blank is there
 there : (B : Block) (i : ℕ) → IsTextAt B i → i < length B
@@ -71,7 +72,7 @@ found_over titles B i h = ap (λ X. map (found_at titles B) (spans_from titles i
 
 found_blank : (titles : Bool) (B : Block) (i : ℕ) → IsBlankAt B i → found_from titles B i ≡ found_from titles B (suc i)
 found_blank titles B i h =
-    ap (map (found_at titles B)) (blank_skipped titles i (drop i B) h ∙ ap (spans_from titles (suc i) 0) (one_more i B))
+    ap (map (found_at titles B)) (blank_skipped titles i (drop i B) h ∙ ap (spans_from titles (suc i) 0) (lines_after B i 1 (suc i) (omega arith)))
 
 found_text : (titles : Bool) (B : Block) (i : ℕ) → IsTextAt B i → found_from titles B i ≡ found_in titles B i ∷ found_from titles B (construct_end titles B i)
 found_text titles B i h =

@@ -7,12 +7,13 @@ use Rattle.std.proofs.Math.Utf8.{encode, encodes}
 use Rattle.std.specs.declared.string.String.{String}
 use Rattle.std.proofs.lemmas.Str.{encodes-append, encode_ascii, chars_past_char, chars_from_encodes, IsUtf8-string_bytes}
 use Rattle.std.proofs.lemmas.Bool.{cases_lt}
-use Rattle.std.proofs.lemmas.List.{take_all, take-map}
+use Rattle.std.proofs.lemmas.List.{take_all, drop_all, take-map}
 use Rattle.rst_text.specs.Block.{Line, Block, front_text, shorten, shorten_all}
 use Rattle.rst_text.specs.Text.{chars_of}
 use Rattle.rst_text.proofs.Indenting.{no_chars}
 use Rattle.rst_text.proofs.Scanning.{past_char}
 use Rattle.rst_block.specs.Texts.{joined, spelled}
+use Rattle.rst_block.proofs.Splitting.{take_none}
 
 -- ---- characters
 
@@ -33,13 +34,9 @@ Copies-step from count left next c text part rest after more s e one is = record
   utf8 = (past_char rest after c s.utf8 e).1;
 }
 
-no_take : (n : ℕ) (xs : List ℕ) → xs ≡ [] → take n xs ≡ []
-no_take zero xs e = refl
-no_take (suc n) xs e = rw e refl
-
 pub Copies-over : (from count left : ℕ) (text part rest : List ℕ) → Copies from count text part rest left → length rest ≡ 0 → part ≡ encode_utf8_all (take count (drop from (chars text)))
 Copies-over from count left text part rest s none =
-    sym (append-nil part) ∙ ap (λ t. part ++ encode_utf8_all t) (sym (no_take left (chars rest) (no_chars rest none))) ∙ s.value
+    sym (append-nil part) ∙ ap (λ t. part ++ encode_utf8_all t) (sym (take_none left (chars rest) (no_chars rest none))) ∙ s.value
 
 pub Copies-end : (from count left : ℕ) (text part rest : List ℕ) → Copies from count text part rest left → left ≡ 0 → part ≡ encode_utf8_all (take count (drop from (chars text)))
 Copies-end from count left text part rest s none =
@@ -105,16 +102,6 @@ pub uncut_block : (X : Block) → shorten_all 0 0 X ≡ X
 uncut_block [] = refl
 uncut_block (l ∷ ls) = ap (λ (x : Block). l ∷ x) (uncut_lines ls)
 
-none_left : (i : ℕ) (B : Block) → length B ≤ i → drop i B ≡ []
-none_left zero [] h = refl
-none_left zero (l ∷ ls) h = absurd (omega arith)
-none_left (suc i) [] h = refl
-none_left (suc i) (l ∷ ls) h = none_left i ls (omega arith)
-
-no_lines : (n : ℕ) (X : Block) → X ≡ [] → take n X ≡ []
-no_lines zero X e = refl
-no_lines (suc n) X e = rw e refl
-
 -- the lines between two places, where those that don't exist are left out
 pub lines_there : (B : Block) (from to f t : ℕ) → t ≡ min to (length B) → f ≡ min from t → take (t - f) (drop f B) ≡ take (to - from) (drop from B)
 lines_there B from to f t et ef = by (cases_lt (length B) from) (cases_lt to from) (cases_lt (length B) to)
@@ -133,5 +120,5 @@ lines_there B from to f t et ef = by (cases_lt (length B) from) (cases_lt to fro
         rw (p, q) refl
     by (inl a) (inr b) y =
         let p : t - f ≡ 0 = omega arith in
-        let none : drop from B ≡ [] = none_left from B (omega arith) in
-        rw p (sym (no_lines (to - from) (drop from B) none))
+        let none : drop from B ≡ [] = drop_all from B (omega arith) in
+        rw p (sym (take_none (to - from) (drop from B) none))

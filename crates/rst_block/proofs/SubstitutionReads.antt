@@ -25,18 +25,18 @@ use Rattle.rst_block.specs.Numbered.{just}
 use Rattle.rst_block.specs.Texts.{source_of}
 use Rattle.rst_block.specs.Within.{Within}
 
-image_by : List Choice → ℕ → List ℕ → List ℕ → Node
-image_by choices line name address = filled (substitution_definition_node name line) (image_element address choices line false (Some name) ∷ [])
+image_held : List Choice → ℕ → List ℕ → List ℕ → Node
+image_held choices line name address = filled (substitution_definition_node name line) (image_element address choices line false (Some name) ∷ [])
 
 -- a definition that holds an image
 pub image_holds : (outcome : Outcome) (name : Name) (choices : List Choice) (content : Content) (word t shown n written : List ℕ) (c : Within) (B : Block) (s : Span) (line : ℕ) (node : Node)
     → outcome ≡ found (record { name = name; argument = uri (chars word); options = choices; content = content }) → t ≡ word → encode_utf8_all (chars t) ≡ t → shown ≡ n → line ≡ first_number (drop s.start B)
     → node ≡ filled (substitution_definition_node shown line) (image_element t choices line false (Some shown) ∷ []) → just (node ∷ []) ≡ holding outcome c B s n written
-unfolding image_by
+unfolding image_held
 image_holds outcome name choices content word t shown n written c B s line node o h u e l m =
     let at : ℕ = first_number (drop s.start B) in
     ap (λ (x : Node). just (x ∷ []))
-    (m ∙ ap (λ x. image_by choices line x t) e ∙ ap (λ k. image_by choices k n t) l ∙ ap (image_by choices at n) (sym u ∙ ap (λ w. encode_utf8_all (chars w)) h))
+    (m ∙ ap (λ x. image_held choices line x t) e ∙ ap (λ k. image_held choices k n t) l ∙ ap (image_held choices at n) (sym u ∙ ap (λ w. encode_utf8_all (chars w)) h))
     ∙ ap (λ (x : Outcome). holding x c B s n written) (sym o)
 
 -- a definition that holds no directive

@@ -26,7 +26,7 @@ use Rattle.rst_block.specs.Texts.{said, source_of}
 use Rattle.rst_block.specs.Titles.{Item, plain, titled, title_item, short_warning, underline_warning, underline_item}
 use Rattle.rst_block.specs.declared.open_block.OpenBlock.{OpenBlock}
 use Rattle.rst_block.proofs.Changes.{more_as, more_then, more_more, done_moved, done_more, done_title, kept_moved, kept_more, kept_title}
-use Rattle.rst_block.proofs.NextConstructs.{line_below, HasEnded, kept_ended, next_items, next_nodes}
+use Rattle.rst_block.proofs.NextConstructs.{lines_after, HasEnded, kept_ended, next_items, next_nodes}
 use Rattle.rst_block.proofs.ParagraphLemmas.{after_infos}
 
 -- ---- a line of text
@@ -129,7 +129,7 @@ pub kept_items : {read : Result (List Item × ℕ) ℕ} {old new : OpenBlock} {a
 kept_items g = record { depth = g.depth; placed = g.placed }
 
 pub under_number : (B : Block) (i : ℕ) {j line : ℕ} → j ≡ i + 1 → line ≡ first_number (drop j B) → line ≡ first_number (drop 1 (drop i B))
-under_number B i {j} e l = l ∙ ap first_number (line_below B i j e)
+under_number B i {j} e l = l ∙ ap first_number (sym (lines_after B i 1 j e))
 
 pub title_as : (B : Block) (i : ℕ) {j c line : ℕ} {t u lines : List ℕ} {front : Option ℕ} {warning : Option Node} (n : ℕ) {read : Result (List Item × ℕ) ℕ} → j ≡ i + 1
     → u ≡ front_text (drop j B) → front ≡ first u → c ≡ unwrap_or front 32 → t ≡ front_text (drop i B) → line ≡ first_number (drop i B)
@@ -137,7 +137,7 @@ pub title_as : (B : Block) (i : ℕ) {j c line : ℕ} {t u lines : List ℕ} {fr
     → title_item (under_style (drop i B)) (front_text (drop i B)) (first_number (drop i B)) warning lines n ≡ read
 title_as B i {j} {c} {line} {t} {lines = lines} {warning = warning} n e text f is te le r =
     let character : c ≡ unwrap_or (first (next_text (drop i B))) 32 =
-    is ∙ ap (λ o. unwrap_or o 32) (f ∙ ap first (text ∙ ap front_text (line_below B i j e))) in
+    is ∙ ap (λ o. unwrap_or o 32) (f ∙ ap first (text ∙ ap front_text (sym (lines_after B i 1 j e)))) in
     sym (
     ap (λ k. title_item (record { character = k; overlined = false }) t line warning lines n) character
     ∙ ap (λ x. title_item (under_style (drop i B)) x line warning lines n) te

@@ -1,4 +1,4 @@
-use Rattle.std.proofs.Common.{◌≡◌, ◌+◌, ◌≤◌, length, drop, arith, rules, refl, ◌∙◌, ap}
+use Rattle.std.proofs.Common.{◌≡◌, ◌+◌, ◌≤◌, length, drop, arith, rules, refl, sym, ◌∙◌, ap}
 use Rattle.rst_text.specs.Block.{Block, first_number}
 use Rattle.rst_text.specs.Shown.{block_of}
 use Rattle.std.specs.Prelude.{string_bytes}
@@ -11,7 +11,7 @@ use Rattle.rst_block.specs.Titles.{short_warning}
 use Rattle.rst_block.proofs.AdornedSteps.{overlined_reads}
 use Rattle.rst_block.proofs.Calls.{close_refuses, gives_keeps, gives_kept}
 use Rattle.rst_block.proofs.Changes.{kept_closed, kept_moved, kept_title, kept_then}
-use Rattle.rst_block.proofs.NextConstructs.{next_some, next_within, line_below, end_behind, goes_behind, span_to, has_ended, next_refused, next_title}
+use Rattle.rst_block.proofs.NextConstructs.{next_some, next_within, lines_after, end_behind, goes_behind, span_to, has_ended, next_refused, next_title}
 use Rattle.rst_block.proofs.adornment.overlined.Goals as goal
 
 pub returns-in_err-close-clause-read : goal.returns-in_err-close-clause-read
@@ -34,11 +34,11 @@ returns-clause-read c =
     c.in_ok-lines.ensures.bytes ∙ ap (λ i. source_of B (span_to i c.saturating_add-end.result)) c.close.ensures.at ∙ ap (λ i. source_of B (span_to l.at i)) stop in
     let second : c.saturating_add.result ≡ l.at + 1 = omega (arith, c.saturating_add.ensures, c.close.ensures.at, within, c.requires.short) in
     let third : c.saturating_add-2.result ≡ l.at + 1 = omega (arith, c.saturating_add-2.ensures, c.close.ensures.at, within, c.requires.short) in
-    let line : c.number_at-line.result ≡ first_number (drop 1 (drop l.at B)) = c.number_at-line.ensures ∙ ap first_number (line_below B l.at c.saturating_add.result second) in
+    let line : c.number_at-line.result ≡ first_number (drop 1 (drop l.at B)) = c.number_at-line.ensures ∙ ap first_number (sym (lines_after B l.at 1 c.saturating_add.result second)) in
     let text : chars c.skip-text.result.now ≡ unindented (next_text (drop l.at B)) =
     c.skip-text.ensures.chars
     ∙ ap (λ i. drop i (chars c.text_at-text.result.now)) c.indentation.ensures.value
-    ∙ ap unindented (c.text_at-text.ensures.text ∙ ap front_text (line_below B l.at c.saturating_add-2.result third)) in
+    ∙ ap unindented (c.text_at-text.ensures.text ∙ ap front_text (sym (lines_after B l.at 1 c.saturating_add-2.result third))) in
     let warning : c.in_ok-warning.warning ≡ short_warning c.args.short (first_number (drop l.at B)) _ (string_bytes c.in_ok-lines.lines) =
     c.in_ok-warning.ensures
     ∙ ap (λ i. short_warning c.args.short i _ c.as_str.result.now) (c.number_at.ensures ∙ ap (λ i. first_number (drop i B)) c.close.ensures.at)

@@ -9,7 +9,7 @@ use Rattle.rst_block.specs.Meanings.{within_at}
 use Rattle.rst_block.specs.Numbered.{Numbered}
 use Rattle.rst_block.specs.Texts.{source_of}
 use Rattle.rst_block.proofs.Calls.{keeps_as}
-use Rattle.rst_block.proofs.DirectiveReads.{language_by}
+use Rattle.rst_block.proofs.DirectiveReads.{language_right}
 use Rattle.rst_block.proofs.NextConstructs.{span_to}
 use Rattle.rst_block.proofs.directive.directive_nodes.Goals as goal
 
@@ -24,6 +24,6 @@ returns-in-Language-clause-read c =
     let lines = source_of B (span_to l.at f.end) in
     keeps_as c.code_nodes.result _ _ _
     (ap (λ (read : Numbered (List Node)). reads_with l B read f.end n)
-    (language_by f.argument c.in-Language.language word f.name (within_at l.depth) B line (read_of f) lines (ap given_in c.in-Language.is) c.as_str-in-Language.ensures.value
+    (language_right f.argument c.in-Language.language word f.name (within_at l.depth) B line (read_of f) lines (ap given_in c.in-Language.is) c.as_str-in-Language.ensures.value
     (encodes-chars word c.as_str-in-Language.utf8)))
     c.code_nodes.ensures.read

@@ -8,7 +8,7 @@ use Rattle.rst_block.specs.Meanings.{within_at}
 use Rattle.rst_block.specs.Numbered.{Numbered}
 use Rattle.rst_block.specs.Texts.{source_of}
 use Rattle.rst_block.proofs.Calls.{keeps_as}
-use Rattle.rst_block.proofs.DirectiveReads.{figure_by, image_by, image_is}
+use Rattle.rst_block.proofs.DirectiveReads.{figure_right, image_right, image_is}
 use Rattle.rst_block.proofs.NextConstructs.{span_to}
 use Rattle.rst_block.proofs.directive.image_block.Goals as goal
 
@@ -22,7 +22,7 @@ returns-then-is_figure-clause-read c =
     let line = first_number (drop l.at B) in
     let lines = source_of B (span_to l.at f.end) in
     keeps_as c.figure_block.result _ _ _
-    (ap (λ (read : Numbered (List Node)). reads_with l B read f.end n) (figure_by f.name c.is_figure.result t (within_at l.depth) B line (read_of f) lines c.is_figure.ensures c.if-is_figure.true (encodes-chars t c.utf8.uri)))
+    (ap (λ (read : Numbered (List Node)). reads_with l B read f.end n) (figure_right f.name c.is_figure.result t (within_at l.depth) B line (read_of f) lines c.is_figure.ensures c.if-is_figure.true (encodes-chars t c.utf8.uri)))
     c.figure_block.ensures.read
 
 pub returns-clause-step : goal.returns-clause-step
@@ -40,5 +40,5 @@ returns-clause-read c =
     keeps_as c.put.result _ _ _
     (ap (λ (read : Numbered (List Node)). reads_with l B read f.end n)
     (image_is c.in_ok-node.node t c.as_slice.result.now f.options.items c.number_at-line.result line c.in_ok-node.ensures c.as_slice.ensures.value c.number_at-line.ensures
-    ∙ image_by f.name c.is_figure.result t (within_at l.depth) B line (read_of f) lines c.is_figure.ensures c.if-is_figure.false (encodes-chars t c.utf8.uri)))
+    ∙ image_right f.name c.is_figure.result t (within_at l.depth) B line (read_of f) lines c.is_figure.ensures c.if-is_figure.false (encodes-chars t c.utf8.uri)))
     (c.put.ensures.read B n)

@@ -8,7 +8,7 @@ use Rattle.rst_block.specs.Meanings.{within_at}
 use Rattle.rst_block.specs.Numbered.{Numbered}
 use Rattle.rst_block.specs.Texts.{source_of}
 use Rattle.rst_block.proofs.Calls.{keeps_as}
-use Rattle.rst_block.proofs.DirectiveReads.{code_by, plain_by, plain_comes}
+use Rattle.rst_block.proofs.DirectiveReads.{code_right, plain_right, plain_comes}
 use Rattle.rst_block.proofs.NextConstructs.{span_to}
 use Rattle.rst_block.proofs.directive.plain_block.Goals as goal
 
@@ -21,7 +21,7 @@ returns-then-is_code-clause-read c =
     let line = first_number (drop l.at B) in
     let lines = source_of B (span_to l.at f.end) in
     keeps_as c.code_nodes.result _ _ _
-    (ap (λ (read : Numbered (List Node)). reads_with l B read f.end n) (code_by f.name c.is_code.result (within_at l.depth) B line (read_of f) lines c.is_code.ensures c.if-is_code.true))
+    (ap (λ (read : Numbered (List Node)). reads_with l B read f.end n) (code_right f.name c.is_code.result (within_at l.depth) B line (read_of f) lines c.is_code.ensures c.if-is_code.true))
     c.code_nodes.ensures.read
 
 pub returns-clause-read : goal.returns-clause-read
@@ -33,4 +33,4 @@ returns-clause-read c =
     let line = first_number (drop l.at B) in
     plain_comes l c.opened.new.level B (read_of f) f.end n c.number_at-line.result line c.in_ok-node.node c.as_slice.result.now c.opened.result c.in_ok-node.ensures (ap choices_in c.as_slice.ensures.value) c.number_at-line.ensures
     c.opened.ensures.opened c.opened.ensures.at c.opened.ensures.moved
-    ∙ ap (λ (read : Numbered (List Node)). reads_with l B read f.end n) (plain_by f.name c.is_code.result (within_at l.depth) B line (read_of f) (source_of B (span_to l.at f.end)) c.is_code.ensures c.if-is_code.false)
+    ∙ ap (λ (read : Numbered (List Node)). reads_with l B read f.end n) (plain_right f.name c.is_code.result (within_at l.depth) B line (read_of f) (source_of B (span_to l.at f.end)) c.is_code.ensures c.if-is_code.false)
