@@ -5,6 +5,8 @@ use Rattle.rst_text.specs.Shown.{block_of}
 use Rattle.rst_tree.specs.declared.node.Node.{Node}
 use Rattle.rst_markup_lines.specs.Closing.{ends_in_colons}
 use Rattle.rst_block.specs.Literals.{literal_nodes}
+use Rattle.rst_block.specs.OpenBlocks.{ReadsNodes}
+use Rattle.rst_block.specs.TextSteps.{paragraph_between, paragraph_end}
 use Rattle.rst_block.proofs.Calls.{gives_map}
 use Rattle.rst_block.proofs.Changes.{more_as, more_then, more_moved}
 use Rattle.rst_block.proofs.ParagraphLemmas.{between_plain, between_colons, end_plain, end_colons}
@@ -37,4 +39,5 @@ returns-clause-read c =
     let L : List Node = literal_nodes (first_number (drop (end - 1) B)) (drop end B) in
     let given = between_colons t u at end c.args.pass.now.numbers c.put_paragraph-2.new.pass.numbers B read.more colons (ap chars c.as_str.ensures.value ∙ c.in_ok-shown.ensures) c.requires.behind read.given
     ∙ ap (λ k. Ok (read.more ++ L, k)) (sym c.literal.ensures.numbers) in
-    gives_map _ _ c.literal.result c.literal.ensures.gone (λ _ g. record { more = read.more ++ L; given = given; gone = more_as refl (end_colons t end B colons) (more_then read.gone g) })
+    gives_map _ (λ _. ReadsNodes (paragraph_between t at end B c.args.pass.now.numbers) c.args.level.now c.literal.new.level (paragraph_end t end B) c.literal.new.pass.numbers) c.literal.result c.literal.ensures.gone
+    (λ _ g. record { more = read.more ++ L; given = given; gone = more_as refl (end_colons t end B colons) (more_then read.gone g) })

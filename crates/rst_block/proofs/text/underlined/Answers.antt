@@ -1,7 +1,11 @@
-use Rattle.std.proofs.Common.{◌≡◌, ◌+◌, sym, ap, subst, ◌∙◌, arith}
+use Rattle.std.proofs.Common.{◌≡◌, ◌+◌, drop, sym, ap, subst, ◌∙◌, arith}
+use Rattle.std.specs.Prelude.{string_bytes}
+use Rattle.rst_text.specs.Block.{front_text, first_number}
 use Rattle.rst_text.specs.Shown.{block_of}
 use Rattle.rst_block.specs.OpenBlocks.{ReadsItems}
+use Rattle.rst_block.specs.TextSteps.{under_style}
 use Rattle.rst_block.specs.Texts.{source_of}
+use Rattle.rst_block.specs.Titles.{title_item}
 use Rattle.rst_block.proofs.Calls.{gives_map}
 use Rattle.rst_block.proofs.TextLines.{more_items, warning_as, titled_as, unexpected_as}
 use Rattle.rst_block.proofs.text.underlined.Goals as goal
@@ -15,7 +19,9 @@ returns-then-titles-clause-read c =
     let bytes = c.in_ok-lines.ensures.bytes ∙ ap (λ stop. source_of B (record { start = l.at; stop = stop })) end in
     let warning = warning_as c.args.short B l.at place end c.number_at-under.ensures (c.as_str.ensures.value ∙ c.in_ok-lines.ensures.bytes) c.in_ok-warning.ensures in
     let read = titled_as c.args.short B l.at c.args.pass.now.numbers (sym c.titles.ensures ∙ c.if-titles.true) bytes warning in
-    gives_map _ _ c.put_title.result c.put_title.ensures.read (λ _ h. subst (λ r. ReadsItems r l c.put_title.new.level (l.at + 2) c.put_title.new.pass.numbers) read h)
+    let title = title_item (under_style (drop l.at B)) (front_text (drop l.at B)) (first_number (drop l.at B)) c.in_ok-warning.warning (string_bytes c.in_ok-lines.lines) c.args.pass.now.numbers in
+    gives_map (λ _. ReadsItems title l c.put_title.new.level (l.at + 2) c.put_title.new.pass.numbers) _ c.put_title.result c.put_title.ensures.read
+    (λ _ h. subst (λ r. ReadsItems r l c.put_title.new.level (l.at + 2) c.put_title.new.pass.numbers) read h)
 
 pub returns-clause-read : goal.returns-clause-read
 returns-clause-read c =
