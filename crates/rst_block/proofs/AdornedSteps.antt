@@ -1,8 +1,7 @@
 -- A line of one punctuation character at the next line of a block: its form says the construct.
-use Rattle.std.proofs.Common.{◌≡◌, ℕ, ◌+◌, Bool, true, List, Result, codes, drop, Option, Some, unwrap_or, sym, ◌∙◌, ap}
+use Rattle.std.proofs.Common.{◌≡◌, ℕ, Bool, true, List, Result, codes, drop, Option, Some, unwrap_or, sym, ◌∙◌, ap}
 use Rattle.std.specs.Prelude.{◌==◌}
 use Rattle.std.specs.Option.{option_map_or}
-use Rattle.std.proofs.lemmas.List.{drop-drop}
 use Rattle.rst_text.specs.Block.{Block, first_number}
 use Rattle.rst_tree.specs.declared.node.Node.{Node}
 use Rattle.rst_tree.specs.declared.note.Level.{Level}
@@ -15,23 +14,21 @@ use Rattle.rst_markup_blocks.specs.Sizes.{adornment_size, adorned_size, fixed_si
 use Rattle.rst_markup_blocks.specs.declared.begun.Begun.TheVariants as begun
 use Rattle.rst_markup_blocks.specs.declared.form.Adorned.{Adorned}
 use Rattle.rst_block_sections.specs.declared.heading.Style.{Style}
-use Rattle.rst_block.specs.Adornments.{IsMessageOn}
-use Rattle.rst_block.specs.Constructs.{adorned_by, text_after, misplaced_lines}
-use Rattle.rst_block.specs.NextLine.{IsText, IsNextConstruct}
+use Rattle.rst_block.specs.Constructs.{adorned_by, misplaced_lines}
+use Rattle.rst_block.specs.NextLine.{IsNextConstruct, IsMessageOn}
 use Rattle.rst_block.specs.Texts.{source_of}
 use Rattle.rst_block.specs.Titles.{Item, short_warning, title_item, overlined_nodes}
 use Rattle.rst_block.specs.declared.open_block.OpenBlock.{OpenBlock}
-use Rattle.rst_block.proofs.NextConstructs.{next_of}
-use Rattle.rst_block.proofs.NextLines.{span_to}
+use Rattle.rst_block.proofs.NextConstructs.{next_of, span_to}
 
 -- the form of a line of one punctuation character at the next line
 abbrev pub form_at : OpenBlock → Block → Adornment → Adorned
 form_at l B mark = adorned_form (l.depth == 0) mark (next_text (drop l.at B)) (third_text (drop l.at B))
 
 -- it is the form that is found
-pub form_is : (l : OpenBlock) (B : Block) (mark : Adornment) (form found : Adorned) (titles : Bool) → found ≡ form
+pub form_is : (l : OpenBlock) (B : Block) (mark : Adornment) {form found : Adorned} {titles : Bool} → found ≡ form
     → found ≡ adorned_form titles mark (next_text (drop l.at B)) (third_text (drop l.at B)) → titles ≡ (l.depth == 0) → form ≡ form_at l B mark
-form_is l B mark form found titles e f t = sym e ∙ f ∙ ap (λ b. adorned_form b mark (next_text (drop l.at B)) (third_text (drop l.at B))) t
+form_is l B mark e f t = sym e ∙ f ∙ ap (λ b. adorned_form b mark (next_text (drop l.at B)) (third_text (drop l.at B))) t
 
 size_by : (l : OpenBlock) (B : Block) (mark : Adornment) → IsBegun (drop l.at B) (begun.Adornment mark) → adornment_size (l.depth == 0) (drop l.at B) ≡ adorned_size (form_at l B mark) (drop l.at B)
 unfolding adornment_size
@@ -39,9 +36,9 @@ size_by l B mark h =
     ap (λ o. option_map_or (λ (m : Adornment). adorned_size (adorned_form (l.depth == 0) m (next_text (drop l.at B)) (third_text (drop l.at B))) (drop l.at B)) o (text_size (drop l.at B))) h.mark
 
 -- the construct of the form, and its lines
-pub adorned_next : (l : OpenBlock) (B : Block) (mark : Adornment) (form : Adorned) → IsBegun (drop l.at B) (begun.Adornment mark) → form ≡ form_at l B mark
+pub adorned_next : (l : OpenBlock) (B : Block) {mark : Adornment} {form : Adorned} → IsBegun (drop l.at B) (begun.Adornment mark) → form ≡ form_at l B mark
     → IsNextConstruct l B (adorned_by form (l.depth == 0) mark (drop l.at B)) (adorned_size form (drop l.at B))
-adorned_next l B mark form h e =
+adorned_next l B {mark} h e =
     let next = next_of (begun.Adornment mark) l B h tt in
     record {
       filled = next.filled;
@@ -49,15 +46,11 @@ adorned_next l B mark form h e =
       size = next.size ∙ size_by l B mark h ∙ ap (λ g. adorned_size g (drop l.at B)) (sym e);
     }
 
--- a text after messages that say why it is one
-pub text_next : (l : OpenBlock) (B : Block) (infos : List Node) → IsNextConstruct l B (text_after (l.depth == 0) infos (drop l.at B)) (text_size (drop l.at B)) → IsText l B infos
-text_next l B infos h = record { filled = h.filled; construct = h.construct; size = h.size }
-
 -- lines of a form that is wrong
-pub wrong_next : (l : OpenBlock) (B : Block) (mark : Adornment) (form : Adorned) (level : Level) (text : List ℕ) (lines : ℕ) → IsBegun (drop l.at B) (begun.Adornment mark) → form ≡ form_at l B mark
+pub wrong_next : (l : OpenBlock) (B : Block) {mark : Adornment} {form : Adorned} (level : Level) (text : List ℕ) {lines : ℕ} → IsBegun (drop l.at B) (begun.Adornment mark) → form ≡ form_at l B mark
     → IsMessageOn form level text → fixed_size form ≡ Some lines → IsNextConstruct l B (misplaced_lines level text) lines
-wrong_next l B mark form level text lines h e m s =
-    let next = adorned_next l B mark form h e in
+wrong_next l B {mark} level text h e m s =
+    let next = adorned_next l B h e in
     record {
       filled = next.filled;
       construct = next.construct ∙ m (l.depth == 0) mark (drop l.at B);
@@ -65,10 +58,6 @@ wrong_next l B mark form level text lines h e m s =
     }
 
 -- ---- titles with an overline
-
--- the lines below the first
-pub rest_below : (B : Block) (at place : ℕ) → place ≡ at + 1 → drop place B ≡ drop 1 (drop at B)
-rest_below B at place e = ap (λ i. drop i B) e ∙ sym (drop-drop 1 at B)
 
 -- the title that is made is that of the lines
 pub overlined_reads : (mark : Adornment) (short : Bool) (B : Block) (at stop line m : ℕ) (text bytes : List ℕ) (warning : Option Node) (read : Result (List Item × ℕ) ℕ)

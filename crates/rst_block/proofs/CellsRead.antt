@@ -13,22 +13,20 @@ use Rattle.rst_block_nodes.specs.Elements.{element_of, entry_node}
 use Rattle.rst_block_sections.specs.Sections.{filled}
 use Rattle.rst_block.specs.Constructs.{grid}
 use Rattle.rst_block.specs.Joins.{alone_ending}
-use Rattle.rst_block.specs.Meanings.{Keeps, comes, deepest, done_of, open_of, reads, reads_from, text_items, text_with, within_at}
+use Rattle.rst_block.specs.Meanings.{Keeps, comes, deepest, done_of, reads, reads_from, text_items, text_with, within_at}
 use Rattle.rst_block.specs.Nodes.{below_last_level, block_items, ending_notes, inner_nodes, nodes_among}
 use Rattle.rst_block.specs.Numbered.{Numbered, then_read, ◌>>=◌, just, each}
-use Rattle.rst_block.specs.OpenBlocks.{IsMoved, HasMore, IsKept, IsPlaced}
-use Rattle.rst_block.specs.Rest.{rest}
+use Rattle.rst_block.specs.OpenBlocks.{IsMoved, HasMore, IsPlaced}
 use Rattle.rst_block.specs.Tables.{entry_of, row_of, table_node}
 use Rattle.rst_block.specs.Titles.{Item, plain}
 use Rattle.rst_block.specs.declared.fault.BlockFault.{BlockFault}
 use Rattle.rst_block.specs.declared.fault.BlockFault.TheVariants.{TooDeep, NoMemory}
 use Rattle.rst_block.specs.declared.open_block.OpenBlock.{OpenBlock}
 use Rattle.rst_block.specs.declared.step.Step.TheVariants.{Cells}
-use Rattle.rst_block.proofs.Changes.{placed_moved, placed_more}
-use Rattle.rst_block.proofs.Depths.{last_level}
+use Rattle.rst_block.proofs.Changes.{more_more, moved_more, more_is_read}
+use Rattle.rst_block.proofs.LastLevel.{last_level}
 use Rattle.rst_block.proofs.MeaningLemmas.{within_is, inner_is}
-use Rattle.rst_block.proofs.NextLines.{gone_reads}
-use Rattle.rst_block.proofs.NumberedLemmas.{same_after, after_after, then_just, before_before}
+use Rattle.rst_block.proofs.NumberedLemmas.{same_after, after_after, then_just, at_number}
 use Rattle.rst_block.proofs.RestLemmas.{nodes_among_plain}
 use Rattle.rst_block.proofs.Waiting.{among_done}
 
@@ -40,10 +38,7 @@ each_after f made left = do
   more ← each f left
   just (made ++ more)
 
-pub each_begins : {S A : Type 0} (f : S → Numbered A) (xs : List S) (n : ℕ) → each_after f [] xs n ≡ each f xs n
-each_begins f xs n = then_just (each f xs n)
-
-pub each_step : {S A : Type 0} (f : S → Numbered A) (x : S) (xs : List S) (made : List A) (a : A) (n m : ℕ) → f x n ≡ Ok (a, m)
+each_step : {S A : Type 0} (f : S → Numbered A) (x : S) (xs : List S) (made : List A) (a : A) (n m : ℕ) → f x n ≡ Ok (a, m)
     → each_after f (made ++ a ∷ []) xs m ≡ each_after f made (x ∷ xs) n
 each_step f x xs made a n m h =
     sym (
@@ -51,24 +46,24 @@ each_step f x xs made a n m h =
     ∙ after_after (each f xs m) (λ others. just (a ∷ others)) (λ more. just (made ++ more))
     ∙ same_after (each f xs m) (λ others. just (made ++ a ∷ others)) (λ others. just ((made ++ a ∷ []) ++ others)) (λ others k. ap (λ items. just items k) (sym (append_assoc made (a ∷ []) others))))
 
-pub each_refused : {S A : Type 0} (f : S → Numbered A) (x : S) (xs : List S) (made : List A) (n line : ℕ) → f x n ≡ Err line → each_after f made (x ∷ xs) n ≡ Err line
+each_refused : {S A : Type 0} (f : S → Numbered A) (x : S) (xs : List S) (made : List A) (n line : ℕ) → f x n ≡ Err line → each_after f made (x ∷ xs) n ≡ Err line
 each_refused f x xs made n line h = ap (λ r. then_read (λ more. just (made ++ more)) (then_read (λ a. each f xs >>= λ others. just (a ∷ others)) r)) h
 
 -- the same where the things stand in a list of others
-pub each_next : {T S A : Type 0} (f : S → Numbered A) (v : T → S) (ts : List T) (i : ℕ) (t : T) (made : List A) (a : A) (n m : ℕ) → i < length ts → t ≡ get_or ts i t → f (v t) n ≡ Ok (a, m)
+each_next : {T S A : Type 0} (f : S → Numbered A) (v : T → S) (ts : List T) (i : ℕ) (t : T) (made : List A) (a : A) (n m : ℕ) → i < length ts → t ≡ get_or ts i t → f (v t) n ≡ Ok (a, m)
     → each_after f (made ++ a ∷ []) (map v (drop (i + 1) ts)) m ≡ each_after f made (map v (drop i ts)) n
 each_next f v ts i t made a n m h e k =
     let j : i + 1 ≡ suc i = omega arith in
     let d : drop i ts ≡ t ∷ drop (i + 1) ts = drop-cons ts i t h ∙ ap (λ u. u ∷ drop (suc i) ts) (sym e) ∙ ap (λ j. t ∷ drop j ts) (sym j) in
     each_step f (v t) (map v (drop (i + 1) ts)) made a n m k ∙ ap (λ us. each_after f made (map v us) n) (sym d)
 
-pub each_fails : {T S A : Type 0} (f : S → Numbered A) (v : T → S) (ts : List T) (i : ℕ) (t : T) (made : List A) (n line : ℕ) → i < length ts → t ≡ get_or ts i t → f (v t) n ≡ Err line
+each_fails : {T S A : Type 0} (f : S → Numbered A) (v : T → S) (ts : List T) (i : ℕ) (t : T) (made : List A) (n line : ℕ) → i < length ts → t ≡ get_or ts i t → f (v t) n ≡ Err line
     → each_after f made (map v (drop i ts)) n ≡ Err line
 each_fails f v ts i t made n line h e k =
     let d : drop i ts ≡ t ∷ drop (suc i) ts = drop-cons ts i t h ∙ ap (λ u. u ∷ drop (suc i) ts) (sym e) in
     ap (λ us. each_after f made (map v us) n) d ∙ each_refused f (v t) (map v (drop (suc i) ts)) made n line k
 
-pub each_ends : {T S A : Type 0} (f : S → Numbered A) (v : T → S) (ts : List T) (i : ℕ) (made : List A) (n : ℕ) → length ts ≤ i
+each_ends : {T S A : Type 0} (f : S → Numbered A) (v : T → S) (ts : List T) (i : ℕ) (made : List A) (n : ℕ) → length ts ≤ i
     → each_after f made (map v (drop i ts)) n ≡ Ok (made, n)
 each_ends f v ts i made n h = ap (λ us. each_after f made (map v us) n) (drop_all i ts h) ∙ ap (λ items. just items n) (append-nil made)
 
@@ -77,7 +72,7 @@ each_ends f v ts i made n h = ap (λ us. each_after f made (map v us) n) (drop_a
 abbrev same : Cell → Cell
 same cell = cell
 
-pub map_same : (cells : List Cell) → map same cells ≡ cells
+map_same : (cells : List Cell) → map same cells ≡ cells
 map_same [] = refl
 map_same (c ∷ cs) = ap (λ ds. c ∷ ds) (map_same cs)
 
@@ -86,7 +81,7 @@ text_as d zero B n h e =
     after_after (below_last_level B n) (λ nodes. just (map plain nodes)) (λ items. just (nodes_among items))
     ∙ same_after (below_last_level B n) (λ nodes. just (nodes_among (map plain nodes))) just (λ nodes k. ap (λ (ns : List Node). just ns k) (nodes_among_plain nodes))
     ∙ then_just (below_last_level B n)
-    ∙ ap (λ (read : Numbered (List Node)). read n) (sym (last_level true B))
+    ∙ at_number n (sym (last_level true B))
 text_as d (suc k) B n h e =
     let j : deepest - suc d ≡ k = omega (arith, e) in
     ap (λ c. (block_items c B >>= λ items. just (nodes_among items)) n) (within_is d (omega (arith, e)))
@@ -94,7 +89,7 @@ text_as d (suc k) B n h e =
     ∙ ap (λ left. inner_nodes true (suc left) B n) j
 
 -- the nodes of a cell's lines
-pub text_inside : (depth : ℕ) (B : Block) (n : ℕ) → 1 ≤ depth → depth ≤ 251 → (text_items depth B >>= λ items. just (nodes_among items)) n ≡ (within_at (depth - 1)).inner B n
+text_inside : (depth : ℕ) (B : Block) (n : ℕ) → 1 ≤ depth → depth ≤ 251 → (text_items depth B >>= λ items. just (nodes_among items)) n ≡ (within_at (depth - 1)).inner B n
 text_inside depth B n low high =
     let d : ℕ = depth - 1 in
     let e : depth ≡ suc (depth - 1) = omega (arith, low) in
@@ -103,7 +98,7 @@ text_inside depth B n low high =
     ∙ ap (λ depth. (text_with (deepest - d) depth B >>= λ items. just (nodes_among items)) n) e
     ∙ text_as d (deepest - d) B n (omega (arith, high)) refl
 
-pub entry_reads : (depth : ℕ) (cell : Cell) (B : Block) (level : OpenBlock) (node : Node) (n m : ℕ) → 1 ≤ depth → depth ≤ 251 → B ≡ cell.lines
+entry_reads : (depth : ℕ) (cell : Cell) (B : Block) (level : OpenBlock) (node : Node) (n m : ℕ) → 1 ≤ depth → depth ≤ 251 → B ≡ cell.lines
     → just (done_of level) m ≡ text_items depth B n → node ≡ filled (entry_node cell.morerows cell.morecols 0) level.nodes.items
     → entry_of (within_at (depth - 1)) cell n ≡ Ok (node, m)
 entry_reads depth cell B level node n m low high b h e =
@@ -113,7 +108,7 @@ entry_reads depth cell B level node n m low high b h e =
     ∙ ap (λ (ns : List Node). Ok (F ns, m)) (among_done level)
     ∙ ap (λ made. Ok (made, m)) (sym e)
 
-pub entry_refused : (depth : ℕ) (cell : Cell) (B : Block) (n line : ℕ) → 1 ≤ depth → depth ≤ 251 → B ≡ cell.lines → text_items depth B n ≡ Err line
+entry_refused : (depth : ℕ) (cell : Cell) (B : Block) (n line : ℕ) → 1 ≤ depth → depth ≤ 251 → B ≡ cell.lines → text_items depth B n ≡ Err line
     → entry_of (within_at (depth - 1)) cell n ≡ Err line
 entry_refused depth cell B n line low high b h =
     let F : List Node → Node = λ ns. filled (entry_node cell.morerows cell.morecols 0) ns in
@@ -126,17 +121,7 @@ entry_refused depth cell B n line low high b h =
 abbrev pub row_after : ℕ → List Node → List Cell → Numbered (List Node)
 row_after depth made left = each_after (entry_of (within_at (depth - 1))) made (map same left)
 
-pub row_begins : (depth : ℕ) (cells : List Cell) (n : ℕ) → row_after depth [] cells n ≡ each (entry_of (within_at (depth - 1))) cells n
-row_begins depth cells n = each_begins (entry_of (within_at (depth - 1))) (map same cells) n ∙ ap (λ cs. each (entry_of (within_at (depth - 1))) cs n) (map_same cells)
-
-pub row_ends : (depth : ℕ) (cells : List Cell) (i : ℕ) (made : List Node) (node : Node) (n m : ℕ) → length cells ≤ i
-    → row_after depth made (drop i cells) m ≡ each (entry_of (within_at (depth - 1))) cells n → node ≡ element_of Row [] made 0
-    → Ok (node, m) ≡ row_of (within_at (depth - 1)) cells n
-row_ends depth cells i made node n m h inv e =
-    ap (λ made. Ok (made, m)) e
-    ∙ ap (then_read (λ entries. just (element_of Row [] entries 0))) (sym (each_ends (entry_of (within_at (depth - 1))) same cells i made m h) ∙ inv)
-
-pub row_fails : (depth : ℕ) (cells : List Cell) (i : ℕ) (cell : Cell) (made : List Node) (n m line : ℕ) → i < length cells → cell ≡ get_or cells i cell
+row_fails : (depth : ℕ) (cells : List Cell) (i : ℕ) (cell : Cell) (made : List Node) (n m line : ℕ) → i < length cells → cell ≡ get_or cells i cell
     → row_after depth made (drop i cells) m ≡ each (entry_of (within_at (depth - 1))) cells n → entry_of (within_at (depth - 1)) cell m ≡ Err line
     → row_of (within_at (depth - 1)) cells n ≡ Err line
 row_fails depth cells i cell made n m line h c inv e =
@@ -152,15 +137,6 @@ row_keeps depth cells i cell B made n m NoMemory f g low high h c b inv k = tt
 
 -- ---- tables
 
-more_twice : (old mid new : OpenBlock) (some more : List Node) → HasMore old mid some → HasMore mid new more → HasMore old new (some ++ more)
-more_twice old mid new some more h k = record {
-  depth = k.depth ∙ h.depth;
-  at = k.at ∙ h.at;
-  nodes = k.nodes ∙ ap (λ (ns : List Node). ns ++ more) h.nodes ∙ append_assoc old.nodes.items some more;
-  headings = k.headings ∙ h.headings;
-  run = k.run ∙ h.run;
-}
-
 -- the rows of a table at the next line of a block that stands in one block less than its cells
 pub table_reads : (old moved mid new : OpenBlock) (B : Block) (depth : ℕ) (found : TableResult) (cols : List ℕ) (head end : ℕ) (rows : List (List Cell)) (made : List Node) (node : Node) (n m : ℕ)
     → found ≡ Table cols head rows end → depth ≡ suc old.depth → each (row_of (within_at (depth - 1))) rows n ≡ Ok (made, m) → node ≡ table_node cols head made (first_number (drop old.at B))
@@ -171,18 +147,11 @@ table_reads old moved mid new B depth found cols head end rows made node n m q d
     let T : List Node → List Node = λ made. table_node cols head made (first_number (drop old.at B)) ∷ [] in
     let c : depth - 1 ≡ old.depth = omega (arith, d) in
     let k : mid.at ≡ end = some.at ∙ at in
-    let all : HasMore moved new (node ∷ N) = more_twice moved mid new (node ∷ []) N some (subst (λ i. HasMore mid new (ending_notes (alone_ending grid) (drop i B))) k more) in
-    gone_reads old moved new B (node ∷ N) end m mv at all w
-    ∙ before_before (done_of old) (map plain (node ∷ N)) (rest (within_at old.depth) B end (open_of old.run)) m
+    let all : HasMore moved new (node ∷ N) = more_more some (subst (λ i. HasMore mid new (ending_notes (alone_ending grid) (drop i B))) k more) in
+    at_number m (more_is_read B (moved_more mv at all) w)
     ∙ ap (λ node. reads_from old B (node ∷ N) end m) e
     ∙ ap (λ r. then_read (λ ns. reads_from old B (ns ++ N) end) (then_read (λ made. just (T made)) r)) (sym (ap (λ depth. each (row_of (within_at depth)) rows n) (sym c) ∙ h))
     ∙ ap (λ t. comes old B (Cells t) n) (sym q)
-
-pub table_kept : (old moved mid new : OpenBlock) (some more : List Node) → IsMoved old moved → HasMore moved mid some → HasMore mid new more → IsPlaced old → IsKept old new
-table_kept old moved mid new some more mv h k w = record {
-  depth = k.depth ∙ h.depth ∙ mv.depth;
-  placed = placed_more mid new more k (placed_more moved mid some h (placed_moved old moved mv w));
-}
 
 -- all rows were made
 pub rows_made : {Z : Type 0} (depth : ℕ) (items : List (Vec Cell Z)) (rows : List (List Cell)) (i : ℕ) (made : List Node) (n m : ℕ) → length items ≤ i → cells_of items ≡ rows

@@ -32,25 +32,25 @@ use Rattle.rst_block.proofs.MarkupReads.{content_comes, titled_then}
 
 -- ---- a directive by its argument and its name
 
-pub figure_by : (name : Name) (figure : Bool) (t : List ℕ) (c : Within) (B : Block) (line : ℕ) (read : Read) (lines : List ℕ) → figure ≡ is_figure name → figure ≡ true → encode_utf8_all (chars t) ≡ t
+pub figure_right : (name : Name) (figure : Bool) (t : List ℕ) (c : Within) (B : Block) (line : ℕ) (read : Read) (lines : List ℕ) → figure ≡ is_figure name → figure ≡ true → encode_utf8_all (chars t) ≡ t
     → figure_of c B line read t lines ≡ right_by (uri (chars t)) name c B line read lines
-figure_by Figure figure t c B line read lines e h u = ap (λ a. figure_of c B line read a lines) (sym u)
-figure_by _ figure t c B line read lines e h u = let no : true ≡ false = sym h ∙ e in cc
+figure_right Figure figure t c B line read lines e h u = ap (λ a. figure_of c B line read a lines) (sym u)
+figure_right _ figure t c B line read lines e h u = let no : true ≡ false = sym h ∙ e in cc
 
-pub image_by : (name : Name) (figure : Bool) (t : List ℕ) (c : Within) (B : Block) (line : ℕ) (read : Read) (lines : List ℕ) → figure ≡ is_figure name → figure ≡ false → encode_utf8_all (chars t) ≡ t
+pub image_right : (name : Name) (figure : Bool) (t : List ℕ) (c : Within) (B : Block) (line : ℕ) (read : Read) (lines : List ℕ) → figure ≡ is_figure name → figure ≡ false → encode_utf8_all (chars t) ≡ t
     → just (image_element t read.options line false None ∷ []) ≡ right_by (uri (chars t)) name c B line read lines
-image_by Figure figure t c B line read lines e h u = let no : false ≡ true = sym h ∙ e in cc
-image_by _ figure t c B line read lines e h u = ap (λ a. just (image_element a read.options line false None ∷ [])) (sym u)
+image_right Figure figure t c B line read lines e h u = let no : false ≡ true = sym h ∙ e in cc
+image_right _ figure t c B line read lines e h u = ap (λ a. just (image_element a read.options line false None ∷ [])) (sym u)
 
-pub code_by : (name : Name) (code : Bool) (c : Within) (B : Block) (line : ℕ) (read : Read) (lines : List ℕ) → code ≡ is_code_name name → code ≡ true
+pub code_right : (name : Name) (code : Bool) (c : Within) (B : Block) (line : ℕ) (read : Read) (lines : List ℕ) → code ≡ is_code_name name → code ≡ true
     → just (code_nodes B line read None) ≡ right_by nothing name c B line read lines
-code_by Code code c B line read lines e h = refl
-code_by _ code c B line read lines e h = let no : true ≡ false = sym h ∙ e in cc
+code_right Code code c B line read lines e h = refl
+code_right _ code c B line read lines e h = let no : true ≡ false = sym h ∙ e in cc
 
-pub plain_by : (name : Name) (code : Bool) (c : Within) (B : Block) (line : ℕ) (read : Read) (lines : List ℕ) → code ≡ is_code_name name → code ≡ false
+pub plain_right : (name : Name) (code : Bool) (c : Within) (B : Block) (line : ℕ) (read : Read) (lines : List ℕ) → code ≡ is_code_name name → code ≡ false
     → plain_nodes c B line read ≡ right_by nothing name c B line read lines
-plain_by Code code c B line read lines e h = let no : false ≡ true = sym h ∙ e in cc
-plain_by _ code c B line read lines e h = refl
+plain_right Code code c B line read lines e h = let no : false ≡ true = sym h ∙ e in cc
+plain_right _ code c B line read lines e h = refl
 
 -- ---- what comes
 
@@ -63,7 +63,7 @@ pub titled_comes : (old new : OpenBlock) (B : Block) (read : Read) (lines : Bloc
 titled_comes old new B read lines end n m line at node s h l e a moved =
     let c = within_at old.depth in
     ap (λ s. comes new B s m) e
-    ∙ content_comes old new B (Element node) read.content (λ ns. filled node ns ∷ []) end m moved a (λ ns. refl)
+    ∙ content_comes B (Element node) read.content (λ ns. filled node ns ∷ []) m moved a (λ ns. refl)
     ∙ ap (then_read (λ ns. reads_from old B ns end))
     (sym (titled_then (texted TitleTag (number_or line lines) (joined lines) (number_or line lines) n) (titled_element read.name (directive_element read.name read.options line)) (content_nodes c B read.content) node m h))
     ∙ ap (λ k. reads_with old B (titled_nodes c B k read lines) end n) l
@@ -74,7 +74,7 @@ pub plain_comes : (old new : OpenBlock) (B : Block) (read : Read) (end n line at
 plain_comes old new B read end n line at node slice s h o l e a moved =
     let c = within_at old.depth in
     ap (λ s. comes new B s n) e
-    ∙ content_comes old new B (Element node) read.content (λ ns. filled node ns ∷ []) end n moved a (λ ns. refl)
+    ∙ content_comes B (Element node) read.content (λ ns. filled node ns ∷ []) n moved a (λ ns. refl)
     ∙ ap (λ x. reads_with old B (made_of c B read.content (λ ns. filled x ns ∷ [])) end n) (h ∙ ap (λ os. directive_element read.name os line) o ∙ ap (directive_element read.name read.options) l)
 
 -- ---- elements
@@ -95,7 +95,7 @@ figure_is c B read t lines source line at slice element shown figure inner e s i
     ∙ ap (λ x. made_of c B read.content (figure_nodes (filled (figure_element read.options line) (image_element t read.options line true None ∷ [])) (caption_error line x))) r
     ∙ ap (λ k. made_of c B read.content (figure_nodes (filled (figure_element read.options k) (image_element t read.options k true None ∷ [])) (caption_error k lines))) l
 
-pub language_by : {A : Type 0} (argument : Argument) (word : String A) (t : List ℕ) (name : Name) (c : Within) (B : Block) (line : ℕ) (read : Read) (lines : List ℕ) → given_in argument ≡ language (chars (string_bytes word))
+pub language_right : {A : Type 0} (argument : Argument) (word : String A) (t : List ℕ) (name : Name) (c : Within) (B : Block) (line : ℕ) (read : Read) (lines : List ℕ) → given_in argument ≡ language (chars (string_bytes word))
     → t ≡ string_bytes word → encode_utf8_all (chars t) ≡ t → just (code_nodes B line read (Some t)) ≡ right_by (given_in argument) name c B line read lines
-language_by argument word t name c B line read lines e h u =
+language_right argument word t name c B line read lines e h u =
     ap (λ w. just (code_nodes B line read (Some w))) (sym u ∙ ap (λ w. encode_utf8_all (chars w)) h) ∙ ap (λ g. right_by g name c B line read lines) (sym e)

@@ -1,7 +1,6 @@
 -- A line of a line block at the next line of a block: it joins the open line block, or begins one.
-use Rattle.std.proofs.Common.{◌≡◌, ℕ, suc, ◌+◌, ◌-◌, ◌<◌, ◌≤◌, Bool, true, false, List, [], ◌∷◌, ◌++◌, length, length-drop, take, drop, Some, None, unwrap_or, Result, Err, arith, refl, sym, ◌∙◌, ap, subst, append_assoc, string_bytes, encode_utf8_all, IsUtf8, chars}
-use Rattle.std.specs.Prelude.{if◌then◌else◌}
-use Rattle.std.specs.Prelude.{box_value}
+use Rattle.std.proofs.Common.{◌≡◌, ℕ, ◌+◌, ◌-◌, ◌<◌, ◌≤◌, Bool, true, false, List, [], ◌∷◌, ◌++◌, length, length-drop, take, drop, Some, None, unwrap_or, Err, arith, refl, sym, ◌∙◌, ap, append_assoc, string_bytes, encode_utf8_all, IsUtf8, chars}
+use Rattle.std.specs.Prelude.{if◌then◌else◌, box_value}
 use Rattle.std.specs.declared.string.String.{String}
 use Rattle.std.proofs.lemmas.Str.{chars-append, chars_from_encodes, encode_ascii}
 use Rattle.rst_text.specs.Block.{Block, front_text, first_number, cut, shorten_all}
@@ -10,16 +9,15 @@ use Rattle.rst_markup_lines.specs.declared.marker.Marker.{Marker}
 use Rattle.rst_markup_blocks.specs.Partition.{Span}
 use Rattle.rst_block_nodes.specs.LineBlocks.{IndentedLine, indented_by, indented_from, indented}
 use Rattle.rst_block_nodes.specs.declared.line_blocks.BarText.{BarText}
-use Rattle.rst_block_sections.specs.Sections.{items_from}
 use Rattle.rst_block.specs.Constructs.{bar_line, Found}
 use Rattle.rst_block.specs.Joins.{lines_from, joining_after}
 use Rattle.rst_block.specs.LineRuns.{below_bar, bar_lines, number_or, indentation_of, indented_line, indented_lines}
-use Rattle.rst_block.specs.LinesSoFar.{HasLine, line_added, lines_end_at, text_over}
-use Rattle.rst_block.specs.Meanings.{deepest, joining_in, open_of, within_at, done_of, reads}
+use Rattle.rst_block.specs.TextSteps.{text_over}
+use Rattle.rst_block.specs.Meanings.{joining_in, open_of, within_at, done_of, reads}
 use Rattle.rst_block.specs.NextLine.{IsNextConstruct}
 use Rattle.rst_block.specs.Numbered.{Numbered, ◌>>=◌, before}
-use Rattle.rst_block.specs.OpenBlocks.{AreWithin, IsMoved, IsClosed, IsPlaced, IsKept}
-use Rattle.rst_block.specs.Rest.{OpenRun, no_run, open_list, open_lines, open_markup, closed_run, joining_with, last_indent, rest, rest_with}
+use Rattle.rst_block.specs.OpenBlocks.{IsMoved, HasRun, IsPlaced, IsKept, HasLine, line_added, lines_end_at}
+use Rattle.rst_block.specs.Rest.{OpenRun, no_run, open_list, open_lines, open_markup, joining_with, last_indent, rest, rest_with}
 use Rattle.rst_block.specs.RestLaws.{found_as}
 use Rattle.rst_block.specs.Texts.{joined}
 use Rattle.rst_block.specs.Titles.{Item}
@@ -28,10 +26,9 @@ use Rattle.rst_block.specs.declared.run.ListKind.{ListKind}
 use Rattle.rst_block.specs.declared.run.ListKind.TheVariants.{Bullet, Enumerated, Definition, Field, OptionItem}
 use Rattle.rst_block.specs.declared.run.Run.{Run}
 use Rattle.rst_block.specs.declared.run.Run.TheVariants.{None as NoRun, List as ListRun, Lines, Explicit}
-use Rattle.rst_block.proofs.Changes.{placed_closed}
-use Rattle.rst_block.proofs.NextConstructs.{next_found, next_reads}
-use Rattle.rst_block.proofs.NextLines.{span_to, closed_reads, close_refused}
-use Rattle.rst_block.proofs.NumberedLemmas.{same_before}
+use Rattle.rst_block.proofs.Changes.{done_same, kept_same, reads_is}
+use Rattle.rst_block.proofs.NextConstructs.{span_to, next_found, next_reads, run_of, HasEnded, closed_reads, close_refused}
+use Rattle.rst_block.proofs.NumberedLemmas.{same_before, at_number}
 use Rattle.rst_block.proofs.RestLemmas.{line_joins, line_begins}
 
 -- ---- the text of a line
@@ -140,18 +137,6 @@ begins (ListRun l) m s h = no_list (box_value l).kind m s
 begins (Lines lines end) m s h = ap (λ (b : Bool). if b then Some (lines_from s.stop) else None) h
 begins (Explicit end) m s h = refl
 
--- how the block goes on after a line
-line_reads : (new : OpenBlock) (B : Block) (done : List Item) (depth at n : ℕ) (o : OpenRun) → done_of new ≡ done → new.depth ≡ depth → new.at ≡ at → open_of new.run ≡ o
-    → reads new B n ≡ before done (rest (within_at depth) B at o) n
-line_reads new B done depth at n o d e a r =
-    ap (λ items. before items (rest (within_at new.depth) B new.at (open_of new.run)) n) d
-    ∙ ap (λ k. before done (rest (within_at k) B new.at (open_of new.run)) n) e
-    ∙ ap (λ i. before done (rest (within_at depth) B i (open_of new.run)) n) a
-    ∙ ap (λ p. before done (rest (within_at depth) B at p) n) r
-
-done_same : (old new : OpenBlock) → new.nodes.items ≡ old.nodes.items → new.headings.items ≡ old.headings.items → done_of new ≡ done_of old
-done_same old new n h = ap (λ nodes. items_from 0 nodes new.headings.items) n ∙ ap (items_from 0 old.nodes.items) h
-
 -- a line that joins the open line block
 joins_by : (o : OpenRun) (old new : OpenBlock) (B : Block) (m : Marker) (bar : BarText) (lines n : ℕ) → open_of old.run ≡ o → lines_end_at old.at o ≡ true
     → IsNextConstruct old B (bar_line m) lines
@@ -159,10 +144,10 @@ joins_by : (o : OpenRun) (old new : OpenBlock) (B : Block) (m : Marker) (bar : B
     → HasLine old new (line_added bar (old.at + lines) o) → new.at ≡ old.at + lines → reads new B n ≡ reads old B n
 joins_by (open_lines end ls) old new B m bar lines n e h next line g at =
     let f : Found = next_found old (bar_line m) lines in
-    line_reads new B (done_of old) old.depth (old.at + lines) n (line_added bar (old.at + lines) (open_lines end ls)) (done_same old new g.nodes g.headings) g.depth at g.run
+    at_number n (reads_is new B (done_same old new g.nodes g.headings) g.depth at g.run)
     ∙ ap (λ l. before (done_of old) (rest (within_at old.depth) B (old.at + lines) (open_lines (old.at + lines) (ls ++ l ∷ []))) n) (line (last_indent 0 ls))
     ∙ sym (
-    next_reads old B (bar_line m) lines n next
+    next_reads n next
     ∙ ap (λ r. before (done_of old) (rest_with (within_at old.depth) B r f) n) e
     ∙ same_before (done_of old) (rest_with (within_at old.depth) B (open_lines end ls) f)
     (rest (within_at old.depth) B (old.at + lines) (open_lines (old.at + lines) (ls ++ indented_lines B (last_indent 0 ls) (f ∷ []))))
@@ -172,72 +157,47 @@ joins_by (open_list l) old new B m bar lines n e h next line g at = cc
 joins_by (open_markup end) old new B m bar lines n e h next line g at = cc
 
 -- the same, whatever run is open
-pub line_joined : (old new : OpenBlock) (B : Block) (m : Marker) (bar : BarText) (lines n : ℕ) → lines_end_at old.at (open_of old.run) ≡ true
-    → IsNextConstruct old B (bar_line m) lines
+pub line_joined : {old new : OpenBlock} {B : Block} {m : Marker} {lines : ℕ} (bar : BarText) (n : ℕ) → lines_end_at old.at (open_of old.run) ≡ true → IsNextConstruct old B (bar_line m) lines
     → ((last : ℕ) → indented_by (unwrap_or bar.indent last) bar ≡ indented_line (indentation_of last m) B m (span_to old.at (old.at + lines)))
     → HasLine old new (line_added bar (old.at + lines) (open_of old.run)) → new.at ≡ old.at + lines → reads new B n ≡ reads old B n
-line_joined old new B m bar lines n h next line g at = joins_by (open_of old.run) old new B m bar lines n refl h next line g at
+line_joined {old} {new} {B} {m} {lines} bar n h next line g at = joins_by (open_of old.run) old new B m bar lines n refl h next line g at
 
 -- what comes of a line that begins a line block
 after_begin : OpenBlock → Block → Marker → ℕ → Numbered (List Item)
 after_begin old B m lines = rest (within_at old.depth) B (old.at + lines) (open_lines (old.at + lines) (indented_lines B 0 (next_found old (bar_line m) lines ∷ [])))
 
-begin_reads : (old : OpenBlock) (B : Block) (m : Marker) (lines n : ℕ) → lines_end_at old.at (open_of old.run) ≡ false → IsNextConstruct old B (bar_line m) lines
-    → reads old B n ≡ before (done_of old) (closed_run (suc deepest - old.depth) B (open_of old.run) >>= λ done. before done (after_begin old B m lines)) n
+run_then_line : {l : OpenBlock} {B : Block} {m : Marker} {lines : ℕ} (n : ℕ) → lines_end_at l.at (open_of l.run) ≡ false → IsNextConstruct l B (bar_line m) lines
+    → reads l B n ≡ before (done_of l) (run_of l B >>= λ done. before done (after_begin l B m lines)) n
 unfolding after_begin
-begin_reads old B m lines n h next =
-    let f : Found = next_found old (bar_line m) lines in
-    next_reads old B (bar_line m) lines n next
-    ∙ same_before (done_of old) (rest_with (within_at old.depth) B (open_of old.run) f)
-    (closed_run (suc deepest - old.depth) B (open_of old.run) >>= λ done. before done (after_begin old B m lines)) n
-    (line_begins (within_at old.depth) B (open_of old.run) m f.span n (begins old.run m f.span h))
+run_then_line {l} {B} {m} {lines} n h next =
+    let f : Found = next_found l (bar_line m) lines in
+    next_reads n next
+    ∙ same_before (done_of l) (rest_with (within_at l.depth) B (open_of l.run) f) (run_of l B >>= λ done. before done (after_begin l B m lines)) n
+    (line_begins (within_at l.depth) B (open_of l.run) m f.span n (begins l.run m f.span h))
 
 -- a line that begins a line block, once the open run has ended and one without lines is open
-pub line_begun : (old mid opened new : OpenBlock) (B : Block) (m : Marker) (bar : BarText) (lines n k e : ℕ) → lines_end_at old.at (open_of old.run) ≡ false
-    → IsNextConstruct old B (bar_line m) lines
+pub line_begun : {old mid new : OpenBlock} {B : Block} {m : Marker} {lines n k : ℕ} (opened : OpenBlock) (bar : BarText) (e : ℕ) → lines_end_at old.at (open_of old.run) ≡ false → IsNextConstruct old B (bar_line m) lines
     → ((last : ℕ) → indented_by (unwrap_or bar.indent last) bar ≡ indented_line (indentation_of last m) B m (span_to old.at (old.at + lines)))
-    → IsClosed (closed_run (suc deepest - old.depth) B (open_of old.run) n) old mid k no_run → IsPlaced old
-    → opened.depth ≡ mid.depth → opened.nodes.items ≡ mid.nodes.items → opened.headings.items ≡ mid.headings.items → open_of opened.run ≡ open_lines e []
-    → HasLine opened new (line_added bar (old.at + lines) (open_of opened.run)) → new.at ≡ old.at + lines → reads new B k ≡ reads old B n
+    → HasEnded old mid B n k → HasRun mid opened (open_lines e []) → HasLine opened new (line_added bar (old.at + lines) (open_of opened.run)) → new.at ≡ old.at + lines → reads new B k ≡ reads old B n
 unfolding after_begin
-line_begun old mid opened new B m bar lines n k e h next line cl w depth nodes headings run g at =
-    line_reads new B (done_of mid) old.depth (old.at + lines) k (line_added bar (old.at + lines) (open_lines e []))
-    (done_same opened new g.nodes g.headings ∙ done_same mid opened nodes headings) (g.depth ∙ depth ∙ cl.depth) at (g.run ∙ ap (line_added bar (old.at + lines)) run)
+line_begun {old} {mid} {new} {B} {m} {lines} {n} {k} opened bar e h next line ended run g at =
+    at_number k (reads_is new B (done_same opened new g.nodes g.headings ∙ done_same mid opened run.nodes run.headings) (g.depth ∙ run.depth ∙ ended.closed.depth) at (g.run ∙ ap (line_added bar (old.at + lines)) run.run))
     ∙ ap (λ l. before (done_of mid) (rest (within_at old.depth) B (old.at + lines) (open_lines (old.at + lines) (l ∷ []))) k) (line 0)
     ∙ sym (
-    begin_reads old B m lines n h next
-    ∙ closed_reads old mid B n k no_run (λ done. before done (after_begin old B m lines)) (after_begin old B m lines) cl w (λ done j. refl))
+    run_then_line n h next
+    ∙ closed_reads old mid B n k no_run (λ done. before done (after_begin old B m lines)) (after_begin old B m lines) ended.closed ended.placed (λ done j. refl))
 
 -- where the open run is nested too deeply, so is all
-pub line_refused : (l : OpenBlock) (B : Block) (m : Marker) (lines n line : ℕ) → lines_end_at l.at (open_of l.run) ≡ false → IsNextConstruct l B (bar_line m) lines
-    → closed_run (suc deepest - l.depth) B (open_of l.run) n ≡ Err line → reads l B n ≡ Err line
+pub line_refused : {l : OpenBlock} {B : Block} {m : Marker} {lines line : ℕ} (n : ℕ) → lines_end_at l.at (open_of l.run) ≡ false → IsNextConstruct l B (bar_line m) lines → run_of l B n ≡ Err line → reads l B n ≡ Err line
 unfolding after_begin
-line_refused l B m lines n line h next cl = begin_reads l B m lines n h next ∙ close_refused l B n line (λ done. before done (after_begin l B m lines)) cl
+line_refused {l} {B} {m} {lines} {line} n h next e = run_then_line n h next ∙ close_refused l B n line (λ done. before done (after_begin l B m lines)) e
 
 -- ---- what a step keeps
 
 -- a line that was put leaves the depth as it is, and titles among the nodes
-pub kept_line : (old new : OpenBlock) (o : OpenRun) → HasLine old new o → IsPlaced old → IsKept old new
-kept_line old new o g w = record {
-  depth = g.depth;
-  placed = subst (λ hs. AreWithin (length new.nodes.items) hs) (sym g.headings) (subst (λ ns. AreWithin (length ns) old.headings.items) (sym g.nodes) w);
-}
-
--- and so does one that begins a line block
-pub kept_begun : (read : Result (List Item × ℕ) ℕ) (old mid opened new : OpenBlock) (next : ℕ) (o p : OpenRun) → IsClosed read old mid next o
-    → opened.depth ≡ mid.depth → opened.nodes.items ≡ mid.nodes.items → opened.headings.items ≡ mid.headings.items → HasLine opened new p → IsPlaced old → IsKept old new
-kept_begun read old mid opened new next o p cl depth nodes headings g w = record {
-  depth = g.depth ∙ depth ∙ cl.depth;
-  placed =
-      let placed : IsPlaced mid = placed_closed read old mid next o cl w in
-      subst (λ hs. AreWithin (length new.nodes.items) hs) (sym (g.headings ∙ headings)) (subst (λ ns. AreWithin (length ns) mid.headings.items) (sym (g.nodes ∙ nodes)) placed);
-}
+pub kept_line : {old new : OpenBlock} {o : OpenRun} → HasLine old new o → IsPlaced old → IsKept old new
+kept_line {old} {new} g w = kept_same old new g.depth g.nodes g.headings w
 
 -- a line that was put, where the block then goes on
-pub line_gone : (old mid new : OpenBlock) (o : OpenRun) → HasLine old mid o → IsMoved mid new → HasLine old new o
-line_gone old mid new o g m = record {
-  depth = m.depth ∙ g.depth;
-  nodes = m.nodes ∙ g.nodes;
-  headings = m.headings ∙ g.headings;
-  run = ap open_of m.run ∙ g.run;
-}
+pub line_gone : {old mid new : OpenBlock} {o : OpenRun} → HasLine old mid o → IsMoved mid new → HasLine old new o
+line_gone g m = record { depth = m.depth ∙ g.depth; nodes = m.nodes ∙ g.nodes; headings = m.headings ∙ g.headings; run = ap open_of m.run ∙ g.run }

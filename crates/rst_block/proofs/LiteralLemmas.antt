@@ -1,24 +1,25 @@
--- Literal blocks and the paragraphs that announce them.
-use Rattle.std.proofs.Common.{◌≡◌, ℕ, zero, suc, ◌+◌, ◌-◌, ◌<◌, ◌≤◌, ◌==◌, ◌⊎◌, inl, inr, Bool, true, false, List, [], ◌∷◌, ◌++◌, length, length-append, length-drop, get_or, take, drop, None, Some, refl, sym, ap, ◌∙◌, arith, lt-ltb, le-ltb, le-leb, drop-drop, get_or-append-add}
+-- Literal blocks and the paragraphs that announce them, and doctest blocks.
+use Rattle.std.proofs.Common.{◌≡◌, ℕ, zero, suc, ◌+◌, ◌-◌, ◌<◌, ◌≤◌, ◌==◌, ◌⊎◌, inl, inr, Bool, true, false, List, [], ◌∷◌, ◌++◌, length, length-append, length-drop, get_or, take, drop, None, Some, refl, sym, ap, ◌∙◌, arith, lt-ltb, le-ltb, le-leb, get_or-append-add}
 use Rattle.std.specs.Prelude.{codes, if◌then◌else◌}
 use Rattle.std.proofs.lemmas.Bool.{eqb-true}
 use Rattle.std.proofs.lemmas.List.{drop_all}
 use Rattle.rst_text.specs.Block.{Block, front_text, first_number, indentation, is_blank}
 use Rattle.rst_text.specs.Extent.{extent, past_blank}
 use Rattle.rst_tree.specs.declared.node.Node.{Node}
-use Rattle.rst_tree.specs.declared.tag.Tag.TheVariants.{LiteralBlock}
+use Rattle.rst_tree.specs.declared.tag.Tag.TheVariants.{LiteralBlock, DoctestBlock}
 use Rattle.rst_inline_scan.specs.Escapes.{is_escaped}
 use Rattle.rst_markup_lines.specs.Adornment.{is_punctuation}
 use Rattle.rst_markup_lines.specs.Closing.{ends_in_colons}
 use Rattle.rst_markup_lines.specs.Front.{first, begins_with}
 use Rattle.rst_markup_blocks.specs.Lines.{lines_while}
-use Rattle.rst_markup_blocks.specs.Sizes.{quoted_size, quoted_by, literal_size}
-use Rattle.rst_markup_blocks.specs.declared.lines.LineTest.TheVariants.{Blank, Begins}
+use Rattle.rst_markup_blocks.specs.Sizes.{quoted_size, quoted_by, literal_size, doctest_size}
+use Rattle.rst_markup_blocks.specs.declared.lines.LineTest.TheVariants.{Blank, Begins, Filled}
 use Rattle.rst_block_nodes.specs.Elements.{preserved_node}
-use Rattle.rst_block.specs.Literals.{quoting_text, literal_node, indented_literal, quoted_literal, no_literal, literal_by, literal_nodes}
+use Rattle.rst_block.specs.Literals.{quoting_text, literal_node, indented_literal, quoted_literal, no_literal, literal_by, literal_nodes, doctest_node}
 use Rattle.rst_block.specs.Texts.{joined, lines_in, said, source_of, spelled, unless_blank, warned}
 use Rattle.rst_tree.specs.declared.note.Level.TheVariants.{Warning, Error}
 use Rattle.rst_block.specs.Within.{indented_part}
+use Rattle.rst_block.proofs.RestLemmas.{lines_after, span_to}
 
 -- ---- how many lines a literal block has
 
@@ -82,7 +83,7 @@ stopped (l ∷ ls) h = by (is_blank l.text) refl (stopped ls) h
 abbrev pub behind_blanks : Block → Block
 behind_blanks Y = drop (lines_while Blank Y) Y
 
-pub size_indented : (Y : Block) → begins_with 32 (front_text (behind_blanks Y)) ≡ true → literal_size Y ≡ lines_while Blank Y + extent 1 (behind_blanks Y)
+size_indented : (Y : Block) → begins_with 32 (front_text (behind_blanks Y)) ≡ true → literal_size Y ≡ lines_while Blank Y + extent 1 (behind_blanks Y)
 unfolding literal_size
 size_indented Y h =
     let some = extent_some (behind_blanks Y) h in
@@ -101,14 +102,14 @@ not_blank : (t : List ℕ) (c : ℕ) → first t ≡ Some c → is_blank t ≡ f
 not_blank [] c h = cc
 not_blank (d ∷ ds) c h = refl
 
-pub size_quoted : (Y : Block) (c : ℕ) → begins_with 32 (front_text (behind_blanks Y)) ≡ false → first (front_text (behind_blanks Y)) ≡ Some c → is_punctuation c ≡ true
+size_quoted : (Y : Block) (c : ℕ) → begins_with 32 (front_text (behind_blanks Y)) ≡ false → first (front_text (behind_blanks Y)) ≡ Some c → is_punctuation c ≡ true
     → literal_size Y ≡ lines_while Blank Y + lines_while (Begins c) (behind_blanks Y)
 unfolding quoted_size
 size_quoted Y c h f p =
     no_extent Y (extent_none (behind_blanks Y) h (not_blank (front_text (behind_blanks Y)) c f))
     ∙ ap (λ o. quoted_by o (lines_while Blank Y) Y) f ∙ rw p refl
 
-pub size_other : (Y : Block) (c : ℕ) → begins_with 32 (front_text (behind_blanks Y)) ≡ false → first (front_text (behind_blanks Y)) ≡ Some c → is_punctuation c ≡ false → literal_size Y ≡ 0
+size_other : (Y : Block) (c : ℕ) → begins_with 32 (front_text (behind_blanks Y)) ≡ false → first (front_text (behind_blanks Y)) ≡ Some c → is_punctuation c ≡ false → literal_size Y ≡ 0
 unfolding quoted_size
 size_other Y c h f p =
     no_extent Y (extent_none (behind_blanks Y) h (not_blank (front_text (behind_blanks Y)) c f))
@@ -122,7 +123,7 @@ no_lines : extent 1 [] ≡ 0
 unfolding extent
 no_lines = refl
 
-pub size_none : (Y : Block) → first (front_text (behind_blanks Y)) ≡ None → literal_size Y ≡ 0
+size_none : (Y : Block) → first (front_text (behind_blanks Y)) ≡ None → literal_size Y ≡ 0
 unfolding quoted_size
 size_none Y f =
     no_extent Y (ap (extent 1) (stopped Y (is_none (front_text (behind_blanks Y)) f)) ∙ no_lines)
@@ -138,31 +139,24 @@ other_first : (t : List ℕ) (c : ℕ) → begins_with 32 t ≡ false → first 
 other_first [] c h f = cc
 other_first (d ∷ ds) c h f = let same : d ≡ c = cc in ap (λ x. x == 32) (sym same) ∙ h
 
-pub first_begins : (t : List ℕ) (c : ℕ) → first t ≡ Some c → begins_with c t ≡ true
-first_begins [] c f = cc
-first_begins (d ∷ ds) c f = let same : d ≡ c = cc in ap (λ x. d == x) (sym same) ∙ by d
-  where
-    by : (d : ℕ) → (d == d) ≡ true
-    by d = grind arith
-
-pub nodes_indented : (last : ℕ) (Y : Block) → begins_with 32 (front_text (behind_blanks Y)) ≡ true → literal_nodes last Y ≡ indented_literal (behind_blanks Y)
+nodes_indented : (last : ℕ) (Y : Block) → begins_with 32 (front_text (behind_blanks Y)) ≡ true → literal_nodes last Y ≡ indented_literal (behind_blanks Y)
 nodes_indented last Y h = ap (λ o. literal_by o last (behind_blanks Y)) (begins_first (front_text (behind_blanks Y)) 32 h)
 
-pub nodes_quoted : (last : ℕ) (Y : Block) (c : ℕ) → begins_with 32 (front_text (behind_blanks Y)) ≡ false → first (front_text (behind_blanks Y)) ≡ Some c → is_punctuation c ≡ true
+nodes_quoted : (last : ℕ) (Y : Block) (c : ℕ) → begins_with 32 (front_text (behind_blanks Y)) ≡ false → first (front_text (behind_blanks Y)) ≡ Some c → is_punctuation c ≡ true
     → literal_nodes last Y ≡ quoted_literal (lines_while (Begins c) (behind_blanks Y)) (behind_blanks Y)
 nodes_quoted last Y c h f p =
     ap (λ o. literal_by o last (behind_blanks Y)) f
     ∙ ap (λ (b : Bool). if b then indented_literal (behind_blanks Y) else if is_punctuation c then quoted_literal (lines_while (Begins c) (behind_blanks Y)) (behind_blanks Y) else no_literal last (behind_blanks Y)) (other_first (front_text (behind_blanks Y)) c h f)
     ∙ ap (λ (b : Bool). if b then quoted_literal (lines_while (Begins c) (behind_blanks Y)) (behind_blanks Y) else no_literal last (behind_blanks Y)) p
 
-pub nodes_other : (last : ℕ) (Y : Block) (c : ℕ) → begins_with 32 (front_text (behind_blanks Y)) ≡ false → first (front_text (behind_blanks Y)) ≡ Some c → is_punctuation c ≡ false
+nodes_other : (last : ℕ) (Y : Block) (c : ℕ) → begins_with 32 (front_text (behind_blanks Y)) ≡ false → first (front_text (behind_blanks Y)) ≡ Some c → is_punctuation c ≡ false
     → literal_nodes last Y ≡ no_literal last (behind_blanks Y)
 nodes_other last Y c h f p =
     ap (λ o. literal_by o last (behind_blanks Y)) f
     ∙ ap (λ (b : Bool). if b then indented_literal (behind_blanks Y) else if is_punctuation c then quoted_literal (lines_while (Begins c) (behind_blanks Y)) (behind_blanks Y) else no_literal last (behind_blanks Y)) (other_first (front_text (behind_blanks Y)) c h f)
     ∙ ap (λ (b : Bool). if b then quoted_literal (lines_while (Begins c) (behind_blanks Y)) (behind_blanks Y) else no_literal last (behind_blanks Y)) p
 
-pub nodes_none : (last : ℕ) (Y : Block) → first (front_text (behind_blanks Y)) ≡ None → literal_nodes last Y ≡ no_literal last (behind_blanks Y)
+nodes_none : (last : ℕ) (Y : Block) → first (front_text (behind_blanks Y)) ≡ None → literal_nodes last Y ≡ no_literal last (behind_blanks Y)
 nodes_none last Y f = ap (λ o. literal_by o last (behind_blanks Y)) f
 
 -- ---- quoted literal blocks
@@ -188,10 +182,6 @@ quoted_node B i j c line bytes h e l s =
     ∙ ap (preserved_node LiteralBlock (first_number (take n (drop i B)))) (s ∙ ap (λ k. spelled (take k (drop i B))) lines)
 
 -- ---- texts and lines
-
--- the lines after the first ones of those from a place on
-pub lines_after : (B : Block) (i n j : ℕ) → j ≡ i + n → drop n (drop i B) ≡ drop j B
-lines_after B i n j e = drop-drop n i B ∙ ap (λ k. drop k B) (sym e)
 
 -- no message where a line is blank, and one where it isn't
 pub none_said : (n i j : ℕ) (text : List ℕ) (B : Block) → j ≡ i + n → is_blank (front_text (drop j B)) ≡ true → unless_blank Error text (drop n (drop i B)) ≡ []
@@ -230,7 +220,7 @@ no_literal_is B i line last (inr h) = rw (drop_all i B h.0) (rw h.1 refl)
 -- ---- indented literal blocks
 
 -- the indented lines from a place on are those with which the lines from there begin
-pub part_same : (B : Block) (i : ℕ) → lines_in B (indented_part i (drop i B)) ≡ lines_in (drop i B) (indented_part 0 (drop i B))
+part_same : (B : Block) (i : ℕ) → lines_in B (indented_part i (drop i B)) ≡ lines_in (drop i B) (indented_part 0 (drop i B))
 part_same B i =
     let n : i + extent 1 (drop i B) - i ≡ extent 1 (drop i B) = omega arith in
     let m : 0 + extent 1 (drop i B) - 0 ≡ extent 1 (drop i B) = omega arith in
@@ -310,11 +300,11 @@ colons_last (suc n) (l ∷ m ∷ ms) h = colons_behind l.text (joined (take (suc
 -- ---- a literal block behind blank lines
 
 -- the place behind a literal block, by the place behind the blank lines before it
-pub place_behind : (B : Block) (i j n size : ℕ) → j ≡ i + lines_while Blank (drop i B) → size ≡ lines_while Blank (drop i B) + n → j + n ≡ i + size
+place_behind : (B : Block) (i j n size : ℕ) → j ≡ i + lines_while Blank (drop i B) → size ≡ lines_while Blank (drop i B) + n → j + n ≡ i + size
 place_behind B i j n size e f = omega (arith, e, f)
 
 -- the lines behind the blank ones
-pub lines_behind : (B : Block) (i j : ℕ) → j ≡ i + lines_while Blank (drop i B) → behind_blanks (drop i B) ≡ drop j B
+lines_behind : (B : Block) (i j : ℕ) → j ≡ i + lines_while Blank (drop i B) → behind_blanks (drop i B) ≡ drop j B
 lines_behind B i j e = lines_after B i (lines_while Blank (drop i B)) j e
 
 pub indented_here : (B : Block) (i j last : ℕ) → j ≡ i + lines_while Blank (drop i B) → begins_with 32 (front_text (drop j B)) ≡ true
@@ -355,3 +345,14 @@ none_here B i j last e f =
       ap (no_literal last) (sym same) ∙ sym (nodes_none last (drop i B) front),
       omega (arith, size_none (drop i B) front),
     )
+
+-- ---- doctest blocks
+
+-- a doctest block ends before the first blank line
+pub doctest_end : (B : Block) (i at stop : ℕ) → i ≡ at → stop ≡ i + lines_while Filled (drop i B) → stop ≡ at + doctest_size (drop at B)
+unfolding doctest_size
+doctest_end B i at stop e h = h ∙ ap (λ k. k + lines_while Filled (drop k B)) e
+
+pub doctest_is : (B : Block) (i at stop line : ℕ) (text : List ℕ) (node : Node) → i ≡ at → node ≡ preserved_node DoctestBlock line text → line ≡ first_number (drop i B) → text ≡ source_of B (span_to i stop)
+    → node ≡ doctest_node B (span_to at stop)
+doctest_is B i at stop line text node e n l t = rw (n, l, t, e) refl

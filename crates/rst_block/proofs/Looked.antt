@@ -1,15 +1,46 @@
--- How many lines are looked at for explicit markup and for tables at most.
-use Rattle.std.proofs.Common.{◌≡◌, ℕ, ◌<◌, ◌≤◌, false, length, drop, length-drop, Option, None, Some, arith, refl}
-use Rattle.rst_text.specs.Block.{Block, front_text}
-use Rattle.rst_text.specs.Reach.{reach}
+-- Few lines are looked at: no more than a block has.
+use Rattle.std.proofs.Common.{◌≡◌, ℕ, suc, ◌-◌, ◌<◌, ◌≤◌, Bool, true, false, cond, [], ◌∷◌, length, drop, length-drop, Option, None, Some, arith, refl}
+use Rattle.rst_text.specs.Block.{Block, front_text, is_blank}
+use Rattle.rst_text.specs.Reach.{reach, through_text}
 use Rattle.rst_markup_lines.specs.ExplicitMarks.{dots}
 use Rattle.rst_markup_lines.specs.declared.marker.Marker.{Marker}
 use Rattle.rst_markup_blocks.specs.Explicit.{explicit_size}
 use Rattle.rst_markup_blocks.specs.ExplicitLaws.{explicit_within}
 use Rattle.rst_markup_blocks.specs.ReachLaws.{grid_scan_le, simple_scan_le}
+use Rattle.rst_markup_blocks.specs.RowLaws.{below_le}
+use Rattle.rst_markup_blocks.specs.Sizes.{hanging_size, item_size, least_below}
 use Rattle.rst_markup_blocks.specs.TableRows.{grid_scan, simple_scan}
-use Rattle.rst_markup_blocks.proofs.ExplicitLemmas.{indented_le, size_other}
-use Rattle.rst_block.proofs.Reached.{reach_le}
+use Rattle.rst_markup_blocks.proofs.ExplicitLemmas.{hanging_le, indented_le, size_other}
+
+through_le : (X : Block) → through_text X ≤ length X
+unfolding through_text
+through_le [] = omega arith
+through_le (l ∷ ls) = by (is_blank l.text) (through_le ls)
+  where
+    by : (b : Bool) → through_text ls ≤ length ls → cond b (suc (through_text ls)) 1 ≤ suc (length ls)
+    by true h = omega arith
+    by false h = omega arith
+
+reach_le : (n : ℕ) (X : Block) → n ≤ length X → reach n X ≤ length X
+reach_le n X h = omega (arith, through_le (drop n X), length-drop n X)
+
+pub reach_hanging : (B : Block) (i : ℕ) → i < length B → reach (hanging_size (drop i B)) (drop i B) ≤ length B
+reach_hanging B i h =
+    let X : Block = drop i B in
+    let n : length X ≡ length B - i = length-drop i B in
+    let w = hanging_le B i h in
+    let r = reach_le (hanging_size X) X (omega (arith, n, w)) in
+    omega (arith, n, r)
+
+pub reach_item : (B : Block) (i : ℕ) (m : Marker) → i < length B → reach (item_size m (drop i B)) (drop i B) ≤ length B
+reach_item B i m h =
+    let X : Block = drop i B in
+    let n : length X ≡ length B - i = length-drop i B in
+    let w = below_le (least_below m) X (omega (arith, n)) in
+    let r = reach_le (item_size m X) X w in
+    omega (arith, n, r)
+
+-- ---- explicit markup and tables
 
 explicit_fits : (X : Block) → 0 < length X → explicit_size X ≤ length X
 explicit_fits X h = by (dots (front_text X)) refl

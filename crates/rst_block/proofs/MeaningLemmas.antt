@@ -1,5 +1,5 @@
 -- The meaning of the machine's state: where blocks begin, wait and end.
-use Rattle.std.proofs.Common.{◌≡◌, ℕ, suc, ◌-◌, ◌≤◌, Bool, true, false, List, [], ◌∷◌, ◌++◌, Option, Some, None, Ok, Err, arith, refl, sym, ◌∙◌, ap, ne_eqb, inl, inr}
+use Rattle.std.proofs.Common.{◌≡◌, ℕ, suc, ◌-◌, ◌≤◌, Bool, true, false, List, [], ◌∷◌, ◌++◌, None, Err, arith, refl, sym, ◌∙◌, ap, ne_eqb}
 use Rattle.std.specs.Prelude.{◌==◌}
 use Rattle.rst_text.specs.Block.{Block}
 use Rattle.rst_text.specs.Shown.{placement_block}
@@ -9,9 +9,8 @@ use Rattle.rst_tree.specs.declared.tag.Tag.TheVariants.{ListItem}
 use Rattle.rst_markup_blocks.specs.declared.part.Part.{Part}
 use Rattle.rst_block_nodes.specs.Elements.{element_of}
 use Rattle.rst_block.specs.Lists.{item_with, list_item}
-use Rattle.rst_block.specs.MeaningLaws.{IsBlankPart, IsRefused}
 use Rattle.rst_block.specs.Meanings.{IsNew, open_of, deepest, within_at, done_of, reads, with_item, resumed, after, plug, comes}
-use Rattle.rst_block.specs.Nodes.{block_items, inner_nodes, below_last_level, nodes_among}
+use Rattle.rst_block.specs.Nodes.{block_items, inner_nodes, nodes_among}
 use Rattle.rst_block.specs.Numbered.{Numbered, then_read, ◌>>=◌, just, before}
 use Rattle.rst_block.specs.Rest.{ListSoFar, open_list, with_items, rest}
 use Rattle.rst_block.specs.Texts.{lines_in}
@@ -22,14 +21,13 @@ use Rattle.rst_block.specs.declared.open_block.OpenBlock.{OpenBlock}
 use Rattle.rst_block.specs.declared.resume.Waits.{Waits}
 use Rattle.rst_block.specs.declared.resume.Waits.TheVariants.{ListItem as InItem}
 use Rattle.rst_block.specs.declared.step.Step.TheVariants.{Open}
-use Rattle.rst_block.proofs.Depths.{last_level}
-use Rattle.rst_block.proofs.NumberedLemmas.{same_after, after_after, before_nil, before_then}
+use Rattle.rst_block.proofs.NumberedLemmas.{same_after, after_after, before_nil, before_then, at_number}
 use Rattle.rst_block.proofs.OpenRuns.{rest_is_all}
 
 -- ---- blocks that wait
 
 -- what the innermost of some blocks that wait makes of what is read, the others go on with
-pub plug_push : (S : Block) (fs : List Frame) (f : Frame) (read : Numbered (List Item))
+plug_push : (S : Block) (fs : List Frame) (f : Frame) (read : Numbered (List Item))
     → plug S (fs ++ f ∷ []) read ≡ plug S fs (read >>= λ items. after f.level (placement_block S f.placement) f.waits f.second f.nodes.items (nodes_among items))
 unfolding plug
 plug_push S [] f read = refl
@@ -65,7 +63,7 @@ reads_all l B n new =
     ∙ ap (λ o. rest c B 0 o n) new.run
     ∙ rest_is_all c B n
 
-pub not_zero : (d : ℕ) → (suc d == 0) ≡ false
+not_zero : (d : ℕ) → (suc d == 0) ≡ false
 not_zero d = ne_eqb (suc d) 0 (λ e. omega (arith, e))
 
 abbrev pub within_level : Bool → ℕ → ℕ → Within
@@ -81,7 +79,7 @@ unfolding inner_nodes
 inner_is k B n = refl
 
 -- a block inside another gives the nodes that it means
-pub inner_all : (l : OpenBlock) (d : ℕ) (B : Block) (n : ℕ) → l.depth ≡ suc d → suc d ≤ deepest → IsNew l
+inner_all : (l : OpenBlock) (d : ℕ) (B : Block) (n : ℕ) → l.depth ≡ suc d → suc d ≤ deepest → IsNew l
     → (reads l B >>= λ items. just (nodes_among items)) n ≡ (within_at d).inner B n
 inner_all l d B n e h new =
     let k : deepest - d ≡ suc (deepest - suc d) = omega (arith, h) in
@@ -96,7 +94,7 @@ pub part_means : (S : Block) (fs : List Frame) (f : Frame) (l : OpenBlock) (X : 
     ≡ plug S fs ((within_at f.level.depth).inner X >>= λ ns. after f.level (placement_block S f.placement) f.waits f.second f.nodes.items ns) n
 part_means S fs f l X n e h new =
     let K : List Node → Numbered (List Item) = λ ns. after f.level (placement_block S f.placement) f.waits f.second f.nodes.items ns in
-    ap (λ (read : Numbered (List Item)). read n) (plug_push S fs f (reads l X))
+    at_number n (plug_push S fs f (reads l X))
     ∙ plug_same S fs (reads l X >>= λ items. K (nodes_among items)) ((within_at f.level.depth).inner X >>= K) n n
     (sym (after_after (reads l X n) (λ items. just (nodes_among items)) K) ∙ ap (then_read K) (inner_all l f.level.depth X n e h new))
 
@@ -105,37 +103,9 @@ part_means S fs f l X n e h new =
 pub done_means : (S : Block) (fs : List Frame) (f : Frame) (items : List Item) (n : ℕ)
     → plug S (fs ++ f ∷ []) (just items) n ≡ plug S fs (after f.level (placement_block S f.placement) f.waits f.second f.nodes.items (nodes_among items)) n
 done_means S fs f items n =
-    ap (λ (read : Numbered (List Item)). read n) (plug_push S fs f (just items))
+    at_number n (plug_push S fs f (just items))
     ∙ plug_same S fs (just items >>= λ items. after f.level (placement_block S f.placement) f.waits f.second f.nodes.items (nodes_among items))
     (after f.level (placement_block S f.placement) f.waits f.second f.nodes.items (nodes_among items)) n n refl
-
--- ---- blocks below the last level
-
-inner_last : (l : OpenBlock) (X : Block) (n : ℕ) → l.depth ≡ deepest → (within_at l.depth).inner X n ≡ below_last_level X n
-inner_last l X n e = ap (λ depth. inner_nodes true (deepest - depth) X n) e ∙ ap (λ (read : Numbered (List Node)). read n) (last_level true X)
-
-pub flat_means : (l : OpenBlock) (B : Block) (w : Waits) (first : Part) (second : Option Part) (n : ℕ) → l.depth ≡ deepest
-    → below_last_level (lines_in B first) n ≡ Ok ([], n) → IsBlankPart B second n → comes l B (Open w first second) n ≡ resumed l B w [] n
-flat_means l B w first None n e h k = ap (then_read (λ ns. after l B w None [] ns)) (inner_last l (lines_in B first) n e ∙ h)
-flat_means l B w first (Some p) n e h k =
-    ap (then_read (λ ns. after l B w (Some p) [] ns)) (inner_last l (lines_in B first) n e ∙ h)
-    ∙ ap (then_read (λ more. resumed l B w more)) (inner_last l (lines_in B p) n e ∙ k)
-
-refused_first : (l : OpenBlock) (B : Block) (w : Waits) (first : Part) (second : Option Part) (n line : ℕ) → l.depth ≡ deepest
-    → below_last_level (lines_in B first) n ≡ Err line → comes l B (Open w first second) n ≡ Err line
-refused_first l B w first second n line e h = ap (then_read (λ ns. after l B w second [] ns)) (inner_last l (lines_in B first) n e ∙ h)
-
-refused_second : (l : OpenBlock) (B : Block) (w : Waits) (first p : Part) (n line : ℕ) → l.depth ≡ deepest
-    → below_last_level (lines_in B first) n ≡ Ok ([], n) → below_last_level (lines_in B p) n ≡ Err line → comes l B (Open w first (Some p)) n ≡ Err line
-refused_second l B w first p n line e h k =
-    ap (then_read (λ ns. after l B w (Some p) [] ns)) (inner_last l (lines_in B first) n e ∙ h)
-    ∙ ap (then_read (λ more. resumed l B w more)) (inner_last l (lines_in B p) n e ∙ k)
-
-pub flat_refused : (l : OpenBlock) (B : Block) (w : Waits) (first : Part) (second : Option Part) (n line : ℕ) → l.depth ≡ deepest
-    → IsRefused B first second n line → comes l B (Open w first second) n ≡ Err line
-flat_refused l B w first second n line e (inl h) = refused_first l B w first second n line e h
-flat_refused l B w first None n line e (inr h) = absurd h
-flat_refused l B w first (Some p) n line e (inr (h, k)) = refused_second l B w first p n line e h k
 
 -- ---- items of lists
 
@@ -161,7 +131,7 @@ body_means l B line item body heads notes w part r n h waits =
     let c : Within = within_at l.depth in
     let R : List Node → Numbered (List Item) = λ ns. rest c B l.at (with_items ns (open_list r)) in
     let E : List Node → Node = λ ns. element_of item [] (heads ++ element_of body [] (notes ++ ns) line ∷ []) line in
-    same_after (c.inner (lines_in B part) n) (λ ns. resumed l B w ns) (λ ns. with_item l B (E ns) (open_of l.run)) (λ ns k. ap (λ (read : Numbered (List Item)). read k) (waits ns))
+    same_after (c.inner (lines_in B part) n) (λ ns. resumed l B w ns) (λ ns. with_item l B (E ns) (open_of l.run)) (λ ns k. at_number k (waits ns))
     ∙ ap (λ o. then_read (λ ns. with_item l B (E ns) o) (c.inner (lines_in B part) n)) h
     ∙ sym (
     before_then (done_of l) (item_with c B item body line part heads notes) R n

@@ -2,6 +2,10 @@
 use Rattle.std.proofs.Common.{◌≡◌, ℕ, List, [], ◌∷◌, ◌++◌, Result, Ok, Err, refl, sym, ◌∙◌, ap, append_assoc, append-nil}
 use Rattle.rst_block.specs.Numbered.{Numbered, then_read, ◌>>=◌, just, flat_each, before}
 
+-- two things that are read alike are read alike with each number
+pub at_number : {A : Type 0} {r s : Numbered A} (n : ℕ) → r ≡ s → r n ≡ s n
+at_number n e = ap (λ read. read n) e
+
 -- what follows is the same, so all is
 pub same_after : {A B : Type 0} (r : Result (A × ℕ) ℕ) (f g : A → Numbered B) → ((a : A) (n : ℕ) → f a n ≡ g a n) → then_read f r ≡ then_read g r
 same_after (Ok (a, n)) f g h = h a n

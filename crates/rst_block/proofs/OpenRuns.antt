@@ -65,7 +65,7 @@ Fits (bar_line m) end j = j ≡ lines_from end
 Fits explicit_markup end j = j ≡ explicits
 Fits _ end j = j ≡ none
 
-pub fits_first : (what : Construct) (s : Span) → Fits what s.stop (joining_of what s)
+fits_first : (what : Construct) (s : Span) → Fits what s.stop (joining_of what s)
 fits_first (item_of_list (bullet_item c m)) s = (refl, refl)
 fits_first (item_of_list (enumerated_item e)) s = (refl, refl)
 fits_first (item_of_list (definition_item infos)) s = (refl, refl)
@@ -85,7 +85,7 @@ fits_first (underlined_title infos short) s = refl
 fits_first (paragraph infos) s = refl
 
 -- what joins the open run of some constructs is what joins the constructs
-pub joining_is : (what : Construct) (B : Block) (j : Joining) (run : Run Found) (items : List Item) → Fits what (stop_of run) j → joining_of_run (open_with what B j run items) ≡ j
+joining_is : (what : Construct) (B : Block) (j : Joining) (run : Run Found) (items : List Item) → Fits what (stop_of run) j → joining_of_run (open_with what B j run items) ≡ j
 joining_is (item_of_list mark) B j run items h = refl
 joining_is (bar_line m) B j run items h = sym h
 joining_is explicit_markup B j run items h = sym h
@@ -101,7 +101,7 @@ joining_is (underlined_title infos short) B j run items h = sym h
 joining_is (paragraph infos) B j run items h = sym h
 
 -- nothing joins a construct that is alone
-pub none_joins : (what : Construct) (s : Span) → joining_after none what s ≡ None
+none_joins : (what : Construct) (s : Span) → joining_after none what s ≡ None
 none_joins (item_of_list (bullet_item c m)) s = refl
 none_joins (item_of_list (enumerated_item e)) s = refl
 none_joins (item_of_list (definition_item infos)) s = refl
@@ -217,7 +217,7 @@ stop_push : (what : Construct) (s : Span) (fs : List Found) (x : Found) → stop
 stop_push what s fs x = ap (λ (f : Found). f.span.stop) (last_push (record { what = what; span = s }) fs x)
 
 -- the run that one more joins
-pub fits_joined : (what : Construct) (s : Span) (fs : List Found) (j : Joining) (x : Found) (next : Joining) → Fits what (stop_of (run_with what s fs)) j
+fits_joined : (what : Construct) (s : Span) (fs : List Found) (j : Joining) (x : Found) (next : Joining) → Fits what (stop_of (run_with what s fs)) j
     → joining_after j x.what x.span ≡ Some next → Fits what (stop_of (run_with what s (fs ++ x ∷ []))) next
 fits_joined (item_of_list mark) s fs j x next h e = let k = joins_list j x.what x.span next [] h.0 e in (k.2.0, k.2.1 ∙ h.1)
 fits_joined (bar_line m) s fs j x next h e =
@@ -236,28 +236,28 @@ fits_joined (underlined_title infos short) s fs j x next h e = joins_none j x ne
 fits_joined (paragraph infos) s fs j x next h e = joins_none j x next h e
 
 -- the lines of a line block with one more
-lines_after : (B : Block) (last : ℕ) (fs : List Found) (x : Found) (what : Construct) (s : Span)
+line_then : (B : Block) (last : ℕ) (fs : List Found) (x : Found) (what : Construct) (s : Span)
     → ((last : ℕ) → indented_lines B last (fs ++ x ∷ []) ≡ indented_lines B last fs ++ indented_lines B (last_indent last (indented_lines B last fs)) (x ∷ []))
     → indented_lines B last (record { what = what; span = s } ∷ (fs ++ x ∷ []))
     ≡ indented_lines B last (record { what = what; span = s } ∷ fs) ++ indented_lines B (last_indent last (indented_lines B last (record { what = what; span = s } ∷ fs))) (x ∷ [])
-lines_after B last fs x (bar_line m) s h = ap (λ ls. indented_line (indentation_of last m) B m s ∷ ls) (h (indentation_of last m))
-lines_after B last fs x nothing s h = h last
-lines_after B last fs x block_quote s h = h last
-lines_after B last fs x (item_of_list mark) s h = h last
-lines_after B last fs x doctest_block s h = h last
-lines_after B last fs x grid s h = h last
-lines_after B last fs x simple s h = h last
-lines_after B last fs x explicit_markup s h = h last
-lines_after B last fs x transition s h = h last
-lines_after B last fs x (overlined_title mark short) s h = h last
-lines_after B last fs x (misplaced_lines level text) s h = h last
-lines_after B last fs x (underlined_title infos short) s h = h last
-lines_after B last fs x (paragraph infos) s h = h last
+line_then B last fs x (bar_line m) s h = ap (λ ls. indented_line (indentation_of last m) B m s ∷ ls) (h (indentation_of last m))
+line_then B last fs x nothing s h = h last
+line_then B last fs x block_quote s h = h last
+line_then B last fs x (item_of_list mark) s h = h last
+line_then B last fs x doctest_block s h = h last
+line_then B last fs x grid s h = h last
+line_then B last fs x simple s h = h last
+line_then B last fs x explicit_markup s h = h last
+line_then B last fs x transition s h = h last
+line_then B last fs x (overlined_title mark short) s h = h last
+line_then B last fs x (misplaced_lines level text) s h = h last
+line_then B last fs x (underlined_title infos short) s h = h last
+line_then B last fs x (paragraph infos) s h = h last
 
 lines_push : (B : Block) (last : ℕ) (fs : List Found) (x : Found)
     → indented_lines B last (fs ++ x ∷ []) ≡ indented_lines B last fs ++ indented_lines B (last_indent last (indented_lines B last fs)) (x ∷ [])
 lines_push B last [] x = refl
-lines_push B last (f ∷ fs) x = lines_after B last fs x f.what f.span (λ last. lines_push B last fs x)
+lines_push B last (f ∷ fs) x = line_then B last fs x f.what f.span (λ last. lines_push B last fs x)
 
 list_with : Joining → ℕ → List Node → Node → List Node → List Node → OpenRun
 list_with j end notes element items after =
@@ -268,7 +268,7 @@ infos_push run x =
     flat_map-append (λ (f : Found). infos_of f.what) (members run) (x ∷ [])
     ∙ ap (λ (infos : List Node). infos_among run ++ infos) (append-nil (infos_of x.what))
 
-pub open_joined : (what : Construct) (s : Span) (fs : List Found) (B : Block) (j : Joining) (items more : List Item) (x : Found) (next : Joining) → Fits what (stop_of (run_with what s fs)) j
+open_joined : (what : Construct) (s : Span) (fs : List Found) (B : Block) (j : Joining) (items more : List Item) (x : Found) (next : Joining) → Fits what (stop_of (run_with what s fs)) j
     → joining_after j x.what x.span ≡ Some next
     → open_with what B next (run_with what s (fs ++ x ∷ [])) (items ++ more) ≡ with_items (nodes_among more) (joined_run next (open_with what B j (run_with what s fs) items) B x)
 unfolding list_with
@@ -301,7 +301,7 @@ given_is B x more some h k =
     ∙ ap (λ t. some ++ map plain (ending_notes t (drop x.span.stop B))) k
     ∙ append-nil some
 
-pub early_joined : (what : Construct) (s : Span) (fs : List Found) (B : Block) (j : Joining) (items more : List Item) (x : Found) (next : Joining) → Fits what (stop_of (run_with what s fs)) j
+early_joined : (what : Construct) (s : Span) (fs : List Found) (B : Block) (j : Joining) (items more : List Item) (x : Found) (next : Joining) → Fits what (stop_of (run_with what s fs)) j
     → joining_after j x.what x.span ≡ Some next
     → early what B (run_with what s (fs ++ x ∷ [])) (items ++ more) ≡ early what B (run_with what s fs) items ++ given_at_once B x more
 early_joined (item_of_list mark) s fs B j items more x next h e = let k = joins_list j x.what x.span next more h.0 e in sym (given_is B x more [] k.0 k.1)
@@ -326,7 +326,7 @@ early_joined (paragraph infos) s fs B j items more x next h e = joins_none j x n
 
 -- ---- a construct that begins a run
 
-pub open_begun : (what : Construct) (s : Span) (B : Block) (more : List Item)
+open_begun : (what : Construct) (s : Span) (B : Block) (more : List Item)
     → open_with what B (joining_of what s) (run_with what s []) more ≡ with_items (nodes_among more) (begun_run what B s (drop s.start B))
 unfolding list_with
 open_begun (item_of_list mark) s B more =
@@ -358,7 +358,7 @@ gave items n = Ok (items, n)
 alone_is : (items : List Item) (notes : List Node) (n : ℕ) → gave (items ++ map plain notes) n ≡ gave ((items ++ map plain notes) ++ []) n
 alone_is items notes n = ap (λ made. gave made n) (sym (append-nil (items ++ map plain notes)))
 
-pub ended_is : (what : Construct) (s : Span) (fs : List Found) (c : Within) (B : Block) (j : Joining) (items : List Item) (n : ℕ) → Fits what (stop_of (run_with what s fs)) j
+ended_is : (what : Construct) (s : Span) (fs : List Found) (c : Within) (B : Block) (j : Joining) (items : List Item) (n : ℕ) → Fits what (stop_of (run_with what s fs)) j
     → ended c B (run_with what s fs) items n
     ≡ before (early what B (run_with what s fs) items) (closed_run c.levels B (open_with what B j (run_with what s fs) items)) n
 ended_is (item_of_list mark) s fs c B j items n h =
@@ -454,7 +454,7 @@ all_agree c B (x ∷ xs) what s fs j items n h =
     (sym (joining_is what B j (run_with what s fs) items h))
 
 -- the walk from the first construct on gives what the runs give
-pub walk_is_all : (c : Within) (B : Block) (fs : List Found) (n : ℕ)
+walk_is_all : (c : Within) (B : Block) (fs : List Found) (n : ℕ)
     → walk c B no_run fs n ≡ flat_each (run_items c B) (runs (λ (f : Found). joining_of f.what f.span) (λ joining (f : Found). joining_after joining f.what f.span) fs) n
 unfolding Agrees walk goes_to joins_at joining_at
 walk_is_all c B [] n = refl

@@ -11,16 +11,17 @@ use Rattle.rst_markup_blocks.specs.Sizes.{literal_size, paragraph_len, run_size,
 use Rattle.rst_markup_blocks.specs.declared.lines.LineTest.TheVariants.{Plain}
 use Rattle.rst_block.specs.Literals.{announced, text_paragraph, after_paragraph, literal_nodes, paragraph_nodes}
 use Rattle.rst_block.specs.Numbered.{then_read, ◌>>=◌, just}
-use Rattle.rst_block.specs.ParagraphSteps.{shown_paragraph, paragraph_between, paragraph_end}
+use Rattle.rst_block.specs.TextSteps.{shown_paragraph, paragraph_between, paragraph_end}
 use Rattle.rst_block.specs.Texts.{joined, unless_blank}
-use Rattle.rst_block.proofs.LiteralLemmas.{lines_after, colons_last}
+use Rattle.rst_block.proofs.LiteralLemmas.{colons_last}
 use Rattle.rst_block.proofs.NumberedLemmas.{same_after, after_after}
+use Rattle.rst_block.proofs.RestLemmas.{lines_after}
 
 -- ---- with and without a literal block
 
 -- the message at an indented line that follows
-abbrev pub indented_line : Block → List Node
-indented_line X = unless_blank Error (codes "Unexpected indentation.") X
+abbrev pub indentation_error : Block → List Node
+indentation_error X = unless_blank Error (codes "Unexpected indentation.") X
 
 text_behind : (B : Block) (i j : ℕ) → i < j → drop (j - i) (drop i B) ≡ drop j B
 text_behind B i j h = lines_after B i (j - i) j (omega arith)
@@ -28,19 +29,19 @@ text_behind B i j h = lines_after B i (j - i) j (omega arith)
 last_line : (B : Block) (i j : ℕ) → i < j → drop (j - i - 1) (drop i B) ≡ drop (j - 1) B
 last_line B i j h = lines_after B i (j - i - 1) (j - 1) (omega arith)
 
-after_plain : (t : List ℕ) (i j : ℕ) (B : Block) → ends_in_colons t ≡ false → i < j → after_paragraph (j - i) t (drop i B) ≡ indented_line (drop j B)
+after_plain : (t : List ℕ) (i j : ℕ) (B : Block) → ends_in_colons t ≡ false → i < j → after_paragraph (j - i) t (drop i B) ≡ indentation_error (drop j B)
 after_plain t i j B h w =
     let Y : Block = drop (j - i) (drop i B) in
-    ap (λ (b : Bool). indented_line Y ++ (if b then literal_nodes (first_number (drop (j - i - 1) (drop i B))) Y else [])) h
-    ∙ append-nil (indented_line Y) ∙ ap indented_line (text_behind B i j w)
+    ap (λ (b : Bool). indentation_error Y ++ (if b then literal_nodes (first_number (drop (j - i - 1) (drop i B))) Y else [])) h
+    ∙ append-nil (indentation_error Y) ∙ ap indentation_error (text_behind B i j w)
 
 after_colons : (t : List ℕ) (i j : ℕ) (B : Block) → ends_in_colons t ≡ true → i < j
-    → after_paragraph (j - i) t (drop i B) ≡ indented_line (drop j B) ++ literal_nodes (first_number (drop (j - 1) B)) (drop j B)
+    → after_paragraph (j - i) t (drop i B) ≡ indentation_error (drop j B) ++ literal_nodes (first_number (drop (j - 1) B)) (drop j B)
 after_colons t i j B h w =
     let Y : Block = drop (j - i) (drop i B) in
-    ap (λ (b : Bool). indented_line Y ++ (if b then literal_nodes (first_number (drop (j - i - 1) (drop i B))) Y else [])) h
-    ∙ ap (λ X. indented_line X ++ literal_nodes (first_number (drop (j - i - 1) (drop i B))) X) (text_behind B i j w)
-    ∙ ap (λ X. indented_line (drop j B) ++ literal_nodes (first_number X) (drop j B)) (last_line B i j w)
+    ap (λ (b : Bool). indentation_error Y ++ (if b then literal_nodes (first_number (drop (j - i - 1) (drop i B))) Y else [])) h
+    ∙ ap (λ X. indentation_error X ++ literal_nodes (first_number (drop (j - i - 1) (drop i B))) X) (text_behind B i j w)
+    ∙ ap (λ X. indentation_error (drop j B) ++ literal_nodes (first_number X) (drop j B)) (last_line B i j w)
 
 -- a paragraph that announces no literal block
 pub between_plain : (t : List ℕ) (i j n next : ℕ) (B : Block) (more : List Node) → ends_in_colons t ≡ false → i < j
@@ -49,7 +50,7 @@ between_plain t i j n next B more h w r =
     let line : ℕ = first_number (drop i B) in
     let same : announced t ≡ t = rw h refl in
     ap (λ u. (text_paragraph line u >>= λ nodes. just (nodes ++ after_paragraph (j - i) t (drop i B))) n) same
-    ∙ same_after (text_paragraph line t n) (λ nodes. just (nodes ++ after_paragraph (j - i) t (drop i B))) (λ nodes. just (nodes ++ indented_line (drop j B)))
+    ∙ same_after (text_paragraph line t n) (λ nodes. just (nodes ++ after_paragraph (j - i) t (drop i B))) (λ nodes. just (nodes ++ indentation_error (drop j B)))
     (λ nodes k. ap (λ (xs : List Node). just (nodes ++ xs) k) (after_plain t i j B h w))
     ∙ r
 
@@ -60,9 +61,9 @@ between_colons t u i j n next B more h e w r =
     let line : ℕ = first_number (drop i B) in
     let L : List Node = literal_nodes (first_number (drop (j - 1) B)) (drop j B) in
     ap (λ x. (text_paragraph line x >>= λ nodes. just (nodes ++ after_paragraph (j - i) t (drop i B))) n) (sym e)
-    ∙ same_after (text_paragraph line u n) (λ nodes. just (nodes ++ after_paragraph (j - i) t (drop i B))) (λ nodes. just (nodes ++ indented_line (drop j B)) >>= λ xs. just (xs ++ L))
-    (λ nodes k. ap (λ (xs : List Node). just (nodes ++ xs) k) (after_colons t i j B h w) ∙ ap (λ (xs : List Node). just xs k) (sym (append_assoc nodes (indented_line (drop j B)) L)))
-    ∙ sym (after_after (text_paragraph line u n) (λ nodes. just (nodes ++ indented_line (drop j B))) (λ xs. just (xs ++ L)))
+    ∙ same_after (text_paragraph line u n) (λ nodes. just (nodes ++ after_paragraph (j - i) t (drop i B))) (λ nodes. just (nodes ++ indentation_error (drop j B)) >>= λ xs. just (xs ++ L))
+    (λ nodes k. ap (λ (xs : List Node). just (nodes ++ xs) k) (after_colons t i j B h w) ∙ ap (λ (xs : List Node). just xs k) (sym (append_assoc nodes (indentation_error (drop j B)) L)))
+    ∙ sym (after_after (text_paragraph line u n) (λ nodes. just (nodes ++ indentation_error (drop j B))) (λ xs. just (xs ++ L)))
     ∙ ap (then_read (λ (xs : List Node). just (xs ++ L))) r
 
 pub end_plain : (t : List ℕ) (j : ℕ) (B : Block) → ends_in_colons t ≡ false → j ≡ paragraph_end t j B
@@ -74,7 +75,7 @@ end_colons t j B h = rw h refl
 -- ---- all of a paragraph
 
 -- a paragraph's own lines are those from its first one on that are neither blank nor indented
-pub own_lines : (X : Block) → 1 ≤ length X → is_loose (front_text X) ≡ false → lines_while Plain X ≡ paragraph_len X
+own_lines : (X : Block) → 1 ≤ length X → is_loose (front_text X) ≡ false → lines_while Plain X ≡ paragraph_len X
 unfolding lines_while paragraph_len run_size
 own_lines [] h p = absurd (omega arith)
 own_lines (l ∷ ls) h p = rw p refl
@@ -103,7 +104,7 @@ pub record IsParagraph (B : Block) (i j : ℕ) (t : List ℕ) : Type 0 where
   pub end : j ≡ i + lines_while Plain (drop i B)
   pub text : t ≡ joined (take (j - i) (drop i B))
 
-pub len_is : (B : Block) (i j : ℕ) (t : List ℕ) → IsParagraph B i j t → j ≡ i + paragraph_len (drop i B)
+len_is : (B : Block) (i j : ℕ) (t : List ℕ) → IsParagraph B i j t → j ≡ i + paragraph_len (drop i B)
 len_is B i j t p = p.end ∙ ap (λ n. i + n) (own_lines (drop i B) (omega (arith, p.inside, length-drop i B)) p.plain)
 
 pub ends_later : (B : Block) (i j : ℕ) (t : List ℕ) → IsParagraph B i j t → i < j

@@ -1,9 +1,7 @@
 -- The count that bounds the quotes of some lines may be any that is large enough.
-use Rattle.std.proofs.Common.{◌≡◌, ℕ, zero, suc, ◌+◌, ◌-◌, ◌<◌, ◌≤◌, Bool, true, false, List, [], ◌∷◌, ◌++◌, length, length-drop, drop, take, Option, Some, None, arith, refl, sym, ap, option_map, option_and_then, is_some, if◌then◌else◌}
-use Rattle.std.specs.Prelude.{◌==◌}
-use Rattle.std.specs.List.{list_all}
+use Rattle.std.proofs.Common.{◌≡◌, ℕ, zero, suc, ◌+◌, ◌-◌, ◌<◌, ◌≤◌, Bool, true, false, List, [], ◌∷◌, ◌++◌, length, length-drop, drop, take, Option, Some, None, arith, refl, ap, option_map, option_and_then, is_some, if◌then◌else◌}
 use Rattle.std.specs.Option.{option_map_or}
-use Rattle.rst_text.specs.Block.{Line, Block, front_text, is_blank, first_number, indentation}
+use Rattle.rst_text.specs.Block.{Block, front_text, is_blank, first_number, indentation}
 use Rattle.rst_text.specs.Places.{first_from, IsFirst}
 use Rattle.rst_text.proofs.PlacesLemmas.{first_from-IsFirst}
 use Rattle.rst_tree.specs.declared.node.Node.{Node}
@@ -12,9 +10,9 @@ use Rattle.rst_markup_lines.specs.Attribution.{attribution_of}
 use Rattle.rst_markup_blocks.specs.Attributions.{level_lines, attribution_with, attribution_behind, attribution_by, attribution_at, attribution_part}
 use Rattle.rst_markup_blocks.specs.Conditions.{text_at, next_text}
 use Rattle.rst_markup_blocks.specs.Lines.{lines_while}
-use Rattle.rst_markup_blocks.specs.RowLaws.{while_le}
-use Rattle.rst_markup_blocks.specs.declared.lines.LineTest.TheVariants.{Blank, Filled}
+use Rattle.rst_markup_blocks.specs.declared.lines.LineTest.TheVariants.{Blank}
 use Rattle.rst_markup_blocks.specs.declared.attribution.Attribution.{Attribution}
+use Rattle.rst_markup_blocks.proofs.AttributionLemmas.{level_lines-le}
 use Rattle.rst_block.specs.Numbered.{Numbered, then_read, ◌>>=◌, just}
 use Rattle.rst_block.specs.Quotes.{attribution_in, first_attribution, quote_after, quote_node, quotes_by, quotes}
 use Rattle.rst_block.specs.Texts.{joined, lines_in, texted}
@@ -28,22 +26,12 @@ none_is a e = cc
 abbrev IsInside : ℕ → ℕ → Attribution → Type 0
 IsInside k m a = (k < a.end) × (a.end ≤ k + m)
 
-some_level : (b : Bool) (m n : ℕ) → (if b then Some m else None) ≡ Some n → n ≡ m
-some_level true m n e = ap (λ o. option_map_or (λ (x : ℕ). x) o 0) (sym e)
-some_level false m n e = absurd (none_is n e)
-
-level_within : (indent n : ℕ) (Y : Block) → level_lines indent Y ≡ Some n → n ≤ length Y
-unfolding level_lines
-level_within indent n Y e =
-    let f : n ≡ lines_while Filled Y = some_level (list_all (λ (l : Line). indentation l.text == indent) (take (lines_while Filled Y) Y)) (lines_while Filled Y) n e in
-    omega (arith, f, while_le Filled Y)
-
 inside_with : (k marker indent : ℕ) (o : Option ℕ) (X : Block) (a : Attribution) → 1 ≤ length X → level_lines indent (drop 1 X) ≡ o → attribution_with k marker indent o ≡ Some a
     → IsInside k (length X) a
 inside_with k marker indent None X a some h e = absurd (none_is a e)
 inside_with k marker indent (Some n) X a some h e =
     let f : k + 1 + n ≡ a.end = ap (λ o. option_map_or (λ (x : Attribution). x.end) o 0) e in
-    (omega (arith, f), omega (arith, f, some, level_within indent n (drop 1 X) h, length-drop 1 X))
+    (omega (arith, f), omega (arith, f, some, level_lines-le indent n (drop 1 X) h, length-drop 1 X))
 
 inside_by : (o : Option ℕ) (k : ℕ) (X : Block) (a : Attribution) → 1 ≤ length X → attribution_by o k X ≡ Some a → IsInside k (length X) a
 unfolding attribution_behind

@@ -1,5 +1,5 @@
 -- A block quote as the machine reads it: a quote with its attribution, and then the lines that are left.
-use Rattle.std.proofs.Common.{◌≡◌, ℕ, zero, suc, ◌+◌, ◌-◌, ◌<◌, ◌≤◌, Bool, true, cond, List, [], ◌∷◌, ◌++◌, length, length-drop, take, drop, map, Option, Some, None, Result, Ok, Err, Box, box_value, Global, IfOk, arith, refl, sym, ◌∙◌, ap, subst, append-nil, append_assoc, inl, inr, lt-ltb, le-ltb, ne_eqb, if◌then◌else◌}
+use Rattle.std.proofs.Common.{◌≡◌, ℕ, zero, suc, ◌+◌, ◌-◌, ◌<◌, ◌≤◌, Bool, cond, List, [], ◌∷◌, ◌++◌, length, length-drop, take, drop, map, Option, Some, None, Ok, Box, box_value, Global, arith, refl, sym, ◌∙◌, ap, subst, append-nil, append_assoc, inl, inr, lt-ltb, le-ltb, ne_eqb, if◌then◌else◌}
 use Rattle.std.proofs.lemmas.Bool.{cases_lt}
 use Rattle.std.proofs.lemmas.List.{drop_all, drop-drop, map-append}
 use Rattle.rst_text.specs.Block.{Block, cut, shorten_all, first_number}
@@ -9,55 +9,45 @@ use Rattle.rst_tree.specs.declared.node.Node.{Node}
 use Rattle.rst_tree.specs.declared.tag.Tag.TheVariants.{BlockQuote, Attribution as AttributionTag}
 use Rattle.rst_markup_blocks.specs.Attributions.{attribution_part}
 use Rattle.rst_markup_blocks.specs.Begun.{IsBegun}
-use Rattle.rst_markup_blocks.specs.Ends.{row_size}
-use Rattle.rst_markup_blocks.specs.Kinds.{kind_at}
 use Rattle.rst_markup_blocks.specs.Lines.{lines_while}
-use Rattle.rst_markup_blocks.specs.Partition.{construct_size}
+use Rattle.rst_markup_blocks.specs.Parts.{IsBlock}
 use Rattle.rst_markup_blocks.specs.RowLaws.{extent_le, while_le}
 use Rattle.rst_markup_blocks.specs.declared.attribution.Attribution.{Attribution}
 use Rattle.rst_markup_blocks.specs.declared.begun.Begun.TheVariants as Begins
 use Rattle.rst_markup_blocks.specs.declared.lines.LineTest.TheVariants.{Blank}
 use Rattle.rst_markup_blocks.specs.declared.part.Part.{Part}
-use Rattle.rst_markup_blocks.proofs.PartitionLemmas.{end_inside}
 use Rattle.rst_block_nodes.specs.Elements.{element_of}
 use Rattle.rst_block_nodes.specs.declared.texted.Texted.{Texted}
 use Rattle.rst_block.specs.Constructs.{block_quote, Found}
 use Rattle.rst_block.specs.Joins.{alone_ending}
 use Rattle.rst_block.specs.MeaningLaws.{IsAttributed, front_of}
-use Rattle.rst_block.specs.Meanings.{deepest, open_of, within_at, done_of, reads, reads_from, quote_by, quotes_from, after_quote, comes}
+use Rattle.rst_block.specs.Meanings.{open_of, within_at, done_of, reads, reads_from, quote_by, quotes_from, after_quote, comes}
 use Rattle.rst_block.specs.Nodes.{piece_of, ending_notes}
 use Rattle.rst_block.specs.Numbered.{Numbered, then_read, ◌>>=◌, just, before}
-use Rattle.rst_block.specs.OpenBlocks.{IsMoved, HasMore, IsClosed, IsPlaced, IsKept}
+use Rattle.rst_block.specs.OpenBlocks.{IsMoved, HasMore, IsPlaced}
 use Rattle.rst_block.specs.Quotes.{first_attribution, quote_after, quote_node, quotes_by, quotes}
-use Rattle.rst_block.specs.Rest.{no_run, closed_run, rest}
+use Rattle.rst_block.specs.Rest.{no_run, rest}
 use Rattle.rst_block.specs.RestLaws.{found_as}
-use Rattle.rst_block.specs.Steps.{rest_of}
+use Rattle.rst_block.specs.Steps.{IsRest, rest_of}
 use Rattle.rst_block.specs.Texts.{joined, lines_in, texted}
 use Rattle.rst_block.specs.Titles.{Item, plain}
 use Rattle.rst_block.specs.Within.{Within, indented_part}
-use Rattle.rst_block.specs.declared.fault.BlockFault.{BlockFault}
 use Rattle.rst_block.specs.declared.open_block.OpenBlock.{OpenBlock}
 use Rattle.rst_block.specs.declared.resume.Waits.TheVariants.{Quote}
 use Rattle.rst_block.specs.declared.step.Step.TheVariants.{Open}
-use Rattle.rst_block.proofs.Changes.{done_moved, done_more, more_is_read}
-use Rattle.rst_block.proofs.NextLines.{span_to, begun_reads, alone_reads, alone_refused}
-use Rattle.rst_block.proofs.NumberedLemmas.{same_after, after_after, before_before, before_then}
+use Rattle.rst_block.proofs.Blocks.{rest_block}
+use Rattle.rst_block.proofs.Changes.{done_more, reads_from_is, moved_reads_from, more_is_read}
+use Rattle.rst_block.proofs.NextConstructs.{next_of, span_to, HasEnded, next_alone}
+use Rattle.rst_block.proofs.NumberedLemmas.{same_after, after_after, before_before, before_then, at_number}
 use Rattle.rst_block.proofs.QuoteCounts.{attribution_within, quotes_enough, quotes_same}
 
 -- the first of some quotes, and the others
-pub quotes_first : (c : Within) (m : ℕ) (Q : Block) (n : ℕ) → 1 ≤ length Q → length Q ≤ m → quotes c m Q n ≡ quotes_by c (quotes c m) Q (first_attribution Q) n
+quotes_first : (c : Within) (m : ℕ) (Q : Block) (n : ℕ) → 1 ≤ length Q → length Q ≤ m → quotes c m Q n ≡ quotes_by c (quotes c m) Q (first_attribution Q) n
 quotes_first c m [] n some h = absurd (omega (arith, some))
 quotes_first c zero (l ∷ ls) n some h = absurd (omega (arith, h))
 quotes_first c (suc m) (l ∷ ls) n some h =
     quotes_same c (quotes c m) (quotes c (suc m)) (l ∷ ls) n (first_attribution (l ∷ ls)) refl
     (λ a others k. quotes_enough c m (suc m) (quote_after (l ∷ ls) a) k (omega (arith, h, others)) (omega (arith, h, others)))
-
--- what a block gives from a place on depends on the place where it goes on no more
-reads_moved : (old new : OpenBlock) (B : Block) (more : List Node) (at : ℕ) → IsMoved old new → reads_from new B more at ≡ reads_from old B more at
-reads_moved old new B more at m =
-    ap (λ items. before (items ++ map plain more) (rest (within_at new.depth) B at (open_of new.run))) (done_moved old new m)
-    ∙ ap (λ d. before (done_of old ++ map plain more) (rest (within_at d) B at (open_of new.run))) m.depth
-    ∙ ap (λ r. before (done_of old ++ map plain more) (rest (within_at old.depth) B at (open_of r))) m.run
 
 -- a quote without an attribution
 pub plain_quote : (old new : OpenBlock) (B : Block) (p : Part) (line n : ℕ) → first_attribution (lines_in B p) ≡ None → 1 ≤ length (lines_in B p) → length (lines_in B p) ≤ p.to - p.from
@@ -72,10 +62,8 @@ plain_quote old new B p line n none some enough m at h =
     ∙ after_after (c.inner Q n) (λ nodes. just (quote_node Q nodes ∷ [])) R
     ∙ same_after (c.inner Q n) (λ nodes. R (quote_node Q nodes ∷ [])) (λ nodes. reads_from new B (quote_by line None nodes ++ E) new.at)
     (λ nodes k.
-    sym (ap (λ (read : Numbered (List Item)). read k)
-    (ap (reads_from new B (quote_by line None nodes ++ E)) at
-    ∙ reads_moved old new B (quote_by line None nodes ++ E) p.to m
-    ∙ ap (λ i. reads_from old B (quote_by i None nodes ++ E) p.to) h)))
+    at_number k (sym (
+    ap (reads_from new B (quote_by line None nodes ++ E)) at ∙ moved_reads_from B (quote_by line None nodes ++ E) p.to m ∙ ap (λ i. reads_from old B (quote_by i None nodes ++ E) p.to) h)))
     ∙ ap (λ d. then_read (λ nodes. reads_from new B (quote_by line None nodes ++ E) new.at) ((within_at d).inner Q n)) (sym m.depth)
 
 -- ---- a quote with an attribution
@@ -110,7 +98,7 @@ further_quotes old new B p next earlier j h some within m at =
           ap (λ Q. then_read R (quotes c N Q j)) (left_lines B p next h some)
           ∙ ap (then_read R) (quotes_enough c N M X j (omega (arith, length_X)) (omega (arith, length_X)))
           ∙ same_after (quotes c M X j) R (λ more. reads_from new B (earlier ++ more ++ E) p.to)
-          (λ more i. ap (λ (read : Numbered (List Item)). read i) (sym (reads_moved old new B (earlier ++ more ++ E) p.to m)))
+          (λ more i. at_number i (sym (moved_reads_from B (earlier ++ more ++ E) p.to m)))
           ∙ ap (λ d. then_read (λ more. reads_from new B (earlier ++ more ++ E) p.to) (quotes (within_at d) M X j)) (sym m.depth)
           ∙ ap (λ (b : Bool). after_quote new B earlier (if b then Some (left_of p next) else None) p.to j) (sym (lt-ltb (p.from + next) p.to below))
       | inr over ↦
@@ -118,9 +106,9 @@ further_quotes old new B p next earlier j h some within m at =
           let stop : p.to ≡ p.from + next = omega (arith, h, some, over) in
           ap (λ Q. then_read R (quotes c N Q j)) (drop_all next (lines_in B p) all)
           ∙ ap (then_read R) (quotes_enough c N 0 [] j (omega arith) (omega arith))
-          ∙ ap (λ (read : Numbered (List Item)). read j)
+          ∙ at_number j
           (ap (λ ns. reads_from old B (ns ++ E) p.to) (append-nil earlier)
-          ∙ sym (reads_moved old new B (earlier ++ E) p.to m)
+          ∙ sym (moved_reads_from B (earlier ++ E) p.to m)
           ∙ ap (reads_from new B (earlier ++ E)) (stop ∙ sym at))
           ∙ ap (λ (b : Bool). after_quote new B earlier (if b then Some (left_of p next) else None) p.to j) (sym (le-ltb (p.from + next) p.to over))
     ]
@@ -193,53 +181,45 @@ attributed_part old new B p k next line n m a made box L is first behind read va
 -- ---- quotes after more nodes
 
 -- nodes that a block has already come before those that it is to get
-reads_after : (old new : OpenBlock) (B : Block) (earlier more : List Node) (at : ℕ) → HasMore old new earlier → IsPlaced old → reads_from new B more at ≡ reads_from old B (earlier ++ more) at
-reads_after old new B earlier more at m w =
+reads_after : {old new : OpenBlock} {earlier : List Node} (B : Block) (more : List Node) (at : ℕ) → HasMore old new earlier → IsPlaced old → reads_from new B more at ≡ reads_from old B (earlier ++ more) at
+reads_after {old} {new} {earlier} B more at m w =
     let done : done_of new ++ map plain more ≡ done_of old ++ map plain (earlier ++ more) =
-    ap (λ items. items ++ map plain more) (done_more old new earlier m w)
+    ap (λ items. items ++ map plain more) (done_more m w)
     ∙ append_assoc (done_of old) (map plain earlier) (map plain more)
     ∙ ap (λ items. done_of old ++ items) (sym (map-append plain earlier more)) in
-    ap (λ items. before items (rest (within_at new.depth) B at (open_of new.run))) done
-    ∙ ap (λ d. before (done_of old ++ map plain (earlier ++ more)) (rest (within_at d) B at (open_of new.run))) m.depth
-    ∙ ap (λ r. before (done_of old ++ map plain (earlier ++ more)) (rest (within_at old.depth) B at (open_of r))) m.run
+    reads_from_is new B more at done m.depth (ap open_of m.run)
 
 -- what comes after a quote is the same once its nodes are among those of the block
 pub after_more : (old new : OpenBlock) (B : Block) (earlier : List Node) (left : Option Part) (end n : ℕ) → HasMore old new earlier → IsPlaced old
     → after_quote new B [] left end n ≡ after_quote old B earlier left end n
 after_more old new B earlier None end n m w =
     let E : List Node = ending_notes (alone_ending block_quote) (drop end B) in
-    ap (λ (read : Numbered (List Item)). read n) (ap (reads_from new B E) m.at ∙ reads_after old new B earlier E old.at m w)
+    at_number n (ap (reads_from new B E) m.at ∙ reads_after B E old.at m w)
 after_more old new B earlier (Some p) end n m w =
     let E : List Node = ending_notes (alone_ending block_quote) (drop p.to B) in
     let N : ℕ = p.to - p.from in
     ap (λ d. then_read (λ more. reads_from new B (more ++ E) p.to) (quotes (within_at d) N (lines_in B p) n)) m.depth
     ∙ same_after (quotes (within_at old.depth) N (lines_in B p) n) (λ more. reads_from new B (more ++ E) p.to) (λ more. reads_from old B (earlier ++ more ++ E) p.to)
-    (λ more j. ap (λ (read : Numbered (List Item)). read j)
-    (reads_after old new B earlier (more ++ E) p.to m w ∙ ap (λ ns. reads_from old B ns p.to) (sym (append_assoc earlier more E))))
+    (λ more j. at_number j (reads_after B (more ++ E) p.to m w ∙ ap (λ ns. reads_from old B ns p.to) (sym (append_assoc earlier more E))))
 
 -- where no blank line follows the last quote, the WARNING comes next
-pub quote_ends : (old new : OpenBlock) (B : Block) (left : Option Part) (end n m : ℕ) → left ≡ None → m ≡ n
+pub quote_ends : {old new : OpenBlock} {left : Option Part} (B : Block) (end n : ℕ) {m : ℕ} → left ≡ None → m ≡ n
     → HasMore old new (ending_notes (alone_ending block_quote) (drop end B)) → IsPlaced old → reads new B m ≡ after_quote old B [] left end n
-quote_ends old new B left end n m none same h w =
-    ap (reads new B) same
-    ∙ ap (λ (read : Numbered (List Item)). read n) (more_is_read old new B (ending_notes (alone_ending block_quote) (drop end B)) h w)
-    ∙ ap (λ o. after_quote old B [] o end n) (sym none)
+quote_ends {old} {new} B end n none same h w = ap (reads new B) same ∙ at_number n (more_is_read B h w) ∙ ap (λ o. after_quote old B [] o end n) (sym none)
+
+-- what is left of a quote may come next in a block that goes on no later
+pub rest_follows : (B : Block) (quote : Part) (next at : ℕ) → IsBlock B quote → at ≤ quote.from + next → IsRest B at (rest_of quote next)
+rest_follows B quote next at b h = elim (cases_lt (quote.from + next) quote.to) [
+  | inl below ↦ rw (lt-ltb (quote.from + next) quote.to below) ((rest_block B quote next b below, below, h))
+  | inr above ↦ rw (le-ltb (quote.from + next) quote.to above) tt
+]
 
 -- ---- where a quote begins
 
--- a block quote has a line
-pub quote_filled : (B : Block) (i : ℕ) → i < length B → IsBegun (drop i B) Begins.Quote → i < i + extent 1 (drop i B)
-unfolding construct_size
-quote_filled B i h b =
-    let w = end_inside true B i h in
-    let size : row_size (kind_at (drop i B)) true (drop i B) ≡ extent 1 (drop i B) = ap (λ k. row_size k true (drop i B)) (sym b.kind) in
-    omega (arith, w.0, size)
-
 -- where a quote begins the block gives the quotes of the indented lines, once the open run has ended
-pub quote_reads : (old mid : OpenBlock) (B : Block) (n m : ℕ) → old.at ≤ length B → IsBegun (drop old.at B) Begins.Quote
-    → IsClosed (closed_run (suc deepest - old.depth) B (open_of old.run) n) old mid m no_run → IsPlaced old
+pub quote_reads : {old mid : OpenBlock} {B : Block} {n m : ℕ} → old.at ≤ length B → IsBegun (drop old.at B) Begins.Quote → HasEnded old mid B n m
     → reads old B n ≡ quotes_from mid B [] (indented_part old.at (drop old.at B)) m
-quote_reads old mid B n m inside b h w =
+quote_reads {old} {mid} {B} {n} {m} inside b e =
     let c : Within = within_at old.depth in
     let X : Block = drop old.at B in
     let p : Part = indented_part old.at X in
@@ -249,8 +229,7 @@ quote_reads old mid B n m inside b h w =
     let E : List Node = ending_notes (alone_ending block_quote) (drop p.to B) in
     let rows : Numbered (List Item) = rest c B p.to no_run in
     let length_Q : length Q ≡ N = length-cut B p.from p.to p.first_cut p.rest_cut (omega (arith, extent_le 1 X, length-drop old.at B, inside)) in
-    begun_reads Begins.Quote old B n b tt
-    ∙ alone_reads old mid B f n m tt h w
+    next_alone (next_of Begins.Quote old B b tt) tt e
     ∙ before_then (done_of mid) (piece_of c B f) (λ items. before (items ++ map plain E) rows) m
     ∙ after_after (quotes c (length Q) Q m) (λ nodes. just (map plain nodes)) (λ items. before (done_of mid) (before (items ++ map plain E) rows))
     ∙ same_after (quotes c (length Q) Q m) (λ nodes. before (done_of mid) (before (map plain nodes ++ map plain E) rows)) (λ nodes. before (done_of mid ++ map plain (nodes ++ E)) rows)
@@ -258,16 +237,5 @@ quote_reads old mid B n m inside b h w =
     before_before (done_of mid) (map plain nodes ++ map plain E) rows j
     ∙ ap (λ items. before (done_of mid ++ items) rows j) (sym (map-append plain nodes E)))
     ∙ ap (then_read (λ nodes. before (done_of mid ++ map plain (nodes ++ E)) rows)) (quotes_enough c (length Q) N Q m (omega arith) (omega (arith, length_Q)))
-    ∙ ap (λ o. then_read (λ nodes. before (done_of mid ++ map plain (nodes ++ E)) (rest c B p.to o)) (quotes c N Q m)) (sym h.run)
-    ∙ ap (λ d. then_read (λ nodes. before (done_of mid ++ map plain (nodes ++ E)) (rest (within_at d) B p.to (open_of mid.run))) (quotes (within_at d) N Q m)) (sym h.depth)
-
--- where the open run is nested too deeply, so is all
-pub quote_refused : (l : OpenBlock) (B : Block) (n line : ℕ) → IsBegun (drop l.at B) Begins.Quote → closed_run (suc deepest - l.depth) B (open_of l.run) n ≡ Err line
-    → reads l B n ≡ Err line
-quote_refused l B n line b h =
-    begun_reads Begins.Quote l B n b tt ∙ alone_refused l B (found_as block_quote (span_to l.at (l.at + extent 1 (drop l.at B)))) n line tt h
-
--- what is kept after the end of a run is kept after all
-pub kept_after : {A : Type 0} (r : Result A BlockFault) (old mid new : OpenBlock) → mid.depth ≡ old.depth → IfOk r (λ _. IsKept mid new) → IfOk r (λ _. IsKept old new)
-kept_after (Ok a) old mid new e k = record { depth = k.depth ∙ e; placed = k.placed }
-kept_after (Err fault) old mid new e k = tt
+    ∙ ap (λ o. then_read (λ nodes. before (done_of mid ++ map plain (nodes ++ E)) (rest c B p.to o)) (quotes c N Q m)) (sym e.closed.run)
+    ∙ ap (λ d. then_read (λ nodes. before (done_of mid ++ map plain (nodes ++ E)) (rest (within_at d) B p.to (open_of mid.run))) (quotes (within_at d) N Q m)) (sym e.closed.depth)

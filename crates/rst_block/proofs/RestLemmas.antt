@@ -38,14 +38,15 @@ unfolding spans_from
 blank_skipped titles i [] h = refl
 blank_skipped titles i (l ∷ ls) h = rw h refl
 
-span_of : ℕ → ℕ → Span
-span_of i j = record { start = i; stop = j }
+-- the lines from one place to another
+abbrev pub span_to : ℕ → ℕ → Span
+span_to i j = record { start = i; stop = j }
 
 begun : (titles : Bool) (i : ℕ) (X : Block) → is_blank (front_text X) ≡ false → 1 ≤ construct_size titles X
-    → spans_from titles i 0 X ≡ span_of i (i + construct_size titles X) ∷ spans_from titles (i + construct_size titles X) 0 (drop (construct_size titles X) X)
-unfolding spans_from span_of
+    → spans_from titles i 0 X ≡ span_to i (i + construct_size titles X) ∷ spans_from titles (i + construct_size titles X) 0 (drop (construct_size titles X) X)
+unfolding spans_from
 begun titles i [] h some = let no : true ≡ false = h in cc
-begun titles i (l ∷ ls) h some = rw h (ap (λ (S : List Span). span_of i (i + construct_size titles (l ∷ ls)) ∷ S) (by (construct_size titles (l ∷ ls)) some))
+begun titles i (l ∷ ls) h some = rw h (ap (λ (S : List Span). span_to i (i + construct_size titles (l ∷ ls)) ∷ S) (by (construct_size titles (l ∷ ls)) some))
   where
     by : (n : ℕ) → 1 ≤ n → spans_from titles (suc i) (n - 1) ls ≡ spans_from titles (i + n) 0 (drop n (l ∷ ls))
     by zero some = absurd (omega (arith, some))
@@ -54,8 +55,9 @@ begun titles i (l ∷ ls) h some = rw h (ap (λ (S : List Span). span_of i (i + 
         let f : suc i + n ≡ i + suc n = omega arith in
         ap (λ k. spans_from titles (suc i) k ls) e ∙ skipped titles (suc i) n ls ∙ ap (λ j. spans_from titles j 0 (drop n ls)) f
 
-one_more : (i : ℕ) (B : Block) → drop 1 (drop i B) ≡ drop (suc i) B
-one_more i B = let e : i + 1 ≡ suc i = omega arith in drop-drop 1 i B ∙ ap (λ n. drop n B) e
+-- the lines after the first ones of those from a place on
+pub lines_after : (B : Block) (i n j : ℕ) → j ≡ i + n → drop n (drop i B) ≡ drop j B
+lines_after B i n j e = drop-drop n i B ∙ ap (λ k. drop k B) (sym e)
 
 -- a line that isn't blank is there
 there : (B : Block) (i : ℕ) → IsTextAt B i → i < length B
@@ -64,21 +66,20 @@ there B i h = elim (cases_lt i (length B)) [
   | inr over ↦ (let no : true ≡ false = sym (ap (λ X. is_blank (front_text X)) (drop_all i B over)) ∙ h in cc)
 ]
 
-pub found_over : (titles : Bool) (B : Block) (i : ℕ) → length B ≤ i → found_from titles B i ≡ []
+found_over : (titles : Bool) (B : Block) (i : ℕ) → length B ≤ i → found_from titles B i ≡ []
 unfolding spans_from
 found_over titles B i h = ap (λ X. map (found_at titles B) (spans_from titles i 0 X)) (drop_all i B h)
 
-pub found_blank : (titles : Bool) (B : Block) (i : ℕ) → IsBlankAt B i → found_from titles B i ≡ found_from titles B (suc i)
+found_blank : (titles : Bool) (B : Block) (i : ℕ) → IsBlankAt B i → found_from titles B i ≡ found_from titles B (suc i)
 found_blank titles B i h =
-    ap (map (found_at titles B)) (blank_skipped titles i (drop i B) h ∙ ap (spans_from titles (suc i) 0) (one_more i B))
+    ap (map (found_at titles B)) (blank_skipped titles i (drop i B) h ∙ ap (spans_from titles (suc i) 0) (lines_after B i 1 (suc i) (omega arith)))
 
-pub found_text : (titles : Bool) (B : Block) (i : ℕ) → IsTextAt B i → found_from titles B i ≡ found_in titles B i ∷ found_from titles B (construct_end titles B i)
-unfolding span_of
+found_text : (titles : Bool) (B : Block) (i : ℕ) → IsTextAt B i → found_from titles B i ≡ found_in titles B i ∷ found_from titles B (construct_end titles B i)
 found_text titles B i h =
     let w = end_inside titles B i (there B i h) in
     ap (map (found_at titles B))
     (begun titles i (drop i B) h (omega (arith, w.0))
-    ∙ ap (λ X. span_of i (construct_end titles B i) ∷ spans_from titles (construct_end titles B i) 0 X) (drop-drop (construct_size titles (drop i B)) i B))
+    ∙ ap (λ X. span_to i (construct_end titles B i) ∷ spans_from titles (construct_end titles B i) 0 X) (drop-drop (construct_size titles (drop i B)) i B))
 
 -- ---- what is still to come
 

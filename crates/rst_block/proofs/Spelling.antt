@@ -7,12 +7,13 @@ use Rattle.std.proofs.Math.Utf8.{encode, encodes}
 use Rattle.std.specs.declared.string.String.{String}
 use Rattle.std.proofs.lemmas.Str.{encodes-append, encode_ascii, chars_past_char, chars_from_encodes, IsUtf8-string_bytes}
 use Rattle.std.proofs.lemmas.Bool.{cases_lt}
-use Rattle.std.proofs.lemmas.List.{take_all, take-map}
+use Rattle.std.proofs.lemmas.List.{take_all, drop_all, take-map}
 use Rattle.rst_text.specs.Block.{Line, Block, front_text, shorten, shorten_all}
 use Rattle.rst_text.specs.Text.{chars_of}
 use Rattle.rst_text.proofs.Indenting.{no_chars}
 use Rattle.rst_text.proofs.Scanning.{past_char}
 use Rattle.rst_block.specs.Texts.{joined, spelled}
+use Rattle.rst_block.proofs.Splitting.{take_none}
 
 -- ---- characters
 
@@ -20,9 +21,6 @@ use Rattle.rst_block.specs.Texts.{joined, spelled}
 pub record Copies (from count : ℕ) (text part rest : List ℕ) (left : ℕ) : Type 0 where
   pub value : part ++ encode_utf8_all (take left (chars rest)) ≡ encode_utf8_all (take count (drop from (chars text)))
   pub utf8 : IsUtf8 rest
-
-pub Copies-start : (from count left : ℕ) (text part rest : List ℕ) → IsUtf8 rest → part ≡ [] → chars rest ≡ drop from (chars text) → left ≡ count → Copies from count text part rest left
-Copies-start from count left text part rest good none is same = record { value = rw (none, is, same) refl; utf8 = good }
 
 pub Copies-step : (from count left next c : ℕ) (text part rest after more : List ℕ) → Copies from count text part rest left → rest ≡ encode c ++ after → left ≡ suc next → more ≡ part ++ encode c
     → Copies from count text more after next
@@ -36,13 +34,9 @@ Copies-step from count left next c text part rest after more s e one is = record
   utf8 = (past_char rest after c s.utf8 e).1;
 }
 
-no_take : (n : ℕ) (xs : List ℕ) → xs ≡ [] → take n xs ≡ []
-no_take zero xs e = refl
-no_take (suc n) xs e = rw e refl
-
 pub Copies-over : (from count left : ℕ) (text part rest : List ℕ) → Copies from count text part rest left → length rest ≡ 0 → part ≡ encode_utf8_all (take count (drop from (chars text)))
 Copies-over from count left text part rest s none =
-    sym (append-nil part) ∙ ap (λ t. part ++ encode_utf8_all t) (sym (no_take left (chars rest) (no_chars rest none))) ∙ s.value
+    sym (append-nil part) ∙ ap (λ t. part ++ encode_utf8_all t) (sym (take_none left (chars rest) (no_chars rest none))) ∙ s.value
 
 pub Copies-end : (from count left : ℕ) (text part rest : List ℕ) → Copies from count text part rest left → left ≡ 0 → part ≡ encode_utf8_all (take count (drop from (chars text)))
 Copies-end from count left text part rest s none =
@@ -64,7 +58,7 @@ join_more c t (s ∷ ts) u = ap (λ x. t ++ c ∷ x) (join_more c s ts u) ∙ sy
 joined_front : (i : ℕ) (B : Block) → joined (take i B) ≡ join_with_byte 10 (take i (map (λ (l : Line). l.text) B))
 joined_front i B = ap (join_with_byte 10) (sym (take-map (λ (l : Line). l.text) i B))
 
-pub spelled_first : (B : Block) → 0 < length B → spelled (take 1 B) ≡ encode_utf8_all (front_text (drop 0 B))
+spelled_first : (B : Block) → 0 < length B → spelled (take 1 B) ≡ encode_utf8_all (front_text (drop 0 B))
 spelled_first [] h = absurd (omega arith)
 spelled_first (l ∷ ls) h = refl
 
@@ -77,7 +71,7 @@ joined_more (suc i) (l ∷ ls) z h =
     ∙ join_more 10 l.text (take i (map (λ (m : Line). m.text) ls)) (front_text (drop i ls))
     ∙ ap (λ t. t ++ 10 ∷ front_text (drop i ls)) (sym (joined_front (suc i) (l ∷ ls)))
 
-pub spelled_more : (i : ℕ) (B : Block) → 0 < i → i < length B → spelled (take (suc i) B) ≡ (spelled (take i B) ++ 10 ∷ []) ++ encode_utf8_all (front_text (drop i B))
+spelled_more : (i : ℕ) (B : Block) → 0 < i → i < length B → spelled (take (suc i) B) ≡ (spelled (take i B) ++ 10 ∷ []) ++ encode_utf8_all (front_text (drop i B))
 spelled_more i B z h =
     let more : List ℕ = encodes (front_text (drop i B)) in
     ap encodes (joined_more i B z h)
@@ -108,16 +102,6 @@ pub uncut_block : (X : Block) → shorten_all 0 0 X ≡ X
 uncut_block [] = refl
 uncut_block (l ∷ ls) = ap (λ (x : Block). l ∷ x) (uncut_lines ls)
 
-none_left : (i : ℕ) (B : Block) → length B ≤ i → drop i B ≡ []
-none_left zero [] h = refl
-none_left zero (l ∷ ls) h = absurd (omega arith)
-none_left (suc i) [] h = refl
-none_left (suc i) (l ∷ ls) h = none_left i ls (omega arith)
-
-no_lines : (n : ℕ) (X : Block) → X ≡ [] → take n X ≡ []
-no_lines zero X e = refl
-no_lines (suc n) X e = rw e refl
-
 -- the lines between two places, where those that don't exist are left out
 pub lines_there : (B : Block) (from to f t : ℕ) → t ≡ min to (length B) → f ≡ min from t → take (t - f) (drop f B) ≡ take (to - from) (drop from B)
 lines_there B from to f t et ef = by (cases_lt (length B) from) (cases_lt to from) (cases_lt (length B) to)
@@ -136,5 +120,5 @@ lines_there B from to f t et ef = by (cases_lt (length B) from) (cases_lt to fro
         rw (p, q) refl
     by (inl a) (inr b) y =
         let p : t - f ≡ 0 = omega arith in
-        let none : drop from B ≡ [] = none_left from B (omega arith) in
-        rw p (sym (no_lines (to - from) (drop from B) none))
+        let none : drop from B ≡ [] = drop_all from B (omega arith) in
+        rw p (sym (take_none (to - from) (drop from B) none))

@@ -107,11 +107,11 @@ pub second_left : (p : Option Part) → HasSecond p → parts_left p ≡ 4
 second_left (Some p) h = refl
 second_left None h = absurd h
 
-pub pushed : (S : Block) (fs : List Frame) (f : Frame) → AreFrames S fs → IsFrame S f → AreFrames S (fs ++ f ∷ [])
+pushed : (S : Block) (fs : List Frame) (f : Frame) → AreFrames S fs → IsFrame S f → AreFrames S (fs ++ f ∷ [])
 pushed S [] f h i = (i, tt)
 pushed S (g ∷ fs) f h i = (h.0, pushed S fs f h.1 i)
 
-pub popped : (S : Block) (fs : List Frame) (f : Frame) → AreFrames S (fs ++ f ∷ []) → AreFrames S fs × IsFrame S f
+popped : (S : Block) (fs : List Frame) (f : Frame) → AreFrames S (fs ++ f ∷ []) → AreFrames S fs × IsFrame S f
 popped S [] f h = (tt, h.0)
 popped S (g ∷ fs) f h = let r = popped S fs f h.1 in ((h.0, r.0), r.1)
 

@@ -1,20 +1,22 @@
--- A block inside one that waits has ended: the next part is read for the one that waits, or it goes on.
-use Rattle.std.proofs.Common.{◌≡◌, ◌⊎◌, ℕ, suc, ◌+◌, ◌-◌, ◌≤◌, List, [], ◌∷◌, ◌++◌, length, take, drop, map, Option, Some, None, Result, Ok, Err, arith, refl, sym, ◌∙◌, ap, subst, inl, inr}
-use Rattle.std.proofs.lemmas.Bool.{cases_lt}
+-- A block inside one that waits has ended: the next part is read for the one that waits, or it goes on with the nodes of the one inside.
+use Rattle.std.proofs.Common.{◌≡◌, ℕ, suc, ◌+◌, ◌-◌, ◌≤◌, List, [], ◌∷◌, ◌++◌, take, drop, map, Option, Some, None, Result, Err, arith, sym, ◌∙◌, ap}
 use Rattle.std.proofs.lemmas.Grind.{flat_map-append}
 use Rattle.std.proofs.lemmas.List.{take-append-drop}
 use Rattle.rst_text.specs.Block.{Block}
 use Rattle.rst_text.specs.Shown.{block_of, placement_block}
 use Rattle.rst_text.specs.declared.view.View.{View}
+use Rattle.rst_tree.specs.declared.attrs.Attr.{Attr}
 use Rattle.rst_tree.specs.declared.node.Node.{Node}
-use Rattle.rst_markup_blocks.specs.Partition.{spans_from}
+use Rattle.rst_tree.specs.declared.tag.Tag.{Tag}
 use Rattle.rst_markup_blocks.specs.declared.part.Part.{Part}
+use Rattle.rst_block_nodes.specs.Elements.{element_of}
 use Rattle.rst_block_sections.specs.declared.heading.Heading.{Heading}
 use Rattle.rst_block_sections.specs.Sections.{items_from, title_of}
 use Rattle.rst_block.specs.Frames.{ended_as}
-use Rattle.rst_block.specs.Meanings.{IsNew, Keeps, TellsBlank, after, comes, deepest, done_of, plug, reads, resumed, text_items, text_with, within_at}
-use Rattle.rst_block.specs.Nodes.{below_last_level, block_items, node_if, nodes_among, plainly}
-use Rattle.rst_block.specs.Numbered.{Numbered, then_read, ◌>>=◌, just}
+use Rattle.rst_block.specs.Meanings.{IsNew, Keeps, after, comes, deepest, done_of, open_of, plug, reads, reads_from, resumed, with_item, within_at}
+use Rattle.rst_block.specs.Nodes.{block_items, node_if, nodes_among}
+use Rattle.rst_block.specs.Numbered.{Numbered, ◌>>=◌, just}
+use Rattle.rst_block.specs.OpenBlocks.{HasMore, HasItem, IsPlaced}
 use Rattle.rst_block.specs.Texts.{lines_in}
 use Rattle.rst_block.specs.Titles.{Item, plain, titled}
 use Rattle.rst_block.specs.declared.fault.BlockFault.{BlockFault}
@@ -25,11 +27,15 @@ use Rattle.rst_block.specs.declared.open_block.OpenBlock.{OpenBlock}
 use Rattle.rst_block.specs.declared.resume.Waits.{Waits}
 use Rattle.rst_block.specs.declared.step.Step.{Step}
 use Rattle.rst_block.specs.declared.step.Step.TheVariants.{Open}
+use Rattle.rst_block.proofs.Changes.{more_is_read, item_is_read}
 use Rattle.rst_block.proofs.MeaningLemmas.{part_means, done_means, plug_none, plug_same, plug_refused, reads_all}
+use Rattle.rst_block.proofs.NumberedLemmas.{at_number}
 use Rattle.rst_block.proofs.RestLemmas.{nodes_among_plain}
 
+-- ---- the nodes of the one inside
+
 -- the nodes among nodes with titles between them
-pub among_items : (done : ℕ) (nodes : List Node) (hs : List Heading) → nodes_among (items_from done nodes hs) ≡ nodes
+among_items : (done : ℕ) (nodes : List Node) (hs : List Heading) → nodes_among (items_from done nodes hs) ≡ nodes
 unfolding items_from
 among_items done nodes [] = nodes_among_plain nodes
 among_items done nodes (h ∷ hs) =
@@ -126,65 +132,38 @@ pub plug_end_fails : {A C : Type 0} (S : Block) (fs : List Frame) (f : Frame) (o
 plug_end_fails S fs f old n all e g k inv h =
     plug_fails S fs (after f.level (placement_block S f.placement) f.waits f.second f.nodes.items (nodes_among (done_of old))) n all e g k (sym (done_means S fs f (done_of old) n) ∙ inv) h
 
--- ---- texts
-
--- a text that isn't too deep is a block
-pub text_there : (depth : ℕ) (B : Block) (n : ℕ) → depth ≤ deepest → text_items depth B n ≡ block_items (within_at depth) B n
-text_there depth B n h =
-    let k : suc deepest - depth ≡ suc (deepest - depth) = omega (arith, h) in
-    ap (λ levels. text_with levels depth B n) k
-
--- a text below the last level must be blank
-pub text_below : (depth : ℕ) (B : Block) (n : ℕ) → depth ≡ suc deepest → text_items depth B n ≡ plainly (below_last_level B) n
-text_below depth B n e =
-    let k : suc deepest - depth ≡ 0 = omega (arith, e) in
-    ap (λ levels. text_with levels depth B n) k
-
--- a text without lines gives nothing
-text_empty : (depth : ℕ) (n : ℕ) → depth ≤ deepest → text_items depth [] n ≡ Ok ([], n)
-unfolding spans_from
-text_empty depth n h = text_there depth [] n h
-
-no_lines : (B : Block) → length B ≡ 0 → B ≡ []
-no_lines [] e = refl
-no_lines (l ∷ ls) e = absurd (omega (arith, e))
-
-flat_below : {C : Type 0} (depth : ℕ) (B : Block) (l : OpenBlock) (n : ℕ) (done : C) → depth ≡ suc deepest → TellsBlank B (Ok done) → IsNew l → just (done_of l) n ≡ text_items depth B n
-flat_below depth B l n done e t k = ap (λ items. just items n) k.done ∙ sym (text_below depth B n e ∙ ap (then_read (λ nodes. just (map plain nodes))) (t n))
-
--- a text without lines, or below the last level, that is blank
-pub flat_text : {C : Type 0} (depth : ℕ) (X B : Block) (l : OpenBlock) (n : ℕ) (done : C) → depth ≤ 251 → (length B ≡ 0) ⊎ (depth ≡ suc deepest)
-    → X ≡ B → TellsBlank X (Ok done) → IsNew l → just (done_of l) n ≡ text_items depth B n
-flat_text depth X B l n done h (inr e) x t k = flat_below depth B l n done e (subst (λ Y. TellsBlank Y (Ok done)) x t) k
-flat_text depth X B l n done h (inl e) x t k = elim (cases_lt depth 251) [
-  | inl low ↦ ap (λ items. just items n) k.done ∙ sym (ap (λ X. text_items depth X n) (no_lines B e) ∙ text_empty depth n (omega (arith, low)))
-  | inr high ↦ flat_below depth B l n done (omega (arith, h, high)) (subst (λ Y. TellsBlank Y (Ok done)) x t) k
-]
-
-no_refusal : (n line : ℕ) → below_last_level [] n ≡ Err line → ⊥
-unfolding below_last_level
-no_refusal n line h = let e : ok n ≡ Err line = h in cc
-  where
-    ok : ℕ → Result (List Node × ℕ) ℕ
-    ok n = Ok ([], n)
-
--- one that isn't is refused
-pub flat_text_fails : {C : Type 0} (depth : ℕ) (X B : Block) (n : ℕ) (e : BlockFault) (f : C → Result (List Item × ℕ) ℕ) → (length B ≡ 0) ⊎ (depth ≡ suc deepest)
-    → X ≡ B → TellsBlank {A = Unit {0}} X (Err e) → Keeps (Err e) f (text_items depth B n)
-flat_text_fails depth X B n (TooDeep line) f (inr d) x t = text_below depth B n d ∙ ap (then_read (λ nodes. just (map plain nodes))) (ap (λ Y. below_last_level Y n) (sym x) ∙ t n)
-flat_text_fails depth X B n (TooDeep line) f (inl e) x t = absurd (no_refusal n line (ap (λ Y. below_last_level Y n) (sym (x ∙ no_lines B e)) ∙ t n))
-flat_text_fails depth X B n NoMemory f d x t = tt
-
 -- ---- a text begins and ends
 
 -- where no block waits, a text is what its first block gives
 pub plug_begins : (S : Block) (fs : List Frame) (l : OpenBlock) (B : Block) (depth n : ℕ) → fs ≡ [] → IsNew l → l.depth ≡ depth → plug S fs (reads l B) n ≡ block_items (within_at depth) B n
 plug_begins S fs l B depth n e k d =
     ap (λ fs. plug S fs (reads l B) n) e
-    ∙ ap (λ (r : Numbered (List Item)). r n) (plug_none S (reads l B))
+    ∙ at_number n (plug_none S (reads l B))
     ∙ reads_all l B n k
     ∙ ap (λ d. block_items (within_at d) B n) d
 
 pub plug_over : (S : Block) (fs : List Frame) (l : OpenBlock) (n : ℕ) (all : Result (List Item × ℕ) ℕ) → fs ≡ [] → plug S fs (just (done_of l)) n ≡ all → just (done_of l) n ≡ all
 plug_over S fs l n all e h =
-    ap (λ (r : Numbered (List Item)). r n) (sym (plug_none S (just (done_of l)))) ∙ ap (λ fs. plug S fs (just (done_of l)) n) (sym e) ∙ h
+    at_number n (sym (plug_none S (just (done_of l)))) ∙ ap (λ fs. plug S fs (just (done_of l)) n) (sym e) ∙ h
+
+-- ---- the nodes that a block gets once one inside it is read
+
+-- more nodes are given next
+pub nodes_given : {old new last : OpenBlock} {more wanted : List Node} (B : Block) (n : ℕ) → HasMore old new more → more ≡ wanted → IsPlaced old → last ≡ new
+    → reads last B n ≡ reads_from old B wanted old.at n
+nodes_given {old} B n h e w is = ap (λ l. reads l B n) is ∙ at_number n (more_is_read B h w) ∙ ap (λ ns. reads_from old B ns old.at n) e
+
+-- an item is given in its list
+pub item_given : (old new last : OpenBlock) (B : Block) (item wanted : Node) (n : ℕ) → HasItem old new item → item ≡ wanted → IsPlaced old → last ≡ new
+    → reads last B n ≡ with_item old B wanted (open_of old.run) n
+item_given old new last B item wanted n h e w is =
+    ap (λ l. reads l B n) is ∙ at_number n (item_is_read old new B item h w) ∙ ap (λ node. with_item old B node (open_of old.run) n) e
+
+-- the item with a body behind its heads, as it is put together
+pub item_made : (item body : Tag) (line : ℕ) (a b : List Attr) (heads all notes nodes inner : List Node) (whole held : Node) → held ≡ element_of body a nodes line → a ≡ []
+    → nodes ≡ notes ++ inner → all ≡ heads ++ held ∷ [] → whole ≡ element_of item b all line → b ≡ []
+    → whole ≡ element_of item [] (heads ++ element_of body [] (notes ++ inner) line ∷ []) line
+item_made item body line a b heads all notes nodes inner whole held h x m g w y =
+    w
+    ∙ ap (λ attrs. element_of item attrs all line) y
+    ∙ ap (λ ns. element_of item [] ns line) (g ∙ ap (λ node. heads ++ node ∷ []) (h ∙ ap (λ attrs. element_of body attrs nodes line) x ∙ ap (λ ns. element_of body [] ns line) m))

@@ -1,4 +1,4 @@
--- What a block that is read gives where explicit markup stands at its next line. No rule of markup.
+-- Explicit markup, step by step: what a block gives where it stands at its next line, and directives as they are kept. No rule of markup.
 use Rattle.std.specs.Prelude.{ℕ, Bool, true, false, List, Option, Some, if◌then◌else◌}
 use Rattle.rst_text.specs.Block.{Block}
 use Rattle.rst_tree.specs.declared.node.Node.{Node}
@@ -12,6 +12,7 @@ use Rattle.rst_markup_directives.specs.declared.name.Name.{Name}
 use Rattle.rst_markup_directives.specs.declared.name.Name.TheVariants.{Figure, Replace}
 use Rattle.rst_block.specs.Constructs.{explicit_markup}
 use Rattle.rst_block.specs.Directives.{content_nodes}
+use Rattle.rst_block.specs.Figures.{Beginning, caption, no_caption, neither}
 use Rattle.rst_block.specs.Meanings.{open_of, within_at, done_of, reads_from}
 use Rattle.rst_block.specs.Numbered.{Numbered, ◌>>=◌, just, before}
 use Rattle.rst_block.specs.Rest.{OpenRun, open_markup, rest_with}
@@ -19,6 +20,8 @@ use Rattle.rst_block.specs.RestLaws.{found_as}
 use Rattle.rst_block.specs.Titles.{Item}
 use Rattle.rst_block.specs.Within.{Within}
 use Rattle.rst_block.specs.declared.directive.Found.{Found}
+use Rattle.rst_block.specs.declared.figure.Front.{Front}
+use Rattle.rst_block.specs.declared.figure.Front.TheVariants.{Caption, Missing, Wrong}
 use Rattle.rst_block.specs.declared.open_block.OpenBlock.{OpenBlock}
 
 -- the open run is explicit markup
@@ -61,3 +64,9 @@ place_in titles = if titles then Top else Body
 -- a right directive, as it is kept
 abbrev pub read_of : Found → Read
 read_of f = record { name = f.name; argument = given_in f.argument; options = choices_in f.options.items; content = f.content }
+
+-- what the content of a figure begins with, as it is kept
+abbrev pub beginning_in : Front → Beginning
+beginning_in (Caption node count) = caption node count
+beginning_in Missing = no_caption
+beginning_in Wrong = neither

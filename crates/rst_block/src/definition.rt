@@ -7,10 +7,9 @@ ghost use Rattle.rst_text.specs.Block.{front_text};
 ghost use Rattle.rst_markup_blocks.specs.Conditions.{next_text};
 ghost use Rattle.rst_markup_blocks.specs.Forms.{text_form};
 ghost use Rattle.rst_markup_blocks.specs.declared.form.TextForm.TheVariants.{Definition};
-ghost use Rattle.rst_block.specs.ListNotes.{with_infos};
 ghost use Rattle.rst_block.specs.Meanings.{Keeps, comes, open_of, reads};
 ghost use Rattle.rst_block.specs.NextLine.{IsText};
-ghost use Rattle.rst_block.specs.OpenBlocks.{Gives, HasRun, IsKept, IsPlaced};
+ghost use Rattle.rst_block.specs.OpenBlocks.{Gives, HasRun, IsKept, IsPlaced, with_infos};
 
 use super::fault::BlockFault;
 use super::field::join_list;

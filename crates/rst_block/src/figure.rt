@@ -4,7 +4,7 @@ ghost use Rattle.std.specs.Vec.Iter.{into_iter_items};
 ghost use Rattle.rst_tree.specs.Faults.{Gives};
 ghost use Rattle.rst_block_sections.specs.Sections.{filled};
 ghost use Rattle.rst_block.specs.Figures as spec;
-ghost use Rattle.rst_block.specs.Kept.{beginning_in};
+ghost use Rattle.rst_block.specs.MarkupSteps.{beginning_in};
 
 use super::texts::{alone, parted, push};
 use rst_block_nodes::{element_of, message};

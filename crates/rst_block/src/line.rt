@@ -9,9 +9,9 @@ ghost use Rattle.rst_block.specs.Steps as spec;
 ghost use Rattle.rst_markup_blocks.specs.Begun.{IsBegun};
 ghost use Rattle.rst_markup_blocks.specs.declared.begun.Begun.TheVariants.{Line};
 ghost use Rattle.rst_block.specs.LineRuns.{indented_line, indentation_of};
-ghost use Rattle.rst_block.specs.LinesSoFar.{HasLine, line_added, lines_end_at, text_over};
+ghost use Rattle.rst_block.specs.TextSteps.{text_over};
 ghost use Rattle.rst_block.specs.Meanings.{Keeps, reads, open_of};
-ghost use Rattle.rst_block.specs.OpenBlocks.{Gives, IsKept, IsPlaced};
+ghost use Rattle.rst_block.specs.OpenBlocks.{Gives, IsKept, IsPlaced, HasLine, line_added, lines_end_at};
 ghost use Rattle.rst_block.specs.Texts.{joined};
 
 use super::fault::BlockFault;

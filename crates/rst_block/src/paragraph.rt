@@ -12,7 +12,7 @@ ghost use Rattle.rst_markup_blocks.specs.declared.begun.Begun.TheVariants.{Docte
 ghost use Rattle.rst_block.specs.Meanings.{Keeps, reads};
 ghost use Rattle.rst_block.specs.OpenBlocks.{IsKept, IsPlaced, Gives, ReadsNodes, HasMoreAt};
 ghost use Rattle.rst_block.specs.Literals as literals;
-ghost use Rattle.rst_block.specs.ParagraphSteps as parts;
+ghost use Rattle.rst_block.specs.TextSteps as parts;
 ghost use Rattle.rst_markup_blocks.specs.Lines.{lines_while};
 ghost use Rattle.rst_markup_blocks.specs.Sizes.{paragraph_size, literal_size};
 ghost use Rattle.rst_markup_blocks.specs.declared.lines.LineTest.TheVariants.{Begins};

@@ -9,7 +9,7 @@ ghost use Rattle.rst_block.specs.OpenBlocks.{IsKept, IsPlaced, Gives, ReadsItems
 ghost use Rattle.rst_block.specs.Constructs as constructs;
 ghost use Rattle.rst_block.specs.Texts.{source_of};
 ghost use Rattle.rst_block.specs.Titles as titles;
-ghost use Rattle.rst_block.specs.ParagraphSteps.{under_style, unexpected_notes};
+ghost use Rattle.rst_block.specs.TextSteps.{under_style, unexpected_notes};
 ghost use Rattle.rst_text.specs.Block.{front_text, first_number};
 ghost use Rattle.std.specs.Option.{option_to_list};
 

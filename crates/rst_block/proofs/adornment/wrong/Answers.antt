@@ -1,42 +1,37 @@
-use Rattle.std.proofs.Common.{◌≡◌, ◌+◌, ◌-◌, ◌≤◌, ◌∷◌, [], length, drop, Ok, rules, refl, sym, ◌∙◌, ap}
+use Rattle.std.proofs.Common.{◌≡◌, ◌+◌, ◌≤◌, ◌∷◌, [], length, drop, Ok, rules, refl, sym, ◌∙◌, ap}
 use Rattle.rst_text.specs.Block.{Block, first_number}
 use Rattle.rst_text.specs.Shown.{block_of}
 use Rattle.rst_tree.specs.declared.node.Node.{Node}
-use Rattle.rst_block.specs.Constructs.{Construct, misplaced_lines}
-use Rattle.rst_block.specs.OpenBlocks.{HasMore}
 use Rattle.rst_block.specs.Texts.{shown, source_of}
 use Rattle.rst_block.specs.Titles.{plain}
-use Rattle.rst_block.proofs.NextConstructs.{next_some, next_within, next_refused, next_node, end_behind, goes_behind, message_is}
-use Rattle.rst_block.proofs.NextLines.{span_to, close_refuses, gives_keeps, gives_kept, gone_kept}
+use Rattle.rst_block.proofs.Calls.{close_refuses, gives_keeps, gives_kept}
+use Rattle.rst_block.proofs.Changes.{moved_more, kept_closed, kept_more, kept_then}
+use Rattle.rst_block.proofs.NextConstructs.{next_some, next_within, end_behind, goes_behind, span_to, has_ended, next_refused, next_nodes, message_is}
 use Rattle.rst_block.proofs.adornment.wrong.Goals as goal
 
 pub returns-in_err-close-clause-read : goal.returns-in_err-close-clause-read
 returns-in_err-close-clause-read c =
-    let l = c.args.level.now in
-    close_refuses c.from_residual.result c.in_err-close.field-0.0 _ _ _ l (search rules) c.in_err-close.ensures.closed
-    (λ line h. next_refused l (block_of c.args.view.now) (misplaced_lines c.args.form.gravity c.args.form.text.now) c.args.form.lines _ line c.requires.found tt h)
+    close_refuses c.from_residual.result c.in_err-close.field-0.0 _ _ _ c.args.level.now (search rules) c.in_err-close.ensures.closed (λ line h. next_refused _ c.requires.found tt h)
 
 pub returns-clause-kept : goal.returns-clause-kept
 returns-clause-kept c =
-    gives_kept c.push.result (λ _. HasMore c.go_to.new.self c.push.new.self (c.in_ok-node.node ∷ [])) _ c.push.ensures.more
-    (λ _ h. gone_kept c.args.level.now c.close.new.self c.go_to.new.self c.push.new.self _ _ _ (c.in_ok-node.node ∷ []) c.in_ok-close.ensures.closed c.go_to.ensures.moved h c.requires.placed)
+    gives_kept _ _ c.push.result c.push.ensures.more (λ _ h. kept_then (kept_closed c.in_ok-close.ensures.closed c.requires.placed) (kept_more (moved_more c.go_to.ensures.moved refl h)))
 
 pub returns-clause-read : goal.returns-clause-read
 returns-clause-read c =
     let B : Block = block_of c.args.view.now in
     let l = c.args.level.now in
     let form = c.args.form in
-    let what : Construct = misplaced_lines form.gravity form.text.now in
     let found = c.requires.found in
-    let within : l.at + form.lines ≤ length B = next_within l B what form.lines found c.requires.inside in
+    let within : l.at + form.lines ≤ length B = next_within found c.requires.inside in
     let stop : c.saturating_add-end.result ≡ l.at + form.lines =
     end_behind l.at c.close.new.self.at c.saturating_add-end.result form.lines (length B) c.close.ensures.at c.saturating_add-end.ensures within c.requires.short in
     let node : c.in_ok-node.node ≡ shown form.gravity (first_number (drop l.at B)) form.text.now (source_of B (span_to l.at (l.at + form.lines))) =
     message_is B form.gravity form.text.now c.as_str.result.now c.in_ok-node.node l.at c.close.new.self.at c.number_at-line.result c.saturating_add-end.result (l.at + form.lines) c.close.ensures.at
     c.in_ok-node.ensures c.number_at-line.ensures (c.as_str.ensures.value ∙ c.in_ok-block.ensures.bytes) stop in
     let at : c.go_to.new.self.at ≡ l.at + form.lines =
-    goes_behind l.at c.close.new.self.at c.go_to.new.self.at c.saturating_add-end.result form.lines (length B) c.close.ensures.at c.saturating_add-end.ensures (next_some l B what form.lines found c.requires.inside)
+    goes_behind l.at c.close.new.self.at c.go_to.new.self.at c.saturating_add-end.result form.lines (length B) c.close.ensures.at c.saturating_add-end.ensures (next_some found c.requires.inside)
     within c.requires.short c.go_to.ensures.there in
-    gives_keeps c.push.result (λ _. HasMore c.go_to.new.self c.push.new.self (c.in_ok-node.node ∷ [])) _ _ c.push.ensures.more
-    (λ _ h. next_node l c.close.new.self c.go_to.new.self c.push.new.self B what form.lines c.in_ok-node.node c.args.pass.now.numbers c.close.new.pass.numbers found tt refl
-    c.in_ok-close.ensures.closed c.requires.placed (ap (λ (n : Node). Ok (plain n ∷ [], c.close.new.pass.numbers)) (sym node)) c.go_to.ensures.moved at h)
+    gives_keeps _ c.push.result _ _ c.push.ensures.more
+    (λ _ h. next_nodes (c.in_ok-node.node ∷ []) found tt (has_ended B _ c.in_ok-close.ensures.closed c.requires.placed)
+    (ap (λ (n : Node). Ok (plain n ∷ [], c.close.new.pass.numbers)) (sym node)) (moved_more c.go_to.ensures.moved at h))

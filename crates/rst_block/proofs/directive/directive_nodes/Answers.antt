@@ -1,17 +1,16 @@
-use Rattle.std.proofs.Common.{List, Some, drop, ap}
+use Rattle.std.proofs.Common.{List, drop, ap}
 use Rattle.std.proofs.lemmas.Str.{encodes-chars}
 use Rattle.rst_text.specs.Block.{first_number}
 use Rattle.rst_text.specs.Shown.{block_of}
 use Rattle.rst_tree.specs.declared.node.Node.{Node}
 use Rattle.rst_markup_directives.specs.Argument.{given_in}
-use Rattle.rst_block.specs.Directives.{code_nodes, right_by}
 use Rattle.rst_block.specs.MarkupSteps.{read_of, reads_with}
 use Rattle.rst_block.specs.Meanings.{within_at}
-use Rattle.rst_block.specs.Numbered.{Numbered, just}
+use Rattle.rst_block.specs.Numbered.{Numbered}
 use Rattle.rst_block.specs.Texts.{source_of}
-use Rattle.rst_block.proofs.DirectiveReads.{language_by}
-use Rattle.rst_block.proofs.MarkupReads.{keeps_same}
-use Rattle.rst_block.proofs.NextLines.{span_to}
+use Rattle.rst_block.proofs.Calls.{keeps_as}
+use Rattle.rst_block.proofs.DirectiveReads.{language_right}
+use Rattle.rst_block.proofs.NextConstructs.{span_to}
 use Rattle.rst_block.proofs.directive.directive_nodes.Goals as goal
 
 pub returns-in-Language-clause-read : goal.returns-in-Language-clause-read
@@ -23,8 +22,8 @@ returns-in-Language-clause-read c =
     let word = c.as_str-in-Language.result.now in
     let line = first_number (drop l.at B) in
     let lines = source_of B (span_to l.at f.end) in
-    keeps_same c.code_nodes.result _ (reads_with l B (just (code_nodes B line (read_of f) (Some word))) f.end n) (reads_with l B (right_by (given_in f.argument) f.name (within_at l.depth) B line (read_of f) lines) f.end n)
+    keeps_as c.code_nodes.result _ _ _
     (ap (λ (read : Numbered (List Node)). reads_with l B read f.end n)
-    (language_by f.argument c.in-Language.language word f.name (within_at l.depth) B line (read_of f) lines (ap given_in c.in-Language.is) c.as_str-in-Language.ensures.value
+    (language_right f.argument c.in-Language.language word f.name (within_at l.depth) B line (read_of f) lines (ap given_in c.in-Language.is) c.as_str-in-Language.ensures.value
     (encodes-chars word c.as_str-in-Language.utf8)))
     c.code_nodes.ensures.read

@@ -13,7 +13,7 @@ use Rattle.rst_block.specs.declared.figure.OpenFigure.{OpenFigure}
 use Rattle.rst_block.specs.declared.resume.Waits.TheVariants.{Figure}
 use Rattle.rst_block.proofs.DirectiveReads.{figure_is}
 use Rattle.rst_block.proofs.MarkupReads.{content_comes}
-use Rattle.rst_block.proofs.NextLines.{span_to}
+use Rattle.rst_block.proofs.NextConstructs.{span_to}
 use Rattle.rst_block.proofs.directive.figure_block.Goals as goal
 
 pub returns-clause-read : goal.returns-clause-read
@@ -27,7 +27,7 @@ returns-clause-read c =
     let figure = c.in_ok-figure-2.figure in
     let source = string_bytes c.in_ok-source.source in
     ap (λ s. comes new B s n) c.opened.ensures.opened
-    ∙ content_comes l new B (Figure c.in_ok-new.field-0) f.content (figure_nodes figure (caption_error line source)) f.end n c.opened.ensures.moved c.opened.ensures.at
+    ∙ content_comes B (Figure c.in_ok-new.field-0) f.content (figure_nodes figure (caption_error line source)) n c.opened.ensures.moved c.opened.ensures.at
     (λ ns. ap (λ (o : OpenFigure). reads_from new B (figure_nodes o.figure (caption_error o.line (string_bytes o.source)) ns) new.at) c.in_ok-new.ensures.ok)
     ∙ ap (λ (read : Numbered (List Node)). reads_with l B read f.end n)
     (figure_is (within_at l.depth) B (read_of f) c.args.uri.now (source_of B (span_to l.at f.end)) source line (first_number (drop l.at B)) c.as_slice-options.result.now c.in_ok-figure.field-0 c.in_ok-shown.shown figure

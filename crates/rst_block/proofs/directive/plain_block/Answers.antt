@@ -1,17 +1,15 @@
-use Rattle.std.proofs.Common.{List, None, drop, ap, ◌∙◌}
+use Rattle.std.proofs.Common.{List, drop, ap, ◌∙◌}
 use Rattle.rst_text.specs.Block.{first_number}
 use Rattle.rst_text.specs.Shown.{block_of}
 use Rattle.rst_tree.specs.declared.node.Node.{Node}
-use Rattle.rst_markup_directives.specs.Argument.{nothing}
 use Rattle.rst_markup_directives.specs.Options.{choices_in}
-use Rattle.rst_block.specs.Directives.{code_nodes, right_by}
 use Rattle.rst_block.specs.MarkupSteps.{read_of, reads_with}
 use Rattle.rst_block.specs.Meanings.{within_at}
-use Rattle.rst_block.specs.Numbered.{Numbered, just}
+use Rattle.rst_block.specs.Numbered.{Numbered}
 use Rattle.rst_block.specs.Texts.{source_of}
-use Rattle.rst_block.proofs.DirectiveReads.{code_by, plain_by, plain_comes}
-use Rattle.rst_block.proofs.MarkupReads.{keeps_same}
-use Rattle.rst_block.proofs.NextLines.{span_to}
+use Rattle.rst_block.proofs.Calls.{keeps_as}
+use Rattle.rst_block.proofs.DirectiveReads.{code_right, plain_right, plain_comes}
+use Rattle.rst_block.proofs.NextConstructs.{span_to}
 use Rattle.rst_block.proofs.directive.plain_block.Goals as goal
 
 pub returns-then-is_code-clause-read : goal.returns-then-is_code-clause-read
@@ -22,8 +20,8 @@ returns-then-is_code-clause-read c =
     let n = c.args.pass.now.numbers in
     let line = first_number (drop l.at B) in
     let lines = source_of B (span_to l.at f.end) in
-    keeps_same c.code_nodes.result _ (reads_with l B (just (code_nodes B line (read_of f) None)) f.end n) (reads_with l B (right_by nothing f.name (within_at l.depth) B line (read_of f) lines) f.end n)
-    (ap (λ (read : Numbered (List Node)). reads_with l B read f.end n) (code_by f.name c.is_code.result (within_at l.depth) B line (read_of f) lines c.is_code.ensures c.if-is_code.true))
+    keeps_as c.code_nodes.result _ _ _
+    (ap (λ (read : Numbered (List Node)). reads_with l B read f.end n) (code_right f.name c.is_code.result (within_at l.depth) B line (read_of f) lines c.is_code.ensures c.if-is_code.true))
     c.code_nodes.ensures.read
 
 pub returns-clause-read : goal.returns-clause-read
@@ -35,4 +33,4 @@ returns-clause-read c =
     let line = first_number (drop l.at B) in
     plain_comes l c.opened.new.level B (read_of f) f.end n c.number_at-line.result line c.in_ok-node.node c.as_slice.result.now c.opened.result c.in_ok-node.ensures (ap choices_in c.as_slice.ensures.value) c.number_at-line.ensures
     c.opened.ensures.opened c.opened.ensures.at c.opened.ensures.moved
-    ∙ ap (λ (read : Numbered (List Node)). reads_with l B read f.end n) (plain_by f.name c.is_code.result (within_at l.depth) B line (read_of f) (source_of B (span_to l.at f.end)) c.is_code.ensures c.if-is_code.false)
+    ∙ ap (λ (read : Numbered (List Node)). reads_with l B read f.end n) (plain_right f.name c.is_code.result (within_at l.depth) B line (read_of f) (source_of B (span_to l.at f.end)) c.is_code.ensures c.if-is_code.false)

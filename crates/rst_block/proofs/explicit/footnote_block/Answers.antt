@@ -19,7 +19,7 @@ returns-clause-read c =
     let body = c.args.body in
     let node = c.in_ok-element.element in
     ap (λ s. comes c.noted.new.level B s n) c.noted.ensures.opened
-    ∙ part_comes l c.noted.new.level B (Element node) body (λ ns. filled node ns ∷ []) body.to n c.noted.ensures.moved c.noted.ensures.at (λ ns. refl)
+    ∙ part_comes B (Element node) body (λ ns. filled node ns ∷ []) n c.noted.ensures.moved c.noted.ensures.at (λ ns. refl)
     ∙ ap (λ e. reads_with l B (noted (within_at l.depth) B e body) body.to n)
     (c.in_ok-element.ensures
     ∙ ap (λ label. footnote_node label c.number_at-line.result) (c.as_str.ensures.value ∙ c.in_ok-label.ensures.text)

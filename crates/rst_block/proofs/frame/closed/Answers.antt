@@ -2,7 +2,7 @@ use Rattle.std.proofs.Common.{◌++◌, rules, ap, ◌∙◌}
 use Rattle.rst_text.specs.Shown.{block_of, source_of}
 use Rattle.rst_block.specs.Texts.{lines_in}
 use Rattle.rst_block.specs.declared.open_block.OpenBlock.{OpenBlock}
-use Rattle.rst_block.proofs.StepLemmas.{refused_as, refuses}
+use Rattle.rst_block.proofs.Calls.{refused_as, refuses}
 use Rattle.rst_block.proofs.Waiting.{second_reads, last_reads}
 use Rattle.rst_block.proofs.frame.closed.Goals as goal
 

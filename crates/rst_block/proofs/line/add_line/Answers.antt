@@ -1,5 +1,5 @@
-use Rattle.std.proofs.Common.{◌≡◌, ◌+◌, ◌-◌, arith, sym, ◌∙◌, ap}
-use Rattle.rst_block.specs.LinesSoFar.{HasLine, line_added}
+use Rattle.std.proofs.Common.{◌≡◌, arith, sym, ◌∙◌, ap}
+use Rattle.rst_block.specs.OpenBlocks.{HasLine, line_added}
 use Rattle.rst_block.specs.Meanings.{open_of}
 use Rattle.rst_block.specs.declared.open_block.OpenBlock.{OpenBlock}
 use Rattle.rst_block.specs.declared.run.Run.{Run}
@@ -33,4 +33,4 @@ returns-clause-line c =
         ap (λ (m : OpenBlock). m.at) w.level-is,
       )
     ] in
-    (line_gone l c.match-level.level c.go_to.new.self _ put.0 c.go_to.ensures.moved, λ later. c.go_to.ensures.there (omega (arith, put.1, later)))
+    (line_gone put.0 c.go_to.ensures.moved, λ later. c.go_to.ensures.there (omega (arith, put.1, later)))

@@ -1,14 +1,14 @@
-use Rattle.std.proofs.Common.{◌≡◌, ◌-◌, drop, ◌∙◌, ap}
+use Rattle.std.proofs.Common.{◌≡◌, drop, ◌∙◌, ap}
 use Rattle.rst_text.specs.Block.{Block}
 use Rattle.rst_text.specs.Shown.{block_of}
 use Rattle.std.specs.Prelude.{string_bytes}
 use Rattle.std.specs.Str.{chars}
 use Rattle.rst_block.specs.LineRuns.{below_bar}
-use Rattle.rst_block.specs.LinesSoFar.{text_over}
+use Rattle.rst_block.specs.TextSteps.{text_over}
 use Rattle.rst_block.specs.Texts.{lines_in}
 use Rattle.rst_block.specs.Within.{indented_part}
 use Rattle.rst_block.proofs.LineSteps.{full_line, bare_line}
-use Rattle.rst_block.proofs.NextLines.{span_to}
+use Rattle.rst_block.proofs.NextConstructs.{span_to}
 use Rattle.rst_block.proofs.line.bar_text.Goals as goal
 
 pub returns-then-marker-clause-line : goal.returns-then-marker-clause-line

@@ -1,4 +1,4 @@
-use Rattle.std.proofs.Common.{◌+◌, ◌-◌, ◌∷◌, [], ◌++◌, arith, ◌∙◌, ap}
+use Rattle.std.proofs.Common.{◌∷◌, [], ◌++◌, arith, ◌∙◌, ap}
 use Rattle.rst_text.specs.Block.{Block}
 use Rattle.rst_text.specs.Shown.{block_of}
 use Rattle.std.specs.Prelude.{string_bytes}

@@ -10,10 +10,12 @@ use Rattle.rst_block.specs.declared.frame.Frame.{Frame}
 use Rattle.rst_block.specs.declared.open_block.OpenBlock.{OpenBlock}
 use Rattle.rst_block.specs.declared.step.Step.{Step}
 use Rattle.rst_block.specs.declared.step.Step.TheVariants.{Next, Open, Cells}
-use Rattle.rst_block.proofs.CellsRead.{entry_next, row_keeps, row_next, rows_made, table_keeps, table_kept, table_reads}
+use Rattle.rst_block.proofs.Calls.{out_of_memory, refuses}
+use Rattle.rst_block.proofs.CellsRead.{entry_next, row_keeps, row_next, rows_made, table_keeps, table_reads}
+use Rattle.rst_block.proofs.Changes.{moved_more, more_more, kept_more}
+use Rattle.rst_block.proofs.LastLevel.{flat_text, flat_text_fails}
 use Rattle.rst_block.proofs.Stack.{left, parts_left, now_of_next, now_of_resumed, cost_of_resumed, goes_on, stepped, opens, resumes, waits_again, second_left, parts_at_most, parts_at_least, taken, placed, nested_push, nested_pop}
-use Rattle.rst_block.proofs.StepLemmas.{out_of_memory, refuses}
-use Rattle.rst_block.proofs.Waiting.{flat_text, flat_text_fails, plug_begins, plug_end_fails, plug_ends, plug_fails, plug_goes_on, plug_opens, plug_over, plug_waits}
+use Rattle.rst_block.proofs.Waiting.{plug_begins, plug_end_fails, plug_ends, plug_fails, plug_goes_on, plug_opens, plug_over, plug_waits}
 use Rattle.rst_block.proofs.machine.+machine.Goals.{read-else-len-gt0-via-then-len-gt0+else-depth-le-DEEPEST, read-else-len-gt0-via-else-len-gt0}
 use Rattle.rst_block.proofs.machine.+machine.Goals as goal
 
@@ -323,7 +325,7 @@ cells-loop-cells-preserved t c = record {
 
 pub cells-returns-clause-kept : goal.cells-returns-clause-kept
 cells-returns-clause-kept t c =
-    table_kept c.args.level.now c.go_to.new.self c.push-2.new.self c.after_table.new.level _ _ c.go_to.ensures.moved c.in_ok-push-2.ensures.more c.in_ok-after_table.ensures.more c.requires.placed
+    kept_more (more_more (moved_more c.go_to.ensures.moved refl c.in_ok-push-2.ensures.more) c.in_ok-after_table.ensures.more) c.requires.placed
 
 pub cells-returns-clause-read : goal.cells-returns-clause-read
 cells-returns-clause-read t c =

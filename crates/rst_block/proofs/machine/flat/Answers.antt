@@ -3,7 +3,8 @@ use Rattle.rst_text.specs.Block.{Block}
 use Rattle.rst_text.specs.Shown.{block_of}
 use Rattle.rst_block.specs.MeaningLaws.{IsBlankPart}
 use Rattle.rst_block.specs.Meanings.{resumed}
-use Rattle.rst_block.proofs.StepLemmas.{blank_part, no_part, first_refused, second_refused, flat_goes_on, kept_as, refuses}
+use Rattle.rst_block.proofs.Calls.{keeps_as, refuses}
+use Rattle.rst_block.proofs.LastLevel.{blank_part, no_part, first_refused, second_refused, flat_goes_on}
 use Rattle.rst_block.proofs.machine.flat.Goals.{in-Some+in_ok-not_blank-2, in_default}
 use Rattle.rst_block.proofs.machine.flat.Goals as goal
 
@@ -30,7 +31,7 @@ returns-clause-read c =
       )
       | in_default w ↦ (no_part B c.args.second n w.in_default.is, ap (λ p. p.numbers) w.pass-is ∙ c.in_ok-not_blank.ensures.numbers)
     ] in
-    kept_as c.resume.result _ _ _
+    keeps_as c.resume.result _ _ _
     (ap (λ nodes. resumed c.args.level.now B c.args.waits nodes c.match-second.pass.numbers) c.new.ensures.items
     ∙ ap (λ m. resumed c.args.level.now B c.args.waits [] m) blank.1
     ∙ flat_goes_on c.args.level.now B (block_of c.inside.result) c.args.waits c.args.first c.args.second n c.in_ok-not_blank.field-0 c.requires.deepest c.inside.ensures.block c.in_ok-not_blank.ensures.blank blank.0)

@@ -1,7 +1,7 @@
 use Rattle.std.proofs.Common.{arith, ◌∙◌, ap, sym, Err}
 use Rattle.rst_text.specs.Block.{Block}
 use Rattle.rst_text.specs.Shown.{block_of}
-use Rattle.rst_block.proofs.Depths.{blank_up_to, text_at_place}
+use Rattle.rst_block.proofs.LastLevel.{blank_up_to, text_at_place}
 use Rattle.rst_block.proofs.machine.not_blank.Goals as goal
 
 pub returns-then-first-len-clause-blank : goal.returns-then-first-len-clause-blank

@@ -1,30 +1,24 @@
-use Rattle.std.proofs.Common.{◌≡◌, ℕ, ◌+◌, ◌<◌, ◌≤◌, List, [], ◌∷◌, drop, length-drop, arith, rules, refl, sym, ◌∙◌}
-use Rattle.std.specs.Prelude.{◌==◌}
+use Rattle.std.proofs.Common.{◌≡◌, ◌+◌, [], ◌∷◌, drop, arith, rules, refl, ◌∙◌}
 use Rattle.rst_text.specs.Block.{Block}
 use Rattle.rst_text.specs.Shown.{block_of}
 use Rattle.rst_markup_blocks.specs.Sizes.{doctest_size}
 use Rattle.rst_markup_blocks.specs.declared.begun.Begun.TheVariants.{Doctest}
-use Rattle.rst_block.specs.Constructs.{Found, doctest_block}
 use Rattle.rst_block.specs.Literals.{doctest_node}
-use Rattle.rst_block.specs.OpenBlocks.{HasMore}
-use Rattle.rst_block.specs.RestLaws.{found_as}
-use Rattle.rst_block.proofs.Changes.{placed_closed}
-use Rattle.rst_block.proofs.NextLines.{span_to, begun_within, begun_reads, alone_refused, alone_gone, close_refuses, gives_keeps, gives_kept, gone_kept}
-use Rattle.rst_block.proofs.Doctests.{doctest_end, doctest_is}
+use Rattle.rst_block.proofs.Calls.{close_refuses, gives_keeps, gives_kept}
+use Rattle.rst_block.proofs.Changes.{moved_more, kept_closed, kept_more, kept_then}
+use Rattle.rst_block.proofs.LiteralLemmas.{doctest_end, doctest_is}
+use Rattle.rst_block.proofs.NextConstructs.{next_of, next_some, span_to, has_ended, next_refused, next_nodes}
 use Rattle.rst_block.proofs.paragraph.doctest_block.Goals as goal
 
 pub returns-in_err-close-clause-read : goal.returns-in_err-close-clause-read
 returns-in_err-close-clause-read c =
-    let B : Block = block_of c.args.view.now in
     let l = c.args.level.now in
-    let f : Found = found_as doctest_block (span_to l.at (l.at + doctest_size (drop l.at B))) in
     close_refuses c.from_residual.result c.in_err-close.field-0.0 _ _ _ l (search rules) c.in_err-close.ensures.closed
-    (λ line h. begun_reads Doctest l B _ c.requires.begun tt ∙ alone_refused l B f _ line tt h)
+    (λ line h. next_refused _ (next_of Doctest l (block_of c.args.view.now) c.requires.begun tt) tt h)
 
 pub returns-clause-kept : goal.returns-clause-kept
 returns-clause-kept c =
-    gives_kept c.push.result (λ _. HasMore c.go_to.new.self c.push.new.self (c.in_ok-node.node ∷ [])) _ c.push.ensures.more
-    (λ _ h. gone_kept c.args.level.now c.close.new.self c.go_to.new.self c.push.new.self _ _ _ (c.in_ok-node.node ∷ []) c.in_ok-close.ensures.closed c.go_to.ensures.moved h c.requires.placed)
+    gives_kept _ _ c.push.result c.push.ensures.more (λ _ h. kept_then (kept_closed c.in_ok-close.ensures.closed c.requires.placed) (kept_more (moved_more c.go_to.ensures.moved refl h)))
 
 pub returns-clause-read : goal.returns-clause-read
 returns-clause-read c =
@@ -34,8 +28,7 @@ returns-clause-read c =
     let stop : c.lines_end-end.result ≡ l.at + doctest_size (drop l.at B) = doctest_end B c.close.new.self.at l.at c.lines_end-end.result at c.lines_end-end.ensures.end in
     let node : c.in_ok-node.node ≡ doctest_node B (span_to l.at c.lines_end-end.result) =
     doctest_is B c.close.new.self.at l.at c.lines_end-end.result c.number_at.result c.as_str.result.now c.in_ok-node.node at c.in_ok-node.ensures c.number_at.ensures (c.as_str.ensures.value ∙ c.in_ok-text.ensures.bytes) in
-    let goes : c.go_to.new.self.at ≡ c.lines_end-end.result = c.go_to.ensures.there (omega (arith, stop, at, (begun_within Doctest (l.depth == 0) B l.at c.requires.begun c.requires.inside).0)) in
-    gives_keeps c.push.result (λ _. HasMore c.go_to.new.self c.push.new.self (c.in_ok-node.node ∷ [])) _ _ c.push.ensures.more
-    (λ _ h. alone_gone l c.close.new.self c.go_to.new.self c.push.new.self B (found_as doctest_block (span_to l.at (l.at + doctest_size (drop l.at B)))) (c.in_ok-node.node ∷ []) (c.in_ok-node.node ∷ []) _ _ _ tt
-    c.in_ok-close.ensures.closed c.requires.placed (rw (node, stop) refl) refl c.go_to.ensures.moved (goes ∙ stop) h
-    ∙ sym (begun_reads Doctest l B _ c.requires.begun tt))
+    let found = next_of Doctest l B c.requires.begun tt in
+    let goes : c.go_to.new.self.at ≡ c.lines_end-end.result = c.go_to.ensures.there (omega (arith, stop, at, next_some found c.requires.inside)) in
+    gives_keeps _ c.push.result _ _ c.push.ensures.more
+    (λ _ h. next_nodes (c.in_ok-node.node ∷ []) found tt (has_ended B _ c.in_ok-close.ensures.closed c.requires.placed) (rw (node, stop) refl) (moved_more c.go_to.ensures.moved (goes ∙ stop) h))

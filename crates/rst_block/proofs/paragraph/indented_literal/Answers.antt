@@ -1,10 +1,11 @@
-use Rattle.std.proofs.Common.{◌≡◌, ◌+◌, ℕ, List, [], ◌∷◌, drop, codes, refl, ap, ◌∙◌, arith}
+use Rattle.std.proofs.Common.{◌≡◌, ◌+◌, ℕ, List, ◌∷◌, drop, codes, refl, ap, ◌∙◌, arith}
 use Rattle.rst_text.specs.Block.{Block}
 use Rattle.rst_text.specs.Extent.{extent}
 use Rattle.rst_text.specs.Shown.{block_of}
 use Rattle.rst_tree.specs.declared.node.Node.{Node}
 use Rattle.rst_block.specs.Texts.{lines_in, spelled, warned}
-use Rattle.rst_block.proofs.GoingOn.{moved_gone, gone_as, gone_more, gives_more}
+use Rattle.rst_block.proofs.Calls.{gives_map}
+use Rattle.rst_block.proofs.Changes.{more_as, more_more, moved_more}
 use Rattle.rst_block.proofs.LiteralLemmas.{indented_whole}
 use Rattle.rst_block.proofs.paragraph.indented_literal.Goals as goal
 
@@ -16,6 +17,5 @@ returns-clause-gone c =
     let bytes = c.as_str.ensures.value ∙ c.in_ok-text.ensures.bytes ∙ ap spelled c.inside.ensures.block ∙ ap (λ p. spelled (lines_in B p)) c.indented-lines.ensures.part in
     let notes : List Node = warned (codes "Literal block ends without a blank line; unexpected unindent.") (drop end B) in
     let nodes = ap (λ (node : Node). node ∷ notes) c.in_ok-node.ensures ∙ indented_whole B c.args.start end c.number_at.result c.as_str.result.now e c.number_at.ensures bytes in
-    let gone = gone_as c.args.level.now c.push.new.self (c.in_ok-node.node ∷ []) (c.in_ok-node.node ∷ []) end (c.args.start + extent 1 (drop c.args.start B)) refl e
-    (gone_more c.args.level.now c.go_to.new.self c.push.new.self [] (c.in_ok-node.node ∷ []) end (moved_gone c.args.level.now c.go_to.new.self end c.go_to.ensures.moved (c.go_to.ensures.there (omega arith))) c.in_ok-push.ensures.more) in
-    gives_more c.args.level.now c.push.new.self c.warn.new.self (c.in_ok-node.node ∷ []) notes _ (c.args.start + extent 1 (drop c.args.start B)) c.warn.result gone nodes c.warn.ensures.more
+    let first = moved_more c.go_to.ensures.moved (c.go_to.ensures.there (omega arith) ∙ e) c.in_ok-push.ensures.more in
+    gives_map _ _ c.warn.result c.warn.ensures.more (λ _ g. more_as nodes refl (more_more first g))

@@ -1,13 +1,11 @@
-use Rattle.std.proofs.Common.{◌≡◌, ◌+◌, ◌-◌, ◌<◌, ◌≤◌, ◌⊎◌, inl, inr, ℕ, [], ◌∷◌, length, drop, true, false, Some, sym, ap, ◌∙◌, arith}
+use Rattle.std.proofs.Common.{◌≡◌, ◌+◌, ◌-◌, ◌<◌, ◌≤◌, ◌⊎◌, inl, inr, ℕ, [], ◌∷◌, length, drop, true, false, Some, refl, sym, ap, ◌∙◌, arith}
 use Rattle.rst_text.specs.Block.{Block, front_text, first_number}
-use Rattle.rst_text.specs.Extent.{extent}
 use Rattle.rst_text.specs.Shown.{block_of}
 use Rattle.rst_markup_lines.specs.Front.{first, begins_with}
-use Rattle.rst_markup_blocks.specs.Lines.{lines_while}
 use Rattle.rst_markup_blocks.specs.Sizes.{literal_size}
-use Rattle.rst_markup_blocks.specs.declared.lines.LineTest.TheVariants.{Begins}
-use Rattle.rst_block.specs.Literals.{indented_literal, quoted_literal, no_literal, literal_nodes}
-use Rattle.rst_block.proofs.GoingOn.{moved_gone, gives_as, gives_more}
+use Rattle.rst_block.specs.Literals.{no_literal, literal_nodes}
+use Rattle.rst_block.proofs.Calls.{gives_map}
+use Rattle.rst_block.proofs.Changes.{more_as, moved_more}
 use Rattle.rst_block.proofs.LiteralLemmas.{no_literal_is, indented_here, quoted_here, other_here, none_here}
 use Rattle.rst_block.proofs.paragraph.literal.Goals.{in_default-via-in-Some+else-is_punctuation, in_default-via-in_default, then-start-len, else-start-len}
 use Rattle.rst_block.proofs.paragraph.literal.Goals as goal
@@ -20,8 +18,7 @@ returns-then-begins_with-clause-gone c =
     let last : ℕ = first_number (drop (end - 1) B) in
     let space : begins_with 32 (front_text (drop start B)) ≡ true = rw c.text_at-text.ensures.text at (sym c.begins_with.ensures ∙ c.if-begins_with.true) in
     let h = indented_here B end start last c.lines_end-start.ensures.end space in
-    gives_as c.args.level.now c.indented_literal.new.level (indented_literal (drop start B)) (literal_nodes last (drop end B)) (start + extent 1 (drop start B)) (end + literal_size (drop end B))
-    c.indented_literal.result h.0 h.1 c.indented_literal.ensures.gone
+    gives_map _ _ c.indented_literal.result c.indented_literal.ensures.gone (λ _ g. more_as h.0 h.1 g)
 
 pub returns-in-Some-clause-gone : goal.returns-in-Some-clause-gone
 returns-in-Some-clause-gone c =
@@ -32,8 +29,7 @@ returns-in-Some-clause-gone c =
     let space : begins_with 32 (front_text (drop start B)) ≡ false = rw c.text_at-text.ensures.text at (sym c.begins_with.ensures ∙ c.if-begins_with.false) in
     let front : first (front_text (drop start B)) ≡ Some c.in-Some.quote = rw c.text_at-text.ensures.text at (sym c.front.ensures ∙ c.in-Some.is) in
     let h = quoted_here B end start last c.in-Some.quote c.lines_end-start.ensures.end space front (sym c.is_punctuation.ensures ∙ c.if-is_punctuation.true) in
-    gives_as c.args.level.now c.quoted_literal.new.level (quoted_literal (lines_while (Begins c.in-Some.quote) (drop start B)) (drop start B)) (literal_nodes last (drop end B))
-    (start + lines_while (Begins c.in-Some.quote) (drop start B)) (end + literal_size (drop end B)) c.quoted_literal.result h.0 h.1 c.quoted_literal.ensures.gone
+    gives_map _ _ c.quoted_literal.result c.quoted_literal.ensures.gone (λ _ g. more_as h.0 h.1 g)
 
 pub returns-in_ok-warning-in_default-clause-gone : goal.returns-in_ok-warning-in_default-clause-gone
 returns-in_ok-warning-in_default-clause-gone c =
@@ -51,5 +47,4 @@ returns-in_ok-warning-in_default-clause-gone c =
       | else-start-len w ↦ inr (omega (arith, w.if-start-len.false, c.len.ensures), c.number_at.ensures ∙ ap (λ i. first_number (drop i B)) (let e : c.if-start-len.place ≡ end - 1 = omega arith in e))
     ] in
     let nodes = ap (λ node. node ∷ []) c.in_ok-warning-in_default.ensures ∙ no_literal_is B start c.number_at.result last place ∙ h.0 in
-    gives_more c.args.level.now c.go_to.new.self c.push.new.self [] (c.in_ok-warning-in_default.warning ∷ []) (literal_nodes last (drop end B)) (end + literal_size (drop end B)) c.push.result
-    (moved_gone c.args.level.now c.go_to.new.self (end + literal_size (drop end B)) c.go_to.ensures.moved (c.go_to.ensures.there c.requires.behind ∙ h.1)) nodes c.push.ensures.more
+    gives_map _ _ c.push.result c.push.ensures.more (λ _ g. more_as nodes refl (moved_more c.go_to.ensures.moved (c.go_to.ensures.there c.requires.behind ∙ h.1) g))

@@ -1,13 +1,10 @@
-use Rattle.std.proofs.Common.{◌≡◌, ◌+◌, ◌-◌, ℕ, List, [], drop, length-drop, take, refl, sym, ap, ◌∙◌, arith}
+use Rattle.std.proofs.Common.{◌≡◌, ◌-◌, ℕ, List, drop, length-drop, take, refl, sym, ap, ◌∙◌, arith}
 use Rattle.std.specs.Str.{chars}
 use Rattle.rst_text.specs.Block.{Block}
 use Rattle.rst_text.specs.Shown.{block_of}
-use Rattle.rst_markup_blocks.specs.Sizes.{paragraph_size}
-use Rattle.rst_block.specs.Literals.{paragraph_nodes}
-use Rattle.rst_block.specs.OpenBlocks.{ReadsNodes}
-use Rattle.rst_block.specs.ParagraphSteps.{paragraph_between, paragraph_end}
 use Rattle.rst_block.specs.Texts.{joined}
-use Rattle.rst_block.proofs.GoingOn.{gives_map, gone_as}
+use Rattle.rst_block.proofs.Calls.{gives_map}
+use Rattle.rst_block.proofs.Changes.{more_as}
 use Rattle.rst_block.proofs.ParagraphLemmas.{IsParagraph, ends_later, between_all, end_all, one_line}
 use Rattle.rst_block.proofs.paragraph.paragraph.Goals as goal
 
@@ -24,15 +21,8 @@ returns-then-end-at-clause-read c =
       end = c.lines_end-end.ensures.end;
       text = c.line-text.ensures.text ∙ one_line (drop at B) (end - at) (omega (arith, c.requires.inside, length-drop at B)) one;
     } in
-    gives_map (λ _. ReadsNodes (paragraph_between t at end B c.args.pass.now.numbers) c.args.level.now c.paragraph_of.new.level (paragraph_end t end B) c.paragraph_of.new.pass.numbers)
-    (λ _. ReadsNodes (paragraph_nodes [] (drop at B) c.args.pass.now.numbers) c.args.level.now c.paragraph_of.new.level (at + paragraph_size (drop at B)) c.paragraph_of.new.pass.numbers)
-    c.paragraph_of.result
-    (λ _ g. record {
-      more = g.more;
-      given = sym (between_all B at end c.args.pass.now.numbers t p) ∙ g.given;
-      gone = gone_as c.args.level.now c.paragraph_of.new.level g.more g.more (paragraph_end t end B) (at + paragraph_size (drop at B)) refl (end_all B at end t p) g.gone;
-    })
-    c.paragraph_of.ensures.read
+    gives_map _ _ c.paragraph_of.result c.paragraph_of.ensures.read
+    (λ _ g. record { more = g.more; given = sym (between_all B at end c.args.pass.now.numbers t p) ∙ g.given; gone = more_as refl (end_all B at end t p) g.gone })
 
 pub paragraph_of-requires-2-clause-behind : goal.paragraph_of-requires-2-clause-behind
 paragraph_of-requires-2-clause-behind c =
@@ -55,12 +45,5 @@ returns-clause-read c =
       end = c.lines_end-end.ensures.end;
       text = ap chars c.as_str.ensures.value ∙ c.in_ok-text.ensures.text;
     } in
-    gives_map (λ _. ReadsNodes (paragraph_between t at end B c.args.pass.now.numbers) c.args.level.now c.paragraph_of-2.new.level (paragraph_end t end B) c.paragraph_of-2.new.pass.numbers)
-    (λ _. ReadsNodes (paragraph_nodes [] (drop at B) c.args.pass.now.numbers) c.args.level.now c.paragraph_of-2.new.level (at + paragraph_size (drop at B)) c.paragraph_of-2.new.pass.numbers)
-    c.paragraph_of-2.result
-    (λ _ g. record {
-      more = g.more;
-      given = sym (between_all B at end c.args.pass.now.numbers t p) ∙ g.given;
-      gone = gone_as c.args.level.now c.paragraph_of-2.new.level g.more g.more (paragraph_end t end B) (at + paragraph_size (drop at B)) refl (end_all B at end t p) g.gone;
-    })
-    c.paragraph_of-2.ensures.read
+    gives_map _ _ c.paragraph_of-2.result c.paragraph_of-2.ensures.read
+    (λ _ g. record { more = g.more; given = sym (between_all B at end c.args.pass.now.numbers t p) ∙ g.given; gone = more_as refl (end_all B at end t p) g.gone })

@@ -1,14 +1,14 @@
-use Rattle.std.proofs.Common.{◌≡◌, ◌+◌, ◌-◌, ℕ, List, ◌++◌, drop, true, false, Ok, refl, sym, ap, ◌∙◌, arith, rules}
+use Rattle.std.proofs.Common.{◌≡◌, ◌-◌, ℕ, List, ◌++◌, drop, true, false, Ok, refl, sym, ap, ◌∙◌, arith, rules}
 use Rattle.std.specs.Str.{chars}
 use Rattle.rst_text.specs.Block.{Block, first_number}
 use Rattle.rst_text.specs.Shown.{block_of}
 use Rattle.rst_tree.specs.declared.node.Node.{Node}
 use Rattle.rst_markup_lines.specs.Closing.{ends_in_colons}
-use Rattle.rst_markup_blocks.specs.Sizes.{literal_size}
 use Rattle.rst_block.specs.Literals.{literal_nodes}
-use Rattle.rst_block.specs.OpenBlocks.{HasMoreAt, ReadsNodes}
-use Rattle.rst_block.specs.ParagraphSteps.{paragraph_between, paragraph_end}
-use Rattle.rst_block.proofs.GoingOn.{gives_map, gone_as, gone_gone, gone_moved}
+use Rattle.rst_block.specs.OpenBlocks.{ReadsNodes}
+use Rattle.rst_block.specs.TextSteps.{paragraph_between, paragraph_end}
+use Rattle.rst_block.proofs.Calls.{gives_map}
+use Rattle.rst_block.proofs.Changes.{more_as, more_then, more_moved}
 use Rattle.rst_block.proofs.ParagraphLemmas.{between_plain, between_colons, end_plain, end_colons}
 use Rattle.rst_block.proofs.paragraph.paragraph_of.Goals as goal
 
@@ -23,7 +23,7 @@ returns-then-not-ends_in_colons-clause-read c =
     record {
       more = read.more;
       given = between_plain t at end c.args.pass.now.numbers c.put_paragraph.new.pass.numbers B read.more plain c.requires.behind read.given;
-      gone = gone_moved c.args.level.now c.put_paragraph.new.level c.go_to.new.self read.more at (paragraph_end t end B) read.gone c.go_to.ensures.moved
+      gone = more_moved read.gone c.go_to.ensures.moved
           (c.go_to.ensures.there (omega (arith, c.put_paragraph.ensures.at, c.requires.behind)) ∙ end_plain t end B plain);
     }
 
@@ -37,16 +37,7 @@ returns-clause-read c =
     let colons : ends_in_colons (chars c.args.text.now) ≡ true = sym c.ends_in_colons.ensures ∙ (let p : c.ends_in_colons.result ≡ true = search rules in p) in
     let read = c.in_ok-put_paragraph-2.ensures.read in
     let L : List Node = literal_nodes (first_number (drop (end - 1) B)) (drop end B) in
-    let mid = c.put_paragraph-2.new.level in
-    let new = c.literal.new.level in
     let given = between_colons t u at end c.args.pass.now.numbers c.put_paragraph-2.new.pass.numbers B read.more colons (ap chars c.as_str.ensures.value ∙ c.in_ok-shown.ensures) c.requires.behind read.given
     ∙ ap (λ k. Ok (read.more ++ L, k)) (sym c.literal.ensures.numbers) in
-    gives_map (λ _. HasMoreAt mid new L (end + literal_size (drop end B)))
-    (λ _. ReadsNodes (paragraph_between t at end B c.args.pass.now.numbers) c.args.level.now new (paragraph_end t end B) c.literal.new.pass.numbers) c.literal.result
-    (λ _ g. record {
-      more = read.more ++ L;
-      given = given;
-      gone = gone_as c.args.level.now new (read.more ++ L) (read.more ++ L) (end + literal_size (drop end B)) (paragraph_end t end B) refl (end_colons t end B colons)
-          (gone_gone c.args.level.now mid new read.more L at (end + literal_size (drop end B)) read.gone g);
-    })
-    c.literal.ensures.gone
+    gives_map _ (λ _. ReadsNodes (paragraph_between t at end B c.args.pass.now.numbers) c.args.level.now c.literal.new.level (paragraph_end t end B) c.literal.new.pass.numbers) c.literal.result c.literal.ensures.gone
+    (λ _ g. record { more = read.more ++ L; given = given; gone = more_as refl (end_colons t end B colons) (more_then read.gone g) })

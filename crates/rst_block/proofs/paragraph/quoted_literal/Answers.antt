@@ -4,7 +4,8 @@ use Rattle.rst_text.specs.Shown.{block_of}
 use Rattle.rst_markup_blocks.specs.Lines.{lines_while}
 use Rattle.rst_markup_blocks.specs.declared.lines.LineTest.TheVariants.{Begins}
 use Rattle.rst_block.specs.Literals.{literal_node, quoting_text}
-use Rattle.rst_block.proofs.GoingOn.{moved_gone, gone_as, gone_more, gives_more}
+use Rattle.rst_block.proofs.Calls.{gives_map}
+use Rattle.rst_block.proofs.Changes.{more_as, more_more, moved_more}
 use Rattle.rst_block.proofs.LiteralLemmas.{quoted_node, quoted_whole, none_said, one_said, quoting_spaced, quoting_other}
 use Rattle.rst_block.proofs.paragraph.quoted_literal.Goals.{then-begins_with, else-begins_with}
 use Rattle.rst_block.proofs.paragraph.quoted_literal.Goals as goal
@@ -19,8 +20,7 @@ returns-then-is_blank-clause-gone c =
     c.in_ok-node.ensures ∙ quoted_node B c.args.start end c.args.quote c.number_at.result c.as_str.result.now c.requires.quoted e c.number_at.ensures (c.as_str.ensures.value ∙ c.in_ok-text.ensures.bytes) in
     let blank : is_blank (front_text (drop end B)) ≡ true = rw c.text_at-next.ensures.text at (sym c.is_blank.ensures ∙ c.if-is_blank.true) in
     let nodes : c.in_ok-node.node ∷ [] ≡ _ = quoted_whole B c.args.start end c.args.quote c.in_ok-node.node [] e node (sym (none_said n c.args.start end (quoting_text (front_text (drop end B))) B e blank)) in
-    gone_as c.args.level.now c.push.new.self (c.in_ok-node.node ∷ []) _ end (c.args.start + n) nodes e
-    (gone_more c.args.level.now c.go_to.new.self c.push.new.self [] (c.in_ok-node.node ∷ []) end (moved_gone c.args.level.now c.go_to.new.self end c.go_to.ensures.moved (c.go_to.ensures.there (omega arith))) c.in_ok-push.ensures.more)
+    more_as nodes refl (moved_more c.go_to.ensures.moved (c.go_to.ensures.there (omega arith) ∙ e) c.in_ok-push.ensures.more)
 
 pub returns-clause-gone : goal.returns-clause-gone
 returns-clause-gone c =
@@ -37,6 +37,5 @@ returns-clause-gone c =
     ] in
     let error = one_said n c.args.start end c.number_at-2.result (quoting_text (front_text (drop end B))) c.if-begins_with.text.now B c.in_ok-error.error e filled c.number_at-2.ensures text c.in_ok-error.ensures in
     let nodes : c.in_ok-node.node ∷ c.in_ok-error.error ∷ [] ≡ _ = quoted_whole B c.args.start end c.args.quote c.in_ok-node.node (c.in_ok-error.error ∷ []) e node error in
-    let gone = gone_as c.args.level.now c.push.new.self (c.in_ok-node.node ∷ []) (c.in_ok-node.node ∷ []) end (c.args.start + n) refl e
-    (gone_more c.args.level.now c.go_to.new.self c.push.new.self [] (c.in_ok-node.node ∷ []) end (moved_gone c.args.level.now c.go_to.new.self end c.go_to.ensures.moved (c.go_to.ensures.there (omega arith))) c.in_ok-push.ensures.more) in
-    gives_more c.args.level.now c.push.new.self c.push-2.new.self (c.in_ok-node.node ∷ []) (c.in_ok-error.error ∷ []) _ (c.args.start + n) c.push-2.result gone nodes c.push-2.ensures.more
+    let first = moved_more c.go_to.ensures.moved (c.go_to.ensures.there (omega arith) ∙ e) c.in_ok-push.ensures.more in
+    gives_map _ _ c.push-2.result c.push-2.ensures.more (λ _ g. more_as nodes refl (more_more first g))

@@ -1,7 +1,7 @@
 use Rattle.std.proofs.Common.{arith}
 use Rattle.rst_text.specs.Shown.{block_of}
 use Rattle.rst_markup_blocks.proofs.ExplicitLemmas.{hanging_block}
-use Rattle.rst_block.proofs.Reached.{reach_hanging}
+use Rattle.rst_block.proofs.Looked.{reach_hanging}
 use Rattle.rst_block.proofs.part.hanging.Goals as goal
 
 pub returns-clause-block : goal.returns-clause-block

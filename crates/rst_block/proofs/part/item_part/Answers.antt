@@ -1,7 +1,7 @@
 use Rattle.std.proofs.Common.{arith}
 use Rattle.rst_text.specs.Shown.{block_of}
 use Rattle.rst_block.proofs.Blocks.{item_block}
-use Rattle.rst_block.proofs.Reached.{reach_item}
+use Rattle.rst_block.proofs.Looked.{reach_item}
 use Rattle.rst_block.proofs.part.item_part.Goals as goal
 
 pub returns-clause-block : goal.returns-clause-block

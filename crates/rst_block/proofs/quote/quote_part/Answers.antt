@@ -7,9 +7,8 @@ use Rattle.rst_block.specs.Meanings.{comes}
 use Rattle.rst_block.specs.declared.resume.Waits.TheVariants.{Quote}
 use Rattle.rst_block.specs.declared.step.Step.TheVariants.{Open}
 use Rattle.rst_block.proofs.Blocks.{front_block}
-use Rattle.rst_block.proofs.Changes.{placed_moved}
-use Rattle.rst_block.proofs.QuoteSteps.{plain_part, attributed_part}
-use Rattle.rst_block.proofs.Quotes.{rest_follows}
+use Rattle.rst_block.proofs.Changes.{kept_moved}
+use Rattle.rst_block.proofs.QuoteSteps.{plain_part, attributed_part, rest_follows}
 use Rattle.rst_block.proofs.quote.quote_part.Goals as goal
 
 pub returns-in_ok-attribution-in-Some-clause-step : goal.returns-in_ok-attribution-in-Some-clause-step
@@ -53,6 +52,4 @@ returns-in_ok-attribution-in-Some-clause-read c =
     c.requires.block.within c.go_to-in-Some.ensures.moved (c.go_to-in-Some.ensures.there behind) c.number_at-line.ensures
 
 pub returns-in_ok-attribution-in-Some-clause-kept : goal.returns-in_ok-attribution-in-Some-clause-kept
-returns-in_ok-attribution-in-Some-clause-kept c =
-    let moved = c.go_to-in-Some.ensures.moved in
-    record { depth = moved.depth; placed = placed_moved c.args.level.now c.go_to-in-Some.new.self moved c.requires.placed }
+returns-in_ok-attribution-in-Some-clause-kept c = kept_moved c.go_to-in-Some.ensures.moved c.requires.placed

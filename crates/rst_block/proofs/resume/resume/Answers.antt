@@ -1,23 +1,23 @@
-use Rattle.std.proofs.Common.{◌≡◌, List, [], ◌∷◌, string_bytes, option_map, box_value, sym, ap, subst, ◌∙◌}
+use Rattle.std.proofs.Common.{◌≡◌, List, [], ◌∷◌, string_bytes, option_map, box_value, sym, ap, ◌∙◌}
 use Rattle.rst_text.specs.Block.{Block}
 use Rattle.rst_text.specs.Shown.{block_of}
 use Rattle.rst_tree.specs.declared.node.Node.{Node}
 use Rattle.rst_tree.specs.declared.tag.Tag.TheVariants.{ListItem}
 use Rattle.rst_block_nodes.specs.Elements.{element_of}
-use Rattle.rst_block_sections.specs.Sections.{filled}
 use Rattle.rst_block.specs.Directives.{first_paragraph, replacement}
 use Rattle.rst_block.specs.Figures.{caption_error, figure_nodes}
-use Rattle.rst_block.specs.Meanings.{Keeps, after_quote, comes, quote_by, resumed}
+use Rattle.rst_block.specs.Meanings.{after_quote, quote_by, resumed}
 use Rattle.rst_block.specs.declared.figure.OpenFigure.{OpenFigure}
 use Rattle.rst_block.specs.declared.substitution.OpenReplacement.{OpenReplacement}
-use Rattle.rst_block.proofs.Changes.{placed_more}
+use Rattle.rst_block.proofs.Calls.{keeps_as}
+use Rattle.rst_block.proofs.Changes.{kept_more, kept_item}
 use Rattle.rst_block.proofs.QuoteSteps.{after_more}
-use Rattle.rst_block.proofs.Resuming.{nodes_given, item_given, item_made, kept_more, kept_item}
+use Rattle.rst_block.proofs.Waiting.{nodes_given, item_given, item_made}
 use Rattle.rst_block.proofs.resume.resume.Goals.{in-ListItem+in_ok-push_item-in-ListItem, in-ListedBody+in_ok-append-in-ListedBody+in_ok-push-in-ListedBody+in_ok-push_item-in-ListedBody, in-Element+in_ok-filled-in-Element+in_ok-push-in-Element, in-Figure+in_ok-finished_figure-in-Figure+in_ok-append-in-Figure, in-Replacement+in_ok-finished_replacement-in-Replacement+in_ok-push-in-Replacement}
 use Rattle.rst_block.proofs.resume.resume.Goals as goal
 
 pub after_quote-requires-clause-placed : goal.after_quote-requires-clause-placed
-after_quote-requires-clause-placed c = placed_more c.args.level.now c.put_quote.new.level _ c.in_ok-put_quote-in-Quote.ensures.more c.requires.placed
+after_quote-requires-clause-placed c = (kept_more c.in_ok-put_quote-in-Quote.ensures.more c.requires.placed).placed
 
 pub returns-in-Quote-clause-read : goal.returns-in-Quote-clause-read
 returns-in-Quote-clause-read c =
@@ -28,20 +28,18 @@ returns-in-Quote-clause-read c =
     let same : after_quote mid B [] c.in-Quote.rest c.in-Quote.end c.args.pass.now.numbers ≡ resumed old B c.args.waits c.args.nodes.items c.args.pass.now.numbers =
     after_more old mid B earlier c.in-Quote.rest c.in-Quote.end c.args.pass.now.numbers c.in_ok-put_quote-in-Quote.ensures.more c.requires.placed
     ∙ ap (λ w. resumed old B w c.args.nodes.items c.args.pass.now.numbers) (sym c.in-Quote.is) in
-    subst (λ read. Keeps c.after_quote.result (λ s. comes c.after_quote.new.level B s c.after_quote.new.pass.numbers) read) same c.after_quote.ensures.read
+    keeps_as c.after_quote.result _ _ _ same c.after_quote.ensures.read
 
 pub returns-clause-kept : goal.returns-clause-kept
 returns-clause-kept c =
     let old = c.args.level.now in
-    let last = c.match-waits.level in
     elim c.match-waits.branch [
-      | in-ListItem+in_ok-push_item-in-ListItem w ↦ kept_item old w.push_item.new.self last _ w.in_ok-push_item-in-ListItem.ensures.item c.requires.placed w.level-is
+      | in-ListItem+in_ok-push_item-in-ListItem w ↦ rw w.level-is (kept_item old w.push_item.new.self _ w.in_ok-push_item-in-ListItem.ensures.item c.requires.placed)
       | in-ListedBody+in_ok-append-in-ListedBody+in_ok-push-in-ListedBody+in_ok-push_item-in-ListedBody w ↦
-          kept_item old w.push_item-in-ListedBody.new.self last _ w.in_ok-push_item-in-ListedBody.ensures.item c.requires.placed w.level-is
-      | in-Element+in_ok-filled-in-Element+in_ok-push-in-Element w ↦ kept_more old w.push-in-Element.new.self last _ w.in_ok-push-in-Element.ensures.more c.requires.placed w.level-is
-      | in-Figure+in_ok-finished_figure-in-Figure+in_ok-append-in-Figure w ↦ kept_more old w.append-in-Figure.new.self last _ w.in_ok-append-in-Figure.ensures.more c.requires.placed w.level-is
-      | in-Replacement+in_ok-finished_replacement-in-Replacement+in_ok-push-in-Replacement w ↦
-          kept_more old w.push-in-Replacement.new.self last _ w.in_ok-push-in-Replacement.ensures.more c.requires.placed w.level-is
+          rw w.level-is (kept_item old w.push_item-in-ListedBody.new.self _ w.in_ok-push_item-in-ListedBody.ensures.item c.requires.placed)
+      | in-Element+in_ok-filled-in-Element+in_ok-push-in-Element w ↦ rw w.level-is (kept_more w.in_ok-push-in-Element.ensures.more c.requires.placed)
+      | in-Figure+in_ok-finished_figure-in-Figure+in_ok-append-in-Figure w ↦ rw w.level-is (kept_more w.in_ok-append-in-Figure.ensures.more c.requires.placed)
+      | in-Replacement+in_ok-finished_replacement-in-Replacement+in_ok-push-in-Replacement w ↦ rw w.level-is (kept_more w.in_ok-push-in-Replacement.ensures.more c.requires.placed)
     ]
 
 pub returns-clause-read : goal.returns-clause-read
@@ -66,18 +64,18 @@ returns-clause-read c =
           ∙ ap (λ waits. resumed old B waits ns n) (sym x.is)
       | in-Element+in_ok-filled-in-Element+in_ok-push-in-Element w ↦
           let node : Node = w.in_ok-filled-in-Element.field-0 in
-          nodes_given old w.push-in-Element.new.self last B (node ∷ []) (filled w.in-Element.element ns ∷ []) n w.in_ok-push-in-Element.ensures.more
+          nodes_given B n w.in_ok-push-in-Element.ensures.more
           (ap (λ (m : Node). m ∷ []) w.in_ok-filled-in-Element.ensures) c.requires.placed w.level-is
           ∙ ap (λ waits. resumed old B waits ns n) (sym w.in-Element.is)
       | in-Figure+in_ok-finished_figure-in-Figure+in_ok-append-in-Figure w ↦
           let figure_of : OpenFigure → List Node = λ o. figure_nodes o.figure (caption_error o.line (string_bytes o.source)) ns in
-          nodes_given old w.append-in-Figure.new.self last B w.in_ok-finished_figure-in-Figure.field-0.items (figure_of (box_value w.in-Figure.figure)) n w.in_ok-append-in-Figure.ensures.more
+          nodes_given B n w.in_ok-append-in-Figure.ensures.more
           (w.in_ok-finished_figure-in-Figure.ensures ∙ ap figure_of w.into_inner.ensures) c.requires.placed w.level-is
           ∙ ap (λ waits. resumed old B waits ns n) (sym w.in-Figure.is)
       | in-Replacement+in_ok-finished_replacement-in-Replacement+in_ok-push-in-Replacement w ↦
           let node : Node = w.in_ok-finished_replacement-in-Replacement.field-0 in
           let node_of : OpenReplacement → List Node = λ o. replacement (string_bytes o.name) o.line (string_bytes o.source) (first_paragraph ns) ∷ [] in
-          nodes_given old w.push-in-Replacement.new.self last B (node ∷ []) (node_of (box_value w.in-Replacement.definition)) n w.in_ok-push-in-Replacement.ensures.more
+          nodes_given B n w.in_ok-push-in-Replacement.ensures.more
           (ap (λ (m : Node). m ∷ []) w.in_ok-finished_replacement-in-Replacement.ensures ∙ ap node_of w.into_inner-in-Replacement.ensures) c.requires.placed w.level-is
           ∙ ap (λ waits. resumed old B waits ns n) (sym w.in-Replacement.is)
     ]

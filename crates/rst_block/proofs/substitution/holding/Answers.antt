@@ -1,4 +1,4 @@
-use Rattle.std.proofs.Common.{[], ◌∷◌, List, drop, sym, ap, ◌∙◌}
+use Rattle.std.proofs.Common.{List, drop, sym, ap, ◌∙◌}
 use Rattle.std.proofs.lemmas.Str.{encodes-chars}
 use Rattle.std.specs.Prelude.{string_bytes}
 use Rattle.rst_text.specs.Block.{front_text}
@@ -12,10 +12,10 @@ use Rattle.rst_markup_directives.specs.declared.found.Place.TheVariants.{Substit
 use Rattle.rst_block.specs.Directives as directives
 use Rattle.rst_block.specs.MarkupSteps.{reads_with}
 use Rattle.rst_block.specs.Meanings.{within_at}
-use Rattle.rst_block.specs.Numbered.{Numbered, just}
+use Rattle.rst_block.specs.Numbered.{Numbered}
 use Rattle.rst_block.specs.Texts.{excerpt}
-use Rattle.rst_block.proofs.MarkupReads.{keeps_same}
-use Rattle.rst_block.proofs.NextLines.{span_to}
+use Rattle.rst_block.proofs.Calls.{keeps_as}
+use Rattle.rst_block.proofs.NextConstructs.{span_to}
 use Rattle.rst_block.proofs.SubstitutionReads.{image_holds}
 use Rattle.rst_block.proofs.substitution.holding.Goals as goal
 
@@ -36,7 +36,7 @@ returns-in_ok-shown-in-Uri-clause-read c =
     let written = excerpt (front_text (drop l.at B)) c.args.invocation.now.name in
     let node = c.in_ok-shown-in-Uri.shown in
     let found = c.in-Found in
-    keeps_same c.put-in-Uri.result _ (reads_with l B (just (node ∷ [])) end m) (reads_with l B (directives.holding outcome d B (span_to l.at end) (string_bytes c.args.name) written) end c.args.pass.now.numbers)
+    keeps_as c.put-in-Uri.result _ _ _
     (ap (λ (read : Numbered (List Node)). reads_with l B read end m)
     (image_holds outcome found.name (choices_in found.options.items) found.content (string_bytes c.in-Uri.uri) c.as_str-in-Uri.result.now c.as_str-in-Uri-2.result.now (string_bytes c.args.name) written d B (span_to l.at end) c.number_at-line.result node
     (sym c.in_ok-fault.ensures.outcome ∙ ap outcome_of found.is ∙ ap (λ (a : Argument). outcome_of (Found found.name a found.options found.content)) c.in-Uri.is)

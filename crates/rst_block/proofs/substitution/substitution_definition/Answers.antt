@@ -1,13 +1,13 @@
-use Rattle.std.proofs.Common.{[], ◌∷◌, List, sym, ap, ◌∙◌}
+use Rattle.std.proofs.Common.{List, sym, ap, ◌∙◌}
 use Rattle.std.specs.Prelude.{string_bytes}
 use Rattle.rst_text.specs.Shown.{block_of}
 use Rattle.rst_tree.specs.declared.node.Node.{Node}
 use Rattle.rst_block.specs.Directives.{substitution_nodes}
 use Rattle.rst_block.specs.MarkupSteps.{reads_with}
 use Rattle.rst_block.specs.Meanings.{within_at}
-use Rattle.rst_block.specs.Numbered.{Numbered, just}
-use Rattle.rst_block.proofs.MarkupReads.{keeps_same}
-use Rattle.rst_block.proofs.NextLines.{span_to}
+use Rattle.rst_block.specs.Numbered.{Numbered}
+use Rattle.rst_block.proofs.Calls.{keeps_as}
+use Rattle.rst_block.proofs.NextConstructs.{span_to}
 use Rattle.rst_block.proofs.SubstitutionReads.{none_holds}
 use Rattle.rst_block.proofs.substitution.substitution_definition.Goals as goal
 
@@ -22,7 +22,7 @@ returns-in_default-clause-read c =
     let n = c.args.pass.now.numbers in
     let s = span_to l.at end in
     let node = c.in_ok-warning.warning in
-    keeps_same c.put.result _ (reads_with l B (just (node ∷ [])) end n) (reads_with l B (substitution_nodes (within_at l.depth) B s c.args.written.now c.args.held) end n)
+    keeps_as c.put.result _ _ _
     (ap (λ (read : Numbered (List Node)). reads_with l B read end n)
     (none_holds (within_at l.depth) B s c.args.written.now (string_bytes c.in_ok-name.name) c.as_str.result.now c.as_str-in_default.result.now c.as_str-in_default-2.result.now c.number_at-line.result node c.as_str.ensures.value
     c.in_ok-name.ensures (c.as_str-in_default.ensures.value ∙ c.in_ok-text.ensures) (c.as_str-in_default-2.ensures.value ∙ c.in_ok-lines.ensures.bytes) c.number_at-line.ensures c.in_ok-warning.ensures

@@ -1,7 +1,9 @@
--- What is read of paragraphs and of titles over an underline, step by step. No rule of markup: it is what their definitions give, part by part.
-use Rattle.std.specs.Prelude.{ℕ, ◌+◌, ◌-◌, false, List, [], ◌∷◌, ◌++◌, drop, codes, if◌then◌else◌, Option, unwrap_or}
+-- Texts, step by step: of lines of a line block, of paragraphs and of titles over an underline. No rule of markup: it is what their definitions give,
+-- part by part.
+use Rattle.std.specs.Prelude.{ℕ, ◌+◌, ◌-◌, false, List, [], ◌∷◌, ◌++◌, drop, map, codes, if◌then◌else◌, Option, unwrap_or}
+use Rattle.std.specs.List.{join_with_byte}
 use Rattle.std.specs.Option.{option_to_list}
-use Rattle.rst_text.specs.Block.{Block, first_number}
+use Rattle.rst_text.specs.Block.{Line, Block, first_number}
 use Rattle.rst_tree.specs.declared.node.Node.{Node}
 use Rattle.rst_tree.specs.declared.note.Level.TheVariants.{Error, Severe}
 use Rattle.rst_markup_lines.specs.Closing.{ends_in_colons}
@@ -12,6 +14,14 @@ use Rattle.rst_block_sections.specs.declared.heading.Style.{Style}
 use Rattle.rst_block.specs.Literals.{announced, text_paragraph, after_paragraph}
 use Rattle.rst_block.specs.Numbered.{Numbered, ◌>>=◌, just}
 use Rattle.rst_block.specs.Texts.{shown, unless_blank}
+
+-- ---- lines of a line block
+
+-- the text of a line and of those below it
+abbrev pub text_over : List ℕ → Block → List ℕ
+text_over first below = join_with_byte 10 (first ∷ map (λ (l : Line). l.text) below)
+
+-- ---- paragraphs
 
 -- a paragraph that shows a text, from line i of a block up to line j, and the ERROR at an indented line that follows directly
 abbrev pub shown_paragraph : List ℕ → ℕ → ℕ → Block → Numbered (List Node)
