@@ -1,16 +1,16 @@
 -- The first attribution of a quote is found behind the blank lines that follow a text.
 use Rattle.std.proofs.Common.{◌≡◌, ⊎_elim, ℕ, zero, suc, ◌+◌, ◌-◌, ◌<◌, ◌≤◌, Bool, true, false, cond, List, [], ◌∷◌, Option, None, Some, length, drop, option_and_then, option_map, refl, sym, ap, ◌∙◌, arith}
 use Rattle.std.proofs.Math.Bool.{not}
-use Rattle.std.specs.Option.{is_some}
+use Rattle.std.specs.Option.{is_some, option_map_or}
 use Rattle.std.proofs.lemmas.Bool.{cases_lt}
 use Rattle.std.proofs.lemmas.List.{drop-drop}
-use Rattle.rst_text.specs.Block.{Block, front_text, is_blank}
+use Rattle.rst_text.specs.Block.{Block, front_text, indentation, is_blank}
 use Rattle.rst_text.specs.Places.{first_from, NoneFrom}
 use Rattle.rst_text.proofs.PlacesLemmas.{NoneFrom-join, NoneFrom-more, IsFirst-unique, first_from-IsFirst}
 use Rattle.rst_markup_lines.specs.Attribution.{attribution_of, dash_len}
 use Rattle.rst_markup_lines.specs.Class.{run}
-use Rattle.rst_markup_blocks.specs.Attributions.{attribution_at, attribution_by}
-use Rattle.rst_markup_blocks.specs.Conditions.{text_at}
+use Rattle.rst_markup_blocks.specs.Attributions.{attribution_at, attribution_behind, attribution_by, attribution_with, level_lines}
+use Rattle.rst_markup_blocks.specs.Conditions.{next_text, text_at}
 use Rattle.rst_markup_blocks.specs.Lines.{lines_while}
 use Rattle.rst_markup_blocks.specs.declared.attribution.Attribution.{Attribution}
 use Rattle.rst_markup_blocks.specs.declared.lines.LineTest.TheVariants.{Blank, Filled}
@@ -174,3 +174,26 @@ Unfound-blank Q end place u e h = none_first Q place (none_before Q end place u 
 
 pub Unfound-end : (Q : Block) (end : ℕ) → Unfound Q end → length Q ≤ end → None ≡ first_attribution Q
 Unfound-end Q end u h = none_first Q (end + 1) u.none (omega arith)
+
+-- ---- where an attribution ends
+
+level_is : (n : ℕ) (Y : Block) (m : ℕ) → level_lines n Y ≡ Some m → m ≡ lines_while Filled Y
+unfolding level_lines
+level_is n Y m h = by _ h
+  where
+    by : (b : Bool) → cond b (Some (lines_while Filled Y)) None ≡ Some m → m ≡ lines_while Filled Y
+    by true e = cc
+    by false e = cc
+
+with_end : (k marker indent w : ℕ) (o : Option ℕ) (a : Attribution) → ((m : ℕ) → o ≡ Some m → m ≡ w) → Some a ≡ attribution_with k marker indent o → a.end ≡ k + 1 + w
+with_end k marker indent w None a h e = cc
+with_end k marker indent w (Some m) a h e = ap (λ o. option_map_or (λ (x : Attribution). x.end) o 0) e ∙ ap (λ n. k + 1 + n) (h m refl)
+
+-- behind the lines below its first, up to a blank one
+pub attribution_end : (k : ℕ) (X : Block) (a : Attribution) → Some a ≡ attribution_at k X → a.end ≡ k + 1 + lines_while Filled (drop 1 X)
+unfolding attribution_at attribution_behind
+attribution_end k X a e = by (attribution_of (front_text X)) e
+  where
+    by : (o : Option ℕ) → Some a ≡ attribution_by o k X → a.end ≡ k + 1 + lines_while Filled (drop 1 X)
+    by None h = cc
+    by (Some marker) h = with_end k marker (indentation (next_text X)) (lines_while Filled (drop 1 X)) (level_lines (indentation (next_text X)) (drop 1 X)) a (level_is (indentation (next_text X)) (drop 1 X)) h

@@ -4,11 +4,12 @@ use Rattle.rst_text.specs.Block.{Block, front_text, is_blank}
 use Rattle.rst_text.specs.Reach.{reach, through_text}
 use Rattle.rst_markup_lines.specs.ExplicitMarks.{dots}
 use Rattle.rst_markup_lines.specs.declared.marker.Marker.{Marker}
+use Rattle.rst_markup_blocks.specs.Conditions.{next_text}
 use Rattle.rst_markup_blocks.specs.Explicit.{explicit_size}
 use Rattle.rst_markup_blocks.specs.ExplicitLaws.{explicit_within}
 use Rattle.rst_markup_blocks.specs.ReachLaws.{grid_scan_le, simple_scan_le}
 use Rattle.rst_markup_blocks.specs.RowLaws.{below_le}
-use Rattle.rst_markup_blocks.specs.Sizes.{hanging_size, item_size, least_below}
+use Rattle.rst_markup_blocks.specs.Sizes.{hanging_size, item_size, least_below, overline_looks}
 use Rattle.rst_markup_blocks.specs.TableRows.{grid_scan, simple_scan}
 use Rattle.rst_markup_blocks.proofs.ExplicitLemmas.{hanging_le, indented_le, size_other}
 
@@ -21,7 +22,7 @@ through_le (l ∷ ls) = by (is_blank l.text) (through_le ls)
     by true h = omega arith
     by false h = omega arith
 
-reach_le : (n : ℕ) (X : Block) → n ≤ length X → reach n X ≤ length X
+pub reach_le : (n : ℕ) (X : Block) → n ≤ length X → reach n X ≤ length X
 reach_le n X h = omega (arith, through_le (drop n X), length-drop n X)
 
 pub reach_hanging : (B : Block) (i : ℕ) → i < length B → reach (hanging_size (drop i B)) (drop i B) ≤ length B
@@ -39,6 +40,17 @@ reach_item B i m h =
     let w = below_le (least_below m) X (omega (arith, n)) in
     let r = reach_le (item_size m X) X w in
     omega (arith, n, r)
+
+-- an item whose marker is bare has the lines of a hanging block
+pub bare_item : (m : Marker) (X : Block) → m.bare ≡ true → item_size m X ≡ hanging_size X
+unfolding least_below hanging_size
+bare_item m X bare = rw bare refl
+
+-- below the line of a block of one line there is none to look at
+pub no_next : (B : Block) → length B ≤ 1 → overline_looks (next_text B) ≡ 0
+no_next [] few = refl
+no_next (l ∷ []) few = refl
+no_next (l ∷ m ∷ ls) few = absurd (omega arith)
 
 -- ---- explicit markup and tables
 

@@ -203,7 +203,7 @@ begins_otherwise [] h = cc
 begins_otherwise (c ∷ cs) h = let e : c ≡ 95 = eqb-true c 95 h in rw e refl
 
 -- an anonymous target doesn't begin with dots
-no_dots : (X : Block) → kind_at X ≡ kinds.Anonymous → dots (front_text X) ≡ None
+pub no_dots : (X : Block) → kind_at X ≡ kinds.Anonymous → dots (front_text X) ≡ None
 unfolding dots underscores
 no_dots X h = by (begins_with 95 (front_text X)) refl (row_at kinds.Anonymous X (sym h))
   where

@@ -1,5 +1,5 @@
 //! Directives as blocks (Markup Specification, 'Directives').
-ghost use Rattle.std.specs.Prelude.{◌≡◌, ℕ, ◌+◌, ◌-◌, ◌*◌, ◌^◌, ◌<◌, ◌≤◌, [], ◌∷◌, true, length, drop, option_map, Some, Ok, IfOk, IfSome};
+ghost use Rattle.std.specs.Prelude.{◌≡◌, ℕ, ◌+◌, ◌-◌, ◌*◌, ◌^◌, ◌<◌, ◌≤◌, [], ◌∷◌, true, length, drop, slice_range, option_map, Some, Ok, IfOk, IfSome};
 ghost use Rattle.std.specs.Str.{chars};
 ghost use Rattle.rst_text.specs.Block.{Block, first_number};
 ghost use Rattle.rst_text.specs.Shown.{block_of};
@@ -65,6 +65,8 @@ pub(crate) fn directive_at(
     ensures parts { IfOk result (IsDirectiveIn (block_of view.now)) }
     ensures numbers { pass.new.numbers ≡ pass.old.numbers }
     ensures looks { IfOk result (λ _. pass.new.looks ≤ pass.old.looks + 2 ^ 72) }
+    ensures most { IfOk result (λ _. pass.new.looks ≤ pass.old.looks + 9 + 2 * (invocation.now.block.to - invocation.now.block.from)) }
+    ensures low { IfOk result (λ _. pass.old.looks + 2 ≤ pass.new.looks) }
 {
     let name = called(alloc, view, at, invocation, &mut pass.looks)?;
     let paragraph = is_paragraph(name, view, invocation, &mut pass.looks);
@@ -98,6 +100,8 @@ fn is_paragraph(
     requires few { looks.old < 2 ^ 119 + 2 ^ 116 }
     ensures flag { (at : ℕ) (place : Place) → name ≡ called_at true (block_of view.now) at invocation.now → directives.directive_at true (block_of view.now) at invocation.now place result ≡ meaning.called (within_at 0) (block_of view.now) at invocation.now place }
     ensures looks { looks.new ≤ looks.old + 2 ^ 66 }
+    ensures most { looks.new ≤ looks.old + (invocation.now.block.to - invocation.now.block.from) + 6 }
+    ensures low { looks.old ≤ looks.new }
 {
     if is_replacement(name) {
         return is_single_paragraph(&inside(view, invocation.block), looks);
@@ -182,6 +186,8 @@ pub(crate) fn wrong_directive(
     requires few { looks.old < 2 ^ 120 }
     ensures error { Gives (λ node. node ≡ shown Error (first_number (drop at (block_of view.now))) (fault_text (fault_in fault.now) name.now) (source_of (block_of view.now) (record { start = at; stop = end }))) result }
     ensures looks { looks.new ≤ looks.old + 2 ^ 64 }
+    ensures most { looks.new ≤ looks.old + (end - at) }
+    ensures each { IfOk result (λ _. looks.new ≡ looks.old + length (slice_range (block_of view.now) at end)) }
 {
     let text = fault_text(alloc, fault, name)?;
     let lines = source(alloc, view, at, end, looks)?;
@@ -409,6 +415,8 @@ fn titled(
     requires few { pass.old.looks < 2 ^ 120 }
     ensures node { faults.Gives (λ node. then_read (λ made. just (filled (titled_element found.now.name (directive_element found.now.name (choices_in found.now.options.items) line) made.0) (made.0 ∷ made.1))) (texted TitleTag (number_or line (lines_in (block_of view.now) title)) (joined (lines_in (block_of view.now) title)) (number_or line (lines_in (block_of view.now) title)) pass.old.numbers) ≡ Ok (node, pass.new.numbers)) result }
     ensures looks { pass.new.looks ≤ pass.old.looks + 2 ^ 64 }
+    ensures most { pass.new.looks ≤ pass.old.looks + (title.to - title.from) }
+    ensures each { IfOk result (λ _. pass.new.looks ≡ pass.old.looks + (title.to - title.from)) }
 {
     let lines = inside(view, title);
     let title_line = first_line_or(&lines, line);

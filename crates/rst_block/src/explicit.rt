@@ -83,6 +83,7 @@ fn begin_markup(
     ensures kept { IfOk result (λ _. IsKept level.old level.new) }
     ensures read { Keeps result (λ _. reads_with level.new (block_of view.now) (markup.markup_nodes (within_at level.new.depth) (block_of view.now) (record { start = level.old.at; stop = end })) end pass.new.numbers) (markup_reads level.old (block_of view.now) end pass.old.numbers) }
     ensures looks { pass.new.looks ≤ pass.old.looks + 1 }
+    ensures low { pass.old.looks ≤ pass.new.looks }
 {
     if is_markup(&level.run) {
         level.run = Run::Explicit { end };
@@ -219,6 +220,7 @@ fn target_of(
     requires few { looks.old < 2 ^ 120 }
     ensures node { blocks.Gives (λ node. node ≡ target_node (option_map (excerpt (front_text (drop at (block_of view.now)))) name) text.now (first_number (drop at (block_of view.now)))) result }
     ensures looks { looks.new ≤ looks.old + 1 }
+    ensures low { looks.old ≤ looks.new }
 {
     let line = number_at(view, at);
     match name {
@@ -289,7 +291,7 @@ fn label_text(
     requires inside { at < length (block_of view.now) }
     requires few { looks.old < 2 ^ 120 }
     ensures text { IfOk result (λ label. string_bytes label ≡ excerpt (front_text (drop at (block_of view.now))) place) }
-    ensures looks { looks.new ≤ looks.old + 1 }
+    ensures looks { looks.new ≡ looks.old + 1 }
 {
     excerpt(alloc, view.line(at, looks), place)
 }

@@ -97,6 +97,7 @@ pub(crate) fn join_list(
     ensures numbers { list_kind_in level.old.run ≡ Some kind → pass.new.numbers ≡ pass.old.numbers }
     ensures begins { (list_kind_in level.old.run ≡ Some kind → ⊥) → Closes (closed_run (suc deepest - level.old.depth) (block_of view.now) (open_of level.old.run) pass.old.numbers) level.old level.new pass.new.numbers (begun_at (joining_in kind) end (Element tag [] bare (first_number (drop level.old.at (block_of view.now))))) result }
     ensures looks { pass.new.looks ≤ pass.old.looks + 1 }
+    ensures low { pass.old.looks ≤ pass.new.looks }
 {
     if level.run.list_kind() == Some(kind) {
         level.join(kind, end);

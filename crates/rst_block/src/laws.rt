@@ -1,6 +1,10 @@
 //! Laws on the definitions, each by a function that does nothing and whose contract is the law.
 ghost use Rattle.rst_block.specs.Begins.{MarksTellConstructs};
+ghost use Rattle.rst_block.specs.BudgetLaws as budget;
+ghost use Rattle.rst_block.specs.InsideLaws as inside;
+ghost use Rattle.rst_block.specs.LedgerLaws as ledger;
 ghost use Rattle.rst_block.specs.MeaningLaws as meaning;
+ghost use Rattle.rst_block.specs.Reaches as reaches;
 ghost use Rattle.rst_block.specs.RestLaws as law;
 
 /// The construct at a line is the one with the mark that is found there.
@@ -70,4 +74,62 @@ pub(crate) fn changes_are_read()
     ensures title { meaning.TitleIsLast }
     ensures nodes_placed { meaning.NodesKeepPlaces }
     ensures title_placed { meaning.TitlesArePlaced }
+{}
+
+/// The blocks that are opened in a block whose lines don't end in white stand in its lines, one after another, and each begins with
+/// a line that isn't blank. So the block's budget allows 128 looks for each line of it and of all blocks and cells inside. Its floor
+/// asks for no more looks than there are lines of these.
+pub fn budget_bounds_totals()
+    ensures inside { budget.BlocksAreInside }
+    ensures cells { budget.CellsAreTrimmed }
+    ensures high { budget.TotalIsWithinBudget }
+    ensures low { budget.FloorIsWithinTotal }
+{}
+
+/// No line is in the reaches of more than four constructs of a block. From the first line on, each construct pays for its reach
+/// out of what is unpaid.
+pub fn few_reaches_share_a_line()
+    ensures paid { reaches.ReachesArePaid }
+    ensures lines { reaches.LinesArePaid }
+    ensures few { reaches.AtMostFour }
+{}
+
+/// How many looks a reading may still take, and has to take at least, by the state of the machine: at a block's begin as many as
+/// its total says, and at its end none. A blank line, a construct and a block inside take no more of them than they leave.
+pub fn looks_are_paid()
+    ensures begun { ledger.BlocksBegin }
+    ensures ended { ledger.BlocksEnd }
+    ensures blank { ledger.BlankLineIsPaid }
+    ensures construct { ledger.ConstructIsPaid }
+    ensures start { ledger.StartIsPaid }
+    ensures counted { ledger.LastIsCounted }
+    ensures opened { ledger.OpenedIsPaid }
+    ensures second { ledger.SecondIsPaid }
+{}
+
+/// What blocks that wait may still take of looks, and have to take: as they go on, wait for the next quote, are below the last
+/// level, or have read the cells of a table.
+pub(crate) fn waiting_blocks_are_paid()
+    ensures quote { ledger.QuoteIsOne }
+    ensures quotes { ledger.QuotesAreSplit }
+    ensures resumed { ledger.ResumedIsPaid }
+    ensures next_quote { ledger.QuotesArePaid }
+    ensures flat { ledger.LastBlockIsPaid }
+    ensures cell { ledger.CellIsText }
+    ensures rows { ledger.CellsAreOfRows }
+    ensures table { ledger.TableIsPaid }
+{}
+
+/// The blocks inside a construct are those that are read for it: what it gives depends on no other block than those that it opens
+/// and its cells.
+pub fn inside_is_read()
+    ensures { inside.InsideIsRead }
+{}
+
+/// What a text takes: none without lines, and one for each line below the last level. A document takes no more looks than its
+/// budget allows and no fewer than its floor asks for, where it takes one to 128 for each line of it and of all inside.
+pub fn documents_are_bounded()
+    ensures empty { ledger.EmptyTextIsFree }
+    ensures flat { ledger.LastTextIsFlat }
+    ensures bounded { ledger.DocumentIsBounded }
 {}

@@ -94,6 +94,8 @@ fn bar_text(
     ensures line { IfOk result (λ text. (last : ℕ) → indented_by (unwrap_or text.indent last) text ≡ indented_line (indentation_of last marker) (block_of view.now) marker (record { start = at; stop = end })) }
     ensures numbers { pass.new.numbers ≡ pass.old.numbers }
     ensures looks { IfOk result (λ _. pass.new.looks ≤ pass.old.looks + 2 ^ 66) }
+    ensures most { IfOk result (λ _. pass.new.looks ≤ pass.old.looks + 1 + 2 * (end - (at + 1))) }
+    ensures low { IfOk result (λ _. pass.old.looks ≤ pass.new.looks) }
 {
     let line = number_at(view, at);
     let below = lines_between(view, at + 1, end);

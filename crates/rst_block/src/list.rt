@@ -139,6 +139,7 @@ fn begin_enumerated_list(
     ensures run { blocks.Gives (λ _. HasRun level.old level.new (begun_run (item_of_list (enumerated_item enumerator)) (block_of view.now) (record { start = level.old.at; stop = end }) (drop level.old.at (block_of view.now)))) result }
     ensures numbers { pass.new.numbers ≡ pass.old.numbers }
     ensures looks { pass.new.looks ≤ pass.old.looks + 1 }
+    ensures low { pass.old.looks ≤ pass.new.looks }
 {
     let at = level.at;
     let kind = ListKind::Enumerated(Sequel::of(enumerator));
@@ -173,6 +174,7 @@ fn start_note(
     requires few { looks.old < 2 ^ 120 }
     ensures note { Gives (λ note. option_to_list note ≡ lists.start_note enumerator (first_reading enumerator.written.ordinals) (drop at (block_of view.now))) result }
     ensures looks { looks.new ≤ looks.old + 1 }
+    ensures low { looks.old ≤ looks.new }
 {
     let ordinal = first_reading(enumerator.written.ordinals).ordinal;
     if ordinal == 1 {

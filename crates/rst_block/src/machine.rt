@@ -177,6 +177,8 @@ fn not_blank(view: &View<'_>, pass: &mut Pass) -> Result<(), BlockFault>
     ensures blank { TellsBlank (block_of view.now) result }
     ensures numbers { pass.new.numbers ≡ pass.old.numbers }
     ensures looks { pass.new.looks ≤ pass.old.looks + 2 ^ 65 }
+    ensures most { pass.new.looks ≤ pass.old.looks + length (block_of view.now) }
+    ensures low { pass.old.looks ≤ pass.new.looks }
 {
     let first = lines_end(view, 0, LineTest::Blank, &mut pass.looks);
     if first < view.len() {

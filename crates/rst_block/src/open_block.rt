@@ -2,6 +2,7 @@
 ghost use Rattle.std.specs.Prelude.{◌≡◌, ℕ, suc, ◌+◌, ◌-◌, ◌^◌, ◌<◌, ◌≤◌, ◌==◌, [], ◌∷◌, length, drop};
 ghost use Rattle.rst_text.specs.Shown.{block_of};
 ghost use Rattle.rst_block.specs.Meanings.{IsNew, deepest, joining_in, open_of};
+ghost use Rattle.rst_block.specs.Ledger.{run_looks};
 ghost use Rattle.rst_block.specs.OpenBlocks as spec;
 ghost use Rattle.rst_block.specs.Rest.{closed_run, no_run};
 ghost use Rattle.rst_block.specs.Texts.{warned};
@@ -103,8 +104,11 @@ impl OpenBlock {
         requires short { length (block_of view.now) < 2 ^ 64 }
         requires few { pass.old.looks < 2 ^ 120 }
         ensures at { self.new.at ≡ self.old.at }
+        ensures low { pass.old.looks ≤ pass.new.looks }
+        ensures run { pass.new.looks ≤ pass.old.looks + run_looks self.old.run }
         ensures closed { spec.Closes (closed_run (suc deepest - self.old.depth) (block_of view.now) (open_of self.old.run) pass.old.numbers) self.old self.new pass.new.numbers no_run result }
         ensures looks { pass.new.looks ≤ pass.old.looks + 1 }
+        ensures low { pass.old.looks ≤ pass.new.looks }
     {
         let run = mem::replace(&mut self.run, Run::None);
         let ending = run.ending();
@@ -174,7 +178,9 @@ impl OpenBlock {
         ensures at { self.new.at ≡ self.old.at }
         ensures more { spec.Gives (λ _. spec.HasMore self.old self.new (warned text.now (drop end (block_of view.now)))) result }
         ensures numbers { pass.new.numbers ≡ pass.old.numbers }
+        ensures low { pass.old.looks ≤ pass.new.looks }
         ensures looks { pass.new.looks ≤ pass.old.looks + 1 }
+        ensures low { pass.old.looks ≤ pass.new.looks }
     {
         if is_blank(text_at(view, end, &mut pass.looks)) {
             return Ok(());

@@ -9,12 +9,14 @@ ghost use Rattle.rst_block.specs.Paragraphs as paragraphs;
 ghost use Rattle.rst_block.specs.Steps as spec;
 ghost use Rattle.rst_markup_blocks.specs.Begun.{IsBegun};
 ghost use Rattle.rst_markup_blocks.specs.declared.begun.Begun.TheVariants.{Doctest};
+ghost use Rattle.rst_block.specs.Ledger.{IsPaid};
 ghost use Rattle.rst_block.specs.Meanings.{Keeps, reads};
+ghost use Rattle.rst_block.specs.declared.step.Step.TheVariants.{Next};
 ghost use Rattle.rst_block.specs.OpenBlocks.{IsKept, IsPlaced, Gives, ReadsNodes, HasMoreAt};
 ghost use Rattle.rst_block.specs.Literals as literals;
 ghost use Rattle.rst_block.specs.TextSteps as parts;
 ghost use Rattle.rst_markup_blocks.specs.Lines.{lines_while};
-ghost use Rattle.rst_markup_blocks.specs.Sizes.{paragraph_size, literal_size};
+ghost use Rattle.rst_markup_blocks.specs.Sizes.{overline_looks, paragraph_size, literal_size};
 ghost use Rattle.rst_markup_blocks.specs.declared.lines.LineTest.TheVariants.{Begins};
 ghost use Rattle.rst_markup_lines.specs.Closing as closing;
 ghost use Rattle.rst_markup_lines.specs.Front.{begins_with, is_loose};
@@ -51,6 +53,7 @@ pub(crate) fn doctest_block(
     ensures later { IfOk result (λ _. level.old.at < level.new.at) }
     ensures kept { IfOk result (λ _. IsKept level.old level.new) }
     ensures read { Keeps result (λ _. reads level.new (block_of view.now) pass.new.numbers) (reads level.old (block_of view.now) pass.old.numbers) }
+    ensures paid { IfOk result (λ _. IsPaid 29 level.old level.new (block_of view.now) Next pass.old.looks pass.new.looks) }
     ensures looks { IfOk result (λ _. pass.new.looks ≤ pass.old.looks + 2 ^ 79) }
 {
     level.close(alloc, view, pass)?;
@@ -145,6 +148,7 @@ fn put_paragraph(
     ensures at { level.new.at ≡ level.old.at }
     ensures read { Gives (λ _. ReadsNodes (parts.shown_paragraph (chars text.now) level.old.at end (block_of view.now) pass.old.numbers) level.old level.new level.old.at pass.new.numbers) result }
     ensures looks { IfOk result (λ _. pass.new.looks ≤ pass.old.looks + 1) }
+    ensures low { IfOk result (λ _. pass.old.looks ≤ pass.new.looks) }
 {
     put_shown(alloc, view, level, text, pass)?;
     if is_blank(text_at(view, end, &mut pass.looks)) {
@@ -297,12 +301,15 @@ fn quoted_literal(
     level.push(error)
 }
 
-/// Whether the lines of a block in a block are one paragraph that doesn't vanish, and nothing else.
+/// Whether the lines of a block in a block are one paragraph that doesn't vanish, and nothing else. It makes at most six looks more
+/// than there are lines.
 pub(crate) fn is_single_paragraph(view: &View<'_>, looks: &mut Looks) -> bool
     requires short { length (block_of view.now) < 2 ^ 64 }
     requires few { looks.old < 2 ^ 119 + 2 ^ 116 }
     ensures paragraph { result ≡ paragraphs.is_single_paragraph (block_of view.now) }
     ensures looks { looks.new ≤ looks.old + 2 ^ 66 }
+    ensures most { looks.new ≤ looks.old + length (block_of view.now) + 6 }
+    ensures low { looks.old ≤ looks.new }
 {
     if view.len() == 0 || !begins_paragraph(view, looks) {
         return false;
@@ -327,7 +334,8 @@ fn begins_paragraph(view: &View<'_>, looks: &mut Looks) -> bool
     requires short { length (block_of view.now) < 2 ^ 64 }
     requires few { looks.old < 2 ^ 119 + 2 ^ 117 }
     ensures paragraph { result ≡ paragraphs.begins_paragraph (block_of view.now) }
-    ensures looks { looks.new ≤ looks.old + 2 ^ 64 }
+    ensures looks { looks.new ≤ looks.old + 5 + overline_looks (next_text (block_of view.now)) }
+    ensures low { looks.old ≤ looks.new }
 {
     let text = view.line(0, looks);
     let next = below_text(view, 0, 1, looks);
@@ -345,7 +353,8 @@ fn begins_text(view: &View<'_>, next: &str, looks: &mut Looks) -> bool
     requires next { chars next.now ≡ next_text (block_of view.now) }
     requires few { looks.old < 2 ^ 119 + 2 ^ 118 }
     ensures text { result ≡ paragraphs.begins_text (block_of view.now) }
-    ensures looks { looks.new ≤ looks.old + 2 ^ 63 }
+    ensures looks { looks.new ≤ looks.old + 3 + overline_looks (next_text (block_of view.now)) }
+    ensures low { looks.old ≤ looks.new }
 {
     match begun_at(view, 0, looks) {
         Begun::Text => true,

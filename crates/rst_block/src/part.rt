@@ -1,7 +1,10 @@
 //! Parts of a view that are blocks inside.
-ghost use Rattle.std.specs.Prelude.{◌≡◌, ◌+◌, ◌-◌, ◌^◌, ◌<◌, ◌≤◌, length, drop};
+ghost use Rattle.std.specs.Prelude.{◌≡◌, ◌+◌, ◌-◌, ◌*◌, ◌^◌, ◌<◌, ◌≤◌, length, drop};
+ghost use Rattle.rst_text.specs.Extent.{extent};
+ghost use Rattle.rst_text.specs.Reach.{reach};
 ghost use Rattle.rst_text.specs.Shown.{block_of, source_of};
 ghost use Rattle.rst_markup_blocks.specs.Parts.{IsBlock};
+ghost use Rattle.rst_markup_blocks.specs.Sizes.{hanging_size, item_size};
 ghost use Rattle.rst_block.specs.Texts.{lines_in};
 ghost use Rattle.rst_block.specs.Within as within;
 
@@ -18,6 +21,7 @@ pub(crate) fn indented(view: &View<'_>, from: usize, looks: &mut Looks) -> Part
     ensures part { result ≡ within.indented_part from (drop from (block_of view.now)) }
     ensures from { result.from ≡ from }
     ensures looks { looks.new ≤ looks.old + 2 ^ 64 }
+    ensures reach { looks.new ≡ looks.old + reach (extent 1 (drop from (block_of view.now))) (drop from (block_of view.now)) }
 {
     let extent = view.block_end(from, None, looks);
     Part {
@@ -36,6 +40,8 @@ pub(crate) fn hanging(view: &View<'_>, at: usize, marker: Marker, looks: &mut Lo
     ensures block { IsBlock (block_of view.now) result }
     ensures part { result ≡ within.hanging at marker (drop at (block_of view.now)) }
     ensures looks { looks.new ≤ looks.old + 2 ^ 66 }
+    ensures reach { looks.new + 2 ≤ looks.old + 2 * reach (hanging_size (drop at (block_of view.now))) (drop at (block_of view.now)) }
+    ensures low { looks.old + hanging_size (drop at (block_of view.now)) ≤ looks.new + 1 }
 {
     hanging_part(view, at, marker.cut, marker.bare, looks)
 }
@@ -48,6 +54,8 @@ pub(crate) fn item_part(view: &View<'_>, at: usize, marker: Marker, looks: &mut 
     ensures block { IsBlock (block_of view.now) result }
     ensures part { result ≡ within.item_part at marker (drop at (block_of view.now)) }
     ensures looks { looks.new ≤ looks.old + 2 ^ 66 }
+    ensures reach { looks.new + 2 ≤ looks.old + 2 * reach (item_size marker (drop at (block_of view.now))) (drop at (block_of view.now)) }
+    ensures low { looks.old + item_size marker (drop at (block_of view.now)) ≤ looks.new + 1 }
 {
     if marker.bare {
         return hanging(view, at, marker, looks);

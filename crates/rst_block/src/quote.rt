@@ -1,5 +1,5 @@
 //! Block quotes with their attributions (Markup Specification, 'Block Quotes').
-ghost use Rattle.std.specs.Prelude.{◌≡◌, [], ◌+◌, ◌-◌, ◌*◌, ◌^◌, ◌<◌, ◌≤◌, length, drop, Ok, IfOk, IfSome};
+ghost use Rattle.std.specs.Prelude.{◌≡◌, [], ◌+◌, ◌-◌, ◌*◌, ◌^◌, ◌<◌, ◌≤◌, length, drop, Ok, IfOk, IfSome, IfNone};
 ghost use Rattle.rst_text.specs.Block.{first_number};
 ghost use Rattle.rst_text.specs.Shown.{block_of};
 ghost use Rattle.rst_tree.specs.Faults.{Gives};
@@ -123,7 +123,8 @@ fn rest_of(quote: Part, next: usize) -> Option<Part>
     None
 }
 
-/// The first attribution in a quote, with its place: behind a blank line.
+/// The first attribution in a quote, with its place: behind a blank line. It makes at most five looks for each line through its
+/// end, or for each line of the quote where there is none.
 fn first_attribution(lines: &View<'_>, looks: &mut Looks) -> Option<(usize, Attribution)>
     requires short { length (block_of lines.now) < 2 ^ 64 }
     requires few { looks.old < 2 ^ 119 + 2 ^ 113 }
@@ -131,6 +132,9 @@ fn first_attribution(lines: &View<'_>, looks: &mut Looks) -> Option<(usize, Attr
     ensures place { IfSome result (λ found. (0 < found.0) × (found.0 ≤ found.1.end)) }
     ensures within { IfSome result (λ found. IsBlock (block_of lines.now) (attribution_part found.0 found.1)) }
     ensures looks { looks.new ≤ looks.old + 2 ^ 68 }
+    ensures through { IfSome result (λ found. looks.new ≤ looks.old + 5 * found.1.end) }
+    ensures all { IfNone result (looks.new ≤ looks.old + 5 * length (block_of lines.now) + 1) }
+    ensures low { looks.old ≤ looks.new }
 {
     let mut end = lines_end(lines, 0, LineTest::Filled, looks);
     while end < lines.len() {
@@ -159,6 +163,8 @@ fn attribution_text(
     requires few { pass.old.looks < 2 ^ 120 }
     ensures text { Gives (λ made. texted AttributionTag (first_number (drop place (block_of lines.now))) (joined (lines_in (block_of lines.now) (attribution_part place found))) (first_number (drop place (block_of lines.now))) pass.old.numbers ≡ Ok ((made.element, made.notes.items), pass.new.numbers)) result }
     ensures looks { pass.new.looks ≤ pass.old.looks + 2 ^ 64 }
+    ensures most { pass.new.looks ≤ pass.old.looks + (found.end - place) }
+    ensures each { IfOk result (λ _. pass.new.looks ≡ pass.old.looks + (found.end - place)) }
 {
     let line = number_at(lines, place);
     let text = inside(

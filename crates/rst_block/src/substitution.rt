@@ -1,5 +1,5 @@
 //! Substitution definitions (Markup Specification, 'Substitution Definitions').
-ghost use Rattle.std.specs.Prelude.{◌≡◌, ◌+◌, ◌-◌, ◌*◌, ◌^◌, ◌<◌, ◌≤◌, List, ◌∷◌, [], false, Some, length, drop, string_bytes, IfOk, IfSome};
+ghost use Rattle.std.specs.Prelude.{◌≡◌, ◌+◌, ◌-◌, ◌*◌, ◌^◌, ◌<◌, ◌≤◌, List, ◌∷◌, [], false, Some, length, drop, slice_range, string_bytes, IfOk, IfSome};
 ghost use Rattle.std.specs.Option.{option_map_or};
 ghost use Rattle.rst_text.specs.Block.{first_number, front_text};
 ghost use Rattle.rst_text.specs.Shown.{block_of};
@@ -221,6 +221,8 @@ fn wrong_definition(
     requires few { looks.old < 2 ^ 119 + 2 ^ 115 }
     ensures error { blocks.Gives (λ node. node ≡ texts.shown Error (first_number (drop at (block_of view.now))) (fault_text (fault_in fault.now) (directives.faulty_name (fault_in fault.now) name.now (texts.excerpt (front_text (drop at (block_of view.now))) invocation.now.name))) (texts.source_of (block_of view.now) (record { start = at; stop = end }))) result }
     ensures looks { looks.new ≤ looks.old + 2 ^ 65 }
+    ensures most { looks.new ≤ looks.old + 1 + (end - at) }
+    ensures each { IfOk result (λ _. looks.new ≡ looks.old + 1 + length (slice_range (block_of view.now) at end)) }
 {
     let written = excerpt(alloc, view.line(at, looks), invocation.name)?;
     let name = faulty_name(fault, name, written.as_str());

@@ -1,5 +1,5 @@
 //! Tables (Markup Specification, 'Tables').
-ghost use Rattle.std.specs.Prelude.{◌≡◌, ◌+◌, ◌^◌, ◌<◌, ◌≤◌, [], ◌∷◌, codes, length, drop, nat_lt, if◌then◌else◌, IfOk};
+ghost use Rattle.std.specs.Prelude.{◌≡◌, ◌+◌, ◌-◌, ◌^◌, ◌<◌, ◌≤◌, [], ◌∷◌, codes, length, drop, slice_range, nat_lt, if◌then◌else◌, IfOk};
 ghost use Rattle.rst_text.specs.Block.{first_number};
 ghost use Rattle.rst_text.specs.Shown.{block_of};
 ghost use Rattle.rst_tree.specs.Faults.{Gives};
@@ -71,6 +71,8 @@ fn malformed(
     requires few { looks.old < 2 ^ 120 }
     ensures error { Gives (λ node. node ≡ shown Error (first_number (drop at (block_of view.now))) (malformed_text fault.detail) (source_of (block_of view.now) (record { start = at; stop = end }))) result }
     ensures looks { looks.new ≤ looks.old + 2 ^ 64 }
+    ensures most { looks.new ≤ looks.old + (end - at) }
+    ensures each { IfOk result (λ _. looks.new ≡ looks.old + length (slice_range (block_of view.now) at end)) }
 {
     let text = malformed_text(alloc, fault.detail)?;
     let lines = source(alloc, view, at, end, looks)?;
@@ -96,6 +98,7 @@ pub(crate) fn after_table(
     ensures more { blocks.Gives (λ _. blocks.HasMore level.old level.new (warned (codes "Blank line required after table.") (drop level.old.at (block_of view.now)))) result }
     ensures numbers { pass.new.numbers ≡ pass.old.numbers }
     ensures looks { pass.new.looks ≤ pass.old.looks + 1 }
+    ensures low { pass.old.looks ≤ pass.new.looks }
 {
     let end = level.at;
     level.warn(alloc, view, end, "Blank line required after table.", pass)

@@ -158,6 +158,7 @@ fn put_title(
     ensures later { IfOk result (λ _. level.old.at < level.new.at) }
     ensures read { Gives (λ _. ReadsItems (titles.title_item (under_style (drop level.old.at (block_of view.now))) (front_text (drop level.old.at (block_of view.now))) (first_number (drop level.old.at (block_of view.now))) warning (string_bytes lines) pass.old.numbers) level.old level.new (level.old.at + 2) pass.new.numbers) result }
     ensures looks { pass.new.looks ≤ pass.old.looks + 2 }
+    ensures low { pass.old.looks ≤ pass.new.looks }
 {
     let at = level.at;
     let under = text_at(view, at.saturating_add(1), &mut pass.looks);

@@ -56,7 +56,7 @@ fn usual_size(lines: usize) -> usize {
     lines.min(12) * 80
 }
 
-/// The lines of a view, joined by line feeds.
+/// The lines of a view, joined by line feeds, at the price of one look at each.
 pub(crate) fn joined(
     alloc: Global,
     view: &View<'_>,
@@ -66,7 +66,10 @@ pub(crate) fn joined(
     requires few { looks.old < 2 ^ 120 }
     ensures bytes { IfOk result (λ text. string_bytes text ≡ spec.spelled (block_of view.now)) }
     ensures text { IfOk result (λ text. chars_of text ≡ spec.joined (block_of view.now)) }
+    ensures each { IfOk result (λ _. looks.new ≡ looks.old + length (block_of view.now)) }
     ensures looks { looks.new ≤ looks.old + 2 ^ 64 }
+    ensures most { looks.new ≤ looks.old + length (block_of view.now) }
+    ensures each { IfOk result (λ _. looks.new ≡ looks.old + length (block_of view.now)) }
 {
     let mut text = String::with_capacity(alloc, usual_size(view.len()))?;
     for i in 0..view.len() {
@@ -78,7 +81,8 @@ pub(crate) fn joined(
     Ok(text)
 }
 
-/// The lines of a view from place `from` up to place `to`, those that there are, joined by line feeds.
+/// The lines of a view from place `from` up to place `to`, those that there are, joined by line feeds, at the price of one look
+/// at each.
 pub(crate) fn source(
     alloc: Global,
     view: &View<'_>,
@@ -90,7 +94,10 @@ pub(crate) fn source(
     requires few { looks.old < 2 ^ 120 }
     ensures bytes { IfOk result (λ text. string_bytes text ≡ spec.source_of (block_of view.now) (record { start = from; stop = to })) }
     ensures text { IfOk result (λ text. chars_of text ≡ spec.joined (slice_range (block_of view.now) from to)) }
+    ensures each { IfOk result (λ _. looks.new ≡ looks.old + length (slice_range (block_of view.now) from to)) }
     ensures looks { looks.new ≤ looks.old + 2 ^ 64 }
+    ensures most { looks.new ≤ looks.old + (to - from) }
+    ensures each { IfOk result (λ _. looks.new ≡ looks.old + length (slice_range (block_of view.now) from to)) }
 {
     joined(alloc, &lines_between(view, from, to), looks)
 }

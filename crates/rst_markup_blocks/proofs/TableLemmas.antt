@@ -58,6 +58,13 @@ bottom-none X e = let head : head_border X ≡ None = rw (sym e) refl in sym (bo
 pub bottom-first : (X : Block) (first : ℕ) → Some first ≡ border_below X 0 → closes_head X first ≡ false → Some first ≡ simple_bottom X
 bottom-first X first e stays = let head : head_border X ≡ None = rw (sym e) (rw stays refl) in sym (bottom-by X None head ∙ sym e)
 
+-- neither is there a head's border then
+pub head-none : (X : Block) → None ≡ border_below X 0 → None ≡ head_border X
+head-none X e = sym (rw (sym e) refl)
+
+pub head-stays : (X : Block) (first : ℕ) → Some first ≡ border_below X 0 → closes_head X first ≡ false → None ≡ head_border X
+head-stays X first e stays = sym (rw (sym e) (rw stays refl))
+
 -- it closes the head
 pub head-first : (X : Block) (first : ℕ) → Some first ≡ border_below X 0 → closes_head X first ≡ true → Some first ≡ head_border X
 head-first X first e closes = sym (rw (sym e) (rw closes refl))
@@ -69,6 +76,11 @@ bottom-second X first e closes = sym (bottom-by X (Some first) (sym (head-first 
 pub simple_size-is : (X : Block) (head bottom : Option ℕ) → head ≡ head_border X → bottom ≡ simple_bottom X → through (length X) (option_or bottom head) ≡ simple_size X
 unfolding simple_size
 simple_size-is X head bottom h b = rw (h, b) refl
+
+-- the lines through the last border are no more than those of the scan for the bottom one
+pub last-through : (all first : ℕ) (o : Option ℕ) → first < all → through all (option_or o (Some first)) ≤ through all o
+last-through all first None inside = omega arith
+last-through all first (Some k) inside = omega arith
 
 pub last-below : (X : Block) (head bottom : Option ℕ) → head ≡ head_border X → bottom ≡ simple_bottom X → IfSome (option_or bottom head) (λ k. k < length X)
 last-below X head bottom h b = rw (h, b) (simple_border_within X)

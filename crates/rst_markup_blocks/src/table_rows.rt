@@ -76,11 +76,11 @@ fn border_below(view: &View<'_>, i: usize, k: usize, looks: &mut Looks) -> Optio
     requires few { looks.old < 2 ^ 120 + 2 ^ 81 }
     ensures border { result ≡ spec.border_below (drop i (block_of view.now)) k }
     ensures looks { looks.new + k + 1 ≤ looks.old + spec.through (length (drop i (block_of view.now))) result }
-    ensures low { looks.old ≤ looks.new }
+    ensures low { looks.old + spec.through (length (drop i (block_of view.now))) result ≤ looks.new + k + 1 }
 {
     let all = view.len() - i;
     for j in k + 1..all {
-        if is_lower_border(below_text(view, i, j, looks)) {
+        if is_lower_border(view.line(i + j, looks)) {
             return Some(j);
         }
     }
@@ -140,7 +140,8 @@ impl SimpleBorders {
     }
 }
 
-/// The borders of the simple table at place `i`, in at most two looks more than its scan has lines.
+/// The borders of the simple table at place `i`, in at most two looks more than its scan has lines, and in no less than one for
+/// each line of the table below the first.
 pub fn simple_borders(view: &View<'_>, i: usize, looks: &mut Looks) -> SimpleBorders
     requires inside { i < length (block_of view.now) }
     requires few { looks.old < 2 ^ 120 }
@@ -148,7 +149,7 @@ pub fn simple_borders(view: &View<'_>, i: usize, looks: &mut Looks) -> SimpleBor
     ensures bottom { result.bottom ≡ spec.simple_bottom (drop i (block_of view.now)) }
     ensures within { IfSome (option_or result.bottom result.head) (λ k. k < length (drop i (block_of view.now))) }
     ensures looks { looks.new ≤ looks.old + 2 + spec.simple_scan (drop i (block_of view.now)) }
-    ensures low { looks.old ≤ looks.new }
+    ensures low { looks.old + spec.simple_size (drop i (block_of view.now)) ≤ looks.new + 1 }
 {
     let Some(first) = border_below(view, i, 0, looks) else {
         return SimpleBorders {

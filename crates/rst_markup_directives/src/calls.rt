@@ -1,5 +1,5 @@
 //! Directives as they are called.
-ghost use Rattle.std.specs.Prelude.{◌≡◌, true, ◌+◌, ◌*◌, ◌-◌, ◌≤◌, ◌<◌, ◌^◌, length, take, drop, IfOk};
+ghost use Rattle.std.specs.Prelude.{◌≡◌, true, ◌+◌, ◌-◌, ◌≤◌, ◌<◌, ◌^◌, length, take, drop, IfOk};
 ghost use Rattle.rst_text.specs.Block.{cut};
 ghost use Rattle.rst_text.specs.Shown.{block_of};
 ghost use Rattle.rst_markup_blocks.specs.Parts.{IsBlock, IsCall};
@@ -44,7 +44,7 @@ pub fn called(
 }
 
 /// What the directive is that is called at line `at` of a view, or what is wrong with it. `paragraph` tells whether its
-/// block is a single paragraph, which counts for `replace` alone.
+/// block is a single paragraph, which counts for `replace` alone. It makes at most two looks more than the block has lines.
 ///
 /// The only refusal is [`MarkupFault::NoMemory`].
 #[tactic(auto, unfolding(crate::specs::Directive::directive_at))]
@@ -61,7 +61,8 @@ pub fn directive(
     requires few { looks.old < 2 ^ 120 }
     ensures outcome { Gives (λ found. directives.outcome_of found ≡ directives.directive_at true (block_of view.now) at invocation.now place paragraph) result }
     ensures parts { Gives (λ found. spec.IsDirectiveIn (block_of view.now) found) result }
-    ensures looks { looks.new ≤ looks.old + 1 + 2 * (invocation.now.block.to - invocation.now.block.from) }
+    ensures looks { looks.new ≤ looks.old + 2 + (invocation.now.block.to - invocation.now.block.from) }
+    ensures low { looks.old + 1 ≤ looks.new }
 {
     let block = invocation.block;
     let name = called(alloc, view, at, invocation, looks)?;
@@ -125,6 +126,8 @@ fn first_run<'a>(
     ensures texts { IfOk result (λ run. texts_of run.items ≡ directives.run_in name late (block_of lines.now)) }
     ensures within { IfOk result (λ run. length run.items ≤ length (block_of lines.now)) }
     ensures looks { looks.new ≤ looks.old + length (block_of lines.now) }
+    ensures through { IfOk result (λ run. looks.new ≤ looks.old + length run.items + 1) }
+    ensures low { looks.old ≤ looks.new }
 {
     if late && is_code(name) {
         return Ok(Vec::new(alloc));
@@ -153,7 +156,8 @@ fn read(
     requires block { IsBlock (block_of view.now) block }
     requires few { looks.old < 2 ^ 120 + 1 }
     ensures reading { Gives (λ reading. directives.reading_in reading ≡ directives.read_block name late block (cut (block_of view.now) block.from block.to block.first_cut block.rest_cut)) result }
-    ensures looks { looks.new ≤ looks.old + 2 * (block.to - block.from) }
+    ensures looks { looks.new ≤ looks.old + 1 + (block.to - block.from) }
+    ensures low { looks.old ≤ looks.new }
 {
     let lines = lines_of(view, block);
     let run = first_run(alloc, name, late, &lines, looks)?;

@@ -17,6 +17,8 @@ pub(crate) fn run_of<'a>(
     ensures texts { IfOk result (λ run. spec.texts_of run.items ≡ spec.first_run (block_of lines.now)) }
     ensures within { IfOk result (λ run. length run.items ≤ length (block_of lines.now)) }
     ensures looks { looks.new ≤ looks.old + length (block_of lines.now) }
+    ensures through { IfOk result (λ run. looks.new ≤ looks.old + length run.items + 1) }
+    ensures low { looks.old ≤ looks.new }
 {
     let mut run = Vec::new(alloc);
     for i in 0..lines.len() {
@@ -36,7 +38,8 @@ pub(crate) fn past_blank(lines: &View<'_>, from: usize, looks: &mut Looks) -> us
     requires few { looks.old + length (block_of lines.now) < 2 ^ 121 }
     ensures value { result ≡ spec.behind_blank (block_of lines.now) from }
     ensures within { result ≤ length (block_of lines.now) }
-    ensures looks { looks.new ≤ looks.old + length (block_of lines.now) }
+    ensures looks { looks.new + from ≤ looks.old + length (block_of lines.now) }
+    ensures low { looks.old ≤ looks.new }
 {
     for i in from..lines.len() {
         if !is_blank(lines.line(i, looks)) {

@@ -48,6 +48,7 @@ fn drawn_lines(
     ensures lines { IfOk result (λ found. found.lines.items ≡ rows_of (take (lines_while Drawn (drop i (block_of view.now))) (drop i (block_of view.now)))) }
     ensures bottom { IfOk result (λ found. found.bottom ≡ grid_bottom (drop i (block_of view.now))) }
     ensures looks { looks.new ≤ looks.old + grid_scan (drop i (block_of view.now)) }
+    ensures low { IfOk result (λ _. looks.old + lines_while Drawn (drop i (block_of view.now)) ≤ looks.new) }
 {
     let mut lines = Vec::new(alloc);
     let mut bottom = None;
@@ -76,6 +77,7 @@ pub(crate) fn grid_lines(
     ensures lines { IfOk result (λ found. found.lines.items ≡ rows_of (take (grid_size (drop i (block_of view.now))) (drop i (block_of view.now)))) }
     ensures bottom { IfOk result (λ found. found.bottom ≡ grid_bottom (drop i (block_of view.now))) }
     ensures looks { looks.new ≤ looks.old + grid_scan (drop i (block_of view.now)) }
+    ensures low { IfOk result (λ _. looks.old + grid_size (drop i (block_of view.now)) ≤ looks.new) }
 {
     prove!(i < view.len());
     let drawn = drawn_lines(alloc, view, i, looks)?;

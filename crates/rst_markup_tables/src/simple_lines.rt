@@ -58,6 +58,7 @@ pub(crate) fn border_fault(
     ensures fault { result ≡ spec.border_fault (drop i (block_of view.now)) bottom }
     ensures looks { looks.new ≤ looks.old + 2 }
     ensures none { IfNone bottom (looks.new ≤ looks.old) }
+    ensures low { looks.old ≤ looks.new }
 {
     let Some(k) = bottom else {
         return Some(TableDetail::BottomMissing);
@@ -82,6 +83,8 @@ pub(crate) fn read_lines(
     requires few { looks.old < 2 ^ 120 + 2 ^ 69 }
     ensures lines { IfOk result (λ lines. lines.items ≡ take (to - from) (drop from (rows_of (block_of view.now)))) }
     ensures looks { looks.new + from ≤ looks.old + to }
+    ensures low { looks.old ≤ looks.new }
+    ensures each { IfOk result (λ _. looks.new + from ≡ looks.old + to) }
 {
     let mut lines = Vec::new(alloc);
     for k in from..to {

@@ -64,7 +64,8 @@ fn simple_of(
 
 /// The simple table whose top border is the line at place `i` of a view: a table with its rows, or malformed with its
 /// first fault (Markup Specification, 'Simple Tables'). It ends where the row of simple tables says. It looks at most four
-/// times at each line of the table, and of those after it through the one that stops the scan for a border.
+/// times at each line of the table, and of those after it through the one that stops the scan for a border; and at least once at
+/// each line of the table below the first.
 ///
 /// The only error is want of memory, which leaves all but `looks` as it was.
 pub fn simple(
@@ -78,6 +79,7 @@ pub fn simple(
     ensures table { IfOk result (λ table. table ≡ spec.simple_table (block_of view.now) i) }
     ensures end { IfOk result (λ table. end_of table ≡ i + simple_size (drop i (block_of view.now))) }
     ensures looks { looks.new ≤ looks.old + 4 * simple_scan (drop i (block_of view.now)) }
+    ensures low { looks.old + simple_size (drop i (block_of view.now)) ≤ looks.new + 1 }
 {
     prove!(i < view.len());
     let line = view.number(i);

@@ -88,6 +88,7 @@ pub fn grid(
     ensures table { IfOk result (spec.IsGridTable (block_of view.now) i) }
     ensures end { IfOk result (λ table. end_of table ≡ i + grid_size (drop i (block_of view.now))) }
     ensures looks { looks.new ≤ looks.old + grid_scan (drop i (block_of view.now)) }
+    ensures low { IfOk result (λ _. looks.old + grid_size (drop i (block_of view.now)) ≤ looks.new) }
 {
     let found = grid_lines(alloc, view, i, looks)?;
     let table = grid_of(alloc, view.number(i), i, found)?;

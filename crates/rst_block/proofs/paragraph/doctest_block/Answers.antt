@@ -6,8 +6,9 @@ use Rattle.rst_markup_blocks.specs.declared.begun.Begun.TheVariants.{Doctest}
 use Rattle.rst_block.specs.Literals.{doctest_node}
 use Rattle.rst_block.proofs.Calls.{close_refuses, gives_keeps, gives_kept}
 use Rattle.rst_block.proofs.Changes.{moved_more, kept_closed, kept_more, kept_then}
-use Rattle.rst_block.proofs.LiteralLemmas.{doctest_end, doctest_is}
+use Rattle.rst_block.proofs.LiteralLemmas.{doctest_end, doctest_is, doctest_looks}
 use Rattle.rst_block.proofs.NextConstructs.{next_of, next_some, span_to, has_ended, next_refused, next_nodes}
+use Rattle.rst_block.proofs.PaidSteps.{paid_alone}
 use Rattle.rst_block.proofs.paragraph.doctest_block.Goals as goal
 
 pub returns-in_err-close-clause-read : goal.returns-in_err-close-clause-read
@@ -32,3 +33,15 @@ returns-clause-read c =
     let goes : c.go_to.new.self.at ≡ c.lines_end-end.result = c.go_to.ensures.there (omega (arith, stop, at, next_some found c.requires.inside)) in
     gives_keeps _ c.push.result _ _ c.push.ensures.more
     (λ _ h. next_nodes (c.in_ok-node.node ∷ []) found tt (has_ended B _ c.in_ok-close.ensures.closed c.requires.placed) (rw (node, stop) refl) (moved_more c.go_to.ensures.moved (goes ∙ stop) h))
+
+pub returns-clause-paid : goal.returns-clause-paid
+returns-clause-paid c =
+    let B : Block = block_of c.args.view.now in
+    let l = c.args.level.now in
+    let at : c.close.new.self.at ≡ l.at = c.close.ensures.at in
+    let stop : c.lines_end-end.result ≡ l.at + doctest_size (drop l.at B) = doctest_end B c.close.new.self.at l.at c.lines_end-end.result at c.lines_end-end.ensures.end in
+    let goes : c.go_to.new.self.at ≡ c.lines_end-end.result = c.go_to.ensures.there (omega (arith, stop, at, next_some (next_of Doctest l B c.requires.begun tt) c.requires.inside)) in
+    let looks = doctest_looks B c.close.new.self.at l.at c.lines_end-end.result _ _ _ _ _ at c.lines_end-end.ensures.end c.close.ensures.low c.close.ensures.run c.lines_end-end.ensures.looks c.lines_end-end.ensures.low c.in_ok-text.ensures.each in
+    gives_kept _ _ c.push.result c.push.ensures.more
+    (λ _ h. paid_alone 29 Doctest l c.close.new.self c.go_to.new.self c.push.new.self B _ _ (c.in_ok-node.node ∷ []) _ _ c.requires.begun tt refl refl
+    c.in_ok-close.ensures.closed c.go_to.ensures.moved (goes ∙ stop) h looks.0 looks.1)

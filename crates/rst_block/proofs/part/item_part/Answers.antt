@@ -1,7 +1,9 @@
-use Rattle.std.proofs.Common.{arith}
+use Rattle.std.proofs.Common.{ap, drop, arith}
+use Rattle.rst_text.specs.Block.{Block}
+use Rattle.rst_text.specs.Reach.{reach}
 use Rattle.rst_text.specs.Shown.{block_of}
 use Rattle.rst_block.proofs.Blocks.{item_block}
-use Rattle.rst_block.proofs.Looked.{reach_item}
+use Rattle.rst_block.proofs.Looked.{bare_item, reach_item}
 use Rattle.rst_block.proofs.part.item_part.Goals as goal
 
 pub returns-clause-block : goal.returns-clause-block
@@ -11,3 +13,16 @@ returns-clause-block c =
 pub returns-clause-looks : goal.returns-clause-looks
 returns-clause-looks c =
     omega (arith, c.item_end.ensures.looks, reach_item (block_of c.args.view.now) c.args.at c.args.marker c.requires.inside, c.requires.short)
+
+pub returns-then-marker-clause-reach : goal.returns-then-marker-clause-reach
+returns-then-marker-clause-reach c =
+    let X : Block = drop c.args.at (block_of c.args.view.now) in
+    omega (arith, ap (λ n. reach n X) (bare_item c.args.marker X c.if-marker.true), c.hanging.ensures.reach)
+
+pub returns-then-marker-clause-low : goal.returns-then-marker-clause-low
+returns-then-marker-clause-low c =
+    let X : Block = drop c.args.at (block_of c.args.view.now) in
+    omega (arith, bare_item c.args.marker X c.if-marker.true, c.hanging.ensures.low)
+
+pub returns-clause-reach : goal.returns-clause-reach
+returns-clause-reach c = omega (arith, c.item_end.ensures.looks)

@@ -5,13 +5,14 @@ use Rattle.rst_text.specs.Shown.{block_of}
 use Rattle.rst_markup_blocks.specs.Lines.{lines_while}
 use Rattle.rst_markup_blocks.specs.RowLaws.{while_le}
 use Rattle.rst_markup_blocks.specs.declared.lines.LineTest.TheVariants.{Filled}
-use Rattle.rst_block.proofs.AttributionsFound.{Unfound-start, Unfound-step, Unfound-found, Unfound-blank, Unfound-end}
+use Rattle.rst_block.proofs.AttributionsFound.{Unfound-start, Unfound-step, Unfound-found, Unfound-blank, Unfound-end, attribution_end}
 use Rattle.rst_block.proofs.quote.first_attribution.Goals as goal
 
 pub loop-end-init : goal.loop-end-init
 loop-end-init c = record {
   within = c.lines_end-end.ensures.within;
   looks = omega (arith, c.lines_end-end.ensures.few, c.lines_end-end.ensures.end);
+  low = omega (arith, c.lines_end-end.ensures.low);
   unfound = Unfound-start (block_of c.args.lines.now) c.lines_end-end.result c.lines_end-end.ensures.end;
 }
 
@@ -38,6 +39,7 @@ loop-end-preserved c =
     record {
       within = c.lines_end-end-in-None.ensures.within;
       looks = omega (arith, below, c.lines_end-place.ensures.end, c.lines_end-place.ensures.few, c.attribution_at.ensures.looks, c.lines_end-end-in-None.ensures.end, c.lines_end-end-in-None.ensures.few, c.loop-end.invariant.looks);
+      low = omega (arith, c.lines_end-place.ensures.low, c.attribution_at.ensures.low, c.lines_end-end-in-None.ensures.low, c.loop-end.invariant.low);
       unfound = Unfound-step B c.loop-end.end c.lines_end-place.result c.lines_end-end-in-None.result c.loop-end.invariant.unfound c.lines_end-place.ensures.end (omega arith) (length-drop (c.loop-end.end + 1) B)
           c.in-None.ensures.attribution c.lines_end-end-in-None.ensures.end;
     }
@@ -46,3 +48,7 @@ pub lines_end-end-requires-in-None-clause-few : goal.lines_end-end-requires-in-N
 lines_end-end-requires-in-None-clause-few c =
     let B : Block = block_of c.args.lines.now in
     omega (arith, c.requires.short, c.requires.few, c.lines_end-place.ensures.end, c.lines_end-place.ensures.few, c.lines_end-place.ensures.within, c.attribution_at.ensures.looks, c.loop-end.invariant.within, c.loop-end.invariant.looks, while_le Filled (drop 1 (drop c.lines_end-place.result B)), length-drop 1 (drop c.lines_end-place.result B), length-drop c.lines_end-place.result B)
+
+pub returns-in-Some-clause-through : goal.returns-in-Some-clause-through
+returns-in-Some-clause-through c =
+    omega (arith, c.lines_end-place.ensures.end, c.lines_end-place.ensures.few, c.attribution_at.ensures.looks, c.loop-end.invariant.looks, attribution_end c.lines_end-place.result (drop c.lines_end-place.result (block_of c.args.lines.now)) c.in-Some.found c.in-Some.ensures.attribution)

@@ -6,7 +6,8 @@ use Rattle.rst_block.proofs.quote.first_attribution.Given as goal
 abbrev pub invariant-loop-end : goal.invariant-loop-end
 invariant-loop-end l = record {
   within : l.end ≤ length (block_of l.fn.lines);
-  looks : l.looks ≤ l.fn.looks + 5 * l.end + 5;
+  looks : l.looks ≤ l.fn.looks + 5 * l.end + 1;
+  low : l.fn.looks ≤ l.looks;
   unfound : Unfound (block_of l.fn.lines) l.end;
 }
 

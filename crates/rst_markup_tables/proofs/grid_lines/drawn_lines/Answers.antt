@@ -77,3 +77,14 @@ returns-clause-looks c =
     let X : Block = drop c.args.i B in
     let over = scan-over X (c.loop-k.k - c.args.i) (omega (arith, c.loop-k.invariant.among)) (omega (arith, length-drop c.args.i B)) in
     omega (arith, over, c.loop-k.invariant.looks)
+
+pub returns-then-not-is_drawn-clause-low : goal.returns-then-not-is_drawn-clause-low
+returns-then-not-is_drawn-clause-low c =
+    let B : Block = block_of c.args.view.now in
+    let stop : is_drawn (front_text (drop c.loop-k.k B)) ≡ false = sym (c.is_drawn.ensures ∙ ap is_drawn c.line-text.ensures.text) ∙ c.if-not-is_drawn.true in
+    omega (arith, (while_stop c.loop-k.k Drawn B (omega arith) stop).0, c.loop-k.invariant.among, c.loop-k.invariant.looks, c.line-text.ensures.looks)
+
+pub returns-clause-low : goal.returns-clause-low
+returns-clause-low c =
+    let B : Block = block_of c.args.view.now in
+    omega (arith, while_end c.loop-k.k Drawn B (omega arith), c.loop-k.invariant.among, c.loop-k.invariant.looks)

@@ -5,6 +5,7 @@ use Rattle.rst_text.specs.Shown.{block_of}
 use Rattle.rst_markup_blocks.specs.declared.lines.LineTest.TheVariants.{Drawn}
 use Rattle.rst_markup_blocks.specs.Lines.{lines_while}
 use Rattle.rst_markup_blocks.specs.RowLaws.{while_le}
+use Rattle.rst_markup_blocks.specs.TableLaws.{grid_size_le}
 use Rattle.rst_markup_blocks.proofs.TableLemmas.{grid_bottom-below}
 use Rattle.rst_markup_tables.specs.Places.{Grid}
 use Rattle.rst_markup_tables.proofs.GridLemmas.{table_rows-are}
@@ -27,3 +28,9 @@ pub returns-clause-lines : goal.returns-clause-lines
 returns-clause-lines c =
     let X : Block = drop c.args.i (block_of c.args.view.now) in
     c.truncate.ensures.items ∙ table_rows-are X c.in_ok-drawn.drawn.lines.items (Some c.in-Some.k) c.in_ok-drawn.ensures.lines (sym c.in-Some.is ∙ c.in_ok-drawn.ensures.bottom)
+
+pub returns-in_default-clause-low : goal.returns-in_default-clause-low
+returns-in_default-clause-low c = omega (arith, grid_size_le (drop c.args.i (block_of c.args.view.now)), c.in_ok-drawn.ensures.low)
+
+pub returns-clause-low : goal.returns-clause-low
+returns-clause-low c = omega (arith, grid_size_le (drop c.args.i (block_of c.args.view.now)), c.in_ok-drawn.ensures.low)

@@ -1,0 +1,40 @@
+-- What whole texts take of looks.
+use Rattle.std.proofs.Common.{◌≡◌, ℕ, zero, suc, ◌-◌, Bool, true, false, [], ◌∷◌, length, arith, refl}
+use Rattle.std.specs.Prelude.{◌==◌}
+use Rattle.std.proofs.lemmas.Bool.{and_parts}
+use Rattle.rst_settings.specs.Profile.{profile_of}
+use Rattle.rst_settings.specs.declared.Settings.{Settings}
+use Rattle.rst_text.specs.Block.{Block}
+use Rattle.rst_text.specs.Lines.{ends_white, is_line_text, are_lines}
+use Rattle.rst_text.proofs.LineTexts.{is_line_text-parts}
+use Rattle.rst_markup_blocks.specs.Partition.{spans_from}
+use Rattle.rst_block.specs.Budget.{sum_of, total}
+use Rattle.rst_block.specs.BudgetLaws.{is_trimmed}
+use Rattle.rst_block.specs.Ledger.{total_at}
+use Rattle.rst_block.specs.LedgerLaws.{IsBounded}
+use Rattle.rst_block.specs.Meanings.{deepest}
+use Rattle.rst_block.proofs.BudgetLemmas.{high, low}
+use Rattle.rst_block.proofs.CellFacts.{cells_trimmed}
+use Rattle.rst_block.proofs.OpenedFacts.{blocks_inside}
+
+lines_trimmed : (B : Block) → are_lines B ≡ true → is_trimmed B ≡ true
+lines_trimmed [] h = refl
+lines_trimmed (l ∷ ls) h =
+    let p = and_parts (is_line_text l.text) (are_lines ls) h in
+    let white : ends_white l.text ≡ false = (is_line_text-parts l.text p.0).1 in
+    rw (white, lines_trimmed ls p.1) refl
+
+none : (code : Bool) (levels : ℕ) (titles : Bool) → total code levels titles [] ≡ 0
+unfolding total sum_of spans_from
+none code zero titles = refl
+none code (suc levels) titles = omega arith
+
+pub empty_text : (depth : ℕ) → total_at depth [] ≡ 0
+empty_text depth = none true (suc deepest - depth) (depth == 0)
+
+pub last_text : (B : Block) → total_at (suc deepest) B ≡ length B
+unfolding total
+last_text B = refl
+
+pub bounded : (settings : Settings) (B : Block) → are_lines B ≡ true → IsBounded (profile_of settings) B
+bounded settings B h = record { budget = high blocks_inside cells_trimmed true 251 true B (lines_trimmed B h); floor = low true 251 true B }
