@@ -115,10 +115,10 @@ after_construct titles B i text =
     let d : drop (construct_size titles (drop i B)) (drop i B) ≡ drop (construct_end titles B i) B = drop-drop (construct_size titles (drop i B)) i B in
     omega (arith, paid titles (drop i B) text, ap unpaid d)
 
-pub construct : (old new : OpenBlock) (B : Block) (s : Step) (before after : ℕ) → old.at < length B → IsTextAt B old.at → IsPaid 32 old new B s before after
+paid_construct : (old new : OpenBlock) (B : Block) (s : Step) (before after : ℕ) → old.at < length B → IsTextAt B old.at → IsPaid 32 old new B s before after → before + construct_size (old.depth == 0) (drop old.at B) ≤ after
     → Takes (most_left old B Next) (least_left old B Next) before (most_left new B s) (least_left new B s) after
 unfolding sum_of
-construct old new B s before after inside text h = by s h.goes h.place h.blocks h.cells h.most
+paid_construct old new B s before after inside text h least = by s h.goes h.place h.blocks h.cells h.most
   where
     D : ℕ
     D = old.depth
@@ -143,7 +143,7 @@ construct old new B s before after inside text h = by s h.goes h.place h.blocks 
         let inner = past_construct D B old.at text in
         record {
           no_more = omega (arith, m, b, c, inner, few, after_construct (D == 0) B old.at text);
-          no_less = omega (arith, l, b, c, inner, h.least, ends.0, ends.1);
+          no_less = omega (arith, l, b, c, inner, least, ends.0, ends.1);
         }
 
     same : (t : Step) → GoesOn t → place_after new t ≡ j → totals D (next_blocks B t) ≡ opened → totals D (next_cells t) ≡ cells → after + end_looks new t ≤ before + run_looks old.run + 32 * reach_at (D == 0) (drop old.at B)
@@ -180,10 +180,11 @@ reach_some titles X h = by (kind_at X) h
     by Adornment h = omega (arith, h)
     by Text h = omega (arith, h)
 
-pub started : (old new : OpenBlock) (B : Block) (s : Step) (before mid after : ℕ) → old.at < length B → before ≤ mid → mid ≤ before + 3 → IsPaid 29 old new B s mid after → IsPaid 32 old new B s before after
-started old new B s before mid after inside some few h =
+pub construct : (old new : OpenBlock) (B : Block) (s : Step) (before mid after : ℕ) → old.at < length B → IsTextAt B old.at → before + 1 ≤ mid → mid ≤ before + 3 → IsPaid 29 old new B s mid after
+    → Takes (most_left old B Next) (least_left old B Next) before (most_left new B s) (least_left new B s) after
+construct old new B s before mid after inside text some few h =
     let reach : 1 ≤ reach_at (old.depth == 0) (drop old.at B) = reach_some (old.depth == 0) (drop old.at B) (omega (arith, (end_inside (old.depth == 0) B old.at inside).0)) in
-    record {
+    let all : IsPaid 32 old new B s before after = record {
       goes = h.goes;
       depth = h.depth;
       place = h.place;
@@ -191,7 +192,8 @@ started old new B s before mid after inside some few h =
       cells = h.cells;
       most = omega (arith, h.most, few, reach);
       least = omega (arith, h.least, some);
-    }
+    } in
+    paid_construct old new B s before after inside text all (omega (arith, h.least, some))
 
 -- ---- blocks that wait
 

@@ -26,7 +26,7 @@ use Rattle.rst_block.proofs.NextConstructs.{IsFilled, next_of}
 -- a construct with this many lines
 pub paid_next : (each : ℕ) (l new : OpenBlock) (B : Block) (what : Construct) (lines : ℕ) (s : Step) (before after : ℕ) → IsNextConstruct l B what lines → GoesOn s → new.depth ≡ l.depth → place_after new s ≡ l.at + lines
     → totals l.depth (next_blocks B s) ≡ totals l.depth (opened_by what (unread_at l.depth) B l.at (drop l.at B)) → totals l.depth (next_cells s) ≡ totals l.depth (cells_by what B l.at)
-    → after + end_looks new s ≤ before + run_looks l.run + each * reach_at (l.depth == 0) (drop l.at B) → before + lines ≤ after → IsPaid each l new B s before after
+    → after + end_looks new s ≤ before + run_looks l.run + each * reach_at (l.depth == 0) (drop l.at B) → before + lines ≤ after + 1 → IsPaid each l new B s before after
 paid_next each l new B what lines s before after h goes depth place blocks cells most least = record {
   goes = goes;
   depth = depth;
@@ -46,7 +46,7 @@ pub paid_begun : (each : ℕ) (begun : Begun) (l new : OpenBlock) (B : Block) (s
     → place_after new s ≡ l.at + row_size (kind_in begun) (l.depth == 0) (drop l.at B)
     → totals l.depth (next_blocks B s) ≡ totals l.depth (opened_by (construct_with begun (l.depth == 0) (drop l.at B)) (unread_at l.depth) B l.at (drop l.at B))
     → totals l.depth (next_cells s) ≡ totals l.depth (cells_by (construct_with begun (l.depth == 0) (drop l.at B)) B l.at)
-    → after + end_looks new s ≤ before + run_looks l.run + each * row_reach (kind_in begun) (l.depth == 0) (drop l.at B) → before + row_size (kind_in begun) (l.depth == 0) (drop l.at B) ≤ after
+    → after + end_looks new s ≤ before + run_looks l.run + each * row_reach (kind_in begun) (l.depth == 0) (drop l.at B) → before + row_size (kind_in begun) (l.depth == 0) (drop l.at B) ≤ after + 1
     → IsPaid each l new B s before after
 paid_begun each begun l new B s before after h f goes depth place blocks cells most least =
     let X : Block = drop l.at B in
@@ -66,7 +66,7 @@ ended_looks (ExplicitRun end) h = cc
 pub paid_alone : (each : ℕ) (begun : Begun) (l closed gone new : OpenBlock) (B : Block) (read : Result (List Item × ℕ) ℕ) (m : ℕ) (more : List Node) (before after : ℕ) → IsBegun (drop l.at B) begun → IsFilled begun
     → opened_by (construct_with begun (l.depth == 0) (drop l.at B)) (unread_at l.depth) B l.at (drop l.at B) ≡ [] → cells_by (construct_with begun (l.depth == 0) (drop l.at B)) B l.at ≡ []
     → IsClosed read l closed m no_run → IsMoved closed gone → gone.at ≡ l.at + row_size (kind_in begun) (l.depth == 0) (drop l.at B) → HasMoreAt gone new more gone.at
-    → after ≤ before + run_looks l.run + each * row_reach (kind_in begun) (l.depth == 0) (drop l.at B) → before + row_size (kind_in begun) (l.depth == 0) (drop l.at B) ≤ after
+    → after ≤ before + run_looks l.run + each * row_reach (kind_in begun) (l.depth == 0) (drop l.at B) → before + row_size (kind_in begun) (l.depth == 0) (drop l.at B) ≤ after + 1
     → IsPaid each l new B Next before after
 paid_alone each begun l closed gone new B read m more before after h f none empty cl g at k most least =
     let ended : run_looks new.run ≡ 0 = ap run_looks (k.run ∙ g.run) ∙ ended_looks closed.run cl.run in

@@ -1,9 +1,11 @@
 -- How many looks at lines a reading may still take, and has to take at least, by the state of the machine. No rule of markup: it bounds the time.
 use Rattle.std.specs.Prelude.{◌≡◌, ℕ, suc, ◌+◌, ◌-◌, ◌*◌, ◌≤◌, ◌==◌, true, false, List, [], ◌∷◌, ◌++◌, length, drop, Option, None, Some}
 use Rattle.rst_text.specs.Block.{Block}
-use Rattle.rst_text.specs.Shown.{placement_block}
+use Rattle.rst_text.specs.Shown.{block_of, placement_block}
 use Rattle.rst_markup_blocks.specs.Partition.{construct_size, construct_end}
 use Rattle.rst_markup_blocks.specs.declared.part.Part.{Part}
+use Rattle.rst_markup_directives.specs.declared.argument.Argument.{Argument}
+use Rattle.rst_markup_directives.specs.declared.argument.Argument.TheVariants.{Title}
 use Rattle.rst_markup_tables.specs.Ends.{end_of}
 use Rattle.rst_block.specs.Budget.{unread, sum_of, total}
 use Rattle.rst_block.specs.Inside.{quoted_blocks, opened_of, cells_of, cells_with, inside_from, cells_from}
@@ -12,6 +14,8 @@ use Rattle.rst_block.specs.Reaches.{unpaid, reach_at}
 use Rattle.rst_block.specs.Rest.{found_in}
 use Rattle.rst_block.specs.Texts.{lines_in}
 use Rattle.rst_block.specs.Within.{Within}
+use Rattle.rst_block.specs.declared.frame.Ended.{Ended}
+use Rattle.rst_block.specs.declared.frame.Ended.TheVariants.{Waiting, GoesOn as EndedGoesOn}
 use Rattle.rst_block.specs.declared.frame.Frame.{Frame}
 use Rattle.rst_block.specs.declared.open_block.OpenBlock.{OpenBlock}
 use Rattle.rst_block.specs.declared.resume.Waits.{Waits}
@@ -19,7 +23,7 @@ use Rattle.rst_block.specs.declared.resume.Waits.TheVariants.{Quote}
 use Rattle.rst_block.specs.declared.run.Run.{Run}
 use Rattle.rst_block.specs.declared.run.Run.TheVariants.{None as NoRun}
 use Rattle.rst_block.specs.declared.step.Step.{Step}
-use Rattle.rst_block.specs.declared.step.Step.TheVariants.{Open, Cells, Done}
+use Rattle.rst_block.specs.declared.step.Step.TheVariants.{Next, Open, Cells, Done}
 
 -- ---- blocks
 
@@ -130,6 +134,25 @@ abbrev pub least_left : OpenBlock → Block → Step → ℕ
 least_left l B Done = 0
 least_left l B s = totals l.depth (next_blocks B s) + totals l.depth (next_cells s) + least_from l.depth B (place_after l s)
 
+-- ---- what follows the end of a block inside
+
+-- no more looks than this are taken in the block that waited, and in the part of it that comes next
+abbrev pub ended_most : Block → OpenBlock → Ended → ℕ
+ended_most S l (Waiting f part) = most_after f.level (placement_block S f.placement) f.waits f.second + most_left l (block_of part) Next
+ended_most S l (EndedGoesOn view s) = most_left l (block_of view) s
+
+-- no fewer looks than this
+abbrev pub ended_least : Block → OpenBlock → Ended → ℕ
+ended_least S l (Waiting f part) = least_after f.level (placement_block S f.placement) f.waits f.second + least_left l (block_of part) Next
+ended_least S l (EndedGoesOn view s) = least_left l (block_of view) s
+
+-- ---- the argument of a directive
+
+-- how many lines a title has; no other argument is read by its lines
+abbrev pub argument_lines : Argument → ℕ
+argument_lines (Title part) = part.to - part.from
+argument_lines argument = 0
+
 -- ---- what a call takes
 
 -- a block goes on
@@ -137,8 +160,9 @@ abbrev pub GoesOn : Step → Type 0
 GoesOn Done = ⊥
 GoesOn s = Unit {0}
 
--- A construct was read, with so many looks before and after: what comes next is what the construct opens, and then the block goes on after the
--- construct. It took a look at least for each of its lines, and no more than this many for each line of its reach.
+-- A construct was read, with so many looks before and after, those apart by which its kind was found: what comes next is what the construct opens, and
+-- then the block goes on after the construct. It took no more looks than this many for each line of its reach, and at least one for each of its lines
+-- but one, which was looked at before.
 pub record IsPaid (each : ℕ) (old new : OpenBlock) (B : Block) (s : Step) (before after : ℕ) : Type 0 where
   pub goes : GoesOn s
   pub depth : new.depth ≡ old.depth
@@ -146,26 +170,35 @@ pub record IsPaid (each : ℕ) (old new : OpenBlock) (B : Block) (s : Step) (bef
   pub blocks : totals old.depth (next_blocks B s) ≡ totals old.depth (opened_of (unread_at old.depth) B (found_in (old.depth == 0) B old.at))
   pub cells : totals old.depth (next_cells s) ≡ totals old.depth (cells_with B (found_in (old.depth == 0) B old.at))
   pub most : after + end_looks new s ≤ before + run_looks old.run + each * reach_at (old.depth == 0) (drop old.at B)
-  pub least : before + construct_size (old.depth == 0) (drop old.at B) ≤ after
+  pub least : before + construct_size (old.depth == 0) (drop old.at B) ≤ after + 1
+
+-- Part of a construct was read, with so many looks before and after: these blocks come next, and then the block goes on at a place, with a run that is
+-- open as before. It took no more looks than this many.
+pub record Opens (few : ℕ) (old new : OpenBlock) (B : Block) (inner : List Block) (end : ℕ) (s : Step) (before after : ℕ) : Type 0 where
+  pub goes : GoesOn s
+  pub depth : new.depth ≡ old.depth
+  pub run : run_looks new.run ≡ run_looks old.run
+  pub place : place_after new s ≡ end
+  pub blocks : totals old.depth (next_blocks B s) ≡ totals old.depth inner
+  pub cells : next_cells s ≡ []
+  pub most : after + end_looks new s ≤ before + run_looks old.run + few
+  pub least : before ≤ after
 
 -- a call took looks: what may still be taken is so much less, and what has to be taken no less than it leaves
 pub record Takes (most least before : ℕ) (most_then least_then after : ℕ) : Type 0 where
   pub no_more : after + most_then ≤ before + most
   pub no_less : before + least ≤ after + least_then
 
+-- a call took one look to 128 for each of this many lines
+pub record TakesFor (lines before after : ℕ) : Type 0 where
+  pub no_more : after ≤ before + 128 * lines
+  pub no_less : before + lines ≤ after
+
 -- a block waits for no further quotes
 abbrev pub WaitsForOne : Waits → Type 0
 WaitsForOne (Quote line attribution (Some p) end) = ⊥
 WaitsForOne w = Unit {0}
 
--- The quotes of a part were begun, with so many looks before and after: the first one comes next, and the others are still to be read. It took 16 looks
--- at most for each of their lines.
-pub record AreQuotesPaid (old new : OpenBlock) (B : Block) (p : Part) (end : ℕ) (s : Step) (before after : ℕ) : Type 0 where
-  pub goes : GoesOn s
-  pub depth : new.depth ≡ old.depth
-  pub run : new.run ≡ old.run
-  pub place : place_after new s ≡ end
-  pub blocks : totals old.depth (next_blocks B s) ≡ totals old.depth (quoted_blocks (lines_in B p))
-  pub cells : next_cells s ≡ []
-  pub most : after + end_looks new s ≤ before + run_looks old.run + 1 + 16 * (p.to - p.from)
-  pub least : before ≤ after
+-- The quotes of a part were begun: the first one comes next, and the others are still to be read. It took 16 looks at most for each of their lines.
+abbrev pub AreQuotesPaid : OpenBlock → OpenBlock → Block → Part → ℕ → Step → ℕ → ℕ → Type 0
+AreQuotesPaid old new B p end s before after = Opens (1 + 16 * (p.to - p.from)) old new B (quoted_blocks (lines_in B p)) end s before after

@@ -53,14 +53,10 @@ BlankLineIsPaid = (old new : OpenBlock) (B : Block) (before after : ℕ) → old
     → after ≤ before + 32 → before + 1 ≤ after
     → Takes (most_left old B Next) (least_left old B Next) before (most_left new B Next) (least_left new B Next) after
 
--- a construct
+-- a construct, after the looks by which its kind is found: one at least, and no more than three
 abbrev pub ConstructIsPaid : Type 0
-ConstructIsPaid = (old new : OpenBlock) (B : Block) (s : Step) (before after : ℕ) → old.at < length B → IsTextAt B old.at → IsPaid 32 old new B s before after
+ConstructIsPaid = (old new : OpenBlock) (B : Block) (s : Step) (before mid after : ℕ) → old.at < length B → IsTextAt B old.at → before + 1 ≤ mid → mid ≤ before + 3 → IsPaid 29 old new B s mid after
     → Takes (most_left old B Next) (least_left old B Next) before (most_left new B s) (least_left new B s) after
-
--- the looks before a construct is read, three at most, by which its kind is found
-abbrev pub StartIsPaid : Type 0
-StartIsPaid = (old new : OpenBlock) (B : Block) (s : Step) (before mid after : ℕ) → old.at < length B → before ≤ mid → mid ≤ before + 3 → IsPaid 29 old new B s mid after → IsPaid 32 old new B s before after
 
 -- ---- blocks that wait
 

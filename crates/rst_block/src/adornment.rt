@@ -1,9 +1,8 @@
 //! Lines of one punctuation character: transitions, titles with an overline, and what is neither (Markup
 //! Specification, 'Sections', 'Transitions').
-ghost use Rattle.std.specs.Prelude.{◌≡◌, ◌+◌, ◌-◌, ◌*◌, ◌^◌, ◌<◌, ◌≤◌, ◌∷◌, [], codes, length, drop, Some, IfOk, IfSome};
+ghost use Rattle.std.specs.Prelude.{◌≡◌, ◌+◌, ◌-◌, ◌*◌, ◌^◌, ◌<◌, ◌≤◌, ◌∷◌, [], length, drop, Some, IfOk, IfSome};
 ghost use Rattle.rst_text.specs.Block.{first_number};
 ghost use Rattle.rst_text.specs.Shown.{block_of};
-ghost use Rattle.rst_tree.specs.Faults.{Gives};
 ghost use Rattle.rst_tree.specs.declared.note.Level.TheVariants.{Info};
 ghost use Rattle.rst_markup_blocks.specs.Parts.{IsBlock, IsCall};
 ghost use Rattle.rst_markup_blocks.specs.Sizes.{fixed_size};
@@ -15,10 +14,11 @@ ghost use Rattle.rst_block.specs.Meanings.{Keeps, comes, reads};
 ghost use Rattle.rst_block.specs.NextLine.{IsText, IsNextConstruct, IsWrong, IsMessageOn};
 ghost use Rattle.rst_block.specs.OpenBlocks.{IsKept, IsPlaced};
 ghost use Rattle.rst_block.specs.Texts.{said};
-ghost use Rattle.rst_block.specs.Titles.{short_warning};
+ghost use Rattle.rst_block.specs.Ledger.{IsPaid};
+ghost use Rattle.rst_block.specs.declared.step.Step.TheVariants.{Next};
 
 use super::fault::BlockFault;
-use super::heading::heading_of;
+use super::heading::{heading_of, short_warning};
 use super::open_block::OpenBlock;
 use super::step::Step;
 use super::text::text_line;
@@ -28,7 +28,7 @@ use rst_block_sections::Style;
 use rst_markup_blocks::{Adorned, adorned_at, below_text, text_at};
 use rst_markup_lines::Adornment;
 use rst_text::{View, indentation, skip};
-use rst_tree::{Level, Node, Tag, TreeFault};
+use rst_tree::{Level, Node, Tag};
 use std::alloc::Global;
 
 /// A line of one punctuation character.
@@ -47,6 +47,7 @@ pub(crate) fn adornment(
     ensures step { IfOk result (λ s. spec.IsStep (block_of view.now) level.old.at level.new.at s) }
     ensures kept { IfOk result (λ _. IsKept level.old level.new) }
     ensures read { Keeps result (λ s. comes level.new (block_of view.now) s pass.new.numbers) (reads level.old (block_of view.now) pass.old.numbers) }
+    ensures paid { IfOk result (λ s. IsPaid 29 level.old level.new (block_of view.now) s pass.old.looks pass.new.looks) }
     ensures looks { IfOk result (λ _. pass.new.looks ≤ pass.old.looks + 2 ^ 79) }
 {
     let at = level.at;
@@ -127,6 +128,7 @@ fn transition(
     ensures later { IfOk result (λ _. level.old.at < level.new.at) }
     ensures kept { IfOk result (λ _. IsKept level.old level.new) }
     ensures read { Keeps result (λ _. reads level.new (block_of view.now) pass.new.numbers) (reads level.old (block_of view.now) pass.old.numbers) }
+    ensures paid { IfOk result (λ _. IsPaid 27 level.old level.new (block_of view.now) Next pass.old.looks pass.new.looks) }
     ensures looks { IfOk result (λ _. pass.new.looks ≤ pass.old.looks + 2 ^ 78) }
 {
     level.close(alloc, view, pass)?;
@@ -152,6 +154,7 @@ fn short(
     ensures step { IfOk result (λ s. spec.IsStep (block_of view.now) level.old.at level.new.at s) }
     ensures kept { IfOk result (λ _. IsKept level.old level.new) }
     ensures read { Keeps result (λ s. comes level.new (block_of view.now) s pass.new.numbers) (reads level.old (block_of view.now) pass.old.numbers) }
+    ensures paid { IfOk result (λ s. IsPaid 27 level.old level.new (block_of view.now) s pass.old.looks pass.new.looks) }
     ensures looks { IfOk result (λ _. pass.new.looks ≤ pass.old.looks + 2 ^ 78) }
 {
     let info = message(alloc, Level::Info, number_at(view, level.at), text, None)?;
@@ -174,6 +177,7 @@ fn wrong(
     ensures later { IfOk result (λ _. level.old.at < level.new.at) }
     ensures kept { IfOk result (λ _. IsKept level.old level.new) }
     ensures read { Keeps result (λ _. reads level.new (block_of view.now) pass.new.numbers) (reads level.old (block_of view.now) pass.old.numbers) }
+    ensures paid { IfOk result (λ _. IsPaid 27 level.old level.new (block_of view.now) Next pass.old.looks pass.new.looks) }
     ensures looks { IfOk result (λ _. pass.new.looks ≤ pass.old.looks + 2 ^ 78) }
 {
     level.close(alloc, view, pass)?;
@@ -203,13 +207,20 @@ fn overlined(
     ensures later { IfOk result (λ _. level.old.at < level.new.at) }
     ensures kept { IfOk result (λ _. IsKept level.old level.new) }
     ensures read { Keeps result (λ _. reads level.new (block_of view.now) pass.new.numbers) (reads level.old (block_of view.now) pass.old.numbers) }
+    ensures paid { IfOk result (λ _. IsPaid 27 level.old level.new (block_of view.now) Next pass.old.looks pass.new.looks) }
     ensures looks { IfOk result (λ _. pass.new.looks ≤ pass.old.looks + 2 ^ 78) }
 {
     level.close(alloc, view, pass)?;
     let at = level.at;
     let end = at.saturating_add(3);
     let lines = source(alloc, view, at, end, &mut pass.looks)?;
-    let warning = overline_warning(alloc, short, number_at(view, at), lines.as_str())?;
+    let warning = short_warning(
+        alloc,
+        short,
+        number_at(view, at),
+        "Title overline too short.",
+        lines.as_str(),
+    )?;
     let line = number_at(view, at.saturating_add(1));
     let text = text_at(view, at.saturating_add(1), &mut pass.looks);
     let style = Style {
@@ -220,20 +231,4 @@ fn overlined(
     let heading = heading_of(alloc, style, text, line, warning, lines, pass)?;
     level.go_to(end);
     level.push_heading(heading)
-}
-
-/// The message on an overline that is shorter than its title.
-fn overline_warning(
-    alloc: Global,
-    short: bool,
-    line: usize,
-    lines: &str,
-) -> Result<Option<Node>, TreeFault>
-    ensures { Gives (λ warning. warning ≡ short_warning short line (codes "Title overline too short.") lines.now) result }
-{
-    if !short {
-        return Ok(None);
-    }
-    let text = "Title overline too short.";
-    Ok(Some(message(alloc, Level::Warning, line, text, Some(lines))?))
 }

@@ -10,6 +10,7 @@ ghost use Rattle.rst_markup_blocks.specs.declared.form.TextForm.TheVariants.{Def
 ghost use Rattle.rst_block.specs.Meanings.{Keeps, comes, open_of, reads};
 ghost use Rattle.rst_block.specs.NextLine.{IsText};
 ghost use Rattle.rst_block.specs.OpenBlocks.{Gives, HasRun, IsKept, IsPlaced, with_infos};
+ghost use Rattle.rst_block.specs.Ledger.{IsPaid};
 
 use super::fault::BlockFault;
 use super::field::join_list;
@@ -42,6 +43,7 @@ pub(crate) fn definition(
     ensures step { IfOk result (λ s. spec.IsStep (block_of view.now) level.old.at level.new.at s) }
     ensures kept { IfOk result (λ _. IsKept level.old level.new) }
     ensures read { Keeps result (λ s. comes level.new (block_of view.now) s pass.new.numbers) (reads level.old (block_of view.now) pass.old.numbers) }
+    ensures paid { IfOk result (λ s. IsPaid 25 level.old level.new (block_of view.now) s pass.old.looks pass.new.looks) }
     ensures looks { IfOk result (λ _. pass.new.looks ≤ pass.old.looks + 2 ^ 76) }
 {
     let at = level.at;

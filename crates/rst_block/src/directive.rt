@@ -26,6 +26,8 @@ ghost use Rattle.rst_block.specs.OpenBlocks.{Gives, IsKept, IsMoved, IsPlaced};
 ghost use Rattle.rst_block.specs.Steps as spec;
 ghost use Rattle.rst_block.specs.Texts.{joined, lines_in, shown, source_of, texted};
 ghost use Rattle.rst_block.specs.declared.step.Step.TheVariants.{Open};
+ghost use Rattle.rst_block.specs.Ledger.{Opens, argument_lines, unread_at};
+ghost use Rattle.rst_block.specs.Inside.{content_blocks, directive_blocks, directive_content};
 
 use super::explicit::put;
 use super::fault::BlockFault;
@@ -123,9 +125,11 @@ pub(crate) fn directive_block(
     requires few { pass.old.looks < 2 ^ 119 + 2 ^ 113 }
     requires later { level.old.at < invocation.now.block.to }
     requires placed { IsPlaced level.old }
+    requires begins { level.old.at ≤ invocation.now.block.from }
     ensures step { IfOk result (λ s. spec.IsStep (block_of view.now) level.old.at level.new.at s) }
     ensures kept { IfOk result (λ _. IsKept level.old level.new) }
     ensures read { Keeps result (λ s. comes level.new (block_of view.now) s pass.new.numbers) (reads_with level.old (block_of view.now) (meaning.directive_nodes (within_at level.old.depth) (block_of view.now) (record { start = level.old.at; stop = invocation.now.block.to }) invocation.now) invocation.now.block.to pass.old.numbers) }
+    ensures paid { IfOk result (λ s. Opens (18 * (invocation.now.block.to - level.old.at)) level.old level.new (block_of view.now) (directive_blocks (meaning.called (unread_at level.old.depth) (block_of view.now) level.old.at invocation.now (place_in (level.old.depth == 0))) (block_of view.now)) invocation.now.block.to s pass.old.looks pass.new.looks) }
     ensures looks { IfOk result (λ _. pass.new.looks ≤ pass.old.looks + 2 ^ 77) }
 {
     let at = level.at;
@@ -200,12 +204,14 @@ pub(crate) fn wrong_directive(
     )?)
 }
 
+/// Whether a directive of this name holds program code.
 fn is_code(name: Name) -> bool
     ensures { result ≡ directives.is_code_name name }
 {
     matches!(name, Name::Code)
 }
 
+/// Whether a directive of this name is a figure.
 fn is_figure(name: Name) -> bool
     ensures { result ≡ is_figure name }
 {
@@ -230,6 +236,7 @@ fn directive_nodes(
     ensures step { IfOk result (λ s. spec.IsStep (block_of view.now) level.old.at level.new.at s) }
     ensures kept { IfOk result (λ _. IsKept level.old level.new) }
     ensures read { Keeps result (λ s. comes level.new (block_of view.now) s pass.new.numbers) (reads_with level.old (block_of view.now) (meaning.right_by (given.given_in found.now.argument) found.now.name (within_at level.old.depth) (block_of view.now) (first_number (drop level.old.at (block_of view.now))) (read_of found.now) (source_of (block_of view.now) (record { start = level.old.at; stop = found.now.end }))) found.now.end pass.old.numbers) }
+    ensures paid { IfOk result (λ s. Opens (argument_lines found.now.argument + (found.now.content.second.to - found.now.content.second.from) + (found.now.end - level.old.at)) level.old level.new (block_of view.now) (directive_content (given.given_in found.now.argument) found.now.name (block_of view.now) found.now.content) found.now.end s pass.old.looks pass.new.looks) }
     ensures looks { IfOk result (λ _. pass.new.looks ≤ pass.old.looks + 2 ^ 76) }
 {
     match &found.argument {
@@ -262,6 +269,7 @@ fn titled_block(
     ensures step { IfOk result (λ s. spec.IsStep (block_of view.now) level.old.at level.new.at s) }
     ensures kept { IfOk result (λ _. IsKept level.old level.new) }
     ensures read { Keeps result (λ s. comes level.new (block_of view.now) s pass.new.numbers) (reads_with level.old (block_of view.now) (meaning.titled_nodes (within_at level.old.depth) (block_of view.now) (first_number (drop level.old.at (block_of view.now))) (read_of found.now) (lines_in (block_of view.now) title)) found.now.end pass.old.numbers) }
+    ensures paid { IfOk result (λ s. Opens (title.to - title.from) level.old level.new (block_of view.now) (content_blocks (block_of view.now) found.now.content) found.now.end s pass.old.looks pass.new.looks) }
     ensures looks { IfOk result (λ _. pass.new.looks ≤ pass.old.looks + 2 ^ 75) }
 {
     let line = number_at(view, level.at);
@@ -286,6 +294,7 @@ fn plain_block(
     ensures step { IfOk result (λ s. spec.IsStep (block_of view.now) level.old.at level.new.at s) }
     ensures kept { IfOk result (λ _. IsKept level.old level.new) }
     ensures read { Keeps result (λ s. comes level.new (block_of view.now) s pass.new.numbers) (reads_with level.old (block_of view.now) (meaning.right_by given.nothing found.now.name (within_at level.old.depth) (block_of view.now) (first_number (drop level.old.at (block_of view.now))) (read_of found.now) (source_of (block_of view.now) (record { start = level.old.at; stop = found.now.end }))) found.now.end pass.old.numbers) }
+    ensures paid { IfOk result (λ s. Opens (found.now.content.second.to - found.now.content.second.from) level.old level.new (block_of view.now) (directive_content given.nothing found.now.name (block_of view.now) found.now.content) found.now.end s pass.old.looks pass.new.looks) }
     ensures looks { IfOk result (λ _. pass.new.looks ≤ pass.old.looks + 2 ^ 75) }
 {
     if is_code(found.name) {
@@ -314,6 +323,7 @@ fn image_block(
     ensures step { IfOk result (λ s. spec.IsStep (block_of view.now) level.old.at level.new.at s) }
     ensures kept { IfOk result (λ _. IsKept level.old level.new) }
     ensures read { Keeps result (λ s. comes level.new (block_of view.now) s pass.new.numbers) (reads_with level.old (block_of view.now) (meaning.right_by (given.uri (chars uri.now)) found.now.name (within_at level.old.depth) (block_of view.now) (first_number (drop level.old.at (block_of view.now))) (read_of found.now) (source_of (block_of view.now) (record { start = level.old.at; stop = found.now.end }))) found.now.end pass.old.numbers) }
+    ensures paid { IfOk result (λ s. Opens ((found.now.end - level.old.at)) level.old level.new (block_of view.now) (directive_content (given.uri (chars uri.now)) found.now.name (block_of view.now) found.now.content) found.now.end s pass.old.looks pass.new.looks) }
     ensures looks { IfOk result (λ _. pass.new.looks ≤ pass.old.looks + 2 ^ 75) }
 {
     if is_figure(found.name) {
@@ -330,6 +340,7 @@ fn opened(level: &mut OpenBlock, waits: Waits, found: &Found) -> Step
     ensures opened { result ≡ Open waits found.now.content.first (Some found.now.content.second) }
     ensures at { level.new.at ≡ found.now.end }
     ensures moved { IsMoved level.old level.new }
+    ensures paid { (B : Block) (before after : ℕ) → before ≤ after → Opens (after - before) level.old level.new B (content_blocks B found.now.content) found.now.end result before after }
 {
     level.go_to(found.end);
     Step::Open {
@@ -357,6 +368,7 @@ fn figure_block(
     ensures step { IfOk result (λ s. spec.IsStep (block_of view.now) level.old.at level.new.at s) }
     ensures kept { IfOk result (λ _. IsKept level.old level.new) }
     ensures read { Keeps result (λ s. comes level.new (block_of view.now) s pass.new.numbers) (reads_with level.old (block_of view.now) (meaning.figure_of (within_at level.old.depth) (block_of view.now) (first_number (drop level.old.at (block_of view.now))) (read_of found.now) uri.now (source_of (block_of view.now) (record { start = level.old.at; stop = found.now.end }))) found.now.end pass.old.numbers) }
+    ensures paid { IfOk result (λ s. Opens ((found.now.end - level.old.at)) level.old level.new (block_of view.now) (content_blocks (block_of view.now) found.now.content) found.now.end s pass.old.looks pass.new.looks) }
     ensures looks { IfOk result (λ _. pass.new.looks ≤ pass.old.looks + 2 ^ 74) }
 {
     let at = level.at;
@@ -392,6 +404,7 @@ fn code_nodes(
     ensures step { IfOk result (λ s. spec.IsStep (block_of view.now) level.old.at level.new.at s) }
     ensures kept { IfOk result (λ _. IsKept level.old level.new) }
     ensures read { Keeps result (λ s. comes level.new (block_of view.now) s pass.new.numbers) (reads_with level.old (block_of view.now) (just (meaning.code_nodes (block_of view.now) (first_number (drop level.old.at (block_of view.now))) (read_of found.now) (option_map (λ word. word.now) language.entry))) found.now.end pass.old.numbers) }
+    ensures paid { IfOk result (λ s. Opens (found.now.content.second.to - found.now.content.second.from) level.old level.new (block_of view.now) ([]) found.now.end s pass.old.looks pass.new.looks) }
     ensures looks { IfOk result (λ _. pass.new.looks ≤ pass.old.looks + 2 ^ 74) }
 {
     let line = number_at(view, level.at);

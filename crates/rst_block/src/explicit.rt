@@ -5,7 +5,7 @@ ghost use Rattle.rst_text.specs.Shown.{block_of};
 ghost use Rattle.rst_markup_blocks.specs.Parts.{IsBlock, IsCall};
 ghost use Rattle.rst_tree.specs.declared.note.Level.TheVariants.{Warning};
 ghost use Rattle.rst_tree.specs.declared.tag.Tag.TheVariants.{Comment as CommentTag};
-ghost use Rattle.rst_markup_blocks.specs.Explicit.{IsExplicitIn, explicit_end, is_explicit_kind};
+ghost use Rattle.rst_markup_blocks.specs.Explicit.{IsExplicitIn, explicit_end, explicit_of, is_explicit_kind};
 ghost use Rattle.rst_markup_blocks.specs.Kinds.{kind_of};
 ghost use Rattle.rst_block_nodes.specs.Elements.{citation_node, footnote_node, preserved_node};
 ghost use Rattle.rst_block_nodes.specs.Targets.{target_node};
@@ -19,6 +19,8 @@ ghost use Rattle.rst_block.specs.Steps as spec;
 ghost use Rattle.rst_block.specs.Texts.{excerpt, lines_in, said, spelled};
 ghost use Rattle.rst_block.specs.declared.resume.Waits.TheVariants.{Element};
 ghost use Rattle.rst_block.specs.declared.step.Step.TheVariants.{Open};
+ghost use Rattle.rst_block.specs.Ledger.{IsPaid, Opens, run_looks, unread_at};
+ghost use Rattle.rst_block.specs.Inside.{markup_blocks};
 
 use super::directive::directive_block;
 use super::fault::BlockFault;
@@ -52,6 +54,7 @@ pub(crate) fn explicit_markup(
     ensures step { IfOk result (λ s. spec.IsStep (block_of view.now) level.old.at level.new.at s) }
     ensures kept { IfOk result (λ _. IsKept level.old level.new) }
     ensures read { Keeps result (λ s. comes level.new (block_of view.now) s pass.new.numbers) (reads level.old (block_of view.now) pass.old.numbers) }
+    ensures paid { IfOk result (λ s. IsPaid 29 level.old level.new (block_of view.now) s pass.old.looks pass.new.looks) }
     ensures looks { IfOk result (λ _. pass.new.looks ≤ pass.old.looks + 2 ^ 79) }
 {
     let at = level.at;
@@ -82,6 +85,7 @@ fn begin_markup(
     ensures at { level.new.at ≡ level.old.at }
     ensures kept { IfOk result (λ _. IsKept level.old level.new) }
     ensures read { Keeps result (λ _. reads_with level.new (block_of view.now) (markup.markup_nodes (within_at level.new.depth) (block_of view.now) (record { start = level.old.at; stop = end })) end pass.new.numbers) (markup_reads level.old (block_of view.now) end pass.old.numbers) }
+    ensures run { IfOk result (λ _. pass.new.looks + run_looks level.new.run ≤ pass.old.looks + run_looks level.old.run + 1) }
     ensures looks { pass.new.looks ≤ pass.old.looks + 1 }
     ensures low { pass.old.looks ≤ pass.new.looks }
 {
@@ -110,9 +114,11 @@ fn markup_of(
     requires few { pass.old.looks < 2 ^ 119 + 2 ^ 112 }
     requires later { level.old.at < end }
     requires placed { IsPlaced level.old }
+    requires explicit { found ≡ explicit_of level.old.at (drop level.old.at (block_of view.now)) }
     ensures step { IfOk result (λ s. spec.IsStep (block_of view.now) level.old.at level.new.at s) }
     ensures kept { IfOk result (λ _. IsKept level.old level.new) }
     ensures read { Keeps result (λ s. comes level.new (block_of view.now) s pass.new.numbers) (reads_with level.old (block_of view.now) (markup.markup_by found (within_at level.old.depth) (block_of view.now) (record { start = level.old.at; stop = end }) (drop level.old.at (block_of view.now))) end pass.old.numbers) }
+    ensures paid { IfOk result (λ s. Opens (20 * (end - level.old.at)) level.old level.new (block_of view.now) (markup_blocks found (unread_at level.old.depth) (block_of view.now) level.old.at) end s pass.old.looks pass.new.looks) }
     ensures looks { IfOk result (λ _. pass.new.looks ≤ pass.old.looks + 2 ^ 78) }
 {
     match found {
@@ -148,6 +154,7 @@ fn footnote_block(
     ensures step { IfOk result (λ s. spec.IsStep (block_of view.now) level.old.at level.new.at s) }
     ensures kept { IfOk result (λ _. IsKept level.old level.new) }
     ensures read { Keeps result (λ s. comes level.new (block_of view.now) s pass.new.numbers) (reads_with level.old (block_of view.now) (markup.noted (within_at level.old.depth) (block_of view.now) (footnote_node (excerpt (front_text (drop level.old.at (block_of view.now))) label) (first_number (drop level.old.at (block_of view.now)))) body) body.to pass.old.numbers) }
+    ensures paid { IfOk result (λ s. Opens (1) level.old level.new (block_of view.now) (lines_in (block_of view.now) body ∷ []) body.to s pass.old.looks pass.new.looks) }
     ensures looks { IfOk result (λ _. pass.new.looks ≤ pass.old.looks + 2 ^ 70) }
 {
     let line = number_at(view, level.at);
@@ -174,6 +181,7 @@ fn citation_block(
     ensures step { IfOk result (λ s. spec.IsStep (block_of view.now) level.old.at level.new.at s) }
     ensures kept { IfOk result (λ _. IsKept level.old level.new) }
     ensures read { Keeps result (λ s. comes level.new (block_of view.now) s pass.new.numbers) (reads_with level.old (block_of view.now) (markup.noted (within_at level.old.depth) (block_of view.now) (citation_node (excerpt (front_text (drop level.old.at (block_of view.now))) label) (first_number (drop level.old.at (block_of view.now)))) body) body.to pass.old.numbers) }
+    ensures paid { IfOk result (λ s. Opens (1) level.old level.new (block_of view.now) (lines_in (block_of view.now) body ∷ []) body.to s pass.old.looks pass.new.looks) }
     ensures looks { IfOk result (λ _. pass.new.looks ≤ pass.old.looks + 2 ^ 70) }
 {
     let line = number_at(view, level.at);
@@ -200,6 +208,7 @@ fn target_block(
     ensures step { IfOk result (λ s. spec.IsStep (block_of view.now) level.old.at level.new.at s) }
     ensures kept { IfOk result (λ _. IsKept level.old level.new) }
     ensures read { Keeps result (λ s. comes level.new (block_of view.now) s pass.new.numbers) (reads_with level.old (block_of view.now) (just (target_node (option_map (excerpt (front_text (drop level.old.at (block_of view.now)))) name) (spelled (lines_in (block_of view.now) text)) (first_number (drop level.old.at (block_of view.now))) ∷ [])) text.to pass.old.numbers) }
+    ensures paid { IfOk result (λ s. Opens (1 + (text.to - text.from)) level.old level.new (block_of view.now) ([]) text.to s pass.old.looks pass.new.looks) }
     ensures looks { IfOk result (λ _. pass.new.looks ≤ pass.old.looks + 2 ^ 70) }
 {
     let lines = joined(alloc, &inside(view, text), &mut pass.looks)?;
@@ -250,6 +259,7 @@ fn comment(
     ensures step { IfOk result (λ s. spec.IsStep (block_of view.now) level.old.at level.new.at s) }
     ensures kept { IfOk result (λ _. IsKept level.old level.new) }
     ensures read { Keeps result (λ s. comes level.new (block_of view.now) s pass.new.numbers) (reads_with level.old (block_of view.now) (just (preserved_node CommentTag (first_number (drop level.old.at (block_of view.now))) (spelled (lines_in (block_of view.now) text)) ∷ markup.cause_notes cause (first_number (drop level.old.at (block_of view.now))))) text.to pass.old.numbers) }
+    ensures paid { IfOk result (λ s. Opens (text.to - text.from) level.old level.new (block_of view.now) ([]) text.to s pass.old.looks pass.new.looks) }
     ensures looks { IfOk result (λ _. pass.new.looks ≤ pass.old.looks + 2 ^ 70) }
 {
     let line = number_at(view, level.at);
@@ -274,6 +284,7 @@ fn empty_comment(
     ensures step { IfOk result (λ s. spec.IsStep (block_of view.now) level.old.at level.new.at s) }
     ensures kept { IfOk result (λ _. IsKept level.old level.new) }
     ensures read { Keeps result (λ s. comes level.new (block_of view.now) s pass.new.numbers) (reads_with level.old (block_of view.now) (just (preserved_node CommentTag (first_number (drop level.old.at (block_of view.now))) [] ∷ [])) end pass.old.numbers) }
+    ensures paid { IfOk result (λ s. Opens (0) level.old level.new (block_of view.now) ([]) end s pass.old.looks pass.new.looks) }
     ensures looks { pass.new.looks ≡ pass.old.looks }
 {
     let node = preserved(alloc, Tag::Comment, number_at(view, level.at), "")?;
@@ -303,6 +314,7 @@ fn noted(level: &mut OpenBlock, element: Node, body: Part) -> Step
     ensures opened { result ≡ Open (Element element) body None }
     ensures at { level.new.at ≡ body.to }
     ensures moved { blocks.IsMoved level.old level.new }
+    ensures paid { (B : Block) (looks : ℕ) → Opens 0 level.old level.new B (lines_in B body ∷ []) body.to result looks looks }
 {
     level.go_to(body.to);
     Step::Open {
@@ -319,6 +331,7 @@ pub(crate) fn put(level: &mut OpenBlock, node: Node, end: usize) -> Result<Step,
     ensures step { (B : Block) → IfOk result (λ s. spec.IsStep B level.old.at level.new.at s) }
     ensures kept { IfOk result (λ _. IsKept level.old level.new) }
     ensures read { (B : Block) (number : ℕ) → Keeps result (λ s. comes level.new B s number) (reads_with level.old B (just (node ∷ [])) end number) }
+    ensures paid { (B : Block) (before after : ℕ) → before ≤ after → IfOk result (λ s. Opens (after - before) level.old level.new B [] end s before after) }
 {
     level.go_to(end);
     level.push(node)?;

@@ -7,6 +7,7 @@ ghost use Rattle.rst_block.specs.Frames as frames;
 ghost use Rattle.rst_block.specs.Meanings.{IsNew, Keeps, after, done_of};
 ghost use Rattle.rst_block.specs.Nodes.{nodes_among};
 ghost use Rattle.rst_block.specs.OpenBlocks.{IsPlaced};
+ghost use Rattle.rst_block.specs.Ledger.{Takes, ended_least, ended_most, least_after, most_after};
 
 use super::fault::BlockFault;
 use super::open_block::OpenBlock;
@@ -104,6 +105,7 @@ pub(crate) fn closed<'a>(
     ensures ended { IfOk result (frames.IsEnded (source_of whole.now) frame level.new.at) }
     ensures kept { IfOk result (frames.KeepsFrame frame depth level.new) }
     ensures read { Keeps result (λ e. frames.ended_as (source_of whole.now) level.new e pass.new.numbers) (after frame.level (placement_block (source_of whole.now) frame.placement) frame.waits frame.second frame.nodes.items (nodes_among (done_of level.old)) pass.old.numbers) }
+    ensures paid { IfOk result (λ e. Takes (most_after frame.level (placement_block (source_of whole.now) frame.placement) frame.waits frame.second) (least_after frame.level (placement_block (source_of whole.now) frame.placement) frame.waits frame.second) pass.old.looks (ended_most (source_of whole.now) level.new e) (ended_least (source_of whole.now) level.new e) pass.new.looks) }
     ensures looks { IfOk result (λ _. pass.new.looks ≤ pass.old.looks + 2 ^ 90) }
 {
     let Frame {

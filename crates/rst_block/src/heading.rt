@@ -3,12 +3,12 @@ ghost use Rattle.std.specs.Prelude.{◌≡◌, ◌∷◌, [], Ok, string_bytes};
 ghost use Rattle.std.specs.Str.{chars};
 ghost use Rattle.rst_tree.specs.Faults.{Gives};
 ghost use Rattle.rst_block_sections.specs.Sections.{title_of};
-ghost use Rattle.rst_block.specs.Titles.{title_item, titled};
+ghost use Rattle.rst_block.specs.Titles.{short_warning, title_item, titled};
 
 use super::texts::Pass;
-use rst_block_nodes::with_text;
+use rst_block_nodes::{message, with_text};
 use rst_block_sections::{Heading, Style};
-use rst_tree::{Node, Tag, TreeFault};
+use rst_tree::{Level, Node, Tag, TreeFault};
 use std::alloc::Global;
 
 /// A title with this text.
@@ -33,4 +33,20 @@ pub(crate) fn heading_of(
         line,
         source,
     })
+}
+
+/// The message on an overline or underline that is shorter than its title, if it is; its line has this number.
+pub(crate) fn short_warning(
+    alloc: Global,
+    short: bool,
+    line: usize,
+    text: &str,
+    lines: &str,
+) -> Result<Option<Node>, TreeFault>
+    ensures { Gives (λ warning. warning ≡ short_warning short line text.now lines.now) result }
+{
+    if !short {
+        return Ok(None);
+    }
+    Ok(Some(message(alloc, Level::Warning, line, text, Some(lines))?))
 }

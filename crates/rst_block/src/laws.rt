@@ -101,7 +101,6 @@ pub fn looks_are_paid()
     ensures ended { ledger.BlocksEnd }
     ensures blank { ledger.BlankLineIsPaid }
     ensures construct { ledger.ConstructIsPaid }
-    ensures start { ledger.StartIsPaid }
     ensures counted { ledger.LastIsCounted }
     ensures opened { ledger.OpenedIsPaid }
     ensures second { ledger.SecondIsPaid }

@@ -13,6 +13,8 @@ ghost use Rattle.rst_block.specs.TextSteps.{text_over};
 ghost use Rattle.rst_block.specs.Meanings.{Keeps, reads, open_of};
 ghost use Rattle.rst_block.specs.OpenBlocks.{Gives, IsKept, IsPlaced, HasLine, line_added, lines_end_at};
 ghost use Rattle.rst_block.specs.Texts.{joined};
+ghost use Rattle.rst_block.specs.Ledger.{IsPaid};
+ghost use Rattle.rst_block.specs.declared.step.Step.TheVariants.{Next};
 
 use super::fault::BlockFault;
 use super::open_block::OpenBlock;
@@ -41,6 +43,7 @@ pub(crate) fn bar_line(
     ensures later { IfOk result (λ _. level.old.at < level.new.at) }
     ensures kept { IfOk result (λ _. IsKept level.old level.new) }
     ensures read { Keeps result (λ _. reads level.new (block_of view.now) pass.new.numbers) (reads level.old (block_of view.now) pass.old.numbers) }
+    ensures paid { IfOk result (λ _. IsPaid 29 level.old level.new (block_of view.now) Next pass.old.looks pass.new.looks) }
     ensures looks { IfOk result (λ _. pass.new.looks ≤ pass.old.looks + 2 ^ 79) }
 {
     let at = level.at;

@@ -20,6 +20,7 @@ ghost use Rattle.rst_block.specs.OpenBlocks.{HasRun, IsKept, IsMoved, IsPlaced, 
 ghost use Rattle.rst_block.specs.Rest.{begun_run};
 ghost use Rattle.rst_block.specs.declared.resume.Waits.TheVariants.{ListItem};
 ghost use Rattle.rst_block.specs.declared.step.Step.TheVariants.{Open};
+ghost use Rattle.rst_block.specs.Ledger.{IsPaid};
 
 use super::fault::BlockFault;
 use super::open_block::OpenBlock;
@@ -68,6 +69,7 @@ pub(crate) fn bullet_item(
     ensures step { IfOk result (λ s. spec.IsStep (block_of view.now) level.old.at level.new.at s) }
     ensures kept { IfOk result (λ _. IsKept level.old level.new) }
     ensures read { Keeps result (λ s. comes level.new (block_of view.now) s pass.new.numbers) (reads level.old (block_of view.now) pass.old.numbers) }
+    ensures paid { IfOk result (λ s. IsPaid 29 level.old level.new (block_of view.now) s pass.old.looks pass.new.looks) }
     ensures looks { IfOk result (λ _. pass.new.looks ≤ pass.old.looks + 2 ^ 79) }
 {
     let at = level.at;
@@ -99,6 +101,7 @@ pub(crate) fn enumerated_item(
     ensures step { IfOk result (λ s. spec.IsStep (block_of view.now) level.old.at level.new.at s) }
     ensures kept { IfOk result (λ _. IsKept level.old level.new) }
     ensures read { Keeps result (λ s. comes level.new (block_of view.now) s pass.new.numbers) (reads level.old (block_of view.now) pass.old.numbers) }
+    ensures paid { IfOk result (λ s. IsPaid 29 level.old level.new (block_of view.now) s pass.old.looks pass.new.looks) }
     ensures looks { IfOk result (λ _. pass.new.looks ≤ pass.old.looks + 2 ^ 79) }
 {
     let at = level.at;

@@ -10,6 +10,9 @@ ghost use Rattle.rst_block.specs.OpenBlocks.{IsKept, IsPlaced};
 ghost use Rattle.rst_block.specs.Nodes.{block_items};
 ghost use Rattle.rst_block.specs.Numbered.{just};
 ghost use Rattle.rst_block.specs.Tables as tables;
+ghost use Rattle.rst_block.specs.Ledger.{Takes, TakesFor, least_left, most_left, total_at, totals};
+ghost use Rattle.rst_block.specs.Inside.{cells_of};
+ghost use Rattle.rst_markup_tables.specs.declared.results.TableResult.TheVariants.{Table};
 
 use super::fault::BlockFault;
 use super::frame::{Ended, Frame, closed, opened};
@@ -62,6 +65,7 @@ pub(crate) fn read(
     ensures placed { IfOk result IsPlaced }
     ensures read { Keeps result (λ level. just (done_of level) pass.new.numbers) (text_items depth lines.now pass.old.numbers) }
     ensures few { IfOk result (λ _. pass.new.looks < 2 ^ 119) }
+    ensures paid { IfOk result (λ _. TakesFor (total_at depth lines.now) pass.old.looks pass.new.looks) }
 {
     let whole = View::whole(lines);
     if 0 < whole.len() && depth <= DEEPEST {
@@ -89,6 +93,7 @@ fn read_blocks(
     ensures placed { IfOk result IsPlaced }
     ensures read { Keeps result (λ level. just (done_of level) pass.new.numbers) (block_items (within_at depth) (block_of whole.entry) pass.old.numbers) }
     ensures few { IfOk result (λ _. pass.new.looks < 2 ^ 119) }
+    ensures paid { IfOk result (λ _. TakesFor (total_at depth (block_of whole.entry)) pass.old.looks pass.new.looks) }
 {
     let base = frames.len();
     let mut view = whole;
@@ -145,6 +150,7 @@ fn next(
     ensures next { IfOk result (λ s. spec.IsNext (block_of view.now) level.old.at level.new.at s) }
     ensures kept { IfOk result (λ _. IsKept level.old level.new) }
     ensures read { Keeps result (λ s. comes level.new (block_of view.now) s pass.new.numbers) (reads level.old (block_of view.now) pass.old.numbers) }
+    ensures paid { IfOk result (λ s. Takes (most_left level.old (block_of view.now) Next) (least_left level.old (block_of view.now) Next) pass.old.looks (most_left level.new (block_of view.now) s) (least_left level.new (block_of view.now) s) pass.new.looks) }
     ensures looks { IfOk result (λ _. pass.new.looks ≤ 2 ^ 119 + 2 ^ 110) }
 {
     while level.at < view.len() {
@@ -176,6 +182,7 @@ fn not_blank(view: &View<'_>, pass: &mut Pass) -> Result<(), BlockFault>
     requires few { pass.old.looks < 2 ^ 120 }
     ensures blank { TellsBlank (block_of view.now) result }
     ensures numbers { pass.new.numbers ≡ pass.old.numbers }
+    ensures each { IfOk result (λ _. pass.old.looks + length (block_of view.now) ≤ pass.new.looks) }
     ensures looks { pass.new.looks ≤ pass.old.looks + 2 ^ 65 }
     ensures most { pass.new.looks ≤ pass.old.looks + length (block_of view.now) }
     ensures low { pass.old.looks ≤ pass.new.looks }
@@ -209,6 +216,7 @@ fn flat(
     ensures step { IfOk result (λ s. spec.IsResumed (block_of view.now) level.old.at level.new.at s) }
     ensures kept { IfOk result (λ _. IsKept level.old level.new) }
     ensures read { Keeps result (λ s. comes level.new (block_of view.now) s pass.new.numbers) (comes level.old (block_of view.now) (Open waits first second) pass.old.numbers) }
+    ensures paid { IfOk result (λ s. Takes (most_left level.old (block_of view.now) (Open waits first second)) (least_left level.old (block_of view.now) (Open waits first second)) pass.old.looks (most_left level.new (block_of view.now) s) (least_left level.new (block_of view.now) s) pass.new.looks) }
     ensures looks { IfOk result (λ _. pass.new.looks ≤ pass.old.looks + 2 ^ 91) }
 {
     not_blank(&inside(view, first), pass)?;
@@ -242,6 +250,7 @@ fn cells(
     ensures later { IfOk result (λ _. level.old.at < level.new.at) }
     ensures kept { IfOk result (λ _. IsKept level.old level.new) }
     ensures read { Keeps result (λ s. comes level.new (block_of view.now) s pass.new.numbers) (comes level.old (block_of view.now) (Cells found) pass.old.numbers) }
+    ensures paid { IfOk result (λ s. Takes (most_left level.old (block_of view.now) (Cells found)) (least_left level.old (block_of view.now) (Cells found)) pass.old.looks (most_left level.new (block_of view.now) s) (least_left level.new (block_of view.now) s) pass.new.looks) }
     ensures looks { IfOk result (λ _. pass.new.looks < 2 ^ 119 + 2 ^ 10) }
 {
     let TableResult::Table {
@@ -281,6 +290,7 @@ fn row_of(
     ensures frames { IfOk result (λ _. frames.new.items ≡ frames.old.items) }
     ensures row { Keeps result (λ node. Ok (node, pass.new.numbers)) (tables.row_of (within_at (depth - 1)) cells.now pass.old.numbers) }
     ensures few { IfOk result (λ _. pass.new.looks < 2 ^ 119) }
+    ensures paid { IfOk result (λ _. TakesFor (totals (depth - 1) (cells_of (Table [] 0 (cells.now ∷ []) 0))) pass.old.looks pass.new.looks) }
 {
     let mut entries = Vec::new(alloc);
     for cell in cells {

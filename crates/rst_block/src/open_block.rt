@@ -108,7 +108,6 @@ impl OpenBlock {
         ensures run { pass.new.looks ≤ pass.old.looks + run_looks self.old.run }
         ensures closed { spec.Closes (closed_run (suc deepest - self.old.depth) (block_of view.now) (open_of self.old.run) pass.old.numbers) self.old self.new pass.new.numbers no_run result }
         ensures looks { pass.new.looks ≤ pass.old.looks + 1 }
-        ensures low { pass.old.looks ≤ pass.new.looks }
     {
         let run = mem::replace(&mut self.run, Run::None);
         let ending = run.ending();
@@ -180,7 +179,6 @@ impl OpenBlock {
         ensures numbers { pass.new.numbers ≡ pass.old.numbers }
         ensures low { pass.old.looks ≤ pass.new.looks }
         ensures looks { pass.new.looks ≤ pass.old.looks + 1 }
-        ensures low { pass.old.looks ≤ pass.new.looks }
     {
         if is_blank(text_at(view, end, &mut pass.looks)) {
             return Ok(());

@@ -23,6 +23,7 @@ ghost use Rattle.rst_markup_lines.specs.Front.{begins_with, is_loose};
 ghost use Rattle.rst_text.specs.Block.{first_number, front_text};
 ghost use Rattle.rst_text.specs.Extent.{extent};
 ghost use Rattle.rst_text.specs.Text.{chars_of};
+ghost use Rattle.rst_text.specs.Reach.{reach};
 
 use super::fault::BlockFault;
 use super::open_block::OpenBlock;
@@ -94,6 +95,8 @@ pub(crate) fn paragraph(
     requires plain { is_loose (front_text (drop level.old.at (block_of view.now))) ≡ false }
     ensures later { IfOk result (λ _. level.old.at < level.new.at) }
     ensures read { Gives (λ _. ReadsNodes (literals.paragraph_nodes [] (drop level.old.at (block_of view.now)) pass.old.numbers) level.old level.new (level.old.at + paragraph_size (drop level.old.at (block_of view.now))) pass.new.numbers) result }
+    ensures most { IfOk result (λ _. pass.new.looks ≤ pass.old.looks + 20 * reach (paragraph_size (drop level.old.at (block_of view.now))) (drop level.old.at (block_of view.now))) }
+    ensures low { IfOk result (λ _. pass.old.looks + paragraph_size (drop level.old.at (block_of view.now)) ≤ pass.new.looks) }
     ensures looks { IfOk result (λ _. pass.new.looks ≤ pass.old.looks + 2 ^ 76) }
 {
     let at = level.at;
@@ -122,6 +125,8 @@ fn paragraph_of(
     requires behind { level.old.at < end }
     ensures later { IfOk result (λ _. level.old.at < level.new.at) }
     ensures read { Gives (λ _. ReadsNodes (parts.paragraph_between (chars text.now) level.old.at end (block_of view.now) pass.old.numbers) level.old level.new (parts.paragraph_end (chars text.now) end (block_of view.now)) pass.new.numbers) result }
+    ensures most { IfOk result (λ _. pass.new.looks ≤ pass.old.looks + 1 + 8 * reach (parts.paragraph_end (chars text.now) end (block_of view.now) - end) (drop end (block_of view.now))) }
+    ensures low { IfOk result (λ _. pass.old.looks + (parts.paragraph_end (chars text.now) end (block_of view.now) - end) ≤ pass.new.looks) }
     ensures looks { IfOk result (λ _. pass.new.looks ≤ pass.old.looks + 2 ^ 75 + 2 ^ 70) }
 {
     if !ends_in_colons(text) {
@@ -201,6 +206,8 @@ fn literal(
     ensures later { IfOk result (λ _. level.old.at < level.new.at) }
     ensures gone { Gives (λ _. HasMoreAt level.old level.new (literals.literal_nodes (first_number (drop (end - 1) (block_of view.now))) (drop end (block_of view.now))) (end + literal_size (drop end (block_of view.now)))) result }
     ensures numbers { pass.new.numbers ≡ pass.old.numbers }
+    ensures most { IfOk result (λ _. pass.new.looks ≤ pass.old.looks + 8 * reach (literal_size (drop end (block_of view.now))) (drop end (block_of view.now))) }
+    ensures low { IfOk result (λ _. pass.old.looks + literal_size (drop end (block_of view.now)) ≤ pass.new.looks) }
     ensures looks { IfOk result (λ _. pass.new.looks ≤ pass.old.looks + 2 ^ 75) }
 {
     let start = lines_end(view, end, LineTest::Blank, &mut pass.looks);
@@ -242,6 +249,8 @@ fn indented_literal(
     ensures later { IfOk result (λ _. level.old.at < level.new.at) }
     ensures gone { Gives (λ _. HasMoreAt level.old level.new (literals.indented_literal (drop start (block_of view.now))) (start + extent 1 (drop start (block_of view.now)))) result }
     ensures numbers { pass.new.numbers ≡ pass.old.numbers }
+    ensures most { IfOk result (λ _. pass.new.looks ≤ pass.old.looks + 1 + 2 * reach (extent 1 (drop start (block_of view.now))) (drop start (block_of view.now))) }
+    ensures low { IfOk result (λ _. pass.old.looks + extent 1 (drop start (block_of view.now)) ≤ pass.new.looks) }
     ensures looks { IfOk result (λ _. pass.new.looks ≤ pass.old.looks + 2 ^ 74) }
 {
     let lines = indented(view, start, &mut pass.looks);
@@ -276,6 +285,8 @@ fn quoted_literal(
     ensures later { IfOk result (λ _. level.old.at < level.new.at) }
     ensures gone { Gives (λ _. HasMoreAt level.old level.new (literals.quoted_literal (lines_while (Begins quote) (drop start (block_of view.now))) (drop start (block_of view.now))) (start + lines_while (Begins quote) (drop start (block_of view.now)))) result }
     ensures numbers { pass.new.numbers ≡ pass.old.numbers }
+    ensures most { IfOk result (λ _. pass.new.looks ≤ pass.old.looks + 2 + 2 * lines_while (Begins quote) (drop start (block_of view.now))) }
+    ensures low { IfOk result (λ _. pass.old.looks + lines_while (Begins quote) (drop start (block_of view.now)) ≤ pass.new.looks) }
     ensures looks { IfOk result (λ _. pass.new.looks ≤ pass.old.looks + 2 ^ 74) }
 {
     let end = lines_end(view, start, LineTest::Begins(quote), &mut pass.looks);

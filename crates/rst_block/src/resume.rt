@@ -1,10 +1,14 @@
 //! What is done with the nodes of a block inside once it is read.
-ghost use Rattle.std.specs.Prelude.{◌≡◌, ◌+◌, ◌-◌, ◌*◌, ◌^◌, ◌<◌, ◌≤◌, [], length, drop, IfOk, IfSome, option_map, box_value};
+ghost use Rattle.std.specs.Prelude.{◌≡◌, ◌+◌, ◌-◌, ◌*◌, ◌^◌, ◌<◌, ◌≤◌, [], length, drop, IfOk, IfSome, option_map, box_value, ℕ, Box, Option, None, Some};
 ghost use Rattle.rst_text.specs.Shown.{block_of};
 ghost use Rattle.rst_markup_blocks.specs.Parts.{IsBlock, IsCall};
 ghost use Rattle.rst_block.specs.Steps as spec;
 ghost use Rattle.rst_block.specs.Meanings.{Keeps, after_quote, comes, quote_by, resumed};
 ghost use Rattle.rst_block.specs.OpenBlocks.{Gives, HasMore, IsKept, IsPlaced};
+ghost use Rattle.rst_block.specs.Ledger.{Takes, least_after, least_left, most_after, most_left};
+ghost use Rattle.std.specs.declared.alloc.Global.{Global};
+ghost use Rattle.rst_block_nodes.specs.declared.texted.Texted.{Texted};
+ghost use Rattle.rst_block.specs.declared.resume.Waits.TheVariants.{Quote};
 
 use super::fault::BlockFault;
 use super::figure::{OpenFigure, finished_figure};
@@ -66,6 +70,7 @@ pub(crate) fn resume(
     ensures step { IfOk result (λ s. spec.IsResumed (block_of view.now) level.old.at level.new.at s) }
     ensures kept { IfOk result (λ _. IsKept level.old level.new) }
     ensures read { Keeps result (λ s. comes level.new (block_of view.now) s pass.new.numbers) (resumed level.old (block_of view.now) waits nodes.items pass.old.numbers) }
+    ensures paid { IfOk result (λ s. Takes (most_after level.old (block_of view.now) waits None) (least_after level.old (block_of view.now) waits None) pass.old.looks (most_left level.new (block_of view.now) s) (least_left level.new (block_of view.now) s) pass.new.looks) }
     ensures looks { IfOk result (λ _. pass.new.looks ≤ pass.old.looks + 2 ^ 90) }
 {
     match waits {
@@ -145,6 +150,7 @@ fn after_quote(
     ensures step { IfOk result (λ s. spec.IsResumed (block_of view.now) level.old.at level.new.at s) }
     ensures kept { IfOk result (λ _. IsKept level.old level.new) }
     ensures read { Keeps result (λ s. comes level.new (block_of view.now) s pass.new.numbers) (after_quote level.old (block_of view.now) [] rest end pass.old.numbers) }
+    ensures paid { (line : ℕ) (made : Option (Box Texted Global)) → IfOk result (λ s. Takes (most_after level.old (block_of view.now) (Quote line made rest end) None) (least_after level.old (block_of view.now) (Quote line made rest end) None) pass.old.looks (most_left level.new (block_of view.now) s) (least_left level.new (block_of view.now) s) pass.new.looks) }
     ensures looks { IfOk result (λ _. pass.new.looks ≤ pass.old.looks + 2 ^ 90) }
 {
     match rest {

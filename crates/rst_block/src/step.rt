@@ -5,6 +5,8 @@ ghost use Rattle.rst_markup_blocks.specs.Parts.{IsBlock, IsCall};
 ghost use Rattle.rst_block.specs.Steps as spec;
 ghost use Rattle.rst_block.specs.Meanings.{Keeps, comes, reads};
 ghost use Rattle.rst_block.specs.OpenBlocks.{IsKept, IsPlaced};
+ghost use Rattle.rst_block.specs.Ledger.{Takes, least_left, most_left};
+ghost use Rattle.rst_block.specs.declared.step.Step.TheVariants.{Next};
 
 use super::adornment::adornment;
 use super::explicit::explicit_markup;
@@ -57,6 +59,7 @@ pub(crate) fn step_at(
     ensures step { IfOk result (λ s. spec.IsStep (block_of view.now) level.old.at level.new.at s) }
     ensures kept { IfOk result (λ _. IsKept level.old level.new) }
     ensures read { Keeps result (λ s. comes level.new (block_of view.now) s pass.new.numbers) (reads level.old (block_of view.now) pass.old.numbers) }
+    ensures paid { IfOk result (λ s. Takes (most_left level.old (block_of view.now) Next) (least_left level.old (block_of view.now) Next) pass.old.looks (most_left level.new (block_of view.now) s) (least_left level.new (block_of view.now) s) pass.new.looks) }
     ensures looks { IfOk result (λ _. pass.new.looks ≤ pass.old.looks + 2 ^ 80) }
 {
     let at = level.at;

@@ -1,5 +1,5 @@
 //! Tables (Markup Specification, 'Tables').
-ghost use Rattle.std.specs.Prelude.{◌≡◌, ◌+◌, ◌-◌, ◌^◌, ◌<◌, ◌≤◌, [], ◌∷◌, codes, length, drop, slice_range, nat_lt, if◌then◌else◌, IfOk};
+ghost use Rattle.std.specs.Prelude.{◌≡◌, ◌+◌, ◌-◌, ◌^◌, ◌<◌, ◌≤◌, [], ◌∷◌, codes, length, drop, slice_range, nat_lt, if◌then◌else◌, IfOk, ℕ, ◌*◌};
 ghost use Rattle.rst_text.specs.Block.{first_number};
 ghost use Rattle.rst_text.specs.Shown.{block_of};
 ghost use Rattle.rst_tree.specs.Faults.{Gives};
@@ -15,6 +15,9 @@ ghost use Rattle.rst_block.specs.Meanings.{Keeps, comes, reads};
 ghost use Rattle.rst_block.specs.NextLine.{IsTableAt};
 ghost use Rattle.rst_block.specs.OpenBlocks as blocks;
 ghost use Rattle.rst_block.specs.OpenBlocks.{IsKept, IsPlaced};
+ghost use Rattle.rst_block.specs.Ledger.{IsPaid};
+ghost use Rattle.rst_block.specs.Reaches.{reach_at};
+ghost use Rattle.rst_markup_blocks.specs.Partition.{construct_size};
 
 use super::fault::BlockFault;
 use super::open_block::OpenBlock;
@@ -43,6 +46,7 @@ pub(crate) fn table(
     ensures step { IfOk result (λ s. spec.IsStep (block_of view.now) level.old.at level.new.at s) }
     ensures kept { IfOk result (λ _. IsKept level.old level.new) }
     ensures read { Keeps result (λ s. comes level.new (block_of view.now) s pass.new.numbers) (reads level.old (block_of view.now) pass.old.numbers) }
+    ensures paid { (before : ℕ) → pass.old.looks ≤ before + 4 * reach_at (level.old.depth == 0) (drop level.old.at (block_of view.now)) → before + construct_size (level.old.depth == 0) (drop level.old.at (block_of view.now)) ≤ pass.old.looks + 1 → IfOk result (λ s. IsPaid 29 level.old level.new (block_of view.now) s before pass.new.looks) }
     ensures looks { IfOk result (λ _. pass.new.looks ≤ pass.old.looks + 2 ^ 79) }
 {
     level.close(alloc, view, pass)?;

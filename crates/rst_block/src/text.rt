@@ -1,5 +1,5 @@
 //! Lines of text: titles, items of definition lists and paragraphs.
-ghost use Rattle.std.specs.Prelude.{◌≡◌, ◌+◌, ◌-◌, ◌*◌, ◌^◌, ◌<◌, ◌≤◌, ◌==◌, length, drop, codes, string_bytes, IfOk, IfSome};
+ghost use Rattle.std.specs.Prelude.{◌≡◌, ◌+◌, ◌-◌, ◌*◌, ◌^◌, ◌<◌, ◌≤◌, ◌==◌, length, drop, string_bytes, IfOk, IfSome};
 ghost use Rattle.rst_text.specs.Shown.{block_of};
 ghost use Rattle.rst_markup_blocks.specs.Parts.{IsBlock, IsCall};
 ghost use Rattle.rst_block.specs.Steps as spec;
@@ -12,10 +12,11 @@ ghost use Rattle.rst_block.specs.Titles as titles;
 ghost use Rattle.rst_block.specs.TextSteps.{under_style, unexpected_notes};
 ghost use Rattle.rst_text.specs.Block.{front_text, first_number};
 ghost use Rattle.std.specs.Option.{option_to_list};
+ghost use Rattle.rst_block.specs.Ledger.{IsPaid};
 
 use super::definition::definition;
 use super::fault::BlockFault;
-use super::heading::heading_of;
+use super::heading::{heading_of, short_warning};
 use super::open_block::OpenBlock;
 use super::paragraph::paragraph;
 use super::step::Step;
@@ -44,6 +45,7 @@ pub(crate) fn text_line(
     ensures step { IfOk result (λ s. spec.IsStep (block_of view.now) level.old.at level.new.at s) }
     ensures kept { IfOk result (λ _. IsKept level.old level.new) }
     ensures read { Keeps result (λ s. comes level.new (block_of view.now) s pass.new.numbers) (reads level.old (block_of view.now) pass.old.numbers) }
+    ensures paid { IfOk result (λ s. IsPaid 27 level.old level.new (block_of view.now) s pass.old.looks pass.new.looks) }
     ensures looks { IfOk result (λ _. pass.new.looks ≤ pass.old.looks + 2 ^ 77) }
 {
     let at = level.at;
@@ -113,33 +115,25 @@ fn underlined(
     requires placed { IsPlaced level.old }
     ensures later { IfOk result (λ _. level.old.at < level.new.at) }
     ensures read { Gives (λ _. ReadsItems (titles.underline_item (level.old.depth == 0) short (source_of (block_of view.now) (record { start = level.old.at; stop = level.old.at + 2 })) (drop level.old.at (block_of view.now)) pass.old.numbers) level.old level.new (level.old.at + 2) pass.new.numbers) result }
+    ensures most { pass.new.looks ≤ pass.old.looks + 4 }
+    ensures low { IfOk result (λ _. pass.old.looks + 2 ≤ pass.new.looks) }
     ensures looks { IfOk result (λ _. pass.new.looks ≤ pass.old.looks + 2 ^ 76) }
 {
     let at = level.at;
     let end = at.saturating_add(2);
     let lines = source(alloc, view, at, end, &mut pass.looks)?;
     let under = number_at(view, at.saturating_add(1));
-    let warning = underline_warning(alloc, under, short, lines.as_str())?;
+    let warning = short_warning(
+        alloc,
+        short,
+        under,
+        "Title underline too short.",
+        lines.as_str(),
+    )?;
     if level.titles() {
         return put_title(alloc, view, level, warning, lines, pass);
     }
     put_unexpected(alloc, view, level, warning, lines.as_str())
-}
-
-/// The message on an underline that is shorter than its title, if it is, by the number of its line.
-fn underline_warning(
-    alloc: Global,
-    under: usize,
-    short: bool,
-    lines: &str,
-) -> Result<Option<Node>, BlockFault>
-    ensures { Gives (λ warning. warning ≡ titles.short_warning short under (codes "Title underline too short.") lines.now) result }
-{
-    if !short {
-        return Ok(None);
-    }
-    let text = "Title underline too short.";
-    Ok(Some(message(alloc, Level::Warning, under, text, Some(lines))?))
 }
 
 /// Puts a title over its underline behind the last node.

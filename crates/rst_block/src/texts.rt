@@ -69,7 +69,6 @@ pub(crate) fn joined(
     ensures each { IfOk result (λ _. looks.new ≡ looks.old + length (block_of view.now)) }
     ensures looks { looks.new ≤ looks.old + 2 ^ 64 }
     ensures most { looks.new ≤ looks.old + length (block_of view.now) }
-    ensures each { IfOk result (λ _. looks.new ≡ looks.old + length (block_of view.now)) }
 {
     let mut text = String::with_capacity(alloc, usual_size(view.len()))?;
     for i in 0..view.len() {
@@ -97,7 +96,6 @@ pub(crate) fn source(
     ensures each { IfOk result (λ _. looks.new ≡ looks.old + length (slice_range (block_of view.now) from to)) }
     ensures looks { looks.new ≤ looks.old + 2 ^ 64 }
     ensures most { looks.new ≤ looks.old + (to - from) }
-    ensures each { IfOk result (λ _. looks.new ≡ looks.old + length (slice_range (block_of view.now) from to)) }
 {
     joined(alloc, &lines_between(view, from, to), looks)
 }

@@ -106,6 +106,7 @@ struct Reading {
     content: Content,
 }
 
+/// Whether a directive of this name holds program code.
 fn is_code(name: Name) -> bool
     ensures { result ≡ directives.is_code_name name }
 {
