@@ -65,3 +65,8 @@ document_budget profile B = budget profile.code (suc profile.nesting) true B
 -- the floor of a document
 abbrev pub document_floor : Profile → Block → ℕ
 document_floor profile B = floor profile.code (suc profile.nesting) true B
+
+-- this many looks at lines are within the bounds of a document
+pub record IsWithinBounds (profile : Profile) (B : Block) (looks : ℕ) : Type 0 where
+  pub budget : looks ≤ document_budget profile B
+  pub floor : document_floor profile B ≤ looks

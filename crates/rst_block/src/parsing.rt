@@ -1,7 +1,9 @@
 //! A document's tree.
 ghost use Rattle.rst_settings.specs.Profile.{profile_of};
 ghost use Rattle.rst_settings.specs.declared.Settings.{Settings};
+ghost use Rattle.rst_block.specs.Budget.{IsWithinBounds};
 ghost use Rattle.rst_block.specs.Documents as spec;
+ghost use Rattle.std.specs.Prelude.{IfOk};
 
 use super::fault::BlockFault;
 use super::machine::{Frames, read};
@@ -30,6 +32,7 @@ pub struct Parsed {
 /// block; and with [`BlockFault::NoMemory`].
 pub fn parse(alloc: Global, lines: &Lines) -> Result<Parsed, BlockFault>
     ensures document { (settings : Settings) → spec.Parses (spec.document (profile_of settings) lines.now 0) result }
+    ensures looks { (settings : Settings) → IfOk result (λ parsed. IsWithinBounds (profile_of settings) lines.now parsed.looks) }
 {
     let mut pass = Pass {
         looks: Looks::none(),
