@@ -44,4 +44,4 @@ returns-clause-paid c =
     let looks = doctest_looks B c.close.new.self.at l.at c.lines_end-end.result _ _ _ _ _ at c.lines_end-end.ensures.end c.close.ensures.low c.close.ensures.run c.lines_end-end.ensures.looks c.lines_end-end.ensures.low c.in_ok-text.ensures.each in
     gives_kept _ _ c.push.result c.push.ensures.more
     (λ _ h. paid_alone 29 Doctest l c.close.new.self c.go_to.new.self c.push.new.self B _ _ (c.in_ok-node.node ∷ []) _ _ c.requires.begun tt refl refl
-    c.in_ok-close.ensures.closed c.go_to.ensures.moved (goes ∙ stop) h looks.0 looks.1)
+    c.in_ok-close.ensures.closed c.go_to.ensures.moved (goes ∙ stop) h looks.0 (omega (arith, looks.1)))
