@@ -63,7 +63,7 @@ reads_all l B n new =
     ∙ ap (λ o. rest c B 0 o n) new.run
     ∙ rest_is_all c B n
 
-not_zero : (d : ℕ) → (suc d == 0) ≡ false
+pub not_zero : (d : ℕ) → (suc d == 0) ≡ false
 not_zero d = ne_eqb (suc d) 0 (λ e. omega (arith, e))
 
 abbrev pub within_level : Bool → ℕ → ℕ → Within

@@ -66,15 +66,15 @@ there B i h = elim (cases_lt i (length B)) [
   | inr over ↦ (let no : true ≡ false = sym (ap (λ X. is_blank (front_text X)) (drop_all i B over)) ∙ h in cc)
 ]
 
-found_over : (titles : Bool) (B : Block) (i : ℕ) → length B ≤ i → found_from titles B i ≡ []
+pub found_over : (titles : Bool) (B : Block) (i : ℕ) → length B ≤ i → found_from titles B i ≡ []
 unfolding spans_from
 found_over titles B i h = ap (λ X. map (found_at titles B) (spans_from titles i 0 X)) (drop_all i B h)
 
-found_blank : (titles : Bool) (B : Block) (i : ℕ) → IsBlankAt B i → found_from titles B i ≡ found_from titles B (suc i)
+pub found_blank : (titles : Bool) (B : Block) (i : ℕ) → IsBlankAt B i → found_from titles B i ≡ found_from titles B (suc i)
 found_blank titles B i h =
     ap (map (found_at titles B)) (blank_skipped titles i (drop i B) h ∙ ap (spans_from titles (suc i) 0) (lines_after B i 1 (suc i) (omega arith)))
 
-found_text : (titles : Bool) (B : Block) (i : ℕ) → IsTextAt B i → found_from titles B i ≡ found_in titles B i ∷ found_from titles B (construct_end titles B i)
+pub found_text : (titles : Bool) (B : Block) (i : ℕ) → IsTextAt B i → found_from titles B i ≡ found_in titles B i ∷ found_from titles B (construct_end titles B i)
 found_text titles B i h =
     let w = end_inside titles B i (there B i h) in
     ap (map (found_at titles B))
