@@ -4,7 +4,7 @@ use Rattle.rst_text.specs.Extent.{extent}
 use Rattle.rst_text.specs.Shown.{block_of}
 use Rattle.rst_tree.specs.declared.node.Node.{Node}
 use Rattle.rst_block.specs.Texts.{lines_in, spelled, warned}
-use Rattle.rst_block.proofs.Calls.{gives_map}
+use Rattle.rst_block.proofs.Calls.{gives_map, gives_kept}
 use Rattle.rst_block.proofs.Changes.{more_as, more_more, moved_more}
 use Rattle.rst_block.proofs.LiteralLemmas.{indented_whole}
 use Rattle.rst_block.proofs.paragraph.indented_literal.Goals as goal
@@ -19,3 +19,12 @@ returns-clause-gone c =
     let nodes = ap (λ (node : Node). node ∷ notes) c.in_ok-node.ensures ∙ indented_whole B c.args.start end c.number_at.result c.as_str.result.now e c.number_at.ensures bytes in
     let first = moved_more c.go_to.ensures.moved (c.go_to.ensures.there (omega arith) ∙ e) c.in_ok-push.ensures.more in
     gives_map _ _ c.warn.result c.warn.ensures.more (λ _ g. more_as nodes refl (more_more first g))
+
+pub returns-clause-most : goal.returns-clause-most
+returns-clause-most c =
+    let e : c.indented-lines.result.to ≡ c.args.start + extent 1 (drop c.args.start (block_of c.args.view.now)) = ap (λ p. p.to) c.indented-lines.ensures.part in
+    gives_kept _ _ c.warn.result c.warn.ensures.more (λ _ _. omega (arith, e, c.indented-lines.ensures.from, c.indented-lines.ensures.reach, c.inside.ensures.lines, c.in_ok-text.ensures.each, c.warn.ensures.looks))
+
+pub returns-clause-low : goal.returns-clause-low
+returns-clause-low c =
+    gives_kept _ _ c.warn.result c.warn.ensures.more (λ _ _. omega (arith, c.indented-lines.ensures.reach, c.in_ok-text.ensures.each, c.warn.ensures.low))
