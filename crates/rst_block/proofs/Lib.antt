@@ -30,6 +30,7 @@ pub mod OpenedFacts
 pub mod PaidSteps
 pub mod PartFacts
 pub mod ParagraphLemmas
+pub mod ParagraphsPaid
 pub mod QuoteCounts
 pub mod QuoteSteps
 pub mod RestLemmas
