@@ -1,5 +1,5 @@
 -- How many looks at lines the reading of a block may take, and has to take at least. No rule of markup: it bounds the time.
-use Rattle.std.specs.Prelude.{ℕ, zero, suc, ◌+◌, ◌*◌, max, Bool, true, false, List, [], ◌∷◌, length, if◌then◌else◌}
+use Rattle.std.specs.Prelude.{ℕ, zero, suc, ◌+◌, ◌*◌, ◌≤◌, max, Bool, true, false, List, [], ◌∷◌, length, if◌then◌else◌}
 use Rattle.std.specs.List.{list_all}
 use Rattle.rst_settings.specs.Profile.{Profile}
 use Rattle.rst_text.specs.Block.{Line, Block, is_blank}
