@@ -11,6 +11,7 @@ pub mod CellFacts
 pub mod ContentFacts
 pub mod DocumentLooks
 pub mod ListItems
+pub mod ListsPaid
 pub mod LiteralLemmas
 pub mod InsideReads
 pub mod LedgerLemmas

@@ -53,7 +53,7 @@ use Rattle.rst_block.proofs.RestLemmas.{item_joins, item_begins}
 -- ---- where an item ends
 
 -- a hanging block ends where its construct does
-hanging_to : (i : ℕ) (m : Marker) (X : Block) → (hanging i m X).to ≡ i + hanging_size X
+pub hanging_to : (i : ℕ) (m : Marker) (X : Block) → (hanging i m X).to ≡ i + hanging_size X
 unfolding hanging_part
 hanging_to i m X = by m.bare
   where
@@ -62,7 +62,7 @@ hanging_to i m X = by m.bare
     by false = refl
 
 -- the block of an item ends where the item does
-item_to : (i : ℕ) (m : Marker) (X : Block) → (item_part i m X).to ≡ i + item_size m X
+pub item_to : (i : ℕ) (m : Marker) (X : Block) → (item_part i m X).to ≡ i + item_size m X
 unfolding hanging_part hanging_size least_below
 item_to i m X = by m.bare refl
   where

@@ -99,7 +99,7 @@ split_quotes B p k next line a made e behind within =
 
 -- ---- what a block does that waited
 
-alone : (l : OpenBlock) (B : Block) (w : Waits) → WaitsForOne w → (quotes_left B w ≡ []) × (goes_on_at l w ≡ l.at)
+pub alone : (l : OpenBlock) (B : Block) (w : Waits) → WaitsForOne w → (quotes_left B w ≡ []) × (goes_on_at l w ≡ l.at)
 alone l B (ListItem line) h = (refl, refl)
 alone l B (ListedBody line item content heads notes) h = (refl, refl)
 alone l B (Quote line made None end) h = (refl, refl)

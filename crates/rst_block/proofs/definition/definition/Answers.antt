@@ -1,4 +1,4 @@
-use Rattle.std.proofs.Common.{drop, refl, rules}
+use Rattle.std.proofs.Common.{drop, arith, refl, rules}
 use Rattle.std.specs.Prelude.{None}
 use Rattle.rst_text.specs.Shown.{block_of}
 use Rattle.rst_tree.specs.declared.tag.Tag.TheVariants.{DefinitionListItem, Definition as DefinitionTag}
@@ -10,6 +10,7 @@ use Rattle.rst_block.specs.declared.run.ListKind.TheVariants.{Definition}
 use Rattle.rst_block.specs.declared.step.Step.TheVariants.{Open}
 use Rattle.rst_block.proofs.Changes.{kept_run, kept_moved, kept_then}
 use Rattle.rst_block.proofs.ListItems.{item_behind, next_definition, IsOpened, plain_item, kept_opened, plain_refused, definition_made}
+use Rattle.rst_block.proofs.ListsPaid.{found_below, definition_is, paid_item}
 use Rattle.rst_block.proofs.MeaningLemmas.{body_means}
 use Rattle.rst_block.proofs.definition.definition.Goals as goal
 
@@ -49,3 +50,17 @@ returns-clause-read c =
     (c.go_to.ensures.there (rw (c.put_before.ensures.at, c.in_ok-join_list.ensures.at) (item_behind next c.requires.inside))) c.requires.placed
     (λ r h. body_means c.go_to.new.self B line DefinitionListItem DefinitionTag heads.items notes.items waits part r m h (λ ns. refl))
     (definition_made (within_at l.depth) B l.at c.args.infos.items (drop l.at B) k refl c.number_at-line.ensures c.line-term.ensures.text c.indented-body.ensures.part c.in_ok-heads.ensures.read)
+
+pub returns-clause-paid : goal.returns-clause-paid
+returns-clause-paid c =
+    let B = block_of c.args.view.now in
+    let l = c.args.level.now in
+    let infos = c.args.infos.items in
+    let part = c.indented-body.ensures.part in
+    let start = c.args.pass.now.looks in
+    let mid = c.indented-body.new.looks in
+    let next = next_definition l B infos c.requires.text c.requires.form part in
+    paid_item 25 (ListedBody c.number_at-line.result DefinitionListItem DefinitionTag c.in_ok-heads.heads.heads c.in_ok-heads.heads.notes) c.indented-body.result start start mid c.line-term.new.looks (omega arith)
+    next (definition_is B l.at infos part) (found_below B l.at start mid part c.indented-body.ensures.reach) refl tt refl (returns-clause-kept c).depth
+    (c.go_to.ensures.there (rw (c.put_before.ensures.at, c.in_ok-join_list.ensures.at) (item_behind next c.requires.inside))) (omega arith)
+    (omega (arith, c.in_ok-join_list.ensures.low, c.line-term.ensures.looks)) (omega (arith, c.in_ok-join_list.ensures.looks, c.line-term.ensures.looks))

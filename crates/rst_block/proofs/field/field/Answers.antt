@@ -1,4 +1,4 @@
-use Rattle.std.proofs.Common.{drop, refl, sym, ap, ◌∙◌, rules}
+use Rattle.std.proofs.Common.{drop, arith, refl, sym, ap, ◌∙◌, rules}
 use Rattle.std.specs.Prelude.{slice_range, string_bytes, None}
 use Rattle.std.specs.Str.{chars}
 use Rattle.std.proofs.lemmas.Str.{chars_from_encodes, IsUtf8-string_bytes}
@@ -12,6 +12,7 @@ use Rattle.rst_block.specs.declared.run.ListKind.TheVariants.{Field}
 use Rattle.rst_block.specs.declared.step.Step.TheVariants.{Open}
 use Rattle.rst_block.proofs.Changes.{kept_moved, kept_then}
 use Rattle.rst_block.proofs.ListItems.{item_behind, next_field, IsOpened, none_noted, plain_item, kept_opened, plain_refused, field_made}
+use Rattle.rst_block.proofs.ListsPaid.{found_hanging, paid_item}
 use Rattle.rst_block.proofs.MeaningLemmas.{body_means}
 use Rattle.rst_block.proofs.field.field.Goals as goal
 
@@ -53,3 +54,16 @@ returns-clause-read c =
     (λ r h. body_means c.go_to.new.self B line FieldTag FieldBody heads.items notes.items waits part r m h (λ ns. refl))
     (field_made (within_at l.depth) B l.at c.args.mark (drop l.at B) k c.number_at-line.ensures (ap chars c.as_str.ensures.value ∙ text ∙ ap (λ t. slice_range t c.args.mark.name.from c.args.mark.name.to) c.line.ensures.text)
     c.hanging-body.ensures.part (search rules) c.in_ok-name-2.ensures.read)
+
+pub returns-clause-paid : goal.returns-clause-paid
+returns-clause-paid c =
+    let B = block_of c.args.view.now in
+    let l = c.args.level.now in
+    let part = c.hanging-body.ensures.part in
+    let start = c.args.pass.now.looks in
+    let mid = c.hanging-body.new.looks in
+    let next = next_field l B c.requires.begun part in
+    paid_item 29 (ListedBody c.number_at-line.result FieldTag FieldBody c.push.new.self c.in_ok-name-2.name.notes) c.hanging-body.result start start mid c.line.new.looks (omega arith) next part
+    (found_hanging B l.at c.args.mark.marker start mid part c.hanging-body.ensures.reach c.hanging-body.ensures.low) refl tt refl (returns-clause-kept c).depth
+    (c.go_to.ensures.there (rw c.in_ok-join_list.ensures.at (item_behind next c.requires.inside))) (omega arith)
+    (omega (arith, c.in_ok-join_list.ensures.low, c.line.ensures.looks)) (omega (arith, c.in_ok-join_list.ensures.looks, c.line.ensures.looks))

@@ -1,9 +1,11 @@
-use Rattle.std.proofs.Common.{◌≡◌, Some, refl, sym, ◌∙◌, rules}
+use Rattle.std.proofs.Common.{◌≡◌, Some, arith, refl, sym, ◌∙◌, rules}
 use Rattle.rst_text.specs.Shown.{block_of}
+use Rattle.rst_block.specs.declared.resume.Waits.TheVariants.{ListItem}
 use Rattle.rst_block.specs.declared.run.ListKind.TheVariants.{Bullet}
 use Rattle.rst_block.proofs.Calls.{close_refuses}
 use Rattle.rst_block.proofs.Changes.{kept_run, kept_moved, kept_closed, kept_then}
 use Rattle.rst_block.proofs.ListItems.{item_behind, next_bullet, item_refused, bullet_made, listed_joins, listed_begins, bullet_joins, bullet_begins, bullet_run}
+use Rattle.rst_block.proofs.ListsPaid.{found_item, paid_item}
 use Rattle.rst_block.proofs.list.bullet_item.Goals as goal
 
 pub returns-then-eq-clause-read : goal.returns-then-eq-clause-read
@@ -39,3 +41,28 @@ returns-clause-read c =
     listed_begins c.args.pass.now.numbers k c.opened-2.ensures.waits next (bullet_begins l c.args.mark c.args.marker c.item_part-body.result.to (λ e. other (c.list_kind.ensures ∙ e))) closed c.requires.placed
     c.opened-2.ensures.moved (c.opened-2.ensures.there (rw (c.begin.ensures.at, c.close.ensures.at) (item_behind next c.requires.inside)))
     (bullet_made l B c.args.mark c.args.marker k c.number_at-line.ensures c.item_part-body.ensures.part)
+
+pub returns-then-eq-clause-paid : goal.returns-then-eq-clause-paid
+returns-then-eq-clause-paid c =
+    let B = block_of c.args.view.now in
+    let l = c.args.level.now in
+    let part = c.item_part-body.ensures.part in
+    let start = c.args.pass.now.looks in
+    let mid = c.item_part-body.new.looks in
+    let next = next_bullet l B c.requires.begun part in
+    paid_item 29 (ListItem c.number_at-line.result) c.item_part-body.result start start mid mid (omega arith) next part
+    (found_item B l.at c.args.marker start mid part c.item_part-body.ensures.reach c.item_part-body.ensures.low) c.opened.ensures.waits tt refl (c.opened.ensures.moved.depth ∙ c.join.ensures.run.depth)
+    (c.opened.ensures.there (rw c.join.ensures.at (item_behind next c.requires.inside))) (omega arith) (omega arith) (omega arith)
+
+pub returns-clause-paid : goal.returns-clause-paid
+returns-clause-paid c =
+    let B = block_of c.args.view.now in
+    let l = c.args.level.now in
+    let part = c.item_part-body.ensures.part in
+    let start = c.args.pass.now.looks in
+    let mid = c.item_part-body.new.looks in
+    let next = next_bullet l B c.requires.begun part in
+    paid_item 29 (ListItem c.number_at-line.result) c.item_part-body.result start start mid c.close.new.pass.looks (omega arith) next part
+    (found_item B l.at c.args.marker start mid part c.item_part-body.ensures.reach c.item_part-body.ensures.low) c.opened-2.ensures.waits tt refl
+    (c.opened-2.ensures.moved.depth ∙ c.in_ok-begin.ensures.run.depth ∙ c.in_ok-close.ensures.closed.depth)
+    (c.opened-2.ensures.there (rw (c.begin.ensures.at, c.close.ensures.at) (item_behind next c.requires.inside))) (omega arith) c.close.ensures.low (omega (arith, c.close.ensures.run))

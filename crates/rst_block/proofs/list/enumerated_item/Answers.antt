@@ -1,10 +1,12 @@
-use Rattle.std.proofs.Common.{◌≡◌, None, refl, sym, ap, ◌∙◌, rules}
+use Rattle.std.proofs.Common.{◌≡◌, None, arith, refl, sym, ap, ◌∙◌, rules}
 use Rattle.std.specs.Prelude.{option_map}
 use Rattle.rst_text.specs.Shown.{block_of}
 use Rattle.rst_block.specs.Meanings.{joining_in}
+use Rattle.rst_block.specs.declared.resume.Waits.TheVariants.{ListItem}
 use Rattle.rst_block.proofs.Calls.{close_refuses}
 use Rattle.rst_block.proofs.Changes.{kept_run, kept_moved, kept_closed, kept_then}
 use Rattle.rst_block.proofs.ListItems.{item_behind, next_enumerated, item_refused, enumerated_made, listed_joins, listed_begins, enumerated_joins, enumerated_run}
+use Rattle.rst_block.proofs.ListsPaid.{found_item, paid_item}
 use Rattle.rst_block.proofs.list.enumerated_item.Goals as goal
 
 pub returns-in-Some-clause-read : goal.returns-in-Some-clause-read
@@ -43,3 +45,29 @@ returns-clause-read c =
     (c.opened-2.ensures.there (rw (c.begin_enumerated_list.ensures.at, c.close.ensures.at) (item_behind next c.requires.inside)))
     (enumerated_made l B c.args.enumerator k c.number_at-line.ensures c.item_part-body.ensures.part) in
     rw c.begin_enumerated_list.ensures.numbers same
+
+pub returns-in-Some-clause-paid : goal.returns-in-Some-clause-paid
+returns-in-Some-clause-paid c =
+    let B = block_of c.args.view.now in
+    let l = c.args.level.now in
+    let part = c.item_part-body.ensures.part in
+    let start = c.args.pass.now.looks in
+    let mid = c.item_part-body.new.looks in
+    let next = next_enumerated l B c.requires.begun part in
+    paid_item 29 (ListItem c.number_at-line.result) c.item_part-body.result start start mid mid (omega arith) next part
+    (found_item B l.at c.args.enumerator.marker start mid part c.item_part-body.ensures.reach c.item_part-body.ensures.low) c.opened.ensures.waits tt refl
+    (c.opened.ensures.moved.depth ∙ c.join.ensures.run.depth) (c.opened.ensures.there (rw c.join.ensures.at (item_behind next c.requires.inside))) (omega arith) (omega arith) (omega arith)
+
+pub returns-clause-paid : goal.returns-clause-paid
+returns-clause-paid c =
+    let B = block_of c.args.view.now in
+    let l = c.args.level.now in
+    let part = c.item_part-body.ensures.part in
+    let start = c.args.pass.now.looks in
+    let mid = c.item_part-body.new.looks in
+    let next = next_enumerated l B c.requires.begun part in
+    paid_item 29 (ListItem c.number_at-line.result) c.item_part-body.result start start mid c.begin_enumerated_list.new.pass.looks (omega arith) next part
+    (found_item B l.at c.args.enumerator.marker start mid part c.item_part-body.ensures.reach c.item_part-body.ensures.low) c.opened-2.ensures.waits tt refl
+    (c.opened-2.ensures.moved.depth ∙ c.in_ok-begin_enumerated_list.ensures.run.depth ∙ c.in_ok-close.ensures.closed.depth)
+    (c.opened-2.ensures.there (rw (c.begin_enumerated_list.ensures.at, c.close.ensures.at) (item_behind next c.requires.inside))) (omega arith)
+    (omega (arith, c.close.ensures.low, c.begin_enumerated_list.ensures.low)) (omega (arith, c.close.ensures.run, c.begin_enumerated_list.ensures.looks))

@@ -1,4 +1,4 @@
-use Rattle.std.proofs.Common.{drop, refl, rules}
+use Rattle.std.proofs.Common.{drop, arith, refl, rules}
 use Rattle.std.specs.Prelude.{None}
 use Rattle.rst_text.specs.Shown.{block_of}
 use Rattle.rst_tree.specs.declared.tag.Tag.TheVariants.{OptionListItem, Description}
@@ -10,6 +10,7 @@ use Rattle.rst_block.specs.declared.run.ListKind.TheVariants.{OptionItem}
 use Rattle.rst_block.specs.declared.step.Step.TheVariants.{Open}
 use Rattle.rst_block.proofs.Changes.{kept_moved, kept_then}
 use Rattle.rst_block.proofs.ListItems.{item_behind, next_option, IsOpened, none_noted, plain_item, kept_opened, plain_refused, option_made}
+use Rattle.rst_block.proofs.ListsPaid.{found_hanging, paid_item}
 use Rattle.rst_block.proofs.MeaningLemmas.{body_means}
 use Rattle.rst_block.proofs.option.option_item.Goals as goal
 
@@ -48,3 +49,16 @@ returns-clause-read c =
     refl next opened (none_noted mid) c.go_to.ensures.moved (c.go_to.ensures.there (rw c.in_ok-join_list.ensures.at (item_behind next c.requires.inside))) c.requires.placed
     (λ r h. body_means c.go_to.new.self B line OptionListItem Description heads.items notes.items waits part r k h (λ ns. refl))
     (option_made (within_at l.depth) B l.at c.args.marker (drop l.at B) k c.number_at-line.ensures c.line.ensures.text c.hanging-body.ensures.part c.in_ok-group.ensures (search rules) c.new.ensures.items)
+
+pub returns-clause-paid : goal.returns-clause-paid
+returns-clause-paid c =
+    let B = block_of c.args.view.now in
+    let l = c.args.level.now in
+    let part = c.hanging-body.ensures.part in
+    let start = c.line.new.looks in
+    let mid = c.hanging-body.new.looks in
+    let next = next_option l B c.requires.begun part in
+    paid_item 29 (ListedBody c.number_at-line.result OptionListItem Description c.push.new.self c.new.result) c.hanging-body.result c.args.pass.now.looks start mid c.join_list.new.pass.looks (omega arith) next part
+    (found_hanging B l.at c.args.marker start mid part c.hanging-body.ensures.reach c.hanging-body.ensures.low) refl tt refl (returns-clause-kept c).depth
+    (c.go_to.ensures.there (rw c.in_ok-join_list.ensures.at (item_behind next c.requires.inside))) (omega (arith, c.line.ensures.looks))
+    c.in_ok-join_list.ensures.low (omega (arith, c.in_ok-join_list.ensures.looks, c.line.ensures.looks))
