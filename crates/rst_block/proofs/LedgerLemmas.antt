@@ -160,7 +160,7 @@ paid_construct old new B s before after inside text h least = by s h.goes h.plac
     by Done g p b c few = absurd g
 
 -- a reach has a line or more
-reach_some : (titles : Bool) (X : Block) → 1 ≤ construct_size titles X → 1 ≤ reach_at titles X
+pub reach_some : (titles : Bool) (X : Block) → 1 ≤ construct_size titles X → 1 ≤ reach_at titles X
 unfolding construct_size
 reach_some titles X h = by (kind_at X) h
   where

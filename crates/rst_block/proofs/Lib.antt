@@ -42,6 +42,7 @@ pub mod Stack
 pub mod SubstitutionReads
 pub mod TableSteps
 pub mod TextLines
+pub mod TextsPaid
 pub mod TextsRead
 pub mod UnpaidLemmas
 pub mod Waiting

@@ -56,7 +56,7 @@ paid_begun each begun l new B s before after h f goes depth place blocks cells m
 -- ---- constructs that open no block
 
 -- a run that has ended takes no more looks
-ended_looks : (r : Run) → open_of r ≡ no_run → run_looks r ≡ 0
+pub ended_looks : (r : Run) → open_of r ≡ no_run → run_looks r ≡ 0
 ended_looks NoRun h = refl
 ended_looks (ListRun l) h = cc
 ended_looks (Lines lines end) h = cc

@@ -1,4 +1,4 @@
-use Rattle.std.proofs.Common.{◌≡◌, ◌+◌, ◌≤◌, length, drop, arith, rules, refl, sym, ◌∙◌, ap}
+use Rattle.std.proofs.Common.{◌≡◌, ◌+◌, ◌≤◌, length, drop, slice_range, arith, rules, refl, sym, ◌∙◌, ap}
 use Rattle.rst_text.specs.Block.{Block, first_number}
 use Rattle.rst_text.specs.Shown.{block_of}
 use Rattle.std.specs.Prelude.{string_bytes}
@@ -12,6 +12,7 @@ use Rattle.rst_block.proofs.AdornedSteps.{overlined_reads}
 use Rattle.rst_block.proofs.Calls.{close_refuses, gives_keeps, gives_kept}
 use Rattle.rst_block.proofs.Changes.{kept_closed, kept_moved, kept_title, kept_then}
 use Rattle.rst_block.proofs.NextConstructs.{next_some, next_within, lines_after, end_behind, goes_behind, span_to, has_ended, next_refused, next_title}
+use Rattle.rst_block.proofs.TextsPaid.{paid_flat, lines_looked}
 use Rattle.rst_block.proofs.adornment.overlined.Goals as goal
 
 pub returns-in_err-close-clause-read : goal.returns-in_err-close-clause-read
@@ -51,3 +52,20 @@ returns-clause-read c =
     (overlined_reads c.args.mark c.args.short B l.at (l.at + 3) c.number_at-line.result c.close.new.pass.numbers (chars c.skip-text.result.now) (string_bytes c.in_ok-lines.lines) c.in_ok-warning.warning _
     text line warning bytes c.in_ok-heading.ensures.title)
     refl c.go_to.ensures.moved at h)
+
+pub returns-clause-paid : goal.returns-clause-paid
+returns-clause-paid c =
+    let B : Block = block_of c.args.view.now in
+    let l = c.args.level.now in
+    let found = c.requires.found in
+    let within : l.at + 3 ≤ length B = next_within found c.requires.inside in
+    let stop : c.saturating_add-end.result ≡ l.at + 3 = end_behind l.at c.close.new.self.at c.saturating_add-end.result 3 (length B) c.close.ensures.at c.saturating_add-end.ensures within c.requires.short in
+    let looked : length (slice_range B c.close.new.self.at c.saturating_add-end.result) ≡ 3 = lines_looked B c.close.new.self.at c.saturating_add-end.result c.close.ensures.at stop within in
+    let at : c.go_to.new.self.at ≡ l.at + 3 =
+    goes_behind l.at c.close.new.self.at c.go_to.new.self.at c.saturating_add-end.result 3 (length B) c.close.ensures.at c.saturating_add-end.ensures (next_some found c.requires.inside)
+    within c.requires.short c.go_to.ensures.there in
+    let moved = c.go_to.ensures.moved in
+    gives_kept _ _ c.push_heading.result c.push_heading.ensures.title
+    (λ _ h. paid_flat 27 c.push_heading.new.self c.args.pass.now.looks c.heading_of.new.pass.looks found tt c.in_ok-close.ensures.closed (h.depth ∙ moved.depth) (h.run ∙ moved.run) (h.at ∙ at)
+    (omega (arith, c.close.ensures.run, c.in_ok-lines.ensures.each, looked, c.text_at-text.ensures.few, c.heading_of.ensures.looks))
+    (omega (arith, c.close.ensures.low, c.in_ok-lines.ensures.each, looked, c.text_at-text.ensures.low, c.heading_of.ensures.looks)))

@@ -1,11 +1,15 @@
-use Rattle.std.proofs.Common.{drop, ap, ◌∙◌, arith, rules}
+use Rattle.std.proofs.Common.{◌≡◌, ◌+◌, drop, ap, ◌∙◌, arith, rules}
+use Rattle.std.proofs.lemmas.Result.{IfOk-weaker}
 use Rattle.rst_text.specs.Block.{front_text}
 use Rattle.rst_text.specs.Shown.{block_of}
 use Rattle.rst_markup_lines.specs.Front.{is_loose}
+use Rattle.rst_markup_blocks.specs.Sizes.{paragraph_size}
+use Rattle.rst_block.specs.Ledger.{run_looks}
 use Rattle.rst_block.proofs.Calls.{close_refuses}
 use Rattle.rst_block.proofs.Changes.{kept_closed, kept_more, kept_then}
 use Rattle.rst_block.proofs.NextConstructs.{next_of_form, next_within, has_ended, next_refused}
 use Rattle.rst_block.proofs.TextLines.{text_plain, form_here, paragraph_goes, short_more, underlined_goes, kept_items}
+use Rattle.rst_block.proofs.TextsPaid.{paid_flat, paid_text, paragraph_looks}
 use Rattle.rst_block.proofs.text.text_line.Goals as goal
 
 pub returns-in_err-close-in-Paragraph-clause-read : goal.returns-in_err-close-in-Paragraph-clause-read
@@ -82,3 +86,52 @@ returns-in_ok-underlined-in-Title-clause-read c =
 pub returns-in_ok-underlined-in-Title-clause-kept : goal.returns-in_ok-underlined-in-Title-clause-kept
 returns-in_ok-underlined-in-Title-clause-kept c =
     kept_then (kept_then (kept_closed c.in_ok-close-in-Title.ensures.closed c.requires.placed) (kept_more c.in_ok-append-in-Title.ensures.more)) (λ w. kept_items c.in_ok-underlined-in-Title.ensures.read)
+
+pub returns-in-Definition-clause-paid : goal.returns-in-Definition-clause-paid
+returns-in-Definition-clause-paid c =
+    let next = c.below_text-next.ensures in
+    IfOk-weaker c.definition.result _ _ (λ _ h. paid_text c.requires.inside c.line-text.ensures.looks next.low next.looks h) c.definition.ensures.paid
+
+pub returns-in_ok-paragraph-in-Paragraph-clause-paid : goal.returns-in_ok-paragraph-in-Paragraph-clause-paid
+returns-in_ok-paragraph-in-Paragraph-clause-paid c =
+    let B = block_of c.args.view.now in
+    let l = c.args.level.now in
+    let form = form_here B l.at c.line-text.ensures.text c.below_text-next.ensures.text c.text_form.ensures c.in-Paragraph.is in
+    let next = c.below_text-next.ensures in
+    let some = c.in_ok-append-in-Paragraph.ensures.more in
+    let gone = c.in_ok-paragraph-in-Paragraph.ensures.read.gone in
+    let at : c.append.new.self.at ≡ l.at = c.append.ensures.at ∙ c.close.ensures.at in
+    let looks = paragraph_looks B c.append.new.self.at (run_looks l.run) at c.close.ensures.low c.close.ensures.run c.in_ok-paragraph-in-Paragraph.ensures.most c.in_ok-paragraph-in-Paragraph.ensures.low in
+    paid_text c.requires.inside c.line-text.ensures.looks next.low next.looks
+    (paid_flat 25 c.paragraph.new.level _ _ (next_of_form c.args.infos.items c.requires.text form) tt c.in_ok-close-in-Paragraph.ensures.closed (gone.depth ∙ some.depth) (gone.run ∙ some.run)
+    (gone.at ∙ ap (λ i. i + paragraph_size (drop i B)) at) looks.0 looks.1)
+
+pub returns-in_ok-paragraph-in-ShortUnderline-clause-paid : goal.returns-in_ok-paragraph-in-ShortUnderline-clause-paid
+returns-in_ok-paragraph-in-ShortUnderline-clause-paid c =
+    let B = block_of c.args.view.now in
+    let l = c.args.level.now in
+    let form = form_here B l.at c.line-text.ensures.text c.below_text-next.ensures.text c.text_form.ensures c.in-ShortUnderline.is in
+    let next = c.below_text-next.ensures in
+    let some = c.in_ok-append-in-ShortUnderline.ensures.more in
+    let info = c.in_ok-put_short_underline-in-ShortUnderline.ensures.more in
+    let gone = c.in_ok-paragraph-in-ShortUnderline.ensures.read.gone in
+    let at : c.put_short_underline.new.level.at ≡ l.at = c.put_short_underline.ensures.at ∙ c.append-in-ShortUnderline.ensures.at ∙ c.close-in-ShortUnderline.ensures.at in
+    let looks = paragraph_looks B c.put_short_underline.new.level.at (run_looks l.run) at c.close-in-ShortUnderline.ensures.low c.close-in-ShortUnderline.ensures.run c.in_ok-paragraph-in-ShortUnderline.ensures.most
+    c.in_ok-paragraph-in-ShortUnderline.ensures.low in
+    paid_text c.requires.inside c.line-text.ensures.looks next.low next.looks
+    (paid_flat 25 c.paragraph-in-ShortUnderline.new.level _ _ (next_of_form c.args.infos.items c.requires.text form) tt c.in_ok-close-in-ShortUnderline.ensures.closed (gone.depth ∙ info.depth ∙ some.depth)
+    (gone.run ∙ info.run ∙ some.run) (gone.at ∙ ap (λ i. i + paragraph_size (drop i B)) at) looks.0 looks.1)
+
+pub returns-in_ok-underlined-in-Title-clause-paid : goal.returns-in_ok-underlined-in-Title-clause-paid
+returns-in_ok-underlined-in-Title-clause-paid c =
+    let B = block_of c.args.view.now in
+    let l = c.args.level.now in
+    let form = form_here B l.at c.line-text.ensures.text c.below_text-next.ensures.text c.text_form.ensures c.in-Title.is in
+    let next = c.below_text-next.ensures in
+    let some = c.in_ok-append-in-Title.ensures.more in
+    let read = c.in_ok-underlined-in-Title.ensures.read in
+    let at : c.append-in-Title.new.self.at ≡ l.at = c.append-in-Title.ensures.at ∙ c.close-in-Title.ensures.at in
+    paid_text c.requires.inside c.line-text.ensures.looks next.low next.looks
+    (paid_flat 25 c.underlined.new.level c.below_text-next.new.looks c.underlined.new.pass.looks (next_of_form c.args.infos.items c.requires.text form) tt c.in_ok-close-in-Title.ensures.closed
+    (read.depth ∙ some.depth) (read.run ∙ some.run) (read.at ∙ ap (λ i. i + 2) at)
+    (omega (arith, c.close-in-Title.ensures.run, c.underlined.ensures.most)) (omega (arith, c.close-in-Title.ensures.low, c.in_ok-underlined-in-Title.ensures.low)))

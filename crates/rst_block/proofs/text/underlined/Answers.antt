@@ -1,4 +1,4 @@
-use Rattle.std.proofs.Common.{◌≡◌, ◌+◌, drop, sym, ap, subst, ◌∙◌, arith}
+use Rattle.std.proofs.Common.{◌≡◌, ◌+◌, length, drop, slice_range, refl, sym, ap, subst, ◌∙◌, arith}
 use Rattle.std.specs.Prelude.{string_bytes}
 use Rattle.rst_text.specs.Block.{front_text, first_number}
 use Rattle.rst_text.specs.Shown.{block_of}
@@ -6,8 +6,9 @@ use Rattle.rst_block.specs.OpenBlocks.{ReadsItems}
 use Rattle.rst_block.specs.TextSteps.{under_style}
 use Rattle.rst_block.specs.Texts.{source_of}
 use Rattle.rst_block.specs.Titles.{title_item}
-use Rattle.rst_block.proofs.Calls.{gives_map}
+use Rattle.rst_block.proofs.Calls.{gives_map, gives_kept}
 use Rattle.rst_block.proofs.TextLines.{more_items, warning_as, titled_as, unexpected_as}
+use Rattle.rst_block.proofs.TextsPaid.{lines_looked}
 use Rattle.rst_block.proofs.text.underlined.Goals as goal
 
 pub returns-then-titles-clause-read : goal.returns-then-titles-clause-read
@@ -33,3 +34,19 @@ returns-clause-read c =
     let warning = warning_as c.args.short B l.at place end c.number_at-under.ensures (c.as_str.ensures.value ∙ c.in_ok-lines.ensures.bytes) c.in_ok-warning.ensures in
     gives_map _ _ c.put_unexpected.result c.put_unexpected.ensures.gone
     (λ _ h. more_items _ (unexpected_as c.args.short B l.at c.args.pass.now.numbers (sym c.titles.ensures ∙ c.if-titles.false) bytes warning) c.requires.placed h)
+
+pub returns-then-titles-clause-low : goal.returns-then-titles-clause-low
+returns-then-titles-clause-low c =
+    let B = block_of c.args.view.now in
+    let at = c.args.level.now.at in
+    let end : c.saturating_add-end.result ≡ at + 2 = omega arith in
+    let looked : length (slice_range B at c.saturating_add-end.result) ≡ 2 = lines_looked B at c.saturating_add-end.result refl end (omega (arith, c.requires.inside)) in
+    gives_kept _ _ c.put_title.result c.put_title.ensures.read (λ _ _. omega (arith, c.in_ok-lines.ensures.each, looked, c.put_title.ensures.low))
+
+pub returns-clause-low : goal.returns-clause-low
+returns-clause-low c =
+    let B = block_of c.args.view.now in
+    let at = c.args.level.now.at in
+    let end : c.saturating_add-end.result ≡ at + 2 = omega arith in
+    let looked : length (slice_range B at c.saturating_add-end.result) ≡ 2 = lines_looked B at c.saturating_add-end.result refl end (omega (arith, c.requires.inside)) in
+    gives_kept _ _ c.put_unexpected.result c.put_unexpected.ensures.gone (λ _ _. omega (arith, c.in_ok-lines.ensures.each, looked))
