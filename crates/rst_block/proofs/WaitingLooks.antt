@@ -121,7 +121,7 @@ resumed l new B w before after one d p r few some =
       no_less = omega (arith, some, n, ap (totals l.depth) q.0);
     }
 
-pub quotes_go_on : (l new : OpenBlock) (B : Block) (line end : ℕ) (made : Option (Box Texted Global)) (p : Part) (s : Step) (before after : ℕ) → AreQuotesPaid l new B p end s before after
+pub quotes_go_on : (l new : OpenBlock) (B : Block) (line end : ℕ) (made : Option (Box Texted Global)) (p : Part) (s : Step) (before after : ℕ) → AreQuotesPaid l new B p p.to s before after
     → Takes (most_after l B (Quote line made (Some p) end) None) (least_after l B (Quote line made (Some p) end) None) before (most_left new B s) (least_left new B s) after
 unfolding sum_of
 quotes_go_on l new B line end made p s before after h = by s h.goes h.place h.blocks h.cells h.most
@@ -132,7 +132,7 @@ quotes_go_on l new B line end made p s before after h = by s h.goes h.place h.bl
     quotes : List Block
     quotes = quoted_blocks (lines_in B p)
 
-    same : (t : Step) → place_after new t ≡ end → totals D (next_blocks B t) ≡ totals D quotes → next_cells t ≡ [] → after + end_looks new t ≤ before + run_looks l.run + (1 + 16 * (p.to - p.from))
+    same : (t : Step) → place_after new t ≡ p.to → totals D (next_blocks B t) ≡ totals D quotes → next_cells t ≡ [] → after + end_looks new t ≤ before + run_looks l.run + (1 + 16 * (p.to - p.from))
         → Takes (most_after l B (Quote line made (Some p) end) None) (least_after l B (Quote line made (Some p) end) None) before
         (end_looks new t + 128 * (totals new.depth (next_blocks B t) + totals new.depth (next_cells t)) + most_from new.depth B (place_after new t))
         (totals new.depth (next_blocks B t) + totals new.depth (next_cells t) + least_from new.depth B (place_after new t)) after
@@ -142,7 +142,7 @@ quotes_go_on l new B line end made p s before after h = by s h.goes h.place h.bl
         let none = ap (totals D) cells in
         rw h.depth (record { no_more = omega (arith, few, m, blocks, none); no_less = omega (arith, h.least, n, blocks, none) })
 
-    by : (t : Step) → GoesOn t → place_after new t ≡ end → totals D (next_blocks B t) ≡ totals D quotes → next_cells t ≡ [] → after + end_looks new t ≤ before + run_looks l.run + (1 + 16 * (p.to - p.from))
+    by : (t : Step) → GoesOn t → place_after new t ≡ p.to → totals D (next_blocks B t) ≡ totals D quotes → next_cells t ≡ [] → after + end_looks new t ≤ before + run_looks l.run + (1 + 16 * (p.to - p.from))
         → Takes (most_after l B (Quote line made (Some p) end) None) (least_after l B (Quote line made (Some p) end) None) before (most_left new B t) (least_left new B t) after
     by Next g place blocks cells few = same Next place blocks cells few
     by (Open w first second) g place blocks cells few = same (Open w first second) place blocks cells few

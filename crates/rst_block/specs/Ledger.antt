@@ -55,7 +55,7 @@ least_from depth B i = (length B - i) + still_inside depth B i
 
 -- the line that a block goes on at that waits: it comes after all quotes of an indented block
 abbrev pub goes_on_at : OpenBlock → Waits → ℕ
-goes_on_at l (Quote line attribution (Some p) end) = end
+goes_on_at l (Quote line attribution (Some p) end) = p.to
 goes_on_at l w = l.at
 
 -- the lines of a part, if there is one

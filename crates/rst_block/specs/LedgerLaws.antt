@@ -103,7 +103,7 @@ ResumedIsPaid = (l new : OpenBlock) (B : Block) (w : Waits) (before after : ℕ)
 
 -- it waits for the next quote
 abbrev pub QuotesArePaid : Type 0
-QuotesArePaid = (l new : OpenBlock) (B : Block) (line end : ℕ) (made : Option (Box Texted Global)) (p : Part) (s : Step) (before after : ℕ) → AreQuotesPaid l new B p end s before after
+QuotesArePaid = (l new : OpenBlock) (B : Block) (line end : ℕ) (made : Option (Box Texted Global)) (p : Part) (s : Step) (before after : ℕ) → AreQuotesPaid l new B p p.to s before after
     → Takes (most_after l B (Quote line made (Some p) end) None) (least_after l B (Quote line made (Some p) end) None) before (most_left new B s) (least_left new B s) after
 
 -- below the last level: its parts are blank, and a look or more, no more than 128, is taken at each of their lines
