@@ -34,6 +34,7 @@ pub mod ParagraphLemmas
 pub mod ParagraphsPaid
 pub mod QuoteCounts
 pub mod QuoteSteps
+pub mod QuotesPaid
 pub mod RestLemmas
 pub mod ScanLemmas
 pub mod Spelling

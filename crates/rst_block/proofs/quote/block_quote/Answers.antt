@@ -1,4 +1,5 @@
 use Rattle.std.proofs.Common.{◌<◌, [], drop, sym, ap, subst, ◌∙◌, arith, rules}
+use Rattle.std.proofs.lemmas.Result.{IfOk-weaker}
 use Rattle.rst_text.specs.Shown.{block_of}
 use Rattle.rst_markup_blocks.specs.declared.begun.Begun.TheVariants.{Quote}
 use Rattle.rst_markup_blocks.specs.declared.part.Part.{Part}
@@ -8,6 +9,7 @@ use Rattle.rst_block.proofs.Calls.{close_refuses, keeps_as, kept_after}
 use Rattle.rst_block.proofs.Changes.{kept_closed}
 use Rattle.rst_block.proofs.NextConstructs.{next_of, next_some, has_ended, next_refused}
 use Rattle.rst_block.proofs.QuoteSteps.{quote_reads}
+use Rattle.rst_block.proofs.QuotesPaid.{block_quote_paid}
 use Rattle.rst_block.proofs.quote.block_quote.Goals as goal
 
 pub returns-in_err-close-clause-read : goal.returns-in_err-close-clause-read
@@ -34,3 +36,10 @@ returns-clause-read c =
 
 pub returns-clause-kept : goal.returns-clause-kept
 returns-clause-kept c = kept_after c.quote_part.result _ (kept_closed c.in_ok-close.ensures.closed c.requires.placed) c.quote_part.ensures.kept
+
+pub returns-clause-paid : goal.returns-clause-paid
+returns-clause-paid c =
+    IfOk-weaker c.quote_part.result _ _
+    (λ s h. block_quote_paid c.args.level.now c.close.new.self c.quote_part.new.level (block_of c.args.view.now) c.indented-quote.result s _ _ _ _ _ _ c.requires.inside c.requires.begun
+    c.in_ok-close.ensures.closed c.close.ensures.low c.close.ensures.run c.indented-quote.ensures.part c.indented-quote.ensures.reach h)
+    c.quote_part.ensures.paid

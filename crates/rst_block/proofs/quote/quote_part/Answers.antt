@@ -9,6 +9,7 @@ use Rattle.rst_block.specs.declared.step.Step.TheVariants.{Open}
 use Rattle.rst_block.proofs.Blocks.{front_block}
 use Rattle.rst_block.proofs.Changes.{kept_moved}
 use Rattle.rst_block.proofs.QuoteSteps.{plain_part, attributed_part, rest_follows}
+use Rattle.rst_block.proofs.QuotesPaid.{plain_paid, attributed_paid}
 use Rattle.rst_block.proofs.quote.quote_part.Goals as goal
 
 pub returns-in_ok-attribution-in-Some-clause-step : goal.returns-in_ok-attribution-in-Some-clause-step
@@ -53,3 +54,18 @@ returns-in_ok-attribution-in-Some-clause-read c =
 
 pub returns-in_ok-attribution-in-Some-clause-kept : goal.returns-in_ok-attribution-in-Some-clause-kept
 returns-in_ok-attribution-in-Some-clause-kept c = kept_moved c.go_to-in-Some.ensures.moved c.requires.placed
+
+pub returns-in-None-clause-paid : goal.returns-in-None-clause-paid
+returns-in-None-clause-paid c =
+    plain_paid c.args.level.now c.go_to.new.self (block_of c.args.view.now) c.args.quote c.number_at-line.result _ _ (block_of c.inside-lines.result) c.inside-lines.ensures.block c.in-None.ensures.first
+    c.inside-lines.ensures.lines c.requires.filled c.go_to.ensures.moved (c.go_to.ensures.there (omega arith)) c.in-None.ensures.all c.first_attribution.ensures.low
+
+pub returns-in_ok-attribution-in-Some-clause-paid : goal.returns-in_ok-attribution-in-Some-clause-paid
+returns-in_ok-attribution-in-Some-clause-paid c =
+    let quote : Part = c.args.quote in
+    let behind : c.args.level.now.at < quote.from + c.lines_end-next.result = omega (arith, c.requires.at, c.lines_end-next.ensures.end, c.in-Some.ensures.place.0, c.in-Some.ensures.place.1) in
+    attributed_paid c.args.level.now c.go_to-in-Some.new.self (block_of c.args.view.now) quote c.in-Some.place c.lines_end-next.result c.number_at-line.result _ _ _ _ c.in-Some.found
+    c.in_ok-attribution-in-Some.attribution c.rest_of.result (block_of c.inside-lines.result) c.rest_of.ensures c.inside-lines.ensures.block
+    c.in-Some.ensures.first c.lines_end-next.ensures.end c.inside-lines.ensures.lines c.requires.filled c.requires.block.within c.in-Some.ensures.place.0
+    c.go_to-in-Some.ensures.moved (c.go_to-in-Some.ensures.there behind) c.in-Some.ensures.through c.first_attribution.ensures.low c.in_ok-made-in-Some.ensures.each
+    c.lines_end-next.ensures.few c.lines_end-next.ensures.low

@@ -1,4 +1,5 @@
-use Rattle.std.proofs.Common.{◌≡◌, List, [], ◌∷◌, string_bytes, option_map, box_value, sym, ap, ◌∙◌}
+use Rattle.std.proofs.Common.{◌≡◌, List, [], ◌∷◌, string_bytes, option_map, box_value, sym, ap, ◌∙◌, subst}
+use Rattle.std.proofs.lemmas.Result.{IfOk-weaker}
 use Rattle.rst_text.specs.Block.{Block}
 use Rattle.rst_text.specs.Shown.{block_of}
 use Rattle.rst_tree.specs.declared.node.Node.{Node}
@@ -6,12 +7,14 @@ use Rattle.rst_tree.specs.declared.tag.Tag.TheVariants.{ListItem}
 use Rattle.rst_block_nodes.specs.Elements.{element_of}
 use Rattle.rst_block.specs.Directives.{first_paragraph, replacement}
 use Rattle.rst_block.specs.Figures.{caption_error, figure_nodes}
+use Rattle.rst_block.specs.Ledger.{WaitsForOne}
 use Rattle.rst_block.specs.Meanings.{after_quote, quote_by, resumed}
 use Rattle.rst_block.specs.declared.figure.OpenFigure.{OpenFigure}
 use Rattle.rst_block.specs.declared.substitution.OpenReplacement.{OpenReplacement}
 use Rattle.rst_block.proofs.Calls.{keeps_as}
 use Rattle.rst_block.proofs.Changes.{kept_more, kept_item}
 use Rattle.rst_block.proofs.QuoteSteps.{after_more}
+use Rattle.rst_block.proofs.QuotesPaid.{more_paid, nodes_paid, item_paid}
 use Rattle.rst_block.proofs.Waiting.{nodes_given, item_given, item_made}
 use Rattle.rst_block.proofs.resume.resume.Goals.{in-ListItem+in_ok-push_item-in-ListItem, in-ListedBody+in_ok-append-in-ListedBody+in_ok-push-in-ListedBody+in_ok-push_item-in-ListedBody, in-Element+in_ok-filled-in-Element+in_ok-push-in-Element, in-Figure+in_ok-finished_figure-in-Figure+in_ok-append-in-Figure, in-Replacement+in_ok-finished_replacement-in-Replacement+in_ok-push-in-Replacement}
 use Rattle.rst_block.proofs.resume.resume.Goals as goal
@@ -78,4 +81,26 @@ returns-clause-read c =
           nodes_given B n w.in_ok-push-in-Replacement.ensures.more
           (ap (λ (m : Node). m ∷ []) w.in_ok-finished_replacement-in-Replacement.ensures ∙ ap node_of w.into_inner-in-Replacement.ensures) c.requires.placed w.level-is
           ∙ ap (λ waits. resumed old B waits ns n) (sym w.in-Replacement.is)
+    ]
+
+pub returns-in-Quote-clause-paid : goal.returns-in-Quote-clause-paid
+returns-in-Quote-clause-paid c =
+    let x = c.in-Quote in
+    IfOk-weaker c.after_quote.result _ _
+    (λ s h. more_paid (block_of c.args.view.now) c.args.waits x.line x.end x.attribution x.rest _ _ _ _ x.is c.in_ok-put_quote-in-Quote.ensures.more h)
+    (c.after_quote.ensures.paid x.line x.attribution)
+
+pub returns-clause-paid : goal.returns-clause-paid
+returns-clause-paid c =
+    let B : Block = block_of c.args.view.now in
+    let n = c.args.pass.now.looks in
+    let old = c.args.level.now in
+    let last = c.match-waits.level in
+    elim c.match-waits.branch [
+      | in-ListItem+in_ok-push_item-in-ListItem w ↦ item_paid old w.push_item.new.self last B _ c.args.waits n (subst WaitsForOne (sym w.in-ListItem.is) tt) w.in_ok-push_item-in-ListItem.ensures.item w.level-is
+      | in-ListedBody+in_ok-append-in-ListedBody+in_ok-push-in-ListedBody+in_ok-push_item-in-ListedBody w ↦
+          item_paid old w.push_item-in-ListedBody.new.self last B _ c.args.waits n (subst WaitsForOne (sym w.in-ListedBody.is) tt) w.in_ok-push_item-in-ListedBody.ensures.item w.level-is
+      | in-Element+in_ok-filled-in-Element+in_ok-push-in-Element w ↦ nodes_paid B c.args.waits n (subst WaitsForOne (sym w.in-Element.is) tt) w.in_ok-push-in-Element.ensures.more w.level-is
+      | in-Figure+in_ok-finished_figure-in-Figure+in_ok-append-in-Figure w ↦ nodes_paid B c.args.waits n (subst WaitsForOne (sym w.in-Figure.is) tt) w.in_ok-append-in-Figure.ensures.more w.level-is
+      | in-Replacement+in_ok-finished_replacement-in-Replacement+in_ok-push-in-Replacement w ↦ nodes_paid B c.args.waits n (subst WaitsForOne (sym w.in-Replacement.is) tt) w.in_ok-push-in-Replacement.ensures.more w.level-is
     ]
