@@ -1,5 +1,5 @@
 //! Tables (Markup Specification, 'Tables').
-ghost use Rattle.std.specs.Prelude.{◌≡◌, ◌+◌, ◌-◌, ◌^◌, ◌<◌, ◌≤◌, [], ◌∷◌, codes, length, drop, slice_range, nat_lt, if◌then◌else◌, IfOk, ℕ, ◌*◌};
+ghost use Rattle.std.specs.Prelude.{◌≡◌, ◌+◌, ◌-◌, ◌^◌, ◌<◌, ◌≤◌, ◌==◌, [], ◌∷◌, codes, length, drop, slice_range, nat_lt, if◌then◌else◌, IfOk, ℕ, ◌*◌};
 ghost use Rattle.rst_text.specs.Block.{first_number};
 ghost use Rattle.rst_text.specs.Shown.{block_of};
 ghost use Rattle.rst_tree.specs.Faults.{Gives};
