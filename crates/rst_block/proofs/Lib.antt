@@ -22,6 +22,7 @@ pub mod LastLevel
 pub mod Looked
 pub mod MarkFacts
 pub mod MarkupFacts
+pub mod MarkupPaid
 pub mod MarkupReads
 pub mod MeaningLemmas
 pub mod NextConstructs

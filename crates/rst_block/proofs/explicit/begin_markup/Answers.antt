@@ -22,3 +22,9 @@ returns-in_err-close-clause-read c =
     let l = c.args.level.now in
     close_refuses c.from_residual.result c.in_err-close.field-0.0 _ _ _ l (search rules) c.in_err-close.ensures.closed
     (λ line h. markup_refused l (block_of c.args.view.now) c.args.end _ line (sym c.is_markup.ensures ∙ c.if-is_markup.false) h)
+
+pub returns-then-is_markup-clause-run : goal.returns-then-is_markup-clause-run
+returns-then-is_markup-clause-run c = omega arith
+
+pub returns-clause-run : goal.returns-clause-run
+returns-clause-run c = omega (arith, c.close.ensures.run)

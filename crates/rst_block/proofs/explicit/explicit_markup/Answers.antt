@@ -1,7 +1,9 @@
-use Rattle.std.proofs.Common.{arith, rules, ◌∙◌, sym}
+use Rattle.std.proofs.Common.{drop, arith, rules, ◌∙◌, ap, sym}
 use Rattle.rst_text.specs.Shown.{block_of}
+use Rattle.rst_markup_blocks.specs.Explicit.{explicit_of}
 use Rattle.rst_block.proofs.Calls.{keeps_as, refuses, refused_as}
 use Rattle.rst_block.proofs.MarkupReads.{explicit_some, explicit_reads, found_reads}
+use Rattle.rst_block.proofs.MarkupPaid.{markup_paid}
 use Rattle.rst_block.proofs.explicit.explicit_markup.Goals as goal
 
 pub markup_of-requires-clause-later : goal.markup_of-requires-clause-later
@@ -20,3 +22,12 @@ returns-clause-read c =
     (found_reads c.args.level.now c.begin_markup.new.level (block_of c.args.view.now) c.explicit-found.result end c.args.pass.now.numbers c.begin_markup.new.pass.numbers c.requires.kind
     (c.end-end.ensures ∙ c.explicit-found.ensures.end) c.explicit-found.ensures.explicit c.begin_markup.ensures.at c.in_ok-begin_markup.ensures.read)
     c.markup_of.ensures.read
+
+pub markup_of-requires-clause-explicit : goal.markup_of-requires-clause-explicit
+markup_of-requires-clause-explicit c = c.explicit-found.ensures.explicit ∙ ap (λ i. explicit_of i (drop i (block_of c.args.view.now))) (sym c.begin_markup.ensures.at)
+
+pub returns-clause-paid : goal.returns-clause-paid
+returns-clause-paid c =
+    markup_paid c.args.level.now c.begin_markup.new.level c.markup_of.new.level (block_of c.args.view.now) c.explicit-found.result c.end-end.result c.markup_of.result c.args.pass.now.looks _ _ _ c.requires.inside c.requires.kind
+    (c.end-end.ensures ∙ c.explicit-found.ensures.end) c.explicit-found.ensures.explicit c.begin_markup.ensures.at c.in_ok-begin_markup.ensures.kept.depth
+    c.explicit-found.ensures.looks c.explicit-found.ensures.low c.in_ok-begin_markup.ensures.run c.begin_markup.ensures.low c.markup_of.ensures.paid

@@ -1,4 +1,4 @@
-use Rattle.std.proofs.Common.{[], ◌∷◌, drop, refl, ap, ◌∙◌}
+use Rattle.std.proofs.Common.{[], ◌∷◌, drop, refl, ap, ◌∙◌, arith}
 use Rattle.rst_text.specs.Block.{front_text}
 use Rattle.rst_text.specs.Shown.{block_of}
 use Rattle.rst_block_nodes.specs.Elements.{footnote_node}
@@ -9,6 +9,7 @@ use Rattle.rst_block.specs.Meanings.{comes, within_at}
 use Rattle.rst_block.specs.Texts.{excerpt}
 use Rattle.rst_block.specs.declared.resume.Waits.TheVariants.{Element}
 use Rattle.rst_block.proofs.MarkupReads.{part_comes}
+use Rattle.rst_block.proofs.MarkupPaid.{opens_after}
 use Rattle.rst_block.proofs.explicit.footnote_block.Goals as goal
 
 pub returns-clause-read : goal.returns-clause-read
@@ -24,3 +25,7 @@ returns-clause-read c =
     (c.in_ok-element.ensures
     ∙ ap (λ label. footnote_node label c.number_at-line.result) (c.as_str.ensures.value ∙ c.in_ok-label.ensures.text)
     ∙ ap (footnote_node (excerpt (front_text (drop l.at B)) c.args.label)) c.number_at-line.ensures)
+
+pub returns-clause-paid : goal.returns-clause-paid
+returns-clause-paid c =
+    opens_after (c.noted.ensures.paid (block_of c.args.view.now) c.label_text.new.looks) (omega (arith, c.label_text.ensures.looks)) (omega (arith, c.label_text.ensures.looks))
