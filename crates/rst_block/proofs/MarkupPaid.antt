@@ -35,7 +35,7 @@ use Rattle.rst_markup_blocks.proofs.ExplicitLemmas.{size_other}
 use Rattle.rst_block.specs.Begins.{construct_with}
 use Rattle.rst_block.specs.Constructs.{explicit_markup}
 use Rattle.rst_block.specs.Inside.{markup_blocks, opened_by, cells_by}
-use Rattle.rst_block.specs.Ledger.{unread_at, totals, next_blocks, next_cells, run_looks, end_looks, IsPaid, Opens}
+use Rattle.rst_block.specs.Ledger.{unread_at, totals, next_blocks, run_looks, IsPaid, Opens}
 use Rattle.rst_block.specs.OpenBlocks.{IsMoved, HasMoreAt}
 use Rattle.rst_block.specs.Texts.{lines_in}
 use Rattle.rst_block.specs.declared.fault.BlockFault.{BlockFault}
@@ -111,10 +111,12 @@ BeginsIn i (markup.Directive call) = i ≤ call.block.from
 BeginsIn i (markup.Comment text cause) = i ≤ text.from
 BeginsIn i markup.EmptyComment = Unit {0}
 
+-- what has a label
 label_begins : (i : ℕ) (k : LabelKind) (label : Characters) (body : Part) → i ≤ body.from → BeginsIn i (label_with k label body)
 label_begins i FootnoteLabel label body h = h
 label_begins i CitationLabel label body h = h
 
+-- what a substitution definition holds
 held_begins : (i n : ℕ) (X : Block) → IfSome (held_of i n X) (λ (call : Invocation). (i ≤ call.block.from) × (call.block.to ≤ i + hanging_size X))
 unfolding held_of
 held_begins i n X = by (directive_of false (drop n (front_text X)))
@@ -123,6 +125,7 @@ held_begins i n X = by (directive_of false (drop n (front_text X)))
     by None = tt
     by (Some d) = let h = hanging_from i (n + d.marker.cut) d.marker.bare X in (h.0, omega (arith, h.1))
 
+-- markup of any form
 form_begins : (i : ℕ) (m : Marker) (f : ExplicitForm) (X : Block) → BeginsIn i (explicit_by f i m X)
 form_begins i m (Label l) X =
     let n : ℕ = m.cut + l.marker.cut in
@@ -133,6 +136,7 @@ form_begins i m (SubstitutionForm len x) X = held_begins i (m.cut + x.cut) X
 form_begins i m (DirectiveForm d) X = (hanging_from i (m.cut + d.marker.cut) d.marker.bare X).0
 form_begins i m (CommentForm cause) X = (hanging_from i m.cut false X).0
 
+-- what dots begin
 behind_begins : (i : ℕ) (m : Marker) (X : Block) → BeginsIn i (behind_dots i m X)
 unfolding behind_dots
 behind_begins i m X = by m.bare (is_blank (next_text X))
@@ -145,6 +149,7 @@ behind_begins i m X = by m.bare (is_blank (next_text X))
     by true false = (hanging_from i m.cut true X).0
     by false b = form_begins i m form X
 
+-- explicit markup that begins in the line
 begins : (i : ℕ) (X : Block) → BeginsIn i (explicit_of i X)
 unfolding explicit_of anonymous_of
 begins i X = by (dots (front_text X))
