@@ -18,6 +18,7 @@ pub mod LedgerLemmas
 pub mod LineSteps
 pub mod DirectiveFlags
 pub mod DirectiveReads
+pub mod DirectivesPaid
 pub mod LastLevel
 pub mod Looked
 pub mod MarkFacts

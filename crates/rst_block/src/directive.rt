@@ -26,7 +26,7 @@ ghost use Rattle.rst_block.specs.OpenBlocks.{Gives, IsKept, IsMoved, IsPlaced};
 ghost use Rattle.rst_block.specs.Steps as spec;
 ghost use Rattle.rst_block.specs.Texts.{joined, lines_in, shown, source_of, texted};
 ghost use Rattle.rst_block.specs.declared.step.Step.TheVariants.{Open};
-ghost use Rattle.rst_block.specs.Ledger.{Opens, argument_lines, unread_at};
+ghost use Rattle.rst_block.specs.Ledger.{Opens, argument_lines, quote_looks, unread_at};
 ghost use Rattle.rst_block.specs.Inside.{content_blocks, directive_blocks, directive_content};
 
 use super::explicit::put;
@@ -337,6 +337,7 @@ fn image_block(
 /// Opens the content of a directive, for whose nodes its block waits.
 fn opened(level: &mut OpenBlock, waits: Waits, found: &Found) -> Step
     requires later { level.old.at < found.now.end }
+    requires waits { quote_looks waits ≡ 0 }
     ensures opened { result ≡ Open waits found.now.content.first (Some found.now.content.second) }
     ensures at { level.new.at ≡ found.now.end }
     ensures moved { IsMoved level.old level.new }
