@@ -1,6 +1,6 @@
-use Rattle.std.proofs.Common.{List, drop, ap, ◌∙◌}
+use Rattle.std.proofs.Common.{List, Ok, drop, arith, refl, ap, ◌∙◌}
 use Rattle.std.specs.Prelude.{string_bytes}
-use Rattle.rst_text.specs.Block.{first_number}
+use Rattle.rst_text.specs.Block.{Block, first_number}
 use Rattle.rst_text.specs.Shown.{block_of}
 use Rattle.rst_tree.specs.declared.node.Node.{Node}
 use Rattle.rst_markup_directives.specs.Options.{choices_in}
@@ -12,6 +12,7 @@ use Rattle.rst_block.specs.Texts.{source_of}
 use Rattle.rst_block.specs.declared.figure.OpenFigure.{OpenFigure}
 use Rattle.rst_block.specs.declared.resume.Waits.TheVariants.{Figure}
 use Rattle.rst_block.proofs.DirectiveReads.{figure_is}
+use Rattle.rst_block.proofs.DirectivesPaid.{opened_within}
 use Rattle.rst_block.proofs.MarkupReads.{content_comes}
 use Rattle.rst_block.proofs.NextConstructs.{span_to}
 use Rattle.rst_block.proofs.directive.figure_block.Goals as goal
@@ -32,3 +33,8 @@ returns-clause-read c =
     ∙ ap (λ (read : Numbered (List Node)). reads_with l B read f.end n)
     (figure_is (within_at l.depth) B (read_of f) c.args.uri.now (source_of B (span_to l.at f.end)) source line (first_number (drop l.at B)) c.as_slice-options.result.now c.in_ok-figure.field-0 c.in_ok-shown.shown figure
     c.in_ok-alone.field-0.items c.in_ok-figure.ensures c.in_ok-shown.ensures c.in_ok-alone.ensures c.in_ok-figure-2.ensures (ap choices_in c.as_slice-options.ensures.value) c.number_at-line.ensures c.in_ok-source.ensures.bytes)
+
+pub returns-clause-paid : goal.returns-clause-paid
+returns-clause-paid c =
+    let B : Block = block_of c.args.view.now in
+    opened_within _ _ _ B _ _ _ _ _ (Ok c.opened.result) (omega (arith, c.in_ok-source.ensures.each)) (omega (arith, c.source.ensures.most)) refl (c.opened.ensures.paid B _ _)
