@@ -16,6 +16,7 @@ pub mod LiteralLemmas
 pub mod InsideReads
 pub mod LedgerLemmas
 pub mod LineSteps
+pub mod LinesPaid
 pub mod DirectiveFlags
 pub mod DirectiveReads
 pub mod DirectivesPaid

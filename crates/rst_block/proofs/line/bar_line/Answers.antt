@@ -12,6 +12,7 @@ use Rattle.rst_block.specs.declared.run.Run.TheVariants.{Lines}
 use Rattle.rst_block.proofs.Calls.{close_refuses, gives_keeps, gives_kept}
 use Rattle.rst_block.proofs.Changes.{kept_run, kept_closed, kept_then}
 use Rattle.rst_block.proofs.LineSteps.{line_refused, line_joined, line_begun, kept_line}
+use Rattle.rst_block.proofs.LinesPaid.{line_paid}
 use Rattle.rst_block.proofs.NextConstructs.{next_of, next_some, span_to, has_ended}
 use Rattle.rst_block.proofs.line.bar_line.Goals as goal
 
@@ -70,3 +71,16 @@ returns-clause-read c =
     (λ _ h. line_begun opened bar l.at (sym c.lines_end_at.ensures ∙ c.if-lines_end_at.false) next line (has_ended B _ c.in_ok-close.ensures.closed c.requires.placed) run
     (subst (λ i. HasLine opened new (line_added bar i (open_of opened.run))) stop h.0) (h.1 (omega (arith, stop, some, c.close.ensures.at)) ∙ stop)
     ∙ ap (reads l B) c.in_ok-text.ensures.numbers)
+
+pub returns-then-lines_end_at-clause-paid : goal.returns-then-lines_end_at-clause-paid
+returns-then-lines_end_at-clause-paid c =
+    gives_kept _ _ c.add_line.result c.add_line.ensures.line
+    (λ _ h. line_paid c.indented_end-end.result _ _ _ _ c.requires.inside c.requires.begun c.indented_end-end.ensures.end h.0.depth h.1 c.indented_end-end.ensures.few c.indented_end-end.ensures.low
+    c.in_ok-text.ensures.most c.in_ok-text.ensures.low (omega arith) (omega arith))
+
+pub returns-clause-paid : goal.returns-clause-paid
+returns-clause-paid c =
+    let at : c.close.new.self.at ≡ c.args.level.now.at = c.close.ensures.at in
+    gives_kept _ _ c.add_line-2.result c.add_line-2.ensures.line
+    (λ _ h. line_paid c.indented_end-end.result _ _ _ _ c.requires.inside c.requires.begun c.indented_end-end.ensures.end (h.0.depth ∙ c.in_ok-close.ensures.closed.depth) (λ gone. h.1 (omega (arith, at, gone)))
+    c.indented_end-end.ensures.few c.indented_end-end.ensures.low c.in_ok-text.ensures.most c.in_ok-text.ensures.low c.close.ensures.run c.close.ensures.low)
