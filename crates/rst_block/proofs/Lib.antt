@@ -43,6 +43,7 @@ pub mod ScanLemmas
 pub mod Spelling
 pub mod Splitting
 pub mod Stack
+pub mod StepsPaid
 pub mod SubstitutionReads
 pub mod TableSteps
 pub mod TextLines

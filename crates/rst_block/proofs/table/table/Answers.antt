@@ -6,11 +6,13 @@ use Rattle.rst_tree.specs.declared.note.Level.TheVariants.{Error}
 use Rattle.rst_markup_tables.specs.Messages.{malformed_text}
 use Rattle.rst_markup_tables.specs.declared.results.TableResult.TheVariants.{Malformed}
 use Rattle.rst_block.specs.Meanings.{reads}
+use Rattle.rst_block.specs.NextLine.{IsTableAt}
 use Rattle.rst_block.specs.OpenBlocks.{HasMore}
 use Rattle.rst_block.specs.Texts.{shown, source_of, warned}
 use Rattle.rst_block.proofs.Calls.{close_refuses}
 use Rattle.rst_block.proofs.Changes.{more_more, moved_more, kept_closed, kept_more, kept_then}
 use Rattle.rst_block.proofs.NextConstructs.{next_some, span_to, has_ended, next_refused}
+use Rattle.rst_block.proofs.StepsPaid.{malformed_paid, cells_paid}
 use Rattle.rst_block.proofs.TableSteps.{IsNextTable, next_table, table_comes, malformed_reads, table_steps}
 use Rattle.rst_block.proofs.table.table.Goals as goal
 
@@ -57,3 +59,20 @@ returns-in_default-clause-kept c = kept_closed c.in_ok-close.ensures.closed c.re
 pub returns-in_default-clause-read : goal.returns-in_default-clause-read
 returns-in_default-clause-read c =
     table_comes (next_table c.args.level.now (block_of c.args.view.now) c.args.found c.requires.table) (has_ended _ _ c.in_ok-close.ensures.closed c.requires.placed)
+
+pub returns-in_ok-after_table-in-Malformed-clause-paid : goal.returns-in_ok-after_table-in-Malformed-clause-paid
+returns-in_ok-after_table-in-Malformed-clause-paid c =
+    let B : Block = block_of c.args.view.now in
+    let l = c.args.level.now in
+    let end : ℕ = c.in-Malformed.end in
+    let here : IsTableAt B l.at (Malformed end c.in-Malformed.note) = subst (IsTableAt B l.at) c.in-Malformed.is c.requires.table in
+    let t : IsNextTable l B (Malformed end c.in-Malformed.note) = next_table l B (Malformed end c.in-Malformed.note) here in
+    let stop : end ≡ l.at + t.lines = t.end in
+    let at : c.go_to.new.self.at ≡ end = c.go_to.ensures.there (omega (arith, c.close.ensures.at, stop, next_some t.next c.requires.inside)) in
+    let more = moved_more c.go_to.ensures.moved at (more_more c.in_ok-push-in-Malformed.ensures.more c.in_ok-after_table-in-Malformed.ensures.more) in
+    λ before few some. malformed_paid c.close.new.self.at before _ _ _ _ here c.requires.inside (more.depth ∙ c.in_ok-close.ensures.closed.depth) more.at few some c.close.ensures.at
+    c.close.ensures.run c.close.ensures.low c.malformed.ensures.most (omega (arith, c.in_ok-error-in-Malformed.ensures.each)) c.after_table.ensures.looks c.after_table.ensures.low
+
+pub returns-in_default-clause-paid : goal.returns-in_default-clause-paid
+returns-in_default-clause-paid c =
+    λ before few some. cells_paid c.args.found before _ _ c.requires.table c.requires.inside c.in_ok-close.ensures.closed.depth few some c.close.ensures.run c.close.ensures.low
