@@ -54,7 +54,7 @@ first_run-le (l ∷ ls) = by (is_blank l.text) (first_run-le ls)
         let more : suc (length (first_run ls)) ≤ suc (length ls) = omega (arith, h) in
         subst (λ k. length (map (λ (m : Line). m.text) (take k (l ∷ ls))) ≤ suc (length ls)) one more
 
-run_in-le : (name : Name) (late : Bool) (H : Block) → length (run_in name late H) ≤ length H
+pub run_in-le : (name : Name) (late : Bool) (H : Block) → length (run_in name late H) ≤ length H
 unfolding run_in
 run_in-le name late H = by (late && is_code_name name)
   where

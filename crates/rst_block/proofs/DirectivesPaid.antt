@@ -39,24 +39,11 @@ use Rattle.rst_block.specs.declared.resume.Waits.{Waits}
 use Rattle.rst_block.specs.declared.resume.Waits.TheVariants.{Quote}
 use Rattle.rst_block.specs.declared.step.Step.{Step}
 use Rattle.rst_block.specs.declared.step.Step.TheVariants.{Open}
+use Rattle.rst_block.proofs.ContentFacts.{run_in-le}
+use Rattle.rst_block.proofs.PaidSteps.{opened_after}
 use Rattle.rst_block.proofs.PartFacts.{take_le, part_le}
 
 -- ---- what a call opens
-
--- a call that opens these blocks after some looks opens them in so many looks more
-pub opened_after : (few more : ℕ) (old new : OpenBlock) (B : Block) (Cs Ds : List Block) (end before mid after : ℕ) (result : Result Step BlockFault) → before ≤ mid → mid + few ≤ before + more → Cs ≡ Ds
-    → IfOk result (λ s. Opens few old new B Cs end s mid after) → IfOk result (λ s. Opens more old new B Ds end s before after)
-opened_after few more old new B Cs Ds end before mid after (Err fault) low high same h = tt
-opened_after few more old new B Cs Ds end before mid after (Ok s) low high same h = record {
-  goes = h.goes;
-  depth = h.depth;
-  run = h.run;
-  place = h.place;
-  blocks = h.blocks ∙ ap (totals old.depth) same;
-  cells = h.cells;
-  most = omega (arith, high, h.most);
-  least = omega (arith, low, h.least);
-}
 
 -- what is opened at the price of all looks before it is opened in no more looks than these
 pub opened_within : (more : ℕ) (old new : OpenBlock) (B : Block) (Cs Ds : List Block) (end before after : ℕ) (result : Result Step BlockFault) → before ≤ after → after ≤ before + more → Cs ≡ Ds
@@ -166,24 +153,13 @@ parts_short n name content given (Err w) h k = tt
 parts_short n name content (Err w) (Ok choices) h k = tt
 parts_short n name content (Ok value) (Ok choices) h k = (h, k)
 
--- the run of lines that a block begins with
-run_short : (name : Name) (late : Bool) (H : Block) → length (run_in name late H) ≤ length H
-unfolding run_in
-run_short name late H = by (late && is_code_name name)
-  where
-    by : (b : Bool) → length (cond b [] (first_run H)) ≤ length H
-    by true = omega arith
-    by false =
-        let X : Block = take_while (λ (l : Line). not (is_blank l.text)) H in
-        omega (arith, length-map X (λ (l : Line). l.text), (take_le (prefix_len (λ (l : Line). not (is_blank l.text)) H) H).1)
-
 block_short : (n : ℕ) (name : Name) (late : Bool) (block : Part) (H : Block) → length H ≤ n → MayBeReadShort n (read_block name late block H)
 unfolding read_block read_by
 block_short n name late block H few =
     let run : List Text = run_in name late H in
     let layout = layout_of name run H in
     parts_short n name (content_of block layout (length H)) (argument_of name (take layout.argument run) (part_of block 0 layout.argument)) (options_of name (drop layout.options run))
-    (argument_short n name block run (length H) (behind_blank H (length run)) (omega (arith, few, run_short name late H))) (omega (arith, few))
+    (argument_short n name block run (length H) (behind_blank H (length run)) (omega (arith, few, run_in-le name late H))) (omega (arith, few))
 
 judged_short : (n : ℕ) (place : Place) (paragraph : Bool) (source : Part) (read : Result Read Wrong) → MayBeReadShort n read → AreOutcomeShort n (outcome_at source (and_then (judged place paragraph) (of_block read)))
 judged_short n place paragraph source (Err w) h = tt

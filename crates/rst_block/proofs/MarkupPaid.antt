@@ -45,30 +45,10 @@ use Rattle.rst_block.specs.declared.step.Step.{Step}
 use Rattle.rst_block.specs.declared.step.Step.TheVariants.{Next, Open}
 use Rattle.rst_block.proofs.MarkupReads.{explicit_some, no_dots}
 use Rattle.rst_block.proofs.NextConstructs.{IsFilled}
-use Rattle.rst_block.proofs.PaidSteps.{paid_begun}
+use Rattle.rst_block.proofs.PaidSteps.{opened_after, paid_begun}
 use Rattle.rst_block.proofs.PartFacts.{hanging_from}
 
 -- ---- what a part of a construct opens
-
--- a part, where some looks were taken before it, and more are allowed
-pub opens_after : {few more : ℕ} {old new : OpenBlock} {B : Block} {inner : List Block} {end : ℕ} {s : Step} {before mid after : ℕ} → Opens few old new B inner end s mid after
-    → before ≤ mid → mid + few ≤ before + more → Opens more old new B inner end s before after
-opens_after h start enough = record {
-  goes = h.goes;
-  depth = h.depth;
-  run = h.run;
-  place = h.place;
-  blocks = h.blocks;
-  cells = h.cells;
-  most = omega (arith, enough, h.most);
-  least = omega (arith, start, h.least);
-}
-
--- the same of the step that a call gives
-pub call_opens : (result : Result Step BlockFault) (few more : ℕ) (old new : OpenBlock) (B : Block) (inner : List Block) (end before mid after : ℕ) → IfOk result (λ s. Opens few old new B inner end s mid after)
-    → before ≤ mid → mid + few ≤ before + more → IfOk result (λ s. Opens more old new B inner end s before after)
-call_opens result few more old new B inner end before mid after h start enough =
-    IfOk-weaker result (λ s. Opens few old new B inner end s mid after) (λ s. Opens more old new B inner end s before after) (λ s k. opens_after k start enough) h
 
 -- nodes came, and no block comes next
 pub opens_none : {old new : OpenBlock} {more : List Node} {end : ℕ} (few : ℕ) (B : Block) (before after : ℕ) → HasMoreAt old new more end → before ≤ after → after ≤ before + few
@@ -179,7 +159,7 @@ form_opens few found form old new B place end result before mid after is stop h 
     let Of : Markup → ℕ → Type 0 = λ x e. IfOk result (λ s. Opens few old new B (markup_blocks x (unread_at old.depth) B old.at) e s mid after) in
     let there : Of form end = subst (Of form) stop h in
     let all : Of found end = subst (λ x. Of x end) (sym is) there in
-    call_opens result few (20 * (end - old.at)) old new B (markup_blocks found (unread_at old.depth) B old.at) end before mid after all start enough
+    opened_after few (20 * (end - old.at)) old new B (markup_blocks found (unread_at old.depth) B old.at) (markup_blocks found (unread_at old.depth) B old.at) end before mid after result start enough refl all
 
 -- it is paid for, once its lines were looked at and the run of it has begun
 step_paid : (old mid new : OpenBlock) (B : Block) (found : Markup) (end : ℕ) (s : Step) (before looked begun after : ℕ) → old.at < length B → is_explicit_kind (kind_at (drop old.at B)) ≡ true

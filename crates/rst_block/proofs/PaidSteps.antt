@@ -1,5 +1,5 @@
 -- The next construct of a block is paid for, by the mark that is found at the next line.
-use Rattle.std.proofs.Common.{◌≡◌, ℕ, ◌+◌, ◌*◌, ◌≤◌, Bool, List, [], Result, drop, arith, refl, sym, ap, ◌∙◌, subst}
+use Rattle.std.proofs.Common.{◌≡◌, ℕ, ◌+◌, ◌*◌, ◌≤◌, Bool, List, [], Result, Ok, Err, IfOk, drop, arith, refl, sym, ap, ◌∙◌, subst}
 use Rattle.std.specs.Prelude.{◌==◌}
 use Rattle.rst_text.specs.Block.{Block}
 use Rattle.rst_tree.specs.declared.node.Node.{Node}
@@ -9,13 +9,14 @@ use Rattle.rst_markup_blocks.specs.declared.begun.Begun.{Begun}
 use Rattle.rst_block.specs.Begins.{construct_with}
 use Rattle.rst_block.specs.Constructs.{Construct}
 use Rattle.rst_block.specs.Inside.{opened_by, cells_by}
-use Rattle.rst_block.specs.Ledger.{unread_at, totals, place_after, next_blocks, next_cells, run_looks, end_looks, GoesOn, IsPaid}
+use Rattle.rst_block.specs.Ledger.{unread_at, totals, place_after, next_blocks, next_cells, run_looks, end_looks, GoesOn, IsPaid, Opens}
 use Rattle.rst_block.specs.Meanings.{open_of}
 use Rattle.rst_block.specs.NextLine.{IsNextConstruct}
 use Rattle.rst_block.specs.OpenBlocks.{IsMoved, HasMoreAt, IsClosed}
 use Rattle.rst_block.specs.Reaches.{reach_at}
 use Rattle.rst_block.specs.Rest.{no_run}
 use Rattle.rst_block.specs.Titles.{Item}
+use Rattle.rst_block.specs.declared.fault.BlockFault.{BlockFault}
 use Rattle.rst_block.specs.declared.open_block.OpenBlock.{OpenBlock}
 use Rattle.rst_block.specs.declared.run.Run.{Run}
 use Rattle.rst_block.specs.declared.run.Run.TheVariants.{None as NoRun, List as ListRun, Lines, Explicit as ExplicitRun}
@@ -71,3 +72,25 @@ pub paid_alone : (each : ℕ) (begun : Begun) (l closed gone new : OpenBlock) (B
 paid_alone each begun l closed gone new B read m more before after h f none empty cl g at k most least =
     let ended : run_looks new.run ≡ 0 = ap run_looks (k.run ∙ g.run) ∙ ended_looks closed.run cl.run in
     paid_begun each begun l new B Next before after h f tt (k.depth ∙ g.depth ∙ cl.depth) (k.at ∙ at) (sym (ap (totals l.depth) none)) (sym (ap (totals l.depth) empty)) (omega (arith, ended, most)) least
+
+-- ---- parts of constructs
+
+-- a part, where some looks were taken before it, and more are allowed
+pub opens_after : {few more : ℕ} {old new : OpenBlock} {B : Block} {inner : List Block} {end : ℕ} {s : Step} {before mid after : ℕ} → Opens few old new B inner end s mid after
+    → before ≤ mid → mid + few ≤ before + more → Opens more old new B inner end s before after
+opens_after h start enough = record {
+  goes = h.goes;
+  depth = h.depth;
+  run = h.run;
+  place = h.place;
+  blocks = h.blocks;
+  cells = h.cells;
+  most = omega (arith, enough, h.most);
+  least = omega (arith, start, h.least);
+}
+
+-- a call that opens these blocks after some looks opens them in so many looks more
+pub opened_after : (few more : ℕ) (old new : OpenBlock) (B : Block) (Cs Ds : List Block) (end before mid after : ℕ) (result : Result Step BlockFault) → before ≤ mid → mid + few ≤ before + more → Cs ≡ Ds
+    → IfOk result (λ s. Opens few old new B Cs end s mid after) → IfOk result (λ s. Opens more old new B Ds end s before after)
+opened_after few more old new B Cs Ds end before mid after (Err fault) low high same h = tt
+opened_after few more old new B Cs Ds end before mid after (Ok s) low high same h = subst (λ Es. Opens more old new B Es end s before after) same (opens_after h low high)

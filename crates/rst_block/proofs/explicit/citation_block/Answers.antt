@@ -9,7 +9,7 @@ use Rattle.rst_block.specs.Meanings.{comes, within_at}
 use Rattle.rst_block.specs.Texts.{excerpt}
 use Rattle.rst_block.specs.declared.resume.Waits.TheVariants.{Element}
 use Rattle.rst_block.proofs.MarkupReads.{part_comes}
-use Rattle.rst_block.proofs.MarkupPaid.{opens_after}
+use Rattle.rst_block.proofs.PaidSteps.{opens_after}
 use Rattle.rst_block.proofs.explicit.citation_block.Goals as goal
 
 pub returns-clause-read : goal.returns-clause-read
