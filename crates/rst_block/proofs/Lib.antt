@@ -22,6 +22,7 @@ pub mod DirectiveReads
 pub mod DirectivesPaid
 pub mod LastLevel
 pub mod Looked
+pub mod MachinePaid
 pub mod MarkFacts
 pub mod MarkupFacts
 pub mod MarkupPaid

@@ -1,10 +1,10 @@
 //! Blocks that wait for one inside them.
-ghost use Rattle.std.specs.Prelude.{◌≡◌, ◌+◌, ◌-◌, ◌*◌, ◌^◌, ◌<◌, ◌≤◌, [], length, IfOk};
+ghost use Rattle.std.specs.Prelude.{◌≡◌, suc, ◌+◌, ◌-◌, ◌*◌, ◌^◌, ◌<◌, ◌≤◌, [], length, IfOk};
 ghost use Rattle.rst_text.specs.Shown.{block_of, source_of, IsPlacement, placement_block};
 ghost use Rattle.rst_markup_blocks.specs.Parts.{IsBlock};
 ghost use Rattle.rst_block.specs.Steps as spec;
 ghost use Rattle.rst_block.specs.Frames as frames;
-ghost use Rattle.rst_block.specs.Meanings.{IsNew, Keeps, after, done_of};
+ghost use Rattle.rst_block.specs.Meanings.{IsNew, Keeps, after, deepest, done_of};
 ghost use Rattle.rst_block.specs.Nodes.{nodes_among};
 ghost use Rattle.rst_block.specs.OpenBlocks.{IsPlaced};
 ghost use Rattle.rst_block.specs.Ledger.{Takes, ended_least, ended_most, least_after, most_after};
@@ -102,6 +102,8 @@ pub(crate) fn closed<'a>(
 ) -> Result<Ended<'a>, BlockFault>
     requires frame { frames.IsFrame (source_of whole.now) frame }
     requires few { pass.old.looks < 2 ^ 119 + 2 ^ 109 }
+    requires depth { depth ≡ suc frame.level.depth }
+    requires deepest { frame.level.depth < deepest }
     ensures ended { IfOk result (frames.IsEnded (source_of whole.now) frame level.new.at) }
     ensures kept { IfOk result (frames.KeepsFrame frame depth level.new) }
     ensures read { Keeps result (λ e. frames.ended_as (source_of whole.now) level.new e pass.new.numbers) (after frame.level (placement_block (source_of whole.now) frame.placement) frame.waits frame.second frame.nodes.items (nodes_among (done_of level.old)) pass.old.numbers) }

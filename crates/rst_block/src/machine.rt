@@ -1,5 +1,6 @@
 //! The machine: the constructs of a block one after the other, and the blocks inside them.
-ghost use Rattle.std.specs.Prelude.{◌≡◌, Ok, suc, ◌+◌, ◌-◌, ◌*◌, ◌^◌, ◌<◌, ◌≤◌, ◌++◌, ◌∷◌, [], length, drop, IfErr, IfOk, IfSome, IfNone};
+ghost use Rattle.std.specs.Prelude.{◌≡◌, Ok, suc, ◌+◌, ◌-◌, ◌*◌, ◌^◌, ◌<◌, ◌≤◌, ◌++◌, ◌∷◌, [], length, drop, IfErr, IfOk, IfSome, IfNone, IsTrue};
+ghost use Rattle.rst_text.specs.Lines.{are_lines};
 ghost use Rattle.rst_text.specs.Shown.{block_of};
 ghost use Rattle.rst_markup_blocks.specs.Parts.{IsBlock, IsCall};
 ghost use Rattle.rst_block.specs.Meanings.{Keeps, TellsBlank, comes, deepest, done_of, reads, text_items, within_at};
@@ -66,6 +67,7 @@ pub(crate) fn read(
     ensures read { Keeps result (λ level. just (done_of level) pass.new.numbers) (text_items depth lines.now pass.old.numbers) }
     ensures few { IfOk result (λ _. pass.new.looks < 2 ^ 119) }
     ensures paid { IfOk result (λ _. TakesFor (total_at depth lines.now) pass.old.looks pass.new.looks) }
+    ensures lines { IfOk result (λ _. IsTrue (are_lines lines.now)) }
 {
     let whole = View::whole(lines);
     if 0 < whole.len() && depth <= DEEPEST {

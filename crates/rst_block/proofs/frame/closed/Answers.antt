@@ -3,6 +3,7 @@ use Rattle.rst_text.specs.Shown.{block_of, source_of}
 use Rattle.rst_block.specs.Texts.{lines_in}
 use Rattle.rst_block.specs.declared.open_block.OpenBlock.{OpenBlock}
 use Rattle.rst_block.proofs.Calls.{refused_as, refuses}
+use Rattle.rst_block.proofs.MachinePaid.{second_waits, last_waits}
 use Rattle.rst_block.proofs.Waiting.{second_reads, last_reads}
 use Rattle.rst_block.proofs.frame.closed.Goals as goal
 
@@ -26,3 +27,14 @@ returns-clause-read c =
     c.in_ok-next-in-None.ensures.read
     ∙ last_reads (source_of c.args.whole.now) c.args.frame c.args.level.now c.replace-done.new.dest (block_of c.at-view.result) c.append.new.nodes.items c.args.pass.now.numbers c.in-None.is c.replace-done.ensures.after c.at-view.ensures.block
     (c.in_ok-append.ensures ∙ ap (λ (done : OpenBlock). c.args.frame.nodes.items ++ done.nodes.items) c.replace-done.ensures.value)
+
+pub returns-in-Some-clause-paid : goal.returns-in-Some-clause-paid
+returns-in-Some-clause-paid c =
+    second_waits (source_of c.args.whole.now) c.args.frame c.replace.result c.replace.new.dest c.in-Some.second (block_of c.inside-part.result) c.args.pass.now.looks c.in-Some.is
+    (c.replace.ensures.value ∙ c.replace-done.ensures.after)
+    (c.inside-part.ensures.block ∙ ap (λ Y. lines_in Y c.in-Some.second) c.at-view.ensures.block)
+    c.requires.deepest (ap (λ (l : OpenBlock). l.depth) c.replace.ensures.after ∙ c.new.ensures.depth ∙ c.requires.depth) (rw c.replace.ensures.after c.new.ensures.begun)
+
+pub returns-clause-paid : goal.returns-clause-paid
+returns-clause-paid c =
+    last_waits (source_of c.args.whole.now) c.args.frame c.replace-done.new.dest (block_of c.at-view.result) _ _ _ _ c.in-None.is c.replace-done.ensures.after c.at-view.ensures.block c.in_ok-next-in-None.ensures.paid

@@ -1,7 +1,10 @@
 use Rattle.std.proofs.Common.{◌≡◌, ◌⊎◌, inl, inr, ℕ, suc, ◌+◌, ◌-◌, ◌*◌, ◌^◌, ◌<◌, ◌≤◌, List, [], ◌∷◌, length, length-append, length-drop, drop, arith, rules, refl, sym, ap, ◌∙◌}
 use Rattle.std.proofs.lemmas.List.{drop-append-le, drop_all, take_all}
+use Rattle.std.proofs.lemmas.Result.{IfOk-weaker}
 use Rattle.rst_text.specs.Block.{Block}
+use Rattle.rst_text.specs.Lines.{are_lines}
 use Rattle.rst_text.specs.Shown.{block_of, source_of, placement_block}
+use Rattle.rst_text.proofs.Cuts.{are_lines-block_of}
 use Rattle.rst_block.specs.Meanings.{comes, deepest, done_of, reads, within_at}
 use Rattle.rst_block.specs.Nodes.{block_items}
 use Rattle.rst_block.specs.Numbered.{just}
@@ -14,6 +17,7 @@ use Rattle.rst_block.proofs.Calls.{out_of_memory, refuses}
 use Rattle.rst_block.proofs.CellsRead.{entry_next, row_keeps, row_next, rows_made, table_keeps, table_reads}
 use Rattle.rst_block.proofs.Changes.{moved_more, more_more, kept_more}
 use Rattle.rst_block.proofs.LastLevel.{flat_text, flat_text_fails}
+use Rattle.rst_block.proofs.MachinePaid.{some_read, next_cell, next_row, row_paid, table_paid, text_begins, block_goes_on, block_opens, block_ends, block_waits, text_ends, flat_paid}
 use Rattle.rst_block.proofs.Stack.{left, parts_left, now_of_next, now_of_resumed, cost_of_resumed, goes_on, stepped, opens, resumes, waits_again, second_left, parts_at_most, parts_at_least, taken, placed, nested_push, nested_pop}
 use Rattle.rst_block.proofs.Waiting.{plug_begins, plug_end_fails, plug_ends, plug_fails, plug_goes_on, plug_opens, plug_over, plug_waits}
 use Rattle.rst_block.proofs.machine.+machine.Goals.{read-else-len-gt0-via-then-len-gt0+else-depth-le-DEEPEST, read-else-len-gt0-via-else-len-gt0}
@@ -23,6 +27,20 @@ pub read_blocks-closed-requires-clause-frame : goal.read_blocks-closed-requires-
 read_blocks-closed-requires-clause-frame t c =
     let off = taken (source_of c.args.whole) c.len-base.result c.loop-now.frames.items c.last_of.new.frames.items c.in-Some.frame c.in-Some.ensures.some.0 c.in-Some.ensures.some.1 c.loop-now.invariant.waiting in
     off.4
+
+pub read_blocks-closed-requires-clause-depth : goal.read_blocks-closed-requires-clause-depth
+read_blocks-closed-requires-clause-depth t c =
+    let f : Frame = c.in-Some.frame in
+    let off = taken (source_of c.args.whole) c.len-base.result c.loop-now.frames.items c.last_of.new.frames.items f c.in-Some.ensures.some.0 c.in-Some.ensures.some.1 c.loop-now.invariant.waiting in
+    let nest = nested_pop c.args.depth (drop c.len-base.result c.last_of.new.frames.items) f (rw off.1 at c.loop-now.invariant.nested) in
+    omega (arith, nest.1, length-drop c.len-base.result c.last_of.new.frames.items, ap length c.in-Some.ensures.some.0, length-append c.last_of.new.frames.items (f ∷ []), off.0, c.len.ensures.value)
+
+pub read_blocks-closed-requires-clause-deepest : goal.read_blocks-closed-requires-clause-deepest
+read_blocks-closed-requires-clause-deepest t c =
+    let f : Frame = c.in-Some.frame in
+    let off = taken (source_of c.args.whole) c.len-base.result c.loop-now.frames.items c.last_of.new.frames.items f c.in-Some.ensures.some.0 c.in-Some.ensures.some.1 c.loop-now.invariant.waiting in
+    let nest = nested_pop c.args.depth (drop c.len-base.result c.last_of.new.frames.items) f (rw off.1 at c.loop-now.invariant.nested) in
+    omega (arith, nest.1, length-drop c.len-base.result c.last_of.new.frames.items, ap length c.in-Some.ensures.some.0, length-append c.last_of.new.frames.items (f ∷ []), off.0, c.loop-now.invariant.room)
 
 pub read_blocks-loop-now-smaller-in_ok-now-in-Next : goal.read_blocks-loop-now-smaller-in_ok-now-in-Next
 read_blocks-loop-now-smaller-in_ok-now-in-Next t c =
@@ -60,6 +78,7 @@ read_blocks-loop-now-preserved-else-inner-gt-DEEPEST t c =
     let S : Block = source_of c.args.whole in
     let B : Block = block_of c.loop-now.view in
     let f : Frame = c.opened.result in
+    let same : placement_block S f.placement ≡ B = ap (λ (T : Block). placement_block T f.placement) (sym c.loop-now.invariant.text) ∙ c.opened.ensures.block in
     let on = placed (source_of c.args.whole) c.len-base.result c.loop-now.frames.items f c.loop-now.invariant.base c.loop-now.invariant.waiting (rw c.loop-now.invariant.text at c.opened.ensures.frame) in
     record {
       base = rw c.push.ensures.items on.0;
@@ -76,9 +95,14 @@ read_blocks-loop-now-preserved-else-inner-gt-DEEPEST t c =
           (ap (λ (l : OpenBlock). l.depth) c.opened.ensures.kept ∙ c.loop-now.invariant.depth ∙ ap (λ n. c.args.depth + n) (sym (length-drop c.len-base.result c.loop-now.frames.items))));
       read = rw (c.push.ensures.items, on.1) (
           plug_opens S (drop c.len-base.result c.loop-now.frames.items) f c.loop-now.level c.opened.new.level B (block_of c.inside-view.result) c.in-Open.waits c.in-Open.first c.in-Open.second c.loop-now.pass.numbers
-          c.opened.ensures.kept (ap (λ (T : Block). placement_block T f.placement) (sym c.loop-now.invariant.text) ∙ c.opened.ensures.block) c.opened.ensures.waits.0 c.opened.ensures.waits.1 c.opened.ensures.waits.2 c.inside-view.ensures.block
+          c.opened.ensures.kept same c.opened.ensures.waits.0 c.opened.ensures.waits.1 c.opened.ensures.waits.2 c.inside-view.ensures.block
           (omega (arith, c.opened.ensures.depth, c.loop-now.invariant.depth, c.len.ensures.value, c.loop-now.invariant.base)) (omega (arith, c.loop-now.invariant.depth, c.len.ensures.value, c.if-inner-gt-DEEPEST.false, c.loop-now.invariant.base)) c.opened.ensures.begun
           ∙ rw c.in-Open.is at c.loop-now.invariant.read);
+      paid = rw (c.push.ensures.items, on.1) (
+          block_opens _ S (drop c.len-base.result c.loop-now.frames.items) f c.loop-now.level c.opened.new.level B (block_of c.inside-view.result) c.in-Open.waits c.in-Open.first c.in-Open.second _ _
+          c.opened.ensures.kept same c.opened.ensures.waits.0 c.opened.ensures.waits.1 c.inside-view.ensures.block
+          (omega (arith, c.opened.ensures.depth, c.loop-now.invariant.depth, c.len.ensures.value, c.loop-now.invariant.base)) (omega (arith, c.loop-now.invariant.depth, c.len.ensures.value, c.if-inner-gt-DEEPEST.false, c.loop-now.invariant.base)) c.opened.ensures.begun
+          (rw c.in-Open.is at c.loop-now.invariant.paid));
     }
 
 pub read_blocks-loop-now-smaller-in-Waiting : goal.read_blocks-loop-now-smaller-in-Waiting
@@ -126,6 +150,9 @@ read_blocks-loop-now-preserved-in-Waiting t c =
           (omega (arith, keeps.2, ap (λ (l : OpenBlock). l.depth) keeps.0, nest.1, long, c.len.ensures.value))
           (omega (arith, ap (λ (l : OpenBlock). l.depth) keeps.0, nest.1, long, c.loop-now.invariant.room)) keeps.1
           (rw (c.in-Done.is, off.1) at c.loop-now.invariant.read));
+      paid = rw (c.push-in-Waiting.ensures.items, on.1) (
+          block_waits _ S fs f g c.loop-now.level c.closed.new.level (block_of c.loop-now.view) (block_of c.in-Waiting.part) _ _ _ (rw (c.in-Done.is, off.1) at c.loop-now.invariant.paid)
+          (rw c.in-Waiting.is at c.in_ok-frame-in-Some.ensures.paid));
     }
 
 pub read_blocks-loop-now-smaller : goal.read_blocks-loop-now-smaller
@@ -164,6 +191,8 @@ read_blocks-loop-now-preserved t c =
       nested = nest.0;
       read = plug_ends S fs f c.loop-now.level c.closed.new.level c.in-GoesOn.outer c.in-GoesOn.next c.closed.new.pass.numbers c.loop-now.pass.numbers (block_items (within_at c.args.depth) (block_of c.args.whole) c.args.pass.now.numbers)
           (rw c.in-GoesOn.is at c.in_ok-frame-in-Some.ensures.read) (rw (c.in-Done.is, off.1) at c.loop-now.invariant.read);
+      paid = block_ends _ S fs f c.loop-now.level c.closed.new.level (block_of c.loop-now.view) (block_of c.in-GoesOn.outer) c.in-GoesOn.next _ _ _ (rw (c.in-Done.is, off.1) at c.loop-now.invariant.paid)
+          (rw c.in-GoesOn.is at c.in_ok-frame-in-Some.ensures.paid);
     }
 
 pub read_blocks-loop-now-preserved-in_ok-now-in-Next : goal.read_blocks-loop-now-preserved-in_ok-now-in-Next
@@ -185,6 +214,7 @@ read_blocks-loop-now-preserved-in_ok-now-in-Next t c =
       nested = c.loop-now.invariant.nested;
       read = plug_goes_on S (drop c.len-base.result c.loop-now.frames.items) (comes c.next.new.level B s) (reads c.loop-now.level B) c.next.new.pass.numbers c.loop-now.pass.numbers
           (block_items (within_at c.args.depth) (block_of c.args.whole) c.args.pass.now.numbers) c.in_ok-now-in-Next.ensures.read (rw c.in-Next.is at c.loop-now.invariant.read);
+      paid = block_goes_on _ S (drop c.len-base.result c.loop-now.frames.items) c.loop-now.level c.next.new.level B Next s _ _ _ (rw c.in-Next.is at c.loop-now.invariant.paid) c.in_ok-now-in-Next.ensures.paid;
     }
 
 pub read_blocks-loop-now-preserved-in_ok-now-in-Cells : goal.read_blocks-loop-now-preserved-in_ok-now-in-Cells
@@ -207,6 +237,8 @@ read_blocks-loop-now-preserved-in_ok-now-in-Cells t c =
       nested = rw same c.loop-now.invariant.nested;
       read = rw same (plug_goes_on S (drop c.len-base.result c.loop-now.frames.items) (comes c.cells.new.level B s) (comes c.loop-now.level B (Cells c.in-Cells.table)) c.cells.new.pass.numbers c.loop-now.pass.numbers
           (block_items (within_at c.args.depth) (block_of c.args.whole) c.args.pass.now.numbers) c.in_ok-now-in-Cells.ensures.read (rw c.in-Cells.is at c.loop-now.invariant.read));
+      paid = rw same (block_goes_on _ S (drop c.len-base.result c.loop-now.frames.items) c.loop-now.level c.cells.new.level B (Cells c.in-Cells.table) s _ _ _ (rw c.in-Cells.is at c.loop-now.invariant.paid)
+          c.in_ok-now-in-Cells.ensures.paid);
     }
 
 pub read_blocks-loop-now-preserved-in_ok-now-in-Open : goal.read_blocks-loop-now-preserved-in_ok-now-in-Open
@@ -228,6 +260,8 @@ read_blocks-loop-now-preserved-in_ok-now-in-Open t c =
       nested = c.loop-now.invariant.nested;
       read = plug_goes_on S (drop c.len-base.result c.loop-now.frames.items) (comes c.flat.new.level B s) (comes c.loop-now.level B (Open c.in-Open.waits c.in-Open.first c.in-Open.second)) c.flat.new.pass.numbers c.loop-now.pass.numbers
           (block_items (within_at c.args.depth) (block_of c.args.whole) c.args.pass.now.numbers) c.in_ok-now-in-Open.ensures.read (rw c.in-Open.is at c.loop-now.invariant.read);
+      paid = block_goes_on _ S (drop c.len-base.result c.loop-now.frames.items) c.loop-now.level c.flat.new.level B (Open c.in-Open.waits c.in-Open.first c.in-Open.second) s _ _ _ (rw c.in-Open.is at c.loop-now.invariant.paid)
+          c.in_ok-now-in-Open.ensures.paid;
     }
 
 pub read_blocks-loop-now-init : goal.read_blocks-loop-now-init
@@ -248,6 +282,7 @@ read_blocks-loop-now-init t c =
       placed = c.new-level.ensures.placed;
       nested = rw none tt;
       read = plug_begins (source_of c.args.whole) (drop base c.args.frames.now.items) c.new-level.result (block_of c.args.whole) c.args.depth c.args.pass.now.numbers none c.new-level.ensures.begun c.new-level.ensures.depth;
+      paid = text_begins (source_of c.args.whole) (drop base c.args.frames.now.items) c.new-level.result (block_of c.args.whole) c.args.depth c.args.pass.now.looks none c.new-level.ensures.begun c.new-level.ensures.depth c.requires.depth;
     }
 
 pub read_blocks-returns-in_err-go_on-clause-read : goal.read_blocks-returns-in_err-go_on-clause-read
@@ -276,6 +311,11 @@ read_blocks-returns-in-None-clause-read t c =
     let none : drop c.len-base.result c.loop-now.frames.items ≡ [] = drop_all c.len-base.result c.loop-now.frames.items (omega (arith, c.in-None.ensures.none.1)) in
     plug_over (source_of c.args.whole) (drop c.len-base.result c.loop-now.frames.items) c.loop-now.level c.loop-now.pass.numbers (block_items (within_at c.args.depth) (block_of c.args.whole) c.args.pass.now.numbers) none
     (rw c.in-Done.is at c.loop-now.invariant.read)
+
+pub read_blocks-returns-in-None-clause-paid : goal.read_blocks-returns-in-None-clause-paid
+read_blocks-returns-in-None-clause-paid t c =
+    let none : drop c.len-base.result c.loop-now.frames.items ≡ [] = drop_all c.len-base.result c.loop-now.frames.items (omega (arith, c.in-None.ensures.none.1)) in
+    text_ends _ (source_of c.args.whole) (drop c.len-base.result c.loop-now.frames.items) c.loop-now.level (block_of c.loop-now.view) _ _ none (rw c.in-Done.is at c.loop-now.invariant.paid)
 
 pub read_blocks-returns-in_err-frame-in-Some-clause-read : goal.read_blocks-returns-in_err-frame-in-Some-clause-read
 read_blocks-returns-in_err-frame-in-Some-clause-read t c =
@@ -308,6 +348,21 @@ read-returns-clause-read t c =
     ap (λ k. just (done_of c.new.result) k) c.in_ok-not_blank.ensures.numbers
     ∙ flat_text c.args.depth (block_of c.whole-whole.result) c.args.lines.now c.new.result c.args.pass.now.numbers c.in_ok-not_blank.field-0 c.requires.depth flat c.whole-whole.ensures c.in_ok-not_blank.ensures.blank c.new.ensures.begun
 
+pub read-returns-clause-paid : goal.read-returns-clause-paid
+read-returns-clause-paid t c =
+    let flat : (length c.args.lines.now ≡ 0) ⊎ (c.args.depth ≡ suc deepest) = elim c.else-len-gt0.branch [
+      | read-else-len-gt0-via-then-len-gt0+else-depth-le-DEEPEST w ↦ inr (omega (arith, w.if-depth-le-DEEPEST.false, c.requires.depth))
+      | read-else-len-gt0-via-else-len-gt0 w ↦ inl (omega (arith, w.if-len-gt0.false, c.len.ensures, ap length c.whole-whole.ensures))
+    ] in
+    flat_paid c.args.depth (block_of c.whole-whole.result) c.args.lines.now _ _ flat c.whole-whole.ensures c.in_ok-not_blank.ensures.most c.in_ok-not_blank.ensures.each
+
+pub read-returns-then-depth-le-DEEPEST-clause-lines : goal.read-returns-then-depth-le-DEEPEST-clause-lines
+read-returns-then-depth-le-DEEPEST-clause-lines t c =
+    IfOk-weaker c.read_blocks.result _ _ (λ _ _. ap are_lines (sym c.whole-whole.ensures) ∙ are_lines-block_of c.whole-whole.result) c.read_blocks.ensures.few
+
+pub read-returns-clause-lines : goal.read-returns-clause-lines
+read-returns-clause-lines t c = ap are_lines (sym c.whole-whole.ensures) ∙ are_lines-block_of c.whole-whole.result
+
 pub cells-returns-in_err-row_of-clause-read : goal.cells-returns-in_err-row_of-clause-read
 cells-returns-in_err-row_of-clause-read t c =
     refuses c.from_residual.result c.in_err-row_of.field-0.0 _ _ (search rules)
@@ -321,6 +376,8 @@ cells-loop-cells-preserved t c = record {
   few = c.in_ok-row_of.ensures.few;
   made = row_next c.args.depth c.as_slice-cells-items.result.now c.loop-cells.cells-index c.cells-item.result c.deref.result.now c.loop-cells.made.items c.push.new.self.items c.in_ok-row_of.field-0 c.loop-cells.pass.numbers
       c.row_of.new.pass.numbers _ (omega arith) c.cells-item.is c.deref.ensures.value c.in_ok-row_of.ensures.row c.in_ok-push.ensures.items c.loop-cells.invariant.made;
+  paid = some_read _ _ _ _ _ _ _ c.loop-cells.invariant.paid
+      (next_row (c.args.depth - 1) c.as_slice-cells-items.result.now c.loop-cells.cells-index c.cells-item.result c.deref.result.now (omega arith) c.cells-item.is c.deref.ensures.value) c.in_ok-row_of.ensures.paid;
 }
 
 pub cells-returns-clause-kept : goal.cells-returns-clause-kept
@@ -340,6 +397,13 @@ cells-returns-clause-read t c =
     ∙ ap (λ line. table_node c.in-Table.cols c.in-Table.head c.loop-cells.made.items line) c.number-line.ensures)
     c.go_to.ensures.moved (c.go_to.ensures.there behind) c.in_ok-push-2.ensures.more c.in_ok-after_table.ensures.more c.requires.placed
 
+pub cells-returns-clause-paid : goal.cells-returns-clause-paid
+cells-returns-clause-paid t c =
+    let behind = rw c.in-Table.is at c.requires.table in
+    table_paid c.args.level.now c.go_to.new.self c.push-2.new.self c.after_table.new.level (block_of c.args.view.now) c.args.depth c.args.found c.in-Table.cols c.in-Table.head c.in-Table.end c.as_slice-cells-items.result.now c.in-Table.rows
+    c.loop-cells.cells-index _ _ _ _ _ c.in-Table.is c.requires.level (omega arith) c.as_slice-cells-items.ensures c.loop-cells.invariant.paid c.go_to.ensures.moved (c.go_to.ensures.there behind) c.in_ok-push-2.ensures.more
+    c.in_ok-after_table.ensures.more c.in_ok-after_table.ensures.low c.in_ok-after_table.ensures.looks
+
 pub row_of-returns-in_err-nodes-clause-row : goal.row_of-returns-in_err-nodes-clause-row
 row_of-returns-in_err-nodes-clause-row t c =
     refuses c.from_residual-in_err-nodes.result c.in_err-nodes.field-0.0 _ _ (search rules)
@@ -353,4 +417,9 @@ row_of-loop-cell-preserved t c = record {
   made = entry_next c.args.depth c.args.cells.now c.loop-cell.cell-index c.cell-item.result c.in_ok-lines.lines c.in_ok-nodes.field-0 c.loop-cell.entries.items c.push.new.self.items c.in_ok-entry_of.field-0 c.loop-cell.pass.numbers
       c.read.new.pass.numbers _ c.requires.inner c.requires.depth (omega arith) c.cell-item.is (c.in_ok-lines.ensures ∙ c.as_slice.ensures.value) c.in_ok-nodes.ensures.read c.in_ok-entry_of.ensures c.in_ok-push.ensures.items
       c.loop-cell.invariant.made;
+  paid = some_read _ _ _ _ _ _ _ c.loop-cell.invariant.paid
+      (next_cell c.args.depth c.args.cells.now c.loop-cell.cell-index c.cell-item.result c.in_ok-lines.lines c.requires.inner (omega arith) c.cell-item.is (c.in_ok-lines.ensures ∙ c.as_slice.ensures.value)) c.in_ok-nodes.ensures.paid;
 }
+
+pub row_of-returns-clause-paid : goal.row_of-returns-clause-paid
+row_of-returns-clause-paid t c = row_paid (c.args.depth - 1) c.args.cells.now c.loop-cell.cell-index _ _ (omega arith) c.loop-cell.invariant.paid

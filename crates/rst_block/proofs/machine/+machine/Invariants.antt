@@ -2,12 +2,14 @@ use Rattle.std.proofs.Common.{◌≡◌, ◌+◌, ◌-◌, ◌*◌, ◌^◌, ◌
 use Rattle.rst_text.specs.Shown.{block_of, source_of}
 use Rattle.rst_markup_tables.specs.Results.{cells_of}
 use Rattle.rst_block.specs.Frames.{AreFrames, AreNested, IsNow}
+use Rattle.rst_block.specs.Ledger.{total_at, totals}
 use Rattle.rst_block.specs.Meanings.{comes, plug, within_at}
 use Rattle.rst_block.specs.Nodes.{block_items}
 use Rattle.rst_block.specs.Numbered.{each}
 use Rattle.rst_block.specs.OpenBlocks.{IsPlaced}
 use Rattle.rst_block.specs.Tables.{entry_of, row_of}
 use Rattle.rst_block.proofs.CellsRead.{each_after, row_after}
+use Rattle.rst_block.proofs.MachinePaid.{AreLeft, cell_lines, row_lines, IsPaidFor}
 use Rattle.rst_block.proofs.Stack.{all_left}
 use Rattle.rst_block.proofs.machine.+machine.Given as goal
 
@@ -38,6 +40,7 @@ invariant-read_blocks-loop-now l = record {
   placed : IsPlaced l.level;
   nested : AreNested l.depth (drop l.base l.frames.items);
   read : plug (source_of l.whole) (drop l.base l.frames.items) (comes l.level (block_of l.view) l.now) l.pass.numbers ≡ block_items (within_at l.depth) (block_of l.whole) l.fn.pass.numbers;
+  paid : IsPaidFor (total_at l.depth (block_of l.whole)) (source_of l.whole) (drop l.base l.frames.items) l.level (block_of l.view) l.now l.fn.pass.looks l.pass.looks;
 }
 
 abbrev pub decreases-read_blocks-loop-now : goal.decreases-read_blocks-loop-now
@@ -48,6 +51,7 @@ invariant-row_of-loop-cell l = record {
   frames : l.frames.items ≡ l.fn.frames.items;
   few : l.pass.looks < 2 ^ 119;
   made : row_after l.depth l.entries.items (drop l.cell-index l.fn.cells) l.pass.numbers ≡ each (entry_of (within_at (l.depth - 1))) l.fn.cells l.fn.pass.numbers;
+  paid : AreLeft (totals (l.depth - 1) (cell_lines l.fn.cells)) (totals (l.depth - 1) (cell_lines (drop l.cell-index l.fn.cells))) l.fn.pass.looks l.pass.looks;
 }
 
 abbrev pub invariant-cells-loop-cells : goal.invariant-cells-loop-cells
@@ -55,4 +59,5 @@ invariant-cells-loop-cells l = record {
   frames : l.frames.items ≡ l.fn.frames.items;
   few : l.pass.looks < 2 ^ 119;
   made : each_after (row_of (within_at (l.depth - 1))) l.made.items (cells_of (drop l.cells-index l.cells-items)) l.pass.numbers ≡ each (row_of (within_at (l.depth - 1))) (cells_of l.cells-items) l.fn.pass.numbers;
+  paid : AreLeft (totals (l.depth - 1) (row_lines l.cells-items)) (totals (l.depth - 1) (row_lines (drop l.cells-index l.cells-items))) l.fn.pass.looks l.pass.looks;
 }

@@ -1,0 +1,230 @@
+-- The looks that the machine takes: at the cells of tables, in the blocks that wait, and in whole texts.
+use Rattle.std.proofs.Common.{◌≡◌, ◌⊎◌, inl, inr, ℕ, suc, ◌+◌, ◌-◌, ◌*◌, ◌<◌, ◌≤◌, true, false, List, [], ◌∷◌, ◌++◌, length, get_or, drop, drop-cons, map, Option, Some, None, append-nil, arith, refl, ap, sym, ◌∙◌}
+use Rattle.std.specs.Prelude.{Vec, IsTrue}
+use Rattle.std.proofs.lemmas.List.{drop_all, nil_from_length}
+use Rattle.rst_settings.specs.Profile.{profile_of}
+use Rattle.rst_settings.specs.declared.Settings.{Settings}
+use Rattle.rst_text.specs.Block.{Block}
+use Rattle.rst_text.specs.Lines.{are_lines}
+use Rattle.rst_text.specs.Shown.{placement_block}
+use Rattle.rst_markup_blocks.specs.declared.part.Part.{Part}
+use Rattle.rst_markup_tables.specs.Results.{cells_of as kept_rows}
+use Rattle.rst_markup_tables.specs.declared.results.Cell.{Cell}
+use Rattle.rst_markup_tables.specs.declared.results.TableResult.{TableResult}
+use Rattle.rst_markup_tables.specs.declared.results.TableResult.TheVariants.{Table}
+use Rattle.rst_tree.specs.declared.node.Node.{Node}
+use Rattle.rst_block.specs.Budget.{sum_of, total, IsWithinBounds}
+use Rattle.rst_block.specs.Inside.{cells_of}
+use Rattle.rst_block.specs.Ledger.{total_at, totals, most_from, least_from, run_looks, most_after, least_after, most_in, least_in, most_left, least_left, Takes, TakesFor}
+use Rattle.rst_block.specs.Meanings.{IsNew, deepest, open_of}
+use Rattle.rst_block.specs.OpenBlocks.{IsMoved, HasMore}
+use Rattle.rst_block.specs.Rest.{no_run}
+use Rattle.rst_block.specs.Texts.{lines_in}
+use Rattle.rst_block.specs.declared.frame.Frame.{Frame}
+use Rattle.rst_block.specs.declared.open_block.OpenBlock.{OpenBlock}
+use Rattle.rst_block.specs.declared.resume.Waits.{Waits}
+use Rattle.rst_block.specs.declared.run.Run.{Run}
+use Rattle.rst_block.specs.declared.run.Run.TheVariants.{None as NoRun, List as ListRun, Lines, Explicit}
+use Rattle.rst_block.specs.declared.step.Step.{Step}
+use Rattle.rst_block.specs.declared.step.Step.TheVariants.{Next, Open, Cells, Done}
+use Rattle.rst_block.proofs.DocumentLooks.{empty_text, last_text, bounded}
+use Rattle.rst_block.proofs.LedgerLemmas.{begun, counted, opened, second_opened}
+use Rattle.rst_block.proofs.WaitingLooks.{cell_text, rows_cells, table_read}
+
+-- ---- some lines, one after another
+
+-- Of the lines to be read, so many are left: the looks so far are one to 128 for each of the others.
+abbrev pub AreLeft : (all left before now : ℕ) → Type 0
+AreLeft all left before now = Takes (128 * all) all before (128 * left) left now
+
+pub none_read : (all before : ℕ) → AreLeft all all before before
+none_read all before = record { no_more = omega arith; no_less = omega arith }
+
+-- some more are read
+pub some_read : (all left lines rest before now after : ℕ) → AreLeft all left before now → left ≡ lines + rest → TakesFor lines now after → AreLeft all rest before after
+some_read all left lines rest before now after h e k = record {
+  no_more = omega (arith, h.no_more, k.no_more, e);
+  no_less = omega (arith, h.no_less, k.no_less, e);
+}
+
+-- ---- the cells of tables
+
+-- the lines of cells
+abbrev pub cell_lines : List Cell → List Block
+cell_lines cells = map (λ (c : Cell). c.lines) cells
+
+-- the lines of the cells of rows, as they are kept
+abbrev pub row_lines : {Z : Type 0} → List (Vec Cell Z) → List Block
+row_lines rows = cells_of (Table [] 0 (kept_rows rows) 0)
+
+-- the next cell of a row
+pub next_cell : (depth : ℕ) (cells : List Cell) (i : ℕ) (cell : Cell) (C : Block) → 1 ≤ depth → i < length cells → cell ≡ get_or cells i cell → C ≡ cell.lines
+    → totals (depth - 1) (cell_lines (drop i cells)) ≡ total_at depth C + totals (depth - 1) (cell_lines (drop (i + 1) cells))
+unfolding sum_of
+next_cell depth cells i cell C low h c e =
+    let j : i + 1 ≡ suc i = omega arith in
+    let n : depth ≡ suc (depth - 1) = omega (arith, low) in
+    let d : drop i cells ≡ cell ∷ drop (i + 1) cells = drop-cons cells i cell h ∙ ap (λ (u : Cell). u ∷ drop (suc i) cells) (sym c) ∙ ap (λ j. cell ∷ drop j cells) (sym j) in
+    let one : total_at depth C ≡ total true (deepest - (depth - 1)) false cell.lines = ap (λ k. total_at k C) n ∙ cell_text (depth - 1) C ∙ ap (total true (deepest - (depth - 1)) false) e in
+    omega (arith, ap (λ (cs : List Cell). totals (depth - 1) (cell_lines cs)) d, one)
+
+-- a row is read once all its cells are
+pub row_paid : (depth : ℕ) (cells : List Cell) (i before now : ℕ) → length cells ≤ i → AreLeft (totals depth (cell_lines cells)) (totals depth (cell_lines (drop i cells))) before now
+    → TakesFor (totals depth (cells_of (Table [] 0 (cells ∷ []) 0))) before now
+unfolding sum_of
+row_paid depth cells i before now h k =
+    let none : totals depth (cell_lines (drop i cells)) ≡ 0 = ap (λ (cs : List Cell). totals depth (cell_lines cs)) (drop_all i cells h) in
+    let all : totals depth (cells_of (Table [] 0 (cells ∷ []) 0)) ≡ totals depth (cell_lines cells) = ap (λ (cs : List Cell). totals depth (cell_lines cs)) (append-nil cells) in
+    record { no_more = omega (arith, k.no_more, none, all); no_less = omega (arith, k.no_less, none, all) }
+
+-- the next row of a table
+pub next_row : {Z : Type 0} (depth : ℕ) (rows : List (Vec Cell Z)) (i : ℕ) (row : Vec Cell Z) (cells : List Cell) → i < length rows → row ≡ get_or rows i row → cells ≡ row.items
+    → totals depth (row_lines (drop i rows)) ≡ totals depth (cells_of (Table [] 0 (cells ∷ []) 0)) + totals depth (row_lines (drop (i + 1) rows))
+next_row {Z} depth rows i row cells h r e =
+    let j : i + 1 ≡ suc i = omega arith in
+    let d : drop i rows ≡ row ∷ drop (i + 1) rows = drop-cons rows i row h ∙ ap (λ (u : Vec Cell Z). u ∷ drop (suc i) rows) (sym r) ∙ ap (λ j. row ∷ drop j rows) (sym j) in
+    ap (λ (some : List (Vec Cell Z)). totals depth (row_lines some)) d
+    ∙ rows_cells depth 0 0 0 [] row.items (kept_rows (drop (i + 1) rows))
+    ∙ ap (λ (some : List Cell). totals depth (cells_of (Table [] 0 (some ∷ []) 0)) + totals depth (row_lines (drop (i + 1) rows))) (sym e)
+
+-- a table is read once all its rows are, and the line after it was looked at
+pub table_paid : {Z : Type 0} (old moved mid new : OpenBlock) (B : Block) (depth : ℕ) (found : TableResult) (cols : List ℕ) (head end : ℕ) (items : List (Vec Cell Z)) (rows : List (List Cell)) (i : ℕ) (more last : List Node) (before now after : ℕ)
+    → found ≡ Table cols head rows end → depth ≡ suc old.depth → length items ≤ i → kept_rows items ≡ rows
+    → AreLeft (totals (depth - 1) (row_lines items)) (totals (depth - 1) (row_lines (drop i items))) before now
+    → IsMoved old moved → moved.at ≡ end → HasMore moved mid more → HasMore mid new last → now ≤ after → after ≤ now + 1
+    → Takes (most_left old B (Cells found)) (least_left old B (Cells found)) before (most_left new B Next) (least_left new B Next) after
+unfolding sum_of
+table_paid {Z} old moved mid new B depth found cols head end items rows i more last before now after f d h r k moves at some rest low few =
+    let c : depth - 1 ≡ old.depth = omega (arith, d) in
+    let none : totals (depth - 1) (row_lines (drop i items)) ≡ 0 = ap (λ (some : List (Vec Cell Z)). totals (depth - 1) (row_lines some)) (drop_all i items h) in
+    let all : totals (depth - 1) (row_lines items) ≡ totals old.depth (cells_of (Table cols head rows end)) =
+    ap (λ (some : List (List Cell)). totals (depth - 1) (cells_of (Table [] 0 some 0))) r ∙ ap (λ n. totals n (cells_of (Table cols head rows end))) c in
+    rw f (table_read old new B (Table cols head rows end) before now after (rest.depth ∙ some.depth ∙ moves.depth) (rest.at ∙ some.at ∙ at) (rest.run ∙ some.run ∙ moves.run)
+    (omega (arith, k.no_more, none, all)) (omega (arith, k.no_less, none, all)) few low)
+
+-- ---- blocks that wait
+
+-- a run that ended is none
+none_open : (r : Run) → open_of r ≡ no_run → r ≡ NoRun
+none_open NoRun h = refl
+none_open (ListRun l) h = cc
+none_open (Lines lines end) h = cc
+none_open (Explicit end) h = cc
+
+-- The looks so far are one to 128 for each of the lines of a text and of all inside, but for those that are left: in the blocks that wait, and in the one
+-- that is read, by what comes next in it.
+abbrev pub IsPaidFor : (all : ℕ) (S : Block) (fs : List Frame) (l : OpenBlock) (B : Block) (s : Step) (before now : ℕ) → Type 0
+IsPaidFor all S fs l B s before now = Takes (128 * all) all before (most_in S fs + most_left l B s) (least_in S fs + least_left l B s) now
+
+-- before the first line of a text all is left
+pub text_begins : (S : Block) (fs : List Frame) (l : OpenBlock) (B : Block) (depth before : ℕ) → fs ≡ [] → IsNew l → l.depth ≡ depth → depth ≤ deepest
+    → IsPaidFor (total_at depth B) S fs l B Next before before
+unfolding most_in least_in sum_of
+text_begins S fs l B depth before e new d h =
+    let b = begun depth B h in
+    let m : most_from l.depth B l.at ≡ most_from depth B 0 = ap (λ k. most_from k B l.at) d ∙ ap (most_from depth B) new.at in
+    let n : least_from l.depth B l.at ≡ least_from depth B 0 = ap (λ k. least_from k B l.at) d ∙ ap (least_from depth B) new.at in
+    record {
+      no_more = omega (arith, b.most, m, ap run_looks (none_open l.run new.run), ap (most_in S) e);
+      no_less = omega (arith, b.least, n, ap (least_in S) e);
+    }
+
+-- the block that is read takes looks
+pub block_goes_on : (all : ℕ) (S : Block) (fs : List Frame) (old new : OpenBlock) (B : Block) (s t : Step) (before now after : ℕ) → IsPaidFor all S fs old B s before now
+    → Takes (most_left old B s) (least_left old B s) now (most_left new B t) (least_left new B t) after → IsPaidFor all S fs new B t before after
+block_goes_on all S fs old new B s t before now after h k = record {
+  no_more = omega (arith, h.no_more, k.no_more);
+  no_less = omega (arith, h.no_less, k.no_less);
+}
+
+-- it waits for a block inside, which is read next
+pub block_opens : (all : ℕ) (S : Block) (fs : List Frame) (f : Frame) (old l : OpenBlock) (B X : Block) (w : Waits) (first : Part) (second : Option Part) (before now : ℕ)
+    → f.level ≡ old → placement_block S f.placement ≡ B → f.waits ≡ w → f.second ≡ second → X ≡ lines_in B first → l.depth ≡ suc old.depth → old.depth < deepest → IsNew l
+    → IsPaidFor all S fs old B (Open w first second) before now → IsPaidFor all S (fs ++ f ∷ []) l X Next before now
+block_opens all S fs f old l B X w first second before now a b c d x i j new h =
+    let P : Block = placement_block S f.placement in
+    let k = counted S fs f in
+    let o = opened old l B w first second j i new.at (none_open l.run new.run) in
+    let m : most_after f.level P f.waits f.second ≡ most_after old B w second =
+    ap (λ o. most_after o P f.waits f.second) a ∙ ap (λ C. most_after old C f.waits f.second) b ∙ ap (λ w. most_after old B w f.second) c ∙ ap (most_after old B w) d in
+    let n : least_after f.level P f.waits f.second ≡ least_after old B w second =
+    ap (λ o. least_after o P f.waits f.second) a ∙ ap (λ C. least_after old C f.waits f.second) b ∙ ap (λ w. least_after old B w f.second) c ∙ ap (least_after old B w) d in
+    record {
+      no_more = omega (arith, h.no_more, k.most, m, o.0, ap (λ Y. most_left l Y Next) x);
+      no_less = omega (arith, h.no_less, k.least, n, o.1, ap (λ Y. least_left l Y Next) x);
+    }
+
+-- a block was read, and the one that waited for it goes on
+pub block_ends : (all : ℕ) (S : Block) (fs : List Frame) (f : Frame) (old new : OpenBlock) (B C : Block) (s : Step) (before now after : ℕ) → IsPaidFor all S (fs ++ f ∷ []) old B Done before now
+    → Takes (most_after f.level (placement_block S f.placement) f.waits f.second) (least_after f.level (placement_block S f.placement) f.waits f.second) now (most_left new C s) (least_left new C s) after
+    → IsPaidFor all S fs new C s before after
+block_ends all S fs f old new B C s before now after h t =
+    let k = counted S fs f in
+    record {
+      no_more = omega (arith, h.no_more, t.no_more, k.most);
+      no_less = omega (arith, h.no_less, t.no_less, k.least);
+    }
+
+-- or it waits for another part, which is read next
+pub block_waits : (all : ℕ) (S : Block) (fs : List Frame) (f g : Frame) (old new : OpenBlock) (B C : Block) (before now after : ℕ) → IsPaidFor all S (fs ++ f ∷ []) old B Done before now
+    → Takes (most_after f.level (placement_block S f.placement) f.waits f.second) (least_after f.level (placement_block S f.placement) f.waits f.second) now
+    (most_after g.level (placement_block S g.placement) g.waits g.second + most_left new C Next) (least_after g.level (placement_block S g.placement) g.waits g.second + least_left new C Next) after
+    → IsPaidFor all S (fs ++ g ∷ []) new C Next before after
+block_waits all S fs f g old new B C before now after h t =
+    let k = counted S fs f in
+    let j = counted S fs g in
+    record {
+      no_more = omega (arith, h.no_more, t.no_more, k.most, j.most);
+      no_less = omega (arith, h.no_less, t.no_less, k.least, j.least);
+    }
+
+-- where no block waits, a text is read once its first block is
+pub text_ends : (all : ℕ) (S : Block) (fs : List Frame) (l : OpenBlock) (B : Block) (before now : ℕ) → fs ≡ [] → IsPaidFor all S fs l B Done before now → TakesFor all before now
+unfolding most_in least_in
+text_ends all S fs l B before now e h = record {
+  no_more = omega (arith, h.no_more);
+  no_less = omega (arith, h.no_less, ap (least_in S) e);
+}
+
+-- ---- a block that waited
+
+-- its second part is read next
+pub second_waits : (S : Block) (f : Frame) (level l : OpenBlock) (p : Part) (X : Block) (now : ℕ) → f.second ≡ Some p → level ≡ f.level → X ≡ lines_in (placement_block S f.placement) p
+    → f.level.depth < deepest → l.depth ≡ suc f.level.depth → IsNew l
+    → Takes (most_after f.level (placement_block S f.placement) f.waits f.second) (least_after f.level (placement_block S f.placement) f.waits f.second) now
+    (most_after level (placement_block S f.placement) f.waits None + most_left l X Next) (least_after level (placement_block S f.placement) f.waits None + least_left l X Next) now
+second_waits S f level l p X now e a x h d new =
+    let B : Block = placement_block S f.placement in
+    let o = second_opened f.level l B f.waits p h d new.at (none_open l.run new.run) in
+    record {
+      no_more = omega (arith, o.0, ap (most_after f.level B f.waits) e, ap (λ o. most_after o B f.waits None) a, ap (λ Y. most_left l Y Next) x);
+      no_less = omega (arith, o.1, ap (least_after f.level B f.waits) e, ap (λ o. least_after o B f.waits None) a, ap (λ Y. least_left l Y Next) x);
+    }
+
+-- it has no part left, and goes on
+pub last_waits : (S : Block) (f : Frame) (level : OpenBlock) (X : Block) (before most least after : ℕ) → f.second ≡ None → level ≡ f.level → X ≡ placement_block S f.placement
+    → Takes (most_after level X f.waits None) (least_after level X f.waits None) before most least after
+    → Takes (most_after f.level (placement_block S f.placement) f.waits f.second) (least_after f.level (placement_block S f.placement) f.waits f.second) before most least after
+last_waits S f level X before most least after e a x t =
+    let B : Block = placement_block S f.placement in
+    let m : most_after level X f.waits None ≡ most_after f.level B f.waits f.second = ap (λ o. most_after o X f.waits None) a ∙ ap (λ Y. most_after f.level Y f.waits None) x ∙ ap (most_after f.level B f.waits) (sym e) in
+    let n : least_after level X f.waits None ≡ least_after f.level B f.waits f.second = ap (λ o. least_after o X f.waits None) a ∙ ap (λ Y. least_after f.level Y f.waits None) x ∙ ap (least_after f.level B f.waits) (sym e) in
+    record { no_more = omega (arith, t.no_more, m); no_less = omega (arith, t.no_less, n) }
+
+-- ---- texts
+
+-- a text without lines, or below the last level, has no lines inside
+flat_total : (depth : ℕ) (B : Block) → (length B ≡ 0) ⊎ (depth ≡ suc deepest) → total_at depth B ≡ length B
+flat_total depth B (inl e) = ap (total_at depth) (nil_from_length B e) ∙ empty_text depth ∙ sym e
+flat_total depth B (inr e) = ap (λ d. total_at d B) e ∙ last_text B
+
+pub flat_paid : (depth : ℕ) (X B : Block) (before after : ℕ) → (length B ≡ 0) ⊎ (depth ≡ suc deepest) → X ≡ B → after ≤ before + length X → before + length X ≤ after → TakesFor (total_at depth B) before after
+flat_paid depth X B before after flat x few some =
+    let t = flat_total depth B flat in
+    record { no_more = omega (arith, few, t, ap length x); no_less = omega (arith, some, t, ap length x) }
+
+-- a document
+pub document_paid : (settings : Settings) (B : Block) (before after : ℕ) → IsTrue (are_lines B) → before ≡ 0 → TakesFor (total_at 0 B) before after → IsWithinBounds (profile_of settings) B after
+document_paid settings B before after h z t =
+    let b = bounded settings B h in
+    record { budget = omega (arith, b.budget, t.no_more, z); floor = omega (arith, b.floor, t.no_less, z) }
