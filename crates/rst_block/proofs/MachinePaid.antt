@@ -37,9 +37,6 @@ use Rattle.rst_block.proofs.WaitingLooks.{cell_text, rows_cells, table_read}
 abbrev pub AreLeft : (all left before now : ℕ) → Type 0
 AreLeft all left before now = Takes (128 * all) all before (128 * left) left now
 
-pub none_read : (all before : ℕ) → AreLeft all all before before
-none_read all before = record { no_more = omega arith; no_less = omega arith }
-
 -- some more are read
 pub some_read : (all left lines rest before now after : ℕ) → AreLeft all left before now → left ≡ lines + rest → TakesFor lines now after → AreLeft all rest before after
 some_read all left lines rest before now after h e k = record {
