@@ -18,7 +18,7 @@ sum_le f g h [] t = omega arith
 sum_le f g h (C ∷ Cs) t = omega (arith, h C t.0, sum_le f g h Cs t.1)
 
 -- blocks that begin with a line that isn't blank
-trimmed : (Cs : List Block) → AllByRecursion IsFronted Cs → AllByRecursion (λ C. is_trimmed C ≡ true) Cs
+pub trimmed : (Cs : List Block) → AllByRecursion IsFronted Cs → AllByRecursion (λ C. is_trimmed C ≡ true) Cs
 trimmed [] h = tt
 trimmed (C ∷ Cs) h = (h.0.trimmed, trimmed Cs h.1)
 

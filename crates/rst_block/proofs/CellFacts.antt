@@ -21,7 +21,7 @@ use Rattle.rst_block.specs.Rest.{found_from}
 use Rattle.rst_block.specs.Within.{Within}
 use Rattle.rst_block.proofs.PartFacts.{trimmed_shorten}
 
-abbrev AreTrimmed : List Block → Type 0
+abbrev pub AreTrimmed : List Block → Type 0
 AreTrimmed Cs = AllByRecursion (λ C. is_trimmed C ≡ true) Cs
 
 -- ---- some cells

@@ -40,6 +40,7 @@ pub mod QuoteCounts
 pub mod QuoteSteps
 pub mod QuotesPaid
 pub mod RestLemmas
+pub mod RoomLemmas
 pub mod ScanLemmas
 pub mod Spelling
 pub mod Splitting
