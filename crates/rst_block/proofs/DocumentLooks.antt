@@ -17,7 +17,7 @@ use Rattle.rst_block.proofs.BudgetLemmas.{high, low}
 use Rattle.rst_block.proofs.CellFacts.{cells_trimmed}
 use Rattle.rst_block.proofs.OpenedFacts.{blocks_inside}
 
-lines_trimmed : (B : Block) → are_lines B ≡ true → is_trimmed B ≡ true
+pub lines_trimmed : (B : Block) → are_lines B ≡ true → is_trimmed B ≡ true
 lines_trimmed [] h = refl
 lines_trimmed (l ∷ ls) h =
     let p = and_parts (is_line_text l.text) (are_lines ls) h in

@@ -49,6 +49,7 @@ pub mod StepsPaid
 pub mod SubstitutionReads
 pub mod TableSteps
 pub mod TextLines
+pub mod TextRoom
 pub mod TextsPaid
 pub mod TextsRead
 pub mod UnpaidLemmas
