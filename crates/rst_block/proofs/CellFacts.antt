@@ -16,7 +16,7 @@ use Rattle.rst_markup_tables.specs.declared.results.Cell.{Cell}
 use Rattle.rst_markup_tables.specs.declared.results.TableDetail.{TableDetail}
 use Rattle.rst_block.specs.BudgetLaws.{is_trimmed}
 use Rattle.rst_block.specs.Constructs.{Construct, grid, simple, Found}
-use Rattle.rst_block.specs.Inside.{cells_of, cells_by, cells_with, cells}
+use Rattle.rst_block.specs.Inside.{cell_blocks, cells_by, cells_with, cells}
 use Rattle.rst_block.specs.Rest.{found_from}
 use Rattle.rst_block.specs.Within.{Within}
 use Rattle.rst_block.proofs.PartFacts.{trimmed_shorten}
@@ -59,7 +59,7 @@ lines_trimmed left right (r ∷ rs) = rw (ends_white-trimmed (characters (cut_pl
 block_trimmed : (left : ℕ) (right : Option ℕ) (rows : Grid) → is_trimmed (cell_block left right rows) ≡ true
 block_trimmed left right rows = trimmed_shorten (least_indent (map (cell_line left right) rows)) (map (cell_line left right) rows) (lines_trimmed left right rows)
 
-tiled_trimmed : (line i : ℕ) (head : Option ℕ) (G : Grid) (o : _) → AreTrimmed (cells_of (tiled line i head G o))
+tiled_trimmed : (line i : ℕ) (head : Option ℕ) (G : Grid) (o : _) → AreTrimmed (cell_blocks (tiled line i head G o))
 tiled_trimmed line i head G None = tt
 tiled_trimmed line i head G (Some rs) =
     let rows : ℕ → ℕ = below (is_row G rs) in
@@ -68,7 +68,7 @@ tiled_trimmed line i head G (Some rs) =
     (λ n. row_trimmed (cell_of rows columns G) (λ r. block_trimmed (r.left + 1) (Some r.right) (take (r.bottom - (r.top + 1)) (drop (r.top + 1) G))) (filter (λ r. rows r.top == n) rs))
     (range_with_len 0 (rows (length G) - 1))
 
-grid_trimmed : (B : Block) (i : ℕ) → AreTrimmed (cells_of (grid_table B i))
+grid_trimmed : (B : Block) (i : ℕ) → AreTrimmed (cell_blocks (grid_table B i))
 grid_trimmed B i = by (grid_fault (grid_bottom X) T)
   where
     X : Block
@@ -77,11 +77,11 @@ grid_trimmed B i = by (grid_fault (grid_bottom X) T)
     T : Grid
     T = rows_of (take (grid_size X) X)
 
-    by : (o : Option TableDetail) → AreTrimmed (cells_of (grid_by (first_number X) i T o))
+    by : (o : Option TableDetail) → AreTrimmed (cell_blocks (grid_by (first_number X) i T o))
     by (Some detail) = tt
     by None = let G : Grid = with_dashes T (head_of T) in tiled_trimmed (first_number X) i (head_of T) G (tiling_of G)
 
-simple_trimmed : (B : Block) (i : ℕ) → AreTrimmed (cells_of (simple_table B i))
+simple_trimmed : (B : Block) (i : ℕ) → AreTrimmed (cell_blocks (simple_table B i))
 simple_trimmed B i = by (simple_fault X T)
   where
     X : Block
@@ -90,7 +90,7 @@ simple_trimmed B i = by (simple_fault X T)
     T : Grid
     T = rows_of (take (simple_size X) X)
 
-    by : (o : Option TableDetail) → AreTrimmed (cells_of (simple_by (first_number X) i (head_border X) T o))
+    by : (o : Option TableDetail) → AreTrimmed (cell_blocks (simple_by (first_number X) i (head_border X) T o))
     by (Some detail) = tt
     by None =
         rows_trimmed (row_entries T)

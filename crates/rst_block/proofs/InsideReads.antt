@@ -27,7 +27,7 @@ use Rattle.rst_block.specs.Constructs.{ItemMark, bullet_item, enumerated_item, d
 use Rattle.rst_block_nodes.specs.Options.{directive_element}
 use Rattle.rst_block_sections.specs.Sections.{filled}
 use Rattle.rst_block.specs.Directives.{content_nodes, called, titled_element, right_by, directive_by, definition_by, holding}
-use Rattle.rst_block.specs.Inside.{quoted_by, quoted, part_of_item, content_blocks, directive_content, directive_blocks, definition_content, definition_blocks, markup_blocks, opened_by, opened_of, cells_of, cells_by, cells_with}
+use Rattle.rst_block.specs.Inside.{quoted_by, quoted, part_of_item, content_blocks, directive_content, directive_blocks, definition_content, definition_blocks, markup_blocks, opened_by, opened_of, cell_blocks, cells_by, cells_with}
 use Rattle.rst_block.specs.InsideLaws.{AgreeOn, reading}
 use Rattle.rst_block.specs.LineRuns.{number_or}
 use Rattle.rst_block.specs.Lists.{item_by, item_with}
@@ -166,7 +166,7 @@ module _ (c : Within) (g : Block → Numbered (List Node)) where
       ap (then_read _) (ap (then_read _) (row_agrees row n r.0))
       ∙ same_after (row_of d row n) _ _ (λ made k. ap (then_read _) (rows_agree rows k r.1))
 
-  table_agrees : (B : Block) (s : Span) (t : TableResult) (n : ℕ) → Agree (cells_of t) → table_nodes c B s t n ≡ table_nodes d B s t n
+  table_agrees : (B : Block) (s : Span) (t : TableResult) (n : ℕ) → Agree (cell_blocks t) → table_nodes c B s t n ≡ table_nodes d B s t n
   table_agrees B s (Table widths m rows end) n h = ap (then_read _) (rows_agree rows n h)
   table_agrees B s (Malformed end fault) n h = refl
 

@@ -14,7 +14,7 @@ use Rattle.rst_markup_tables.specs.declared.results.TableResult.{TableResult}
 use Rattle.rst_markup_tables.specs.declared.results.TableResult.TheVariants.{Table}
 use Rattle.rst_tree.specs.declared.node.Node.{Node}
 use Rattle.rst_block.specs.Budget.{sum_of, total, IsWithinBounds}
-use Rattle.rst_block.specs.Inside.{cells_of}
+use Rattle.rst_block.specs.Inside.{cell_blocks}
 use Rattle.rst_block.specs.Ledger.{total_at, totals, most_from, least_from, run_looks, most_after, least_after, most_in, least_in, most_left, least_left, Takes, TakesFor}
 use Rattle.rst_block.specs.Meanings.{IsNew, deepest, open_of}
 use Rattle.rst_block.specs.OpenBlocks.{IsMoved, HasMore}
@@ -52,7 +52,7 @@ cell_lines cells = map (λ (c : Cell). c.lines) cells
 
 -- the lines of the cells of rows, as they are kept
 abbrev pub row_lines : {Z : Type 0} → List (Vec Cell Z) → List Block
-row_lines rows = cells_of (Table [] 0 (kept_rows rows) 0)
+row_lines rows = cell_blocks (Table [] 0 (kept_rows rows) 0)
 
 -- the next cell of a row
 pub next_cell : (depth : ℕ) (cells : List Cell) (i : ℕ) (cell : Cell) (C : Block) → 1 ≤ depth → i < length cells → cell ≡ get_or cells i cell → C ≡ cell.lines
@@ -67,22 +67,22 @@ next_cell depth cells i cell C low h c e =
 
 -- a row is read once all its cells are
 pub row_paid : (depth : ℕ) (cells : List Cell) (i before now : ℕ) → length cells ≤ i → AreLeft (totals depth (cell_lines cells)) (totals depth (cell_lines (drop i cells))) before now
-    → TakesFor (totals depth (cells_of (Table [] 0 (cells ∷ []) 0))) before now
+    → TakesFor (totals depth (cell_blocks (Table [] 0 (cells ∷ []) 0))) before now
 unfolding sum_of
 row_paid depth cells i before now h k =
     let none : totals depth (cell_lines (drop i cells)) ≡ 0 = ap (λ (cs : List Cell). totals depth (cell_lines cs)) (drop_all i cells h) in
-    let all : totals depth (cells_of (Table [] 0 (cells ∷ []) 0)) ≡ totals depth (cell_lines cells) = ap (λ (cs : List Cell). totals depth (cell_lines cs)) (append-nil cells) in
+    let all : totals depth (cell_blocks (Table [] 0 (cells ∷ []) 0)) ≡ totals depth (cell_lines cells) = ap (λ (cs : List Cell). totals depth (cell_lines cs)) (append-nil cells) in
     record { no_more = omega (arith, k.no_more, none, all); no_less = omega (arith, k.no_less, none, all) }
 
 -- the next row of a table
 pub next_row : {Z : Type 0} (depth : ℕ) (rows : List (Vec Cell Z)) (i : ℕ) (row : Vec Cell Z) (cells : List Cell) → i < length rows → row ≡ get_or rows i row → cells ≡ row.items
-    → totals depth (row_lines (drop i rows)) ≡ totals depth (cells_of (Table [] 0 (cells ∷ []) 0)) + totals depth (row_lines (drop (i + 1) rows))
+    → totals depth (row_lines (drop i rows)) ≡ totals depth (cell_blocks (Table [] 0 (cells ∷ []) 0)) + totals depth (row_lines (drop (i + 1) rows))
 next_row {Z} depth rows i row cells h r e =
     let j : i + 1 ≡ suc i = omega arith in
     let d : drop i rows ≡ row ∷ drop (i + 1) rows = drop-cons rows i row h ∙ ap (λ (u : Vec Cell Z). u ∷ drop (suc i) rows) (sym r) ∙ ap (λ j. row ∷ drop j rows) (sym j) in
     ap (λ (some : List (Vec Cell Z)). totals depth (row_lines some)) d
     ∙ rows_cells depth 0 0 0 [] row.items (kept_rows (drop (i + 1) rows))
-    ∙ ap (λ (some : List Cell). totals depth (cells_of (Table [] 0 (some ∷ []) 0)) + totals depth (row_lines (drop (i + 1) rows))) (sym e)
+    ∙ ap (λ (some : List Cell). totals depth (cell_blocks (Table [] 0 (some ∷ []) 0)) + totals depth (row_lines (drop (i + 1) rows))) (sym e)
 
 -- a table is read once all its rows are, and the line after it was looked at
 pub table_paid : {Z : Type 0} (old moved mid new : OpenBlock) (B : Block) (depth : ℕ) (found : TableResult) (cols : List ℕ) (head end : ℕ) (items : List (Vec Cell Z)) (rows : List (List Cell)) (i : ℕ) (more last : List Node) (before now after : ℕ)
@@ -94,8 +94,8 @@ unfolding sum_of
 table_paid {Z} old moved mid new B depth found cols head end items rows i more last before now after f d h r k moves at some rest low few =
     let c : depth - 1 ≡ old.depth = omega (arith, d) in
     let none : totals (depth - 1) (row_lines (drop i items)) ≡ 0 = ap (λ (some : List (Vec Cell Z)). totals (depth - 1) (row_lines some)) (drop_all i items h) in
-    let all : totals (depth - 1) (row_lines items) ≡ totals old.depth (cells_of (Table cols head rows end)) =
-    ap (λ (some : List (List Cell)). totals (depth - 1) (cells_of (Table [] 0 some 0))) r ∙ ap (λ n. totals n (cells_of (Table cols head rows end))) c in
+    let all : totals (depth - 1) (row_lines items) ≡ totals old.depth (cell_blocks (Table cols head rows end)) =
+    ap (λ (some : List (List Cell)). totals (depth - 1) (cell_blocks (Table [] 0 some 0))) r ∙ ap (λ n. totals n (cell_blocks (Table cols head rows end))) c in
     rw f (table_read old new B (Table cols head rows end) before now after (rest.depth ∙ some.depth ∙ moves.depth) (rest.at ∙ some.at ∙ at) (rest.run ∙ some.run ∙ moves.run)
     (omega (arith, k.no_more, none, all)) (omega (arith, k.no_less, none, all)) few low)
 

@@ -19,7 +19,6 @@ use Rattle.rst_markup_blocks.specs.Kinds.{kind_at}
 use Rattle.rst_markup_blocks.specs.Lines.{lines_while}
 use Rattle.rst_markup_blocks.specs.Partition.{construct_size, construct_end}
 use Rattle.rst_markup_blocks.specs.Sizes.{third_text}
-use Rattle.rst_markup_blocks.specs.TableRows.{grid_size, simple_size}
 use Rattle.rst_markup_blocks.specs.declared.attribution.Attribution.{Attribution}
 use Rattle.rst_markup_blocks.specs.declared.form.Adorned.{Adorned}
 use Rattle.rst_markup_blocks.specs.declared.form.Adorned.TheVariants.{Text as AdornedText, ShortOverline, ShortAdornment, Transition, Title as AdornedTitle, InvalidMarker, Incomplete, MissingUnderline, Mismatch, Unexpected}
@@ -39,9 +38,10 @@ use Rattle.rst_markup_directives.specs.declared.found.Content.{Content}
 use Rattle.rst_markup_directives.specs.declared.found.Place.TheVariants.{Top, Body, Substitution as InDefinition}
 use Rattle.rst_markup_directives.specs.declared.name.Name.{Name}
 use Rattle.rst_markup_directives.specs.declared.name.Name.TheVariants.{Figure, Code}
+use Rattle.rst_markup_tables.specs.Laws.{GridCellsFit, SimpleCellsFit}
 use Rattle.rst_markup_tables.specs.Places.{places_of, is_double}
-use Rattle.rst_markup_tables.specs.SimpleTable.{simple_table}
-use Rattle.rst_markup_tables.specs.Tiling.{grid_table}
+use Rattle.rst_markup_tables.specs.Room.{widest, room_for, room, rooms, cell_blocks}
+use Rattle.rst_markup_tables.proofs.Room.{widest_take, widest_drop}
 use Rattle.rst_block.specs.Budget.{sum_of, total, unread}
 use Rattle.rst_block.specs.BudgetLaws.{is_trimmed}
 use Rattle.rst_block.specs.Constructs.{Construct, block_quote, item_of_list, enumerated_item, field_item, option_item, explicit_markup, bar_line, text_by, text_after, plain_text, adorned_by, adorned, bullet_with, construct_by}
@@ -49,7 +49,6 @@ use Rattle.rst_block.specs.Directives.{called}
 use Rattle.rst_block.specs.Inside.{quoted_by, quoted, part_of_item, content_blocks, directive_content, directive_blocks, definition_content, definition_blocks, substitution_blocks, markup_blocks, opened_by, opened_of, cells_by, cells_with, inside_from, cells_from, inside, cells}
 use Rattle.rst_block.specs.Quotes.{first_attribution, quote_after}
 use Rattle.rst_block.specs.Rest.{found_in}
-use Rattle.rst_block.specs.Room.{widest, room_for, room, rooms, cell_blocks}
 use Rattle.rst_block.specs.RoomLaws.{BlocksFit, TotalFits}
 use Rattle.rst_block.specs.Texts.{lines_in}
 use Rattle.rst_block.specs.Within.{Within, indented_part}
@@ -58,14 +57,6 @@ use Rattle.rst_block.proofs.CellFacts.{AreTrimmed, cells_trimmed}
 use Rattle.rst_block.proofs.MarkFacts.{chosen}
 use Rattle.rst_block.proofs.OpenedFacts.{opened_within, blocks_inside}
 use Rattle.rst_block.proofs.RestLemmas.{found_over, found_blank, found_text}
-
--- the cells of a grid table have no more room than its lines
-abbrev pub GridCellsFit : Type 0
-GridCellsFit = (B : Block) (i : ℕ) → rooms (cell_blocks (grid_table B i)) ≤ room_for (grid_size (drop i B)) B
-
--- the cells of a simple table have no more room than its lines
-abbrev pub SimpleCellsFit : Type 0
-SimpleCellsFit = (B : Block) (i : ℕ) → rooms (cell_blocks (simple_table B i)) ≤ room_for (simple_size (drop i B)) B
 
 -- ---- how wide a part of a block is
 
@@ -76,20 +67,6 @@ places_drop (suc n) [] = omega arith
 places_drop (suc n) (c ∷ cs) =
     let rest : length (places_of (drop n cs)) ≤ length (places_of cs) = places_drop n cs in
     chosen (λ ps. length (places_of (drop n cs)) ≤ suc (length ps)) (is_double c) _ _ (omega (arith, rest)) (omega (arith, rest))
-
--- a block without its first lines is no wider
-widest_drop : (n : ℕ) (B : Block) → widest (drop n B) ≤ widest B
-unfolding widest
-widest_drop zero B = omega arith
-widest_drop (suc n) [] = omega arith
-widest_drop (suc n) (l ∷ ls) = omega (arith, widest_drop n ls)
-
--- nor are its first lines
-widest_take : (n : ℕ) (B : Block) → widest (take n B) ≤ widest B
-unfolding widest
-widest_take zero B = omega arith
-widest_take (suc n) [] = omega arith
-widest_take (suc n) (l ∷ ls) = omega (arith, widest_take n ls)
 
 -- nor is a block whose lines lose characters at their fronts
 widest_shorten : (r : ℕ) (B : Block) → widest (map (shorten r) B) ≤ widest B

@@ -22,7 +22,7 @@ use Rattle.rst_markup_tables.specs.declared.results.TableResult.{TableResult}
 use Rattle.rst_markup_tables.specs.declared.results.TableResult.TheVariants.{Malformed}
 use Rattle.rst_block.specs.Budget.{sum_of}
 use Rattle.rst_block.specs.Constructs.{Construct, grid, simple}
-use Rattle.rst_block.specs.Inside.{opened_by, cells_of, cells_by}
+use Rattle.rst_block.specs.Inside.{opened_by, cell_blocks, cells_by}
 use Rattle.rst_block.specs.Ledger.{unread_at, totals, place_after, next_blocks, next_cells, run_looks, end_looks, most_after, least_after, most_left, least_left, GoesOn, IsPaid, Takes}
 use Rattle.rst_block.specs.Meanings.{deepest}
 use Rattle.rst_block.specs.NextLine.{IsNextConstruct, IsTableAt}
@@ -120,20 +120,20 @@ record IsTableOf (l : OpenBlock) (B : Block) (t : TableResult) : Type 0 where
   what : Construct
   next : IsNextConstruct l B what (construct_size (l.depth == 0) (drop l.at B))
   alone : (c : Within) → opened_by what c B l.at (drop l.at B) ≡ []
-  cells : cells_by what B l.at ≡ cells_of t
+  cells : cells_by what B l.at ≡ cell_blocks t
 
 table_kind : (l : OpenBlock) (B : Block) (t : TableResult) → IsTableAt B l.at t → IsTableOf l B t
 table_kind l B t (inl (h, e)) =
     let n = next_of begun.Grid l B h tt in
-    record { what = grid; next = record { filled = n.filled; construct = n.construct; size = refl }; alone = λ c. refl; cells = ap cells_of (sym e) }
+    record { what = grid; next = record { filled = n.filled; construct = n.construct; size = refl }; alone = λ c. refl; cells = ap cell_blocks (sym e) }
 table_kind l B t (inr (h, e)) =
     let n = next_of begun.Simple l B h tt in
-    record { what = simple; next = record { filled = n.filled; construct = n.construct; size = refl }; alone = λ c. refl; cells = ap cells_of (sym e) }
+    record { what = simple; next = record { filled = n.filled; construct = n.construct; size = refl }; alone = λ c. refl; cells = ap cell_blocks (sym e) }
 
 -- A table, at which such looks were taken to find it. Then the run before it ended, and there are the looks at the message on a malformed one, a look at
 -- the line after the table, and one at the end of a run.
 table_paid : {l new : OpenBlock} {B : Block} {t : TableResult} {s : Step} {before found after : ℕ} → IsTableAt B l.at t → l.at < length B → GoesOn s → new.depth ≡ l.depth → place_after new s ≡ end_of t
-    → next_blocks B s ≡ [] → next_cells s ≡ cells_of t → found ≤ before + 4 * reach_at (l.depth == 0) (drop l.at B) → before + construct_size (l.depth == 0) (drop l.at B) ≤ found + 1
+    → next_blocks B s ≡ [] → next_cells s ≡ cell_blocks t → found ≤ before + 4 * reach_at (l.depth == 0) (drop l.at B) → before + construct_size (l.depth == 0) (drop l.at B) ≤ found + 1
     → after + end_looks new s ≤ found + run_looks l.run + (end_of t - l.at) + 2 → found ≤ after → IsPaid 29 l new B s before after
 table_paid {l} {new} {B} {t} {s} {before} {found} {after} h inside goes depth place blocks cells few some most least =
     let X : Block = drop l.at B in

@@ -11,7 +11,7 @@ use Rattle.rst_text.specs.Lines.{is_line_end, begins_with, pieces, shown, is_tab
 use Rattle.rst_text.proofs.LineTexts.{are_lines-lines_of}
 use Rattle.rst_markup_tables.specs.Places.{places_of, is_double}
 use Rattle.rst_block.specs.Ledger.{total_at}
-use Rattle.rst_block.specs.Room.{widest, room}
+use Rattle.rst_markup_tables.specs.Room.{widest, room}
 use Rattle.rst_block.specs.RoomLaws.{TotalFits, TextsFit, LooksAreFew}
 use Rattle.rst_block.proofs.DocumentLooks.{lines_trimmed}
 

@@ -16,7 +16,7 @@ use Rattle.rst_markup_tables.specs.declared.results.TableResult.{TableResult}
 use Rattle.rst_markup_tables.specs.declared.results.TableResult.TheVariants.{Table}
 use Rattle.rst_block_nodes.specs.declared.texted.Texted.{Texted}
 use Rattle.rst_block.specs.Budget.{sum_of, total}
-use Rattle.rst_block.specs.Inside.{quoted_by, quoted, quoted_blocks, cells_of}
+use Rattle.rst_block.specs.Inside.{quoted_by, quoted, quoted_blocks, cell_blocks}
 use Rattle.rst_block.specs.Ledger.{total_at, totals, most_from, least_from, goes_on_at, part_blocks, quotes_left, run_looks, quote_looks, end_looks, next_blocks, next_cells, place_after, most_after, least_after, most_left, least_left, GoesOn, WaitsForOne, AreQuotesPaid, Takes}
 use Rattle.rst_block.specs.MeaningLaws.{front_of}
 use Rattle.rst_block.specs.Meanings.{deepest}
@@ -184,7 +184,7 @@ map_append [] ds = refl
 map_append (c ∷ cs) ds = ap (λ (Cs : List Block). c.lines ∷ Cs) (map_append cs ds)
 
 pub rows_cells : (depth n m end : ℕ) (widths : List ℕ) (row : List Cell) (rows : List (List Cell))
-    → totals depth (cells_of (Table widths n (row ∷ rows) end)) ≡ totals depth (cells_of (Table widths m (row ∷ []) end)) + totals depth (cells_of (Table widths m rows end))
+    → totals depth (cell_blocks (Table widths n (row ∷ rows) end)) ≡ totals depth (cell_blocks (Table widths m (row ∷ []) end)) + totals depth (cell_blocks (Table widths m rows end))
 unfolding sum_of
 rows_cells depth n m end widths row rows =
     let f : Block → ℕ = total true (deepest - depth) false in
@@ -195,7 +195,7 @@ rows_cells depth n m end widths row rows =
     omega (arith, one, two)
 
 pub table_read : (l new : OpenBlock) (B : Block) (t : TableResult) (before mid after : ℕ) → new.depth ≡ l.depth → new.at ≡ end_of t → new.run ≡ l.run
-    → mid ≤ before + 128 * totals l.depth (cells_of t) → before + totals l.depth (cells_of t) ≤ mid → after ≤ mid + 1 → mid ≤ after
+    → mid ≤ before + 128 * totals l.depth (cell_blocks t) → before + totals l.depth (cell_blocks t) ≤ mid → after ≤ mid + 1 → mid ≤ after
     → Takes (most_left l B (Cells t)) (least_left l B (Cells t)) before (most_left new B Next) (least_left new B Next) after
 unfolding sum_of
 table_read l new B t before mid after d p r few some one more =

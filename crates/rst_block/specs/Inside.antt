@@ -1,5 +1,5 @@
 -- The blocks that are opened inside a block, and the cells of its tables (Markup Specification, 'Body Elements').
-use Rattle.std.specs.Prelude.{ℕ, zero, suc, ◌+◌, List, [], ◌∷◌, length, take, drop, map, flat_map, Option, None, Some, if◌then◌else◌}
+use Rattle.std.specs.Prelude.{ℕ, zero, suc, ◌+◌, List, [], ◌∷◌, length, take, drop, flat_map, Option, None, Some, if◌then◌else◌}
 use Rattle.rst_text.specs.Block.{Block}
 use Rattle.rst_markup_blocks.specs.Explicit.{explicit_of}
 use Rattle.rst_markup_blocks.specs.declared.attribution.Attribution.{Attribution}
@@ -13,11 +13,9 @@ use Rattle.rst_markup_directives.specs.declared.found.Content.{Content}
 use Rattle.rst_markup_directives.specs.declared.found.Place.TheVariants.{Top, Body, Substitution as InDefinition}
 use Rattle.rst_markup_directives.specs.declared.name.Name.{Name}
 use Rattle.rst_markup_directives.specs.declared.name.Name.TheVariants.{Figure, Code}
+pub use Rattle.rst_markup_tables.specs.Room.{cell_blocks}
 use Rattle.rst_markup_tables.specs.SimpleTable.{simple_table}
 use Rattle.rst_markup_tables.specs.Tiling.{grid_table}
-use Rattle.rst_markup_tables.specs.declared.results.Cell.{Cell}
-use Rattle.rst_markup_tables.specs.declared.results.TableResult.{TableResult}
-use Rattle.rst_markup_tables.specs.declared.results.TableResult.TheVariants.{Table, Malformed}
 use Rattle.rst_block.specs.Constructs.{ItemMark, bullet_item, enumerated_item, definition_item, field_item, option_item, Construct, block_quote, item_of_list, grid, simple, explicit_markup, Found}
 use Rattle.rst_block.specs.Directives.{called}
 use Rattle.rst_block.specs.Quotes.{first_attribution, quote_after}
@@ -107,15 +105,10 @@ opened_by _ c B i X = []
 abbrev pub opened_of : Within → Block → Found → List Block
 opened_of c B f = opened_by f.what c B f.span.start (drop f.span.start B)
 
--- the cells of a table, by row; no cell of a malformed table is read
-abbrev pub cells_of : TableResult → List Block
-cells_of (Table widths n rows end) = map (λ (cell : Cell). cell.lines) (flat_map (λ (row : List Cell). row) rows)
-cells_of (Malformed end fault) = []
-
 -- the cells that a construct in line i has
 abbrev pub cells_by : Construct → Block → ℕ → List Block
-cells_by grid B i = cells_of (grid_table B i)
-cells_by simple B i = cells_of (simple_table B i)
+cells_by grid B i = cell_blocks (grid_table B i)
+cells_by simple B i = cell_blocks (simple_table B i)
 cells_by _ B i = []
 
 -- the cells that a construct of a block has

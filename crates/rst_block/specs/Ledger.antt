@@ -8,7 +8,7 @@ use Rattle.rst_markup_directives.specs.declared.argument.Argument.{Argument}
 use Rattle.rst_markup_directives.specs.declared.argument.Argument.TheVariants.{Title}
 use Rattle.rst_markup_tables.specs.Ends.{end_of}
 use Rattle.rst_block.specs.Budget.{unread, sum_of, total}
-use Rattle.rst_block.specs.Inside.{quoted_blocks, opened_of, cells_of, cells_with, inside_from, cells_from}
+use Rattle.rst_block.specs.Inside.{quoted_blocks, opened_of, cell_blocks, cells_with, inside_from, cells_from}
 use Rattle.rst_block.specs.Meanings.{deepest}
 use Rattle.rst_block.specs.Reaches.{unpaid, reach_at}
 use Rattle.rst_block.specs.Rest.{found_in}
@@ -115,7 +115,7 @@ next_blocks B _ = []
 
 -- the cells that come next
 abbrev pub next_cells : Step → List Block
-next_cells (Cells t) = cells_of t
+next_cells (Cells t) = cell_blocks t
 next_cells _ = []
 
 -- the looks that are taken at the ends of quotes, of a table and of the open run

@@ -17,7 +17,7 @@ use Rattle.rst_markup_tables.specs.declared.results.TableResult.{TableResult}
 use Rattle.rst_markup_tables.specs.declared.results.TableResult.TheVariants.{Table}
 use Rattle.rst_block_nodes.specs.declared.texted.Texted.{Texted}
 use Rattle.rst_block.specs.Budget.{sum_of, total, document_budget, document_floor}
-use Rattle.rst_block.specs.Inside.{quoted_blocks, cells_of}
+use Rattle.rst_block.specs.Inside.{quoted_blocks, cell_blocks}
 use Rattle.rst_block.specs.Ledger.{total_at, totals, most_from, least_from, run_looks, quote_looks, quotes_left, part_blocks, most_after, least_after, most_in, least_in, most_left, least_left, WaitsForOne, IsPaid, AreQuotesPaid, Takes}
 use Rattle.rst_block.specs.MeaningLaws.{front_of}
 use Rattle.rst_block.specs.Meanings.{deepest}
@@ -121,12 +121,12 @@ CellIsText = (depth : ℕ) (C : Block) → total_at (suc depth) C ≡ total true
 -- the cells of rows are those of the first, and those of the others
 abbrev pub CellsAreOfRows : Type 0
 CellsAreOfRows = (depth n m end : ℕ) (widths : List ℕ) (row : List Cell) (rows : List (List Cell))
-    → totals depth (cells_of (Table widths n (row ∷ rows) end)) ≡ totals depth (cells_of (Table widths m (row ∷ []) end)) + totals depth (cells_of (Table widths m rows end))
+    → totals depth (cell_blocks (Table widths n (row ∷ rows) end)) ≡ totals depth (cell_blocks (Table widths m (row ∷ []) end)) + totals depth (cell_blocks (Table widths m rows end))
 
 -- a block goes on after a table, once the cells are read, with one look more at most
 abbrev pub TableIsPaid : Type 0
 TableIsPaid = (l new : OpenBlock) (B : Block) (t : TableResult) (before mid after : ℕ) → new.depth ≡ l.depth → new.at ≡ end_of t → new.run ≡ l.run
-    → mid ≤ before + 128 * totals l.depth (cells_of t) → before + totals l.depth (cells_of t) ≤ mid → after ≤ mid + 1 → mid ≤ after
+    → mid ≤ before + 128 * totals l.depth (cell_blocks t) → before + totals l.depth (cell_blocks t) ≤ mid → after ≤ mid + 1 → mid ≤ after
     → Takes (most_left l B (Cells t)) (least_left l B (Cells t)) before (most_left new B Next) (least_left new B Next) after
 
 -- ---- texts

@@ -12,7 +12,7 @@ ghost use Rattle.rst_block.specs.Nodes.{block_items};
 ghost use Rattle.rst_block.specs.Numbered.{just};
 ghost use Rattle.rst_block.specs.Tables as tables;
 ghost use Rattle.rst_block.specs.Ledger.{Takes, TakesFor, least_left, most_left, total_at, totals};
-ghost use Rattle.rst_block.specs.Inside.{cells_of};
+ghost use Rattle.rst_block.specs.Inside.{cell_blocks};
 ghost use Rattle.rst_markup_tables.specs.declared.results.TableResult.TheVariants.{Table};
 
 use super::fault::BlockFault;
@@ -292,7 +292,7 @@ fn row_of(
     ensures frames { IfOk result (λ _. frames.new.items ≡ frames.old.items) }
     ensures row { Keeps result (λ node. Ok (node, pass.new.numbers)) (tables.row_of (within_at (depth - 1)) cells.now pass.old.numbers) }
     ensures few { IfOk result (λ _. pass.new.looks < 2 ^ 119) }
-    ensures paid { IfOk result (λ _. TakesFor (totals (depth - 1) (cells_of (Table [] 0 (cells.now ∷ []) 0))) pass.old.looks pass.new.looks) }
+    ensures paid { IfOk result (λ _. TakesFor (totals (depth - 1) (cell_blocks (Table [] 0 (cells.now ∷ []) 0))) pass.old.looks pass.new.looks) }
 {
     let mut entries = Vec::new(alloc);
     for cell in cells {
