@@ -1,6 +1,6 @@
 -- The looks of one step after the other.
 use Rattle.std.proofs.Common.{◌≡◌, ℕ, ◌+◌, ◌-◌, ◌*◌, ◌<◌, ◌≤◌, Bool, List, [], ◌∷◌, length, drop, Option, Some, None, Result, IfOk, arith, refl, ap, sym, subst, ◌∙◌, inl, inr}
-use Rattle.std.specs.Prelude.{◌==◌}
+use Rattle.std.specs.Prelude.{◌==◌, ◌⊎◌}
 use Rattle.std.proofs.lemmas.Result.{IfOk-weaker}
 use Rattle.rst_text.specs.Block.{Block}
 use Rattle.rst_markup_blocks.specs.Begun.{IsBegun}
@@ -84,6 +84,11 @@ pub text_taken : (old new : OpenBlock) (B : Block) (before mid after : ℕ) (res
     → IfOk result (λ s. Takes (most_left old B Next) (least_left old B Next) before (most_left new B s) (least_left new B s) after)
 text_taken old new B before mid after result inside h some few paid =
     IfOk-weaker result _ _ (λ s p. construct_taken begun.Text inside h tt some few (paid_within old new B s mid after p)) paid
+
+-- explicit markup isn't blank
+pub markup_filled : (mark : Begun) → (mark ≡ begun.Explicit) ⊎ (mark ≡ begun.Anonymous) → IsFilled mark
+markup_filled mark (inl e) = subst IsFilled (sym e) tt
+markup_filled mark (inr e) = subst IsFilled (sym e) tt
 
 -- ---- tables
 

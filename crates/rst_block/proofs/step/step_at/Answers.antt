@@ -1,7 +1,10 @@
 use Rattle.std.proofs.Common.{arith}
+use Rattle.std.specs.Prelude.{◌==◌, drop}
+use Rattle.rst_text.specs.Block.{Block}
 use Rattle.rst_text.specs.Shown.{block_of}
-use Rattle.rst_markup_blocks.specs.declared.begun.Begun.TheVariants.{Text}
+use Rattle.rst_markup_blocks.specs.declared.begun.Begun.TheVariants.{Quote, Bullet, Enumerator, Field, OptionItem, Doctest, Line, Grid, Simple, Adornment, Text}
 use Rattle.rst_block.proofs.NextConstructs.{blank_reads, next_of}
+use Rattle.rst_block.proofs.StepsPaid.{blank_taken, construct_taken, step_taken, text_taken, markup_filled, grid_found, simple_found}
 use Rattle.rst_block.proofs.TableSteps.{grid_there}
 use Rattle.rst_block.proofs.step.step_at.Goals as goal
 
@@ -14,3 +17,60 @@ text_line-requires-clause-text c = rw c.new.ensures.items (next_of Text c.args.l
 pub returns-in-Blank-clause-read : goal.returns-in-Blank-clause-read
 returns-in-Blank-clause-read c =
     blank_reads (block_of c.args.view.now) c.args.pass.now.numbers c.in-Blank.ensures.begun c.go_to.ensures.moved (c.go_to.ensures.there (omega arith))
+
+pub returns-in-Blank-clause-paid : goal.returns-in-Blank-clause-paid
+returns-in-Blank-clause-paid c =
+    blank_taken (block_of c.args.view.now) c.requires.inside c.in-Blank.ensures.begun c.go_to.ensures.moved (c.go_to.ensures.there (omega arith)) c.begun_at.ensures.low c.begun_at.ensures.looks
+
+pub returns-in-Quote-clause-paid : goal.returns-in-Quote-clause-paid
+returns-in-Quote-clause-paid c = step_taken Quote _ _ _ _ _ _ c.block_quote.result c.requires.inside c.in-Quote.ensures.begun tt c.begun_at.ensures.low c.begun_at.ensures.looks c.block_quote.ensures.paid
+
+pub returns-in-Bullet-clause-paid : goal.returns-in-Bullet-clause-paid
+returns-in-Bullet-clause-paid c =
+    step_taken (Bullet c.in-Bullet.mark c.in-Bullet.marker) _ _ _ _ _ _ c.bullet_item.result c.requires.inside c.in-Bullet.ensures.begun tt c.begun_at.ensures.low c.begun_at.ensures.looks c.bullet_item.ensures.paid
+
+pub returns-in-Enumerator-clause-paid : goal.returns-in-Enumerator-clause-paid
+returns-in-Enumerator-clause-paid c =
+    step_taken (Enumerator c.in-Enumerator.enumerator) _ _ _ _ _ _ c.enumerated_item.result c.requires.inside c.in-Enumerator.ensures.begun tt c.begun_at.ensures.low c.begun_at.ensures.looks
+    c.enumerated_item.ensures.paid
+
+pub returns-in-Field-clause-paid : goal.returns-in-Field-clause-paid
+returns-in-Field-clause-paid c = step_taken (Field c.in-Field.mark) _ _ _ _ _ _ c.field.result c.requires.inside c.in-Field.ensures.begun tt c.begun_at.ensures.low c.begun_at.ensures.looks c.field.ensures.paid
+
+pub returns-in-OptionItem-clause-paid : goal.returns-in-OptionItem-clause-paid
+returns-in-OptionItem-clause-paid c =
+    step_taken (OptionItem c.in-OptionItem.marker) _ _ _ _ _ _ c.option_item.result c.requires.inside c.in-OptionItem.ensures.begun tt c.begun_at.ensures.low c.begun_at.ensures.looks c.option_item.ensures.paid
+
+pub returns-in_ok-doctest_block-in-Doctest-clause-paid : goal.returns-in_ok-doctest_block-in-Doctest-clause-paid
+returns-in_ok-doctest_block-in-Doctest-clause-paid c =
+    construct_taken Doctest c.requires.inside c.in-Doctest.ensures.begun tt c.begun_at.ensures.low c.begun_at.ensures.looks c.in_ok-doctest_block-in-Doctest.ensures.paid
+
+pub returns-in_ok-bar_line-in-Line-clause-paid : goal.returns-in_ok-bar_line-in-Line-clause-paid
+returns-in_ok-bar_line-in-Line-clause-paid c =
+    construct_taken (Line c.in-Line.marker) c.requires.inside c.in-Line.ensures.begun tt c.begun_at.ensures.low c.begun_at.ensures.looks c.in_ok-bar_line-in-Line.ensures.paid
+
+pub returns-in_ok-found-in-Grid-clause-paid : goal.returns-in_ok-found-in-Grid-clause-paid
+returns-in_ok-found-in-Grid-clause-paid c =
+    let B : Block = block_of c.args.view.now in
+    let l = c.args.level.now in
+    let looks = grid_found (l.depth == 0) (drop l.at B) _ _ c.in-Grid.ensures.begun c.grid.ensures.looks c.in_ok-found-in-Grid.ensures.low in
+    step_taken Grid _ _ _ _ _ _ c.table.result c.requires.inside c.in-Grid.ensures.begun tt c.begun_at.ensures.low c.begun_at.ensures.looks (c.table.ensures.paid _ looks.0 looks.1)
+
+pub returns-in_ok-found-in-Simple-clause-paid : goal.returns-in_ok-found-in-Simple-clause-paid
+returns-in_ok-found-in-Simple-clause-paid c =
+    let B : Block = block_of c.args.view.now in
+    let l = c.args.level.now in
+    let looks = simple_found (l.depth == 0) (drop l.at B) _ _ c.in-Simple.ensures.begun c.simple.ensures.looks c.simple.ensures.low in
+    step_taken Simple _ _ _ _ _ _ c.table-in-Simple.result c.requires.inside c.in-Simple.ensures.begun tt c.begun_at.ensures.low c.begun_at.ensures.looks (c.table-in-Simple.ensures.paid _ looks.0 looks.1)
+
+pub returns-in-Explicit-clause-paid : goal.returns-in-Explicit-clause-paid
+returns-in-Explicit-clause-paid c =
+    step_taken c.begun_at.result _ _ _ _ _ _ c.explicit_markup.result c.requires.inside c.begun_at.ensures.begun (markup_filled c.begun_at.result c.in-Explicit.is) c.begun_at.ensures.low c.begun_at.ensures.looks
+    c.explicit_markup.ensures.paid
+
+pub returns-in-Adornment-clause-paid : goal.returns-in-Adornment-clause-paid
+returns-in-Adornment-clause-paid c =
+    step_taken (Adornment c.in-Adornment.mark) _ _ _ _ _ _ c.adornment.result c.requires.inside c.in-Adornment.ensures.begun tt c.begun_at.ensures.low c.begun_at.ensures.looks c.adornment.ensures.paid
+
+pub returns-in-Text-clause-paid : goal.returns-in-Text-clause-paid
+returns-in-Text-clause-paid c = text_taken _ _ _ _ _ _ c.text_line.result c.requires.inside c.in-Text.ensures.begun c.begun_at.ensures.low c.begun_at.ensures.looks c.text_line.ensures.paid
