@@ -1,9 +1,51 @@
-use Rattle.std.proofs.Common.{sym, arith, rules, ◌∙◌}
+use Rattle.std.proofs.Common.{◌≡◌, ◌<◌, arith, rules, refl, sym, subst, ◌∙◌}
+use Rattle.rst_text.specs.Block.{Block}
 use Rattle.rst_text.specs.Shown.{block_of}
+use Rattle.rst_block.specs.Ledger.{most_left, least_left, Takes}
+use Rattle.rst_block.specs.Meanings.{comes, reads}
+use Rattle.rst_block.specs.Steps.{IsStep}
+use Rattle.rst_block.specs.declared.step.Step.TheVariants.{Next}
 use Rattle.rst_block.proofs.Calls.{close_refuses, out_of_memory, refuses}
 use Rattle.rst_block.proofs.Changes.{kept_closed}
+use Rattle.rst_block.proofs.LedgerLemmas.{ended}
 use Rattle.rst_block.proofs.NextConstructs.{has_ended, over_reads, over_refused}
+use Rattle.rst_block.proofs.Stack.{next_of_step}
+use Rattle.rst_block.proofs.StepsPaid.{takes_then, takes_none}
 use Rattle.rst_block.proofs.machine.next.Goals as goal
+
+pub loop-level-init : goal.loop-level-init
+loop-level-init c = record { on = omega arith; looks = c.requires.few; depth = refl; placed = c.requires.placed; reads = refl; takes = takes_none _ _ _ }
+
+-- a step after which the block goes on
+pub loop-level-preserved : goal.loop-level-preserved
+loop-level-preserved c =
+    let B : Block = block_of c.args.view.now in
+    let old = c.loop-level.level in
+    let new = c.step_at.new.level in
+    let gone : old.at < new.at = subst (IsStep B old.at new.at) c.in-Next.is c.in_ok-step.ensures.step in
+    let read : reads new B c.step_at.new.pass.numbers ≡ reads old B c.loop-level.pass.numbers = subst (λ s. comes new B s c.step_at.new.pass.numbers ≡ reads old B c.loop-level.pass.numbers) c.in-Next.is c.in_ok-step.ensures.read in
+    let paid : Takes (most_left old B Next) (least_left old B Next) c.loop-level.pass.looks (most_left new B Next) (least_left new B Next) c.step_at.new.pass.looks =
+    subst (λ s. Takes (most_left old B Next) (least_left old B Next) c.loop-level.pass.looks (most_left new B s) (least_left new B s) c.step_at.new.pass.looks) c.in-Next.is c.in_ok-step.ensures.paid in
+    record {
+      on = omega (arith, c.loop-level.invariant.on, gone);
+      looks = omega (arith, c.in_ok-go_on.ensures.few, c.in_ok-step.ensures.looks);
+      depth = c.in_ok-step.ensures.kept.depth ∙ c.loop-level.invariant.depth;
+      placed = c.in_ok-step.ensures.kept.placed;
+      reads = read ∙ c.loop-level.invariant.reads;
+      takes = takes_then c.loop-level.invariant.takes paid;
+    }
+
+-- a step after which another block is read, or cells
+pub returns-in_default : goal.returns-in_default
+returns-in_default c =
+    let B : Block = block_of c.args.view.now in
+    record {
+      next = next_of_step B c.args.level.now.at c.loop-level.level.at c.step_at.new.level.at c.in_ok-step.step c.loop-level.invariant.on (omega (arith, c.loop-level-test.true, c.len.ensures)) c.in_ok-step.ensures.step;
+      kept = record { depth = c.in_ok-step.ensures.kept.depth ∙ c.loop-level.invariant.depth; placed = c.in_ok-step.ensures.kept.placed };
+      read = c.in_ok-step.ensures.read ∙ c.loop-level.invariant.reads;
+      paid = takes_then c.loop-level.invariant.takes c.in_ok-step.ensures.paid;
+      looks = omega (arith, c.in_ok-go_on.ensures.few, c.in_ok-step.ensures.looks);
+    }
 
 pub returns-in_err-go_on-clause-read : goal.returns-in_err-go_on-clause-read
 returns-in_err-go_on-clause-read c = refuses c.from_residual.result c.in_err-go_on.field-0.0 _ _ (search rules) (out_of_memory c.in_err-go_on.field-0.0 _ _ c.in_err-go_on.ensures.memory)
@@ -21,3 +63,8 @@ returns-clause-kept c =
 pub returns-clause-read : goal.returns-clause-read
 returns-clause-read c =
     over_reads (has_ended (block_of c.args.view.now) c.loop-level.pass.numbers c.in_ok-close.ensures.closed c.loop-level.invariant.placed) (omega arith) ∙ c.loop-level.invariant.reads
+
+pub returns-clause-paid : goal.returns-clause-paid
+returns-clause-paid c =
+    let B = block_of c.args.view.now in
+    takes_then c.loop-level.invariant.takes (ended c.loop-level.level B _ _ (omega arith) c.close.ensures.run c.close.ensures.low)

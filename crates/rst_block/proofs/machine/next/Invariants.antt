@@ -1,10 +1,12 @@
 use Rattle.std.proofs.Common.{◌≡◌, ◌+◌, ◌-◌, ◌^◌, ◌<◌, ◌≤◌, length}
 use Rattle.rst_text.specs.Shown.{block_of}
+use Rattle.rst_block.specs.Ledger.{most_left, least_left, Takes}
 use Rattle.rst_block.specs.Meanings.{reads}
 use Rattle.rst_block.specs.OpenBlocks.{IsPlaced}
+use Rattle.rst_block.specs.declared.step.Step.TheVariants.{Next}
 use Rattle.rst_block.proofs.machine.next.Given as goal
 
--- what is left of the block gives the same
+-- what is left of the block gives the same, and what it may take of looks is so much less
 abbrev pub invariant-loop-level : goal.invariant-loop-level
 invariant-loop-level l = record {
   on : l.fn.level.at ≤ l.level.at;
@@ -12,6 +14,7 @@ invariant-loop-level l = record {
   depth : l.level.depth ≡ l.fn.level.depth;
   placed : IsPlaced l.level;
   reads : reads l.level (block_of l.fn.view) l.pass.numbers ≡ reads l.fn.level (block_of l.fn.view) l.fn.pass.numbers;
+  takes : Takes (most_left l.fn.level (block_of l.fn.view) Next) (least_left l.fn.level (block_of l.fn.view) Next) l.fn.pass.looks (most_left l.level (block_of l.fn.view) Next) (least_left l.level (block_of l.fn.view) Next) l.pass.looks;
 }
 
 abbrev pub decreases-loop-level : goal.decreases-loop-level
