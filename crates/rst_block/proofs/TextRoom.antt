@@ -12,8 +12,11 @@ use Rattle.rst_text.proofs.LineTexts.{are_lines-lines_of}
 use Rattle.rst_markup_tables.specs.Places.{places_of, is_double}
 use Rattle.rst_block.specs.Ledger.{total_at}
 use Rattle.rst_markup_tables.specs.Room.{widest, room}
+use Rattle.rst_markup_tables.proofs.GridRoom.{grid_cells_fit}
+use Rattle.rst_markup_tables.proofs.SimpleRoom.{simple_cells_fit}
 use Rattle.rst_block.specs.RoomLaws.{TotalFits, TextsFit, LooksAreFew}
 use Rattle.rst_block.proofs.DocumentLooks.{lines_trimmed}
+use Rattle.rst_block.proofs.RoomLemmas.{blocks_fit, total_fits}
 
 -- ---- the pieces of a text
 
@@ -127,7 +130,7 @@ texts_fit tab t =
 -- ---- the looks at a text
 
 -- the lines of a text and of all inside fill its room once for each level, of which there are 252 at most
-pub looks_few : TotalFits → LooksAreFew
+looks_few : TotalFits → LooksAreFew
 looks_few total_fits settings t small =
     let tab = settings.tab in
     let n = length t in
@@ -137,3 +140,7 @@ looks_few total_fits settings t small =
     let wide : n * suc tab ≤ 2 ^ 25 * 100 = mul-le n (suc tab) (2 ^ 25) 100 small (omega (arith, settings.tab_to)) in
     let few : n * suc (2 * (n * suc tab)) ≤ 2 ^ 25 * suc (2 * (2 ^ 25 * 100)) = mul-le n (suc (2 * (n * suc tab))) (2 ^ 25) (suc (2 * (2 ^ 25 * 100))) small (omega (arith, wide)) in
     omega (arith, fits, texts_fit tab t, few)
+
+-- no text as long as an input may be takes too many looks
+pub few_looks : LooksAreFew
+few_looks = looks_few (total_fits (blocks_fit grid_cells_fit simple_cells_fit))
