@@ -1,10 +1,15 @@
-use Rattle.std.proofs.Common.{◌≡◌, ℕ, [], rules, ap, ◌∙◌}
+use Rattle.std.proofs.Common.{◌≡◌, ℕ, ◌+◌, ◌≤◌, [], None, length, arith, rules, ap, ◌∙◌}
+use Rattle.std.proofs.lemmas.Result.{IfOk-weaker}
 use Rattle.rst_text.specs.Block.{Block}
 use Rattle.rst_text.specs.Shown.{block_of}
+use Rattle.rst_block.specs.Ledger.{most_after, least_after, most_left, least_left, Takes}
 use Rattle.rst_block.specs.MeaningLaws.{IsBlankPart}
 use Rattle.rst_block.specs.Meanings.{resumed}
+use Rattle.rst_block.specs.Texts.{lines_in}
+use Rattle.rst_block.specs.declared.step.Step.TheVariants.{Open}
 use Rattle.rst_block.proofs.Calls.{keeps_as, refuses}
 use Rattle.rst_block.proofs.LastLevel.{blank_part, no_part, first_refused, second_refused, flat_goes_on}
+use Rattle.rst_block.proofs.StepsPaid.{takes_then, first_taken, both_taken}
 use Rattle.rst_block.proofs.machine.flat.Goals.{in-Some+in_ok-not_blank-2, in_default}
 use Rattle.rst_block.proofs.machine.flat.Goals as goal
 
@@ -36,3 +41,23 @@ returns-clause-read c =
     ∙ ap (λ m. resumed c.args.level.now B c.args.waits [] m) blank.1
     ∙ flat_goes_on c.args.level.now B (block_of c.inside.result) c.args.waits c.args.first c.args.second n c.in_ok-not_blank.field-0 c.requires.deepest c.inside.ensures.block c.in_ok-not_blank.ensures.blank blank.0)
     c.resume.ensures.read
+
+pub returns-clause-paid : goal.returns-clause-paid
+returns-clause-paid c =
+    let B : Block = block_of c.args.view.now in
+    let l = c.args.level.now in
+    let first = c.args.first in
+    let second = c.args.second in
+    let lines : length (block_of c.inside.result) ≡ length (lines_in B first) = ap length c.inside.ensures.block in
+    let taken : Takes (most_left l B (Open c.args.waits first second)) (least_left l B (Open c.args.waits first second)) c.args.pass.now.looks (most_after l B c.args.waits None) (least_after l B c.args.waits None) c.match-second.pass.looks =
+    elim c.match-second.branch [
+      | in-Some+in_ok-not_blank-2 w ↦
+          let more : length (block_of w.inside-in-Some.result) ≡ length (lines_in B w.in-Some.second) = ap length w.inside-in-Some.ensures.block in
+          let looks = ap (λ p. p.looks) w.pass-is in
+          both_taken l B c.args.waits first w.in-Some.second second c.args.pass.now.looks c.not_blank.new.pass.looks c.match-second.pass.looks w.in-Some.is c.requires.deepest (omega (arith, lines, c.in_ok-not_blank.ensures.each)) (omega (arith, lines, c.not_blank.ensures.most))
+          (omega (arith, more, looks, w.in_ok-not_blank-2.ensures.each)) (omega (arith, more, looks, w.not_blank-in-Some.ensures.most))
+      | in_default w ↦
+          let looks = ap (λ p. p.looks) w.pass-is in
+          first_taken l B c.args.waits first second c.args.pass.now.looks c.match-second.pass.looks w.in_default.is c.requires.deepest (omega (arith, lines, looks, c.in_ok-not_blank.ensures.each)) (omega (arith, lines, looks, c.not_blank.ensures.most))
+    ] in
+    IfOk-weaker c.resume.result _ _ (λ s h. takes_then taken h) c.resume.ensures.paid
