@@ -1,6 +1,5 @@
 -- A line of a line block is paid for.
 use Rattle.std.proofs.Common.{◌≡◌, ℕ, ◌+◌, ◌-◌, ◌*◌, ◌<◌, ◌≤◌, length, drop, arith, refl, ◌∙◌}
-use Rattle.std.specs.Prelude.{◌==◌}
 use Rattle.rst_text.specs.Block.{Block}
 use Rattle.rst_text.specs.Reach.{reach}
 use Rattle.rst_markup_lines.specs.declared.marker.Marker.{Marker}
