@@ -7,7 +7,8 @@ use Rattle.rst_block.specs.Directives.{called}
 use Rattle.rst_block.specs.Inside.{directive_blocks}
 use Rattle.rst_block.specs.Ledger.{unread_at}
 use Rattle.rst_block.specs.MarkupSteps.{place_in}
-use Rattle.rst_block.proofs.DirectivesPaid.{AreFew, directive_few, opened_after, opened_within}
+use Rattle.rst_block.proofs.DirectivesPaid.{AreFew, directive_few, opened_within}
+use Rattle.rst_block.proofs.PaidSteps.{opened_after}
 use Rattle.rst_block.proofs.directive.directive_block.Goals as goal
 
 pub returns-in_ok-error-in-Wrong-clause-step : goal.returns-in_ok-error-in-Wrong-clause-step

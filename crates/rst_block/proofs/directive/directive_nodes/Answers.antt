@@ -14,7 +14,7 @@ use Rattle.rst_block.specs.Numbered.{Numbered}
 use Rattle.rst_block.specs.Texts.{source_of}
 use Rattle.rst_block.proofs.Calls.{keeps_as}
 use Rattle.rst_block.proofs.DirectiveReads.{language_right}
-use Rattle.rst_block.proofs.DirectivesPaid.{opened_after}
+use Rattle.rst_block.proofs.PaidSteps.{opened_after}
 use Rattle.rst_block.proofs.NextConstructs.{span_to}
 use Rattle.rst_block.proofs.directive.directive_nodes.Goals as goal
 

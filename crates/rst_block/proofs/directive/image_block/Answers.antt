@@ -10,7 +10,8 @@ use Rattle.rst_block.specs.Numbered.{Numbered}
 use Rattle.rst_block.specs.Texts.{source_of}
 use Rattle.rst_block.proofs.Calls.{keeps_as}
 use Rattle.rst_block.proofs.DirectiveReads.{figure_right, image_right, image_is}
-use Rattle.rst_block.proofs.DirectivesPaid.{opened_after, opened_within, figure_content, image_content}
+use Rattle.rst_block.proofs.DirectivesPaid.{opened_within, figure_content, image_content}
+use Rattle.rst_block.proofs.PaidSteps.{opened_after}
 use Rattle.rst_block.proofs.NextConstructs.{span_to}
 use Rattle.rst_block.proofs.directive.image_block.Goals as goal
 

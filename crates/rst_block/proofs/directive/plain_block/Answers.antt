@@ -9,7 +9,8 @@ use Rattle.rst_block.specs.Numbered.{Numbered}
 use Rattle.rst_block.specs.Texts.{source_of}
 use Rattle.rst_block.proofs.Calls.{keeps_as}
 use Rattle.rst_block.proofs.DirectiveReads.{code_right, plain_right, plain_comes}
-use Rattle.rst_block.proofs.DirectivesPaid.{opened_after, opened_within, code_content, plain_content}
+use Rattle.rst_block.proofs.DirectivesPaid.{opened_within, code_content, plain_content}
+use Rattle.rst_block.proofs.PaidSteps.{opened_after}
 use Rattle.rst_block.proofs.NextConstructs.{span_to}
 use Rattle.rst_block.proofs.directive.plain_block.Goals as goal
 
