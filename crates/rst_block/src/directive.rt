@@ -130,7 +130,6 @@ pub(crate) fn directive_block(
     ensures kept { IfOk result (λ _. IsKept level.old level.new) }
     ensures read { Keeps result (λ s. comes level.new (block_of view.now) s pass.new.numbers) (reads_with level.old (block_of view.now) (meaning.directive_nodes (within_at level.old.depth) (block_of view.now) (record { start = level.old.at; stop = invocation.now.block.to }) invocation.now) invocation.now.block.to pass.old.numbers) }
     ensures paid { IfOk result (λ s. Opens (18 * (invocation.now.block.to - level.old.at)) level.old level.new (block_of view.now) (directive_blocks (meaning.called (unread_at level.old.depth) (block_of view.now) level.old.at invocation.now (place_in (level.old.depth == 0))) (block_of view.now)) invocation.now.block.to s pass.old.looks pass.new.looks) }
-    ensures looks { IfOk result (λ _. pass.new.looks ≤ pass.old.looks + 2 ^ 77) }
 {
     let at = level.at;
     let end = invocation.block.to;
@@ -237,7 +236,6 @@ fn directive_nodes(
     ensures kept { IfOk result (λ _. IsKept level.old level.new) }
     ensures read { Keeps result (λ s. comes level.new (block_of view.now) s pass.new.numbers) (reads_with level.old (block_of view.now) (meaning.right_by (given.given_in found.now.argument) found.now.name (within_at level.old.depth) (block_of view.now) (first_number (drop level.old.at (block_of view.now))) (read_of found.now) (source_of (block_of view.now) (record { start = level.old.at; stop = found.now.end }))) found.now.end pass.old.numbers) }
     ensures paid { IfOk result (λ s. Opens (argument_lines found.now.argument + (found.now.content.second.to - found.now.content.second.from) + (found.now.end - level.old.at)) level.old level.new (block_of view.now) (directive_content (given.given_in found.now.argument) found.now.name (block_of view.now) found.now.content) found.now.end s pass.old.looks pass.new.looks) }
-    ensures looks { IfOk result (λ _. pass.new.looks ≤ pass.old.looks + 2 ^ 76) }
 {
     match &found.argument {
         Argument::Title(title) => titled_block(alloc, view, level, found, *title, pass),
@@ -270,7 +268,6 @@ fn titled_block(
     ensures kept { IfOk result (λ _. IsKept level.old level.new) }
     ensures read { Keeps result (λ s. comes level.new (block_of view.now) s pass.new.numbers) (reads_with level.old (block_of view.now) (meaning.titled_nodes (within_at level.old.depth) (block_of view.now) (first_number (drop level.old.at (block_of view.now))) (read_of found.now) (lines_in (block_of view.now) title)) found.now.end pass.old.numbers) }
     ensures paid { IfOk result (λ s. Opens (title.to - title.from) level.old level.new (block_of view.now) (content_blocks (block_of view.now) found.now.content) found.now.end s pass.old.looks pass.new.looks) }
-    ensures looks { IfOk result (λ _. pass.new.looks ≤ pass.old.looks + 2 ^ 75) }
 {
     let line = number_at(view, level.at);
     let node = titled(alloc, view, found, title, line, pass)?;
@@ -295,7 +292,6 @@ fn plain_block(
     ensures kept { IfOk result (λ _. IsKept level.old level.new) }
     ensures read { Keeps result (λ s. comes level.new (block_of view.now) s pass.new.numbers) (reads_with level.old (block_of view.now) (meaning.right_by given.nothing found.now.name (within_at level.old.depth) (block_of view.now) (first_number (drop level.old.at (block_of view.now))) (read_of found.now) (source_of (block_of view.now) (record { start = level.old.at; stop = found.now.end }))) found.now.end pass.old.numbers) }
     ensures paid { IfOk result (λ s. Opens (found.now.content.second.to - found.now.content.second.from) level.old level.new (block_of view.now) (directive_content given.nothing found.now.name (block_of view.now) found.now.content) found.now.end s pass.old.looks pass.new.looks) }
-    ensures looks { IfOk result (λ _. pass.new.looks ≤ pass.old.looks + 2 ^ 75) }
 {
     if is_code(found.name) {
         return code_nodes(alloc, view, level, found, None, pass);
@@ -324,7 +320,6 @@ fn image_block(
     ensures kept { IfOk result (λ _. IsKept level.old level.new) }
     ensures read { Keeps result (λ s. comes level.new (block_of view.now) s pass.new.numbers) (reads_with level.old (block_of view.now) (meaning.right_by (given.uri (chars uri.now)) found.now.name (within_at level.old.depth) (block_of view.now) (first_number (drop level.old.at (block_of view.now))) (read_of found.now) (source_of (block_of view.now) (record { start = level.old.at; stop = found.now.end }))) found.now.end pass.old.numbers) }
     ensures paid { IfOk result (λ s. Opens ((found.now.end - level.old.at)) level.old level.new (block_of view.now) (directive_content (given.uri (chars uri.now)) found.now.name (block_of view.now) found.now.content) found.now.end s pass.old.looks pass.new.looks) }
-    ensures looks { IfOk result (λ _. pass.new.looks ≤ pass.old.looks + 2 ^ 75) }
 {
     if is_figure(found.name) {
         return figure_block(alloc, view, level, found, uri, pass);
@@ -370,7 +365,6 @@ fn figure_block(
     ensures kept { IfOk result (λ _. IsKept level.old level.new) }
     ensures read { Keeps result (λ s. comes level.new (block_of view.now) s pass.new.numbers) (reads_with level.old (block_of view.now) (meaning.figure_of (within_at level.old.depth) (block_of view.now) (first_number (drop level.old.at (block_of view.now))) (read_of found.now) uri.now (source_of (block_of view.now) (record { start = level.old.at; stop = found.now.end }))) found.now.end pass.old.numbers) }
     ensures paid { IfOk result (λ s. Opens ((found.now.end - level.old.at)) level.old level.new (block_of view.now) (content_blocks (block_of view.now) found.now.content) found.now.end s pass.old.looks pass.new.looks) }
-    ensures looks { IfOk result (λ _. pass.new.looks ≤ pass.old.looks + 2 ^ 74) }
 {
     let at = level.at;
     let line = number_at(view, at);
@@ -406,7 +400,6 @@ fn code_nodes(
     ensures kept { IfOk result (λ _. IsKept level.old level.new) }
     ensures read { Keeps result (λ s. comes level.new (block_of view.now) s pass.new.numbers) (reads_with level.old (block_of view.now) (just (meaning.code_nodes (block_of view.now) (first_number (drop level.old.at (block_of view.now))) (read_of found.now) (option_map (λ word. word.now) language.entry))) found.now.end pass.old.numbers) }
     ensures paid { IfOk result (λ s. Opens (found.now.content.second.to - found.now.content.second.from) level.old level.new (block_of view.now) ([]) found.now.end s pass.old.looks pass.new.looks) }
-    ensures looks { IfOk result (λ _. pass.new.looks ≤ pass.old.looks + 2 ^ 74) }
 {
     let line = number_at(view, level.at);
     let text = joined(alloc, &inside(view, found.content.second), &mut pass.looks)?;

@@ -55,7 +55,6 @@ pub(crate) fn explicit_markup(
     ensures kept { IfOk result (λ _. IsKept level.old level.new) }
     ensures read { Keeps result (λ s. comes level.new (block_of view.now) s pass.new.numbers) (reads level.old (block_of view.now) pass.old.numbers) }
     ensures paid { IfOk result (λ s. IsPaid 29 level.old level.new (block_of view.now) s pass.old.looks pass.new.looks) }
-    ensures looks { IfOk result (λ _. pass.new.looks ≤ pass.old.looks + 2 ^ 79) }
 {
     let at = level.at;
     let found = explicit(view, at, &mut pass.looks);
@@ -119,7 +118,6 @@ fn markup_of(
     ensures kept { IfOk result (λ _. IsKept level.old level.new) }
     ensures read { Keeps result (λ s. comes level.new (block_of view.now) s pass.new.numbers) (reads_with level.old (block_of view.now) (markup.markup_by found (within_at level.old.depth) (block_of view.now) (record { start = level.old.at; stop = end }) (drop level.old.at (block_of view.now))) end pass.old.numbers) }
     ensures paid { IfOk result (λ s. Opens (20 * (end - level.old.at)) level.old level.new (block_of view.now) (markup_blocks found (unread_at level.old.depth) (block_of view.now) level.old.at) end s pass.old.looks pass.new.looks) }
-    ensures looks { IfOk result (λ _. pass.new.looks ≤ pass.old.looks + 2 ^ 78) }
 {
     match found {
         Explicit::Footnote { label, body } => footnote_block(alloc, view, level, label, body, pass),
@@ -155,7 +153,6 @@ fn footnote_block(
     ensures kept { IfOk result (λ _. IsKept level.old level.new) }
     ensures read { Keeps result (λ s. comes level.new (block_of view.now) s pass.new.numbers) (reads_with level.old (block_of view.now) (markup.noted (within_at level.old.depth) (block_of view.now) (footnote_node (excerpt (front_text (drop level.old.at (block_of view.now))) label) (first_number (drop level.old.at (block_of view.now)))) body) body.to pass.old.numbers) }
     ensures paid { IfOk result (λ s. Opens (1) level.old level.new (block_of view.now) (lines_in (block_of view.now) body ∷ []) body.to s pass.old.looks pass.new.looks) }
-    ensures looks { IfOk result (λ _. pass.new.looks ≤ pass.old.looks + 2 ^ 70) }
 {
     let line = number_at(view, level.at);
     let label = label_text(alloc, view, level.at, label, &mut pass.looks)?;
@@ -182,7 +179,6 @@ fn citation_block(
     ensures kept { IfOk result (λ _. IsKept level.old level.new) }
     ensures read { Keeps result (λ s. comes level.new (block_of view.now) s pass.new.numbers) (reads_with level.old (block_of view.now) (markup.noted (within_at level.old.depth) (block_of view.now) (citation_node (excerpt (front_text (drop level.old.at (block_of view.now))) label) (first_number (drop level.old.at (block_of view.now)))) body) body.to pass.old.numbers) }
     ensures paid { IfOk result (λ s. Opens (1) level.old level.new (block_of view.now) (lines_in (block_of view.now) body ∷ []) body.to s pass.old.looks pass.new.looks) }
-    ensures looks { IfOk result (λ _. pass.new.looks ≤ pass.old.looks + 2 ^ 70) }
 {
     let line = number_at(view, level.at);
     let label = label_text(alloc, view, level.at, label, &mut pass.looks)?;
@@ -209,7 +205,6 @@ fn target_block(
     ensures kept { IfOk result (λ _. IsKept level.old level.new) }
     ensures read { Keeps result (λ s. comes level.new (block_of view.now) s pass.new.numbers) (reads_with level.old (block_of view.now) (just (target_node (option_map (excerpt (front_text (drop level.old.at (block_of view.now)))) name) (spelled (lines_in (block_of view.now) text)) (first_number (drop level.old.at (block_of view.now))) ∷ [])) text.to pass.old.numbers) }
     ensures paid { IfOk result (λ s. Opens (1 + (text.to - text.from)) level.old level.new (block_of view.now) ([]) text.to s pass.old.looks pass.new.looks) }
-    ensures looks { IfOk result (λ _. pass.new.looks ≤ pass.old.looks + 2 ^ 70) }
 {
     let lines = joined(alloc, &inside(view, text), &mut pass.looks)?;
     let element = target_of(alloc, view, level.at, name, lines.as_str(), &mut pass.looks)?;
@@ -260,7 +255,6 @@ fn comment(
     ensures kept { IfOk result (λ _. IsKept level.old level.new) }
     ensures read { Keeps result (λ s. comes level.new (block_of view.now) s pass.new.numbers) (reads_with level.old (block_of view.now) (just (preserved_node CommentTag (first_number (drop level.old.at (block_of view.now))) (spelled (lines_in (block_of view.now) text)) ∷ markup.cause_notes cause (first_number (drop level.old.at (block_of view.now))))) text.to pass.old.numbers) }
     ensures paid { IfOk result (λ s. Opens (text.to - text.from) level.old level.new (block_of view.now) ([]) text.to s pass.old.looks pass.new.looks) }
-    ensures looks { IfOk result (λ _. pass.new.looks ≤ pass.old.looks + 2 ^ 70) }
 {
     let line = number_at(view, level.at);
     let lines = joined(alloc, &inside(view, text), &mut pass.looks)?;

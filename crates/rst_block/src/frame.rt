@@ -101,14 +101,13 @@ pub(crate) fn closed<'a>(
     pass: &mut Pass,
 ) -> Result<Ended<'a>, BlockFault>
     requires frame { frames.IsFrame (source_of whole.now) frame }
-    requires few { pass.old.looks < 2 ^ 119 + 2 ^ 109 }
+    requires few { pass.old.looks < 2 ^ 119 }
     requires depth { depth ≡ suc frame.level.depth }
     requires deepest { frame.level.depth < deepest }
     ensures ended { IfOk result (frames.IsEnded (source_of whole.now) frame level.new.at) }
     ensures kept { IfOk result (frames.KeepsFrame frame depth level.new) }
     ensures read { Keeps result (λ e. frames.ended_as (source_of whole.now) level.new e pass.new.numbers) (after frame.level (placement_block (source_of whole.now) frame.placement) frame.waits frame.second frame.nodes.items (nodes_among (done_of level.old)) pass.old.numbers) }
     ensures paid { IfOk result (λ e. Takes (most_after frame.level (placement_block (source_of whole.now) frame.placement) frame.waits frame.second) (least_after frame.level (placement_block (source_of whole.now) frame.placement) frame.waits frame.second) pass.old.looks (ended_most (source_of whole.now) level.new e) (ended_least (source_of whole.now) level.new e) pass.new.looks) }
-    ensures looks { IfOk result (λ _. pass.new.looks ≤ pass.old.looks + 2 ^ 90) }
 {
     let Frame {
         placement,

@@ -1,11 +1,10 @@
 //! The machine: the constructs of a block one after the other, and the blocks inside them.
-ghost use Rattle.std.specs.Prelude.{◌≡◌, Ok, suc, ◌+◌, ◌-◌, ◌*◌, ◌^◌, ◌<◌, ◌≤◌, ◌++◌, ◌∷◌, [], length, drop, IfErr, IfOk, IfSome, IfNone, IsTrue};
+ghost use Rattle.std.specs.Prelude.{◌≡◌, Ok, suc, ◌+◌, ◌-◌, ◌*◌, ◌^◌, ◌<◌, ◌≤◌, ◌++◌, ◌∷◌, [], length, drop, IfOk, IfSome, IfNone, IsTrue};
 ghost use Rattle.rst_text.specs.Lines.{are_lines};
 ghost use Rattle.rst_text.specs.Shown.{block_of};
 ghost use Rattle.rst_markup_blocks.specs.Parts.{IsBlock, IsCall};
 ghost use Rattle.rst_block.specs.Meanings.{Keeps, TellsBlank, comes, deepest, done_of, reads, text_items, within_at};
 ghost use Rattle.rst_block.specs.Steps as spec;
-ghost use Rattle.rst_block.specs.declared.fault.BlockFault.TheVariants.{NoMemory};
 ghost use Rattle.rst_block.specs.declared.step.Step.TheVariants.{Next, Open, Cells};
 ghost use Rattle.rst_block.specs.OpenBlocks.{IsKept, IsPlaced};
 ghost use Rattle.rst_block.specs.Nodes.{block_items};
@@ -35,21 +34,6 @@ use std::alloc::Global;
 /// The blocks that wait for one inside them, the outermost first.
 pub(crate) type Frames = ArrayVec<Frame, 250, Global>;
 
-/// More looks than any document can take that a machine holds: with so many the reading is given up. That they are never
-/// reached isn't proved yet.
-const MOST_LOOKS: u128 = 1 << 119;
-
-/// Refuses to go on behind more looks than any document can take.
-fn go_on(pass: &Pass) -> Result<(), BlockFault>
-    ensures few { IfOk result (λ _. pass.now.looks < 2 ^ 119) }
-    ensures memory { IfErr result (λ fault. fault ≡ NoMemory) }
-{
-    if pass.looks.count() >= MOST_LOOKS {
-        return Err(BlockFault::NoMemory);
-    }
-    Ok(())
-}
-
 /// Reads the lines of a text: of a document, or of a table's cell, that stands in as many blocks as `depth` says. The blocks that
 /// wait, those of the text behind those round it, stand in `frames`.
 #[cycle(machine)]
@@ -62,10 +46,10 @@ pub(crate) fn read(
 ) -> Result<OpenBlock, BlockFault>
     requires depth { depth ≤ 251 }
     requires room { length frames.old.items ≤ depth }
+    requires few { pass.old.looks + 128 * total_at depth lines.now < 2 ^ 119 }
     ensures frames { IfOk result (λ _. frames.new.items ≡ frames.old.items) }
     ensures placed { IfOk result IsPlaced }
     ensures read { Keeps result (λ level. just (done_of level) pass.new.numbers) (text_items depth lines.now pass.old.numbers) }
-    ensures few { IfOk result (λ _. pass.new.looks < 2 ^ 119) }
     ensures paid { IfOk result (λ _. TakesFor (total_at depth lines.now) pass.old.looks pass.new.looks) }
     ensures lines { IfOk result (λ _. IsTrue (are_lines lines.now)) }
 {
@@ -73,9 +57,7 @@ pub(crate) fn read(
     if 0 < whole.len() && depth <= DEEPEST {
         return read_blocks(alloc, whole, depth, frames, pass);
     }
-    go_on(pass)?;
     not_blank(&whole, pass)?;
-    go_on(pass)?;
     Ok(OpenBlock::new(alloc, depth))
 }
 
@@ -91,10 +73,10 @@ fn read_blocks(
     requires depth { depth ≤ 250 }
     requires room { length frames.old.items ≤ depth }
     requires short { length (block_of whole) < 2 ^ 64 }
+    requires few { pass.old.looks + 128 * total_at depth (block_of whole) < 2 ^ 119 }
     ensures frames { IfOk result (λ _. frames.new.items ≡ frames.old.items) }
     ensures placed { IfOk result IsPlaced }
     ensures read { Keeps result (λ level. just (done_of level) pass.new.numbers) (block_items (within_at depth) (block_of whole.entry) pass.old.numbers) }
-    ensures few { IfOk result (λ _. pass.new.looks < 2 ^ 119) }
     ensures paid { IfOk result (λ _. TakesFor (total_at depth (block_of whole.entry)) pass.old.looks pass.new.looks) }
 {
     let base = frames.len();
@@ -102,7 +84,6 @@ fn read_blocks(
     let mut level = OpenBlock::new(alloc, depth);
     let mut now = Step::Next;
     loop {
-        go_on(pass)?;
         let inner = depth + (frames.len() - base) + 1;
         now = match now {
             Step::Next => next(alloc, &view, &mut level, pass)?,
@@ -147,16 +128,14 @@ fn next(
     pass: &mut Pass,
 ) -> Result<Step, BlockFault>
     requires short { length (block_of view.now) < 2 ^ 64 }
-    requires few { pass.old.looks < 2 ^ 119 + 2 ^ 110 }
+    requires few { pass.old.looks + most_left level.old (block_of view.now) Next < 2 ^ 119 }
     requires placed { IsPlaced level.old }
     ensures next { IfOk result (λ s. spec.IsNext (block_of view.now) level.old.at level.new.at s) }
     ensures kept { IfOk result (λ _. IsKept level.old level.new) }
     ensures read { Keeps result (λ s. comes level.new (block_of view.now) s pass.new.numbers) (reads level.old (block_of view.now) pass.old.numbers) }
     ensures paid { IfOk result (λ s. Takes (most_left level.old (block_of view.now) Next) (least_left level.old (block_of view.now) Next) pass.old.looks (most_left level.new (block_of view.now) s) (least_left level.new (block_of view.now) s) pass.new.looks) }
-    ensures looks { IfOk result (λ _. pass.new.looks ≤ 2 ^ 119 + 2 ^ 110) }
 {
     while level.at < view.len() {
-        go_on(pass)?;
         match step_at(alloc, view, level, pass)? {
             Step::Next => {}
             step => return Ok(step),
@@ -212,14 +191,13 @@ fn flat(
     requires second { spec.IsBlockIf (block_of view.now) second }
     requires waits { spec.IsWaiting (block_of view.now) level.old.at waits }
     requires short { length (block_of view.now) < 2 ^ 64 }
-    requires few { pass.old.looks < 2 ^ 119 }
+    requires few { pass.old.looks + most_left level.old (block_of view.now) (Open waits first second) < 2 ^ 119 }
     requires placed { IsPlaced level.old }
     requires deepest { level.old.depth ≡ deepest }
     ensures step { IfOk result (λ s. spec.IsResumed (block_of view.now) level.old.at level.new.at s) }
     ensures kept { IfOk result (λ _. IsKept level.old level.new) }
     ensures read { Keeps result (λ s. comes level.new (block_of view.now) s pass.new.numbers) (comes level.old (block_of view.now) (Open waits first second) pass.old.numbers) }
     ensures paid { IfOk result (λ s. Takes (most_left level.old (block_of view.now) (Open waits first second)) (least_left level.old (block_of view.now) (Open waits first second)) pass.old.looks (most_left level.new (block_of view.now) s) (least_left level.new (block_of view.now) s) pass.new.looks) }
-    ensures looks { IfOk result (λ _. pass.new.looks ≤ pass.old.looks + 2 ^ 91) }
 {
     not_blank(&inside(view, first), pass)?;
     if let Some(second) = second {
@@ -243,7 +221,7 @@ fn cells(
     requires depth { depth ≤ 251 }
     requires room { length frames.old.items ≤ depth }
     requires short { length (block_of view.now) < 2 ^ 64 }
-    requires few { pass.old.looks < 2 ^ 119 }
+    requires few { pass.old.looks + most_left level.old (block_of view.now) (Cells found) < 2 ^ 119 }
     requires placed { IsPlaced level.old }
     requires level { depth ≡ suc level.old.depth }
     requires table { spec.IsTable level.old.at found }
@@ -253,7 +231,6 @@ fn cells(
     ensures kept { IfOk result (λ _. IsKept level.old level.new) }
     ensures read { Keeps result (λ s. comes level.new (block_of view.now) s pass.new.numbers) (comes level.old (block_of view.now) (Cells found) pass.old.numbers) }
     ensures paid { IfOk result (λ s. Takes (most_left level.old (block_of view.now) (Cells found)) (least_left level.old (block_of view.now) (Cells found)) pass.old.looks (most_left level.new (block_of view.now) s) (least_left level.new (block_of view.now) s) pass.new.looks) }
-    ensures looks { IfOk result (λ _. pass.new.looks < 2 ^ 119 + 2 ^ 10) }
 {
     let TableResult::Table {
         cols,
@@ -287,11 +264,10 @@ fn row_of(
 ) -> Result<Node, BlockFault>
     requires depth { depth ≤ 251 }
     requires room { length frames.old.items ≤ depth }
-    requires few { pass.old.looks < 2 ^ 119 }
+    requires few { pass.old.looks + 128 * totals (depth - 1) (cell_blocks (Table [] 0 (cells.now ∷ []) 0)) < 2 ^ 119 }
     requires inner { 1 ≤ depth }
     ensures frames { IfOk result (λ _. frames.new.items ≡ frames.old.items) }
     ensures row { Keeps result (λ node. Ok (node, pass.new.numbers)) (tables.row_of (within_at (depth - 1)) cells.now pass.old.numbers) }
-    ensures few { IfOk result (λ _. pass.new.looks < 2 ^ 119) }
     ensures paid { IfOk result (λ _. TakesFor (totals (depth - 1) (cell_blocks (Table [] 0 (cells.now ∷ []) 0))) pass.old.looks pass.new.looks) }
 {
     let mut entries = Vec::new(alloc);

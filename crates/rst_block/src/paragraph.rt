@@ -55,7 +55,6 @@ pub(crate) fn doctest_block(
     ensures kept { IfOk result (λ _. IsKept level.old level.new) }
     ensures read { Keeps result (λ _. reads level.new (block_of view.now) pass.new.numbers) (reads level.old (block_of view.now) pass.old.numbers) }
     ensures paid { IfOk result (λ _. IsPaid 29 level.old level.new (block_of view.now) Next pass.old.looks pass.new.looks) }
-    ensures looks { IfOk result (λ _. pass.new.looks ≤ pass.old.looks + 2 ^ 79) }
 {
     level.close(alloc, view, pass)?;
     let at = level.at;
@@ -97,7 +96,6 @@ pub(crate) fn paragraph(
     ensures read { Gives (λ _. ReadsNodes (literals.paragraph_nodes [] (drop level.old.at (block_of view.now)) pass.old.numbers) level.old level.new (level.old.at + paragraph_size (drop level.old.at (block_of view.now))) pass.new.numbers) result }
     ensures most { IfOk result (λ _. pass.new.looks ≤ pass.old.looks + 20 * reach (paragraph_size (drop level.old.at (block_of view.now))) (drop level.old.at (block_of view.now))) }
     ensures low { IfOk result (λ _. pass.old.looks + paragraph_size (drop level.old.at (block_of view.now)) ≤ pass.new.looks) }
-    ensures looks { IfOk result (λ _. pass.new.looks ≤ pass.old.looks + 2 ^ 76) }
 {
     let at = level.at;
     let end = lines_end(view, at, LineTest::Plain, &mut pass.looks);
@@ -127,7 +125,6 @@ fn paragraph_of(
     ensures read { Gives (λ _. ReadsNodes (parts.paragraph_between (chars text.now) level.old.at end (block_of view.now) pass.old.numbers) level.old level.new (parts.paragraph_end (chars text.now) end (block_of view.now)) pass.new.numbers) result }
     ensures most { IfOk result (λ _. pass.new.looks ≤ pass.old.looks + 1 + 8 * reach (parts.paragraph_end (chars text.now) end (block_of view.now) - end) (drop end (block_of view.now))) }
     ensures low { IfOk result (λ _. pass.old.looks + (parts.paragraph_end (chars text.now) end (block_of view.now) - end) ≤ pass.new.looks) }
-    ensures looks { IfOk result (λ _. pass.new.looks ≤ pass.old.looks + 2 ^ 75 + 2 ^ 70) }
 {
     if !ends_in_colons(text) {
         put_paragraph(alloc, view, level, text, end, pass)?;
@@ -208,7 +205,6 @@ fn literal(
     ensures numbers { pass.new.numbers ≡ pass.old.numbers }
     ensures most { IfOk result (λ _. pass.new.looks ≤ pass.old.looks + 8 * reach (literal_size (drop end (block_of view.now))) (drop end (block_of view.now))) }
     ensures low { IfOk result (λ _. pass.old.looks + literal_size (drop end (block_of view.now)) ≤ pass.new.looks) }
-    ensures looks { IfOk result (λ _. pass.new.looks ≤ pass.old.looks + 2 ^ 75) }
 {
     let start = lines_end(view, end, LineTest::Blank, &mut pass.looks);
     let text = text_at(view, start, &mut pass.looks);
@@ -251,7 +247,6 @@ fn indented_literal(
     ensures numbers { pass.new.numbers ≡ pass.old.numbers }
     ensures most { IfOk result (λ _. pass.new.looks ≤ pass.old.looks + 1 + 2 * reach (extent 1 (drop start (block_of view.now))) (drop start (block_of view.now))) }
     ensures low { IfOk result (λ _. pass.old.looks + extent 1 (drop start (block_of view.now)) ≤ pass.new.looks) }
-    ensures looks { IfOk result (λ _. pass.new.looks ≤ pass.old.looks + 2 ^ 74) }
 {
     let lines = indented(view, start, &mut pass.looks);
     let text = joined(alloc, &inside(view, lines), &mut pass.looks)?;
@@ -287,7 +282,6 @@ fn quoted_literal(
     ensures numbers { pass.new.numbers ≡ pass.old.numbers }
     ensures most { IfOk result (λ _. pass.new.looks ≤ pass.old.looks + 2 + 2 * lines_while (Begins quote) (drop start (block_of view.now))) }
     ensures low { IfOk result (λ _. pass.old.looks + lines_while (Begins quote) (drop start (block_of view.now)) ≤ pass.new.looks) }
-    ensures looks { IfOk result (λ _. pass.new.looks ≤ pass.old.looks + 2 ^ 74) }
 {
     let end = lines_end(view, start, LineTest::Begins(quote), &mut pass.looks);
     let text = source(alloc, view, start, end, &mut pass.looks)?;

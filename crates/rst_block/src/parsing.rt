@@ -3,7 +3,8 @@ ghost use Rattle.rst_settings.specs.Profile.{profile_of};
 ghost use Rattle.rst_settings.specs.declared.Settings.{Settings};
 ghost use Rattle.rst_block.specs.Budget.{IsWithinBounds};
 ghost use Rattle.rst_block.specs.Documents as spec;
-ghost use Rattle.std.specs.Prelude.{IfOk};
+ghost use Rattle.rst_block.specs.Ledger.{total_at};
+ghost use Rattle.std.specs.Prelude.{◌*◌, ◌^◌, ◌<◌, IfOk};
 
 use super::fault::BlockFault;
 use super::machine::{Frames, read};
@@ -30,7 +31,11 @@ pub struct Parsed {
 ///
 /// It is refused with [`BlockFault::TooDeep`] where a block that isn't blank stands in more than 250 blocks: at the first such
 /// block; and with [`BlockFault::NoMemory`].
+///
+/// So many lines as no text of up to 2^25 characters has, with those of all blocks and cells inside, can't be read: a law, `looks_are_few`, says so of
+/// such texts.
 pub fn parse(alloc: Global, lines: &Lines) -> Result<Parsed, BlockFault>
+    requires few { 128 * total_at 0 lines.now < 2 ^ 119 }
     ensures document { (settings : Settings) → spec.Parses (spec.document (profile_of settings) lines.now 0) result }
     ensures looks { (settings : Settings) → IfOk result (λ parsed. IsWithinBounds (profile_of settings) lines.now parsed.looks) }
 {

@@ -43,7 +43,6 @@ pub(crate) fn block_quote(
     ensures kept { IfOk result (λ _. IsKept level.old level.new) }
     ensures read { Keeps result (λ s. comes level.new (block_of view.now) s pass.new.numbers) (reads level.old (block_of view.now) pass.old.numbers) }
     ensures paid { IfOk result (λ s. IsPaid 29 level.old level.new (block_of view.now) s pass.old.looks pass.new.looks) }
-    ensures looks { IfOk result (λ _. pass.new.looks ≤ pass.old.looks + 2 ^ 79) }
 {
     level.close(alloc, view, pass)?;
     let quote = indented(view, level.at, &mut pass.looks);
@@ -71,7 +70,6 @@ pub(crate) fn quote_part(
     ensures kept { IfOk result (λ _. IsKept level.old level.new) }
     ensures read { Keeps result (λ s. comes level.new (block_of view.now) s pass.new.numbers) (quotes_from level.old (block_of view.now) [] quote pass.old.numbers) }
     ensures paid { IfOk result (λ s. AreQuotesPaid level.old level.new (block_of view.now) quote quote.to s pass.old.looks pass.new.looks) }
-    ensures looks { IfOk result (λ _. pass.new.looks ≤ pass.old.looks + 2 ^ 78) }
 {
     let line = number_at(view, quote.from);
     let lines = inside(view, quote);

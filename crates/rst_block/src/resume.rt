@@ -71,7 +71,6 @@ pub(crate) fn resume(
     ensures kept { IfOk result (λ _. IsKept level.old level.new) }
     ensures read { Keeps result (λ s. comes level.new (block_of view.now) s pass.new.numbers) (resumed level.old (block_of view.now) waits nodes.items pass.old.numbers) }
     ensures paid { IfOk result (λ s. Takes (most_after level.old (block_of view.now) waits None) (least_after level.old (block_of view.now) waits None) pass.old.looks (most_left level.new (block_of view.now) s) (least_left level.new (block_of view.now) s) pass.new.looks) }
-    ensures looks { IfOk result (λ _. pass.new.looks ≤ pass.old.looks + 2 ^ 90) }
 {
     match waits {
         Waits::ListItem { line } => {
@@ -151,7 +150,6 @@ fn after_quote(
     ensures kept { IfOk result (λ _. IsKept level.old level.new) }
     ensures read { Keeps result (λ s. comes level.new (block_of view.now) s pass.new.numbers) (after_quote level.old (block_of view.now) [] rest end pass.old.numbers) }
     ensures paid { (line : ℕ) (made : Option (Box Texted Global)) → IfOk result (λ s. Takes (most_after level.old (block_of view.now) (Quote line made rest end) None) (least_after level.old (block_of view.now) (Quote line made rest end) None) pass.old.looks (most_left level.new (block_of view.now) s) (least_left level.new (block_of view.now) s) pass.new.looks) }
-    ensures looks { IfOk result (λ _. pass.new.looks ≤ pass.old.looks + 2 ^ 90) }
 {
     match rest {
         Some(rest) => quote_part(alloc, view, level, rest, pass),

@@ -54,13 +54,12 @@ pub(crate) fn step_at(
 ) -> Result<Step, BlockFault>
     requires inside { level.old.at < length (block_of view.now) }
     requires short { length (block_of view.now) < 2 ^ 64 }
-    requires few { pass.old.looks < 2 ^ 119 + 2 ^ 110 }
+    requires few { pass.old.looks < 2 ^ 119 }
     requires placed { IsPlaced level.old }
     ensures step { IfOk result (λ s. spec.IsStep (block_of view.now) level.old.at level.new.at s) }
     ensures kept { IfOk result (λ _. IsKept level.old level.new) }
     ensures read { Keeps result (λ s. comes level.new (block_of view.now) s pass.new.numbers) (reads level.old (block_of view.now) pass.old.numbers) }
     ensures paid { IfOk result (λ s. Takes (most_left level.old (block_of view.now) Next) (least_left level.old (block_of view.now) Next) pass.old.looks (most_left level.new (block_of view.now) s) (least_left level.new (block_of view.now) s) pass.new.looks) }
-    ensures looks { IfOk result (λ _. pass.new.looks ≤ pass.old.looks + 2 ^ 80) }
 {
     let at = level.at;
     match begun_at(view, at, &mut pass.looks) {

@@ -75,7 +75,6 @@ pub(crate) fn substitution_definition(
     ensures kept { IfOk result (λ _. IsKept level.old level.new) }
     ensures read { Keeps result (λ s. comes level.new (block_of view.now) s pass.new.numbers) (reads_with level.old (block_of view.now) (directives.substitution_nodes (within_at level.old.depth) (block_of view.now) (record { start = level.old.at; stop = end }) written.now held) end pass.old.numbers) }
     ensures paid { IfOk result (λ s. Opens (18 * (end - level.old.at)) level.old level.new (block_of view.now) (substitution_blocks held (unread_at level.old.depth) (block_of view.now) level.old.at) end s pass.old.looks pass.new.looks) }
-    ensures looks { IfOk result (λ _. pass.new.looks ≤ pass.old.looks + 2 ^ 77) }
 {
     let name = substitution_name(alloc, written)?;
     let Some(invocation) = held else {
@@ -126,7 +125,6 @@ fn holding(
     ensures kept { IfOk result (λ _. IsKept level.old level.new) }
     ensures read { Keeps result (λ s. comes level.new (block_of view.now) s pass.new.numbers) (reads_with level.old (block_of view.now) (directives.holding (directives.called (within_at level.old.depth) (block_of view.now) level.old.at invocation.now Substitution) (within_at level.old.depth) (block_of view.now) (record { start = level.old.at; stop = end }) (string_bytes name) (texts.excerpt (front_text (drop level.old.at (block_of view.now))) invocation.now.name)) end pass.old.numbers) }
     ensures paid { IfOk result (λ s. Opens (18 * (end - level.old.at)) level.old level.new (block_of view.now) (definition_blocks (directives.called (unread_at level.old.depth) (block_of view.now) level.old.at invocation.now Substitution) (block_of view.now)) end s pass.old.looks pass.new.looks) }
-    ensures looks { IfOk result (λ _. pass.new.looks ≤ pass.old.looks + 2 ^ 76) }
 {
     let at = level.at;
     let line = number_at(view, at);
@@ -194,7 +192,6 @@ fn replacement(
     ensures kept { IfOk result (λ _. IsKept level.old level.new) }
     ensures read { Keeps result (λ s. comes level.new (block_of view.now) s pass.new.numbers) (reads_with level.old (block_of view.now) (made_of (within_at level.old.depth) (block_of view.now) content (λ nodes. directives.replacement (string_bytes name) (first_number (drop level.old.at (block_of view.now))) (texts.source_of (block_of view.now) (record { start = level.old.at; stop = end })) (directives.first_paragraph nodes) ∷ [])) end pass.old.numbers) }
     ensures paid { IfOk result (λ s. Opens ((end - level.old.at)) level.old level.new (block_of view.now) (content_blocks (block_of view.now) content) end s pass.old.looks pass.new.looks) }
-    ensures looks { IfOk result (λ _. pass.new.looks ≤ pass.old.looks + 2 ^ 75) }
 {
     let at = level.at;
     let replacement = OpenReplacement {

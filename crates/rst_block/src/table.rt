@@ -47,7 +47,6 @@ pub(crate) fn table(
     ensures kept { IfOk result (λ _. IsKept level.old level.new) }
     ensures read { Keeps result (λ s. comes level.new (block_of view.now) s pass.new.numbers) (reads level.old (block_of view.now) pass.old.numbers) }
     ensures paid { (before : ℕ) → pass.old.looks ≤ before + 4 * reach_at (level.old.depth == 0) (drop level.old.at (block_of view.now)) → before + construct_size (level.old.depth == 0) (drop level.old.at (block_of view.now)) ≤ pass.old.looks + 1 → IfOk result (λ s. IsPaid 29 level.old level.new (block_of view.now) s before pass.new.looks) }
-    ensures looks { IfOk result (λ _. pass.new.looks ≤ pass.old.looks + 2 ^ 79) }
 {
     level.close(alloc, view, pass)?;
     match found {

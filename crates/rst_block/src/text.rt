@@ -46,7 +46,6 @@ pub(crate) fn text_line(
     ensures kept { IfOk result (λ _. IsKept level.old level.new) }
     ensures read { Keeps result (λ s. comes level.new (block_of view.now) s pass.new.numbers) (reads level.old (block_of view.now) pass.old.numbers) }
     ensures paid { IfOk result (λ s. IsPaid 27 level.old level.new (block_of view.now) s pass.old.looks pass.new.looks) }
-    ensures looks { IfOk result (λ _. pass.new.looks ≤ pass.old.looks + 2 ^ 77) }
 {
     let at = level.at;
     let text = view.line(at, &mut pass.looks);
@@ -117,7 +116,6 @@ fn underlined(
     ensures read { Gives (λ _. ReadsItems (titles.underline_item (level.old.depth == 0) short (source_of (block_of view.now) (record { start = level.old.at; stop = level.old.at + 2 })) (drop level.old.at (block_of view.now)) pass.old.numbers) level.old level.new (level.old.at + 2) pass.new.numbers) result }
     ensures most { pass.new.looks ≤ pass.old.looks + 4 }
     ensures low { IfOk result (λ _. pass.old.looks + 2 ≤ pass.new.looks) }
-    ensures looks { IfOk result (λ _. pass.new.looks ≤ pass.old.looks + 2 ^ 76) }
 {
     let at = level.at;
     let end = at.saturating_add(2);
