@@ -3,7 +3,7 @@ use Rattle.std.proofs.Common.{inl, inr, ⊎_elim, ◌≡◌, ℕ, zero, suc, ◌
 use Rattle.std.specs.Prelude.{flat_map}
 use Rattle.std.specs.List.{range_with_len}
 use Rattle.std.proofs.lemmas.Bool.{cases_lt, cases_eq, cond_both, eqb-true}
-use Rattle.std.proofs.lemmas.List.{get_or-take, get_or-drop, get_or-set_same, get_or-set_other, length-map, set_past}
+use Rattle.std.proofs.lemmas.List.{get_or-set_same, get_or-set_other, length-map, set_past}
 use Rattle.std.proofs.lemmas.Nat.{mul-le}
 use Rattle.rst_text.specs.Block.{Block, first_number}
 use Rattle.rst_markup_blocks.specs.TableRows.{grid_bottom, grid_size}
@@ -21,7 +21,7 @@ use Rattle.rst_markup_tables.specs.declared.places.Place.TheVariants.{Character,
 use Rattle.rst_markup_tables.specs.declared.results.Cell.{Cell}
 use Rattle.rst_markup_tables.specs.declared.results.TableDetail.{TableDetail}
 use Rattle.rst_markup_tables.proofs.Rectangles.{covers_yes, frame_within}
-use Rattle.rst_markup_tables.proofs.Room.{GoesOn, HasSeconds, CanCut, room_cell, cells_room, cells_more, cells_append, row_within, row_seconds, widest_take, widest_drop}
+use Rattle.rst_markup_tables.proofs.Room.{GoesOn, HasSeconds, CanCut, wide_cut, row_seconds, part_within, row_taken, room_cell, cells_room, cells_more, cells_append}
 use Rattle.rst_markup_tables.proofs.RowLemmas.{dashes-length}
 use Rattle.rst_markup_tables.proofs.TableLemmas.{even_from}
 use Rattle.rst_markup_tables.proofs.TilingLemmas.{tiling_of-tiles}
@@ -139,9 +139,7 @@ cell_cuts : (G : Grid) (r : Rectangle) → IsFrame G r → ((i : ℕ) → HasSec
     → CanCut r.right (row_at (take (r.bottom - (r.top + 1)) (drop (r.top + 1) G)) i)
 cell_cuts G r f seconds i under =
     let n : ℕ = r.bottom - (r.top + 1) in
-    let same : row_at (take n (drop (r.top + 1) G)) i ≡ row_at G (r.top + 1 + i) =
-    ap (λ (x : Row). x.places) (get_or-take n (drop (r.top + 1) G) i no_row under ∙ get_or-drop (r.top + 1) G i no_row) in
-    subst (CanCut r.right) (sym same) (seconds (r.top + 1 + i), λ k. upright_some (place G (r.top + 1 + i) r.right) (f.right_side (r.top + 1 + i) (omega arith) (omega arith)))
+    subst (CanCut r.right) (sym (row_taken G (r.top + 1) n i under)) (seconds (r.top + 1 + i), λ k. upright_some (place G (r.top + 1 + i) r.right) (f.right_side (r.top + 1 + i) (omega arith) (omega arith)))
 
 -- it has no more room than the rectangle has unit squares
 room_drawn : (f g : ℕ → ℕ) (G : Grid) (r : Rectangle) → IsFrame G r → ((i : ℕ) → HasSeconds (row_at G i)) → room (cell_of f g G r).lines ≤ area r
@@ -150,8 +148,9 @@ room_drawn f g G r frame seconds =
     let rows : Grid = take n (drop (r.top + 1) G) in
     let left : r.left < r.right = frame.wide in
     let size = length-take n (drop (r.top + 1) G) in
-    le_trans (room_cell (r.left + 1) r.right rows (omega arith) (λ i k. cell_cuts G r frame seconds i (omega arith)))
-    (mul-le (length rows) (suc (r.right - (r.left + 1))) (r.bottom - r.top) (r.right - r.left) (omega arith) (omega arith))
+    let w : ℕ = r.right - (r.left + 1) in
+    le_trans (room_cell (r.left + 1) (Some r.right) w rows (λ i k. wide_cut (r.left + 1) r.right (row_at rows i) (omega arith) (cell_cuts G r frame seconds i (omega arith))))
+    (mul-le (length rows) (suc w) (r.bottom - r.top) (r.right - r.left) (omega arith) (omega arith))
 
 -- ---- the rows of cells
 
@@ -268,7 +267,7 @@ grid_cells_fit B i = by_bottom (grid_bottom X)
 
     narrow : (k : ℕ) → length (row_at G k) ≤ widest B
     narrow = dashes_keep (λ ps. length ps ≤ widest B) (λ ps h. omega (arith, length-map ps dash)) T (head_of T)
-        (λ k. omega (arith, row_within Y k, widest_take (grid_size X) X, widest_drop i B))
+        (part_within B i (grid_size X))
 
     by_fault : (fault : Option TableDetail) → row_fault T ≡ fault → rooms (cell_blocks (grid_by (first_number X) i T fault)) ≤ room_for (grid_size X) B
     by_fault (Some detail) e = omega arith

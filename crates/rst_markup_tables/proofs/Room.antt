@@ -1,14 +1,14 @@
 -- How many places texts have, and the lines of cells. No rule of markup: the bounds on the room of cells rest on this.
-use Rattle.std.proofs.Common.{◌≡◌, ℕ, zero, suc, ◌+◌, ◌-◌, ◌*◌, ◌<◌, ◌≤◌, Bool, true, false, cond, ◌&&◌, eqb, List, [], ◌∷◌, ◌++◌, length, get_or, take, drop, map, refl, sym, ap, ◌∙◌, subst, arith, Some, length-drop}
+use Rattle.std.proofs.Common.{◌≡◌, ℕ, zero, suc, ◌+◌, ◌-◌, ◌*◌, ◌<◌, ◌≤◌, Bool, true, false, cond, ◌&&◌, eqb, List, [], ◌∷◌, ◌++◌, length, get_or, take, drop, map, refl, sym, ap, ◌∙◌, subst, arith, Option, Some, None, length-drop}
 use Rattle.std.specs.Char.{is_whitespace}
 use Rattle.std.specs.Str.{drop_trailing_whitespace}
 use Rattle.std.proofs.lemmas.Bool.{cond_both}
-use Rattle.std.proofs.lemmas.List.{get_or-drop, length-map}
+use Rattle.std.proofs.lemmas.List.{get_or-take, get_or-drop, length-map, map-append, take_all}
 use Rattle.std.proofs.lemmas.Nat.{mul-le}
 use Rattle.rst_text.specs.Block.{Block, shorten}
 use Rattle.rst_text.specs.Extent.{least_indent}
 use Rattle.rst_markup_tables.specs.Cells.{characters, cut_places, cell_line, cell_block}
-use Rattle.rst_markup_tables.specs.Places.{Grid, places_of, is_double, rows_of, row_at, mark_of, mark_at}
+use Rattle.rst_markup_tables.specs.Places.{Row, Grid, places_of, is_double, no_row, rows_of, row_at, mark_of, mark_at}
 use Rattle.rst_markup_tables.specs.Room.{widest, room, rooms}
 use Rattle.rst_markup_tables.specs.declared.places.Place.{Place}
 use Rattle.rst_markup_tables.specs.declared.places.Place.TheVariants.{Character, Second}
@@ -116,56 +116,27 @@ wide_cut left right ps low can =
     wide_front (right - left) (drop left ps) (seconds_drop left ps can.0)
     (λ k. subst (λ p. 0 < mark_of p) (sym same) (can.1 (omega (arith, length-drop left ps))))
 
--- ---- cells
-
--- no line of a cell has more places than lie between its columns
-widest_lines : (left right n : ℕ) (rows : Grid) → left ≤ right → ((i : ℕ) → i < length rows → CanCut right (row_at rows i))
-    → widest (map (shorten n) (map (cell_line left (Some right)) rows)) ≤ right - left
-unfolding widest
-widest_lines left right n [] low can = omega arith
-widest_lines left right n (r ∷ rows) low can =
-    let cs : List ℕ = characters (cut_places left (Some right) r.places) in
-    let here : wide cs ≤ right - left = wide_cut left right r.places low (can 0 (omega arith)) in
-    let rest : widest (map (shorten n) (map (cell_line left (Some right)) rows)) ≤ right - left = widest_lines left right n rows low (λ i k. can (suc i) (omega arith)) in
-    omega (arith, here, rest, wide_trimmed cs, wide_drop n (drop_trailing_whitespace cs))
-
--- a cell has no more room than its rows have between its columns, with one place more each
-pub room_cell : (left right : ℕ) (rows : Grid) → left ≤ right → ((i : ℕ) → i < length rows → CanCut right (row_at rows i))
-    → room (cell_block left (Some right) rows) ≤ length rows * suc (right - left)
-room_cell left right rows low can =
-    let lines : Block = map (cell_line left (Some right)) rows in
-    let size : length (cell_block left (Some right) rows) ≡ length rows = length-map lines (shorten (least_indent lines)) ∙ length-map rows (cell_line left (Some right)) in
-    mul-le (length (cell_block left (Some right) rows)) (suc (widest (cell_block left (Some right) rows))) (length rows) (suc (right - left))
-    (omega arith)
-    (let most = widest_lines left right (least_indent lines) rows low can in omega arith)
-
--- the rooms of some cells, summed
-abbrev pub cells_room : List Cell → ℕ
-cells_room cs = rooms (map (λ (c : Cell). c.lines) cs)
-
-pub cells_more : (c : Cell) (cs : List Cell) → cells_room (c ∷ cs) ≡ room c.lines + cells_room cs
-unfolding rooms
-cells_more c cs = refl
-
--- of cells and others behind them
-pub cells_append : (cs ds : List Cell) → cells_room (cs ++ ds) ≡ cells_room cs + cells_room ds
-unfolding rooms
-cells_append [] ds = omega arith
-cells_append (c ∷ cs) ds = omega (arith, cells_append cs ds)
+-- and those from a column on take no more than lie behind it
+pub wide_rest : (left : ℕ) (ps : List Place) → HasSeconds ps → wide (characters (cut_places left None ps)) ≤ length ps - left
+wide_rest left ps h =
+    let behind : List Place = drop left ps in
+    let size : length behind ≡ length ps - left = length-drop left ps in
+    let most : wide (characters (take (length behind) behind)) ≤ length behind = wide_front (length behind) behind (seconds_drop left ps h) (λ k. absurd (omega (arith, k))) in
+    omega (arith, size, subst (λ qs. wide (characters qs) ≤ length behind) (take_all (length behind) behind (omega arith)) most)
 
 -- ---- the lines of a block
 
 -- as a row of places, none of them is longer than the widest
-pub row_within : (B : Block) (i : ℕ) → length (row_at (rows_of B) i) ≤ widest B
+row_within : (B : Block) (k : ℕ) → length (row_at (rows_of B) k) ≤ widest B
 unfolding widest
-row_within [] i = omega arith
+row_within [] k = omega arith
 row_within (l ∷ B) zero = omega arith
-row_within (l ∷ B) (suc i) = omega (arith, row_within B i)
+row_within (l ∷ B) (suc k) = omega (arith, row_within B k)
 
-pub row_seconds : (B : Block) (i : ℕ) → HasSeconds (row_at (rows_of B) i)
-row_seconds [] i = tt
+pub row_seconds : (B : Block) (k : ℕ) → HasSeconds (row_at (rows_of B) k)
+row_seconds [] k = tt
 row_seconds (l ∷ B) zero = seconds_text l.text
-row_seconds (l ∷ B) (suc i) = row_seconds B i
+row_seconds (l ∷ B) (suc k) = row_seconds B k
 
 -- a part of a block is no wider than the block
 pub widest_take : (n : ℕ) (B : Block) → widest (take n B) ≤ widest B
@@ -179,3 +150,61 @@ unfolding widest
 widest_drop zero B = omega arith
 widest_drop (suc n) [] = omega arith
 widest_drop (suc n) (l ∷ B) = omega (arith, widest_drop n B)
+
+-- nor is a block whose lines lose characters at their fronts
+pub widest_shorten : (n : ℕ) (B : Block) → widest (map (shorten n) B) ≤ widest B
+unfolding widest
+widest_shorten n [] = omega arith
+widest_shorten n (l ∷ B) = omega (arith, wide_drop n l.text, widest_shorten n B)
+
+-- the rows of a part are no longer than the widest line of the block
+pub part_within : (B : Block) (i n k : ℕ) → length (row_at (rows_of (take n (drop i B))) k) ≤ widest B
+part_within B i n k = omega (arith, row_within (take n (drop i B)) k, widest_take n (drop i B), widest_drop i B)
+
+-- a row of some lines of a grid is one of the grid
+pub row_taken : (G : Grid) (from n k : ℕ) → k < n → row_at (take n (drop from G)) k ≡ row_at G (from + k)
+row_taken G from n k inside = ap (λ (r : Row). r.places) (get_or-take n (drop from G) k no_row inside ∙ get_or-drop from G k no_row)
+
+-- ---- cells
+
+-- no row, cut at a cell's columns, has characters of more than w places
+abbrev CutsFit : ℕ → Option ℕ → ℕ → Grid → Type 0
+CutsFit left right w rows = (k : ℕ) → k < length rows → wide (characters (cut_places left right (row_at rows k))) ≤ w
+
+-- then no line of the cell has more
+widest_lines : (left : ℕ) (right : Option ℕ) (w : ℕ) (rows : Grid) → CutsFit left right w rows → widest (map (cell_line left right) rows) ≤ w
+unfolding widest
+widest_lines left right w [] fit = omega arith
+widest_lines left right w (r ∷ rows) fit =
+    let cs : List ℕ = characters (cut_places left right r.places) in
+    let here : wide cs ≤ w = fit 0 (omega arith) in
+    let rest : widest (map (cell_line left right) rows) ≤ w = widest_lines left right w rows (λ k inside. fit (suc k) (omega (arith, inside))) in
+    omega (arith, here, rest, wide_trimmed cs)
+
+-- and the cell has no more room than so many lines of w places, with one place more each
+pub room_cell : (left : ℕ) (right : Option ℕ) (w : ℕ) (rows : Grid) → CutsFit left right w rows → room (cell_block left right rows) ≤ length rows * suc w
+room_cell left right w rows fit =
+    let lines : Block = map (cell_line left right) rows in
+    let cell : Block = cell_block left right rows in
+    let size : length cell ≡ length rows = length-map lines (shorten (least_indent lines)) ∙ length-map rows (cell_line left right) in
+    mul-le (length cell) (suc (widest cell)) (length rows) (suc w) (omega (arith, size)) (omega (arith, widest_shorten (least_indent lines) lines, widest_lines left right w rows fit))
+
+-- ---- the room of some blocks
+
+-- of blocks and others behind them
+pub rooms_append : (Bs Cs : List Block) → rooms (Bs ++ Cs) ≡ rooms Bs + rooms Cs
+unfolding rooms
+rooms_append [] Cs = omega arith
+rooms_append (B ∷ Bs) Cs = omega (arith, rooms_append Bs Cs)
+
+-- the rooms of some cells, summed
+abbrev pub cells_room : List Cell → ℕ
+cells_room cs = rooms (map (λ (c : Cell). c.lines) cs)
+
+pub cells_more : (c : Cell) (cs : List Cell) → cells_room (c ∷ cs) ≡ room c.lines + cells_room cs
+unfolding rooms
+cells_more c cs = refl
+
+-- of cells and others behind them
+pub cells_append : (cs ds : List Cell) → cells_room (cs ++ ds) ≡ cells_room cs + cells_room ds
+cells_append cs ds = ap rooms (map-append (λ (c : Cell). c.lines) cs ds) ∙ rooms_append (map (λ (c : Cell). c.lines) cs) (map (λ (c : Cell). c.lines) ds)
