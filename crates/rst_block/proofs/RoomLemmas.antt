@@ -1,10 +1,10 @@
 -- The blocks and cells inside a block have no more room than the block, so that all levels together have no more lines than its room at each level.
-use Rattle.std.proofs.Common.{◌≡◌, ⊎_elim, ℕ, zero, suc, ◌+◌, ◌-◌, ◌*◌, ◌<◌, ◌≤◌, Bool, true, false, cond, List, [], ◌∷◌, ◌++◌, length, take, drop, map, Option, None, Some, arith, refl, ap}
+use Rattle.std.proofs.Common.{◌≡◌, ⊎_elim, ℕ, zero, suc, ◌+◌, ◌-◌, ◌*◌, ◌<◌, ◌≤◌, Bool, true, false, cond, List, [], ◌∷◌, length, take, drop, Option, None, Some, arith, refl, ap}
 use Rattle.std.specs.List.{AllByRecursion}
 use Rattle.std.specs.Option.{option_map_or}
 use Rattle.std.proofs.lemmas.Bool.{cases_Bool as cases_bool, cases_lt}
 use Rattle.std.proofs.lemmas.Nat.{mul-le}
-use Rattle.rst_text.specs.Block.{Block, front_text, is_blank, shorten, shorten_all}
+use Rattle.rst_text.specs.Block.{Block, front_text, is_blank, shorten_all}
 use Rattle.rst_tree.specs.declared.node.Node.{Node}
 use Rattle.rst_markup_lines.specs.Adornment.{adornment_of}
 use Rattle.rst_markup_lines.specs.Field.{field_of}
@@ -39,9 +39,8 @@ use Rattle.rst_markup_directives.specs.declared.found.Place.TheVariants.{Top, Bo
 use Rattle.rst_markup_directives.specs.declared.name.Name.{Name}
 use Rattle.rst_markup_directives.specs.declared.name.Name.TheVariants.{Figure, Code}
 use Rattle.rst_markup_tables.specs.Laws.{GridCellsFit, SimpleCellsFit}
-use Rattle.rst_markup_tables.specs.Places.{places_of, is_double}
 use Rattle.rst_markup_tables.specs.Room.{widest, room_for, room, rooms, cell_blocks}
-use Rattle.rst_markup_tables.proofs.Room.{widest_take, widest_drop}
+use Rattle.rst_markup_tables.proofs.Room.{wide_drop, widest_take, widest_drop, widest_shorten, rooms_append}
 use Rattle.rst_block.specs.Budget.{sum_of, total, unread}
 use Rattle.rst_block.specs.BudgetLaws.{is_trimmed}
 use Rattle.rst_block.specs.Constructs.{Construct, block_quote, item_of_list, enumerated_item, field_item, option_item, explicit_markup, bar_line, text_by, text_after, plain_text, adorned_by, adorned, bullet_with, construct_by}
@@ -54,31 +53,16 @@ use Rattle.rst_block.specs.Texts.{lines_in}
 use Rattle.rst_block.specs.Within.{Within, indented_part}
 use Rattle.rst_block.proofs.BudgetLemmas.{trimmed}
 use Rattle.rst_block.proofs.CellFacts.{AreTrimmed, cells_trimmed}
-use Rattle.rst_block.proofs.MarkFacts.{chosen}
 use Rattle.rst_block.proofs.OpenedFacts.{opened_within, blocks_inside}
 use Rattle.rst_block.proofs.RestLemmas.{found_over, found_blank, found_text}
 
 -- ---- how wide a part of a block is
 
--- a text without its first characters has no more places
-places_drop : (n : ℕ) (t : List ℕ) → length (places_of (drop n t)) ≤ length (places_of t)
-places_drop zero t = omega arith
-places_drop (suc n) [] = omega arith
-places_drop (suc n) (c ∷ cs) =
-    let rest : length (places_of (drop n cs)) ≤ length (places_of cs) = places_drop n cs in
-    chosen (λ ps. length (places_of (drop n cs)) ≤ suc (length ps)) (is_double c) _ _ (omega (arith, rest)) (omega (arith, rest))
-
--- nor is a block whose lines lose characters at their fronts
-widest_shorten : (r : ℕ) (B : Block) → widest (map (shorten r) B) ≤ widest B
-unfolding widest
-widest_shorten r [] = omega arith
-widest_shorten r (l ∷ ls) = omega (arith, places_drop r l.text, widest_shorten r ls)
-
--- nor one whose first line loses others than the rest
+-- a block is no wider if its first line loses characters at its front, and the rest of its lines others
 widest_all : (f r : ℕ) (B : Block) → widest (shorten_all f r B) ≤ widest B
 unfolding widest
 widest_all f r [] = omega arith
-widest_all f r (l ∷ ls) = omega (arith, places_drop f l.text, widest_shorten r ls)
+widest_all f r (l ∷ ls) = omega (arith, wide_drop f l.text, widest_shorten r ls)
 
 -- a part of a block is no wider than the block
 widest_in : (B : Block) (p : Part) → widest (lines_in B p) ≤ widest B
@@ -155,12 +139,6 @@ opened_narrow explicit_markup c B i X = markup_narrow (explicit_of i X) c B i
 opened_narrow _ c B i X = tt
 
 -- ---- the room of some blocks
-
--- the room of some blocks and of others is summed
-rooms_append : (Cs Ds : List Block) → rooms (Cs ++ Ds) ≡ rooms Cs + rooms Ds
-unfolding rooms
-rooms_append [] Ds = omega arith
-rooms_append (C ∷ Cs) Ds = omega (arith, rooms_append Cs Ds)
 
 -- blocks of so many lines in all, of which none is wider than this
 narrow_rooms : (w : ℕ) (Cs : List Block) → AreNarrow w Cs → rooms Cs ≤ sum_of length Cs * suc w
