@@ -39,7 +39,7 @@ use Rattle.rst_markup_directives.specs.declared.found.Place.TheVariants.{Top, Bo
 use Rattle.rst_markup_directives.specs.declared.name.Name.{Name}
 use Rattle.rst_markup_directives.specs.declared.name.Name.TheVariants.{Figure, Code}
 use Rattle.rst_markup_tables.specs.Laws.{GridCellsFit, SimpleCellsFit}
-use Rattle.rst_markup_tables.specs.Room.{widest, room_for, room, rooms, cell_blocks}
+use Rattle.rst_markup_tables.specs.Room.{widest, room_for, room, rooms}
 use Rattle.rst_markup_tables.proofs.Room.{wide_drop, widest_take, widest_drop, widest_shorten, rooms_append}
 use Rattle.rst_block.specs.Budget.{sum_of, total, unread}
 use Rattle.rst_block.specs.BudgetLaws.{is_trimmed}
