@@ -6,7 +6,6 @@ use Rattle.std.specs.Str.{drop_trailing_whitespace}
 use Rattle.std.proofs.Math.Nat.{suc-mul}
 use Rattle.std.proofs.lemmas.List.{length-map, length-replicate}
 use Rattle.std.proofs.lemmas.Nat.{mul-le}
-use Rattle.rst_settings.specs.declared.Settings.{Settings}
 use Rattle.rst_text.specs.Lines.{is_line_end, begins_with, pieces, shown, is_tab, padded, with_tabs, expanded, tidied, numbered_from, lines_of}
 use Rattle.rst_text.proofs.LineTexts.{are_lines-lines_of}
 use Rattle.rst_markup_tables.specs.Places.{places_of, is_double}

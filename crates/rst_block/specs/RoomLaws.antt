@@ -3,10 +3,9 @@ use Rattle.std.specs.Prelude.{◌≡◌, ℕ, suc, ◌+◌, ◌*◌, ◌^◌, �
 use Rattle.rst_settings.specs.declared.Settings.{Settings}
 use Rattle.rst_text.specs.Block.{Block}
 use Rattle.rst_text.specs.Lines.{lines_of}
-use Rattle.rst_markup_tables.specs.Room.{room, rooms, room_for}
+use Rattle.rst_markup_tables.specs.Room.{room, rooms}
 use Rattle.rst_block.specs.Budget.{total}
 use Rattle.rst_block.specs.BudgetLaws.{is_trimmed}
-use Rattle.rst_block.specs.Constructs.{Found}
 use Rattle.rst_block.specs.Inside.{inside, cells}
 use Rattle.rst_block.specs.Ledger.{total_at}
 use Rattle.rst_block.specs.Within.{Within}
