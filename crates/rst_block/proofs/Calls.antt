@@ -45,10 +45,6 @@ pub refused_as : {A C R : Type 0} (fault : BlockFault) (first : A → Result (R 
 refused_as (TooDeep line) first follows read other e h = sym e ∙ h
 refused_as NoMemory first follows read other e h = tt
 
--- want of memory
-pub out_of_memory : {A R : Type 0} (fault : BlockFault) (follows : A → Result (R × ℕ) ℕ) (read : Result (R × ℕ) ℕ) → fault ≡ NoMemory → Keeps (Err fault) follows read
-out_of_memory fault follows read e = rw e tt
-
 -- ---- steps
 
 -- what the last call keeps is kept after what calls before it keep

@@ -65,13 +65,17 @@ next_cell depth cells i cell C low h c e =
     let one : total_at depth C ≡ total true (deepest - (depth - 1)) false cell.lines = ap (λ k. total_at k C) n ∙ cell_text (depth - 1) C ∙ ap (total true (deepest - (depth - 1)) false) e in
     omega (arith, ap (λ (cs : List Cell). totals (depth - 1) (cell_lines cs)) d, one)
 
+-- the lines of a row are those of its cells
+pub one_row : (depth : ℕ) (cells : List Cell) → totals depth (cell_blocks (Table [] 0 (cells ∷ []) 0)) ≡ totals depth (cell_lines cells)
+one_row depth cells = ap (λ (cs : List Cell). totals depth (cell_lines cs)) (append-nil cells)
+
 -- a row is read once all its cells are
 pub row_paid : (depth : ℕ) (cells : List Cell) (i before now : ℕ) → length cells ≤ i → AreLeft (totals depth (cell_lines cells)) (totals depth (cell_lines (drop i cells))) before now
     → TakesFor (totals depth (cell_blocks (Table [] 0 (cells ∷ []) 0))) before now
 unfolding sum_of
 row_paid depth cells i before now h k =
     let none : totals depth (cell_lines (drop i cells)) ≡ 0 = ap (λ (cs : List Cell). totals depth (cell_lines cs)) (drop_all i cells h) in
-    let all : totals depth (cell_blocks (Table [] 0 (cells ∷ []) 0)) ≡ totals depth (cell_lines cells) = ap (λ (cs : List Cell). totals depth (cell_lines cs)) (append-nil cells) in
+    let all = one_row depth cells in
     record { no_more = omega (arith, k.no_more, none, all); no_less = omega (arith, k.no_less, none, all) }
 
 -- the next row of a table
@@ -84,6 +88,20 @@ next_row {Z} depth rows i row cells h r e =
     ∙ rows_cells depth 0 0 0 [] row.items (kept_rows (drop (i + 1) rows))
     ∙ ap (λ (some : List Cell). totals depth (cell_blocks (Table [] 0 (some ∷ []) 0)) + totals depth (row_lines (drop (i + 1) rows))) (sym e)
 
+-- the lines of a table are those of its rows
+table_rows : {Z : Type 0} (old : OpenBlock) (depth : ℕ) (cols : List ℕ) (head end : ℕ) (items : List (Vec Cell Z)) (rows : List (List Cell)) → depth ≡ suc old.depth → kept_rows items ≡ rows
+    → totals (depth - 1) (row_lines items) ≡ totals old.depth (cell_blocks (Table cols head rows end))
+table_rows old depth cols head end items rows d r =
+    let c : depth - 1 ≡ old.depth = omega (arith, d) in
+    ap (λ (some : List (List Cell)). totals (depth - 1) (cell_blocks (Table [] 0 some 0))) r ∙ ap (λ n. totals n (cell_blocks (Table cols head rows end))) c
+
+-- the looks at the rows that are left are among those that the table may take
+pub table_left : {Z : Type 0} (old : OpenBlock) (B : Block) (depth : ℕ) (found : TableResult) (cols : List ℕ) (head end : ℕ) (items : List (Vec Cell Z)) (rows : List (List Cell)) (i before now : ℕ)
+    → found ≡ Table cols head rows end → depth ≡ suc old.depth → kept_rows items ≡ rows → AreLeft (totals (depth - 1) (row_lines items)) (totals (depth - 1) (row_lines (drop i items))) before now
+    → now + 128 * totals (depth - 1) (row_lines (drop i items)) ≤ before + most_left old B (Cells found)
+unfolding sum_of
+table_left {Z} old B depth found cols head end items rows i before now f d r k = rw f (omega (arith, k.no_more, table_rows old depth cols head end items rows d r))
+
 -- a table is read once all its rows are, and the line after it was looked at
 pub table_paid : {Z : Type 0} (old moved mid new : OpenBlock) (B : Block) (depth : ℕ) (found : TableResult) (cols : List ℕ) (head end : ℕ) (items : List (Vec Cell Z)) (rows : List (List Cell)) (i : ℕ) (more last : List Node) (before now after : ℕ)
     → found ≡ Table cols head rows end → depth ≡ suc old.depth → length items ≤ i → kept_rows items ≡ rows
@@ -92,10 +110,8 @@ pub table_paid : {Z : Type 0} (old moved mid new : OpenBlock) (B : Block) (depth
     → Takes (most_left old B (Cells found)) (least_left old B (Cells found)) before (most_left new B Next) (least_left new B Next) after
 unfolding sum_of
 table_paid {Z} old moved mid new B depth found cols head end items rows i more last before now after f d h r k moves at some rest low few =
-    let c : depth - 1 ≡ old.depth = omega (arith, d) in
     let none : totals (depth - 1) (row_lines (drop i items)) ≡ 0 = ap (λ (some : List (Vec Cell Z)). totals (depth - 1) (row_lines some)) (drop_all i items h) in
-    let all : totals (depth - 1) (row_lines items) ≡ totals old.depth (cell_blocks (Table cols head rows end)) =
-    ap (λ (some : List (List Cell)). totals (depth - 1) (cell_blocks (Table [] 0 some 0))) r ∙ ap (λ n. totals n (cell_blocks (Table cols head rows end))) c in
+    let all = table_rows old depth cols head end items rows d r in
     rw f (table_read old new B (Table cols head rows end) before now after (rest.depth ∙ some.depth ∙ moves.depth) (rest.at ∙ some.at ∙ at) (rest.run ∙ some.run ∙ moves.run)
     (omega (arith, k.no_more, none, all)) (omega (arith, k.no_less, none, all)) few low)
 

@@ -32,8 +32,8 @@ pub struct Parsed {
 /// It is refused with [`BlockFault::TooDeep`] where a block that isn't blank stands in more than 250 blocks: at the first such
 /// block; and with [`BlockFault::NoMemory`].
 ///
-/// So many lines as no text of up to 2^25 characters has, with those of all blocks and cells inside, can't be read: a law, `looks_are_few`, says so of
-/// such texts.
+/// The lines, with those of all blocks and cells inside, are fewer than 2^112. Those of a text of up to 2^25 characters are: the
+/// law `looks_are_few` says so.
 pub fn parse(alloc: Global, lines: &Lines) -> Result<Parsed, BlockFault>
     requires few { 128 * total_at 0 lines.now < 2 ^ 119 }
     ensures document { (settings : Settings) → spec.Parses (spec.document (profile_of settings) lines.now 0) result }

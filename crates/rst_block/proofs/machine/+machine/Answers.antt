@@ -5,6 +5,9 @@ use Rattle.rst_text.specs.Block.{Block}
 use Rattle.rst_text.specs.Lines.{are_lines}
 use Rattle.rst_text.specs.Shown.{block_of, source_of, placement_block}
 use Rattle.rst_text.proofs.Cuts.{are_lines-block_of}
+use Rattle.rst_markup_tables.specs.declared.results.TableResult.TheVariants.{Table}
+use Rattle.rst_block.specs.Inside.{cell_blocks}
+use Rattle.rst_block.specs.Ledger.{total_at, totals}
 use Rattle.rst_block.specs.Meanings.{comes, deepest, done_of, reads, within_at}
 use Rattle.rst_block.specs.Nodes.{block_items}
 use Rattle.rst_block.specs.Numbered.{just}
@@ -13,15 +16,29 @@ use Rattle.rst_block.specs.declared.frame.Frame.{Frame}
 use Rattle.rst_block.specs.declared.open_block.OpenBlock.{OpenBlock}
 use Rattle.rst_block.specs.declared.step.Step.{Step}
 use Rattle.rst_block.specs.declared.step.Step.TheVariants.{Next, Open, Cells}
-use Rattle.rst_block.proofs.Calls.{out_of_memory, refuses}
+use Rattle.rst_block.proofs.Calls.{refuses}
 use Rattle.rst_block.proofs.CellsRead.{entry_next, row_keeps, row_next, rows_made, table_keeps, table_reads}
 use Rattle.rst_block.proofs.Changes.{moved_more, more_more, kept_more}
 use Rattle.rst_block.proofs.LastLevel.{flat_text, flat_text_fails}
-use Rattle.rst_block.proofs.MachinePaid.{some_read, next_cell, next_row, row_paid, table_paid, text_begins, block_goes_on, block_opens, block_ends, block_waits, text_ends, flat_paid}
+use Rattle.rst_block.proofs.MachinePaid.{some_read, next_cell, one_row, row_paid, next_row, table_left, table_paid, text_begins, block_goes_on, block_opens, block_ends, block_waits, text_ends, flat_paid}
 use Rattle.rst_block.proofs.Stack.{left, parts_left, now_of_next, now_of_resumed, cost_of_resumed, goes_on, stepped, opens, resumes, waits_again, second_left, parts_at_most, parts_at_least, taken, placed, nested_push, nested_pop}
 use Rattle.rst_block.proofs.Waiting.{plug_begins, plug_end_fails, plug_ends, plug_fails, plug_goes_on, plug_opens, plug_over, plug_waits}
 use Rattle.rst_block.proofs.machine.+machine.Goals.{read-else-len-gt0-via-then-len-gt0+else-depth-le-DEEPEST, read-else-len-gt0-via-else-len-gt0}
 use Rattle.rst_block.proofs.machine.+machine.Goals as goal
+
+-- a call in the block that is read takes no more looks than are left
+pub read_blocks-next-requires-clause-few : goal.read_blocks-next-requires-clause-few
+read_blocks-next-requires-clause-few t c =
+    let paid = rw c.in-Next.is at c.loop-now.invariant.paid in
+    omega (arith, paid.no_more, c.requires.few)
+
+pub read_blocks-flat-requires-clause-few : goal.read_blocks-flat-requires-clause-few
+read_blocks-flat-requires-clause-few t c =
+    let paid = rw c.in-Open.is at c.loop-now.invariant.paid in
+    omega (arith, paid.no_more, c.requires.few)
+
+pub read_blocks-closed-requires-clause-few : goal.read_blocks-closed-requires-clause-few
+read_blocks-closed-requires-clause-few t c = omega (arith, c.loop-now.invariant.paid.no_more, c.requires.few)
 
 pub read_blocks-closed-requires-clause-frame : goal.read_blocks-closed-requires-clause-frame
 read_blocks-closed-requires-clause-frame t c =
@@ -285,9 +302,6 @@ read_blocks-loop-now-init t c =
       paid = text_begins (source_of c.args.whole) (drop base c.args.frames.now.items) c.new-level.result (block_of c.args.whole) c.args.depth c.args.pass.now.looks none c.new-level.ensures.begun c.new-level.ensures.depth c.requires.depth;
     }
 
-pub read_blocks-returns-in_err-go_on-clause-read : goal.read_blocks-returns-in_err-go_on-clause-read
-read_blocks-returns-in_err-go_on-clause-read t c = refuses c.from_residual.result c.in_err-go_on.field-0.0 _ _ (search rules) (out_of_memory c.in_err-go_on.field-0.0 _ _ c.in_err-go_on.ensures.memory)
-
 pub read_blocks-returns-in_err-now-in-Next-clause-read : goal.read_blocks-returns-in_err-now-in-Next-clause-read
 read_blocks-returns-in_err-now-in-Next-clause-read t c =
     refuses _ c.in_err-now-in-Next.field-0.0 _ _ (search rules)
@@ -324,19 +338,13 @@ read_blocks-returns-in_err-frame-in-Some-clause-read t c =
     (plug_end_fails (source_of c.args.whole) (drop c.len-base.result c.last_of.new.frames.items) c.in-Some.frame c.loop-now.level c.loop-now.pass.numbers
     (block_items (within_at c.args.depth) (block_of c.args.whole) c.args.pass.now.numbers) c.in_err-frame-in-Some.field-0.0 _ _ (rw (c.in-Done.is, off.1) at c.loop-now.invariant.read) c.in_err-frame-in-Some.ensures.read)
 
-pub read-returns-in_err-go_on-clause-read : goal.read-returns-in_err-go_on-clause-read
-read-returns-in_err-go_on-clause-read t c = refuses c.from_residual.result c.in_err-go_on.field-0.0 _ _ (search rules) (out_of_memory c.in_err-go_on.field-0.0 _ _ c.in_err-go_on.ensures.memory)
-
-pub read-returns-in_err-go_on-2-clause-read : goal.read-returns-in_err-go_on-2-clause-read
-read-returns-in_err-go_on-2-clause-read t c = refuses _ c.in_err-go_on-2.field-0.0 _ _ (search rules) (out_of_memory c.in_err-go_on-2.field-0.0 _ _ c.in_err-go_on-2.ensures.memory)
-
 pub read-returns-in_err-not_blank-clause-read : goal.read-returns-in_err-not_blank-clause-read
 read-returns-in_err-not_blank-clause-read t c =
     let flat : (length c.args.lines.now ≡ 0) ⊎ (c.args.depth ≡ suc deepest) = elim c.else-len-gt0.branch [
       | read-else-len-gt0-via-then-len-gt0+else-depth-le-DEEPEST w ↦ inr (omega (arith, w.if-depth-le-DEEPEST.false, c.requires.depth))
       | read-else-len-gt0-via-else-len-gt0 w ↦ inl (omega (arith, w.if-len-gt0.false, c.len.ensures, ap length c.whole-whole.ensures))
     ] in
-    refuses c.from_residual-in_err-not_blank.result c.in_err-not_blank.field-0.0 _ _ (search rules)
+    refuses c.from_residual.result c.in_err-not_blank.field-0.0 _ _ (search rules)
     (flat_text_fails c.args.depth (block_of c.whole-whole.result) c.args.lines.now c.args.pass.now.numbers c.in_err-not_blank.field-0.0 _ flat c.whole-whole.ensures c.in_err-not_blank.ensures.blank)
 
 pub read-returns-clause-read : goal.read-returns-clause-read
@@ -358,10 +366,24 @@ read-returns-clause-paid t c =
 
 pub read-returns-then-depth-le-DEEPEST-clause-lines : goal.read-returns-then-depth-le-DEEPEST-clause-lines
 read-returns-then-depth-le-DEEPEST-clause-lines t c =
-    IfOk-weaker c.read_blocks.result _ _ (λ _ _. ap are_lines (sym c.whole-whole.ensures) ∙ are_lines-block_of c.whole-whole.result) c.read_blocks.ensures.few
+    IfOk-weaker c.read_blocks.result _ _ (λ _ _. ap are_lines (sym c.whole-whole.ensures) ∙ are_lines-block_of c.whole-whole.result) c.read_blocks.ensures.paid
 
 pub read-returns-clause-lines : goal.read-returns-clause-lines
 read-returns-clause-lines t c = ap are_lines (sym c.whole-whole.ensures) ∙ are_lines-block_of c.whole-whole.result
+
+pub cells-row_of-requires : goal.cells-row_of-requires
+cells-row_of-requires t c =
+    let left = table_left c.args.level.now (block_of c.args.view.now) c.args.depth c.args.found c.in-Table.cols c.in-Table.head c.in-Table.end c.as_slice-cells-items.result.now c.in-Table.rows _ _ _ c.in-Table.is c.requires.level
+    c.as_slice-cells-items.ensures c.loop-cells.invariant.paid in
+    let next = next_row (c.args.depth - 1) c.as_slice-cells-items.result.now c.loop-cells.cells-index c.cells-item.result c.deref.result.now (omega arith) c.cells-item.is c.deref.ensures.value in
+    let few : c.loop-cells.pass.looks + 128 * totals (c.args.depth - 1) (cell_blocks (Table [] 0 (c.deref.result.now ∷ []) 0)) < 2 ^ 119 = omega (arith, left, next, c.requires.few) in
+    search (rules, few)
+
+pub cells-after_table-requires-clause-few : goal.cells-after_table-requires-clause-few
+cells-after_table-requires-clause-few t c =
+    let left = table_left c.args.level.now (block_of c.args.view.now) c.args.depth c.args.found c.in-Table.cols c.in-Table.head c.in-Table.end c.as_slice-cells-items.result.now c.in-Table.rows _ _ _ c.in-Table.is c.requires.level
+    c.as_slice-cells-items.ensures c.loop-cells.invariant.paid in
+    omega (arith, left, c.requires.few)
 
 pub cells-returns-in_err-row_of-clause-read : goal.cells-returns-in_err-row_of-clause-read
 cells-returns-in_err-row_of-clause-read t c =
@@ -373,7 +395,6 @@ cells-returns-in_err-row_of-clause-read t c =
 pub cells-loop-cells-preserved : goal.cells-loop-cells-preserved
 cells-loop-cells-preserved t c = record {
   frames = c.in_ok-row_of.ensures.frames ∙ c.loop-cells.invariant.frames;
-  few = c.in_ok-row_of.ensures.few;
   made = row_next c.args.depth c.as_slice-cells-items.result.now c.loop-cells.cells-index c.cells-item.result c.deref.result.now c.loop-cells.made.items c.push.new.self.items c.in_ok-row_of.field-0 c.loop-cells.pass.numbers
       c.row_of.new.pass.numbers _ (omega arith) c.cells-item.is c.deref.ensures.value c.in_ok-row_of.ensures.row c.in_ok-push.ensures.items c.loop-cells.invariant.made;
   paid = some_read _ _ _ _ _ _ _ c.loop-cells.invariant.paid
@@ -404,6 +425,13 @@ cells-returns-clause-paid t c =
     c.loop-cells.cells-index _ _ _ _ _ c.in-Table.is c.requires.level (omega arith) c.as_slice-cells-items.ensures c.loop-cells.invariant.paid c.go_to.ensures.moved (c.go_to.ensures.there behind) c.in_ok-push-2.ensures.more
     c.in_ok-after_table.ensures.more c.in_ok-after_table.ensures.low c.in_ok-after_table.ensures.looks
 
+pub row_of-read-requires : goal.row_of-read-requires
+row_of-read-requires t c =
+    let next = next_cell c.args.depth c.args.cells.now c.loop-cell.cell-index c.cell-item.result c.in_ok-lines.lines c.requires.inner (omega arith) c.cell-item.is (c.in_ok-lines.ensures ∙ c.as_slice.ensures.value) in
+    let few : c.loop-cell.pass.looks + 128 * total_at c.args.depth c.in_ok-lines.lines < 2 ^ 119 =
+    omega (arith, c.loop-cell.invariant.paid.no_more, one_row (c.args.depth - 1) c.args.cells.now, next, c.requires.few) in
+    search (rules, few)
+
 pub row_of-returns-in_err-nodes-clause-row : goal.row_of-returns-in_err-nodes-clause-row
 row_of-returns-in_err-nodes-clause-row t c =
     refuses c.from_residual-in_err-nodes.result c.in_err-nodes.field-0.0 _ _ (search rules)
@@ -413,7 +441,6 @@ row_of-returns-in_err-nodes-clause-row t c =
 pub row_of-loop-cell-preserved : goal.row_of-loop-cell-preserved
 row_of-loop-cell-preserved t c = record {
   frames = c.in_ok-nodes.ensures.frames ∙ c.loop-cell.invariant.frames;
-  few = c.in_ok-nodes.ensures.few;
   made = entry_next c.args.depth c.args.cells.now c.loop-cell.cell-index c.cell-item.result c.in_ok-lines.lines c.in_ok-nodes.field-0 c.loop-cell.entries.items c.push.new.self.items c.in_ok-entry_of.field-0 c.loop-cell.pass.numbers
       c.read.new.pass.numbers _ c.requires.inner c.requires.depth (omega arith) c.cell-item.is (c.in_ok-lines.ensures ∙ c.as_slice.ensures.value) c.in_ok-nodes.ensures.read c.in_ok-entry_of.ensures c.in_ok-push.ensures.items
       c.loop-cell.invariant.made;

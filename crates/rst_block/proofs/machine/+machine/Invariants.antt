@@ -49,7 +49,6 @@ decreases-read_blocks-loop-now l = all_left (2 ^ 64) (250 - l.depth) (source_of 
 abbrev pub invariant-row_of-loop-cell : goal.invariant-row_of-loop-cell
 invariant-row_of-loop-cell l = record {
   frames : l.frames.items ≡ l.fn.frames.items;
-  few : l.pass.looks < 2 ^ 119;
   made : row_after l.depth l.entries.items (drop l.cell-index l.fn.cells) l.pass.numbers ≡ each (entry_of (within_at (l.depth - 1))) l.fn.cells l.fn.pass.numbers;
   paid : AreLeft (totals (l.depth - 1) (cell_lines l.fn.cells)) (totals (l.depth - 1) (cell_lines (drop l.cell-index l.fn.cells))) l.fn.pass.looks l.pass.looks;
 }
@@ -57,7 +56,6 @@ invariant-row_of-loop-cell l = record {
 abbrev pub invariant-cells-loop-cells : goal.invariant-cells-loop-cells
 invariant-cells-loop-cells l = record {
   frames : l.frames.items ≡ l.fn.frames.items;
-  few : l.pass.looks < 2 ^ 119;
   made : each_after (row_of (within_at (l.depth - 1))) l.made.items (cells_of (drop l.cells-index l.cells-items)) l.pass.numbers ≡ each (row_of (within_at (l.depth - 1))) (cells_of l.cells-items) l.fn.pass.numbers;
   paid : AreLeft (totals (l.depth - 1) (row_lines l.cells-items)) (totals (l.depth - 1) (row_lines (drop l.cells-index l.cells-items))) l.fn.pass.looks l.pass.looks;
 }

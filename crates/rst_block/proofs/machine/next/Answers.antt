@@ -5,7 +5,7 @@ use Rattle.rst_block.specs.Ledger.{most_left, least_left, Takes}
 use Rattle.rst_block.specs.Meanings.{comes, reads}
 use Rattle.rst_block.specs.Steps.{IsStep}
 use Rattle.rst_block.specs.declared.step.Step.TheVariants.{Next}
-use Rattle.rst_block.proofs.Calls.{close_refuses, out_of_memory, refuses}
+use Rattle.rst_block.proofs.Calls.{close_refuses}
 use Rattle.rst_block.proofs.Changes.{kept_closed}
 use Rattle.rst_block.proofs.LedgerLemmas.{ended}
 use Rattle.rst_block.proofs.NextConstructs.{has_ended, over_reads, over_refused}
@@ -13,8 +13,14 @@ use Rattle.rst_block.proofs.Stack.{next_of_step}
 use Rattle.rst_block.proofs.StepsPaid.{takes_then, takes_none}
 use Rattle.rst_block.proofs.machine.next.Goals as goal
 
+pub step_at-requires-clause-few : goal.step_at-requires-clause-few
+step_at-requires-clause-few c = omega (arith, c.loop-level.invariant.takes.no_more, c.requires.few)
+
+pub close-requires-clause-few : goal.close-requires-clause-few
+close-requires-clause-few c = omega (arith, c.loop-level.invariant.takes.no_more, c.requires.few)
+
 pub loop-level-init : goal.loop-level-init
-loop-level-init c = record { on = omega arith; looks = c.requires.few; depth = refl; placed = c.requires.placed; reads = refl; takes = takes_none _ _ _ }
+loop-level-init c = record { on = omega arith; depth = refl; placed = c.requires.placed; reads = refl; takes = takes_none _ _ _ }
 
 -- a step after which the block goes on
 pub loop-level-preserved : goal.loop-level-preserved
@@ -28,7 +34,6 @@ loop-level-preserved c =
     subst (λ s. Takes (most_left old B Next) (least_left old B Next) c.loop-level.pass.looks (most_left new B s) (least_left new B s) c.step_at.new.pass.looks) c.in-Next.is c.in_ok-step.ensures.paid in
     record {
       on = omega (arith, c.loop-level.invariant.on, gone);
-      looks = omega (arith, c.in_ok-go_on.ensures.few, c.in_ok-step.ensures.looks);
       depth = c.in_ok-step.ensures.kept.depth ∙ c.loop-level.invariant.depth;
       placed = c.in_ok-step.ensures.kept.placed;
       reads = read ∙ c.loop-level.invariant.reads;
@@ -44,11 +49,7 @@ returns-in_default c =
       kept = record { depth = c.in_ok-step.ensures.kept.depth ∙ c.loop-level.invariant.depth; placed = c.in_ok-step.ensures.kept.placed };
       read = c.in_ok-step.ensures.read ∙ c.loop-level.invariant.reads;
       paid = takes_then c.loop-level.invariant.takes c.in_ok-step.ensures.paid;
-      looks = omega (arith, c.in_ok-go_on.ensures.few, c.in_ok-step.ensures.looks);
     }
-
-pub returns-in_err-go_on-clause-read : goal.returns-in_err-go_on-clause-read
-returns-in_err-go_on-clause-read c = refuses c.from_residual.result c.in_err-go_on.field-0.0 _ _ (search rules) (out_of_memory c.in_err-go_on.field-0.0 _ _ c.in_err-go_on.ensures.memory)
 
 pub returns-in_err-close-clause-read : goal.returns-in_err-close-clause-read
 returns-in_err-close-clause-read c =

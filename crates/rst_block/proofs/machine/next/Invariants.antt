@@ -1,4 +1,4 @@
-use Rattle.std.proofs.Common.{◌≡◌, ◌+◌, ◌-◌, ◌^◌, ◌<◌, ◌≤◌, length}
+use Rattle.std.proofs.Common.{◌≡◌, ◌-◌, ◌≤◌, length}
 use Rattle.rst_text.specs.Shown.{block_of}
 use Rattle.rst_block.specs.Ledger.{most_left, least_left, Takes}
 use Rattle.rst_block.specs.Meanings.{reads}
@@ -10,7 +10,6 @@ use Rattle.rst_block.proofs.machine.next.Given as goal
 abbrev pub invariant-loop-level : goal.invariant-loop-level
 invariant-loop-level l = record {
   on : l.fn.level.at ≤ l.level.at;
-  looks : l.pass.looks < 2 ^ 119 + 2 ^ 110;
   depth : l.level.depth ≡ l.fn.level.depth;
   placed : IsPlaced l.level;
   reads : reads l.level (block_of l.fn.view) l.pass.numbers ≡ reads l.fn.level (block_of l.fn.view) l.fn.pass.numbers;
