@@ -3,8 +3,8 @@
 
     scripts/edits_together.py [--most N] CRATE..
 
-It takes the edits of must-fail/ and more-edits/, makes as many as N (25 if not given) in a copy of the crate, no two in one function, and
-checks the crate once. So an edit costs some ten seconds, where scripts/edits.sh takes half a minute. It needs the libraries that `rt ci` built
+It takes the edits of must-fail/ and more-edits/, makes as many as N (25 if not given) in a copy of the crate, no two in functions of one name,
+and checks the crate once. So an edit costs some ten seconds, where scripts/edits.sh takes half a minute. It needs the libraries that `rt ci` built
 in this checkout (crates/*/out/rlib). The first check proves the crate; later ones prove again what an edit changed.
 
 A function counts as refused if something of its own isn't proved; that a function it calls isn't proved doesn't count. An edit outside of a
@@ -40,14 +40,10 @@ def rlib(crates, name):
     return TOP / f"crates/{name}/out/rlib/{name}.rlib" if name in crates else KIT / f"rlibs/{name}.rlib"
 
 
-def main_of(crate):
-    """The name of a crate's first file."""
-    return "main" if (TOP / f"crates/{crate}/src/main.rt").exists() else "lib"
-
-
 def command(crates, crate, kept):
     """How a copy of the crate is checked; what was proved is kept in a folder."""
-    words = ["rattle", "check", "--crate-name", crate, f"src/{main_of(crate)}.rt"]
+    main = "main" if (TOP / f"crates/{crate}/src/main.rt").exists() else "lib"
+    words = ["rattle", "check", "--crate-name", crate, f"src/{main}.rt"]
     for name in ["std", *crates[crate]]:
         words += ["--extern", f"{name}={rlib(crates, name)}"]
     for folder in [KIT / "rlibs", *(TOP / f"crates/{name}/out/rlib" for name in crates)]:
@@ -70,7 +66,7 @@ def function_at(text, place):
 
 
 class Edit:
-    """An edit: its changes, and the function that it is in, as file and name; none for an edit that is tried alone."""
+    """An edit: its changes, and the name of the function that it is in; none for an edit that is tried alone."""
 
     def __init__(self, path, crate):
         self.name = path.stem
@@ -81,8 +77,7 @@ class Edit:
     @staticmethod
     def place(crate, file, old):
         text = (crate / file).read_text(encoding="utf-8")
-        name = function_at(text, text.find(old)) if file.suffix == ".rt" else None
-        return name and (file.stem, name)
+        return function_at(text, text.find(old)) if file.suffix == ".rt" else None
 
     def make(self, folder):
         """Makes the edit in a copy, if each of its texts stands there once."""
@@ -98,7 +93,7 @@ class Edit:
 
 
 def rounds(edits, most):
-    """The edits in groups: no two of a group are in one function, and what is in no function, or in several, is alone."""
+    """The edits in groups: no two of a group are in functions of one name, and what is in no function, or in several, is alone."""
     groups = []
     for edit in edits:
         open_groups = (group for group in groups if len(group) < most and None not in group and edit.function not in group)
@@ -116,8 +111,6 @@ class Trial:
     def __init__(self, crates, crate, folder):
         self.crate = TOP / "crates" / crate
         self.copy = folder / crate
-        self.main = main_of(crate)
-        self.modules = {file.stem for file in self.crate.glob("src/**/*.rt")}
         self.words = command(crates, crate, folder / "kept")
         self.wrong = 0
 
@@ -130,8 +123,7 @@ class Trial:
         verdicts = VERDICT.findall(run.stdout)
         if run.returncode != 0 and not verdicts:
             return made, None
-        paths = [path.split("::") for path, text in verdicts if REFUSED.search(text)]
-        return made, {(path[0] if path[0] in self.modules else self.main, path[-1]) for path in paths}
+        return made, {path.split("::")[-1] for path, text in verdicts if REFUSED.search(text)}
 
     def tell(self, edit, verdict):
         self.wrong += verdict != "refused"
