@@ -10,7 +10,7 @@ in this checkout (crates/*/out/rlib). The first check proves the crate; later on
 A function counts as refused if something of its own isn't proved; that a function it calls isn't proved doesn't count. An edit outside of a
 function, one of several functions, and one that can't be made beside the others are tried alone, and count as refused if any function is.
 
-The exit status is 0 if all were refused, 1 if one wasn't or doesn't compile, 2 if the arguments are wrong, 77 if a library is missing.
+The exit status is 0 if all were refused, 1 if one wasn't or doesn't compile, 2 if the arguments are wrong, 77 if the kit or a library is missing.
 """
 
 import pathlib
@@ -150,9 +150,15 @@ def main():
     words, most, crates = sys.argv[1:], 25, libraries()
     if words[:1] == ["--most"] and words[1:2] and words[1].isdigit() and words[1] != "0":
         most, words = int(words[1]), words[2:]
+    if words == ["--help"]:
+        print(__doc__)
+        return 0
     if not words or any(name not in crates for name in words):
-        print(__doc__ if words == ["--help"] else "edits_together.py: which crates?", file=sys.stdout if words == ["--help"] else sys.stderr)
-        return 0 if words == ["--help"] else 2
+        print("edits_together.py: it takes names of crates, as --help says", file=sys.stderr)
+        return 2
+    if shutil.which("rattle") is None:
+        print("skipped: the command rattle of Rattle's kit is missing")
+        return 77
     missing = [name for crate in words for name in crates[crate] if not rlib(crates, name).exists()]
     if missing:
         print(f"skipped: the library {missing[0]} isn't built here; run rt ci first")
