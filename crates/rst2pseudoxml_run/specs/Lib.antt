@@ -2,3 +2,4 @@ pub mod Shown
 pub mod Reading
 pub mod Headline
 pub mod Report
+pub mod OneEnd

@@ -62,8 +62,8 @@ IsReadOf settings (Some text) read = read_of settings (lines_of settings.tab tex
 -- the finished document of a text, and its messages with their highest level
 abbrev pub IsMade : Settings → Option (List ℕ) → Finished → Type 0
 IsMade settings text finished =
-    ((root : Node) × (messages : ℕ) × IsReadOf settings text (Ok (root, messages)) × Leaves messages settings root finished.tree finished.notes.items)
-    × IsFinished settings finished.tree finished.notes.items × (finished.highest ≡ highest_level finished.notes.items) × (finished.highest ≤ 4)
+    ((root : Node) × (messages : ℕ) × IsReadOf settings text (Ok (root, messages)) × Leaves messages settings root finished.document finished.notes.items)
+    × IsFinished settings finished.document finished.notes.items × (finished.highest ≡ highest_level finished.notes.items) × (finished.highest ≤ 4)
 
 -- a document was made of the bytes, or they were refused, or memory ran out
 abbrev pub Reads : Settings → List ℕ → Result Finished End → Type 0

@@ -1,11 +1,9 @@
 -- What the program shows of a finished document: standard output, standard error and the exit status.
-use Rattle.std.specs.Prelude.{◌≡◌, ℕ, ◌+◌, ◌<◌, ◌≤◌, Bool, true, ◌||◌, List, [], ◌∷◌, ◌++◌, length, filter, if◌then◌else◌, Option, None, Some, IsSome, Result, Ok, Err, Vec, codes}
+use Rattle.std.specs.Prelude.{◌≡◌, ℕ, ◌+◌, ◌<◌, ◌≤◌, Bool, ◌||◌, List, [], ◌∷◌, ◌++◌, length, filter, if◌then◌else◌, Option, None, Some, Result, Ok, Err, Vec, codes}
 use Rattle.std.specs.Fmt.{decimal}
 use Rattle.std.specs.List.{flat_map}
 use Rattle.std.specs.Str.Lossy.{utf8_valid_len}
 use Rattle.rst_text.specs.Counted.{inner_of}
-use Rattle.rst_text.specs.Block.{Block}
-use Rattle.rst_text.specs.Lines.{lines_of, first_longer}
 use Rattle.rst_text.specs.Text.{text_of}
 use Rattle.rst_text.specs.declared.counted.Counted.{Counted}
 use Rattle.rst_settings.specs.declared.Settings.{Settings}
@@ -75,7 +73,7 @@ parts_of settings source document notes =
 -- The answer to some bytes: what is shown of the finished document that was made of their text, and of its messages; or the
 -- refusal of what is too long, no UTF-8 or nested too deeply.
 abbrev pub Answers : Settings → List ℕ → List ℕ → Result Parts End → Type 0
-Answers settings source bytes (Ok parts) = (length bytes ≤ 16777216) × (finished : Finished) × IsMade settings (text_of bytes) finished × (parts ≡ parts_of settings source finished.tree finished.notes.items)
+Answers settings source bytes (Ok parts) = (length bytes ≤ 16777216) × (finished : Finished) × IsMade settings (text_of bytes) finished × (parts ≡ parts_of settings source finished.document finished.notes.items)
 Answers settings source bytes (Err TooLong) = 16777216 < length bytes
 Answers settings source bytes (Err (NotUtf8 at)) = (length bytes ≤ 16777216) × (text_of bytes ≡ None) × (at ≡ utf8_valid_len bytes)
 Answers settings source bytes (Err (TooDeep line)) = (length bytes ≤ 16777216) × IsReadOf settings (text_of bytes) (Err line)

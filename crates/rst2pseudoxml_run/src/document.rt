@@ -1,4 +1,4 @@
-//! The document that an input is: its tree and its messages.
+//! The document that an input is, and its messages.
 ghost use Rattle.std.specs.Prelude.{◌≡◌, ◌*◌, ◌^◌, ◌<◌, ◌≤◌, length, IfOk, string_bytes};
 ghost use Rattle.rst_block.specs.Ledger.{total_at};
 ghost use Rattle.rst_tree.specs.Faults.{Gives};
@@ -10,7 +10,7 @@ use rst_block::{BlockFault, Parsed, parse};
 use rst_block_nodes::message;
 use rst_settings::Settings;
 use rst_text::{Lines, TextFault, text_in};
-use rst_transform::{Finished, TransformFault, finish};
+use rst_transform::{Finished, finish};
 use rst_tree::{Attrs, Children, Level, Node, Tag, TreeFault};
 use rst_tree_index::Marked;
 use std::alloc::{AllocError, Global};
@@ -35,8 +35,7 @@ pub fn document_of(alloc: Global, settings: &Settings, bytes: Vec<u8>) -> Result
     drop(lines);
     match finish(alloc, parsed.document, parsed.messages, settings) {
         Ok(finished) => Ok(finished),
-        // `NoTree` is not expected of a document that was parsed, but that is not proved.
-        Err(TransformFault::NoMemory | TransformFault::NoTree) => Err(End::NoMemory),
+        Err(_) => Err(End::NoMemory),
     }
 }
 

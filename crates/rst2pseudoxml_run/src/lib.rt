@@ -5,6 +5,7 @@ mod document;
 mod end;
 mod error_text;
 mod input;
+pub mod laws;
 mod reporting;
 mod running;
 

@@ -70,7 +70,7 @@ fn show<O: Write, E: Write>(
     requires few { finished.now.highest ≤ 4 }
     requires out { has_failed out.old ≡ false }
     requires err { has_failed err.old ≡ false }
-    ensures { Shows (parts_of settings.now source.now finished.now.tree finished.now.notes.items)
+    ensures { Shows (parts_of settings.now source.now finished.now.document finished.now.notes.items)
         (between O.contents out.old out.new)
         (between E.contents err.old err.new) result }
 {
@@ -85,7 +85,7 @@ fn show<O: Write, E: Write>(
     if halting(notes, settings).is_some() {
         return End::Done(1);
     }
-    match print_with_source(&finished.tree, source, out) {
+    match print_with_source(&finished.document, source, out) {
         Ok(()) => End::Done(status_of(finished.highest, settings)),
         Err(PrintFault::Write { done }) => End::WriteOut { done },
     }

@@ -7,7 +7,7 @@ use Rattle.rst_markup_blocks.specs.Ends.{row_size, row_reach}
 use Rattle.rst_markup_blocks.specs.Kinds.{kind_at}
 use Rattle.rst_markup_blocks.specs.Partition.{construct_size, construct_end, IsBlankAt, IsTextAt}
 use Rattle.rst_markup_blocks.specs.declared.kind.Kind.{Kind}
-use Rattle.rst_markup_blocks.specs.declared.kind.Kind.TheVariants.{Blank, Quote, Bullet, Enumerator, Field, OptionItem, Doctest, Line, Grid, Simple, Explicit, Anonymous, Adornment, Text}
+use Rattle.rst_markup_blocks.specs.declared.kind.Kind.TheVariants.{Grid, Simple}
 use Rattle.rst_markup_blocks.specs.declared.part.Part.{Part}
 use Rattle.rst_markup_blocks.proofs.PartitionLemmas.{end_inside}
 use Rattle.rst_block.specs.Budget.{sum_of, total}
@@ -159,31 +159,20 @@ paid_construct old new B s before after inside text h least = by s h.goes h.plac
     by (Cells t) g p b c few = same (Cells t) g p b c few
     by Done g p b c few = absurd g
 
--- a reach has a line or more
-pub reach_some : (titles : Bool) (X : Block) → 1 ≤ construct_size titles X → 1 ≤ reach_at titles X
+-- a construct has no more lines than its reach
+pub size_reached : (titles : Bool) (X : Block) → construct_size titles X ≤ reach_at titles X
 unfolding construct_size
-reach_some titles X h = by (kind_at X) h
+size_reached titles X = by (kind_at X)
   where
-    by : (k : Kind) → 1 ≤ row_size k titles X → 1 ≤ row_reach k titles X
-    by Grid h = omega (arith, h)
-    by Simple h = omega (arith, h)
-    by Blank h = omega (arith, h)
-    by Quote h = omega (arith, h)
-    by Bullet h = omega (arith, h)
-    by Enumerator h = omega (arith, h)
-    by Field h = omega (arith, h)
-    by OptionItem h = omega (arith, h)
-    by Doctest h = omega (arith, h)
-    by Line h = omega (arith, h)
-    by Explicit h = omega (arith, h)
-    by Anonymous h = omega (arith, h)
-    by Adornment h = omega (arith, h)
-    by Text h = omega (arith, h)
+    by : (k : Kind) → row_size k titles X ≤ row_reach k titles X
+    by Grid = omega arith
+    by Simple = omega arith
+    by _ = omega arith
 
 pub construct : (old new : OpenBlock) (B : Block) (s : Step) (before mid after : ℕ) → old.at < length B → IsTextAt B old.at → before + 1 ≤ mid → mid ≤ before + 3 → IsPaid 29 old new B s mid after
     → Takes (most_left old B Next) (least_left old B Next) before (most_left new B s) (least_left new B s) after
 construct old new B s before mid after inside text some few h =
-    let reach : 1 ≤ reach_at (old.depth == 0) (drop old.at B) = reach_some (old.depth == 0) (drop old.at B) (omega (arith, (end_inside (old.depth == 0) B old.at inside).0)) in
+    let reach : 1 ≤ reach_at (old.depth == 0) (drop old.at B) = omega (arith, size_reached (old.depth == 0) (drop old.at B), (end_inside (old.depth == 0) B old.at inside).0) in
     let all : IsPaid 32 old new B s before after = record {
       goes = h.goes;
       depth = h.depth;

@@ -8,16 +8,9 @@ use Rattle.rst_markup_blocks.specs.Sizes.{indented_size}
 use Rattle.rst_markup_blocks.specs.declared.begun.Begun.TheVariants.{Line}
 use Rattle.rst_block.specs.Ledger.{run_looks, IsPaid}
 use Rattle.rst_block.specs.declared.open_block.OpenBlock.{OpenBlock}
-use Rattle.rst_block.specs.declared.run.Run.{Run}
-use Rattle.rst_block.specs.declared.run.Run.TheVariants.{None as NoRun}
 use Rattle.rst_block.specs.declared.step.Step.TheVariants.{Next}
 use Rattle.rst_block.proofs.NextConstructs.{next_of, next_some}
-use Rattle.rst_block.proofs.PaidSteps.{paid_begun}
-
--- an open run takes a look at its end, or none
-pub run_at_most : (run : Run) → run_looks run ≤ 1
-run_at_most NoRun = omega arith
-run_at_most _ = omega arith
+use Rattle.rst_block.proofs.PaidSteps.{one_look, paid_begun}
 
 -- The looks at a line of a line block: at it and each line below its bar to find its end, at these two times more for their text, at the bar's line once
 -- more, and at the end of the run before it.
@@ -28,5 +21,5 @@ line_paid {l} {new} {B} {m} end before found text after inside begun stop depth 
     let X : Block = drop l.at B in
     let size : ℕ = indented_size X in
     let gone : l.at < end = omega (arith, stop, next_some (next_of (Line m) l B begun tt) inside) in
-    let all : after + run_looks new.run ≤ before + run_looks l.run + 29 * reach size X = omega (arith, stop, gone, few, most, run, run_at_most new.run) in
+    let all : after + run_looks new.run ≤ before + run_looks l.run + 29 * reach size X = omega (arith, stop, gone, few, most, run, one_look new.run) in
     paid_begun 29 (Line m) l new B Next before after begun tt tt depth (goes gone ∙ stop) refl refl all (omega (arith, some, low, closed))

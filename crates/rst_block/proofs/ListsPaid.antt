@@ -25,12 +25,10 @@ use Rattle.rst_block.specs.Texts.{lines_in}
 use Rattle.rst_block.specs.Within.{hanging, indented_part, item_part}
 use Rattle.rst_block.specs.declared.open_block.OpenBlock.{OpenBlock}
 use Rattle.rst_block.specs.declared.resume.Waits.{Waits}
-use Rattle.rst_block.specs.declared.run.Run.{Run}
-use Rattle.rst_block.specs.declared.run.Run.TheVariants.{None as NoRun}
 use Rattle.rst_block.specs.declared.step.Step.{Step}
 use Rattle.rst_block.specs.declared.step.Step.TheVariants.{Open}
 use Rattle.rst_block.proofs.ListItems.{hanging_to, item_to, IsNextItem}
-use Rattle.rst_block.proofs.PaidSteps.{paid_next}
+use Rattle.rst_block.proofs.PaidSteps.{one_look, paid_next}
 use Rattle.rst_block.proofs.WaitingLooks.{alone}
 
 -- ---- the lines of an item are found
@@ -80,11 +78,6 @@ unfolding construct_size
 reach_of_item l B mark lines h = no_table (kind_at (drop l.at B)) (l.depth == 0) (drop l.at B) mark h.construct ∙ ap (λ n. reach n (drop l.at B)) h.size
 
 -- ---- an item is paid for
-
--- one look at most is taken at the end of a run
-one_look : (r : Run) → run_looks r ≤ 1
-one_look NoRun = omega arith
-one_look _ = omega arith
 
 -- the looks at an item: those by which its lines are found, two more at most, and those at the ends of the run before it and of its list
 few_looks : (before start mid after size reached far old new quotes : ℕ) → 3 * reached ≤ far → mid + 2 ≤ start + 2 * reached → start + size ≤ mid + 1 → after + start ≤ before + mid + old + 2

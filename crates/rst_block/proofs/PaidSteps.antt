@@ -24,6 +24,11 @@ use Rattle.rst_block.specs.declared.step.Step.{Step}
 use Rattle.rst_block.specs.declared.step.Step.TheVariants.{Next}
 use Rattle.rst_block.proofs.NextConstructs.{IsFilled, next_of}
 
+-- an open run takes a look at its end, or none
+pub one_look : (r : Run) → run_looks r ≤ 1
+one_look NoRun = omega arith
+one_look _ = omega arith
+
 -- a construct with this many lines
 pub paid_next : (each : ℕ) (l new : OpenBlock) (B : Block) (what : Construct) (lines : ℕ) (s : Step) (before after : ℕ) → IsNextConstruct l B what lines → GoesOn s → new.depth ≡ l.depth → place_after new s ≡ l.at + lines
     → totals l.depth (next_blocks B s) ≡ totals l.depth (opened_by what (unread_at l.depth) B l.at (drop l.at B)) → totals l.depth (next_cells s) ≡ totals l.depth (cells_by what B l.at)

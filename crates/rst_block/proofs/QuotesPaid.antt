@@ -32,7 +32,7 @@ use Rattle.rst_block.specs.declared.run.Run.TheVariants.{None as NoRun, List as 
 use Rattle.rst_block.specs.declared.step.Step.{Step}
 use Rattle.rst_block.specs.declared.step.Step.TheVariants.{Next, Open}
 use Rattle.rst_block.proofs.NextConstructs.{next_of, next_some}
-use Rattle.rst_block.proofs.PaidSteps.{paid_begun, ended_looks}
+use Rattle.rst_block.proofs.PaidSteps.{one_look, paid_begun, ended_looks}
 use Rattle.rst_block.proofs.QuoteCounts.{attribution_within}
 use Rattle.rst_block.proofs.WaitingLooks.{one_quote, split_quotes, resumed, quotes_go_on}
 
@@ -164,20 +164,13 @@ nodes_paid {old} {new} B waits looks one m is =
     let run : run_looks new.run ≡ run_looks old.run = ap run_looks m.run in
     rw is (resumed old new B waits looks looks one m.depth m.at (omega (arith, run)) (omega arith) (omega arith))
 
--- there is one look at most at the end of a run
-run_once : (r : Run) → run_looks r ≤ 1
-run_once NoRun = omega arith
-run_once (ListRun l) = omega arith
-run_once (Lines lines end) = omega arith
-run_once (ExplicitRun end) = omega arith
-
 -- with one more item the run takes no more looks at its end
 item_same : (old new : OpenBlock) (item : Node) → HasItem old new item → (new.depth ≡ old.depth) × (new.at ≡ old.at) × (run_looks new.run ≤ run_looks old.run)
 item_same old new item h = by old.run refl h
   where
     by : (r : Run) → old.run ≡ r → HasItemIn (open_of r) old new item → (new.depth ≡ old.depth) × (new.at ≡ old.at) × (run_looks new.run ≤ run_looks r)
     by NoRun e h = (h.depth, h.at, omega (arith, ap run_looks (h.run ∙ e)))
-    by (ListRun l) e h = (h.depth, h.at, run_once new.run)
+    by (ListRun l) e h = (h.depth, h.at, one_look new.run)
     by (Lines lines end) e h = (h.depth, h.at, omega (arith, ap run_looks (h.run ∙ e)))
     by (ExplicitRun end) e h = (h.depth, h.at, omega (arith, ap run_looks (h.run ∙ e)))
 

@@ -35,10 +35,9 @@ use Rattle.rst_block.specs.declared.open_block.OpenBlock.{OpenBlock}
 use Rattle.rst_block.specs.declared.resume.Waits.{Waits}
 use Rattle.rst_block.specs.declared.step.Step.{Step}
 use Rattle.rst_block.specs.declared.step.Step.TheVariants.{Next, Open, Cells}
-use Rattle.rst_block.proofs.LedgerLemmas.{blank_line, construct}
-use Rattle.rst_block.proofs.LinesPaid.{run_at_most}
+use Rattle.rst_block.proofs.LedgerLemmas.{blank_line, construct, size_reached}
 use Rattle.rst_block.proofs.NextConstructs.{IsFilled, next_of}
-use Rattle.rst_block.proofs.PaidSteps.{paid_next, reach_of}
+use Rattle.rst_block.proofs.PaidSteps.{one_look, paid_next, reach_of}
 use Rattle.rst_block.proofs.TableSteps.{IsNextTable, next_table}
 use Rattle.rst_block.proofs.WaitingLooks.{last_block}
 
@@ -110,16 +109,6 @@ simple_found titles X before after h few some =
     let size : construct_size titles X ≡ simple_size X = ap (λ k. row_size k titles X) (sym h.kind) in
     (omega (arith, few, far), omega (arith, some, size))
 
--- a construct has no more lines than its reach
-size_reached : (titles : Bool) (X : Block) → construct_size titles X ≤ reach_at titles X
-unfolding construct_size
-size_reached titles X = by (kind_at X)
-  where
-    by : (k : Kind) → row_size k titles X ≤ row_reach k titles X
-    by Grid = omega arith
-    by Simple = omega arith
-    by _ = omega arith
-
 -- the next construct is a table of a kind: it opens no block, and its cells are those of what is found
 record IsTableOf (l : OpenBlock) (B : Block) (t : TableResult) : Type 0 where
   what : Construct
@@ -155,13 +144,13 @@ pub malformed_paid : {l new : OpenBlock} {B : Block} {end : ℕ} {fault : TableF
     → found ≤ before + 4 * reach_at (l.depth == 0) (drop l.at B) → before + construct_size (l.depth == 0) (drop l.at B) ≤ found + 1 → mid ≡ l.at → closed ≤ found + run_looks l.run → found ≤ closed
     → told ≤ closed + (end - mid) → closed ≤ told → after ≤ told + 1 → told ≤ after → IsPaid 29 l new B Next before after
 malformed_paid {l} {new} mid before found closed told after h inside depth at few some place run low most shown one more =
-    table_paid h inside tt depth at refl refl few some (omega (arith, place, run, most, one, run_at_most new.run)) (omega (arith, low, shown, more))
+    table_paid h inside tt depth at refl refl few some (omega (arith, place, run, most, one, one_look new.run)) (omega (arith, low, shown, more))
 
 -- a table whose cells come next
 pub cells_paid : {l new : OpenBlock} {B : Block} (t : TableResult) (before found after : ℕ) → IsTableAt B l.at t → l.at < length B → new.depth ≡ l.depth
     → found ≤ before + 4 * reach_at (l.depth == 0) (drop l.at B) → before + construct_size (l.depth == 0) (drop l.at B) ≤ found + 1 → after ≤ found + run_looks l.run → found ≤ after
     → IsPaid 29 l new B (Cells t) before after
-cells_paid {l} {new} t before found after h inside depth few some run low = table_paid h inside tt depth refl refl refl few some (omega (arith, run, run_at_most new.run)) low
+cells_paid {l} {new} t before found after h inside depth few some run low = table_paid h inside tt depth refl refl refl few some (omega (arith, run, one_look new.run)) low
 
 -- ---- below the last level
 

@@ -23,7 +23,7 @@ use Rattle.rst_block.specs.Within.{Within}
 use Rattle.rst_block.specs.declared.open_block.OpenBlock.{OpenBlock}
 use Rattle.rst_block.specs.declared.step.Step.{Step}
 use Rattle.rst_block.specs.declared.step.Step.TheVariants.{Next}
-use Rattle.rst_block.proofs.LedgerLemmas.{reach_some}
+use Rattle.rst_block.proofs.LedgerLemmas.{size_reached}
 use Rattle.rst_block.proofs.PaidSteps.{ended_looks, paid_next}
 
 -- ---- texts and lines of one punctuation character
@@ -95,7 +95,7 @@ paid_flat each {l} {closed} new {B} {what} {lines} before after h flat cl depth 
 -- up to two looks before a construct are paid for with it
 paid_later : (each : ℕ) {l new : OpenBlock} {B : Block} {s : Step} {before mid after : ℕ} → l.at < length B → before ≤ mid → mid ≤ before + 2 → IsPaid each l new B s mid after → IsPaid (each + 2) l new B s before after
 paid_later each {l} {new} {B} {s} {before} {mid} {after} inside low high h =
-    let far : 1 ≤ reach_at (l.depth == 0) (drop l.at B) = reach_some (l.depth == 0) (drop l.at B) (omega (arith, (end_inside (l.depth == 0) B l.at inside).0)) in
+    let far : 1 ≤ reach_at (l.depth == 0) (drop l.at B) = omega (arith, size_reached (l.depth == 0) (drop l.at B), (end_inside (l.depth == 0) B l.at inside).0) in
     record {
       goes = h.goes;
       depth = h.depth;

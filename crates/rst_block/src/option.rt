@@ -19,10 +19,10 @@ use super::part::hanging;
 use super::resume::Waits;
 use super::run::ListKind;
 use super::step::Step;
-use super::texts::{Pass, excerpt, number_at};
+use super::texts::{Pass, excerpt_behind, number_at};
 use rst_block_nodes::{element_of, option};
 use rst_markup_lines::{ListedOption, Marker, listed_options};
-use rst_text::View;
+use rst_text::{View, skip};
 use rst_tree::{Attrs, Node, Tag, TreeFault};
 use std::alloc::Global;
 
@@ -78,26 +78,34 @@ fn option_group(alloc: Global, text: &str, line: usize) -> Result<Node, TreeFaul
     ensures { Gives (λ node. node ≡ lists.option_group (chars text.now) line) result }
 {
     let mut options = Vec::new(alloc);
+    let mut rest = text;
+    let mut passed = 0;
     for listed in listed_options(alloc, text)? {
-        options.push(option_of(alloc, text, listed, line)?)?;
+        let from = listed.string.from;
+        rest = skip(rest, from.saturating_sub(passed));
+        passed = passed.max(from);
+        options.push(option_of(alloc, text, rest, passed, listed, line)?)?;
     }
     Ok(element_of(Tag::OptionGroup, Attrs::new(alloc), options, line))
 }
 
-/// An option of a line.
+/// An option of a line, of which what follows its first characters is at hand.
 fn option_of(
     alloc: Global,
     text: &str,
+    rest: &str,
+    passed: usize,
     listed: ListedOption,
     line: usize,
 ) -> Result<Node, TreeFault>
+    requires { chars rest.now ≡ drop passed (chars text.now) }
     ensures { Gives (λ node. node ≡ lists.option_in (chars text.now) line listed) result }
 {
-    let string = excerpt(alloc, text, listed.string)?;
+    let string = excerpt_behind(alloc, text, rest, passed, listed.string)?;
     let Some(argument) = listed.argument else {
         return option(alloc, string.as_str(), None, line);
     };
-    let written = excerpt(alloc, text, argument.text)?;
+    let written = excerpt_behind(alloc, text, rest, passed, argument.text)?;
     let argument = Some((argument.delimiter, written.as_str()));
     option(alloc, string.as_str(), argument, line)
 }

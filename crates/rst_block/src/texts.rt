@@ -31,6 +31,24 @@ pub(crate) fn excerpt(alloc: Global, text: &str, place: Characters) -> Result<St
     characters(alloc, text, place.from, place.to.saturating_sub(place.from))
 }
 
+/// The same where what follows the first characters of the text is at hand, so that nobody goes through these again.
+pub(crate) fn excerpt_behind(
+    alloc: Global,
+    text: &str,
+    rest: &str,
+    passed: usize,
+    place: Characters,
+) -> Result<String, AllocError>
+    requires { chars rest.now ≡ drop passed (chars text.now) }
+    ensures { IfOk result (λ part. string_bytes part ≡ spec.excerpt (chars text.now) place) }
+{
+    if place.from < passed {
+        return excerpt(alloc, text, place);
+    }
+    let count = place.to.saturating_sub(place.from);
+    characters(alloc, rest, place.from - passed, count)
+}
+
 /// The characters of a text after the first ones, up to a number of them.
 pub(crate) fn characters(
     alloc: Global,

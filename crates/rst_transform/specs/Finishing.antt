@@ -1,16 +1,15 @@
 -- A document after all transforms, in their order (Document Tree, 'Introduction').
 use Rattle.std.specs.Prelude.{◌≡◌, ℕ, Bool, true, false, List, [], ◌++◌, map, Result, Ok, Err}
 use Rattle.rst_tree_index.specs.declared.kinds.Kinds.{Kinds}
-use Rattle.rst_tree_index.specs.Kinds.{kinds_of}
+use Rattle.rst_tree_index.specs.Kinds.{kinds_of, HasNoNewKinds}
 use Rattle.rst_transform_names.specs.declared.registration.Registered.{Registered}
 use Rattle.rst_transform_names.specs.Registering.{IsRegistered}
 use Rattle.rst_settings.specs.declared.Settings.{Settings}
 use Rattle.rst_tree.specs.declared.node.Node.{Node}
 use Rattle.rst_tree.specs.declared.note.Note.{Note}
-use Rattle.rst_tree.specs.Tree.{is_tree}
-use Rattle.rst_tree.specs.Walk.{node_items}
-use Rattle.rst_transform.specs.declared.fault.TransformFault.{TransformFault}
-use Rattle.rst_transform.specs.declared.fault.TransformFault.TheVariants.{NoMemory, NoTree}
+use Rattle.rst_tree.specs.declared.fault.TreeFault.{TreeFault}
+use Rattle.rst_tree.specs.declared.fault.TreeFault.TheVariants.{NoMemory}
+use Rattle.rst_tree.specs.Walk.{Item}
 use Rattle.rst_transform.specs.declared.finishing.Finished.{Finished}
 use Rattle.rst_transform_work.specs.declared.work.Report.{Report}
 use Rattle.rst_transform_work.specs.declared.work.Work.{Work}
@@ -29,7 +28,7 @@ use Rattle.rst_transform_structure.specs.Targets.{IsRetargeted}
 use Rattle.rst_transform_structure.specs.Title.{IsTitled}
 use Rattle.rst_transform_structure.specs.Transitions.{HasTransitions}
 
--- a transform takes place, or the document stays as it is
+-- a transform that settings ask for takes place; one that they don't leaves the document as it is
 abbrev pub Where : Bool → (Work → Work → Type 0) → Work → Work → Type 0
 Where true Transforms before after = Transforms before after
 Where false Transforms before after = after ≡ before
@@ -43,29 +42,29 @@ pub record IsStarted (messages : ℕ) (registered : Registered) (work : Work) : 
   pub first_number : work.first_number ≡ messages
   pub serials : work.serials ≡ registered.serials
 
--- the transforms of links, where elements of some kinds stand in the document
-pub record ResolvesLinks (kinds : Kinds) (before after : Work) : Type 0 where
+-- the transforms of links
+pub record ResolvesLinks (before after : Work) : Type 0 where
   pub paired : Work
   pub led : Work
   pub numbered : Work
-  pub anonymous : Where kinds.anonymous IsAnonymous before paired
-  pub indirect : Where kinds.indirect IsIndirect paired led
-  pub footnotes : Where kinds.footnotes NumbersFootnotes led numbered
+  pub anonymous : IsAnonymous before paired
+  pub indirect : IsIndirect paired led
+  pub footnotes : NumbersFootnotes led numbered
   pub references : IsResolved numbered after
 
--- all transforms, where elements of some kinds stand in the document
-pub record IsTransformed (kinds : Kinds) (settings : Settings) (before after : Work) : Type 0 where
+-- all transforms
+pub record IsTransformed (settings : Settings) (before after : Work) : Type 0 where
   pub expanded : Work
   pub retargeted : Work
   pub titled : Work
   pub informed : Work
   pub linked : Work
-  pub substitutions : Where kinds.substitutions IsExpanded before expanded
-  pub targets : Where kinds.targets IsRetargeted expanded retargeted
+  pub substitutions : IsExpanded before expanded
+  pub targets : IsRetargeted expanded retargeted
   pub title : Where settings.title IsTitled retargeted titled
   pub info : Where settings.info HasDocinfo titled informed
-  pub links : Where kinds.links (ResolvesLinks kinds) informed linked
-  pub transitions : Where kinds.transitions HasTransitions linked after
+  pub links : ResolvesLinks informed linked
+  pub transitions : HasTransitions linked after
 
 -- the messages in a registered document, and then those of the transforms
 abbrev pub all_messages : Registered → List Report → List Numbered
@@ -80,15 +79,22 @@ pub record Leaves (messages : ℕ) (settings : Settings) (document : Node) (root
   pub sectioned : Work
   pub is_registered : IsRegistered messages document registered
   pub is_started : IsStarted messages registered started
-  pub is_transformed : IsTransformed (kinds_of (node_items document)) settings started transformed
+  pub is_transformed : IsTransformed settings started transformed
   pub has_section : HasLastSection settings.report transformed sectioned
   pub all : List Numbered
   pub are_all : all ≡ all_messages registered sectioned.reports.items
   pub notes_are : notes ≡ until_halt settings.halt (notes_of all)
   pub root_is : root ≡ with_filtered settings.report (is_number_shown settings.report all) sectioned.root
 
--- what is left of it is a tree, or it isn't, or memory ran out
-abbrev pub Finishes : ℕ → Settings → Node → Result Finished TransformFault → Type 0
-Finishes messages settings document (Ok done) = Leaves messages settings document done.tree done.notes.items
-Finishes messages settings document (Err NoTree) = (root : Node) × (notes : List Note) × Leaves messages settings document root notes × (is_tree root ≡ false)
+-- what is left of it is given, or memory ran out
+abbrev pub Finishes : ℕ → Settings → Node → Result Finished TreeFault → Type 0
+Finishes messages settings document (Ok done) = Leaves messages settings document done.document done.notes.items
 Finishes messages settings document (Err NoMemory) = Unit {0}
+
+-- ---- no rule of markup: transforms need not look at a document without elements of their kinds
+
+-- The elements come from others, which are of just these kinds, and are of no new ones, messages aside.
+pub record AreOfKinds (kinds : Kinds) (elements : List Item) : Type 0 where
+  pub before : List Item
+  pub kinds_are : kinds ≡ kinds_of before
+  pub no_new : HasNoNewKinds before elements

@@ -1,27 +1,19 @@
 //! All transforms, in order.
 ghost use Rattle.std.specs.Prelude.{◌≡◌, ◌≤◌, ◌++◌, ℕ, map, IfOk, List, true};
-ghost use Rattle.rst_tree_index.specs.Kinds.{kinds_of};
+ghost use Rattle.rst_tree_index.specs.Kinds.{kinds_of, HasNoNewKinds, HasNoNewLinkKinds};
 ghost use Rattle.rst_transform_names.specs.Registering.{IsRegistered};
 ghost use Rattle.rst_tree.specs.declared.node.Node.{Node};
 ghost use Rattle.rst_tree.specs.Faults.{Gives};
-ghost use Rattle.rst_tree.specs.Tree.{is_tree};
 ghost use Rattle.rst_tree.specs.Walk.{node_items};
-ghost use Rattle.rst_transform_hyperlinks.specs.Anonymous.{IsAnonymous};
 ghost use Rattle.rst_transform_docinfo.specs.Docinfo.{HasDocinfo};
-ghost use Rattle.rst_transform_substitutions.specs.Expanded.{IsExpanded};
 ghost use Rattle.rst_transform_messages.specs.Filtered.{with_filtered};
-ghost use Rattle.rst_transform.specs.Finishing.{Finishes, IsStarted, IsTransformed, ResolvesLinks, Where};
-ghost use Rattle.rst_transform_footnotes.specs.Footnotes.{NumbersFootnotes};
-ghost use Rattle.rst_transform_hyperlinks.specs.Indirect.{IsIndirect};
+ghost use Rattle.rst_transform.specs.Finishing.{AreOfKinds, Finishes, IsStarted, IsTransformed, ResolvesLinks, Where};
 ghost use Rattle.rst_transform_messages.specs.Listed.{report_said, Lists};
 ghost use Rattle.rst_transform_messages.specs.Messages.{highest_level, is_number_shown, EndsAtHalt, Numbered};
 ghost use Rattle.rst_transform_messages.specs.MessagesIn.{messages_in};
 ghost use Rattle.rst_transform_messages.specs.Shown.{is_shown_in};
-ghost use Rattle.rst_transform_structure.specs.Targets.{IsRetargeted};
 ghost use Rattle.rst_transform_structure.specs.Title.{IsTitled};
-ghost use Rattle.rst_transform_structure.specs.Transitions.{HasTransitions};
 
-use crate::fault::TransformFault;
 use rst_settings::{Settings, Threshold};
 use rst_transform_docinfo::docinfo::docinfo;
 use rst_transform_footnotes::footnotes::footnotes;
@@ -37,7 +29,7 @@ use rst_transform_structure::title::title;
 use rst_transform_structure::transitions::transitions;
 use rst_transform_substitutions::expand::expand;
 use rst_transform_work::Work;
-use rst_tree::{Node, Note, Tree, TreeFault};
+use rst_tree::{Node, Note, TreeFault};
 use rst_tree_index::{Kinds, Marked};
 use std::alloc::Global;
 
@@ -45,7 +37,7 @@ use std::alloc::Global;
 #[derive(Debug, Drop)]
 pub struct Finished {
     /// The document, without what isn't shown, and without `source`, which is added where it is printed.
-    pub tree: Tree,
+    pub document: Node,
     /// The messages in order, up to the first that halts the run.
     pub notes: Vec<Note>,
     /// The number of the highest level among these, 0 where there are none.
@@ -55,15 +47,15 @@ pub struct Finished {
 /// Finishes a parsed document, in which `messages` numbers were given to messages: names and ids, then all transforms, the last
 /// section, and the messages below the report level taken out (Document Tree, 'Introduction').
 ///
-/// It refuses for want of memory (`NoMemory`), or where the finished document is no tree (`NoTree`).
+/// The only refusal is want of memory.
 pub fn finish(
     alloc: Global,
     document: Marked,
     messages: u64,
     settings: &Settings,
-) -> Result<Finished, TransformFault>
+) -> Result<Finished, TreeFault>
     ensures finishes { Finishes messages settings.now document result }
-    ensures shown { IfOk result (λ done. is_shown_in settings.now.report done.tree ≡ true) }
+    ensures shown { IfOk result (λ done. is_shown_in settings.now.report done.document ≡ true) }
     ensures halt { IfOk result (λ done. EndsAtHalt settings.now.halt done.notes.items) }
     ensures highest { IfOk result (λ done. done.highest ≡ highest_level done.notes.items) }
     ensures few { IfOk result (λ done. done.highest ≤ 4) }
@@ -74,13 +66,10 @@ pub fn finish(
     let work = started(alloc, registered, messages);
     let after = transformed(alloc, work, kinds, settings)?;
     let work = last_section(alloc, after, settings.report)?;
-    let (root, is_tree, list) = filtered(alloc, work, list, settings.report)?;
-    if !is_tree {
-        return Err(TransformFault::NoTree);
-    }
+    let (root, list) = filtered(alloc, work, list, settings.report)?;
     let (notes, highest) = list.end();
     Ok(Finished {
-        tree: Tree::sound(root),
+        document: root,
         notes,
         highest,
     })
@@ -103,24 +92,23 @@ fn listed(
     Ok(list)
 }
 
-/// A document with its last section, filtered; whether that is a tree; and the list of messages with those of the transforms.
+/// A document with its last section, filtered, and the list of messages with those of the transforms.
 fn filtered(
     alloc: Global,
     work: Work,
     list: Messages,
     report: Threshold,
-) -> Result<(Node, bool, Messages), TreeFault>
-    ensures halt { Gives (λ done. done.2.halt ≡ list.halt) result }
-    ensures lists { (all : List Numbered) → Lists all list → Gives (λ done. Lists (all ++ map report_said work.reports.items) done.2) result }
+) -> Result<(Node, Messages), TreeFault>
+    ensures halt { Gives (λ done. done.1.halt ≡ list.halt) result }
+    ensures lists { (all : List Numbered) → Lists all list → Gives (λ done. Lists (all ++ map report_said work.reports.items) done.1) result }
     ensures root { (all : List Numbered) → Lists all list → list.report ≡ report → Gives (λ done. done.0 ≡ with_filtered report (is_number_shown report (all ++ map report_said work.reports.items)) work.root) result }
     ensures shown { Gives (λ done. is_shown_in report done.0 ≡ true) result }
-    ensures tree { Gives (λ done. done.1 ≡ is_tree done.0) result }
 {
     let Work { root, reports, .. } = work;
     let mut list = list;
     list.add_reports(reports)?;
-    let (root, is_tree) = filter(alloc, root, report, list.shown())?;
-    Ok((root, is_tree, list))
+    let root = filter(alloc, root, report, list.shown())?;
+    Ok((root, list))
 }
 
 /// A registered document before the transforms, where so many numbers were given to messages.
@@ -144,40 +132,22 @@ fn transformed(
     kinds: Kinds,
     settings: &Settings,
 ) -> Result<Work, TreeFault>
-    ensures { Gives (IsTransformed kinds settings.now work) result }
+    requires among { AreOfKinds kinds (node_items work.root) }
+    ensures { Gives (IsTransformed settings.now work) result }
 {
-    let expanded = with_contents(alloc, work, kinds.substitutions)?;
-    let retargeted = with_targets(alloc, expanded, kinds.targets)?;
+    let expanded = expand(alloc, work, kinds.substitutions)?;
+    let retargeted = targets(alloc, expanded, kinds.targets)?;
     let titled = with_title(alloc, retargeted, settings.title)?;
     let informed = with_info(alloc, titled, settings.info)?;
-    let linked = with_links(alloc, informed, kinds)?;
-    let work = with_transitions(alloc, linked, kinds.transitions)?;
+    let linked = resolve_links(alloc, informed, kinds)?;
+    let work = transitions(alloc, linked, kinds.transitions)?;
     Ok(work)
-}
-
-/// A document with the contents of substitution definitions, if it has references to such.
-fn with_contents(alloc: Global, work: Work, has: bool) -> Result<Work, TreeFault>
-    ensures { Gives (Where has IsExpanded work) result }
-{
-    if !has {
-        return Ok(work);
-    }
-    expand(alloc, work)
-}
-
-/// A document whose internal targets handed on what they have, if it has any.
-fn with_targets(alloc: Global, work: Work, has: bool) -> Result<Work, TreeFault>
-    ensures { Gives (Where has IsRetargeted work) result }
-{
-    if !has {
-        return Ok(work);
-    }
-    targets(alloc, work)
 }
 
 /// A document with its title, if that is asked for.
 fn with_title(alloc: Global, work: Work, asked: bool) -> Result<Work, TreeFault>
-    ensures { Gives (Where asked IsTitled work) result }
+    ensures titled { Gives (Where asked IsTitled work) result }
+    ensures kinds { Gives (λ after. HasNoNewKinds (node_items work.root) (node_items after.root)) result }
 {
     if !asked {
         return Ok(work);
@@ -187,7 +157,8 @@ fn with_title(alloc: Global, work: Work, asked: bool) -> Result<Work, TreeFault>
 
 /// A document with its bibliography, if that is asked for.
 fn with_info(alloc: Global, work: Work, asked: bool) -> Result<Work, TreeFault>
-    ensures { Gives (Where asked HasDocinfo work) result }
+    ensures informed { Gives (Where asked HasDocinfo work) result }
+    ensures kinds { Gives (λ after. HasNoNewKinds (node_items work.root) (node_items after.root)) result }
 {
     if !asked {
         return Ok(work);
@@ -195,63 +166,15 @@ fn with_info(alloc: Global, work: Work, asked: bool) -> Result<Work, TreeFault>
     docinfo(alloc, work)
 }
 
-/// A document whose links lead somewhere, if it has elements at the ends of links.
-fn with_links(alloc: Global, work: Work, kinds: Kinds) -> Result<Work, TreeFault>
-    ensures { Gives (Where kinds.links (ResolvesLinks kinds) work) result }
-{
-    if !kinds.links {
-        return Ok(work);
-    }
-    resolve_links(alloc, work, kinds)
-}
-
-/// A document after the transforms of links, in order.
+/// A document with elements of some kinds after the transforms of links, in order.
 fn resolve_links(alloc: Global, work: Work, kinds: Kinds) -> Result<Work, TreeFault>
-    ensures { Gives (ResolvesLinks kinds work) result }
+    requires among { AreOfKinds kinds (node_items work.root) }
+    ensures links { Gives (ResolvesLinks work) result }
+    ensures kinds { Gives (λ after. HasNoNewLinkKinds (node_items work.root) (node_items after.root)) result }
 {
-    let paired = with_anonymous(alloc, work, kinds.anonymous)?;
-    let led = with_indirect(alloc, paired, kinds.indirect)?;
-    let numbered = with_footnotes(alloc, led, kinds.footnotes)?;
-    let work = resolve(alloc, numbered)?;
+    let paired = anonymous(alloc, work, kinds.anonymous)?;
+    let led = indirect(alloc, paired, kinds.indirect)?;
+    let numbered = footnotes(alloc, led, kinds.footnotes)?;
+    let work = resolve(alloc, numbered, kinds.links)?;
     Ok(work)
-}
-
-/// A document whose anonymous references have their targets, if it has any of both.
-fn with_anonymous(alloc: Global, work: Work, has: bool) -> Result<Work, TreeFault>
-    ensures { Gives (Where has IsAnonymous work) result }
-{
-    if !has {
-        return Ok(work);
-    }
-    anonymous(alloc, work)
-}
-
-/// A document whose indirect targets lead where their names do, if it has any.
-fn with_indirect(alloc: Global, work: Work, has: bool) -> Result<Work, TreeFault>
-    ensures { Gives (Where has IsIndirect work) result }
-{
-    if !has {
-        return Ok(work);
-    }
-    indirect(alloc, work)
-}
-
-/// A document whose footnotes have their numbers, if it has any, or references to such.
-fn with_footnotes(alloc: Global, work: Work, has: bool) -> Result<Work, TreeFault>
-    ensures { Gives (Where has NumbersFootnotes work) result }
-{
-    if !has {
-        return Ok(work);
-    }
-    footnotes(alloc, work)
-}
-
-/// A document whose transitions stand where they may, if it has any.
-fn with_transitions(alloc: Global, work: Work, has: bool) -> Result<Work, TreeFault>
-    ensures { Gives (Where has HasTransitions work) result }
-{
-    if !has {
-        return Ok(work);
-    }
-    transitions(alloc, work)
 }

@@ -1,9 +1,8 @@
 //! The finished document: registration and the transforms, one after the other.
 #![tactic(auto)]
 
-mod fault;
 mod finishing;
+pub mod laws;
 
-pub use fault::TransformFault;
 pub use finishing::{Finished, finish};
 pub use rst_settings::Settings;

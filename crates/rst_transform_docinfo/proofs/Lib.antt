@@ -1,1 +1,4 @@
+pub mod DocinfoKinds
+pub mod FieldKinds
 pub mod Gathering
+pub mod OneAnswer

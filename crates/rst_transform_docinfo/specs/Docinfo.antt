@@ -13,7 +13,6 @@ use Rattle.rst_transform_work.specs.declared.work.Report.{Report}
 use Rattle.rst_transform_work.specs.declared.work.Work.{Work}
 use Rattle.rst_transform_docinfo.specs.Gathered.{Gathered, docinfo_nodes, gathered, none_yet}
 use Rattle.rst_transform_work.specs.Reading.{is_title, may_precede}
-use Rattle.rst_transform_names.specs.Names.{KnowsTheSame}
 use Rattle.rst_transform_work.specs.Lists.{named}
 
 -- the nodes, the first of them with more ids and names
@@ -79,13 +78,8 @@ abbrev pub docinfo_reports : ℕ → List Report → Node → List Report
 docinfo_reports first reports (Element t a c l) = reports_with first reports (leading_list (nodes_of c))
 docinfo_reports first reports (Text t) = reports
 
--- all but the messages and the names is as it was
-abbrev pub KeepsOthers : Work → Work → Type 0
-KeepsOthers old new = new ≡ record old { names = new.names; reports = new.reports }
-
 -- the document before and after
 pub record HasDocinfo (before after : Work) : Type 0 where
   pub root : after.root ≡ with_docinfo before.first_number before.reports.items before.root
   pub reports : after.reports.items ≡ docinfo_reports before.first_number before.reports.items before.root
-  pub names : KnowsTheSame before.names after.names
-  pub rest : after ≡ record before { root = after.root; names = after.names; reports = after.reports }
+  pub rest : after ≡ record before { root = after.root; reports = after.reports }

@@ -1,18 +1,18 @@
 //! A leading field list becomes the bibliography of the document.
 ghost use Rattle.std.specs.Prelude.{◌≡◌, ◌≤◌, ◌++◌, take, drop, vec_len, slice_get, is_some};
 ghost use Rattle.std.specs.List.{prefix_len};
-ghost use Rattle.rst_transform_names.specs.Names.{KnowsTheSame};
 ghost use Rattle.rst_tree.specs.Faults.{Gives};
 ghost use Rattle.rst_tree.specs.Nodes.{forest_of, nodes_of};
-ghost use Rattle.rst_transform_docinfo.specs.Docinfo.{behind_titles, docinfo_reports, first_named, is_field_list, leading_list, list_gathered, list_in, list_place, may_lead, nodes_with, list_reports, replaced, reports_with, with_docinfo, KeepsOthers, HasDocinfo};
+ghost use Rattle.rst_tree.specs.Walk.{node_items};
+ghost use Rattle.rst_tree_index.specs.Kinds.{HasNoNewKinds};
+ghost use Rattle.rst_transform_docinfo.specs.Docinfo.{behind_titles, docinfo_reports, first_named, is_field_list, leading_list, list_gathered, list_in, list_place, may_lead, nodes_with, list_reports, replaced, reports_with, with_docinfo, HasDocinfo};
 ghost use Rattle.rst_transform_docinfo.specs.Gathered.{docinfo_nodes};
 ghost use Rattle.rst_transform_work.specs.Reports.{KeepsRest};
 ghost use Rattle.rst_transform_work.specs.Reading.{is_title};
 
 use crate::bibliography::Bibliography;
-use rst_transform_names::Names;
 use rst_transform_work::{Work, add_names, is_title, may_precede};
-use rst_tree::{Attrs, Children, Key, Node, Said, Tag, TreeFault};
+use rst_tree::{Attrs, Children, Node, Tag, TreeFault};
 use std::alloc::Global;
 use std::mem;
 
@@ -64,56 +64,6 @@ fn is_field_list(tag: Tag) -> bool
     matches!(tag, Tag::FieldList)
 }
 
-/// Keeps where the names of the targets in a node lead that have a URI: a field's name may leave the document.
-fn keep_uris(alloc: Global, node: &Node, names: &mut Names) -> Result<(), TreeFault>
-    ensures { Gives (λ _. KnowsTheSame names.old names.new) result }
-{
-    if let Node::Element {
-        tag,
-        attrs,
-        children,
-        ..
-    } = node
-    {
-        if matches!(tag, Tag::Target) {
-            keep_uri(alloc, attrs, names)?;
-        }
-        for child in children.as_slice() {
-            keep_uris(alloc, child, names)?;
-        }
-    }
-    Ok(())
-}
-
-/// Keeps where the names of a target lead, if it has a URI.
-fn keep_uri(alloc: Global, target: &Attrs, names: &mut Names) -> Result<(), TreeFault>
-    ensures { Gives (λ _. KnowsTheSame names.old names.new) result }
-{
-    if let (Some(Said::Text(uri)), Some(Said::List(list))) = (
-        target.get(Key::Refuri),
-        target.get(Key::Names),
-    ) {
-        for name in list {
-            names.keep_uri(alloc, name.as_str(), uri.as_str())?;
-        }
-    }
-    Ok(())
-}
-
-/// Keeps where the names of the targets in the names of fields lead that have a URI.
-fn keep_field_uris(alloc: Global, fields: &[Node], names: &mut Names) -> Result<(), TreeFault>
-    ensures { Gives (λ _. KnowsTheSame names.old names.new) result }
-{
-    for field in fields {
-        if let Node::Element { children, .. } = field {
-            if let Some(name) = children.as_slice().first() {
-                keep_uris(alloc, name, names)?;
-            }
-        }
-    }
-    Ok(())
-}
-
 /// What the fields of a list become.
 fn bibliography(
     alloc: Global,
@@ -149,8 +99,7 @@ fn with_names(alloc: Global, mut nodes: Vec<Node>, attrs: &Attrs) -> Result<Vec<
 fn replaced(alloc: Global, list: Node, work: &mut Work) -> Result<Vec<Node>, TreeFault>
     ensures nodes { Gives (λ nodes. nodes.items ≡ replaced work.old.first_number work.old.reports.items list) result }
     ensures reports { Gives (λ _. work.new.reports.items ≡ list_reports work.old.first_number work.old.reports.items list) result }
-    ensures names { Gives (λ _. KnowsTheSame work.old.names work.new.names) result }
-    ensures rest { Gives (λ _. KeepsOthers work.old work.new) result }
+    ensures rest { Gives (λ _. KeepsRest work.old work.new) result }
 {
     match list {
         Node::Element {
@@ -159,7 +108,6 @@ fn replaced(alloc: Global, list: Node, work: &mut Work) -> Result<Vec<Node>, Tre
             children,
             line,
         } => {
-            keep_field_uris(alloc, children.as_slice(), &mut work.names)?;
             let nodes = bibliography(alloc, children, line, work)?;
             with_names(alloc, nodes, &attrs)
         }
@@ -190,8 +138,7 @@ fn with_bibliography(
 ) -> Result<Children, TreeFault>
     ensures nodes { let list = leading_list (nodes_of children) in Gives (λ all. all ≡ forest_of (nodes_with work.old.first_number work.old.reports.items list (nodes_of children))) result }
     ensures reports { let list = leading_list (nodes_of children) in Gives (λ _. work.new.reports.items ≡ reports_with work.old.first_number work.old.reports.items list) result }
-    ensures names { Gives (λ _. KnowsTheSame work.old.names work.new.names) result }
-    ensures rest { Gives (λ _. KeepsOthers work.old work.new) result }
+    ensures rest { Gives (λ _. KeepsRest work.old work.new) result }
 {
     let mut nodes = children.into_list();
     let place = list_place(&nodes);
@@ -234,7 +181,8 @@ fn with_bibliography(
 ///
 /// The only refusal is [`TreeFault::NoMemory`].
 pub fn docinfo(alloc: Global, mut work: Work) -> Result<Work, TreeFault>
-    ensures { Gives (HasDocinfo work) result }
+    ensures informed { Gives (HasDocinfo work) result }
+    ensures kinds { Gives (λ after. HasNoNewKinds (node_items work.root) (node_items after.root)) result }
 {
     let empty = Node::element(alloc, Tag::Document, 0);
     match mem::replace(&mut work.root, empty) {

@@ -5,3 +5,4 @@ mod authors;
 mod bibliography;
 pub mod docinfo;
 mod field;
+pub mod laws;

@@ -7,7 +7,7 @@ use Rattle.rst_transform_links.specs.declared.links.Outcome.{Outcome}
 use Rattle.rst_transform_links.specs.declared.footnote_orders.Order.{Order}
 use Rattle.rst_transform_links.specs.declared.footnote_orders.Order.TheVariants.{Numbers, Symbols}
 use Rattle.rst_transform_work.specs.declared.work.Work.{Work}
-use Rattle.rst_transform_footnotes.specs.Footnotes.{first_left_over, outcomes_from, too_many, ChangesFootnotes, HoldNumbers, TellsLeftOver}
+use Rattle.rst_transform_footnotes.specs.Footnotes.{first_left_over, outcomes_by, too_many, ChangesFootnotes, HoldNumbers, TellsLeftOver}
 use Rattle.rst_transform_links.specs.Linkings.{Held}
 use Rattle.rst_transform_footnotes.specs.FootnoteLabels.{labels}
 use Rattle.rst_transform_links.specs.FootnoteOrders.{found_by_order, in_order}
@@ -25,10 +25,10 @@ left_over_of (Some first) order line footnotes counted place text before after i
 
 -- the steps, by what was listed
 pub changed : (all linked : List Held) (list : List (Option (List ℕ))) (found : List (Option ℕ)) (before named between reported after : Work) (names : Names) (numbers symbols : Option ℕ) (outcomes changes : List Outcome)
-    → linked ≡ all → list ≡ labels linked → found ≡ found_by_order linked → named ≡ record before { names = names } → HoldNumbers 0 list linked before.names names
-    → TellsLeftOver (first_left_over Numbers 0 found linked) Numbers (length (in_order Numbers linked)) named between numbers
-    → TellsLeftOver (first_left_over Symbols 0 found linked) Symbols (length (in_order Symbols linked)) between reported symbols
-    → outcomes ≡ outcomes_from linked list found numbers symbols 0 linked → Settles linked outcomes reported after changes → ChangesFootnotes all before after changes
+    → linked ≡ all → list ≡ labels linked → found ≡ found_by_order linked → named ≡ record before { names = names } → HoldNumbers list linked before.names names
+    → TellsLeftOver (first_left_over Numbers found linked) Numbers (length (in_order Numbers linked)) named between numbers
+    → TellsLeftOver (first_left_over Symbols found linked) Symbols (length (in_order Symbols linked)) between reported symbols
+    → outcomes ≡ outcomes_by linked list found numbers symbols → Settles linked outcomes reported after changes → ChangesFootnotes all before after changes
 changed all linked list found before named between reported after names numbers symbols outcomes changes is labelled finds named_is hold by_numbers by_symbols become settles = record {
   names = names;
   numbers = numbers;

@@ -1,10 +1,13 @@
 -- Footnotes, and the references that find them by the order (Markup Specification, 'Footnotes').
-use Rattle.std.specs.Prelude.{◌≡◌, ℕ, ◌+◌, ◌&&◌, Bool, true, false, List, [], ◌∷◌, ◌++◌, codes, decimal, length, if◌then◌else◌, is_none, slice_get, Option, Some, None}
+use Rattle.std.specs.Prelude.{◌≡◌, ℕ, ◌&&◌, Bool, true, false, List, [], ◌∷◌, ◌++◌, codes, decimal, find, length, map, option_map, if◌then◌else◌, is_none, slice_get, Option, Some, None}
+use Rattle.std.specs.List.{enumerate_from, filter_map}
+use Rattle.std.specs.Option.{option_or}
+use Rattle.std.specs.Str.{bytes_eq}
 use Rattle.rst_transform_names.specs.declared.names.NameEntry.{NameEntry}
 use Rattle.rst_transform_names.specs.declared.names.Holder.TheVariants.{Element as HeldBy}
 use Rattle.rst_transform_names.specs.declared.names.Names.{Names as KnownNames}
 use Rattle.rst_transform_names.specs.declared.names.Strength.TheVariants.{Explicit}
-use Rattle.rst_transform_names.specs.Names.{held_by, Knows, SameUris}
+use Rattle.rst_transform_names.specs.Names.{held_by}
 use Rattle.rst_tree.specs.declared.attrs.Attr.{Attr}
 use Rattle.rst_tree.specs.declared.attrs.Value.TheVariants.{List as Listed}
 use Rattle.rst_tree.specs.declared.key.Key.TheVariants.{Ids, Names, Serial}
@@ -35,33 +38,45 @@ use Rattle.rst_transform_work.specs.Lists.{at_place}
 abbrev pub own_number : Node → Option (List ℕ) → Option (List ℕ)
 own_number node label = if is_order Numbers (footnote_order node) then label else None
 
--- an element holds a name, by what is known of the name, and by the element's serial number and its id; where the name is known, or
--- the element has no such number or id, nothing changes
-abbrev pub HoldsName : List ℕ → Option NameEntry → Option ℕ → Option (List ℕ) → KnownNames → KnownNames → Type 0
-HoldsName name None (Some serial) (Some id) before after = Knows name (Some (record { holder = HeldBy serial; strength = Explicit; id = id })) before after × SameUris before after
-HoldsName name _ _ _ before after = after ≡ before
+-- what is known of a name that an element holds, by its serial number and its id; nothing where it has no such number or id
+abbrev pub entry_by : Option ℕ → Option (List ℕ) → Option NameEntry
+entry_by (Some serial) (Some id) = Some (record { holder = HeldBy serial; strength = Explicit; id = id; uri = None })
+entry_by _ _ = None
 
--- an element holds its number, if it gets one
-abbrev pub HoldsNumber : Option (List ℕ) → Node → KnownNames → KnownNames → Type 0
-HoldsNumber None node before after = after ≡ before
-HoldsNumber (Some number) node before after = HoldsName number (held_by before number) (number_said Serial node) (slice_get (list_said Ids node) 0) before after
+-- what is known of a name, by an element that may get this number: that it holds it, if the name is that number
+abbrev pub entry_of : List ℕ → Option (List ℕ) → Node → Option NameEntry
+entry_of name (Some number) node = if bytes_eq name number then entry_by (number_said Serial node) (slice_get (list_said Ids node) 0) else None
+entry_of name None node = None
 
--- each of some elements, of which the first is at a place, holds its number
-abbrev pub HoldNumbers : ℕ → List (Option (List ℕ)) → List Held → KnownNames → KnownNames → Type 0
-HoldNumbers place labels [] before after = after ≡ before
-HoldNumbers place labels (one ∷ more) before after =
-    (next : KnownNames) × HoldsNumber (own_number one.0 (at_place labels place)) one.0 before next × HoldNumbers (place + 1) labels more next after
+-- the same of the element at a place, by the labels of all
+abbrev pub entry_at : List (Option (List ℕ)) → List ℕ → ℕ × Held → Option NameEntry
+entry_at labels name (place, one) = entry_of name (own_number one.0 (at_place labels place)) one.0
+
+-- what is known of a name that elements, each at its place, hold as their numbers: what the first such element says
+abbrev pub numbered_entry : List (Option (List ℕ)) → List (ℕ × Held) → List ℕ → Option NameEntry
+numbered_entry labels placed name = slice_get (filter_map (entry_at labels name) placed) 0
+
+-- of each name is known what was known before, or else this
+abbrev pub KnowsOrElse : (List ℕ → Option NameEntry) → KnownNames → KnownNames → Type 0
+KnowsOrElse said before after = (name : List ℕ) → held_by after name ≡ option_or (held_by before name) (said name)
+
+-- each of some elements holds its number, if it gets one and the name isn't known
+abbrev pub HoldNumbers : List (Option (List ℕ)) → List Held → KnownNames → KnownNames → Type 0
+HoldNumbers labels linked = KnowsOrElse (numbered_entry labels (enumerate_from 0 linked))
 
 -- ---- the references that find no footnote
 
-abbrev pub is_left_over : Order → Node → Option ℕ → Bool
-is_left_over order node found = is_order order (reference_order node) && is_none found
+-- the element at a place is a reference of an order, and finds none
+abbrev pub is_left_over : Order → List (Option ℕ) → ℕ × Held → Bool
+is_left_over order found (place, one) = is_order order (reference_order one.0) && is_none (at_place found place)
 
--- the line of the first reference of an order that finds none, among elements of which the first is at a place
-abbrev pub first_left_over : Order → ℕ → List (Option ℕ) → List Held → Option ℕ
-first_left_over order place found [] = None
-first_left_over order place found (one ∷ more) =
-    if is_left_over order one.0 (at_place found place) then Some (line_of one.0) else first_left_over order (place + 1) found more
+-- the first such element
+abbrev pub left_over : Order → List (Option ℕ) → List (ℕ × Held) → Option (ℕ × Held)
+left_over order found placed = find (is_left_over order found) placed
+
+-- the line of the first reference of an order that finds none
+abbrev pub first_left_over : Order → List (Option ℕ) → List Held → Option ℕ
+first_left_over order found linked = option_map (λ p. line_of p.1.0) (left_over order found (enumerate_from 0 linked))
 
 -- what the message on them says, where there are so many footnotes of the order
 abbrev pub too_many : Order → ℕ → List ℕ
@@ -118,20 +133,22 @@ outcome_by linked labels place one (Some footnote) report = referring linked lab
 outcome_by linked labels place one None (Some report) = Fails report
 outcome_by linked labels place one None None = labelled labels place one
 
--- what becomes of some elements, of which the first is at a place, by what they find and the messages on the two orders
-abbrev pub outcomes_from : List Held → List (Option (List ℕ)) → List (Option ℕ) → Option ℕ → Option ℕ → ℕ → List Held → List Outcome
-outcomes_from linked labels found numbers symbols place [] = []
-outcomes_from linked labels found numbers symbols place (one ∷ more) =
-    outcome_by linked labels place one (at_place found place) (report_of (reference_order one.0) numbers symbols) ∷ outcomes_from linked labels found numbers symbols (place + 1) more
+-- the same of the element at a place, by what all find and the messages on the two orders
+abbrev pub outcome_at : List Held → List (Option (List ℕ)) → List (Option ℕ) → Option ℕ → Option ℕ → ℕ × Held → Outcome
+outcome_at linked labels found numbers symbols (place, one) = outcome_by linked labels place one (at_place found place) (report_of (reference_order one.0) numbers symbols)
+
+-- what becomes of all
+abbrev pub outcomes_by : List Held → List (Option (List ℕ)) → List (Option ℕ) → Option ℕ → Option ℕ → List Outcome
+outcomes_by linked labels found numbers symbols = map (outcome_at linked labels found numbers symbols) (enumerate_from 0 linked)
 
 abbrev pub outcomes : List Held → Option ℕ → Option ℕ → List Outcome
-outcomes linked numbers symbols = outcomes_from linked (labels linked) (found_by_order linked) numbers symbols 0 linked
+outcomes linked = outcomes_by linked (labels linked) (found_by_order linked)
 
 -- ---- the whole
 
 -- the message on the references of an order that find none
 abbrev pub TellsOf : Order → List Held → Work → Work → Option ℕ → Type 0
-TellsOf order linked before after report = TellsLeftOver (first_left_over order 0 (found_by_order linked) linked) order (length (in_order order linked)) before after report
+TellsOf order linked before after report = TellsLeftOver (first_left_over order (found_by_order linked) linked) order (length (in_order order linked)) before after report
 
 -- What becomes of the linked elements, and the document before and after: the numbers are held as names, then come the messages on the
 -- references left over, those to numbered footnotes first, and then what fails becomes a problematic.
@@ -141,7 +158,7 @@ pub record ChangesFootnotes (linked : List Held) (before after : Work) (changes 
   pub symbols : Option ℕ
   pub between : Work
   pub reported : Work
-  pub hold : HoldNumbers 0 (labels linked) linked before.names names
+  pub hold : HoldNumbers (labels linked) linked before.names names
   pub tells_numbers : TellsOf Numbers linked (record before { names = names }) between numbers
   pub tells_symbols : TellsOf Symbols linked between reported symbols
   pub settles : Settles linked (outcomes linked numbers symbols) reported after changes

@@ -1,12 +1,11 @@
 //! Footnotes.
-ghost use Rattle.std.specs.Prelude.{◌≡◌, MatchOption, None, Some, length, map, slice_get};
-ghost use Rattle.rst_transform_names.specs.Names.{held_by};
-ghost use Rattle.rst_tree.specs.declared.key.Key.TheVariants.{Ids, Serial};
+ghost use Rattle.std.specs.Prelude.{◌≡◌, MatchOption, None, Some, false, length, map, slice_get};
 ghost use Rattle.rst_tree.specs.Faults.{Gives};
-ghost use Rattle.rst_transform_footnotes.specs.Footnotes.{first_left_over, is_label, label_in, labelled, lead_to_footnote, outcome_by, outcomes_from, own_number, referring, report_of, too_many, with_number, ChangesFootnotes, HoldNumbers, HoldsName, HoldsNumber, NumbersFootnotes, TellsLeftOver};
+ghost use Rattle.rst_tree.specs.Walk.{node_items};
+ghost use Rattle.rst_tree_index.specs.Kinds.{kinds_of, HasNoNewLinkKinds};
+ghost use Rattle.rst_transform_footnotes.specs.Footnotes.{entry_of, first_left_over, is_label, label_in, labelled, lead_to_footnote, outcome_by, outcomes_by, own_number, referring, report_of, too_many, with_number, ChangesFootnotes, HoldNumbers, KnowsOrElse, NumbersFootnotes, TellsLeftOver};
 ghost use Rattle.rst_transform_links.specs.Linkings.{held, linked_of};
 ghost use Rattle.rst_transform_links.specs.FootnoteOrders.{in_order, reference_order};
-ghost use Rattle.rst_transform_work.specs.Reading.{list_said, number_said};
 ghost use Rattle.rst_transform_work.specs.Lists.{at_place};
 
 use crate::footnote_labels::labels;
@@ -56,8 +55,22 @@ use std::alloc::Global;
 ///         y
 /// ```
 ///
-/// References left over become problematics of one ERROR for each of the two numberings.
-pub fn footnotes(alloc: Global, mut work: Work) -> Result<Work, TreeFault>
+/// References left over become problematics of one ERROR for each of the two numberings. `has` says whether the document may have a
+/// footnote or a reference to one; without them it stays as it is.
+pub fn footnotes(alloc: Global, work: Work, has: bool) -> Result<Work, TreeFault>
+    requires has { has ≡ false → (kinds_of (node_items work.root)).footnotes ≡ false }
+    ensures footnotes { Gives (NumbersFootnotes work) result }
+    ensures kinds { Gives (λ after. HasNoNewLinkKinds (node_items work.root) (node_items after.root)) result }
+{
+    if !has {
+        return Ok(work);
+    }
+    let work = numbered(alloc, work)?;
+    Ok(work)
+}
+
+/// Numbers the footnotes of a document, and lets the references find them.
+fn numbered(alloc: Global, mut work: Work) -> Result<Work, TreeFault>
     ensures { Gives (NumbersFootnotes work) result }
 {
     let root = take_root(alloc, &mut work);
@@ -127,7 +140,7 @@ fn hold_numbers(
     linked: &[Linked<'_>],
     labels: &[Option<Text>],
 ) -> Result<(), TreeFault>
-    ensures { Gives (λ _. HoldNumbers 0 labels.now (map held linked.now) names.old names.new) result }
+    ensures { Gives (λ _. HoldNumbers labels.now (map held linked.now) names.old names.new) result }
 {
     for (place, one) in linked.iter().enumerate() {
         hold_own(alloc, names, one.element, labels, place)?;
@@ -143,7 +156,7 @@ fn hold_own(
     labels: &[Option<Text>],
     place: usize,
 ) -> Result<(), TreeFault>
-    ensures { Gives (λ _. HoldsNumber (own_number element.now (at_place labels.now place)) element.now names.old names.new) result }
+    ensures { Gives (λ _. KnowsOrElse (λ name. entry_of name (own_number element.now (at_place labels.now place)) element.now) names.old names.new) result }
 {
     let Some(number) = own_number(element, labels, place) else {
         return Ok(());
@@ -158,7 +171,7 @@ fn hold_number(
     number: &str,
     footnote: &Node,
 ) -> Result<(), TreeFault>
-    ensures { Gives (λ _. HoldsName number.now (held_by names.old number.now) (number_said Serial footnote.now) (slice_get (list_said Ids footnote.now) 0) names.old names.new) result }
+    ensures { Gives (λ _. KnowsOrElse (λ name. entry_of name (Some number.now) footnote.now) names.old names.new) result }
 {
     if let Some(_) = names.get(number) {
         return Ok(());
@@ -173,13 +186,14 @@ fn hold_number(
         holder: Holder::Element(serial),
         strength: Strength::Explicit,
         id: Text::from_str(alloc, id)?,
+        uri: None,
     };
     names.hold(alloc, number, held)
 }
 
 /// The line of the first reference of an order that finds no footnote, if there is such.
 fn first_left_over(linked: &[Linked<'_>], found: &[Option<usize>], order: Order) -> Option<usize>
-    ensures { result ≡ first_left_over order 0 found.now (map held linked.now) }
+    ensures { result ≡ first_left_over order found.now (map held linked.now) }
 {
     for (place, one) in linked.iter().enumerate() {
         if order.is(reference_order(one.element)) && at_place(found, place).is_none() {
@@ -208,7 +222,7 @@ fn leftover(
     found: &[Option<usize>],
     order: Order,
 ) -> Result<Option<usize>, TreeFault>
-    ensures { Gives (TellsLeftOver (first_left_over order 0 found.now (map held linked.now)) order (length (in_order order (map held linked.now))) work.old work.new) result }
+    ensures { Gives (TellsLeftOver (first_left_over order found.now (map held linked.now)) order (length (in_order order (map held linked.now))) work.old work.new) result }
 {
     let Some(line) = first_left_over(linked, found, order) else {
         return Ok(None);
@@ -239,7 +253,7 @@ fn outcomes(
     numbers: Option<usize>,
     symbols: Option<usize>,
 ) -> Result<Vec<Outcome>, TreeFault>
-    ensures { Gives (λ list. list.items ≡ outcomes_from (map held linked.now) labels.now found.now numbers symbols 0 (map held linked.now)) result }
+    ensures { Gives (λ list. list.items ≡ outcomes_by (map held linked.now) labels.now found.now numbers symbols) result }
 {
     let mut list = Vec::with_capacity(alloc, linked.len())?;
     for (place, one) in linked.iter().enumerate() {

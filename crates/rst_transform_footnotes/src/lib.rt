@@ -3,3 +3,4 @@
 
 mod footnote_labels;
 pub mod footnotes;
+pub mod laws;

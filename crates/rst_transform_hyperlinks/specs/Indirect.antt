@@ -5,7 +5,7 @@ use Rattle.rst_transform_names.specs.declared.names.NameEntry.{NameEntry}
 use Rattle.rst_transform_names.specs.declared.names.Holder.{Holder}
 use Rattle.rst_transform_names.specs.declared.names.Holder.TheVariants.{Nobody, Element as Numbered, Unregistered}
 use Rattle.rst_transform_names.specs.declared.names.Names.{Names}
-use Rattle.rst_transform_names.specs.Names.{held_by, kept_for}
+use Rattle.rst_transform_names.specs.Names.{held_by}
 use Rattle.rst_tree.specs.declared.key.Key.TheVariants.{Anonymous, OwnName, Refname}
 use Rattle.rst_tree.specs.declared.node.Node.{Node}
 use Rattle.rst_tree.specs.declared.node.Node.TheVariants.{Element, Text}
@@ -40,7 +40,7 @@ has_holder Nobody = false
 has_holder (Numbered serial) = true
 has_holder Unregistered = true
 
--- a way ends where a name leads: its holder, the URI that was kept for it and the id of the element that brought it
+-- a way ends where a name leads: its holder, and the URI and the id of the element that brought it
 abbrev pub ends_at_name : Option Node → Option (List ℕ) → List ℕ → Step
 ends_at_name holder uri id = Ends (Leads (name_lead holder uri id))
 
@@ -54,13 +54,13 @@ step_to linked None uri id = ends_at_name None uri id
 step_to linked (Some place) uri id = step_to_one place (option_map (λ one. one.0) (slice_get linked place)) uri id
 
 -- the first step to a name, by what is known of it
-abbrev pub step_by : List Held → (Holder → Option ℕ) → Option (List ℕ) → List ℕ → Option NameEntry → Step
-step_by linked places uri name None = Ends (Missing name)
-step_by linked places uri name (Some known) = if has_holder known.holder then step_to linked (places known.holder) uri known.id else Ends (Missing name)
+abbrev pub step_by : List Held → (Holder → Option ℕ) → List ℕ → Option NameEntry → Step
+step_by linked places name None = Ends (Missing name)
+step_by linked places name (Some known) = if has_holder known.holder then step_to linked (places known.holder) known.uri known.id else Ends (Missing name)
 
 -- the first step to what a name means among linked elements, by the places of the holders
 abbrev pub first_step : Names → (Holder → Option ℕ) → List Held → List ℕ → Step
-first_step names places linked name = step_by linked places (kept_for names name) name (held_by names name)
+first_step names places linked name = step_by linked places name (held_by names name)
 
 -- the first step from an element, if it is an indirect target
 abbrev pub own_step : Names → (Holder → Option ℕ) → List Held → Node → Option Step

@@ -1,6 +1,8 @@
 //! Anonymous references.
-ghost use Rattle.std.specs.Prelude.{◌≡◌, drop, filter, length, map};
+ghost use Rattle.std.specs.Prelude.{◌≡◌, drop, false, filter, length, map};
 ghost use Rattle.rst_tree.specs.Faults.{Gives};
+ghost use Rattle.rst_tree.specs.Walk.{node_items};
+ghost use Rattle.rst_tree_index.specs.Kinds.{kinds_of, HasNoNewLinkKinds};
 ghost use Rattle.rst_transform_hyperlinks.specs.Anonymous.{agree, agreed, failing, first_lead, first_line, is_anonymous_reference, is_anonymous_target, lead_to, mismatch, paired, with_anonymous, Agrees, ChangesAnonymous, IsAnonymous, ReportsMismatch};
 ghost use Rattle.rst_transform_links.specs.Linkings.{held};
 
@@ -32,11 +34,16 @@ use std::alloc::Global;
 /// ```
 ///
 /// One through an indirect target is left to the next transform. If there are more of the ones than of the others, there is
-/// one ERROR, and each reference becomes a problematic.
-pub fn anonymous(alloc: Global, mut work: Work) -> Result<Work, TreeFault>
-    ensures done { Gives (IsAnonymous work) result }
+/// one ERROR, and each reference becomes a problematic. `has` says whether the document may have an anonymous element.
+pub fn anonymous(alloc: Global, mut work: Work, has: bool) -> Result<Work, TreeFault>
+    requires has { has ≡ false → (kinds_of (node_items work.root)).anonymous ≡ false }
+    ensures anonymous { Gives (IsAnonymous work) result }
     ensures agrees { Agrees work.root → Gives (λ done. done ≡ with_anonymous work) result }
+    ensures kinds { Gives (λ after. HasNoNewLinkKinds (node_items work.root) (node_items after.root)) result }
 {
+    if !has {
+        return Ok(work);
+    }
     let root = take_root(alloc, &mut work);
     let changes = changes_of(alloc, &mut work, &root)?;
     put_back(alloc, &mut work, root, changes)?;

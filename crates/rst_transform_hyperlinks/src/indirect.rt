@@ -1,9 +1,11 @@
 //! Indirect targets.
-ghost use Rattle.std.specs.Prelude.{◌≡◌, ◌++◌, ℕ, drop, is_none, is_some, length, map, slice_get, unwrap_or, MatchOption, None, Some, [], true};
+ghost use Rattle.std.specs.Prelude.{◌≡◌, ◌++◌, ℕ, drop, false, is_none, is_some, length, map, slice_get, unwrap_or, MatchOption, None, Some, [], true};
 ghost use Rattle.std.specs.List.{list_all};
 ghost use Rattle.rst_tree.specs.Faults.{Gives};
+ghost use Rattle.rst_tree.specs.Walk.{node_items};
 ghost use Rattle.rst_tree.specs.declared.key.Key.TheVariants.{OwnName};
-ghost use Rattle.rst_transform_names.specs.Names.{held_by, kept_for};
+ghost use Rattle.rst_tree_index.specs.Kinds.{kinds_of, HasNoNewLinkKinds};
+ghost use Rattle.rst_transform_names.specs.Names.{held_by};
 ghost use Rattle.rst_transform_links.specs.Holders.{holding, place_at};
 ghost use Rattle.rst_transform_hyperlinks.specs.Indirect.{anonymous_from, circle_text, ends_at_name, failure_of, first_step, has_holder, indirect_name, is_reference_node, led, missing_text, named_place, next_count, outcome_at, outcome_through, outcomes_from, outcomes_in, own_step, report_place, reports_from, step_to, steps_of, targets_from, targets_of, with_indirect, with_report, with_reports, ChangesIndirect, IsIndirect, NoneFails};
 ghost use Rattle.rst_transform_hyperlinks.specs.declared.ways.Answer.TheVariants.{Missing};
@@ -50,11 +52,16 @@ use std::alloc::Global;
 ///
 /// References by name are left to the last of these transforms. A target whose way is a circle, or ends at a name that no
 /// element holds, gives an ERROR, and the references through it become problematics of that message: message by message,
-/// under each in the order of the document.
-pub fn indirect(alloc: Global, mut work: Work) -> Result<Work, TreeFault>
-    ensures done { Gives (IsIndirect work) result }
+/// under each in the order of the document. `has` says whether the document may have an indirect target.
+pub fn indirect(alloc: Global, mut work: Work, has: bool) -> Result<Work, TreeFault>
+    requires has { has ≡ false → (kinds_of (node_items work.root)).indirect ≡ false }
+    ensures indirect { Gives (IsIndirect work) result }
     ensures led { NoneFails work.root work → Gives (λ done. done ≡ with_indirect work) result }
+    ensures kinds { Gives (λ after. HasNoNewLinkKinds (node_items work.root) (node_items after.root)) result }
 {
+    if !has {
+        return Ok(work);
+    }
     let root = take_root(alloc, &mut work);
     let changes = changes_of(alloc, &mut work, &root)?;
     put_back(alloc, &mut work, root, changes)?;
@@ -109,40 +116,32 @@ fn has_holder(known: &NameEntry) -> bool
 }
 
 /// A way that ends where a name leads.
-fn ends_at_name(
-    alloc: Global,
-    names: &Names,
-    name: &str,
-    known: &NameEntry,
-    holder: Option<&Node>,
-) -> Result<Step, TreeFault>
-    ensures { Gives (λ step. step ≡ ends_at_name (holding holder.entry) (kept_for names.now name.now) known.now.id) result }
+fn ends_at_name(alloc: Global, known: &NameEntry, holder: Option<&Node>) -> Result<Step, TreeFault>
+    ensures { Gives (λ step. step ≡ ends_at_name (holding holder.entry) known.now.uri known.now.id) result }
 {
-    let attr = lead_by_name(alloc, names, name, known, holder)?;
+    let attr = lead_by_name(alloc, known, holder)?;
     Ok(Step::Ends(Answer::Leads(attr)))
 }
 
 /// The first step to the holder of a name, at a place, if it is a linked element.
 fn step_to(
     alloc: Global,
-    names: &Names,
     linked: &[Linked<'_>],
-    name: &str,
     known: &NameEntry,
     place: Option<usize>,
 ) -> Result<Step, TreeFault>
-    ensures { Gives (λ step. step ≡ step_to (map held linked.now) place (kept_for names.now name.now) known.now.id) result }
+    ensures { Gives (λ step. step ≡ step_to (map held linked.now) place known.now.uri known.now.id) result }
 {
     let Some(place) = place else {
-        return ends_at_name(alloc, names, name, known, None);
+        return ends_at_name(alloc, known, None);
     };
     let Some(holder) = linked.get(place) else {
-        return ends_at_name(alloc, names, name, known, None);
+        return ends_at_name(alloc, known, None);
     };
     if is_indirect(holder.element) {
         return Ok(Step::To(place));
     }
-    ends_at_name(alloc, names, name, known, Some(holder.element))
+    ends_at_name(alloc, known, Some(holder.element))
 }
 
 /// The first step to what a name means.
@@ -161,14 +160,7 @@ fn first_step(
     if !has_holder(known) {
         return missing(alloc, name);
     }
-    let step = step_to(
-        alloc,
-        names,
-        linked,
-        name,
-        known,
-        holders.place(known.holder),
-    )?;
+    let step = step_to(alloc, linked, known, holders.place(known.holder))?;
     Ok(step)
 }
 

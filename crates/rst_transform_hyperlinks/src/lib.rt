@@ -3,4 +3,5 @@
 
 pub mod anonymous;
 pub mod indirect;
+pub mod laws;
 mod ways;

@@ -1,4 +1,9 @@
 pub mod Holding
 pub mod Idle
+pub mod LinkKinds
 pub mod Linking
+pub mod OneAnswer
+pub mod OneAnswerTurns
 pub mod SettlingLemmas
+pub mod StandingIn
+pub mod TurnsFound

@@ -13,7 +13,10 @@ use Rattle.rst_transform_work.specs.declared.work.Work.{Work}
 use Rattle.rst_transform_links.specs.Linkings.{Held}
 use Rattle.rst_transform_links.specs.Outcomes.{stays}
 use Rattle.rst_transform_work.specs.Problematics.{MakesProblematic}
-use Rattle.rst_transform_links.specs.Settling.{earlier_at, first_in, firsts, remaining_from, turns_from, Settles, TakesTurns}
+use Rattle.rst_transform_links.specs.Settling.{at_places, Settles, TakesTurns}
+use Rattle.rst_transform_links.specs.Turns.{earlier_at, first_in, firsts, is_free, turns_from, PutsInOrder}
+use Rattle.rst_transform_links.proofs.StandingIn.{free_remains}
+use Rattle.rst_transform_links.proofs.TurnsFound.{are_turns}
 use Rattle.rst_transform_work.specs.Lists.{at_place}
 
 -- the turn at a place among all is the first of those that are left there
@@ -27,13 +30,26 @@ none_at (None ∷ more) zero h = refl
 none_at (None ∷ more) (suc place) h = none_at more place h
 none_at (Some first ∷ more) place h = absurd (cc)
 
-all_remain_from : (around : List (Option ℕ)) (place : ℕ) (outcomes : List Outcome) → list_all is_none around ≡ true → remaining_from place around outcomes ≡ outcomes
+all_remain_from : (around : List (Option ℕ)) (place : ℕ) (outcomes : List Outcome) → list_all is_none around ≡ true → at_places (is_free around) place outcomes ≡ outcomes
 all_remain_from around place [] h = refl
 all_remain_from around place (outcome ∷ more) h = rw (none_at around place h) (ap (λ rest. outcome ∷ rest) (all_remain_from around (place + 1) more h))
 
 -- where no element stands in one that fails, all remain
-pub all_remain : (around : List (Option ℕ)) (outcomes : List Outcome) → list_all is_none around ≡ true → remaining_from 0 around outcomes ≡ outcomes
+pub all_remain : (around : List (Option ℕ)) (outcomes : List Outcome) → list_all is_none around ≡ true → at_places (is_free around) 0 outcomes ≡ outcomes
 all_remain around outcomes h = all_remain_from around 0 outcomes h
+
+-- what is found by places settles the outcomes
+pub settled_by_places : (linked : List Held) (outcomes : List Outcome) (before after : Work) (turns : List (ℕ × ℕ)) (settled changes : List Outcome) → PutsInOrder (turns_from 0 (length before.reports.items) (firsts [] outcomes linked) outcomes) turns
+    → TakesTurns turns before outcomes after settled → changes ≡ at_places (is_free (firsts [] outcomes linked)) 0 settled → Settles linked outcomes before after changes
+settled_by_places linked outcomes before after turns settled changes found takes changed = record {
+  turns = turns;
+  settled = settled;
+  remains = is_free (firsts [] outcomes linked);
+  are_turns = are_turns linked outcomes (length before.reports.items) turns found;
+  takes = takes;
+  remain = λ place within. free_remains linked outcomes place within;
+  changed = changed;
+}
 
 -- what stays is in nobody's way
 abbrev stays_if : Option Outcome → Bool
@@ -77,10 +93,6 @@ no_turns place reports around (Failed p ∷ more) h = absurd (cc)
 pub idle : (linked : List Held) (outcomes : List Outcome) (work : Work) → list_all stays outcomes ≡ true → Settles linked outcomes work work outcomes
 idle linked outcomes work h =
     let around : List (Option ℕ) = firsts [] outcomes linked in
-    record {
-      turns = [];
-      settled = outcomes;
-      are_turns = rw (no_turns 0 (length work.reports.items) around outcomes h) (IsPermutation-refl [], λ k d low high. absurd (omega (arith, high)));
-      takes = (refl, refl);
-      remaining = sym (all_remain around outcomes (no_firsts [] outcomes linked refl h));
-    }
+    settled_by_places linked outcomes work work [] outcomes outcomes
+    (rw (no_turns 0 (length work.reports.items) around outcomes h) (IsPermutation-refl [], λ k d low high. absurd (omega (arith, high))))
+    (refl, refl) (sym (all_remain around outcomes (no_firsts [] outcomes linked refl h)))

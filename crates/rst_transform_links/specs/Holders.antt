@@ -69,11 +69,11 @@ abbrev pub target_lead : Option Node → Option Attr
 target_lead None = None
 target_lead (Some node) = if is_target_node node then lead_of node else None
 
--- to the URI that was kept for a name, or else to an id
+-- to the URI of the target that brought a name, or else to an id
 abbrev pub kept_lead : Option (List ℕ) → List ℕ → Attr
 kept_lead (Some uri) id = attr Refuri (Text uri)
 kept_lead None id = attr Refid (Text id)
 
--- where a name leads: its holder, the URI that was kept for it and the id of the element that brought it
+-- where a name leads: its holder, and the URI and the id of the element that brought it
 abbrev pub name_lead : Option Node → Option (List ℕ) → List ℕ → Attr
 name_lead holder uri id = unwrap_or (target_lead holder) (kept_lead uri id)

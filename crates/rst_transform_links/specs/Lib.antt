@@ -4,3 +4,4 @@ pub mod Links
 pub mod FootnoteOrders
 pub mod Outcomes
 pub mod Settling
+pub mod Turns

@@ -4,16 +4,14 @@ ghost use Rattle.rst_tree.specs.declared.attrs.Value.TheVariants.{Text as Words}
 ghost use Rattle.rst_tree.specs.declared.key.Key.TheVariants.{Serial};
 ghost use Rattle.rst_tree.specs.Attributes.{attr};
 ghost use Rattle.rst_tree.specs.Faults.{Gives};
-ghost use Rattle.rst_tree.specs.PrintedAttributes.{given};
 ghost use Rattle.rst_transform_names.specs.declared.names.Holder.{Holder};
-ghost use Rattle.rst_transform_names.specs.Names.{kept_for};
 ghost use Rattle.rst_transform_links.specs.Holders.{lead_of};
 ghost use Rattle.rst_transform_links.specs.Holders.{holder_place, holding, is_target_node, kept_lead, name_lead, place_at, target_lead, with_place};
 ghost use Rattle.rst_transform_links.specs.Linkings.{held};
 ghost use Rattle.rst_transform_work.specs.Reading.{number_said};
 
 use crate::links::Linked;
-use rst_transform_names::{Holder, NameEntry, Names};
+use rst_transform_names::{Holder, NameEntry};
 use rst_transform_work::{number_said, text_said};
 use rst_tree::{Entry, Key, Node, Tag, Text, TreeFault, Value};
 use std::alloc::Global;
@@ -118,13 +116,14 @@ pub fn is_target(node: &Node) -> bool
     }
 }
 
-/// Where a name leads that no target leads for: to the URI that was kept for it, or else to an id.
-fn kept_lead(alloc: Global, uri: Option<&str>, id: &str) -> Result<Entry, TreeFault>
-    ensures { Gives (λ lead. lead ≡ kept_lead (given uri.entry) id.now) result }
+/// Where a name leads that no target in the document leads for: to the URI of the target that brought it, or else to the id of the
+/// element that did.
+fn kept_lead(alloc: Global, held: &NameEntry) -> Result<Entry, TreeFault>
+    ensures { Gives (λ lead. lead ≡ kept_lead held.now.uri held.now.id) result }
 {
-    match uri {
-        Some(uri) => text_attr(alloc, Key::Refuri, uri),
-        None => text_attr(alloc, Key::Refid, id),
+    match &held.uri {
+        Some(uri) => text_attr(alloc, Key::Refuri, uri.as_str()),
+        None => text_attr(alloc, Key::Refid, held.id.as_str()),
     }
 }
 
@@ -132,16 +131,14 @@ fn kept_lead(alloc: Global, uri: Option<&str>, id: &str) -> Result<Entry, TreeFa
 /// id of the element that brought the name. A target with a URI leads there though it has left the document.
 pub fn lead_by_name(
     alloc: Global,
-    names: &Names,
-    name: &str,
     held: &NameEntry,
     holder: Option<&Node>,
 ) -> Result<Entry, TreeFault>
-    ensures { Gives (λ lead. lead ≡ name_lead (holding holder.entry) (kept_for names.now name.now) held.now.id) result }
+    ensures { Gives (λ lead. lead ≡ name_lead (holding holder.entry) held.now.uri held.now.id) result }
 {
     if let Some(lead) = target_lead(alloc, holder)? {
         return Ok(lead);
     }
-    let lead = kept_lead(alloc, names.kept_uri(name), held.id.as_str())?;
+    let lead = kept_lead(alloc, held)?;
     Ok(lead)
 }

@@ -3,6 +3,7 @@
 
 mod footnote_orders;
 mod holders;
+pub mod laws;
 mod links;
 mod settling;
 

@@ -4,8 +4,8 @@ ghost use Rattle.std.specs.List.{list_all};
 ghost use Rattle.rst_tree.specs.Faults.{Gives};
 ghost use Rattle.rst_transform_links.specs.Linkings.{held};
 ghost use Rattle.rst_transform_links.specs.Outcomes.{stays};
-ghost use Rattle.rst_transform_links.specs.Settling.{earlier, first_in, firsts, remaining_from, still_stands, turn_of, turns_from, AreTurns, Settles, TakesTurns};
-ghost use Rattle.rst_transform_work.specs.Lists.{at_place};
+ghost use Rattle.rst_transform_links.specs.Settling.{at_places, Settles, TakesTurns};
+ghost use Rattle.rst_transform_links.specs.Turns.{earlier, first_in, firsts, is_free, still_stands, turn_of, turns_from, PutsInOrder};
 
 use crate::links::{Changes, Linked, Outcome};
 use rst_transform_work::{Work, at_place};
@@ -115,7 +115,7 @@ fn turns(
     outcomes: &[Outcome],
     around: &[Option<usize>],
 ) -> Result<Vec<(usize, usize)>, TreeFault>
-    ensures { Gives (λ turns. AreTurns (turns_from 0 reports around.now outcomes.now) turns.items) result }
+    ensures { Gives (λ turns. PutsInOrder (turns_from 0 reports around.now outcomes.now) turns.items) result }
 {
     let mut turns = Vec::with_capacity(alloc, outcomes.len())?;
     for (place, outcome) in outcomes.iter().enumerate() {
@@ -168,7 +168,7 @@ fn remaining(
     outcomes: Vec<Outcome>,
     around: &[Option<usize>],
 ) -> Result<Changes, TreeFault>
-    ensures { Gives (λ changes. changes ≡ remaining_from 0 around.now outcomes.items) result }
+    ensures { Gives (λ changes. changes ≡ at_places (is_free around.now) 0 outcomes.items) result }
 {
     if do_all_remain(around) {
         return Ok(Changes::of(outcomes));

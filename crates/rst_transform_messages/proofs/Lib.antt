@@ -1,4 +1,4 @@
-pub mod Leaving
 pub mod Listing
 pub mod NoMessages
+pub mod OneAnswer
 pub mod Showing

@@ -1,5 +1,6 @@
 -- A document without messages is without them once it is registered.
-use Rattle.std.proofs.Common.{◌≡◌, ℕ, List, [], ◌∷◌, ◌++◌, Bool, true, false, refl, ap, sym, ◌∙◌}
+use Rattle.std.proofs.Common.{◌≡◌, ℕ, List, [], ◌∷◌, ◌++◌, Bool, true, false, not, ◌==◌, length, refl, ap, sym, ◌∙◌, true≢false, arith, eqb-true}
+use Rattle.std.specs.VecDeque.{deque_items}
 use Rattle.std.specs.Prelude.{◌||◌, if◌then◌else◌}
 use Rattle.std.specs.List.{list_any}
 use Rattle.std.proofs.lemmas.List.Folds.{list_any-append}
@@ -13,7 +14,9 @@ use Rattle.rst_tree_index.specs.Kinds.{is_message, kinds_of}
 use Rattle.rst_tree_index.specs.Marks.{heeded_next, heeded_out}
 use Rattle.rst_tree_index.specs.Registered.{is_registered}
 use Rattle.rst_transform_names.specs.declared.registration.Registered.{Registered}
-use Rattle.rst_transform_names.specs.Registering.{IsRegistered}
+use Rattle.rst_transform_names.proofs.NoNameMessages.{without_name_messages}
+use Rattle.rst_transform_names.specs.NameMessages.{with_name_messages}
+use Rattle.rst_transform_names.specs.Registering.{written, IsRegistered}
 use Rattle.rst_transform_names.specs.Written.{given, left_behind, with_given, Given}
 use Rattle.rst_transform_messages.specs.MessagesIn.{message_said, messages_among, messages_in}
 use Rattle.rst_transform_messages.specs.Messages.{Numbered}
@@ -51,8 +54,17 @@ given_tag g x = by (is_registered x)
     by true = refl
     by false = refl
 
+none_of : {X : Type 0} (xs : List X) → not (length xs == 0) ≡ false → xs ≡ []
+none_of [] none = refl
+none_of (x ∷ xs) none = by (length (x ∷ xs) == 0) refl none
+  where
+    by : (b : Bool) → (length (x ∷ xs) == 0) ≡ b → not b ≡ false → x ∷ xs ≡ []
+    by true is h = absurd (omega (arith, eqb-true (length (x ∷ xs)) 0 is))
+    by false is h = absurd (true≢false h)
+
 -- a document that has none, and in which none was put, has none once it is registered
 pub none_registered : (messages : ℕ) (document : Node) (done : Registered) → IsRegistered messages document done → done.has_name_messages ≡ false → (kinds_of (node_items document)).messages ≡ false → messages_in done.root ≡ []
 none_registered messages document done is has_none none =
-    ap messages_in (is.root has_none)
+    let empty : deque_items is.registry.name_messages.queue ≡ [] = none_of _ (sym is.has_name_messages ∙ has_none) in
+    ap messages_in (is.root ∙ ap (λ queue. with_name_messages queue (written is.registry document)) empty ∙ without_name_messages (written is.registry document))
     ∙ in_none (heeded_next is_registered left_behind) (heeded_out is_registered with_given) given_tag (given is.registry.standings.items is.registry.known_messages.numbers.items is.registry.known_messages.messages.items) document none

@@ -14,10 +14,9 @@ use Rattle.rst_tree.specs.declared.tag.Tag.{Tag}
 use Rattle.rst_tree.specs.Forest.{Forest, bare, element, words}
 use Rattle.rst_tree.specs.Nodes.{forest_of, nodes_of}
 use Rattle.rst_tree.specs.Tree.{text_all, text_in}
-use Rattle.rst_transform_messages.proofs.Leaving.{within_none}
 use Rattle.rst_transform_messages.specs.declared.filter.Fate.TheVariants.{Stays, BecomesText, Vanishes}
 use Rattle.rst_transform_messages.specs.Filtered.{fate, filtered, is_unexplained, node_fate}
-use Rattle.rst_transform_messages.specs.Shown.{is_below, may_stay, are_shown, are_within}
+use Rattle.rst_transform_messages.specs.Shown.{is_below, may_stay, are_shown}
 
 -- what is left of nodes without the messages below the report level
 abbrev pub remaining : Threshold → List Node → List Node
@@ -69,7 +68,7 @@ pub record Leaves (report : Threshold) (shown : ℕ → Bool) (old new : Node) :
   pub stays : may_stay report new ≡ true
   pub alone : kept report shown (old ∷ []) ≡ new ∷ []
 
-pub text_leaves : (report : Threshold) (shown : ℕ → Bool) (old : Node) (t : List ℕ) → old ≡ Text t → Leaves report shown old (Text t)
+pub text_leaves : (report : Threshold) (shown : ℕ → Bool) (old : Node) (t : List ℕ) → old ≡ Text t → Leaves report shown old old
 text_leaves report shown old t is = rw is (record { stays = refl; alone = refl })
 
 pub becoming_leaves : (report : Threshold) (shown : ℕ → Bool) (old : Node) (t : List ℕ) → BecomesText ≡ node_fate report shown old → t ≡ text_in old → Leaves report shown old (Text t)
@@ -93,15 +92,14 @@ vanishes_alone : (report : Threshold) (shown : ℕ → Bool) (old : Node) → Va
 vanishes_alone report shown (Text t) gone = cc
 vanishes_alone report shown (Element t a c l) gone = rw (vanishing (is_below report t a) (is_unexplained shown t a) gone) refl
 
--- nodes filtered in place: before place i, those that may stay are what is left in the end, and whether that fits is known; some leave, or all are left
-pub record Sifting (report : Threshold) (shown : ℕ → Bool) (levels : ℕ) (old now : Forest) (fit leaves : Bool) (i : ℕ) : Type 0 where
+-- nodes filtered in place: before place i, those that may stay are what is left in the end; some leave, or all are left
+pub record Sifting (report : Threshold) (shown : ℕ → Bool) (old now : Forest) (leaves : Bool) (i : ℕ) : Type 0 where
   pub same : Same old now i
   pub front : remaining report (take i (nodes_of now)) ≡ kept report shown (take i (nodes_of old))
-  pub fit_is : fit ≡ are_within levels (forest_of (remaining report (take i (nodes_of now))))
   pub all : leaves ≡ false → remaining report (take i (nodes_of now)) ≡ take i (nodes_of now)
 
-pub Sifting-init : (report : Threshold) (shown : ℕ → Bool) (levels : ℕ) (f : Forest) → Sifting report shown levels f f true false 0
-Sifting-init report shown levels f = record { same = Same-init f; front = refl; fit_is = sym (within_none levels); all = λ h. refl }
+pub Sifting-init : (report : Threshold) (shown : ℕ → Bool) (f : Forest) → Sifting report shown f f false 0
+Sifting-init report shown f = record { same = Same-init f; front = refl; all = λ h. refl }
 
 taken_more : (now : Forest) (i : ℕ) (new : Node) → i < length (nodes_of now) → take (i + 1) (nodes_of (forest_of (set (nodes_of now) i new))) ≡ take i (nodes_of now) ++ new ∷ []
 taken_more now i new fits = ap (take (i + 1)) (nodes_of-forest_of (set (nodes_of now) i new)) ∙ take_more_set (nodes_of now) i new fits
@@ -115,30 +113,27 @@ kept_taken report shown old now i child same fits is =
     ap (kept report shown) (take_more (nodes_of old) i child within ∙ ap (λ x. take i (nodes_of old) ++ x ∷ []) (sym at)) ∙ kept_more report shown (take i (nodes_of old)) child
 
 -- one more that stays
-pub Sifting-more : (report : Threshold) (shown : ℕ → Bool) (levels : ℕ) (old now : Forest) (fit fit' leaves : Bool) (i : ℕ) (child new : Node) → Sifting report shown levels old now fit leaves i → i < length (nodes_of now)
-    → child ≡ get_or (nodes_of now) i child → Leaves report shown child new → fit' ≡ are_within levels (forest_of (remaining report (take i (nodes_of now)) ++ new ∷ []))
-    → Sifting report shown levels old (forest_of (set (nodes_of now) i new)) fit' leaves (i + 1)
-Sifting-more report shown levels old now fit fit' leaves i child new s fits is becomes fit_is =
+pub Sifting-more : (report : Threshold) (shown : ℕ → Bool) (old now : Forest) (leaves : Bool) (i : ℕ) (child new : Node) → Sifting report shown old now leaves i → i < length (nodes_of now)
+    → child ≡ get_or (nodes_of now) i child → Leaves report shown child new → Sifting report shown old (forest_of (set (nodes_of now) i new)) leaves (i + 1)
+Sifting-more report shown old now leaves i child new s fits is becomes =
     let ns = nodes_of now in
     let front : remaining report (take (i + 1) (nodes_of (forest_of (set ns i new)))) ≡ remaining report (take i ns) ++ new ∷ [] = ap (remaining report) (taken_more now i new fits) ∙ remaining_more report (take i ns) new becomes.stays in
     record {
       same = Same-more old now i new s.same fits;
       front = front ∙ ap (λ xs. xs ++ new ∷ []) s.front ∙ ap (λ xs. kept report shown (take i (nodes_of old)) ++ xs) (sym becomes.alone) ∙ sym (kept_taken report shown old now i child s.same fits is);
-      fit_is = fit_is ∙ ap (λ xs. are_within levels (forest_of xs)) (sym front);
       all = λ h. front ∙ ap (λ xs. xs ++ new ∷ []) (s.all h) ∙ sym (taken_more now i new fits);
     }
 
 -- one more that leaves
-pub Sifting-gone : (report : Threshold) (shown : ℕ → Bool) (levels : ℕ) (old now : Forest) (fit leaves : Bool) (i : ℕ) (child : Node) → Sifting report shown levels old now fit leaves i → i < length (nodes_of now)
-    → child ≡ get_or (nodes_of now) i child → Vanishes ≡ node_fate report shown child → Sifting report shown levels old (forest_of (set (nodes_of now) i child)) fit true (i + 1)
-Sifting-gone report shown levels old now fit leaves i child s fits is gone =
+pub Sifting-gone : (report : Threshold) (shown : ℕ → Bool) (old now : Forest) (leaves : Bool) (i : ℕ) (child : Node) → Sifting report shown old now leaves i → i < length (nodes_of now)
+    → child ≡ get_or (nodes_of now) i child → Vanishes ≡ node_fate report shown child → Sifting report shown old (forest_of (set (nodes_of now) i child)) true (i + 1)
+Sifting-gone report shown old now leaves i child s fits is gone =
     let ns = nodes_of now in
     let front : remaining report (take (i + 1) (nodes_of (forest_of (set ns i child)))) ≡ remaining report (take i ns) = ap (remaining report) (taken_more now i child fits) ∙ remaining_without report (take i ns) child (vanishes_low report shown child gone) in
     record {
       same = Same-more old now i child s.same fits;
       front = front ∙ s.front ∙ sym (append-nil (kept report shown (take i (nodes_of old)))) ∙ ap (λ xs. kept report shown (take i (nodes_of old)) ++ xs) (sym (vanishes_alone report shown child gone))
           ∙ sym (kept_taken report shown old now i child s.same fits is);
-      fit_is = s.fit_is ∙ ap (λ xs. are_within levels (forest_of xs)) (sym front);
       all = λ h. absurd (cc);
     }
 
@@ -146,18 +141,18 @@ Sifting-gone report shown levels old now fit leaves i child s fits is gone =
 ended : (now : Forest) (i : ℕ) → length (nodes_of now) ≤ i → take i (nodes_of now) ≡ nodes_of now
 ended now i all = take_all i (nodes_of now) all
 
-pub Sifting-some : (report : Threshold) (shown : ℕ → Bool) (levels : ℕ) (old now done : Forest) (fit leaves : Bool) (i : ℕ) → Sifting report shown levels old now fit leaves i → length (nodes_of now) ≤ i
-    → done ≡ forest_of (remaining report (nodes_of now)) → (done ≡ filtered report shown old) × (fit ≡ are_within levels done)
-Sifting-some report shown levels old now done fit leaves i s all is =
+pub Sifting-some : (report : Threshold) (shown : ℕ → Bool) (old now done : Forest) (leaves : Bool) (i : ℕ) → Sifting report shown old now leaves i → length (nodes_of now) ≤ i
+    → done ≡ forest_of (remaining report (nodes_of now)) → done ≡ filtered report shown old
+Sifting-some report shown old now done leaves i s all is =
     let whole : forest_of (remaining report (take i (nodes_of now))) ≡ done = ap (λ xs. forest_of (remaining report xs)) (ended now i all) ∙ sym is in
     let past : length (nodes_of old) ≤ i = let e = s.same.same_len in omega arith in
     let old_is : forest_of (take i (nodes_of old)) ≡ old = ap forest_of (ended old i past) ∙ forest_of-nodes_of old in
-    (sym whole ∙ ap forest_of s.front ∙ forest_of-nodes_of (filtered report shown (forest_of (take i (nodes_of old)))) ∙ ap (filtered report shown) old_is, s.fit_is ∙ ap (are_within levels) whole)
+    sym whole ∙ ap forest_of s.front ∙ forest_of-nodes_of (filtered report shown (forest_of (take i (nodes_of old)))) ∙ ap (filtered report shown) old_is
 
-pub Sifting-whole : (report : Threshold) (shown : ℕ → Bool) (levels : ℕ) (old now : Forest) (fit leaves : Bool) (i : ℕ) → Sifting report shown levels old now fit leaves i → length (nodes_of now) ≤ i → leaves ≡ false
-    → (now ≡ filtered report shown old) × (fit ≡ are_within levels now)
-Sifting-whole report shown levels old now fit leaves i s all none =
-    Sifting-some report shown levels old now now fit leaves i s all (sym (ap forest_of (ap (remaining report) (sym (ended now i all)) ∙ s.all none ∙ ended now i all) ∙ forest_of-nodes_of now))
+pub Sifting-whole : (report : Threshold) (shown : ℕ → Bool) (old now : Forest) (leaves : Bool) (i : ℕ) → Sifting report shown old now leaves i → length (nodes_of now) ≤ i → leaves ≡ false
+    → now ≡ filtered report shown old
+Sifting-whole report shown old now leaves i s all none =
+    Sifting-some report shown old now now leaves i s all (sym (ap forest_of (ap (remaining report) (sym (ended now i all)) ∙ s.all none ∙ ended now i all) ∙ forest_of-nodes_of now))
 
 -- no message below the report level is left
 pub filtered_shown : (report : Threshold) (shown : ℕ → Bool) (f : Forest) → are_shown report (filtered report shown f) ≡ true

@@ -1,5 +1,5 @@
 -- What of a finished document is shown (Configuration, `report_level`).
-use Rattle.std.specs.Prelude.{ℕ, min, List, Bool, true, false, not, nat_le, ◌&&◌}
+use Rattle.std.specs.Prelude.{ℕ, min, List, Bool, true, false, not, ◌&&◌}
 use Rattle.rst_settings.specs.declared.Threshold.{Threshold}
 use Rattle.rst_settings.specs.Threshold.{is_reached}
 use Rattle.rst_tree.specs.declared.attrs.Attr.{Attr}
@@ -7,8 +7,7 @@ use Rattle.rst_tree.specs.declared.node.Node.{Node}
 use Rattle.rst_tree.specs.declared.node.Node.TheVariants.{Element, Text}
 use Rattle.rst_tree.specs.declared.tag.Tag.{Tag}
 use Rattle.rst_tree.specs.declared.tag.Tag.TheVariants.{SystemMessage}
-use Rattle.rst_tree.specs.Forest.{Forest, bare, element, words, height}
-use Rattle.rst_tree.specs.Tree.{is_sound}
+use Rattle.rst_tree.specs.Forest.{Forest, bare, element, words}
 use Rattle.rst_transform_messages.specs.Messages.{level_said}
 
 -- whether an element that tells this number of a level is a message below the report level
@@ -34,7 +33,3 @@ are_shown report (words t r) = are_shown report r
 abbrev pub is_shown_in : Threshold → Node → Bool
 is_shown_in report (Element t a c l) = are_shown report c
 is_shown_in report (Text t) = true
-
--- the nodes fit in a tree at so many levels: they nest no deeper, the attributes are in order, and the texts hold no line end but LF
-abbrev pub are_within : ℕ → Forest → Bool
-are_within levels nodes = nat_le (height nodes) levels && is_sound nodes

@@ -1,21 +1,19 @@
 //! What of a document is shown.
-ghost use Rattle.std.specs.Prelude.{◌≡◌, ◌&&◌, true, nat_lt, filter};
+ghost use Rattle.std.specs.Prelude.{◌≡◌, true, filter};
 ghost use Rattle.rst_tree.specs.Faults.{Gives};
 ghost use Rattle.rst_tree.specs.Nodes.{forest_of, nodes_of};
-ghost use Rattle.rst_tree.specs.Tree.{in_order, is_lines, is_tree};
 ghost use Rattle.rst_transform_messages.specs.Filtered.{filtered, is_message_shown, is_unexplained, node_fate, with_filtered};
 ghost use Rattle.rst_transform_messages.specs.Messages.{marked};
-ghost use Rattle.rst_transform_messages.specs.Shown.{are_within, may_stay, is_shown_in};
+ghost use Rattle.rst_transform_messages.specs.Shown.{may_stay, is_shown_in};
 
 use crate::messages::{level_number, reaches};
 use rst_settings::Threshold;
-use rst_tree::{Attrs, Children, Key, Node, Tag, Text, Tree, TreeFault};
+use rst_tree::{Attrs, Children, Key, Node, Tag, TreeFault};
 use std::alloc::Global;
 use std::mem;
 
 /// Takes the messages below the report level out of a document, and lets each problematic whose message is gone become its text
-/// (Configuration, `report_level`). `shown` tells of the number of each message whether that stays. The result says whether
-/// what is left is a tree, too, so that nobody needs to go through it once more.
+/// (Configuration, `report_level`). `shown` tells of the number of each message whether that stays.
 ///
 /// Before, where WARNINGs aren't shown:
 ///
@@ -35,10 +33,9 @@ pub fn filter(
     root: Node,
     report: Threshold,
     shown: &[bool],
-) -> Result<(Node, bool), TreeFault>
-    ensures nodes { Gives (λ done. done.0 ≡ with_filtered report (marked shown.now) root) result }
-    ensures shown { Gives (λ done. is_shown_in report done.0 ≡ true) result }
-    ensures tree { Gives (λ done. done.1 ≡ is_tree done.0) result }
+) -> Result<Node, TreeFault>
+    ensures root { Gives (λ done. done ≡ with_filtered report (marked shown.now) root) result }
+    ensures shown { Gives (λ done. is_shown_in report done ≡ true) result }
 {
     match root {
         Node::Element {
@@ -47,20 +44,15 @@ pub fn filter(
             mut children,
             line,
         } => {
-            let inside = filter_in(alloc, &mut children, Tree::MOST_LEVELS - 1, report, shown)?;
-            let is_tree = inside && attrs.are_in_order();
-            let root = Node::Element {
+            filter_in(alloc, &mut children, report, shown)?;
+            Ok(Node::Element {
                 tag,
                 attrs,
                 children,
                 line,
-            };
-            Ok((root, is_tree))
+            })
         }
-        Node::Text(text) => {
-            let is_tree = text.is_lines();
-            Ok((Node::Text(text), is_tree))
-        }
+        Node::Text(text) => Ok(Node::Text(text)),
     }
 }
 
@@ -125,61 +117,33 @@ fn may_stay(node: &Node, report: Threshold) -> bool
     }
 }
 
-/// Whether nodes fit with a text behind them, where there are so many levels and `fit` says whether they fit without it.
-fn fits_text(fit: bool, text: &Text, levels: usize) -> bool
-    ensures { result ≡ (fit && (nat_lt 0 levels && is_lines text.now)) }
-{
-    fit && levels > 0 && text.is_lines()
-}
-
-/// The same with an element behind them, where `inside` says whether the nodes in it fit at a level less.
-fn fits_element(fit: bool, attrs: &Attrs, inside: bool, levels: usize) -> bool
-    ensures { result ≡ (fit && (nat_lt 0 levels && (in_order attrs.now && inside))) }
-{
-    fit && levels > 0 && inside && attrs.are_in_order()
-}
-
-/// Takes what isn't shown out of nodes, and tells whether what is left fits in a tree at so many levels: all attributes are
-/// in order, no text holds a line end but LF, and the levels suffice.
+/// Takes what isn't shown out of nodes.
 fn filter_in(
     alloc: Global,
     nodes: &mut Children,
-    levels: usize,
     report: Threshold,
     shown: &[bool],
-) -> Result<bool, TreeFault>
-    ensures nodes { Gives (λ _. nodes.new ≡ filtered report (marked shown.now) nodes.old) result }
-    ensures tree { Gives (λ fit. fit ≡ are_within levels nodes.new) result }
+) -> Result<(), TreeFault>
+    ensures { Gives (λ _. nodes.new ≡ filtered report (marked shown.now) nodes.old) result }
 {
-    let below = levels.saturating_sub(1);
-    let mut fit = true;
     let mut leaves = false;
     for i in 0..nodes.len() {
         let node = nodes.get_mut(i);
         match fate_of(node, report, shown) {
             Fate::Vanishes => {
-                // It is taken out with all that do, behind the last.
+                // It is taken out with all that do, after the last.
                 leaves = true;
                 continue;
             }
             Fate::BecomesText => {
                 let text = node.text_of(alloc)?;
-                fit = fits_text(fit, &text, levels);
                 *node = Node::Text(text);
                 continue;
             }
             Fate::Stays => match node {
-                Node::Text(text) => {
-                    fit = fits_text(fit, text, levels);
-                    continue;
-                }
-                Node::Element {
-                    attrs,
-                    children,
-                    ..
-                } => {
-                    let inside = filter_in(alloc, children, below, report, shown)?;
-                    fit = fits_element(fit, attrs, inside, levels);
+                Node::Text(_) => continue,
+                Node::Element { children, .. } => {
+                    filter_in(alloc, children, report, shown)?;
                 }
             },
         }
@@ -187,5 +151,5 @@ fn filter_in(
     if leaves {
         take_out_low(alloc, nodes, report);
     }
-    Ok(fit)
+    Ok(())
 }

@@ -2,6 +2,7 @@
 #![tactic(auto)]
 
 pub mod filter;
+pub mod laws;
 mod messages;
 
 pub use messages::Messages;

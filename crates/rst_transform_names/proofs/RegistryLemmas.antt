@@ -1,6 +1,6 @@
 -- Standings and what becomes of them.
 use Rattle.std.proofs.Common.{◌≡◌, ℕ, zero, suc, ◌<◌, ◌≤◌, true, List, [], ◌∷◌, length, Option, refl, sym, ap, subst, arith, slice_set}
-use Rattle.std.proofs.Common.{◌∙◌, Bool, false, not, Vec, String, BTreeMap, bytes_eq, string_bytes, string_cmp, nat_cmp}
+use Rattle.std.proofs.Common.{◌∙◌, Bool, false, Vec, String, BTreeMap, bytes_eq, string_bytes, string_cmp, nat_cmp}
 use Rattle.std.specs.BTreeMap.{get_by_text, UpdatesBy}
 use Rattle.std.specs.Cmp.Lexicographic.{slice_cmp, nat_list_eq_equiv}
 use Rattle.std.proofs.lemmas.Map.Text.{btree_map_updates_text}
@@ -29,9 +29,9 @@ changed_behind change zero (x ∷ xs) l = absurd (omega arith)
 changed_behind change (suc n) (x ∷ xs) l = ap (λ t. x ∷ t) (changed_behind change n xs (omega arith))
 
 -- the rule for an element with a name
-pub rule_with : (name : List ℕ) (earlier : List Item) (held : Option NameEntry) (new : Item) → 0 < length name → rule_by earlier held new ≡ rule_named name earlier held new
-rule_with [] earlier held new some = absurd (omega arith)
-rule_with (c ∷ cs) earlier held new some = refl
+pub rule_with : (name : List ℕ) (held : Option NameEntry) (new : Item) → 0 < length name → rule_by held new ≡ rule_named name held new
+rule_with [] held new some = absurd (omega arith)
+rule_with (c ∷ cs) held new some = refl
 
 -- what became of an element by a rule, by the same rule in other words
 pub named_by : (rule other : Ruling) (new : Item) (before after : Registry) (s : Standing) → rule ≡ other → IsNamed rule new before after s → IsNamed other new before after s
@@ -61,7 +61,3 @@ put_lost_if v now false h is = put_lost v now Unregistered is
 pub entered : {X Y : Type 0} (old new : BTreeMap (String Y) X) (name : List ℕ) (w : Option X) → UpdatesBy string_cmp (λ k. slice_cmp nat_cmp name (string_bytes k)) old new w
     → (other : List ℕ) → get_by_text new other ≡ (if bytes_eq other name then w else get_by_text old other)
 entered old new name w h other = btree_map_updates_text name old new w h other ∙ ap (λ b. if b then w else get_by_text old other) (nat_list_eq_equiv.symm name other)
-
-pub not_false : (b : Bool) → not b ≡ false → b ≡ true
-not_false true h = refl
-not_false false h = absurd (cc)

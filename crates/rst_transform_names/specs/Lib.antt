@@ -1,7 +1,10 @@
+pub mod Alike
 pub mod Gathered
 pub mod Ids
 pub mod Names
 pub mod DuplicateMessages
+pub mod NameMessages
+pub mod PlacingMessages
 pub mod Registering
 pub mod Registry
 pub mod Rulings

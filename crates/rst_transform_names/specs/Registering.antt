@@ -1,6 +1,6 @@
 -- The registration of all elements, one after the other, in preorder (Document Tree, attributes `ids`, `names`, `dupnames`,
 -- `refid` and `backrefs`).
-use Rattle.std.specs.Prelude.{◌≡◌, ℕ, Bool, true, false, if◌then◌else◌, List, [], ◌∷◌, ◌++◌, Option, Some, None, length, filter, not, ◌==◌, replicate}
+use Rattle.std.specs.Prelude.{◌≡◌, ℕ, Bool, true, false, List, [], ◌∷◌, ◌++◌, Option, Some, None, length, filter, not, ◌==◌, replicate}
 use Rattle.std.specs.BTreeMap.{get_by_text}
 use Rattle.std.specs.VecDeque.{deque_items}
 use Rattle.rst_tree.specs.declared.key.Key.TheVariants.{Message}
@@ -18,7 +18,8 @@ use Rattle.rst_transform_names.specs.declared.registry.Registry.{Registry}
 use Rattle.rst_transform_names.specs.declared.registry.Standing.{Standing}
 use Rattle.rst_transform_names.specs.Gathered.{number_at, own_name}
 use Rattle.rst_transform_names.specs.Ids.{is_taken, numbered, IsLeastFree, Takes}
-use Rattle.rst_transform_names.specs.Names.{held_by, kept_for}
+use Rattle.rst_transform_names.specs.NameMessages.{with_name_messages}
+use Rattle.rst_transform_names.specs.Names.{held_by}
 use Rattle.rst_transform_names.specs.Registry.{held_in, rule_named, IsDefined, IsNamed}
 use Rattle.rst_transform_names.specs.Written.{given, left_behind, problematic_id, with_given}
 
@@ -45,9 +46,9 @@ pub record RegistersMessage (new : Item) (before after : Registry) : Type 0 wher
   pub name_messages : deque_items after.name_messages.queue ≡ deque_items before.name_messages.queue
 
 -- any other element gets a standing, by the names of those that came before
-abbrev pub Stands : Tag → List Item → Item → Registry → Registry → Standing → Type 0
-Stands SubstitutionDefinition earlier new before after s = IsDefined new before after s
-Stands _ earlier new before after s = IsNamed (rule_named (own_name new) earlier (held_in before new) new) new before after s
+abbrev pub Stands : Tag → Item → Registry → Registry → Standing → Type 0
+Stands SubstitutionDefinition new before after s = IsDefined new before after s
+Stands _ new before after s = IsNamed (rule_named (own_name new) (held_in before new) new) new before after s
 
 -- a standing behind those of the elements before
 pub record IsPut (s : Standing) (before after : Registry) : Type 0 where
@@ -58,10 +59,10 @@ pub record IsPut (s : Standing) (before after : Registry) : Type 0 where
   pub known_messages : after.known_messages ≡ before.known_messages
   pub name_messages : after.name_messages ≡ before.name_messages
 
-pub record IsAdded (earlier : List Item) (new : Item) (before after : Registry) : Type 0 where
+pub record IsAdded (new : Item) (before after : Registry) : Type 0 where
   pub s : Standing
   pub between : Registry
-  pub stands : Stands new.tag earlier new before between s
+  pub stands : Stands new.tag new before between s
   pub put : IsPut s between after
 
 -- messages and problematics, which have no names
@@ -70,27 +71,22 @@ is_of_message Problematic = true
 is_of_message SystemMessage = true
 is_of_message _ = false
 
-abbrev pub RegistersBy : Bool → List Item → Item → Registry → Registry → Type 0
-RegistersBy true earlier new before after = RegistersMessage new before after
-RegistersBy false earlier new before after = IsAdded earlier new before after
+abbrev pub RegistersBy : Bool → Item → Registry → Registry → Type 0
+RegistersBy true new before after = RegistersMessage new before after
+RegistersBy false new before after = IsAdded new before after
 
-abbrev pub Registers : List Item → Item → Registry → Registry → Type 0
-Registers earlier new before after = RegistersBy (is_of_message new.tag) earlier new before after
-
--- the elements that may have names, up to one
-abbrev pub with_named : List Item → Item → List Item
-with_named earlier new = if is_of_message new.tag then earlier else (earlier ++ new ∷ [])
+abbrev pub Registers : Item → Registry → Registry → Type 0
+Registers new before after = RegistersBy (is_of_message new.tag) new before after
 
 -- one element after the other
-abbrev pub AllRegistered : List Item → List Item → Registry → Registry → Type 0
-AllRegistered earlier [] before after = after ≡ before
-AllRegistered earlier (x ∷ xs) before after = (between : Registry) × Registers earlier x before between × AllRegistered (with_named earlier x) xs between after
+abbrev pub AllRegistered : List Item → Registry → Registry → Type 0
+AllRegistered [] before after = after ≡ before
+AllRegistered (x ∷ xs) before after = (between : Registry) × Registers x before between × AllRegistered xs between after
 
 -- what is known before the first element; so many numbers were given to messages
 pub record KnowsNothing (messages : ℕ) (first : Registry) : Type 0 where
   pub ids : (id : List ℕ) → is_taken first.ids id ≡ false
   pub names : (name : List ℕ) → held_by first.names name ≡ None
-  pub uris : (name : List ℕ) → kept_for first.names name ≡ None
   pub definitions : (name : List ℕ) → get_by_text first.definitions name ≡ None
   pub standings : first.standings.items ≡ []
   pub numbers : first.known_messages.numbers.items ≡ []
@@ -100,7 +96,7 @@ pub record KnowsNothing (messages : ℕ) (first : Registry) : Type 0 where
 pub record IsRegistry (messages : ℕ) (elements : List Item) (after : Registry) : Type 0 where
   pub first : Registry
   pub knows_nothing : KnowsNothing messages first
-  pub all : AllRegistered [] elements first after
+  pub all : AllRegistered elements first after
 
 -- the document with what its elements got
 abbrev pub written : Registry → Node → Node
@@ -108,7 +104,7 @@ written registry document =
     walked_node (heeded_next is_registered left_behind) (heeded_out is_registered with_given)
     (given registry.standings.items registry.known_messages.numbers.items registry.known_messages.messages.items) document
 
--- a document is registered; where there are messages on equal names they stand in it as well
+-- a document is registered, with the messages on equal names in it
 pub record IsRegistered (messages : ℕ) (document : Node) (done : Registered) : Type 0 where
   pub registry : Registry
   pub is_registry : IsRegistry messages (filter is_registered (node_items document)) registry
@@ -116,4 +112,4 @@ pub record IsRegistered (messages : ℕ) (document : Node) (done : Registered) :
   pub names : done.names ≡ registry.names
   pub serials : done.serials ≡ length registry.standings.items
   pub has_name_messages : done.has_name_messages ≡ not (length (deque_items registry.name_messages.queue) == 0)
-  pub root : done.has_name_messages ≡ false → done.root ≡ written registry document
+  pub root : done.root ≡ with_name_messages (deque_items registry.name_messages.queue) (written registry document)

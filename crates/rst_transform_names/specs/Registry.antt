@@ -1,6 +1,6 @@
 -- Registration, one element after the other, in preorder (Document Tree, attributes `ids`, `names` and `dupnames`;
 -- reStructuredText Markup Specification, 'Implicit Hyperlink Targets').
-use Rattle.std.specs.Prelude.{◌≡◌, ℕ, Bool, true, false, ◌&&◌, if◌then◌else◌, List, [], ◌∷◌, ◌++◌, length, Option, Some, None, slice_get}
+use Rattle.std.specs.Prelude.{◌≡◌, ℕ, Bool, true, false, if◌then◌else◌, List, [], ◌∷◌, ◌++◌, length, Option, Some, None}
 use Rattle.std.specs.VecDeque.{deque_items}
 use Rattle.std.specs.BTreeMap.{get_by_text}
 use Rattle.std.specs.Str.{bytes_eq}
@@ -13,7 +13,6 @@ use Rattle.rst_tree.specs.Walk.{Item}
 use Rattle.rst_transform_names.specs.declared.names.NameEntry.{NameEntry}
 use Rattle.rst_transform_names.specs.declared.names.Holder.{Holder}
 use Rattle.rst_transform_names.specs.declared.names.Holder.TheVariants.{Nobody as Lost, Element, Unregistered}
-use Rattle.rst_transform_names.specs.declared.names.Names.{Names}
 use Rattle.rst_transform_names.specs.declared.names.Strength.{Strength}
 use Rattle.rst_transform_names.specs.declared.names.Strength.TheVariants.{Implicit, Explicit}
 use Rattle.rst_transform_names.specs.declared.registry.Registry.{Registry}
@@ -24,7 +23,7 @@ use Rattle.rst_transform_names.specs.declared.rulings.Now.TheVariants.{Old, New,
 use Rattle.rst_transform_names.specs.declared.rulings.Ruling.{Ruling}
 use Rattle.rst_transform_names.specs.Gathered.{own_name, text_at}
 use Rattle.rst_transform_names.specs.Ids.{is_taken, IsIdFor, Takes}
-use Rattle.rst_transform_names.specs.Names.{held_by, moved, Knows, SameUris}
+use Rattle.rst_transform_names.specs.Names.{held_by, moved, Knows}
 use Rattle.rst_transform_names.specs.DuplicateMessages.{duplicate_definition, duplicate_name}
 use Rattle.rst_transform_names.specs.Rulings.{ruling_for}
 
@@ -43,30 +42,20 @@ abbrev pub is_target : Tag → Bool
 is_target Target = true
 is_target _ = false
 
--- two targets that refer to one URI
-abbrev pub is_same_target : Item → Item → Bool
-is_same_target old new = (is_target old.tag && is_target new.tag) && is_same_text (text_at Refuri old.attrs) (text_at Refuri new.attrs)
+-- where a target leads that has a URI
+abbrev pub target_uri : Item → Option (List ℕ)
+target_uri x = if is_target x.tag then text_at Refuri x.attrs else None
 
-abbrev pub is_shared_by : Option Item → Item → Bool
-is_shared_by None new = false
-is_shared_by (Some old) new = is_same_target old new
-
--- the holder of a name is a target that refers to the URI of a new one
-abbrev pub is_shared : List Item → Holder → Item → Bool
-is_shared earlier (Element n) new = is_shared_by (slice_get earlier n) new
-is_shared earlier Lost new = false
-is_shared earlier Unregistered new = false
-
--- the rule for the name of a new element, by what is known of the name
-abbrev pub rule_by : List Item → Option NameEntry → Item → Ruling
-rule_by earlier None new = ruling_for None (strength_of new.tag) false
-rule_by earlier (Some held) new = ruling_for (Some (held.strength, held.holder)) (strength_of new.tag) (is_shared earlier held.holder new)
+-- the rule for the name of a new element, by what is known of the name; two targets may have one URI
+abbrev pub rule_by : Option NameEntry → Item → Ruling
+rule_by None new = ruling_for None (strength_of new.tag) false
+rule_by (Some held) new = ruling_for (Some (held.strength, held.holder)) (strength_of new.tag) (is_same_text held.uri (target_uri new))
 
 -- what is known of the name from now on; the element has a number and an id
 abbrev pub known_by : Now → ℕ → Item → List ℕ → Option NameEntry → Option NameEntry
 known_by Old number new id held = held
 known_by Nobody number new id held = moved Lost held
-known_by New number new id held = Some (record { holder = Element number; strength = strength_of new.tag; id = id })
+known_by New number new id held = Some (record { holder = Element number; strength = strength_of new.tag; id = id; uri = target_uri new })
 
 -- what an element got that loses its name
 abbrev pub without_name : Standing → Standing
@@ -92,9 +81,9 @@ abbrev pub no_rule : Ruling
 no_rule = record { now = Old; old_loses = false; new_loses = false; message = None }
 
 -- the rule for a new element by the name it was written with; the empty name is none
-abbrev pub rule_named : List ℕ → List Item → Option NameEntry → Item → Ruling
-rule_named [] earlier held new = no_rule
-rule_named (c ∷ cs) earlier held new = rule_by earlier held new
+abbrev pub rule_named : List ℕ → Option NameEntry → Item → Ruling
+rule_named [] held new = no_rule
+rule_named (c ∷ cs) held new = rule_by held new
 
 abbrev pub standing : ℕ → Option (List ℕ) → Bool → Standing
 standing number id lost = record { serial = number; id = id; lost = lost }
@@ -113,7 +102,6 @@ pub record IsNamed (rule : Ruling) (new : Item) (before after : Registry) (s : S
   pub is_taken_now : Takes id before.ids after.ids
   pub stands : s ≡ standing (next_number before) (Some id) rule.new_loses
   pub names : Knows (own_name new) (known_by rule.now (next_number before) new id (held_in before new)) before.names after.names
-  pub uris : SameUris before.names after.names
   pub others : after.standings.items ≡ (if rule.old_loses then losing (holder_in (held_in before new)) before.standings.items else before.standings.items)
   pub name_messages : deque_items after.name_messages.queue ≡ deque_items before.name_messages.queue ++ name_messages_by rule.message (next_number before) new id
   pub definitions : after.definitions ≡ before.definitions

@@ -1,9 +1,10 @@
 //! Names and ids of the elements of a document.
 #![tactic(auto)]
 
-mod dues;
 mod duplicate_messages;
 mod ids;
+mod inside;
+pub mod laws;
 mod message_ids;
 mod names;
 mod placing;
@@ -11,6 +12,7 @@ mod registrants;
 mod registration;
 mod registry;
 mod rulings;
+mod weaving;
 mod writing;
 
 pub use ids::{Ids, number_in};

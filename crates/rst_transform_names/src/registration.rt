@@ -1,5 +1,7 @@
 //! The registration of a document's elements.
 ghost use Rattle.rst_tree.specs.Faults.{Gives};
+ghost use Rattle.rst_tree.specs.Walk.{node_items};
+ghost use Rattle.rst_tree_index.specs.Kinds.{HasNoNewKinds};
 ghost use Rattle.rst_transform_names.specs.Registering.{IsRegistered};
 
 use super::ids::Ids;
@@ -48,7 +50,8 @@ pub struct Registered {
 ///
 /// The only refusal is want of memory.
 pub fn register(alloc: Global, document: Marked, messages: u64) -> Result<Registered, TreeFault>
-    ensures { Gives (λ done. IsRegistered messages document done) result }
+    ensures registered { Gives (λ done. IsRegistered messages document done) result }
+    ensures kinds { Gives (λ done. HasNoNewKinds (node_items document) (node_items done.root)) result }
 {
     let elements = document.elements(alloc)?;
     let Registry {

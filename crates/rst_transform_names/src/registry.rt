@@ -2,13 +2,14 @@
 ghost use Rattle.std.specs.Prelude.{◌≡◌, ◌++◌, if◌then◌else◌, map};
 ghost use Rattle.std.specs.VecDeque.{deque_items};
 ghost use Rattle.rst_tree.specs.Faults.{Gives};
+ghost use Rattle.rst_tree.specs.PrintedAttributes.{given};
 ghost use Rattle.rst_tree.specs.declared.key.Key.TheVariants.{Refuri};
 ghost use Rattle.rst_tree_index.specs.Registered.{item_of};
 ghost use Rattle.rst_transform_names.specs.Gathered.{text_at};
 ghost use Rattle.rst_transform_names.specs.Gathered as spec;
-ghost use Rattle.rst_transform_names.specs.Names.{held_by, Knows, SameUris};
-ghost use Rattle.rst_transform_names.specs.Registering.{with_named, IsAdded, RegistersMessage, IsRegistry, KnowsNothing, Registers, Stands};
-ghost use Rattle.rst_transform_names.specs.Registry.{strength_of, is_same_text, is_shared, rule_by, known_by, losing, holder_in, held_in, next_number, name_messages_by, rule_named, definer, definition_messages, IsNamed, IsDefined};
+ghost use Rattle.rst_transform_names.specs.Names.{held_by, Knows};
+ghost use Rattle.rst_transform_names.specs.Registering.{IsAdded, RegistersMessage, IsRegistry, KnowsNothing, Registers, Stands};
+ghost use Rattle.rst_transform_names.specs.Registry.{strength_of, is_same_text, rule_by, target_uri, known_by, losing, holder_in, held_in, next_number, name_messages_by, rule_named, definer, definition_messages, IsNamed, IsDefined};
 
 use super::duplicate_messages::{duplicate_definition, duplicate_name};
 use super::ids::Ids;
@@ -69,22 +70,14 @@ impl Registry {
         })
     }
 
-    /// Registers one more element; `earlier` are those before it that may have names.
-    fn register<'e>(
-        &mut self,
-        alloc: Global,
-        earlier: &mut Vec<Element<'e>>,
-        new: Element<'e>,
-    ) -> Result<(), TreeFault>
-        ensures registry { Gives (λ _. Registers (map item_of earlier.old.items) (item_of new.entry) self.old self.new) result }
-        ensures earlier { Gives (λ _. map item_of earlier.new.items ≡ with_named (map item_of earlier.old.items) (item_of new.entry)) result }
+    /// Registers one more element.
+    fn register(&mut self, alloc: Global, new: Element<'_>) -> Result<(), TreeFault>
+        ensures { Gives (λ _. Registers (item_of new.entry) self.old self.new) result }
     {
         if is_of_message(new.tag) {
             return self.add_unnamed(alloc, new);
         }
-        self.add(alloc, earlier, new)?;
-        earlier.push(new)?;
-        Ok(())
+        self.add(alloc, new)
     }
 
     /// Registers one more message or problematic.
@@ -96,32 +89,22 @@ impl Registry {
     }
 
     /// Registers one more element that may have a name, which follows those that have a standing.
-    fn add(
-        &mut self,
-        alloc: Global,
-        earlier: &[Element<'_>],
-        new: Element<'_>,
-    ) -> Result<(), TreeFault>
-        ensures { Gives (λ _. IsAdded (map item_of earlier.entry.now) (item_of new.entry) self.old self.new) result }
+    fn add(&mut self, alloc: Global, new: Element<'_>) -> Result<(), TreeFault>
+        ensures { Gives (λ _. IsAdded (item_of new.entry) self.old self.new) result }
     {
-        let standing = self.stand(alloc, earlier, new)?;
+        let standing = self.stand(alloc, new)?;
         self.standings.push(standing)?;
         Ok(())
     }
 
     /// What a new element gets that may have a name.
-    fn stand(
-        &mut self,
-        alloc: Global,
-        earlier: &[Element<'_>],
-        new: Element<'_>,
-    ) -> Result<Standing, TreeFault>
-        ensures { Gives (λ s. Stands (item_of new.entry).tag (map item_of earlier.entry.now) (item_of new.entry) self.old self.new s) result }
+    fn stand(&mut self, alloc: Global, new: Element<'_>) -> Result<Standing, TreeFault>
+        ensures { Gives (λ s. Stands (item_of new.entry).tag (item_of new.entry) self.old self.new s) result }
     {
         if matches!(new.tag, Tag::SubstitutionDefinition) {
             return self.define(alloc, new);
         }
-        self.name(alloc, earlier, new)
+        self.name(alloc, new)
     }
 
     /// The number of the element that is registered.
@@ -132,13 +115,8 @@ impl Registry {
     }
 
     /// Gives an element its id, and its name if it has one.
-    fn name(
-        &mut self,
-        alloc: Global,
-        earlier: &[Element<'_>],
-        new: Element<'_>,
-    ) -> Result<Standing, TreeFault>
-        ensures { Gives (λ s. IsNamed (rule_named (spec.own_name (item_of new.entry)) (map item_of earlier.entry.now) (held_in self.old (item_of new.entry)) (item_of new.entry)) (item_of new.entry) self.old self.new s) result }
+    fn name(&mut self, alloc: Global, new: Element<'_>) -> Result<Standing, TreeFault>
+        ensures { Gives (λ s. IsNamed (rule_named (spec.own_name (item_of new.entry)) (held_in self.old (item_of new.entry)) (item_of new.entry)) (item_of new.entry) self.old self.new s) result }
     {
         let serial = self.serial();
         let name = own_name(new);
@@ -150,7 +128,7 @@ impl Registry {
                 lost: false,
             });
         }
-        let ruling = ruling_on(&self.names, earlier, new);
+        let ruling = ruling_on(&self.names, new);
         add_name_message(
             alloc,
             &mut self.name_messages,
@@ -212,15 +190,15 @@ fn add_definition_message(
     }
 }
 
-/// The rule for the name of a new element, among the elements that were registered.
-fn ruling_on(names: &Names, earlier: &[Element<'_>], new: Element<'_>) -> Ruling
-    ensures { result ≡ rule_by (map item_of earlier.entry.now) (held_by names.now (spec.own_name (item_of new.entry))) (item_of new.entry) }
+/// The rule for the name of a new element.
+fn ruling_on(names: &Names, new: Element<'_>) -> Ruling
+    ensures { result ≡ rule_by (held_by names.now (spec.own_name (item_of new.entry))) (item_of new.entry) }
 {
     let strength = strength_of(new.tag);
     match names.get(own_name(new)) {
         None => ruling_for(None, strength, false),
         Some(held) => {
-            let same = is_same_refuri(held.holder, earlier, new);
+            let same = is_same_uri(held.uri.as_ref(), target_uri(new));
             ruling_for(Some((held.strength, held.holder)), strength, same)
         }
     }
@@ -252,8 +230,7 @@ fn follow(
     serial: u64,
     id: &Text,
 ) -> Result<(), TreeFault>
-    ensures names { Gives (λ _. Knows (spec.own_name (item_of new.entry)) (known_by now serial (item_of new.entry) id.now (held_by names.old (spec.own_name (item_of new.entry)))) names.old names.new) result }
-    ensures uris { Gives (λ _. SameUris names.old names.new) result }
+    ensures { Gives (λ _. Knows (spec.own_name (item_of new.entry)) (known_by now serial (item_of new.entry) id.now (held_by names.old (spec.own_name (item_of new.entry)))) names.old names.new) result }
 {
     match now {
         Now::Old => Ok(()),
@@ -266,6 +243,7 @@ fn follow(
                 holder: Holder::Element(serial),
                 strength: strength_of(new.tag),
                 id: id.copy()?,
+                uri: copied(target_uri(new))?,
             };
             names.hold(alloc, own_name(new), held)
         }
@@ -314,26 +292,31 @@ fn strength_of(tag: Tag) -> Strength
     }
 }
 
-/// Whether a name's holder is a target with the URI of a new target.
-fn is_same_refuri(holder: Holder, earlier: &[Element<'_>], new: Element<'_>) -> bool
-    ensures { result ≡ is_shared (map item_of earlier.entry.now) holder (item_of new.entry) }
+/// Where a target leads that has a URI.
+fn target_uri<'a>(element: Element<'a>) -> Option<&'a Text>
+    ensures { given result ≡ target_uri (item_of element.entry) }
 {
-    let Holder::Element(serial) = holder else {
-        return false;
-    };
-    match earlier.get(serial as usize) {
-        Some(old) => {
-            matches!((old.tag, new.tag), (Tag::Target, Tag::Target)) && is_equal_refuri(*old, new)
-        }
-        None => false,
+    match element.tag {
+        Tag::Target => element.attrs.text(Key::Refuri),
+        _ => None,
     }
 }
 
-/// Whether both elements refer to one URI.
-fn is_equal_refuri(old: Element<'_>, new: Element<'_>) -> bool
-    ensures { result ≡ is_same_text (text_at Refuri (item_of old.entry).attrs) (text_at Refuri (item_of new.entry).attrs) }
+/// A copy of a text, if there is one.
+fn copied(text: Option<&Text>) -> Result<Option<Text>, TreeFault>
+    ensures { Gives (λ copy. copy ≡ given text.entry) result }
 {
-    match (old.attrs.text(Key::Refuri), new.attrs.text(Key::Refuri)) {
+    match text {
+        Some(text) => Ok(Some(text.copy()?)),
+        None => Ok(None),
+    }
+}
+
+/// Whether both are there, and are the same.
+fn is_same_uri(old: Option<&Text>, new: Option<&Text>) -> bool
+    ensures { result ≡ is_same_text (given old.entry) (given new.entry) }
+{
+    match (old, new) {
         (Some(old), Some(new)) => old.as_str() == new.as_str(),
         _ => false,
     }
@@ -350,9 +333,8 @@ pub fn registry_of(
     let unnamed = elements.iter().filter(|new| is_of_message(new.tag)).count();
     let named = elements.len().saturating_sub(unnamed);
     let mut registry = Registry::new(alloc, named, unnamed, messages)?;
-    let mut earlier = Vec::with_capacity(alloc, named)?;
     for new in elements {
-        registry.register(alloc, &mut earlier, *new)?;
+        registry.register(alloc, *new)?;
     }
     Ok(registry)
 }

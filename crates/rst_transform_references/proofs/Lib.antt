@@ -1,2 +1,5 @@
+pub mod ReferenceKinds
 pub mod Referring
 pub mod Resolves
+pub mod OneAnswer
+pub mod Unresolved

@@ -1,141 +1,175 @@
 -- The ids of references, gathered one after another.
-use Rattle.std.proofs.Common.{◌≡◌, ℕ, zero, suc, ◌+◌, ◌≤◌, ◌<◌, List, [], ◌∷◌, ◌++◌, length, replicate, refl, sym, ◌∙◌, ap, arith, Bool, true, false, append_assoc}
-use Rattle.std.proofs.lemmas.List.{append-nil}
-use Rattle.std.specs.Prelude.{◌||◌, if◌then◌else◌, nat_eq, slice_get, slice_set, slice_index_or, drop, Option, Some, None}
-use Rattle.std.specs.List.{list_any}
+use Rattle.std.proofs.Common.{◌≡◌, ℕ, zero, suc, ◌+◌, ◌≤◌, ◌<◌, List, [], ◌∷◌, ◌++◌, length, map, drop, get_or, replicate, refl, sym, ◌∙◌, ap, arith, Bool, true, false, append_assoc, eq-eqb}
+use Rattle.std.proofs.lemmas.Bool.{eqb-true}
+use Rattle.std.proofs.lemmas.List.{append-nil, drop_all, drop_more}
+use Rattle.std.specs.Prelude.{◌||◌, if◌then◌else◌, nat_eq, slice_get, slice_set, slice_index_or, Option, Some, None}
+use Rattle.std.specs.List.{cons_option, enumerate_from, list_any, range_with_len}
 use Rattle.rst_transform_names.specs.declared.names.Holder.{Holder}
 use Rattle.rst_transform_names.specs.declared.names.Names.{Names}
 use Rattle.rst_tree.specs.declared.key.Key.TheVariants.{Ids}
+use Rattle.rst_tree.specs.declared.node.Node.{Node}
+use Rattle.rst_transform_links.specs.declared.links.Linked.{Linked}
 use Rattle.rst_transform_links.specs.declared.links.Outcome.{Outcome}
-use Rattle.rst_transform_references.specs.Backrefs.{id_if, id_of_reference, ids_of_references, is_at, put_behind, reference_ids, referents_from, referents_of, referred_to, with_backref_lists, with_backrefs, with_backrefs_from, with_reference}
-use Rattle.rst_transform_links.specs.Linkings.{Held}
+use Rattle.rst_transform_references.specs.Backrefs.{id_of_reference, ids_of_references, is_at, reference_ids, referent_at, referents_of, referred_at, referred_to, with_backref_lists, with_backrefs, with_reference}
+use Rattle.rst_transform_links.specs.Linkings.{Held, held}
 use Rattle.rst_transform_references.specs.Meanings.{refers_to_footnote_or_citation}
 use Rattle.rst_transform_links.specs.FootnoteOrders.{found_by_order}
 use Rattle.rst_transform_work.specs.Reading.{list_said}
 
--- there is no list at the place
-pub put_past : (place : ℕ) (id : List ℕ) (lists : List (List (List ℕ))) → length lists ≤ place → lists ≡ put_behind place id lists
-put_past place id [] past = refl
-put_past zero id (list ∷ more) past = absurd (omega (arith, past))
-put_past (suc place) id (list ∷ more) past = ap (λ rest. list ∷ rest) (put_past place id more (omega (arith, past)))
+-- ---- one id more
 
--- there is one
-pub put_within : (place : ℕ) (id : List ℕ) (lists : List (List (List ℕ))) (d : List (List ℕ)) → place < length lists → slice_set lists place (slice_index_or lists place d ++ id ∷ []) ≡ put_behind place id lists
-put_within place id [] d within = absurd (omega (arith, within))
-put_within zero id (list ∷ more) d within = refl
-put_within (suc place) id (list ∷ more) d within = ap (λ rest. list ∷ rest) (put_within place id more d (omega (arith, within)))
+-- some lists, each with what it gets
+abbrev gained : (ℕ → Option (List ℕ)) → ℕ → List (List (List ℕ)) → List (List (List ℕ))
+gained more place lists = map (λ p. p.1 ++ cons_option (more p.0) []) (enumerate_from place lists)
 
-pub reference_ids_none : (linked : List Held) (lists : List (List (List ℕ))) → reference_ids [] linked lists ≡ lists
-reference_ids_none [] lists = refl
-reference_ids_none (one ∷ more) lists = refl
+-- no list gets one
+none_gained : (more : ℕ → Option (List ℕ)) (place : ℕ) (lists : List (List (List ℕ))) → ((i : ℕ) → place ≤ i → i < place + length lists → more i ≡ None) → lists ≡ gained more place lists
+none_gained more place [] none = refl
+none_gained more place (list ∷ rest) none =
+    rw (none place (omega arith) (omega arith), append-nil list) (ap (λ others. list ∷ others) (none_gained more (place + 1) rest (λ i low high. none i (omega (arith, low)) (omega (arith, high)))))
 
--- the list at a place, or the empty one
-abbrev at : List (List (List ℕ)) → ℕ → List (List ℕ)
-at [] place = []
-at (list ∷ more) zero = list
-at (list ∷ more) (suc place) = at more place
+-- that at a place gets one
+one_gained : (more : ℕ → Option (List ℕ)) (i : ℕ) (place : ℕ) (lists : List (List (List ℕ))) (d : List (List ℕ)) (id : List ℕ) → i < length lists → more (place + i) ≡ Some id → ((j : ℕ) → (j ≡ place + i → ⊥) → more j ≡ None)
+    → slice_set lists i (slice_index_or lists i d ++ id ∷ []) ≡ gained more place lists
+one_gained more i place [] d id within is others = absurd (omega (arith, within))
+one_gained more zero place (list ∷ rest) d id within is others =
+    let first : more place ≡ Some id = ap more (omega arith) ∙ is in
+    rw first (ap (λ left. (list ++ id ∷ []) ∷ left) (none_gained more (place + 1) rest (λ j low high. others j (λ same. omega (arith, low, same)))))
+one_gained more (suc i) place (list ∷ rest) d id within is others =
+    rw (others place (λ same. omega (arith, same)), append-nil list)
+    (ap (λ left. list ∷ left)
+    (one_gained more i (place + 1) rest d id (omega (arith, within)) (ap more (omega arith) ∙ is) (λ j differs. others j (λ same. differs (omega (arith, same))))))
 
-put_length : (place : ℕ) (id : List ℕ) (lists : List (List (List ℕ))) → length (put_behind place id lists) ≡ length lists
-put_length place id [] = refl
-put_length zero id (list ∷ more) = refl
-put_length (suc place) id (list ∷ more) = ap suc (put_length place id more)
+elsewhere : (place i : ℕ) (id : Option (List ℕ)) → (i ≡ place → ⊥) → (if nat_eq place i then id else None) ≡ None
+elsewhere place i id differs = elim (nat_eq place i) as (λ b. nat_eq place i ≡ b → (if b then id else None) ≡ None) [ true ↦ λ same. absurd (differs (sym (eqb-true place i same))) | false ↦ λ h. refl ] refl
 
-put_at : (place i : ℕ) (id : List ℕ) (lists : List (List (List ℕ))) → i < length lists → at (put_behind place id lists) i ≡ (if nat_eq place i then at lists i ++ id ∷ [] else at lists i)
-put_at place i id [] within = absurd (omega (arith, within))
-put_at zero zero id (list ∷ more) within = refl
-put_at zero (suc i) id (list ∷ more) within = grind arith
-put_at (suc place) zero id (list ∷ more) within = grind arith
-put_at (suc place) (suc i) id (list ∷ more) within = let h = put_at place i id more (omega (arith, within)) in grind (arith, h)
+either_way : {A : Type 0} (b : Bool) (x : A) → (if b then x else x) ≡ x
+either_way true x = refl
+either_way false x = refl
 
-reference_length : (referent : Option ℕ) (id : Option (List ℕ)) (lists : List (List (List ℕ))) → length (with_reference referent id lists) ≡ length lists
-reference_length None id lists = refl
-reference_length (Some place) None lists = refl
-reference_length (Some place) (Some id) lists = put_length place id lists
+-- the element refers to nothing
+pub refers_to_none : (node : Node) (lists : List (List (List ℕ))) → lists ≡ with_reference None node lists
+refers_to_none node lists = none_gained (λ i. id_of_reference i None node) 0 lists (λ i low high. refl)
 
-no_id : (id : Option (List ℕ)) → id_if false id ≡ []
-no_id None = refl
-no_id (Some id) = refl
+-- it has no id
+pub refers_without_id : (referent : Option ℕ) (node : Node) (lists : List (List (List ℕ))) → slice_get (list_said Ids node) 0 ≡ None → lists ≡ with_reference referent node lists
+refers_without_id referent node lists none = none_gained (λ i. id_of_reference i referent node) 0 lists (λ i low high. rw none (either_way (is_at i referent) None))
 
-chosen : (b : Bool) (list : List (List ℕ)) (id : List ℕ) → (if b then list ++ id ∷ [] else list) ≡ list ++ (if b then id ∷ [] else [])
-chosen true list id = refl
-chosen false list id = sym (append-nil list)
+-- it refers to a place without list
+pub refers_past : (place : ℕ) (node : Node) (lists : List (List (List ℕ))) → length lists ≤ place → lists ≡ with_reference (Some place) node lists
+refers_past place node lists past =
+    none_gained (λ i. id_of_reference i (Some place) node) 0 lists (λ i low high. elsewhere place i (slice_get (list_said Ids node) 0) (λ same. omega (arith, past, high, same)))
 
--- the id of a reference stands behind those of its footnote or citation alone
-reference_at : (referent : Option ℕ) (id : Option (List ℕ)) (lists : List (List (List ℕ))) (i : ℕ) → i < length lists → at (with_reference referent id lists) i ≡ at lists i ++ id_if (is_at i referent) id
-reference_at None id lists i within = rw (no_id id) (sym (append-nil (at lists i)))
-reference_at (Some place) None lists i within = sym (append-nil (at lists i))
-reference_at (Some place) (Some id) lists i within = put_at place i id lists within ∙ chosen (nat_eq place i) (at lists i) id
+-- it refers to a place with a list
+pub refers_within : (place : ℕ) (node : Node) (lists : List (List (List ℕ))) (d : List (List ℕ)) (id : List ℕ) → place < length lists → slice_get (list_said Ids node) 0 ≡ Some id
+    → slice_set lists place (slice_index_or lists place d ++ id ∷ []) ≡ with_reference (Some place) node lists
+refers_within place node lists d id within has =
+    one_gained (λ i. id_of_reference i (Some place) node) place 0 lists d id within
+    (rw (sym (zero_behind place), eq-eqb place place refl) has)
+    (λ j differs. elsewhere place j (slice_get (list_said Ids node) 0) (λ same. differs (omega (arith, same))))
+  where
+    zero_behind : (n : ℕ) → n ≡ 0 + n
+    zero_behind n = omega arith
 
-reference_ids_length : (referents : List (Option ℕ)) (linked : List Held) (lists : List (List (List ℕ))) → length (reference_ids referents linked lists) ≡ length lists
-reference_ids_length referents [] lists = refl
-reference_ids_length [] (one ∷ more) lists = refl
-reference_ids_length (referent ∷ referents) (one ∷ more) lists =
-    reference_ids_length referents more (with_reference referent (slice_get (list_said Ids one.0) 0) lists) ∙ reference_length referent (slice_get (list_said Ids one.0) 0) lists
+-- ---- all ids
 
--- what is gathered of a footnote or citation are the ids of the references to it
-reference_ids_at : (referents : List (Option ℕ)) (linked : List Held) (lists : List (List (List ℕ))) (i : ℕ) → i < length lists → at (reference_ids referents linked lists) i ≡ at lists i ++ ids_of_references i referents linked
-reference_ids_at referents [] lists i within = sym (append-nil (at lists i))
-reference_ids_at [] (one ∷ more) lists i within = sym (append-nil (at lists i))
-reference_ids_at (referent ∷ referents) (one ∷ more) lists i within =
-    let id : Option (List ℕ) = slice_get (list_said Ids one.0) 0 in
-    let same : length (with_reference referent id lists) ≡ length lists = reference_length referent id lists in
-    reference_ids_at referents more (with_reference referent id lists) i (omega (arith, within, same))
-    ∙ ap (λ list. list ++ ids_of_references i referents more) (reference_at referent id lists i within)
-    ∙ append_assoc (at lists i) (id_of_reference i referent one.0) (ids_of_references i referents more)
+-- the ids for a place, with those that are left
+abbrev completed_at : (ℕ → List (List ℕ)) → ℕ × List (List ℕ) → List (List ℕ)
+completed_at left (place, ids) = ids ++ left place
 
--- no id for each of so many elements
-abbrev blanks : ℕ → List (List (List ℕ))
-blanks count = replicate count []
+-- some lists, each with the ids of the references that are left
+abbrev pub completed : List (Option ℕ) → List Held → ℕ → List (List (List ℕ)) → List (List (List ℕ))
+completed referents linked place lists = map (completed_at (ids_of_references referents linked)) (enumerate_from place lists)
 
-blank_length : (count : ℕ) → length (blanks count) ≡ count
-blank_length zero = refl
-blank_length (suc count) = ap suc (blank_length count)
+none_so_far : (referents : List (Option ℕ)) (linked : List Held) (place count : ℕ) → completed referents linked place (replicate count []) ≡ map (ids_of_references referents linked) (range_with_len place count)
+none_so_far referents linked place zero = refl
+none_so_far referents linked place (suc count) = ap (λ rest. ids_of_references referents linked place ∷ rest) (none_so_far referents linked (place + 1) count)
 
-blank_at : (count i : ℕ) → at (blanks count) i ≡ []
-blank_at zero i = refl
-blank_at (suc count) zero = refl
-blank_at (suc count) (suc i) = blank_at count i
+-- none is gathered yet
+pub gather_none : (referents : List (Option ℕ)) (linked : List Held) (count : ℕ) → completed referents linked 0 (replicate count []) ≡ reference_ids referents linked count
+gather_none referents linked count = none_so_far referents linked 0 count
 
-lists_are : (lists : List (List (List ℕ))) (outcomes : List Outcome) (place : ℕ) (referents : List (Option ℕ)) (linked : List Held) → length lists ≡ length outcomes
-    → ((i : ℕ) → i < length lists → at lists i ≡ ids_of_references (place + i) referents linked) → with_backref_lists lists outcomes ≡ with_backrefs_from place referents linked outcomes
-lists_are lists [] place referents linked same h = refl
-lists_are [] (outcome ∷ more) place referents linked same h = absurd (omega (arith, same))
-lists_are (list ∷ lists) (outcome ∷ more) place referents linked same h =
-    let first : list ≡ ids_of_references place referents linked = h 0 (omega arith) ∙ ap (λ p. ids_of_references p referents linked) (omega arith) in
-    rw first
-    (ap (λ rest. referred_to (ids_of_references place referents linked) outcome ∷ rest)
-    (lists_are lists more (place + 1) referents linked (omega (arith, same)) (λ i within. h (suc i) (omega (arith, within)) ∙ ap (λ p. ids_of_references p referents linked) (omega arith))))
+onto : (id : Option (List ℕ)) (more : List (List ℕ)) → cons_option id [] ++ more ≡ cons_option id more
+onto None more = refl
+onto (Some id) more = refl
+
+one_more : (referent : Option ℕ) (one : Held) (referents : List (Option ℕ)) (linked : List Held) (place : ℕ) (lists : List (List (List ℕ)))
+    → completed referents linked place (gained (λ i. id_of_reference i referent one.0) place lists) ≡ completed (referent ∷ referents) (one ∷ linked) place lists
+one_more referent one referents linked place [] = refl
+one_more referent one referents linked place (list ∷ lists) =
+    let id : Option (List ℕ) = id_of_reference place referent one.0 in
+    let ids : List (List ℕ) = ids_of_references referents linked place in
+    rw (append_assoc list (cons_option id []) ids, onto id ids) (ap (λ rest. (list ++ cons_option id ids) ∷ rest) (one_more referent one referents linked (place + 1) lists))
+
+-- that of one element more
+pub gather_more : (referents : List (Option ℕ)) (linked : List Linked) (place : ℕ) (referent : Option ℕ) (one : Linked) (lists next all : List (List (List ℕ))) → place < length referents → referent ≡ get_or referents place referent
+    → place < length linked → one ≡ get_or linked place one → next ≡ with_reference referent one.element.now lists
+    → completed (drop place referents) (map held (drop place linked)) 0 lists ≡ all → completed (drop (place + 1) referents) (map held (drop (place + 1) linked)) 0 next ≡ all
+gather_more referents linked place referent one lists next all low at within is gains before =
+    rw gains (one_more referent (held one) (drop (place + 1) referents) (map held (drop (place + 1) linked)) 0 lists)
+    ∙ (rw (drop_more referents place referent low, ← at, drop_more linked place one within, ← is) at before)
+
+complete : (left : ℕ → List (List ℕ)) (place : ℕ) (lists : List (List (List ℕ))) → ((i : ℕ) → left i ≡ []) → map (completed_at left) (enumerate_from place lists) ≡ lists
+complete left place [] none = refl
+complete left place (list ∷ lists) none = rw (none place, append-nil list) (ap (λ rest. list ∷ rest) (complete left (place + 1) lists none))
+
+-- there is no further reference
+pub gather_end : (referents : List (Option ℕ)) (linked : List Held) (place : ℕ) (lists all : List (List (List ℕ))) → length referents ≤ place → completed (drop place referents) linked 0 lists ≡ all → lists ≡ all
+gather_end referents linked place lists all past before = sym (complete (ids_of_references [] linked) 0 lists (λ i. refl)) ∙ (rw (drop_all place referents past) at before)
+
+no_ids : (referents : List (Option ℕ)) (i : ℕ) → ids_of_references referents [] i ≡ []
+no_ids [] i = refl
+no_ids (referent ∷ more) i = refl
+
+-- there is no further element
+pub gather_short : (referents : List (Option ℕ)) (linked : List Linked) (place : ℕ) (lists all : List (List (List ℕ))) → length linked ≤ place → completed (drop place referents) (map held (drop place linked)) 0 lists ≡ all → lists ≡ all
+gather_short referents linked place lists all past before = sym (complete (ids_of_references (drop place referents) []) 0 lists (no_ids (drop place referents))) ∙ (rw (drop_all place linked past) at before)
+
+listed : (ids : ℕ → List (List ℕ)) (place : ℕ) (outcomes : List Outcome) → with_backref_lists (map ids (range_with_len place (length outcomes))) outcomes ≡ map (referred_at ids) (enumerate_from place outcomes)
+listed ids place [] = refl
+listed ids place (outcome ∷ more) = ap (λ rest. referred_to (ids place) outcome ∷ rest) (listed ids (place + 1) more)
 
 -- each element with what was gathered of it tells the ids of the references to it
-pub listed_backrefs : (referents : List (Option ℕ)) (linked : List Held) (outcomes : List Outcome) → with_backref_lists (reference_ids referents linked (replicate (length outcomes) [])) outcomes ≡ with_backrefs referents linked outcomes
-listed_backrefs referents linked outcomes =
-    let count : ℕ = length outcomes in
-    let blank : length (blanks count) ≡ count = blank_length count in
-    let all : length (reference_ids referents linked (blanks count)) ≡ count = reference_ids_length referents linked (blanks count) ∙ blank in
-    lists_are (reference_ids referents linked (blanks count)) outcomes 0 referents linked all
-    (λ i within. reference_ids_at referents linked (blanks count) i (omega (arith, within, all, blank)) ∙ ap (λ list. list ++ ids_of_references i referents linked) (blank_at count i) ∙ ap (λ p. ids_of_references p referents linked) (omega arith))
+pub listed_backrefs : (referents : List (Option ℕ)) (linked : List Held) (outcomes : List Outcome) → with_backref_lists (reference_ids referents linked (length outcomes)) outcomes ≡ with_backrefs referents linked outcomes
+listed_backrefs referents linked outcomes = listed (ids_of_references referents linked) 0 outcomes
 
-neither : (a b : Bool) → (a || b) ≡ false → a ≡ false
-neither true b h = h
-neither false b h = refl
+-- ---- where nothing refers to a footnote or a citation
 
-nor : (a b : Bool) → (a || b) ≡ false → b ≡ false
-nor true b h = absurd (cc)
-nor false b h = h
+neither : (a b : Bool) → (a || b) ≡ false → (a ≡ false) × (b ≡ false)
+neither true b h = absurd (cc)
+neither false b h = (refl, h)
 
--- where nothing refers to a footnote or a citation
-none_meant : (places : Holder → Option ℕ) (all : List Held) (names : Names) (found : List (Option ℕ)) (linked : List Held) (place : ℕ) → list_any (λ one. refers_to_footnote_or_citation one.0) linked ≡ false
-    → ids_of_references place (referents_from places all names found linked) linked ≡ []
-none_meant places all names found [] place none = refl
-none_meant places all names found (one ∷ more) place none =
-    let this : refers_to_footnote_or_citation one.0 ≡ false = neither (refers_to_footnote_or_citation one.0) _ none in
-    let others : list_any (λ one. refers_to_footnote_or_citation one.0) more ≡ false = nor (refers_to_footnote_or_citation one.0) _ none in
-    rw this (rw (no_id (slice_get (list_said Ids one.0) 0)) (none_meant places all names (drop 1 found) more place others))
+none_meant : (places : Holder → Option ℕ) (all : List Held) (names : Names) (found : List (Option ℕ)) (i place : ℕ) (linked : List Held) → list_any (λ (one : Held). refers_to_footnote_or_citation one.0) linked ≡ false
+    → ids_of_references (map (referent_at places all names found) (enumerate_from place linked)) linked i ≡ []
+none_meant places all names found i place [] none = refl
+none_meant places all names found i place (one ∷ more) none =
+    let parts = neither (refers_to_footnote_or_citation one.0) _ none in
+    rw (parts.0) (none_meant places all names found i (place + 1) more parts.1)
 
-unreferred : (referents : List (Option ℕ)) (linked : List Held) (outcomes : List Outcome) (place : ℕ) → ((p : ℕ) → ids_of_references p referents linked ≡ []) → with_backrefs_from place referents linked outcomes ≡ outcomes
-unreferred referents linked [] place h = refl
-unreferred referents linked (outcome ∷ more) place h = rw (h place) (ap (λ rest. outcome ∷ rest) (unreferred referents linked more (place + 1) h))
+unreferred : (ids : ℕ → List (List ℕ)) (place : ℕ) (outcomes : List Outcome) → ((i : ℕ) → ids i ≡ []) → map (referred_at ids) (enumerate_from place outcomes) ≡ outcomes
+unreferred ids place [] none = refl
+unreferred ids place (outcome ∷ more) none = rw (none place) (ap (λ rest. outcome ∷ rest) (unreferred ids (place + 1) more none))
 
 -- no element tells something
-pub none_listed : (places : Holder → Option ℕ) (all : List Held) (names : Names) (outcomes : List Outcome) → list_any (λ one. refers_to_footnote_or_citation one.0) all ≡ false → outcomes ≡ with_backrefs (referents_of places all names) all outcomes
-none_listed places all names outcomes none = sym (unreferred (referents_of places all names) all outcomes 0 (λ p. none_meant places all names (found_by_order all) all p none))
+pub none_listed : (places : Holder → Option ℕ) (all : List Held) (names : Names) (outcomes : List Outcome) → list_any (λ (one : Held). refers_to_footnote_or_citation one.0) all ≡ false → outcomes ≡ with_backrefs (referents_of places all names) all outcomes
+none_listed places all names outcomes none =
+    sym (unreferred (ids_of_references (referents_of places all names) all) 0 outcomes (λ i. none_meant places all names (found_by_order all) i 0 all none))
+
+-- ---- elements and their ids, one after the other
+
+without_lists : (lists : List (List (List ℕ))) (outcomes : List Outcome) → length lists ≡ 0 → with_backref_lists lists outcomes ≡ []
+without_lists [] outcomes none = refl
+without_lists (ids ∷ lists) outcomes none = absurd (omega (arith, none))
+
+without_outcomes : (lists : List (List (List ℕ))) (outcomes : List Outcome) → length outcomes ≡ 0 → with_backref_lists lists outcomes ≡ []
+without_outcomes [] outcomes none = refl
+without_outcomes (ids ∷ lists) [] none = refl
+without_outcomes (ids ∷ lists) (outcome ∷ outcomes) none = absurd (omega (arith, none))
+
+-- there are no further lists
+pub ends_with_lists : (changed all : List Outcome) (lists : List (List (List ℕ))) (outcomes : List Outcome) → length lists ≡ 0 → changed ++ with_backref_lists lists outcomes ≡ all → changed ≡ all
+ends_with_lists changed all lists outcomes none before = sym (append-nil changed) ∙ (rw (without_lists lists outcomes none) at before)
+
+-- there are no further elements
+pub ends_with_outcomes : (changed all : List Outcome) (lists : List (List (List ℕ))) (outcomes : List Outcome) → length outcomes ≡ 0 → changed ++ with_backref_lists lists outcomes ≡ all → changed ≡ all
+ends_with_outcomes changed all lists outcomes none before = sym (append-nil changed) ∙ (rw (without_outcomes lists outcomes none) at before)

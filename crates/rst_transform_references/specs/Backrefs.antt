@@ -1,6 +1,6 @@
 -- What footnotes and citations tell of the references to them (Document Tree, `backrefs`).
-use Rattle.std.specs.Prelude.{ℕ, zero, suc, ◌+◌, Bool, false, List, [], ◌∷◌, ◌++◌, drop, nat_eq, if◌then◌else◌, slice_get, Option, Some, None}
-use Rattle.std.specs.Option.{option_flatten}
+use Rattle.std.specs.Prelude.{ℕ, Bool, false, List, [], ◌∷◌, ◌++◌, map, nat_eq, if◌then◌else◌, slice_get, Option, Some, None}
+use Rattle.std.specs.List.{cons_option, enumerate_from, filter_map, range_with_len, zip}
 use Rattle.rst_transform_names.specs.declared.names.Holder.{Holder}
 use Rattle.rst_transform_names.specs.declared.names.Names.{Names}
 use Rattle.rst_tree.specs.declared.attrs.Value.TheVariants.{List as Listed}
@@ -14,6 +14,7 @@ use Rattle.rst_transform_links.specs.Linkings.{Held}
 use Rattle.rst_transform_references.specs.Meanings.{meaning_to, refers_to_footnote_or_citation}
 use Rattle.rst_transform_links.specs.FootnoteOrders.{found_by_order}
 use Rattle.rst_transform_links.specs.Outcomes.{adds}
+use Rattle.rst_transform_work.specs.Lists.{at_place}
 use Rattle.rst_transform_work.specs.Reading.{list_said}
 
 -- the footnote or citation that a name means, or else that which is found by the order
@@ -23,77 +24,62 @@ referent_meant (Some Unknown) found = found
 referent_meant (Some Duplicate) found = found
 referent_meant None found = found
 
--- the first of some places, if there is one
-abbrev pub first_found : List (Option ℕ) → Option ℕ
-first_found found = option_flatten (slice_get found 0)
-
--- for each linked element the place of the footnote or citation that it refers to, by its name or by the order
+-- the places of holders among the linked elements of a document, these, and its names
 module _ (places : Holder → Option ℕ) (all : List Held) (names : Names) where
+  -- the place of the footnote or citation that an element refers to, by its name or by what it finds by the order
   abbrev pub referent_of : Node → Option ℕ → Option ℕ
   referent_of node found = if refers_to_footnote_or_citation node then referent_meant (meaning_to places all names node) found else None
 
-  abbrev pub referents_from : List (Option ℕ) → List Held → List (Option ℕ)
-  referents_from found [] = []
-  referents_from found (one ∷ more) = referent_of one.0 (first_found found) ∷ referents_from (drop 1 found) more
+  -- the same of the element at a place, by what all find
+  abbrev pub referent_at : List (Option ℕ) → ℕ × Held → Option ℕ
+  referent_at found (place, one) = referent_of one.0 (at_place found place)
 
+  -- the same of each linked element
   abbrev pub referents_of : List (Option ℕ)
-  referents_of = referents_from (found_by_order all) all
+  referents_of = map (referent_at (found_by_order all)) (enumerate_from 0 all)
 
--- the id of a reference, if it refers to the footnote or citation at a place
-abbrev pub id_if : Bool → Option (List ℕ) → List (List ℕ)
-id_if b None = []
-id_if b (Some id) = if b then id ∷ [] else []
-
+-- there is a place, and it is this one
 abbrev pub is_at : ℕ → Option ℕ → Bool
 is_at place (Some other) = nat_eq other place
 is_at place None = false
 
-abbrev pub id_of_reference : ℕ → Option ℕ → Node → List (List ℕ)
-id_of_reference place meant node = id_if (is_at place meant) (slice_get (list_said Ids node) 0)
+-- the id of an element, by what it refers to, if that is the footnote or citation at a place
+abbrev pub id_of_reference : ℕ → Option ℕ → Node → Option (List ℕ)
+id_of_reference place referent node = if is_at place referent then slice_get (list_said Ids node) 0 else None
+
+-- the same of an element beside what it refers to
+abbrev pub id_of_pair : ℕ → Option ℕ × Held → Option (List ℕ)
+id_of_pair place (referent, one) = id_of_reference place referent one.0
 
 -- the ids of the references to the footnote or citation at a place, in order
-abbrev pub ids_of_references : ℕ → List (Option ℕ) → List Held → List (List ℕ)
-ids_of_references place referents [] = []
-ids_of_references place [] (one ∷ more) = []
-ids_of_references place (first ∷ referents) (one ∷ more) = id_of_reference place first one.0 ++ ids_of_references place referents more
+abbrev pub ids_of_references : List (Option ℕ) → List Held → ℕ → List (List ℕ)
+ids_of_references referents linked place = filter_map (id_of_pair place) (zip referents linked)
 
 -- what becomes of an element that these references refer to
 abbrev pub referred_to : List (List ℕ) → Outcome → Outcome
 referred_to [] outcome = outcome
 referred_to (id ∷ more) outcome = adds (Some (attr Backrefs (Listed (id ∷ more))))
 
--- What becomes of linked elements, of which the first is at a place. No other element than a footnote or a citation is referred to so.
-abbrev pub with_backrefs_from : ℕ → List (Option ℕ) → List Held → List Outcome → List Outcome
-with_backrefs_from place referents linked [] = []
-with_backrefs_from place referents linked (outcome ∷ more) = referred_to (ids_of_references place referents linked) outcome ∷ with_backrefs_from (place + 1) referents linked more
+-- the same of the element at a place, by the ids for each place
+abbrev pub referred_at : (ℕ → List (List ℕ)) → ℕ × Outcome → Outcome
+referred_at ids (place, outcome) = referred_to (ids place) outcome
 
+-- What becomes of linked elements. No other element than a footnote or a citation is referred to so.
 abbrev pub with_backrefs : List (Option ℕ) → List Held → List Outcome → List Outcome
-with_backrefs = with_backrefs_from 0
+with_backrefs referents linked outcomes = map (referred_at (ids_of_references referents linked)) (enumerate_from 0 outcomes)
 
--- an id behind those of a list at a place
-abbrev pub put_behind : ℕ → List ℕ → List (List (List ℕ)) → List (List (List ℕ))
-put_behind place id [] = []
-put_behind zero id (list ∷ more) = (list ++ id ∷ []) ∷ more
-put_behind (suc place) id (list ∷ more) = list ∷ put_behind place id more
+-- the ids for a place, and that of one element more, if it refers there
+abbrev pub with_id : Option ℕ → Node → ℕ × List (List ℕ) → List (List ℕ)
+with_id referent node (place, ids) = ids ++ cons_option (id_of_reference place referent node) []
 
--- the id of a reference, if it has one, behind those of the footnote or citation that it refers to
-abbrev pub with_reference : Option ℕ → Option (List ℕ) → List (List (List ℕ)) → List (List (List ℕ))
-with_reference (Some place) (Some id) lists = put_behind place id lists
-with_reference (Some place) None lists = lists
-with_reference None id lists = lists
+-- the ids for all places, and that of one element more
+abbrev pub with_reference : Option ℕ → Node → List (List (List ℕ)) → List (List (List ℕ))
+with_reference referent node lists = map (with_id referent node) (enumerate_from 0 lists)
 
--- the lists of the ids of references, one after the other
-abbrev pub reference_ids : List (Option ℕ) → List Held → List (List (List ℕ)) → List (List (List ℕ))
-reference_ids referents [] lists = lists
-reference_ids [] (one ∷ more) lists = lists
-reference_ids (first ∷ referents) (one ∷ more) lists = reference_ids referents more (with_reference first (slice_get (list_said Ids one.0) 0) lists)
+-- for each of so many elements the ids of the references to it
+abbrev pub reference_ids : List (Option ℕ) → List Held → ℕ → List (List (List ℕ))
+reference_ids referents linked count = map (ids_of_references referents linked) (range_with_len 0 count)
 
--- the first list of ids, or none
-abbrev pub referred_by : Option (List (List ℕ)) → Outcome → Outcome
-referred_by (Some ids) outcome = referred_to ids outcome
-referred_by None outcome = outcome
-
--- each element with its list
+-- what becomes of elements, each with its ids
 abbrev pub with_backref_lists : List (List (List ℕ)) → List Outcome → List Outcome
-with_backref_lists lists [] = []
-with_backref_lists lists (outcome ∷ more) = referred_by (slice_get lists 0) outcome ∷ with_backref_lists (drop 1 lists) more
+with_backref_lists lists outcomes = map (λ p. referred_to p.0 p.1) (zip lists outcomes)

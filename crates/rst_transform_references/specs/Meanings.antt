@@ -5,7 +5,7 @@ use Rattle.rst_transform_names.specs.declared.names.NameEntry.{NameEntry}
 use Rattle.rst_transform_names.specs.declared.names.Holder.{Holder}
 use Rattle.rst_transform_names.specs.declared.names.Holder.TheVariants.{Nobody}
 use Rattle.rst_transform_names.specs.declared.names.Names.{Names}
-use Rattle.rst_transform_names.specs.Names.{held_by, kept_for}
+use Rattle.rst_transform_names.specs.Names.{held_by}
 use Rattle.rst_tree.specs.declared.key.Key.TheVariants.{Refname}
 use Rattle.rst_tree.specs.declared.node.Node.{Node}
 use Rattle.rst_tree.specs.declared.node.Node.TheVariants.{Element, Text}
@@ -64,22 +64,22 @@ element_at linked (Some place) = option_map (λ one. one.0) (slice_get linked pl
 -- the places of holders among the linked elements of a document, these, and its names
 module _ (places : Holder → Option ℕ) (linked : List Held) (names : Names) where
   -- What a name means that some element was written with. A reference to footnotes and citations means nothing else.
-  abbrev pub held_meaning : List ℕ → Bool → NameEntry → Meaning
-  held_meaning name needs_referent held =
+  abbrev pub held_meaning : Bool → NameEntry → Meaning
+  held_meaning needs_referent held =
       let place : Option ℕ = places held.holder in
       let element : Option Node = element_at linked place in
       let referent : Option ℕ = referent_place element place in
       if is_nobody held.holder then Duplicate
       else if needs_referent && not (is_some referent) then Unknown
-      else Leads (name_lead element (kept_for names name) held.id) referent
+      else Leads (name_lead element held.uri held.id) referent
 
-  abbrev pub known_meaning : List ℕ → Bool → Option NameEntry → Meaning
-  known_meaning name needs_referent None = Unknown
-  known_meaning name needs_referent (Some held) = held_meaning name needs_referent held
+  abbrev pub known_meaning : Bool → Option NameEntry → Meaning
+  known_meaning needs_referent None = Unknown
+  known_meaning needs_referent (Some held) = held_meaning needs_referent held
 
   abbrev pub meaning_of : Node → Option (List ℕ) → Option Meaning
   meaning_of node None = None
-  meaning_of node (Some name) = Some (known_meaning name (refers_to_footnote_or_citation node) (held_by names name))
+  meaning_of node (Some name) = Some (known_meaning (refers_to_footnote_or_citation node) (held_by names name))
 
   -- what its name means to a reference by name
   abbrev pub meaning_to : Node → Option Meaning

@@ -1,20 +1,17 @@
 //! What footnotes and citations tell of the references to them.
-ghost use Rattle.std.specs.Prelude.{◌≡◌, [], map, replicate, slice_get};
+ghost use Rattle.std.specs.Prelude.{◌≡◌, [], map, replicate};
 ghost use Rattle.std.specs.List.{list_any};
 ghost use Rattle.rst_tree.specs.Faults.{Gives};
-ghost use Rattle.rst_tree.specs.declared.key.Key.TheVariants.{Ids};
-ghost use Rattle.rst_transform_references.specs.Backrefs.{first_found, reference_ids, referent_meant, referent_of, referents_of, referred_by, with_backref_lists, with_backrefs, with_reference};
+ghost use Rattle.rst_transform_references.specs.Backrefs.{reference_ids, referent_meant, referent_of, referents_of, referred_to, with_backref_lists, with_backrefs, with_reference};
 ghost use Rattle.rst_transform_links.specs.Holders.{place_at};
 ghost use Rattle.rst_transform_links.specs.Linkings.{held};
 ghost use Rattle.rst_transform_references.specs.Meanings.{refers_to_footnote_or_citation};
-ghost use Rattle.rst_transform_work.specs.Reading.{list_said};
 
 use crate::meanings::{Lookup, Meaning, refers_to_footnote_or_citation};
 use rst_transform_links::{Linked, Outcome, found_by_order};
-use rst_transform_work::first_said;
+use rst_transform_work::{at_place, first_said};
 use rst_tree::{Entry, Key, Node, Text, Texts, TreeFault, Value};
 use std::alloc::Global;
-use std::collections::VecDeque;
 
 /// The footnote or citation that a name means, or else that which is found by the order.
 fn referent_meant(meaning: Option<Meaning>, found: Option<usize>) -> Option<usize>
@@ -24,13 +21,6 @@ fn referent_meant(meaning: Option<Meaning>, found: Option<usize>) -> Option<usiz
         Some(Meaning::Leads { referent, .. }) => referent,
         Some(Meaning::Unknown | Meaning::Duplicate) | None => found,
     }
-}
-
-/// The first of some places, if there is one.
-fn first_found(found: &[Option<usize>]) -> Option<usize>
-    ensures { result ≡ first_found found.now }
-{
-    *found.first()?
 }
 
 /// The place of the footnote or citation that an element refers to, by its name or by the order.
@@ -54,12 +44,11 @@ fn referents_of(alloc: Global, lookup: &Lookup<'_>) -> Result<Vec<Option<usize>>
     ensures { Gives (λ referents. referents.items ≡ referents_of (place_at lookup.now.holders.places.items) (map held lookup.now.linked.now) lookup.now.names.now) result }
 {
     let linked = lookup.linked;
-    let by_order = found_by_order(alloc, linked)?;
-    let mut found = by_order.as_slice();
+    let found = found_by_order(alloc, linked)?;
     let mut referents = Vec::with_capacity(alloc, linked.len())?;
-    for one in linked {
-        referents.push(referent_of(alloc, lookup, one.element, first_found(found))?)?;
-        found = &found[found.len().min(1)..];
+    for (place, one) in linked.iter().enumerate() {
+        let found = at_place(found.as_slice(), place);
+        referents.push(referent_of(alloc, lookup, one.element, found)?)?;
     }
     Ok(referents)
 }
@@ -76,14 +65,14 @@ fn no_ids(alloc: Global, count: usize) -> Result<Vec<Texts>, TreeFault>
 }
 
 /// Puts the id of a reference behind those of the footnote or citation that it refers to, if there is one.
-#[tactic(auto, using(crate::proofs::Referring::put_past, crate::proofs::Referring::put_within))]
+#[tactic(auto, using(crate::proofs::Referring::refers_to_none, crate::proofs::Referring::refers_without_id, crate::proofs::Referring::refers_past, crate::proofs::Referring::refers_within))]
 fn add_reference(
     alloc: Global,
     lists: &mut Vec<Texts>,
     referent: Option<usize>,
     reference: &Node,
 ) -> Result<(), TreeFault>
-    ensures { Gives (λ _. lists.new.items ≡ with_reference referent (slice_get (list_said Ids reference.now) 0) lists.old.items) result }
+    ensures { Gives (λ _. lists.new.items ≡ with_reference referent reference.now lists.old.items) result }
 {
     let Some(referent) = referent else {
         return Ok(());
@@ -106,7 +95,7 @@ fn reference_ids(
     referents: &[Option<usize>],
     count: usize,
 ) -> Result<Vec<Texts>, TreeFault>
-    ensures { Gives (λ lists. lists.items ≡ reference_ids referents.now (map held linked.now) (replicate count [])) result }
+    ensures { Gives (λ lists. lists.items ≡ reference_ids referents.now (map held linked.now) count) result }
 {
     let mut lists = no_ids(alloc, count)?;
     for (place, referent) in referents.iter().enumerate() {
@@ -119,12 +108,9 @@ fn reference_ids(
 }
 
 /// What becomes of an element that the references with these ids refer to.
-fn referred_by(ids: Option<Texts>, outcome: Outcome) -> Outcome
-    ensures { result ≡ referred_by ids outcome }
+fn referred_to(ids: Texts, outcome: Outcome) -> Outcome
+    ensures { result ≡ referred_to ids outcome }
 {
-    let Some(ids) = ids else {
-        return outcome;
-    };
     if ids.as_slice().is_empty() {
         return outcome;
     }
@@ -139,10 +125,9 @@ fn with_backref_lists(
 ) -> Result<Vec<Outcome>, TreeFault>
     ensures { Gives (λ changed. changed.items ≡ with_backref_lists lists.items outcomes.items) result }
 {
-    let mut lists = VecDeque::from_vec(lists);
     let mut changed = Vec::with_capacity(alloc, outcomes.len())?;
-    for outcome in outcomes {
-        changed.push(referred_by(lists.pop_front(), outcome))?;
+    for (ids, outcome) in lists.into_iter().zip(outcomes) {
+        changed.push(referred_to(ids, outcome))?;
     }
     Ok(changed)
 }

@@ -110,12 +110,8 @@ impl<'a> Lookup<'a> {
         let Some(known) = self.names.get(name) else {
             return Ok(Some(Meaning::Unknown));
         };
-        let meaning = self.held_meaning(
-            alloc,
-            name,
-            refers_to_footnote_or_citation(element),
-            known,
-        )?;
+        let needs_referent = refers_to_footnote_or_citation(element);
+        let meaning = self.held_meaning(alloc, needs_referent, known)?;
         Ok(Some(meaning))
     }
 
@@ -123,11 +119,10 @@ impl<'a> Lookup<'a> {
     fn held_meaning(
         &self,
         alloc: Global,
-        name: &str,
         needs_referent: bool,
         known: &NameEntry,
     ) -> Result<Meaning, TreeFault>
-        ensures { Gives (λ meaning. meaning ≡ held_meaning (place_at self.now.holders.places.items) (map held self.now.linked.now) self.now.names.now name.now needs_referent known.now) result }
+        ensures { Gives (λ meaning. meaning ≡ held_meaning (place_at self.now.holders.places.items) (map held self.now.linked.now) self.now.names.now needs_referent known.now) result }
     {
         if is_nobody(known.holder) {
             return Ok(Meaning::Duplicate);
@@ -138,7 +133,7 @@ impl<'a> Lookup<'a> {
         if needs_referent && referent.is_none() {
             return Ok(Meaning::Unknown);
         }
-        let attr = lead_by_name(alloc, self.names, name, known, holder)?;
+        let attr = lead_by_name(alloc, known, holder)?;
         Ok(Meaning::Leads { attr, referent })
     }
 }

@@ -1,6 +1,8 @@
 //! References by name.
-ghost use Rattle.std.specs.Prelude.{◌≡◌, ◌||◌, length, map};
+ghost use Rattle.std.specs.Prelude.{◌≡◌, ◌||◌, false, length, map};
 ghost use Rattle.rst_tree.specs.Faults.{Gives};
+ghost use Rattle.rst_tree.specs.Walk.{node_items};
+ghost use Rattle.rst_tree_index.specs.Kinds.{kinds_of, HasNoNewLinkKinds};
 ghost use Rattle.rst_transform_links.specs.declared.links.Outcome.TheVariants.{Fails};
 ghost use Rattle.rst_transform_links.specs.Holders.{place_at};
 ghost use Rattle.rst_transform_links.specs.Linkings.{held};
@@ -53,8 +55,21 @@ use std::mem;
 /// ```
 ///
 /// A name that means nothing gives an ERROR, and the reference becomes a problematic; the references inside it are gone, and
-/// give no message.
-pub fn resolve(alloc: Global, mut work: Work) -> Result<Work, TreeFault>
+/// give no message. `has` says whether the document may have an element at an end of a link; without one it stays as it is.
+pub fn resolve(alloc: Global, work: Work, has: bool) -> Result<Work, TreeFault>
+    requires has { has ≡ false → (kinds_of (node_items work.root)).links ≡ false }
+    ensures resolved { Gives (IsResolved work) result }
+    ensures kinds { Gives (λ after. HasNoNewLinkKinds (node_items work.root) (node_items after.root)) result }
+{
+    if !has {
+        return Ok(work);
+    }
+    let work = resolved(alloc, work)?;
+    Ok(work)
+}
+
+/// Resolves the references by name of a document.
+fn resolved(alloc: Global, mut work: Work) -> Result<Work, TreeFault>
     ensures { Gives (IsResolved work) result }
 {
     let root = take_root(alloc, &mut work);

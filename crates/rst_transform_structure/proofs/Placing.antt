@@ -1,18 +1,20 @@
--- Transitions that get their places, one node after another.
-use Rattle.std.proofs.Common.{◌≡◌, ℕ, suc, ◌+◌, ◌-◌, ◌<◌, List, [], ◌∷◌, ◌++◌, length, drop, get_or, Bool, true, false, not, nat_eq, nat_lt, refl, ap, sym, subst, ◌∙◌, arith, add-one, drop-cons, length-drop}
-use Rattle.std.specs.Prelude.{◌&&◌, ◌||◌, if◌then◌else◌}
+-- Transitions that get their places in a loop, one node after another.
+use Rattle.std.proofs.Common.{◌≡◌, ℕ, suc, ◌+◌, ◌-◌, ◌<◌, List, [], ◌∷◌, ◌++◌, length, drop, get_or, Bool, true, false, nat_eq, refl, ap, sym, subst, ◌∙◌, arith, add-one, drop-cons, length-drop}
+use Rattle.std.specs.Prelude.{◌&&◌}
 use Rattle.rst_tree.proofs.Changes.{forest_of-nodes_of}
 use Rattle.rst_tree.specs.declared.attrs.Attr.{Attr}
 use Rattle.rst_tree.specs.declared.node.Node.{Node}
 use Rattle.rst_tree.specs.declared.node.Node.TheVariants.{Element, Text}
 use Rattle.rst_tree.specs.declared.tag.Tag.{Tag}
-use Rattle.rst_tree.specs.Forest.{Forest, bare, element, words}
+use Rattle.rst_tree.specs.Forest.{Forest}
 use Rattle.rst_tree.specs.Nodes.{forest_of, nodes_of, join_node}
 use Rattle.rst_transform_structure.specs.declared.transitions.Placed.{Placed}
 use Rattle.rst_transform_work.specs.declared.work.Report.{Report}
 use Rattle.rst_transform_work.specs.declared.work.Work.{Work}
 use Rattle.rst_transform_work.specs.Reports.{KeepsRest}
-use Rattle.rst_transform_structure.specs.Transitions.{Siblings, behind, further, holds, is_last, is_section, is_transition, none_yet, place_in, put_element, put_transition, so_far, with_node}
+use Rattle.rst_transform_structure.specs.Siblings.{Siblings, all_placed, further, put_after, put_element, put_transition, so_far, with_node}
+use Rattle.rst_transform_structure.specs.Transitions.{is_last, is_transition, moved, next_number, titles, with_messages, with_places, with_reports}
+use Rattle.rst_transform_structure.proofs.Steps.{place_in, place_none, siblings, step_element, step_text, step_transition}
 
 keeps_first : (old new : Work) → KeepsRest old new → new.first_number ≡ old.first_number
 keeps_first old new kept = ap (λ w. w.first_number) kept
@@ -29,23 +31,20 @@ last_of (Element t a c l ∷ ns) = grind arith
 last_of (Text t ∷ ns) = grind arith
 
 -- places the nodes of an element: what is left of them gives what all give
-pub record Placing (old : Work) (escape : Bool) (nodes : Forest) (left i : ℕ) (placed : Placed) (work : Work) : Type 0 where
-  pub same : place_in old.first_number escape (so_far placed work) (forest_of (drop i (nodes_of nodes))) ≡ place_in old.first_number escape (none_yet old.reports.items) nodes
+pub record Placing (old : Work) (ends : Bool) (nodes : Forest) (left i : ℕ) (placed : Placed) (work : Work) : Type 0 where
+  pub same : place_in old.first_number ends (so_far placed work) (forest_of (drop i (nodes_of nodes))) ≡ all_placed old.first_number ends old.reports.items nodes
   pub kept : KeepsRest old work
   pub counted : left + i ≡ length (nodes_of nodes)
 
-abbrev made : List Node → List Node → List Report → Siblings
-made placed moving reports = record { placed = placed; moving = moving; reports = reports }
+abbrev none_yet : List Report → Siblings
+none_yet reports = record { placed = []; moving = []; reports = reports }
 
-siblings : (s : Siblings) (u : Siblings) → s.placed ≡ u.placed → s.moving ≡ u.moving → s.reports ≡ u.reports → s ≡ u
-siblings s u p m r = ap (λ x. made x s.moving s.reports) p ∙ ap (λ y. made u.placed y s.reports) m ∙ ap (made u.placed u.moving) r
-
-pub Placing-init : (old : Work) (escape : Bool) (nodes : Forest) (left : ℕ) (placed : Placed) → placed.nodes.items ≡ [] → placed.moving.items ≡ [] → left ≡ length (nodes_of nodes)
-    → Placing old escape nodes left 0 placed old
-Placing-init old escape nodes left placed none still all =
+pub Placing-init : (old : Work) (ends : Bool) (nodes : Forest) (left : ℕ) (placed : Placed) → placed.nodes.items ≡ [] → placed.moving.items ≡ [] → left ≡ length (nodes_of nodes)
+    → Placing old ends nodes left 0 placed old
+Placing-init old ends nodes left placed none still all =
     record {
-      same = ap (λ s. place_in old.first_number escape s (forest_of (nodes_of nodes))) (siblings (so_far placed old) (none_yet old.reports.items) none still refl)
-          ∙ ap (place_in old.first_number escape (none_yet old.reports.items)) (forest_of-nodes_of nodes);
+      same = ap (λ s. place_in old.first_number ends s (forest_of (nodes_of nodes))) (siblings (so_far placed old) (none_yet old.reports.items) none still refl)
+          ∙ ap (place_in old.first_number ends (none_yet old.reports.items)) (forest_of-nodes_of nodes);
       kept = refl;
       counted = omega (arith, all);
     }
@@ -67,92 +66,66 @@ met_left nodes left less i j n ns m counted = let e : length ns ≡ length (node
 rest_length : (xs : List Node) (i less : ℕ) → less + i ≡ length xs → length (drop i xs) ≡ less
 rest_length xs i less e = let k = length-drop i xs in omega (arith, k, e)
 
-step_more : (first : ℕ) (escape : Bool) (s s' start : Siblings) (nodes : Forest) (xs : List Node) (i less : ℕ) (n : Node) → place_in first escape s (forest_of (drop i xs)) ≡ place_in first escape start nodes
+step_more : (first : ℕ) (ends : Bool) (s s' all : Siblings) (xs : List Node) (i less : ℕ) (n : Node) → place_in first ends s (forest_of (drop i xs)) ≡ all
     → drop i xs ≡ n ∷ drop (i + 1) xs → less + (i + 1) ≡ length xs
-    → ((r : Forest) → is_last r ≡ nat_eq less 0 → place_in first escape s (join_node n r) ≡ place_in first escape s' r)
-    → place_in first escape s' (forest_of (drop (i + 1) xs)) ≡ place_in first escape start nodes
-step_more first escape s s' start nodes xs i less n same cut counted step =
+    → ((r : Forest) → is_last r ≡ nat_eq less 0 → place_in first ends s (join_node n r) ≡ place_in first ends s' r)
+    → place_in first ends s' (forest_of (drop (i + 1) xs)) ≡ all
+step_more first ends s s' all xs i less n same cut counted step =
     let last : is_last (forest_of (drop (i + 1) xs)) ≡ nat_eq less 0 = last_of (drop (i + 1) xs) ∙ ap (λ k. nat_eq k 0) (rest_length xs (i + 1) less counted) in
-    sym (step (forest_of (drop (i + 1) xs)) last) ∙ ap (λ ys. place_in first escape s (forest_of ys)) (sym cut) ∙ same
+    sym (step (forest_of (drop (i + 1) xs)) last) ∙ ap (λ ys. place_in first ends s (forest_of ys)) (sym cut) ∙ same
 
-Placing-more : (old : Work) (escape : Bool) (nodes : Forest) (left less i j : ℕ) (placed placed' : Placed) (work work' : Work) (n : Node) (ns : List Node) → Placing old escape nodes left i placed work
+Placing-more : (old : Work) (ends : Bool) (nodes : Forest) (left less i j : ℕ) (placed placed' : Placed) (work work' : Work) (n : Node) (ns : List Node) → Placing old ends nodes left i placed work
     → Met nodes left less i j n ns → KeepsRest work work'
-    → ((r : Forest) → is_last r ≡ nat_eq less 0 → place_in old.first_number escape (so_far placed work) (join_node n r) ≡ place_in old.first_number escape (so_far placed' work') r)
-    → Placing old escape nodes less j placed' work'
-Placing-more old escape nodes left less i j placed placed' work work' n ns p m kept step =
-    subst (λ k. Placing old escape nodes less k placed' work') (sym m.next) (record {
-      same = step_more old.first_number escape (so_far placed work) (so_far placed' work') (none_yet old.reports.items) nodes (nodes_of nodes) i less n p.same (met_drops nodes left less i j n ns m)
+    → ((r : Forest) → is_last r ≡ nat_eq less 0 → place_in old.first_number ends (so_far placed work) (join_node n r) ≡ place_in old.first_number ends (so_far placed' work') r)
+    → Placing old ends nodes less j placed' work'
+Placing-more old ends nodes left less i j placed placed' work work' n ns p m kept step =
+    subst (λ k. Placing old ends nodes less k placed' work') (sym m.next) (record {
+      same = step_more old.first_number ends (so_far placed work) (so_far placed' work') (all_placed old.first_number ends old.reports.items nodes) (nodes_of nodes) i less n p.same (met_drops nodes left less i j n ns m)
           (met_left nodes left less i j n ns m p.counted) step;
       kept = keeps_more old work work' p.kept kept;
       counted = met_left nodes left less i j n ns m p.counted;
     })
 
-step_text : (first : ℕ) (escape : Bool) (s : Siblings) (t : List ℕ) (r : Forest) → place_in first escape s (words t r) ≡ place_in first escape (with_node (Text t) s) r
-unfolding place_in
-step_text first escape s t r = refl
-
-step_transition : (first : ℕ) (escape : Bool) (s : Siblings) (t : Tag) (a : List Attr) (c : Forest) (l : ℕ) (r : Forest) → is_transition t ≡ true
-    → place_in first escape s (element t a c l r) ≡ place_in first escape (put_transition first (is_last r) escape (Element t a c l) l s) r
-unfolding place_in
-step_transition first escape s t a c l r is =
-    ap (λ (b : Bool). place_in first escape (if b then put_transition first (is_last r) escape (Element t a c l) l s else put_element (holds t r) t a l (place_in first (holds t r || escape) (none_yet s.reports) c) s) r) is
-
-step_element : (first : ℕ) (escape : Bool) (s : Siblings) (t : Tag) (a : List Attr) (c : Forest) (l : ℕ) (r : Forest) → is_transition t ≡ false
-    → place_in first escape s (element t a c l r) ≡ place_in first escape (put_element (holds t r) t a l (place_in first (holds t r || escape) (none_yet s.reports) c) s) r
-unfolding place_in
-step_element first escape s t a c l r is =
-    ap (λ (b : Bool). place_in first escape (if b then put_transition first (is_last r) escape (Element t a c l) l s else put_element (holds t r) t a l (place_in first (holds t r || escape) (none_yet s.reports) c) s) r) is
-
-pub Placing-text : (old : Work) (escape : Bool) (nodes : Forest) (left less i j : ℕ) (placed placed' : Placed) (work : Work) (n : Node) (ns : List Node) (t : List ℕ) → Placing old escape nodes left i placed work
+pub Placing-text : (old : Work) (ends : Bool) (nodes : Forest) (left less i j : ℕ) (placed placed' : Placed) (work : Work) (n : Node) (ns : List Node) (t : List ℕ) → Placing old ends nodes left i placed work
     → ns ≡ nodes_of nodes → i < length ns → n ≡ get_or ns i n → less ≡ left - 1 → j ≡ i + 1
     → n ≡ Text t → placed'.nodes.items ≡ placed.nodes.items ++ Text t ∷ [] → placed'.moving.items ≡ placed.moving.items
-    → Placing old escape nodes less j placed' work
-Placing-text old escape nodes left less i j placed placed' work n ns t p items fits at one next is put still =
-    Placing-more old escape nodes left less i j placed placed' work work n ns p (record { items = items; fits = fits; at = at; one = one; next = next }) refl
-    (λ r last. ap (λ m. place_in old.first_number escape (so_far placed work) (join_node m r)) is ∙ step_text old.first_number escape (so_far placed work) t r
-    ∙ ap (λ s. place_in old.first_number escape s r) (siblings (with_node (Text t) (so_far placed work)) (so_far placed' work) (sym put) (sym still) refl))
+    → Placing old ends nodes less j placed' work
+Placing-text old ends nodes left less i j placed placed' work n ns t p items fits at one next is put still =
+    Placing-more old ends nodes left less i j placed placed' work work n ns p (record { items = items; fits = fits; at = at; one = one; next = next }) refl
+    (λ r last. ap (λ m. place_in old.first_number ends (so_far placed work) (join_node m r)) is ∙ step_text old.first_number ends (so_far placed work) t r
+    ∙ ap (λ s. place_in old.first_number ends s r) (siblings (with_node (Text t) (so_far placed work)) (so_far placed' work) (sym put) (sym still) refl))
 
-pub Placing-transition : (old : Work) (escape : Bool) (nodes : Forest) (left less i j : ℕ) (placed placed' : Placed) (work work' : Work) (n : Node) (ns : List Node) (t : Tag) (a : List Attr) (c : Forest) (l : ℕ)
-    → Placing old escape nodes left i placed work → ns ≡ nodes_of nodes → i < length ns → n ≡ get_or ns i n → less ≡ left - 1 → j ≡ i + 1
+pub Placing-transition : (old : Work) (ends : Bool) (nodes : Forest) (left less i j : ℕ) (placed placed' : Placed) (work work' : Work) (n : Node) (ns : List Node) (t : Tag) (a : List Attr) (c : Forest) (l : ℕ)
+    → Placing old ends nodes left i placed work → ns ≡ nodes_of nodes → i < length ns → n ≡ get_or ns i n → less ≡ left - 1 → j ≡ i + 1
     → n ≡ Element t a c l → is_transition t ≡ true → KeepsRest work work'
-    → so_far placed' work' ≡ put_transition work.first_number (nat_eq less 0) escape (Element t a c l) l (so_far placed work)
-    → Placing old escape nodes less j placed' work'
-Placing-transition old escape nodes left less i j placed placed' work work' n ns t a c l p items fits at one next is kind kept put =
-    Placing-more old escape nodes left less i j placed placed' work work' n ns p (record { items = items; fits = fits; at = at; one = one; next = next }) kept
-    (λ r last. ap (λ m. place_in old.first_number escape (so_far placed work) (join_node m r)) is ∙ step_transition old.first_number escape (so_far placed work) t a c l r kind
-    ∙ ap (λ b. place_in old.first_number escape (put_transition old.first_number b escape (Element t a c l) l (so_far placed work)) r) last
-    ∙ ap (λ k. place_in old.first_number escape (put_transition k (nat_eq less 0) escape (Element t a c l) l (so_far placed work)) r) (sym (keeps_first old work p.kept))
-    ∙ ap (λ s. place_in old.first_number escape s r) (sym put))
+    → so_far placed' work' ≡ put_transition work.first_number (nat_eq less 0) ends (Element t a c l) l (so_far placed work)
+    → Placing old ends nodes less j placed' work'
+Placing-transition old ends nodes left less i j placed placed' work work' n ns t a c l p items fits at one next is kind kept put =
+    Placing-more old ends nodes left less i j placed placed' work work' n ns p (record { items = items; fits = fits; at = at; one = one; next = next }) kept
+    (λ r last. ap (λ m. place_in old.first_number ends (so_far placed work) (join_node m r)) is ∙ step_transition old.first_number ends (so_far placed work) t a c l r kind
+    ∙ ap (λ b. place_in old.first_number ends (put_transition old.first_number b ends (Element t a c l) l (so_far placed work)) r) last
+    ∙ ap (λ k. place_in old.first_number ends (put_transition k (nat_eq less 0) ends (Element t a c l) l (so_far placed work)) r) (sym (keeps_first old work p.kept))
+    ∙ ap (λ s. place_in old.first_number ends s r) (sym put))
 
-above_none : (n : ℕ) → not (nat_eq n 0) ≡ nat_lt 0 n
-above_none n = grind arith
-
-holds_when : (t : Tag) (r : Forest) (less : ℕ) → is_last r ≡ nat_eq less 0 → holds t r ≡ (is_section t && nat_lt 0 less)
-holds_when t r less last = ap (λ b. is_section t && not b) last ∙ ap (λ b. is_section t && b) (above_none less)
-
-element_put : (h : Bool) (t : Tag) (a : List Attr) (l : ℕ) (inside s u : Siblings) → u.placed ≡ s.placed ++ Element t a (forest_of inside.placed) l ∷ behind h inside.moving
-    → u.moving ≡ s.moving ++ further h inside.moving → u.reports ≡ inside.reports → put_element h t a l inside s ≡ u
+element_put : (last : Bool) (t : Tag) (a : List Attr) (l : ℕ) (inside s u : Siblings) → u.placed ≡ s.placed ++ Element t a (forest_of inside.placed) l ∷ put_after last inside.moving
+    → u.moving ≡ s.moving ++ further last inside.moving → u.reports ≡ inside.reports → put_element last t a l inside s ≡ u
 unfolding put_element
-element_put h t a l inside s u p m r = siblings (put_element h t a l inside s) u (sym p) (sym m) (sym r)
+element_put last t a l inside s u p m r = siblings (put_element last t a l inside s) u (sym p) (sym m) (sym r)
 
-pub Placing-element : (old : Work) (escape : Bool) (nodes : Forest) (left less i j : ℕ) (placed placed' inner : Placed) (work work' : Work) (n : Node) (ns : List Node) (t : Tag) (a : List Attr) (c : Forest) (l : ℕ) (h : Bool)
-    → Placing old escape nodes left i placed work → ns ≡ nodes_of nodes → i < length ns → n ≡ get_or ns i n → less ≡ left - 1 → j ≡ i + 1
-    → n ≡ Element t a c l → is_transition t ≡ false → h ≡ (is_section t && nat_lt 0 less)
-    → so_far inner work' ≡ place_in work.first_number (h || escape) (none_yet work.reports.items) c → KeepsRest work work'
-    → placed'.nodes.items ≡ placed.nodes.items ++ Element t a (forest_of inner.nodes.items) l ∷ behind h inner.moving.items
-    → placed'.moving.items ≡ placed.moving.items ++ further h inner.moving.items
-    → Placing old escape nodes less j placed' work'
-Placing-element old escape nodes left less i j placed placed' inner work work' n ns t a c l h p items fits at one next is kind held inside kept put more =
-    Placing-more old escape nodes left less i j placed placed' work work' n ns p (record { items = items; fits = fits; at = at; one = one; next = next }) kept
-    (λ r last. ap (λ m. place_in old.first_number escape (so_far placed work) (join_node m r)) is ∙ step_element old.first_number escape (so_far placed work) t a c l r kind
-    ∙ ap (λ b. place_in old.first_number escape (put_element b t a l (place_in old.first_number (b || escape) (none_yet work.reports.items) c) (so_far placed work)) r) (holds_when t r less last ∙ sym held)
-    ∙ ap (λ k. place_in old.first_number escape (put_element h t a l (place_in k (h || escape) (none_yet work.reports.items) c) (so_far placed work)) r) (sym (keeps_first old work p.kept))
-    ∙ ap (λ s. place_in old.first_number escape (put_element h t a l s (so_far placed work)) r) (sym inside)
-    ∙ ap (λ s. place_in old.first_number escape s r) (element_put h t a l (so_far inner work') (so_far placed work) (so_far placed' work') put more refl))
-
-place_none : (first : ℕ) (escape : Bool) (s : Siblings) → place_in first escape s bare ≡ s
-unfolding place_in
-place_none first escape s = refl
+pub Placing-element : (old : Work) (ends : Bool) (nodes : Forest) (left less i j : ℕ) (placed placed' inner : Placed) (work work' : Work) (n : Node) (ns : List Node) (t : Tag) (a : List Attr) (c : Forest) (l : ℕ) (last : Bool)
+    → Placing old ends nodes left i placed work → ns ≡ nodes_of nodes → i < length ns → n ≡ get_or ns i n → less ≡ left - 1 → j ≡ i + 1
+    → n ≡ Element t a c l → is_transition t ≡ false → last ≡ nat_eq less 0
+    → so_far inner work' ≡ all_placed work.first_number (ends && last) work.reports.items c → KeepsRest work work'
+    → placed'.nodes.items ≡ placed.nodes.items ++ Element t a (forest_of inner.nodes.items) l ∷ put_after last inner.moving.items
+    → placed'.moving.items ≡ placed.moving.items ++ further last inner.moving.items
+    → Placing old ends nodes less j placed' work'
+Placing-element old ends nodes left less i j placed placed' inner work work' n ns t a c l last p items fits at one next is kind none_left inside kept put more =
+    Placing-more old ends nodes left less i j placed placed' work work' n ns p (record { items = items; fits = fits; at = at; one = one; next = next }) kept
+    (λ r ended. ap (λ m. place_in old.first_number ends (so_far placed work) (join_node m r)) is ∙ step_element old.first_number ends (so_far placed work) t a c l r kind
+    ∙ ap (λ b. place_in old.first_number ends (put_element b t a l (all_placed old.first_number (ends && b) work.reports.items c) (so_far placed work)) r) (ended ∙ sym none_left)
+    ∙ ap (λ k. place_in old.first_number ends (put_element last t a l (all_placed k (ends && last) work.reports.items c) (so_far placed work)) r) (sym (keeps_first old work p.kept))
+    ∙ ap (λ s. place_in old.first_number ends (put_element last t a l s (so_far placed work)) r) (sym inside)
+    ∙ ap (λ s. place_in old.first_number ends s r) (element_put last t a l (so_far inner work') (so_far placed work) (so_far placed' work') put more refl))
 
 none_left : (xs : List Node) → length xs ≡ 0 → xs ≡ []
 none_left [] e = refl
@@ -161,7 +134,18 @@ none_left (x ∷ xs) e = absurd (omega (arith, e))
 drop_all : (xs : List Node) (i : ℕ) → i ≡ length xs → drop i xs ≡ []
 drop_all xs i e = none_left (drop i xs) (rest_length xs i 0 (omega (arith, e)))
 
-pub Placing-all : (old : Work) (escape : Bool) (nodes : Forest) (left i : ℕ) (placed : Placed) (work : Work) (ns : List Node) → Placing old escape nodes left i placed work → ns ≡ nodes_of nodes → i ≡ length ns
-    → so_far placed work ≡ place_in old.first_number escape (none_yet old.reports.items) nodes
-Placing-all old escape nodes left i placed work ns p items all =
-    sym (place_none old.first_number escape (so_far placed work)) ∙ ap (λ ys. place_in old.first_number escape (so_far placed work) (forest_of ys)) (sym (drop_all (nodes_of nodes) i (all ∙ ap length items))) ∙ p.same
+pub Placing-all : (old : Work) (ends : Bool) (nodes : Forest) (left i : ℕ) (placed : Placed) (work : Work) (ns : List Node) → Placing old ends nodes left i placed work → ns ≡ nodes_of nodes → i ≡ length ns
+    → so_far placed work ≡ all_placed old.first_number ends old.reports.items nodes
+Placing-all old ends nodes left i placed work ns p items all =
+    sym (place_none old.first_number ends (so_far placed work)) ∙ ap (λ ys. place_in old.first_number ends (so_far placed work) (forest_of ys)) (sym (drop_all (nodes_of nodes) i (all ∙ ap length items))) ∙ p.same
+
+-- the document whose nodes have all their places
+pub placed_root : (first : ℕ) (reports : List Report) (n : Node) (t : Tag) (a : List Attr) (c : Forest) (l : ℕ) (nodes : Forest) (ns : List Node) (s : Siblings) → n ≡ Element t a c l
+    → s ≡ all_placed first true reports c → nodes ≡ forest_of ns → ns ≡ s.placed → Element t a nodes l ≡ with_places first reports n
+placed_root first reports n t a c l nodes ns s is all made same =
+    let noted : Forest = with_messages (next_number first reports) true titles c in
+    ap (λ f. Element t a f l) (made ∙ ap forest_of (same ∙ ap (λ u. u.placed) all) ∙ forest_of-nodes_of (moved noted)) ∙ ap (with_places first reports) (sym is)
+
+pub placed_reports : (first : ℕ) (reports : List Report) (n : Node) (t : Tag) (a : List Attr) (c : Forest) (l : ℕ) (s : Siblings) → n ≡ Element t a c l
+    → s ≡ all_placed first true reports c → s.reports ≡ with_reports first reports n
+placed_reports first reports n t a c l s is all = ap (λ u. u.reports) all ∙ ap (with_reports first reports) (sym is)

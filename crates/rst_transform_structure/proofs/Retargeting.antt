@@ -6,7 +6,7 @@ use Rattle.std.proofs.lemmas.Bool.Decides.{nat_tests}
 use Rattle.std.proofs.lemmas.List.{append-nil, reverse-append, reverse-reverse}
 use Rattle.std.proofs.lemmas.Slice.Eq.{bytes_eq-Decides}
 use Rattle.rst_tree_index.specs.Kinds.{is_internal}
-use Rattle.rst_transform_names.specs.Names.{held_by, moved, Knows, SameUris}
+use Rattle.rst_transform_names.specs.Names.{held_by, moved, Knows}
 use Rattle.rst_transform_names.specs.declared.names.NameEntry.{NameEntry}
 use Rattle.rst_transform_names.specs.declared.names.Holder.{Holder}
 use Rattle.rst_transform_names.specs.declared.names.Names.{Names}
@@ -133,13 +133,10 @@ known_after-append : (xs : List (List ℕ × Option ℕ)) (got : List ℕ × Opt
 known_after-append [] got name held = refl
 known_after-append (x ∷ xs) got name held = known_after-append xs got name (if bytes_eq name x.0 then moved (holder_of x.1) held else held)
 
--- who holds the names, once elements got these
-abbrev HeldAfter : List (List ℕ × Option ℕ) → Names → Names → Type 0
-HeldAfter got old new = (name : List ℕ) → held_by new name ≡ known_after got name (held_by old name)
-
-held_more : (xs : List (List ℕ × Option ℕ)) (got : List ℕ × Option ℕ) (y : List ℕ) (w : Holder) (a b c : Names) → HeldAfter xs a b → y ≡ got.0 → w ≡ holder_of got.1 → Knows y (moved w (held_by b y)) b c
-    → HeldAfter (xs ++ got ∷ []) a c
-held_more xs got y w a b c h is by k name =
+-- one more name
+pub Passes-more : (xs : List (List ℕ × Option ℕ)) (got : List ℕ × Option ℕ) (y : List ℕ) (w : Holder) (a b c : Names) → Passes xs a b → y ≡ got.0 → w ≡ holder_of got.1 → Knows y (moved w (held_by b y)) b c
+    → Passes (xs ++ got ∷ []) a c
+Passes-more xs got y w a b c h is by k name =
     let k1 : Knows y (moved (holder_of got.1) (held_by b y)) b c = subst (λ u. Knows y (moved u (held_by b y)) b c) by k in
     let k2 : Knows got.0 (moved (holder_of got.1) (held_by b got.0)) b c = subst (λ v. Knows v (moved (holder_of got.1) (held_by b v)) b c) is k1 in
     let same = (bytes_eq-Decides name got.0).0 in
@@ -149,11 +146,6 @@ held_more xs got y w a b c h is by k name =
       | false ↦ λ e. h name
     ] same)
     ∙ sym (known_after-append xs got name (held_by a name))
-
--- one more name
-pub Passes-more : (xs : List (List ℕ × Option ℕ)) (got : List ℕ × Option ℕ) (y : List ℕ) (w : Holder) (a b c : Names) → Passes xs a b → y ≡ got.0 → w ≡ holder_of got.1 → Knows y (moved w (held_by b y)) b c
-    → SameUris b c → Passes (xs ++ got ∷ []) a c
-Passes-more xs got y w a b c h is by k u = (held_more xs got y w a b c h.0 is by k, λ name. u name ∙ h.1 name)
 
 -- texts put behind others that stand the last first
 pub reversed_behind : (xs ys : List (List ℕ)) → reverse (xs ++ reverse ys) ≡ ys ++ reverse xs

@@ -6,7 +6,7 @@ use Rattle.std.specs.Str.{bytes_eq}
 use Rattle.std.proofs.lemmas.List.{take_more}
 use Rattle.std.proofs.lemmas.List.Folds.{list_any-append}
 use Rattle.std.proofs.lemmas.Slice.Eq.{bytes_eq-Decides}
-use Rattle.rst_transform_names.specs.Names.{held_by, moved, Knows, SameUris}
+use Rattle.rst_transform_names.specs.Names.{held_by, moved, Knows}
 use Rattle.rst_transform_names.specs.declared.names.NameEntry.{NameEntry}
 use Rattle.rst_transform_names.specs.declared.names.Names.{Names}
 use Rattle.rst_transform_names.specs.declared.names.Holder.TheVariants.{Unregistered}
@@ -84,13 +84,9 @@ moved_twice : (h : Option NameEntry) → moved Unregistered (moved Unregistered 
 moved_twice None = refl
 moved_twice (Some h) = refl
 
--- who holds the names, where these move
-abbrev HeldBy : List (List ℕ) → Names → Names → Type 0
-HeldBy names old new = (name : List ℕ) → held_by new name ≡ (if list_any (bytes_eq name) names then moved Unregistered (held_by old name) else held_by old name)
-
 -- a name moves
-held_one : (x : List ℕ) (old new : Names) → Knows x (moved Unregistered (held_by old x)) old new → HeldBy (x ∷ []) old new
-held_one x old new h name =
+moves_one : (x : List ℕ) (old new : Names) → Knows x (moved Unregistered (held_by old x)) old new → Moves (x ∷ []) old new
+moves_one x old new h name =
     let same = (bytes_eq-Decides name x).0 in
     h name ∙ (elim (bytes_eq name x) as (λ b. (b ≡ true → name ≡ x)
     → (if b then moved Unregistered (held_by old x) else held_by old name) ≡ (if b || false then moved Unregistered (held_by old name) else held_by old name)) [
@@ -98,8 +94,9 @@ held_one x old new h name =
       | false ↦ λ e. refl
     ] same)
 
-held_then : (xs ys : List (List ℕ)) (a b c : Names) → HeldBy xs a b → HeldBy ys b c → HeldBy (xs ++ ys) a c
-held_then xs ys a b c h k name =
+-- names move, and then others
+pub Moves-then : (xs ys : List (List ℕ)) (a b c : Names) → Moves xs a b → Moves ys b c → Moves (xs ++ ys) a c
+Moves-then xs ys a b c h k name =
     k name ∙ rw (h name, list_any-append (bytes_eq name) xs ys) (both (list_any (bytes_eq name) xs) (list_any (bytes_eq name) ys) (held_by a name))
   where
     both : (p q : Bool) (h : Option NameEntry) →
@@ -108,10 +105,6 @@ held_then xs ys a b c h k name =
     both true false h = refl
     both false true h = refl
     both false false h = refl
-
--- names move, and then others
-pub Moves-then : (xs ys : List (List ℕ)) (a b c : Names) → Moves xs a b → Moves ys b c → Moves (xs ++ ys) a c
-Moves-then xs ys a b c h k = (held_then xs ys a b c h.0 k.0, λ name. k.1 name ∙ h.1 name)
 
 -- the names of a section move, and then those of the section in it
 pub title_moves : (nodes : Forest) (s : Section) (a b c : Names) → lone_section nodes ≡ Some s → Moves (listed OfNames s.attrs) a b → Moves (subtitle_names (lone_section s.body)) b c
@@ -126,6 +119,6 @@ anyway P (Err NoMemory) p = tt
 
 -- one more name moves
 pub Moves-more : (xs : List (List ℕ)) (i : ℕ) (x y : List ℕ) (a b c : Names) → i < length xs → x ≡ get_or xs i x → y ≡ x → Moves (take i xs) a b → Knows y (moved Unregistered (held_by b y)) b c
-    → SameUris b c → Moves (take (i + 1) xs) a c
-Moves-more xs i x y a b c fits at is h k u =
-    subst (λ ys. Moves ys a c) (ap (λ z. take i xs ++ z ∷ []) (is ∙ at) ∙ sym (take_more xs i x fits)) (Moves-then (take i xs) (y ∷ []) a b c h (held_one y b c k, u))
+    → Moves (take (i + 1) xs) a c
+Moves-more xs i x y a b c fits at is h k =
+    subst (λ ys. Moves ys a c) (ap (λ z. take i xs ++ z ∷ []) (is ∙ at) ∙ sym (take_more xs i x fits)) (Moves-then (take i xs) (y ∷ []) a b c h (moves_one y b c k))

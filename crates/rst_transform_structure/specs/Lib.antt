@@ -1,4 +1,5 @@
 pub mod LastSection
+pub mod Siblings
 pub mod Targets
 pub mod Title
 pub mod Transitions

@@ -3,7 +3,7 @@
 use Rattle.std.specs.Prelude.{◌≡◌, ℕ, List, [], ◌∷◌, ◌++◌, map, drop, Option, Some, None, Bool, true, false, ◌&&◌, if◌then◌else◌}
 use Rattle.std.specs.Str.{bytes_eq}
 use Rattle.rst_tree_index.specs.Kinds.{is_internal}
-use Rattle.rst_transform_names.specs.Names.{held_by, moved, SameUris}
+use Rattle.rst_transform_names.specs.Names.{held_by, moved}
 use Rattle.rst_transform_names.specs.declared.names.NameEntry.{NameEntry}
 use Rattle.rst_transform_names.specs.declared.names.Holder.{Holder}
 use Rattle.rst_transform_names.specs.declared.names.Holder.TheVariants.{Unregistered, Element as Numbered}
@@ -90,9 +90,9 @@ abbrev pub known_after : List (List ℕ × Option ℕ) → List ℕ → Option N
 known_after [] name held = held
 known_after (got ∷ more) name held = known_after more name (if bytes_eq name got.0 then moved (holder_of got.1) held else held)
 
--- of each name that is known once elements got these; where names lead that is kept stays
+-- of each name that is known once elements got these
 abbrev pub Passes : List (List ℕ × Option ℕ) → Names → Names → Type 0
-Passes got old new = ((name : List ℕ) → held_by new name ≡ known_after got name (held_by old name)) × SameUris old new
+Passes got old new = (name : List ℕ) → held_by new name ≡ known_after got name (held_by old name)
 
 -- For each internal target among some elements, whether it hands on its ids.
 abbrev pub turns : List Item → List Bool

@@ -2,7 +2,7 @@
 use Rattle.std.specs.Prelude.{◌≡◌, ℕ, List, [], ◌++◌, Option, Some, None, if◌then◌else◌, option_map}
 use Rattle.std.specs.List.{list_any}
 use Rattle.std.specs.Str.{bytes_eq}
-use Rattle.rst_transform_names.specs.Names.{held_by, moved, SameUris}
+use Rattle.rst_transform_names.specs.Names.{held_by, moved}
 use Rattle.rst_transform_names.specs.declared.names.Holder.TheVariants.{Unregistered}
 use Rattle.rst_transform_names.specs.declared.names.Names.{Names}
 use Rattle.rst_tree.specs.declared.attrs.Attr.{Attr}
@@ -86,11 +86,10 @@ abbrev pub names_got : Node → List (List ℕ)
 names_got (Element t a c l) = title_names (lone_section c)
 names_got (Text t) = []
 
--- an element without number holds each of these names that is known; of the others the same is known as before, and of all where they lead
--- that is kept
+-- an element without number holds each of these names that is known; of the others the same is known as before
 abbrev pub Moves : List (List ℕ) → Names → Names → Type 0
 Moves names old new =
-    ((name : List ℕ) → held_by new name ≡ (if list_any (bytes_eq name) names then moved Unregistered (held_by old name) else held_by old name)) × SameUris old new
+    (name : List ℕ) → held_by new name ≡ (if list_any (bytes_eq name) names then moved Unregistered (held_by old name) else held_by old name)
 
 -- the document before and after
 pub record IsTitled (before after : Work) : Type 0 where

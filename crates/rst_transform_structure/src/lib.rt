@@ -2,6 +2,7 @@
 #![tactic(auto)]
 
 pub mod last_section;
+pub mod laws;
 pub mod targets;
 pub mod title;
 pub mod transitions;

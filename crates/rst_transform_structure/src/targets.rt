@@ -2,6 +2,7 @@
 ghost use Rattle.std.specs.Prelude.{◌≡◌, ◌++◌, [], false, map, reverse};
 ghost use Rattle.rst_tree.specs.Faults.{Gives};
 ghost use Rattle.rst_tree.specs.Walk.{item, node_items, node_shape};
+ghost use Rattle.rst_tree_index.specs.Kinds.{kinds_of, HasNoNewKinds};
 ghost use Rattle.rst_transform_structure.specs.Targets.{found, found_turns, given, got_by, handed, handed_first, holder_of, is_turn, names_got, referring, retargeted, takes_ids, turns, turns_left, underway, with_refid, Passes, IsRetargeted};
 
 use rst_transform_names::{Holder, Names};
@@ -30,8 +31,21 @@ use std::mem;
 ///     <target refid="b">
 ///     <paragraph ids="b a" names="b a">
 ///
-/// A target that no element follows, or one that takes no ids, stays as it is.
-pub fn targets(alloc: Global, mut work: Work) -> Result<Work, TreeFault>
+/// A target that no element follows, or one that takes no ids, stays as it is. The document may have an internal target only
+/// if it `has` one.
+pub fn targets(alloc: Global, work: Work, has: bool) -> Result<Work, TreeFault>
+    requires has { has ≡ false → (kinds_of (node_items work.root)).targets ≡ false }
+    ensures retargeted { Gives (IsRetargeted work) result }
+    ensures kinds { Gives (λ after. HasNoNewKinds (node_items work.root) (node_items after.root)) result }
+{
+    if !has {
+        return Ok(work);
+    }
+    retargeted(alloc, work)
+}
+
+/// The document once its internal targets have handed on their ids and names.
+fn retargeted(alloc: Global, mut work: Work) -> Result<Work, TreeFault>
     ensures { Gives (IsRetargeted work) result }
 {
     let turns = turns(alloc, &work.root)?;

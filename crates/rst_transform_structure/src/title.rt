@@ -4,6 +4,8 @@ ghost use Rattle.std.specs.List.{list_all};
 ghost use Rattle.rst_tree.specs.declared.key.Key.TheVariants.{Names as OfNames};
 ghost use Rattle.rst_tree.specs.Faults.{Gives};
 ghost use Rattle.rst_tree.specs.Nodes.{forest_of, join_node, nodes_of};
+ghost use Rattle.rst_tree.specs.Walk.{node_items};
+ghost use Rattle.rst_tree_index.specs.Kinds.{HasNoNewKinds};
 ghost use Rattle.rst_transform_work.specs.Lists.{with_names, listed};
 ghost use Rattle.rst_transform_structure.specs.Title.{lone_section, names_got, section_in, subtitle, subtitle_names, subtitled_by, title_attrs, title_names, titled, titled_by, Moves, IsTitled};
 ghost use Rattle.rst_transform_work.specs.Reading.{may_precede};
@@ -33,7 +35,8 @@ use std::alloc::Global;
 ///
 /// Comments, targets, substitution definitions and messages may stand before the section.
 pub fn title(alloc: Global, work: Work) -> Result<Work, TreeFault>
-    ensures { Gives (IsTitled work) result }
+    ensures titled { Gives (IsTitled work) result }
+    ensures kinds { Gives (λ after. HasNoNewKinds (node_items work.root) (node_items after.root)) result }
 {
     let Work {
         root,

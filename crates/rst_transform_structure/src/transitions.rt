@@ -1,11 +1,14 @@
 //! The places of transitions.
-ghost use Rattle.std.specs.Prelude.{◌≡◌, ◌++◌, ◌∷◌, [], ◌&&◌, nat_lt, None, Some, MatchOption};
+ghost use Rattle.std.specs.Prelude.{◌≡◌, ◌++◌, ◌∷◌, [], ◌&&◌, false, None, Some, MatchOption};
 ghost use Rattle.std.specs.List.{list_all};
 ghost use Rattle.rst_tree.specs.Faults.{Gives};
 ghost use Rattle.rst_tree.specs.Nodes.{forest_of};
+ghost use Rattle.rst_tree.specs.Walk.{node_items};
 ghost use Rattle.rst_tree.specs.declared.node.Node.TheVariants.{Element};
+ghost use Rattle.rst_tree_index.specs.Kinds.{kinds_of};
 ghost use Rattle.rst_transform_work.specs.Reports.{KeepsRest, report_node};
-ghost use Rattle.rst_transform_structure.specs.Transitions.{behind, ends_in_transition, fault_before, further, is_section, is_transition, none_yet, place_in, put_last, put_transition, so_far, transition_report, with_fault, with_message, with_places, with_reports, HasTransitions};
+ghost use Rattle.rst_transform_structure.specs.Siblings.{all_placed, ends_in_transition, fault_before, further, put_after, put_last, put_transition, so_far, transition_report, with_fault, with_message};
+ghost use Rattle.rst_transform_structure.specs.Transitions.{is_transition, HasTransitions};
 ghost use Rattle.rst_transform_work.specs.Reading.{is_title};
 
 use rst_transform_work::{Work, is_title};
@@ -14,7 +17,7 @@ use std::alloc::Global;
 use std::mem;
 
 /// Looks at the places of the transitions in document order (Markup Specification, 'Transitions'): each that begins a section
-/// or follows another one gets a message before it, and each that ends a section moves behind it.
+/// or follows another one gets a message before it, and each that ends a section moves after it.
 ///
 /// Before:
 ///
@@ -32,8 +35,19 @@ use std::mem;
 ///     <transition>
 ///     <section>
 ///
-/// One that would move behind the end of the document stays, and a message follows it.
-pub fn transitions(alloc: Global, mut work: Work) -> Result<Work, TreeFault>
+/// One that the document ends with stays, and a message follows it. The document may have a transition only if it `has` one.
+pub fn transitions(alloc: Global, work: Work, has: bool) -> Result<Work, TreeFault>
+    requires has { has ≡ false → (kinds_of (node_items work.root)).transitions ≡ false }
+    ensures { Gives (HasTransitions work) result }
+{
+    if !has {
+        return Ok(work);
+    }
+    with_places(alloc, work)
+}
+
+/// The document once its transitions have their places.
+fn with_places(alloc: Global, mut work: Work) -> Result<Work, TreeFault>
     ensures { Gives (HasTransitions work) result }
 {
     let root = mem::replace(&mut work.root, Node::element(alloc, Tag::Document, 0));
@@ -44,7 +58,7 @@ pub fn transitions(alloc: Global, mut work: Work) -> Result<Work, TreeFault>
             children,
             line,
         } => {
-            let Placed { nodes, moving: _ } = place_in(alloc, children, false, &mut work)?;
+            let Placed { nodes, moving: _ } = place_in(alloc, children, true, &mut work)?;
             work.root = Node::Element {
                 tag,
                 attrs,
@@ -64,19 +78,19 @@ pub fn transitions(alloc: Global, mut work: Work) -> Result<Work, TreeFault>
 #[derive(Drop)]
 struct Placed {
     nodes: Vec<Node>,
-    /// The transitions that move further out, in document order.
+    /// The transition that moves further out, if one does.
     moving: Vec<Node>,
 }
 
-/// Gives the transitions among nodes and in them their places. They `escape` if a section round them isn't last in what holds
-/// it, so that a transition at the end of the nodes can move behind it.
+/// Gives the transitions among nodes and in them their places. If the document `ends` with the nodes, a transition that they end
+/// with stays, and else it moves out.
 fn place_in(
     alloc: Global,
     nodes: Children,
-    escape: bool,
+    ends: bool,
     work: &mut Work,
 ) -> Result<Placed, TreeFault>
-    ensures placed { Gives (λ placed. so_far placed work.new ≡ place_in work.old.first_number escape (none_yet work.old.reports.items) nodes) result }
+    ensures placed { Gives (λ placed. so_far placed work.new ≡ all_placed work.old.first_number ends work.old.reports.items nodes) result }
     ensures rest { Gives (λ _. KeepsRest work.old work.new) result }
 {
     let mut left = nodes.len();
@@ -94,6 +108,7 @@ fn place_in(
                 children,
                 line,
             } => {
+                let last = left == 0;
                 if is_transition(tag) {
                     let transition = Node::Element {
                         tag,
@@ -101,25 +116,16 @@ fn place_in(
                         children,
                         line,
                     };
-                    placed.put_transition(alloc, transition, line, left == 0, escape, work)?;
+                    placed.put_transition(alloc, transition, line, last, ends, work)?;
                     continue;
                 }
-                let holds = holds(tag, left);
-                let inner = place_in(alloc, children, holds || escape, work)?;
-                placed.put_element(tag, attrs, line, inner, holds)?;
+                let inner = place_in(alloc, children, ends && last, work)?;
+                placed.put_element(tag, attrs, line, inner, last)?;
                 continue;
             }
         }
     }
     Ok(placed)
-}
-
-/// Whether transitions that move out of an element of a kind, which so many nodes follow, stand behind it: out of a section that
-/// isn't the last node.
-fn holds(tag: Tag, left: usize) -> bool
-    ensures { result ≡ (is_section tag && nat_lt 0 left) }
-{
-    matches!(tag, Tag::Section) && left > 0
 }
 
 impl Placed {
@@ -134,8 +140,8 @@ impl Placed {
         })
     }
 
-    /// Puts a message on a transition behind the nodes.
-    #[tactic(auto, unfolding(crate::specs::Transitions::with_message))]
+    /// Puts a message on a transition after the nodes.
+    #[tactic(auto, unfolding(crate::specs::Siblings::with_message))]
     fn put_message(
         &mut self,
         alloc: Global,
@@ -151,8 +157,8 @@ impl Placed {
         Ok(())
     }
 
-    /// Puts the message on what is wrong with a transition behind the nodes there, if anything is.
-    #[tactic(auto, unfolding(crate::specs::Transitions::with_fault))]
+    /// Puts the message on what is wrong with a transition after the nodes there, if anything is.
+    #[tactic(auto, unfolding(crate::specs::Siblings::with_fault))]
     fn put_fault(&mut self, alloc: Global, line: usize, work: &mut Work) -> Result<(), TreeFault>
         ensures siblings { Gives (λ _. so_far self.new work.new ≡ with_fault work.old.first_number line (fault_before self.old.nodes.items) (so_far self.old work.old)) result }
         ensures rest { Gives (λ _. KeepsRest work.old work.new) result }
@@ -163,21 +169,21 @@ impl Placed {
         }
     }
 
-    /// Puts a transition that is the last node to its place: it moves further out if it can escape, and else stays, with a
-    /// message behind it.
-    #[tactic(auto, unfolding(crate::specs::Transitions::put_last))]
+    /// Puts a transition that is the last node to its place: it stays if the document ends with it, with a message after it, and
+    /// else moves out.
+    #[tactic(auto, unfolding(crate::specs::Siblings::put_last))]
     fn put_last(
         &mut self,
         alloc: Global,
         transition: Node,
         line: usize,
-        escape: bool,
+        ends: bool,
         work: &mut Work,
     ) -> Result<(), TreeFault>
-        ensures siblings { Gives (λ _. so_far self.new work.new ≡ put_last work.old.first_number escape transition line (so_far self.old work.old)) result }
+        ensures siblings { Gives (λ _. so_far self.new work.new ≡ put_last work.old.first_number ends transition line (so_far self.old work.old)) result }
         ensures rest { Gives (λ _. KeepsRest work.old work.new) result }
     {
-        if escape {
+        if !ends {
             self.moving.push(transition)?;
             return Ok(());
         }
@@ -186,39 +192,38 @@ impl Placed {
     }
 
     /// Puts a transition, which is the last node or not, to its place, with the messages on it.
-    #[tactic(auto, unfolding(crate::specs::Transitions::put_transition))]
+    #[tactic(auto, unfolding(crate::specs::Siblings::put_transition))]
     fn put_transition(
         &mut self,
         alloc: Global,
         transition: Node,
         line: usize,
         last: bool,
-        escape: bool,
+        ends: bool,
         work: &mut Work,
     ) -> Result<(), TreeFault>
-        ensures siblings { Gives (λ _. so_far self.new work.new ≡ put_transition work.old.first_number last escape transition line (so_far self.old work.old)) result }
+        ensures siblings { Gives (λ _. so_far self.new work.new ≡ put_transition work.old.first_number last ends transition line (so_far self.old work.old)) result }
         ensures rest { Gives (λ _. KeepsRest work.old work.new) result }
     {
         self.put_fault(alloc, line, work)?;
         if last {
-            return self.put_last(alloc, transition, line, escape, work);
+            return self.put_last(alloc, transition, line, ends, work);
         }
         self.nodes.push(transition)?;
         Ok(())
     }
 
-    /// Puts an element to its place. The transitions that move out of it stand behind it if they needn't move further, the last
-    /// of them first, since each moved directly behind the section.
+    /// Puts an element to its place. The transition that moved out of it comes after it, or moves further if no node does.
     fn put_element(
         &mut self,
         tag: Tag,
         attrs: Attrs,
         line: usize,
         inner: Placed,
-        holds: bool,
+        last: bool,
     ) -> Result<(), TreeFault>
-        ensures nodes { Gives (λ _. self.new.nodes.items ≡ self.old.nodes.items ++ Element tag attrs (forest_of inner.nodes.items) line ∷ behind holds inner.moving.items) result }
-        ensures moving { Gives (λ _. self.new.moving.items ≡ self.old.moving.items ++ further holds inner.moving.items) result }
+        ensures nodes { Gives (λ _. self.new.nodes.items ≡ self.old.nodes.items ++ Element tag attrs (forest_of inner.nodes.items) line ∷ put_after last inner.moving.items) result }
+        ensures moving { Gives (λ _. self.new.moving.items ≡ self.old.moving.items ++ further last inner.moving.items) result }
     {
         let Placed { nodes, mut moving } = inner;
         self.nodes.push(Node::Element {
@@ -227,12 +232,11 @@ impl Placed {
             children: Children::of(nodes),
             line,
         })?;
-        if holds {
-            moving.reverse();
-            self.nodes.append(&mut moving)?;
+        if last {
+            self.moving.append(&mut moving)?;
             return Ok(());
         }
-        self.moving.append(&mut moving)?;
+        self.nodes.append(&mut moving)?;
         Ok(())
     }
 }
@@ -245,8 +249,8 @@ const ADJACENT: &str =
 /// The message on a transition that nothing follows.
 const AT_END: &str = "Document may not end with a transition.";
 
-/// What is wrong with a transition behind these siblings, if anything is.
-#[tactic(auto, unfolding(crate::specs::Transitions::fault_before))]
+/// What is wrong with a transition after these siblings, if anything is.
+#[tactic(auto, unfolding(crate::specs::Siblings::fault_before))]
 fn fault_before(before: &[Node]) -> Option<&'static str>
     ensures { MatchOption result (fault_before before.now ≡ None) (λ words. fault_before before.now ≡ Some words.now) }
 {

@@ -1,2 +1,5 @@
 pub mod Defining
+pub mod ExpandedKinds
 pub mod Expanding
+pub mod NoReferences
+pub mod OneAnswer

@@ -1,8 +1,10 @@
 //! Substitution references give way to the contents of their definitions.
-ghost use Rattle.std.specs.Prelude.{◌≡◌, ◌++◌, List};
+ghost use Rattle.std.specs.Prelude.{◌≡◌, ◌++◌, false, List};
 ghost use Rattle.rst_tree.specs.declared.node.Node.{Node as AnyNode};
 ghost use Rattle.rst_tree.specs.Faults.{Gives};
 ghost use Rattle.rst_tree.specs.Nodes.{forest_of};
+ghost use Rattle.rst_tree.specs.Walk.{node_items};
+ghost use Rattle.rst_tree_index.specs.Kinds.{kinds_of, HasNoNewKinds};
 ghost use Rattle.rst_transform_substitutions.specs.Definitions.{found_by, known_place};
 ghost use Rattle.rst_transform_substitutions.specs.Expanded.{within_element, ExpandsIn, GivesWay, IsExpanded, ReportsFault};
 ghost use Rattle.rst_transform_substitutions.specs.Expansion.{name_said, nodes_for};
@@ -35,8 +37,22 @@ use std::alloc::Global;
 ///     b
 /// ```
 ///
+/// `has` says whether the document may have a reference; without one it stays as it is.
+///
 /// The only refusal is [`TreeFault::NoMemory`].
-pub fn expand(alloc: Global, mut work: Work) -> Result<Work, TreeFault>
+pub fn expand(alloc: Global, work: Work, has: bool) -> Result<Work, TreeFault>
+    requires has { has ≡ false → (kinds_of (node_items work.root)).substitutions ≡ false }
+    ensures expanded { Gives (IsExpanded work) result }
+    ensures kinds { Gives (λ after. HasNoNewKinds (node_items work.root) (node_items after.root)) result }
+{
+    if !has {
+        return Ok(work);
+    }
+    expanded_root(alloc, work)
+}
+
+/// Replaces the references in the root.
+fn expanded_root(alloc: Global, mut work: Work) -> Result<Work, TreeFault>
     ensures { Gives (IsExpanded work) result }
 {
     let definitions = Definitions::of(alloc, &work.root)?;

@@ -4,3 +4,4 @@
 mod definitions;
 pub mod expand;
 mod expansion;
+pub mod laws;

@@ -2,3 +2,4 @@ pub mod Lists
 pub mod Problematics
 pub mod Reading
 pub mod Reports
+pub mod Alike

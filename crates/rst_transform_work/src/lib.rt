@@ -1,6 +1,7 @@
 //! What passes from one transform to the next: the tree, its names and ids, and the messages so far; and how transforms read and change elements.
 #![tactic(auto)]
 
+pub mod laws;
 mod lists;
 mod problematics;
 mod reading;

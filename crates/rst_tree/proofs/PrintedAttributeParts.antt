@@ -18,7 +18,7 @@ use Rattle.rst_tree.specs.Forest.{Forest}
 use Rattle.rst_tree.specs.KeyNames.{key_code, is_same}
 use Rattle.rst_tree.specs.LevelNames.{level_name, level_of}
 use Rattle.rst_tree.specs.Nodes.{forest_of}
-use Rattle.rst_tree.specs.Print.{start_tag, text_lines, printed_line, printed_node}
+use Rattle.rst_tree.specs.Print.{deeper, start_tag, text_lines, printed_line, printed_node}
 use Rattle.rst_tree.specs.PrintedAttributes.{with_source, with_type, printed_attrs, all_with_printed_attrs, with_printed_attrs}
 use Rattle.rst_tree.proofs.PrintedParts.{printed-element, printed-words}
 
@@ -105,17 +105,17 @@ nodes-with-attrs source (Text t ∷ ns) = rw (nodes-with-attrs source ns) refl
 
 -- what is printed of an element: its line, and then its nodes
 printed-with-attrs : (source : Option (List ℕ)) (n : ℕ) (t : Tag) (a : List Attr) (l : ℕ) (ns : List Node)
-    → (replicate (4 * n) 32 ++ (start_tag t (printed_attrs source t a l) ++ 10 ∷ [])) ++ flat_map (λ x. printed_node (n + 1) (with_printed_attrs source x)) ns
+    → (replicate (4 * n) 32 ++ (start_tag t (printed_attrs source t a l) ++ 10 ∷ [])) ++ flat_map (λ x. printed_node (deeper n) (with_printed_attrs source x)) ns
     ≡ printed_node n (with_printed_attrs source (Element t a (forest_of ns) l))
 printed-with-attrs source n t a l ns =
-    ap (λ z. (replicate (4 * n) 32 ++ (start_tag t (printed_attrs source t a l) ++ 10 ∷ [])) ++ z) (sym (flat_map-map (printed_node (n + 1)) (with_printed_attrs source) ns))
+    ap (λ z. (replicate (4 * n) 32 ++ (start_tag t (printed_attrs source t a l) ++ 10 ∷ [])) ++ z) (sym (flat_map-map (printed_node (deeper n)) (with_printed_attrs source) ns))
     ∙ printed-element n t (printed_attrs source t a l) l (map (with_printed_attrs source) ns)
     ∙ ap (λ f. printed_node n (Element t (printed_attrs source t a l) f l)) (sym (nodes-with-attrs source ns))
 
 -- the same of an element that a node is
 pub element-with-attrs : (source : Option (List ℕ)) (n : ℕ) (node : Node) (t : Tag) (a : List Attr) (c : Forest) (l : ℕ) (ns : List Node) (i : ℕ)
     → node ≡ Element t a c l → c ≡ forest_of ns → length ns ≤ i
-    → (replicate (4 * n) 32 ++ (start_tag t (printed_attrs source t a l) ++ 10 ∷ [])) ++ flat_map (λ x. printed_node (n + 1) (with_printed_attrs source x)) (take i ns)
+    → (replicate (4 * n) 32 ++ (start_tag t (printed_attrs source t a l) ++ 10 ∷ [])) ++ flat_map (λ x. printed_node (deeper n) (with_printed_attrs source x)) (take i ns)
     ≡ printed_node n (with_printed_attrs source node)
 element-with-attrs source n node t a c l ns i is nodes all = rw (is, nodes, take_all i ns all) (printed-with-attrs source n t a l ns)
 

@@ -1,6 +1,6 @@
 -- What is printed of a tree, in the pseudo-XML of the examples in Document Tree, 'Element Reference': its lines in preorder, each
 -- behind its indentation and with its end.
-use Rattle.std.specs.Prelude.{ℕ, ◌+◌, ◌*◌, ◌==◌, ◌&&◌, ◌||◌, if◌then◌else◌, Bool, true, false, List, [], ◌∷◌, ◌++◌, map, codes, replicate}
+use Rattle.std.specs.Prelude.{ℕ, ◌+◌, ◌-◌, ◌*◌, ◌^◌, min, ◌==◌, ◌&&◌, ◌||◌, if◌then◌else◌, Bool, true, false, List, [], ◌∷◌, ◌++◌, map, codes, replicate}
 use Rattle.std.specs.List.{flat_map, onto_first}
 use Rattle.std.specs.Fmt.{decimal}
 use Rattle.rst_tree.specs.declared.attrs.Attr.{Attr}
@@ -82,10 +82,14 @@ line_len (b ∷ bs) = if b == 10 then 0 else line_len bs + 1
 abbrev pub Line : Type 0
 Line = ℕ × List ℕ
 
+-- One level deeper. Levels are counted up to the largest number of 64 bits, which no tree reaches.
+abbrev pub deeper : ℕ → ℕ
+deeper n = min (n + 1) (2 ^ 64 - 1)
+
 -- the lines of the nodes at a level, in preorder
 abbrev pub lines_at : ℕ → Forest → List Line
 lines_at n bare = []
-lines_at n (element t a c l r) = (n, start_tag t a) ∷ (lines_at (n + 1) c ++ lines_at n r)
+lines_at n (element t a c l r) = (n, start_tag t a) ∷ (lines_at (deeper n) c ++ lines_at n r)
 lines_at n (words t r) = map (λ l. (n, l)) (text_lines t) ++ lines_at n r
 
 -- four spaces for each level, the text, and the line's end
@@ -98,7 +102,7 @@ printed = flat_map printed_line
 
 -- the lines of a node at a level
 abbrev pub node_lines : ℕ → Node → List Line
-node_lines n (Element t a c l) = (n, start_tag t a) ∷ lines_at (n + 1) c
+node_lines n (Element t a c l) = (n, start_tag t a) ∷ lines_at (deeper n) c
 node_lines n (Words t) = map (λ l. (n, l)) (text_lines t)
 
 -- what is printed of a node at a level

@@ -5,7 +5,6 @@ ghost use Rattle.rst_tree.specs.Print.{is_escaped, escaped_byte, escaped, spaced
 ghost use Rattle.rst_tree.specs.Attributes.{attr, before, behind};
 ghost use Rattle.rst_tree.specs.Entries.{said};
 ghost use Rattle.rst_tree.specs.KeyNames.{is_hidden};
-ghost use Rattle.rst_tree.specs.Nodes.{node_height};
 ghost use Rattle.rst_tree.specs.PrintedAttributes.{given, printed_attrs, with_source, with_printed_attrs, with_type};
 ghost use Rattle.rst_tree.specs.declared.attrs.Value.TheVariants.{Text as Words, Number};
 ghost use Rattle.rst_tree.specs.declared.tag.Tag.TheVariants.{SystemMessage};
@@ -349,7 +348,6 @@ pub fn put_node<W: Write, const N: usize>(
     node: &Node,
     source: Option<&str>,
 )
-    requires levels { level + node_height node.now < 2 ^ 64 }
     ensures { Sends W.contents (printed_node level (with_printed_attrs (given source.entry) node.now)) out.old page.old out.new page.new }
 {
     match node {
@@ -362,7 +360,7 @@ pub fn put_node<W: Write, const N: usize>(
             put_indent(out, page, level);
             put_tag_line(out, page, *tag, attrs, *line, source);
             for child in children.as_slice() {
-                put_node(out, page, level + 1, child, source);
+                put_node(out, page, level.saturating_add(1), child, source);
             }
         }
         Node::Text(text) => put_text(out, page, level, text.as_bytes()),

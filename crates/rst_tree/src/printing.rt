@@ -7,6 +7,7 @@ ghost use Rattle.rst_tree.specs.PrintedAttributes.{given, with_printed_attrs};
 ghost use Rattle.rst_tree.specs.Faults.{Prints};
 
 use crate::fault::PrintFault;
+use crate::node::Node;
 use crate::note::Note;
 use crate::output::{put_message, put_node};
 use crate::page::{Page, turn};
@@ -29,33 +30,34 @@ pub fn print<W: Write>(tree: &Tree, out: &mut Counted<W>) -> Result<(), PrintFau
     requires { has_failed out.old ≡ false }
     ensures { Prints (between W.contents out.old out.new) (print_of (with_printed_attrs None tree.now)) result }
 {
-    print_given(tree, None, out)
+    print_given(tree.root(), None, out)
 }
 
-/// Prints a tree to a writer that hasn't failed, with the source of its document as an attribute of the document and of its
-/// messages (Document Tree, `source`). The tree itself needn't have these attributes, so that nobody goes through it for them.
+/// Prints a document to a writer that hasn't failed, with its source as an attribute of the document and of its messages
+/// (Document Tree, `source`). The nodes themselves needn't have these attributes, so that nobody goes through them for that. Any
+/// node can be printed, so nobody needs to know that it is a [`Tree`].
 pub fn print_with_source<W: Write>(
-    tree: &Tree,
+    document: &Node,
     source: &str,
     out: &mut Counted<W>,
 ) -> Result<(), PrintFault>
     requires { has_failed out.old ≡ false }
-    ensures { Prints (between W.contents out.old out.new) (print_of (with_printed_attrs (Some source.now) tree.now)) result }
+    ensures { Prints (between W.contents out.old out.new) (print_of (with_printed_attrs (Some source.now) document.now)) result }
 {
-    print_given(tree, Some(source), out)
+    print_given(document, Some(source), out)
 }
 
-/// Prints a tree, with the source if one is given.
+/// Prints a node, with the source if one is given.
 fn print_given<W: Write>(
-    tree: &Tree,
+    node: &Node,
     source: Option<&str>,
     out: &mut Counted<W>,
 ) -> Result<(), PrintFault>
     requires { has_failed out.old ≡ false }
-    ensures { Prints (between W.contents out.old out.new) (print_of (with_printed_attrs (given source.entry) tree.now)) result }
+    ensures { Prints (between W.contents out.old out.new) (print_of (with_printed_attrs (given source.entry) node.now)) result }
 {
     let mut page: Page<TREE_PAGE> = Page::new();
-    put_node(out, &mut page, 0, tree.root(), source);
+    put_node(out, &mut page, 0, node, source);
     turn(out, &mut page);
     page.end(out.failed())
 }

@@ -1,5 +1,5 @@
 -- Which elements that transforms act on stand among some. No rule of markup: a transform without any is left out.
-use Rattle.std.specs.Prelude.{◌&&◌, ◌||◌, not, Bool, true, false, List, is_some}
+use Rattle.std.specs.Prelude.{◌≡◌, ◌&&◌, ◌||◌, not, Bool, true, false, List, is_some}
 use Rattle.std.specs.List.{list_any}
 use Rattle.rst_tree.specs.declared.key.Key.{Key}
 use Rattle.rst_tree.specs.declared.key.Key.TheVariants.{Anonymous, Inline, Refname, Refuri}
@@ -65,3 +65,20 @@ either k j = record {
   links = k.links || j.links;
   transitions = k.transitions || j.transitions;
 }
+
+-- Elements that became others are of no new kinds, messages aside.
+pub record HasNoNewKinds (before after : List Item) : Type 0 where
+  pub substitutions : (kinds_of before).substitutions ≡ false → (kinds_of after).substitutions ≡ false
+  pub targets : (kinds_of before).targets ≡ false → (kinds_of after).targets ≡ false
+  pub anonymous : (kinds_of before).anonymous ≡ false → (kinds_of after).anonymous ≡ false
+  pub indirect : (kinds_of before).indirect ≡ false → (kinds_of after).indirect ≡ false
+  pub footnotes : (kinds_of before).footnotes ≡ false → (kinds_of after).footnotes ≡ false
+  pub links : (kinds_of before).links ≡ false → (kinds_of after).links ≡ false
+  pub transitions : (kinds_of before).transitions ≡ false → (kinds_of after).transitions ≡ false
+
+-- the same of those kinds that transforms of links may still ask for
+pub record HasNoNewLinkKinds (before after : List Item) : Type 0 where
+  pub indirect : (kinds_of before).indirect ≡ false → (kinds_of after).indirect ≡ false
+  pub footnotes : (kinds_of before).footnotes ≡ false → (kinds_of after).footnotes ≡ false
+  pub links : (kinds_of before).links ≡ false → (kinds_of after).links ≡ false
+  pub transitions : (kinds_of before).transitions ≡ false → (kinds_of after).transitions ≡ false

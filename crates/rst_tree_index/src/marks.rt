@@ -18,8 +18,8 @@ use std::marker::Model;
 #[derive(Debug, Drop)]
 pub struct Path {
     /// The innermost place comes first, so that a path grows at its end as the tree grows round it. Few paths are longer than
-    /// those that need no allocation. A document has many, so each place takes four bytes.
-    steps: SmallVec<u32, 6>,
+    /// those that need no allocation.
+    steps: SmallVec<usize, 6>,
 }
 
 impl Model for Path {
@@ -40,20 +40,16 @@ impl Path {
         }
     }
 
-    /// Lets the path begin at the parent of the node, in which that is at a place. For a place that doesn't fit in 32 bits there is no
-    /// memory.
+    /// Lets the path begin at the parent of the node, in which that is at a place.
     pub fn begin_above(&mut self, place: usize) -> Result<(), TreeFault>
         ensures { Becomes self.old self.new (place ∷ self.old) result }
     {
-        match u32::try_from(place) {
-            Ok(place) => self.steps.push(place)?,
-            Err(_) => return Err(TreeFault::NoMemory),
-        }
+        self.steps.push(place)?;
         Ok(())
     }
 
     /// The places, the innermost first.
-    pub fn steps(&self) -> &[u32]
+    pub fn steps(&self) -> &[usize]
         ensures { self.now ≡ reverse result.now }
     {
         self.steps.as_slice()
@@ -111,7 +107,7 @@ pub struct Element<'a> {
 /// Adds the element at a path, given from its end on, if there is one.
 fn add_element<'a>(
     node: &'a Node,
-    steps: &[u32],
+    steps: &[usize],
     list: &mut Vec<Element<'a>>,
 ) -> Result<(), TreeFault>
     ensures { Gives (λ _. map item_of list.new.items ≡ after_one with_one (map item_of list.old.items) (node_at (reverse steps.now) node.now)) result }
@@ -131,7 +127,7 @@ fn add_element<'a>(
             })?,
             Some((place, rest)) => {
                 let nodes = children.as_slice();
-                let place = *place as usize;
+                let place = *place;
                 if place < nodes.len() {
                     add_element(&nodes[place], rest, list)?;
                 }
@@ -142,7 +138,7 @@ fn add_element<'a>(
 }
 
 /// Visits the element at a path, given from its end on, if there is one.
-fn visit_at<V: Visitor>(node: &mut Node, steps: &[u32], visitor: &mut V) -> Result<(), TreeFault>
+fn visit_at<V: Visitor>(node: &mut Node, steps: &[usize], visitor: &mut V) -> Result<(), TreeFault>
     ensures node { Gives (λ _. node.new ≡ changed_at (map_item (V.out visitor.old)) (reverse steps.now) node.old) result }
     ensures state { Gives (λ _. visitor.new ≡ after_one V.next visitor.old (node_at (reverse steps.now) node.old)) result }
 {
@@ -156,7 +152,7 @@ fn visit_at<V: Visitor>(node: &mut Node, steps: &[u32], visitor: &mut V) -> Resu
         match steps.split_last() {
             None => visitor.visit(tag, attrs, line)?,
             Some((place, rest)) => {
-                let place = *place as usize;
+                let place = *place;
                 if place < children.len() {
                     let child = children.get_mut(place);
                     visit_at(child, rest, visitor)?;

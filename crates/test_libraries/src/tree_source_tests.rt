@@ -3,21 +3,16 @@ use super::comparing::compare;
 use super::printed::printed;
 use super::tree_tests::{Says, element, holding};
 use rst_text::Counted;
-use rst_tree::{Key, Node, Tag, Tree, TreeFault, print_with_source};
+use rst_tree::{Key, Node, Tag, TreeFault, print_with_source};
 use std::alloc::Global;
 use std::test::Fail;
 
-/// A root as it is printed with the source `s.rst`, if it is a tree.
-fn printed_with_source(alloc: Global, root: Node) -> Result<String, Fail> {
-    match Tree::of(root) {
-        Ok(tree) => {
-            let mut out = Counted::of(Vec::new(alloc));
-            print_with_source(&tree, "s.rst", &mut out)?;
-            let text = str::from_utf8(out.inner().as_slice())?;
-            Ok(String::from_str(alloc, text)?)
-        }
-        Err(_) => Err(Fail::new("no tree")),
-    }
+/// A document as it is printed with the source `s.rst`.
+fn printed_with_source(alloc: Global, document: Node) -> Result<String, Fail> {
+    let mut out = Counted::of(Vec::new(alloc));
+    print_with_source(&document, "s.rst", &mut out)?;
+    let text = str::from_utf8(out.inner().as_slice())?;
+    Ok(String::from_str(alloc, text)?)
 }
 
 /// A message on a line, with what it says.

@@ -1,7 +1,8 @@
 //! Documents before and after their leading field list becomes a bibliography.
 
-use crate::outline::{shown, work};
+use crate::outline::{named, shown, work};
 use rst_transform_docinfo::docinfo::docinfo;
+use rst_transform_names::NameEntry;
 use std::test::Fail;
 
 const ROWS: &[(&str, &str)] = &[
@@ -264,9 +265,12 @@ fn uris_of_targets_that_leave_are_kept(rt: HostRuntime) -> Result<(), Fail> {
         <author>
             Ann
 ";
-    let changed = docinfo(alloc, work(alloc, before)?)?;
-    assert_eq!(rt; changed.names.kept_uri("author"), Some("u"));
-    assert_eq!(rt; changed.names.kept_uri("u"), None);
+    let changed = docinfo(alloc, named(alloc, before)?)?;
+    let uri = match changed.names.get("author") {
+        Some(NameEntry { uri: Some(uri), .. }) => uri.as_str(),
+        _ => "none",
+    };
+    assert_eq!(rt; uri, "u");
     assert_eq!(rt; shown(alloc, changed)?.as_str(), after);
     Ok(())
 }

@@ -143,7 +143,7 @@ const ROWS: &[(&str, &str)] = &[
 fn references_are_replaced(rt: HostRuntime) -> Result<(), Fail> {
     let alloc = rt.alloc();
     for &(before, after) in ROWS {
-        let expanded = expand(alloc, work(alloc, before)?)?;
+        let expanded = expand(alloc, work(alloc, before)?, true)?;
         assert_eq!(rt; shown(alloc, expanded)?.as_str(), after);
     }
     Ok(())
@@ -195,7 +195,7 @@ fn expansions_are_bounded(rt: HostRuntime) -> Result<(), Fail> {
     ];
     for (definitions, copies, length, fits) in rows {
         let outline = chain(alloc, definitions, copies, length)?;
-        let expanded = expand(alloc, work(alloc, outline.as_str())?)?;
+        let expanded = expand(alloc, work(alloc, outline.as_str())?, true)?;
         match expanded.reports.first() {
             None => assert!(rt; fits),
             Some(report) => {

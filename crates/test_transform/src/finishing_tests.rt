@@ -2,7 +2,7 @@
 
 use crate::outline::{printed, tree};
 use rst_settings::{Settings, Threshold};
-use rst_transform::finish;
+use rst_transform::{Finished, finish};
 use rst_tree_index::Marked;
 use std::test::Fail;
 
@@ -234,9 +234,13 @@ fn finishes_documents(rt: HostRuntime) -> Result<(), Fail> {
         settings.report = report;
         settings.halt = halt;
         let document = Marked::of(alloc, tree(alloc, before)?)?;
-        let finished = finish(alloc, document, 10, &settings)?;
-        let mut text = printed(alloc, &finished.tree)?;
-        for note in &finished.notes {
+        let Finished {
+            document,
+            notes,
+            ..
+        } = finish(alloc, document, 10, &settings)?;
+        let mut text = printed(alloc, document)?;
+        for note in &notes {
             let level = note.level.number();
             let said = note.text.as_str();
             let line = note.line;

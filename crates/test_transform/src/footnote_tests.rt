@@ -269,7 +269,7 @@ const RESOLVE: &[(&str, &str)] = &[
 fn numbers_footnotes(rt: HostRuntime) -> Result<(), Fail> {
     let alloc = rt.alloc();
     for &(before, after) in FOOTNOTES {
-        let work = footnotes(alloc, named(alloc, before)?)?;
+        let work = footnotes(alloc, named(alloc, before)?, true)?;
         assert_eq!(rt; shown(alloc, work)?.as_str(), after);
     }
     Ok(())
@@ -279,7 +279,7 @@ fn numbers_footnotes(rt: HostRuntime) -> Result<(), Fail> {
 fn resolves_names(rt: HostRuntime) -> Result<(), Fail> {
     let alloc = rt.alloc();
     for &(before, after) in RESOLVE {
-        let work = resolve(alloc, named(alloc, before)?)?;
+        let work = resolve(alloc, named(alloc, before)?, true)?;
         assert_eq!(rt; shown(alloc, work)?.as_str(), after);
     }
     Ok(())

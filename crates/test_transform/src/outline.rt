@@ -169,19 +169,30 @@ fn holder(attrs: &Attrs) -> Holder {
     }
 }
 
-/// Lets a holder have the names of a list.
+/// Where an element leads, if it is a target with a URI.
+fn target_uri(tag: Tag, attrs: &Attrs) -> Result<Option<Text>, TreeFault> {
+    match (tag, attrs.text(Key::Refuri)) {
+        (Tag::Target, Some(uri)) => Ok(Some(uri.copy()?)),
+        _ => Ok(None),
+    }
+}
+
+/// Lets an element have the names of a list, or nobody, after the element lost them.
 fn hold_listed(
     alloc: Global,
-    list: Option<Said<'_>>,
+    tag: Tag,
+    attrs: &Attrs,
+    list: Key,
     holder: Holder,
     names: &mut Names,
 ) -> Result<(), TreeFault> {
-    if let Some(Said::List(list)) = list {
+    if let Some(Said::List(list)) = attrs.get(list) {
         for name in list {
             let held = NameEntry {
                 holder,
                 strength: Strength::Explicit,
                 id: Text::from_str(alloc, name.as_str())?,
+                uri: target_uri(tag, attrs)?,
             };
             names.hold(alloc, name.as_str(), held)?;
         }
@@ -192,13 +203,14 @@ fn hold_listed(
 /// Lets the elements of a node hold their names, and nobody those that they lost.
 fn hold_names(alloc: Global, node: &Node, names: &mut Names) -> Result<(), TreeFault> {
     if let Node::Element {
+        tag,
         attrs,
         children,
         ..
     } = node
     {
-        hold_listed(alloc, attrs.get(Key::Names), holder(attrs), names)?;
-        hold_listed(alloc, attrs.get(Key::Dupnames), Holder::Nobody, names)?;
+        hold_listed(alloc, *tag, attrs, Key::Names, holder(attrs), names)?;
+        hold_listed(alloc, *tag, attrs, Key::Dupnames, Holder::Nobody, names)?;
         for child in children.as_slice() {
             hold_names(alloc, child, names)?;
         }
@@ -214,11 +226,16 @@ pub fn named(alloc: Global, outline: &str) -> Result<Work, TreeFault> {
     Ok(work)
 }
 
-/// A document as it is printed.
-pub fn printed(alloc: Global, tree: &Tree) -> Result<String, Fail> {
-    let mut out = Vec::new(alloc);
-    print(tree, &mut Counted::of(&mut out))?;
-    Ok(String::from_str(alloc, std::str::from_utf8(&out)?)?)
+/// A document as it is printed, if it is a tree.
+pub fn printed(alloc: Global, document: Node) -> Result<String, Fail> {
+    match Tree::of(document) {
+        Ok(tree) => {
+            let mut out = Vec::new(alloc);
+            print(&tree, &mut Counted::of(&mut out))?;
+            Ok(String::from_str(alloc, std::str::from_utf8(&out)?)?)
+        }
+        Err(_) => Err(Fail::new("no tree")),
+    }
 }
 
 /// The document with all its attributes, and behind it each message: its line, and what it says.

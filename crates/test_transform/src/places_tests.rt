@@ -144,7 +144,7 @@ const TARGETS: &[(&str, &str)] = &[
 fn places_targets(rt: HostRuntime) -> Result<(), Fail> {
     let alloc = rt.alloc();
     for &(before, after) in TARGETS {
-        let work = targets(alloc, work(alloc, before)?)?;
+        let work = targets(alloc, work(alloc, before)?, true)?;
         assert_eq!(rt; shown(alloc, work)?.as_str(), after);
     }
     Ok(())

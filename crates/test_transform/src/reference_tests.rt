@@ -177,7 +177,7 @@ const INDIRECT: &[(&str, &str)] = &[
 fn joins_anonymous_references(rt: HostRuntime) -> Result<(), Fail> {
     let alloc = rt.alloc();
     for &(before, after) in ANONYMOUS {
-        let work = anonymous(alloc, named(alloc, before)?)?;
+        let work = anonymous(alloc, named(alloc, before)?, true)?;
         assert_eq!(rt; shown(alloc, work)?.as_str(), after);
     }
     Ok(())
@@ -187,7 +187,7 @@ fn joins_anonymous_references(rt: HostRuntime) -> Result<(), Fail> {
 fn follows_indirect_targets(rt: HostRuntime) -> Result<(), Fail> {
     let alloc = rt.alloc();
     for &(before, after) in INDIRECT {
-        let work = indirect(alloc, named(alloc, before)?)?;
+        let work = indirect(alloc, named(alloc, before)?, true)?;
         assert_eq!(rt; shown(alloc, work)?.as_str(), after);
     }
     Ok(())

@@ -211,7 +211,7 @@ const TRANSITIONS: &[(&str, &str)] = &[
 fn places_transitions(rt: HostRuntime) -> Result<(), Fail> {
     let alloc = rt.alloc();
     for &(before, after) in TRANSITIONS {
-        let work = transitions(alloc, work(alloc, before)?)?;
+        let work = transitions(alloc, work(alloc, before)?, true)?;
         assert_eq!(rt; shown(alloc, work)?.as_str(), after);
     }
     Ok(())

@@ -9,6 +9,6 @@ pub returns-clause-root : goal.returns-clause-root
 returns-clause-root c all lists report =
     let after : List Numbered = all ++ map report_said c.args.work.reports.items in
     let level = c.in_ok-add_reports.ensures.levels.1 ∙ report in
-    c.in_ok-root.ensures.nodes
+    c.in_ok-root.ensures.root
     ∙ ap (λ shown. with_filtered c.args.report shown c.args.work.root)
     (fun_ext (λ n. c.shown.ensures after (c.in_ok-add_reports.ensures.adds all lists) n ∙ ap (λ from. is_number_shown from after n) level))

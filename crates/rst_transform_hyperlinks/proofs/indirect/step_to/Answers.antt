@@ -1,7 +1,6 @@
 use Rattle.std.proofs.Common.{rules, ◌≡◌, sym, ◌∙◌, ap, subst, Bool, true, false, Some}
 use Rattle.std.specs.Prelude.{if◌then◌else◌, is_some, slice_get}
 use Rattle.std.proofs.lemmas.Option.{slice_get-get_or}
-use Rattle.rst_transform_names.specs.Names.{kept_for}
 use Rattle.rst_tree.specs.Faults.{Gives}
 use Rattle.rst_transform_hyperlinks.specs.declared.ways.Step.{Step}
 use Rattle.rst_transform_hyperlinks.specs.declared.ways.Step.TheVariants.{To}
@@ -15,8 +14,8 @@ returns-then-is_indirect c =
     slice_get-get_or c.args.linked.now c.in-Some.place c.in-Some-get.holder.now (c.in-Some-get.ensures.lookup.3.0) ∙ ap Some (sym (c.in-Some-get.ensures.lookup.1)) in
     let so : is_some (indirect_name c.in-Some-get.holder.now.element.now) ≡ true = search rules in
     sym
-    (stepping c.args.linked.now c.args.place c.in-Some.place c.in-Some-get.holder.now (kept_for c.args.names.now c.args.name.now) c.args.known.now.id c.in-Some.is there
-    ∙ ap (λ (b : Bool). if b then To c.in-Some.place else ends_at_name (Some c.in-Some-get.holder.now.element.now) (kept_for c.args.names.now c.args.name.now) c.args.known.now.id) so)
+    (stepping c.args.linked.now c.args.place c.in-Some.place c.in-Some-get.holder.now c.args.known.now.uri c.args.known.now.id c.in-Some.is there
+    ∙ ap (λ (b : Bool). if b then To c.in-Some.place else ends_at_name (Some c.in-Some-get.holder.now.element.now) c.args.known.now.uri c.args.known.now.id) so)
 
 pub returns : goal.returns
 returns c =
@@ -25,6 +24,6 @@ returns c =
     let so : is_some (indirect_name c.in-Some-get.holder.now.element.now) ≡ false = search rules in
     subst (λ (s : Step). Gives (λ (step : Step). step ≡ s) c.ends_at_name-2.result)
     (sym
-    (stepping c.args.linked.now c.args.place c.in-Some.place c.in-Some-get.holder.now (kept_for c.args.names.now c.args.name.now) c.args.known.now.id c.in-Some.is there
-    ∙ ap (λ (b : Bool). if b then To c.in-Some.place else ends_at_name (Some c.in-Some-get.holder.now.element.now) (kept_for c.args.names.now c.args.name.now) c.args.known.now.id) so))
+    (stepping c.args.linked.now c.args.place c.in-Some.place c.in-Some-get.holder.now c.args.known.now.uri c.args.known.now.id c.in-Some.is there
+    ∙ ap (λ (b : Bool). if b then To c.in-Some.place else ends_at_name (Some c.in-Some-get.holder.now.element.now) c.args.known.now.uri c.args.known.now.id) so))
     c.ends_at_name-2.ensures

@@ -1,5 +1,5 @@
 use Rattle.std.proofs.Common.{◌≡◌, ◌++◌, drop}
-use Rattle.rst_transform_links.specs.Settling.{turns_from}
+use Rattle.rst_transform_links.specs.Turns.{turns_from}
 use Rattle.rst_transform_links.proofs.settling.turns.Given as goal
 
 abbrev pub invariant-loop-place : goal.invariant-loop-place

@@ -1,35 +1,31 @@
-use Rattle.std.proofs.Common.{rules, arith, ◌≡◌, ◌+◌, ◌≤◌, ap, ◌∙◌}
+use Rattle.std.proofs.Common.{rules, arith, ◌≡◌, ◌+◌, ◌≤◌, ap}
 use Rattle.rst_tree.proofs.Rewrites.{Same-child}
 use Rattle.rst_tree.specs.Forest.{height}
 use Rattle.rst_tree.specs.Nodes.{node_height}
 use Rattle.rst_tree.specs.declared.node.Node.TheVariants.{Text}
-use Rattle.rst_transform_messages.proofs.Leaving.{within_text, within_element}
 use Rattle.rst_transform_messages.proofs.Showing.{Sifting-init, Sifting-more, Sifting-gone, Sifting-some, Sifting-whole, becoming_leaves, element_leaves, text_leaves}
 use Rattle.rst_transform_messages.specs.Messages.{marked}
-use Rattle.rst_transform_messages.specs.Shown.{are_within}
 use Rattle.rst_transform_messages.proofs.filter.+filter_in.Goals as goal
 
 pub loop-i-init : goal.loop-i-init
-loop-i-init t c = Sifting-init _ _ _ _
+loop-i-init t c = Sifting-init _ _ _
 
 pub loop-i-preserved-in-Vanishes : goal.loop-i-preserved-in-Vanishes
 loop-i-preserved-in-Vanishes t c =
-    Sifting-gone c.args.report (marked c.args.shown.now) c.args.levels _ c.loop-i.nodes c.loop-i.fit c.loop-i.leaves c.loop-i.i c.get_mut-node.result.now c.loop-i.invariant
+    Sifting-gone c.args.report (marked c.args.shown.now) _ c.loop-i.nodes c.loop-i.leaves c.loop-i.i c.get_mut-node.result.now c.loop-i.invariant
     (omega (arith, c.loop-i.invariant.same.same_len, c.len-i-end.ensures)) c.get_mut-node.ensures.value c.in-Vanishes.ensures
 
 pub loop-i-preserved-in-BecomesText : goal.loop-i-preserved-in-BecomesText
 loop-i-preserved-in-BecomesText t c =
     let leaves = becoming_leaves c.args.report (marked c.args.shown.now) c.get_mut-node.result.now c.in_ok-text-in-BecomesText.text c.in-BecomesText.ensures c.in_ok-text-in-BecomesText.ensures in
-    Sifting-more c.args.report (marked c.args.shown.now) c.args.levels _ c.loop-i.nodes c.loop-i.fit c.fits_text-fit.result c.loop-i.leaves c.loop-i.i c.get_mut-node.result.now (Text c.in_ok-text-in-BecomesText.text) c.loop-i.invariant
+    Sifting-more c.args.report (marked c.args.shown.now) _ c.loop-i.nodes c.loop-i.leaves c.loop-i.i c.get_mut-node.result.now (Text c.in_ok-text-in-BecomesText.text) c.loop-i.invariant
     (omega (arith, c.loop-i.invariant.same.same_len, c.len-i-end.ensures)) c.get_mut-node.ensures.value leaves
-    (within_text c.args.levels _ c.in_ok-text-in-BecomesText.text c.loop-i.fit c.fits_text-fit.result c.loop-i.invariant.fit_is c.fits_text-fit.ensures)
 
 pub loop-i-preserved-in-Text : goal.loop-i-preserved-in-Text
 loop-i-preserved-in-Text t c =
-    let leaves = text_leaves c.args.report (marked c.args.shown.now) c.get_mut-node.result.now c.in-Text.text c.in-Text.is in
-    Sifting-more c.args.report (marked c.args.shown.now) c.args.levels _ c.loop-i.nodes c.loop-i.fit c.fits_text-fit-in-Text.result c.loop-i.leaves c.loop-i.i c.get_mut-node.result.now (Text c.in-Text.text) c.loop-i.invariant
+    let leaves = text_leaves c.args.report (marked c.args.shown.now) c.get_mut-node.result.now c.in-Text.field-0 c.in-Text.is in
+    Sifting-more c.args.report (marked c.args.shown.now) _ c.loop-i.nodes c.loop-i.leaves c.loop-i.i c.get_mut-node.result.now c.get_mut-node.result.now c.loop-i.invariant
     (omega (arith, c.loop-i.invariant.same.same_len, c.len-i-end.ensures)) c.get_mut-node.ensures.value leaves
-    (within_text c.args.levels _ c.in-Text.text c.loop-i.fit c.fits_text-fit-in-Text.result c.loop-i.invariant.fit_is c.fits_text-fit-in-Text.ensures)
 
 pub filter_in-requires : goal.filter_in-requires
 filter_in-requires t c =
@@ -41,22 +37,15 @@ filter_in-requires t c =
 
 pub loop-i-preserved : goal.loop-i-preserved
 loop-i-preserved t c =
-    let inside = c.in_ok-inside-in-Element.ensures in
     let leaves = element_leaves c.args.report (marked c.args.shown.now) c.get_mut-node.result.now c.in-Element.tag c.in-Element.attrs c.in-Element.children c.filter_in.new.nodes c.in-Element.line
-    c.in-Element.is c.in-Stays.ensures inside.nodes in
-    Sifting-more c.args.report (marked c.args.shown.now) c.args.levels _ c.loop-i.nodes c.loop-i.fit c.fits_element-fit.result c.loop-i.leaves c.loop-i.i c.get_mut-node.result.now _ c.loop-i.invariant
+    c.in-Element.is c.in-Stays.ensures c.in_ok-filter_in-in-Element.ensures in
+    Sifting-more c.args.report (marked c.args.shown.now) _ c.loop-i.nodes c.loop-i.leaves c.loop-i.i c.get_mut-node.result.now _ c.loop-i.invariant
     (omega (arith, c.loop-i.invariant.same.same_len, c.len-i-end.ensures)) c.get_mut-node.ensures.value leaves
-    (within_element c.args.levels _ c.in-Element.tag c.in-Element.attrs c.filter_in.new.nodes c.in-Element.line c.loop-i.fit c.in_ok-inside-in-Element.inside c.fits_element-fit.result c.loop-i.invariant.fit_is
-    (inside.tree ∙ ap (λ levels. are_within levels c.filter_in.new.nodes) c.saturating_sub-below.ensures) c.fits_element-fit.ensures)
 
-pub returns-then-leaves-clause-nodes : goal.returns-then-leaves-clause-nodes
-returns-then-leaves-clause-nodes t c =
-    (Sifting-some c.args.report (marked c.args.shown.now) c.args.levels _ c.loop-i.nodes _ c.loop-i.fit c.loop-i.leaves c.loop-i.i c.loop-i.invariant (omega (arith, c.loop-i.invariant.same.same_len, c.len-i-end.ensures)) (search rules)).0
+pub returns-then-leaves : goal.returns-then-leaves
+returns-then-leaves t c =
+    Sifting-some c.args.report (marked c.args.shown.now) _ c.loop-i.nodes _ c.loop-i.leaves c.loop-i.i c.loop-i.invariant (omega (arith, c.loop-i.invariant.same.same_len, c.len-i-end.ensures)) (search rules)
 
-pub returns-else-leaves-clause-nodes : goal.returns-else-leaves-clause-nodes
-returns-else-leaves-clause-nodes t c =
-    (Sifting-whole c.args.report (marked c.args.shown.now) c.args.levels _ c.loop-i.nodes c.loop-i.fit c.loop-i.leaves c.loop-i.i c.loop-i.invariant (omega (arith, c.loop-i.invariant.same.same_len, c.len-i-end.ensures)) c.if-leaves.false).0
-
-pub returns-else-leaves-clause-tree : goal.returns-else-leaves-clause-tree
-returns-else-leaves-clause-tree t c =
-    (Sifting-whole c.args.report (marked c.args.shown.now) c.args.levels _ c.loop-i.nodes c.loop-i.fit c.loop-i.leaves c.loop-i.i c.loop-i.invariant (omega (arith, c.loop-i.invariant.same.same_len, c.len-i-end.ensures)) c.if-leaves.false).1
+pub returns-else-leaves : goal.returns-else-leaves
+returns-else-leaves t c =
+    Sifting-whole c.args.report (marked c.args.shown.now) _ c.loop-i.nodes c.loop-i.leaves c.loop-i.i c.loop-i.invariant (omega (arith, c.loop-i.invariant.same.same_len, c.len-i-end.ensures)) c.if-leaves.false

@@ -7,4 +7,4 @@ abbrev pub decreases-filter_in : goal.decreases-filter_in
 decreases-filter_in l = height l.nodes.now
 
 abbrev pub invariant-loop-i : goal.invariant-loop-i
-invariant-loop-i l = Sifting l.report (marked l.shown) l.levels l.initial.nodes l.nodes l.fit l.leaves l.i
+invariant-loop-i l = Sifting l.report (marked l.shown) l.initial.nodes l.nodes l.leaves l.i

@@ -1,4 +1,4 @@
-use Rattle.std.proofs.Common.{sym, ◌∙◌, arith}
+use Rattle.std.proofs.Common.{sym, ◌∙◌}
 use Rattle.rst_transform_names.proofs.IdLemmas.{nothing_wanted, something_wanted}
 use Rattle.rst_transform_names.proofs.ids.id_text.Goals as goal
 

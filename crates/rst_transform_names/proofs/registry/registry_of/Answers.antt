@@ -5,30 +5,20 @@ use Rattle.rst_transform_names.specs.Registering.{AllRegistered}
 use Rattle.rst_transform_names.proofs.registry.registry_of.Goals as goal
 
 pub loop-new-init : goal.loop-new-init
-loop-new-init c =
-    let none = ap (map item_of) c.in_ok-earlier.ensures.items in
-    (c.in_ok-registry.registry, c.in_ok-registry.ensures, λ after h. subst (λ es. AllRegistered es (map item_of c.args.elements.now) c.in_ok-registry.registry after) none h)
+loop-new-init c = (c.in_ok-registry.registry, c.in_ok-registry.ensures, λ after h. h)
 
 pub loop-new-preserved : goal.loop-new-preserved
 loop-new-preserved c =
     let h = c.loop-new.invariant in
     let elements = c.args.elements.now in
-    let known = map item_of c.loop-new.earlier.items in
     let cut : drop c.loop-new.new-index elements ≡ c.new-item.result ∷ drop (c.loop-new.new-index + 1) elements = drop_more elements c.loop-new.new-index c.new-item.result (omega arith) ∙ ap (λ x. x ∷ drop (c.loop-new.new-index + 1) elements) (sym c.new-item.is) in (
       h.0,
       h.1,
-      λ after rest. h.2 after (
-          subst (λ l. AllRegistered known (map item_of l) c.loop-new.registry after) (sym cut) (
-            c.register.new.self,
-            c.in_ok-register.ensures.registry,
-            subst (λ es. AllRegistered es (map item_of (drop (c.loop-new.new-index + 1) elements)) c.register.new.self after) c.in_ok-register.ensures.earlier rest,
-          )),
+      λ after rest. h.2 after (subst (λ l. AllRegistered (map item_of l) c.loop-new.registry after) (sym cut) (c.register.new.self, c.in_ok-register.ensures, rest)),
     )
 
 pub returns : goal.returns
 returns c =
     let h = c.loop-new.invariant in
-    let elements = c.args.elements.now in
-    let none = drop_of_length-le elements (omega arith) in
-    let known = map item_of c.loop-new.earlier.items in
-    record { first = h.0; knows_nothing = h.1; all = h.2 c.loop-new.registry (subst (λ l. AllRegistered known (map item_of l) c.loop-new.registry c.loop-new.registry) (sym none) refl) }
+    let none = drop_of_length-le c.args.elements.now (omega arith) in
+    record { first = h.0; knows_nothing = h.1; all = h.2 c.loop-new.registry (subst (λ l. AllRegistered (map item_of l) c.loop-new.registry c.loop-new.registry) (sym none) refl) }

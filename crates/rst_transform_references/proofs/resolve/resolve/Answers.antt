@@ -1,11 +1,10 @@
 use Rattle.std.proofs.Common.{rules}
+use Rattle.rst_transform_references.proofs.ReferenceKinds.{resolved_kinds}
+use Rattle.rst_transform_references.proofs.Unresolved.{unresolved}
 use Rattle.rst_transform_references.proofs.resolve.resolve.Goals as goal
 
-pub returns : goal.returns
-returns c = record {
-  out = c.take_root-root.new.work.root;
-  settled = c.changes_of.new.work;
-  changes = c.in_ok-changes.changes;
-  become = search rules;
-  back = search rules;
-}
+pub returns-then-not-has-clause-resolved : goal.returns-then-not-has-clause-resolved
+returns-then-not-has-clause-resolved c = unresolved c.args.work (c.requires.has (search rules))
+
+pub returns-clause-kinds : goal.returns-clause-kinds
+returns-clause-kinds c = resolved_kinds c.args.work c.in_ok-work.work (search rules)

@@ -1,9 +1,11 @@
-use Rattle.std.proofs.Common.{refl, sym, ◌∙◌}
-use Rattle.rst_transform_substitutions.proofs.Expanding.{root_expanded}
+use Rattle.rst_transform_substitutions.proofs.ExpandedKinds.{no_new_expanded, no_new_given}
+use Rattle.rst_transform_substitutions.proofs.NoReferences.{stays_expanded}
 use Rattle.rst_transform_substitutions.proofs.expand.expand.Goals as goal
 
-pub returns : goal.returns
-returns c =
-    let expands = c.in_ok-children-in-Element.ensures in
-    root_expanded c.args.work.root c.args.work c.take_root.new.work c.expanded_in.new.work _ c.in_ok-definitions.definitions c.in-Element.tag c.in-Element.attrs c.in-Element.children c.in_ok-children-in-Element.children c.in-Element.line
-    expands.0 (sym c.take_root.ensures.root ∙ c.in-Element.is) c.in_ok-definitions.ensures c.take_root.ensures.work expands.1 expands.2 refl
+pub returns-then-not-has : goal.returns-then-not-has
+returns-then-not-has c =
+    let stays = stays_expanded c.args.work (c.requires.has c.if-not-has.true) in
+    record { expanded = stays; kinds = no_new_expanded c.args.work c.args.work stays }
+
+pub returns-clause-kinds : goal.returns-clause-kinds
+returns-clause-kinds c = no_new_given c.args.work c.expanded_root.result c.expanded_root.ensures

@@ -1,6 +1,6 @@
 use Rattle.std.proofs.Common.{rules, ◌≤◌, arith, ◌+◌}
 use Rattle.rst_tree.specs.Nodes.{node_height}
-use Rattle.rst_tree.specs.Print.{printed_node}
+use Rattle.rst_tree.specs.Print.{deeper, printed_node}
 use Rattle.rst_tree.specs.PrintedAttributes.{given, with_printed_attrs}
 use Rattle.rst_tree.proofs.PrintedParts.{child_height}
 use Rattle.rst_tree.proofs.PrintedAttributeParts.{element-with-attrs, words-with-attrs}
@@ -19,7 +19,8 @@ put_node-requires g t c =
 
 pub loop-child-preserved : goal.loop-child-preserved
 loop-child-preserved g t c =
-    Gets-item (λ x. printed_node (c.args.level + 1) (with_printed_attrs (given c.args.source) x)) _ c.loop-child.child-index _ c.child-item.is (omega arith) c.loop-child.invariant c.put_node.ensures
+    Gets-item (λ x. printed_node (deeper c.args.level) (with_printed_attrs (given c.args.source) x)) _ c.loop-child.child-index _ c.child-item.is (omega arith) c.loop-child.invariant
+    (rw c.saturating_add.ensures at c.put_node.ensures)
 
 pub returns-after-loop-child : goal.returns-after-loop-child
 returns-after-loop-child g t c =

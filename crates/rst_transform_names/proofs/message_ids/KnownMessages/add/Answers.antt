@@ -1,4 +1,4 @@
-use Rattle.std.proofs.Common.{sym, ap, ◌∙◌, arith, Some}
+use Rattle.std.proofs.Common.{ap, ◌∙◌, arith}
 use Rattle.rst_transform_names.specs.Registering.{with_member, with_message_changed}
 use Rattle.rst_transform_names.proofs.RegistryLemmas.{changed_there, changed_behind}
 use Rattle.rst_transform_names.proofs.message_ids.KnownMessages.add.Goals as goal

@@ -1,4 +1,4 @@
-use Rattle.std.proofs.Common.{◌≡◌, ◌++◌, Some, None, false, true, List, ℕ, refl, ap, ap₂, ◌∙◌, bytes_eq, string_bytes}
+use Rattle.std.proofs.Common.{◌≡◌, ◌++◌, Some, None, false, List, ℕ, refl, ap, ap₂, ◌∙◌, bytes_eq, string_bytes}
 use Rattle.std.specs.Prelude.{if◌then◌else◌}
 use Rattle.std.specs.BTreeMap.{get_by_text}
 use Rattle.std.specs.VecDeque.{deque_items}

@@ -1,0 +1,73 @@
+-- Runs that read the same bytes have one end.
+use Rattle.std.proofs.Common.{◌≡◌, ◌∙◌, ℕ, ◌<◌, ◌++◌, true, List, [], length, refl, sym, ap, subst, arith}
+use Rattle.std.specs.Prelude.{Option, Some, None, Result, Ok, Err}
+use Rattle.std.specs.Io.KnownBytes.{Appends, Consumes, IsAtEnd, Keeps}
+use Rattle.std.proofs.lemmas.List.{append-nil, length-append}
+use Rattle.rst_settings.specs.declared.Settings.{Settings}
+use Rattle.rst_text.specs.Counted.{Stream, Gains}
+use Rattle.rst2pseudoxml_run.specs.declared.end.End.{End}
+use Rattle.rst2pseudoxml_run.specs.declared.end.End.TheVariants.{Done, Read, TooLong, NotUtf8, TooDeep, NoMemory, WriteErr, WriteOut}
+use Rattle.rst2pseudoxml_run.specs.OneEnd.{is_own, Comes, EndAlike}
+use Rattle.rst2pseudoxml_run.specs.Headline.{Ends}
+use Rattle.rst2pseudoxml_run.specs.Shown.{Answers, Parts}
+use Rattle.rst2pseudoxml_run.proofs.OneAnswer.{one_answer}
+
+-- what was handed out of known bytes is a front of them
+handed : (before after : Option (List ℕ)) (text bytes : List ℕ) → before ≡ Some text → Consumes before after bytes → (rest : List ℕ) × (text ≡ bytes ++ rest) × (IsAtEnd after → rest ≡ [])
+handed None after text bytes e h = absurd (cc)
+handed (Some xs) None text bytes e h = absurd h
+handed (Some xs) (Some ys) text bytes e h = let same : xs ≡ text = cc in (ys, sym same ∙ h, λ ends. ends)
+
+-- all of them, where the reader is at its end
+all_handed : (before after : Option (List ℕ)) (text bytes : List ℕ) → before ≡ Some text → Consumes before after bytes → IsAtEnd after → bytes ≡ text
+all_handed before after text bytes e h ends =
+    let front = handed before after text bytes e h in
+    sym (append-nil bytes) ∙ ap (λ rest. bytes ++ rest) (sym (front.2 ends)) ∙ sym front.1
+
+-- a writer that nothing was written to
+gains_nothing : (before after : Option (List ℕ)) → Keeps before after → Appends before after []
+gains_nothing None after h = tt
+gains_nothing (Some xs) None h = h
+gains_nothing (Some xs) (Some ys) h = h ∙ sym (append-nil xs)
+
+-- what is written of an answer
+abbrev Shows : Result Parts End → Stream → Stream → End → Type 0
+Shows (Ok parts) out err end = (end ≡ Done parts.status) × Gains out parts.out × Gains err parts.err
+Shows (Err refusal) out err end = (end ≡ refusal) × Gains out [] × Gains err []
+
+module _ (settings : Settings) (source text : List ℕ) where
+  abbrev Shown : Stream → Stream → End → Type 0
+  Shown out err end = (answer : Result Parts End) × Answers settings source text answer × Shows answer out err end
+
+  of_all : (bytes : List ℕ) (answer : Result Parts End) → bytes ≡ text → Answers settings source bytes answer → Answers settings source text answer
+  of_all bytes answer same h = subst (λ b. Answers settings source b answer) same h
+
+  shown : (input out err : Stream) (bytes : List ℕ) (end : End) → input.before ≡ Some text → Consumes input.before input.after bytes → is_own end ≡ true → Ends (Answers settings source bytes) input out err end → Shown out err end
+  shown input out err bytes (Done status) e h own ends =
+      (Ok ends.1, of_all bytes (Ok ends.1) (all_handed input.before input.after text bytes e h ends.0.0) ends.2, (ap Done ends.3, ends.5.0, ends.4.0))
+  shown input out err bytes (NotUtf8 at) e h own ends =
+      (Err (NotUtf8 at), of_all bytes (Err (NotUtf8 at)) (all_handed input.before input.after text bytes e h ends.0.0) ends.1, (refl, gains_nothing out.before out.after ends.2, gains_nothing err.before err.after ends.3))
+  shown input out err bytes (TooDeep line) e h own ends =
+      (Err (TooDeep line), of_all bytes (Err (TooDeep line)) (all_handed input.before input.after text bytes e h ends.0.0) ends.1, (refl, gains_nothing out.before out.after ends.2, gains_nothing err.before err.after ends.3))
+  shown input out err bytes TooLong e h own ends =
+      let front = handed input.before input.after text bytes e h in
+      let long : 16777216 < length text = omega (arith, ends.0, ap length front.1, length-append bytes front.0) in
+      (Err TooLong, long, (refl, gains_nothing out.before out.after ends.1, gains_nothing err.before err.after ends.2))
+  shown input out err bytes Read e h own ends = absurd (cc)
+  shown input out err bytes NoMemory e h own ends = absurd (cc)
+  shown input out err bytes (WriteErr done) e h own ends = absurd (cc)
+  shown input out err bytes (WriteOut done) e h own ends = absurd (cc)
+
+  alike : (answer : Result Parts End) (out err also_out also_err : Stream) (end also : End) → Shows answer out err end → Shows answer also_out also_err also → EndAlike out err also_out also_err end also
+  alike (Ok parts) out err also_out also_err end also f g =
+      record { same = f.0 ∙ sym g.0; shown = parts.out; told = parts.err; out_gains = f.1; err_gains = f.2; also_out_gains = g.1; also_err_gains = g.2 }
+  alike (Err refusal) out err also_out also_err end also f g =
+      record { same = f.0 ∙ sym g.0; shown = []; told = []; out_gains = f.1; err_gains = f.2; also_out_gains = g.1; also_err_gains = g.2 }
+
+  pub one_end : (input out err also_input also_out also_err : Stream) (end also : End) → Comes settings source text input out err end → Comes settings source text also_input also_out also_err also
+      → EndAlike out err also_out also_err end also
+  one_end input out err also_input also_out also_err end also f g =
+      let one = shown input out err f.headline.0 end f.holds f.headline.1 f.own f.headline.2 in
+      let other = shown also_input also_out also_err g.headline.0 also g.holds g.headline.1 g.own g.headline.2 in
+      let same : other.0 ≡ one.0 = one_answer settings source text other.0 one.0 other.1 one.1 in
+      alike one.0 out err also_out also_err end also one.2 (subst (λ answer. Shows answer also_out also_err also) same other.2)

@@ -1,0 +1,2 @@
+pub mod NoNewKinds
+pub mod OneAnswer

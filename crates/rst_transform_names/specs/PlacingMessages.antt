@@ -1,0 +1,79 @@
+-- The messages on equal names in the code that places them. No rule of markup.
+use Rattle.std.specs.Prelude.{◌≡◌, ℕ, zero, suc, ◌+◌, ◌||◌, ◌&&◌, not, if◌then◌else◌, List, [], ◌∷◌, ◌++◌, map, length, Vec}
+use Rattle.rst_tree.specs.declared.attrs.Attr.{Attr}
+use Rattle.rst_tree.specs.declared.node.Node.{Node}
+use Rattle.rst_tree.specs.declared.node.Node.TheVariants.{Element}
+use Rattle.rst_tree.specs.declared.tag.Tag.{Tag}
+use Rattle.rst_tree.specs.Forest.{Forest}
+use Rattle.rst_tree.specs.Nodes.{forest_of}
+use Rattle.rst_transform_names.specs.declared.inside.Inside.{Inside}
+use Rattle.rst_transform_names.specs.declared.inside.OwnMessage.{OwnMessage}
+use Rattle.rst_transform_names.specs.declared.weaving.PlacedMessage.{PlacedMessage}
+use Rattle.rst_transform_names.specs.declared.weaving.TextMessages.{TextMessages}
+use Rattle.rst_transform_names.specs.NameMessages.{after_own, after_texts, ahead, all_at, at, before_nodes, filled, from, goes_in, goes_out, is_passed_over, left_waiting, on_inline, own_messages, takes_in, texts_out, woven, OfText, Placed}
+
+-- the messages with their places
+abbrev pub pairs : List PlacedMessage → Placed
+pairs list = map (λ one. (one.place, one.message)) list
+
+-- the messages of texts
+abbrev pub of_texts : List TextMessages → List OfText
+of_texts list = map (λ one. (one.own, one.messages.items)) list
+
+-- the nodes in gaps
+abbrev pub gap_nodes : {Z : Type 0} → List (Vec Node Z) → List (List Node)
+gap_nodes list = map (λ gap. gap.items) list
+
+-- the messages before each of so many nodes from a place on, and those further on
+abbrev pub gaps : ℕ → ℕ → Placed → List (List Node)
+gaps zero place placed = from place placed ∷ []
+gaps (suc count) place placed = at place placed ∷ gaps count (place + 1) placed
+
+-- the nodes of the first gap, the first node, and so on, as far as there are gaps
+abbrev pub with_gaps : List (List Node) → List Node → List Node
+with_gaps [] nodes = []
+with_gaps (gap ∷ more) [] = gap ++ with_gaps more []
+with_gaps (gap ∷ more) (n ∷ ns) = gap ++ n ∷ with_gaps more ns
+
+-- All messages among some nodes of an element, in the order that counts at one place: those of the terms or the field name before the element,
+-- those after texts, that on a section's name, those before nodes, and those of the terms or field names that wait.
+abbrev pub all_placed : List Node → List TextMessages → List PlacedMessage → List PlacedMessage → List PlacedMessage → List TextMessages → Placed
+all_placed nodes given after_texts section before_nodes waiting =
+    after_own 0 (of_texts given) ++ (pairs after_texts ++ (pairs section ++ (pairs before_nodes ++ after_own (length nodes) (of_texts waiting))))
+
+-- What is made of the nodes of an element of a kind is what the definition says: the nodes with their messages, and the messages that get their
+-- places with the element. Those that come before elements among the nodes come ahead if the element is passed over.
+pub record IsInside (own : List Attr → List Node) (p : Tag) (c : Forest) (made : Inside) : Type 0 where
+  pub nodes : made.nodes.items ≡ filled own p [] c
+  pub on_inline : made.on_inline.items ≡ on_inline own c
+  pub ahead : made.ahead.items ≡ (if is_passed_over p then ahead own c else [])
+  pub before_nodes : pairs made.before_nodes.items ≡ (if is_passed_over p then [] else before_nodes own 0 c)
+  pub texts_out : of_texts made.texts_out.items ≡ texts_out own p c
+  pub after_texts : pairs made.after_texts.items ≡ after_texts own p 0 c
+  pub waiting : of_texts made.waiting.items ≡ left_waiting own p [] c
+
+-- what is made of no node
+pub record IsBare (made : Inside) : Type 0 where
+  pub nodes : made.nodes.items ≡ []
+  pub on_inline : made.on_inline.items ≡ []
+  pub ahead : made.ahead.items ≡ []
+  pub before_nodes : made.before_nodes.items ≡ []
+  pub texts_out : made.texts_out.items ≡ []
+  pub after_texts : made.after_texts.items ≡ []
+  pub waiting : made.waiting.items ≡ []
+
+-- the messages in an element's text and in those that have their messages where it has them
+abbrev pub texts_of : Tag → List Attr → Inside → List OfText
+texts_of t a inside = (own_messages t a, inside.on_inline.items) ∷ of_texts inside.texts_out.items
+
+-- One more element among nodes of an element of a kind, with the message on its own name and what was made of its nodes.
+pub record Puts (p t : Tag) (a : List Attr) (l : ℕ) (own : OwnMessage) (inside before after : Inside) : Type 0 where
+  pub given : List TextMessages
+  pub are_given : of_texts given ≡ (if takes_in t then of_texts before.waiting.items else [])
+  pub nodes : after.nodes.items ≡ before.nodes.items ++ Element t a (forest_of (woven 0 (all_placed inside.nodes.items given inside.after_texts.items own.section.items inside.before_nodes.items inside.waiting.items) inside.nodes.items)) l ∷ []
+  pub on_inline : after.on_inline.items ≡ before.on_inline.items ++ own.inline.items
+  pub ahead : after.ahead.items ≡ before.ahead.items ++ (if is_passed_over p then inside.ahead.items ++ own.block.items else [])
+  pub before_nodes : pairs after.before_nodes.items ≡ pairs before.before_nodes.items ++ (if is_passed_over p then [] else all_at (length before.nodes.items) (inside.ahead.items ++ own.block.items))
+  pub texts_out : of_texts after.texts_out.items ≡ of_texts before.texts_out.items ++ (if goes_out p t then texts_of t a inside else [])
+  pub after_texts : pairs after.after_texts.items ≡ pairs before.after_texts.items ++ (if goes_out p t || goes_in t then [] else after_own (length before.nodes.items + 1) (texts_of t a inside))
+  pub waiting : of_texts after.waiting.items ≡ (if takes_in t then [] else of_texts before.waiting.items) ++ (if goes_in t && not (goes_out p t) then texts_of t a inside else [])

@@ -1,0 +1,114 @@
+-- References that lead somewhere bring no new kinds of elements.
+use Rattle.std.proofs.Common.{◌≡◌, ℕ, ◌+◌, List, [], ◌∷◌, ◌++◌, length, map, refl, Bool, true, false}
+use Rattle.std.specs.Prelude.{◌||◌, if◌then◌else◌, is_some, not, ◌&&◌, unwrap_or, Option, Some, None}
+use Rattle.std.specs.List.{enumerate_from, list_all}
+use Rattle.rst_tree.specs.declared.attrs.Attr.{Attr}
+use Rattle.rst_tree.specs.declared.node.Node.{Node}
+use Rattle.rst_tree.specs.declared.key.Key.TheVariants.{Refid, Refuri}
+use Rattle.rst_tree.specs.Walk.{node_items}
+use Rattle.rst_tree_index.specs.Kinds.{HasNoNewLinkKinds}
+use Rattle.rst_transform_names.specs.declared.names.Holder.{Holder}
+use Rattle.rst_transform_names.specs.declared.names.NameEntry.{NameEntry}
+use Rattle.rst_transform_names.specs.declared.names.Names.{Names}
+use Rattle.rst_transform_names.specs.Names.{held_by}
+use Rattle.rst_transform_links.specs.declared.links.Outcome.{Outcome}
+use Rattle.rst_transform_links.specs.Holders.{is_target_node, kept_lead, lead_by, lead_of, name_lead}
+use Rattle.rst_transform_links.specs.Linkings.{Held, linked_of}
+use Rattle.rst_transform_links.specs.Outcomes.{fails}
+use Rattle.rst_transform_links.proofs.LinkKinds.{is_nameless, is_no_name, settled_kinds}
+use Rattle.rst_transform_work.specs.declared.work.Report.{Report}
+use Rattle.rst_transform_work.specs.declared.work.Work.{Work}
+use Rattle.rst_transform_work.specs.Reading.{text_said}
+use Rattle.rst_transform_references.specs.declared.meanings.Meaning.{Meaning}
+use Rattle.rst_transform_references.specs.declared.meanings.Meaning.TheVariants.{Leads, Unknown, Duplicate}
+use Rattle.rst_transform_references.specs.Backrefs.{ids_of_references, referents_of, referred_at, referred_to}
+use Rattle.rst_transform_references.specs.Meanings.{element_at, is_nobody, known_meaning, meaning_of, meaning_to, reference_name, referent_place, refers_to_footnote_or_citation}
+use Rattle.rst_transform_references.specs.Resolved.{outcomes_among, places_among, resolved_among, IsResolved}
+use Rattle.rst_transform_references.specs.Resolving.{is_gone, reports_behind, resolved_from, what_becomes}
+
+-- ---- what a name means
+
+by_lead : (uri id : Option (List ℕ)) (kept : Attr) → is_no_name (Some kept) ≡ true → is_no_name (Some (unwrap_or (lead_by uri id) kept)) ≡ true
+by_lead (Some uri) id kept h = refl
+by_lead None (Some id) kept h = refl
+by_lead None None kept h = h
+
+by_target : (b : Bool) (node : Node) (kept : Attr) → is_no_name (Some kept) ≡ true → is_no_name (Some (unwrap_or (if b then lead_of node else None) kept)) ≡ true
+by_target true node kept h = by_lead (text_said Refuri node) (text_said Refid node) kept h
+by_target false node kept h = h
+
+by_kept : (uri : Option (List ℕ)) (id : List ℕ) → is_no_name (Some (kept_lead uri id)) ≡ true
+by_kept (Some uri) id = refl
+by_kept None id = refl
+
+by_name : (holder : Option Node) (uri : Option (List ℕ)) (id : List ℕ) → is_no_name (Some (name_lead holder uri id)) ≡ true
+by_name None uri id = by_kept uri id
+by_name (Some node) uri id = by_target (is_target_node node) node (kept_lead uri id) (by_kept uri id)
+
+-- where it leads, if it leads somewhere, is no name
+abbrev is_lead : Option Meaning → Bool
+is_lead (Some (Leads attr place)) = is_no_name (Some attr)
+is_lead (Some Unknown) = true
+is_lead (Some Duplicate) = true
+is_lead None = true
+
+one_of_three : (b c : Bool) (attr : Attr) (place : Option ℕ) → is_no_name (Some attr) ≡ true → is_lead (Some (if b then Duplicate else if c then Unknown else Leads attr place)) ≡ true
+one_of_three true c attr place h = refl
+one_of_three false true attr place h = refl
+one_of_three false false attr place h = h
+
+known_lead : (places : Holder → Option ℕ) (linked : List Held) (names : Names) (needs : Bool) (held : Option NameEntry) → is_lead (Some (known_meaning places linked names needs held)) ≡ true
+known_lead places linked names needs None = refl
+known_lead places linked names needs (Some held) =
+    let place : Option ℕ = places held.holder in
+    let element : Option Node = element_at linked place in
+    let referent : Option ℕ = referent_place element place in
+    one_of_three (is_nobody held.holder) (needs && not (is_some referent)) (name_lead element held.uri held.id) referent (by_name element held.uri held.id)
+
+named_lead : (places : Holder → Option ℕ) (linked : List Held) (names : Names) (node : Node) (name : Option (List ℕ)) → is_lead (meaning_of places linked names node name) ≡ true
+named_lead places linked names node None = refl
+named_lead places linked names node (Some name) = known_lead places linked names (refers_to_footnote_or_citation node) (held_by names name)
+
+-- ---- what becomes of the elements
+
+one_nameless : (linked : List Held) (gone : Bool) (reports : ℕ) (node : Node) (meaning : Option Meaning) → is_lead meaning ≡ true → is_nameless (what_becomes linked gone reports node meaning) ≡ true
+one_nameless linked true reports node meaning h = refl
+one_nameless linked false reports node None h = refl
+one_nameless linked false reports node (Some (Leads attr place)) h = h
+one_nameless linked false reports node (Some Unknown) h = refl
+one_nameless linked false reports node (Some Duplicate) h = refl
+
+resolved_nameless : (places : Holder → Option ℕ) (linked : List Held) (names : Names) (first : ℕ) (ended : List Bool) (reports : List Report) (left : List Held) → list_all is_nameless (resolved_from places linked names first ended reports left).0 ≡ true
+resolved_nameless places linked names first ended reports [] = refl
+resolved_nameless places linked names first ended reports (one ∷ more) =
+    let meaning : Option Meaning = meaning_to places linked names one.0 in
+    let gone : Bool = is_gone ended one.1 in
+    let outcome : Outcome = what_becomes linked gone (length reports) one.0 meaning in
+    rw (one_nameless linked gone (length reports) one.0 meaning (named_lead places linked names one.0 (reference_name one.0)))
+    (resolved_nameless places linked names first (ended ++ (gone || fails outcome) ∷ []) (reports_behind gone first reports one.0 meaning) more)
+
+referred_nameless : (ids : List (List ℕ)) (outcome : Outcome) (rest : Bool) → (is_nameless outcome && rest) ≡ true → (is_nameless (referred_to ids outcome) ≡ true) × (rest ≡ true)
+referred_nameless [] outcome rest h = both (is_nameless outcome) rest h
+  where
+    both : (a b : Bool) → (a && b) ≡ true → (a ≡ true) × (b ≡ true)
+    both true b h = (refl, h)
+    both false b h = absurd (cc)
+referred_nameless (id ∷ more) outcome rest h = (refl, second (is_nameless outcome) rest h)
+  where
+    second : (a b : Bool) → (a && b) ≡ true → b ≡ true
+    second true b h = h
+    second false b h = absurd (cc)
+
+backrefs_nameless : (ids : ℕ → List (List ℕ)) (place : ℕ) (outcomes : List Outcome) → list_all is_nameless outcomes ≡ true → list_all is_nameless (map (referred_at ids) (enumerate_from place outcomes)) ≡ true
+backrefs_nameless ids place [] h = refl
+backrefs_nameless ids place (outcome ∷ more) h =
+    let first = referred_nameless (ids place) outcome (list_all is_nameless more) h in
+    rw (first.0) (backrefs_nameless ids (place + 1) more first.1)
+
+pub resolved_kinds : (before after : Work) → IsResolved before after → HasNoNewLinkKinds (node_items before.root) (node_items after.root)
+resolved_kinds before after r =
+    let linked : List Held = linked_of before.root in
+    let referents : List (Option ℕ) = referents_of (places_among linked before) linked before.names in
+    rw (r.back)
+    (settled_kinds linked (outcomes_among linked before) r.become.between r.settled r.changes before.root r.become.settles
+    (backrefs_nameless (ids_of_references referents linked) 0 (resolved_among linked before).0 (resolved_nameless (places_among linked before) linked before.names before.first_number [] before.reports.items linked)))

@@ -1,0 +1,47 @@
+-- A node is made of its elements and its shape.
+use Rattle.std.proofs.Common.{◌≡◌, ◌∙◌, ℕ, List, [], ◌∷◌, ◌++◌, append_assoc, append-nil, refl, sym, ap, ap₂}
+use Rattle.rst_tree.specs.declared.node.Node.{Node}
+use Rattle.rst_tree.specs.declared.node.Node.TheVariants.{Element, Text}
+use Rattle.rst_tree.specs.Forest.{Forest, bare, element, words}
+use Rattle.rst_tree.specs.Walk.{branch, items, leaf, no_shape, node_items, node_shape, shape, Item, Shape}
+
+-- nodes, and the elements that are left
+abbrev Built : Type 0
+Built = Forest × List Item
+
+abbrev in_front : List ℕ → Built → Built
+in_front t done = (words t done.0, done.1)
+
+abbrev around : Item → Forest → Built → Built
+around x c done = (element x.tag x.attrs c x.line done.0, done.1)
+
+-- the nodes of a shape with the first of some elements, and those that are left
+abbrev fill : Shape → List Item → Built
+fill no_shape xs = (bare, xs)
+fill (leaf t s) xs = in_front t (fill s xs)
+fill (branch c r) [] = (bare, [])
+fill (branch c r) (x ∷ xs) = around x (fill c xs).0 (fill r (fill c xs).1)
+
+filled : (f : Forest) (more : List Item) → fill (shape f) (items f ++ more) ≡ (f, more)
+filled bare more = refl
+filled (words t r) more = ap (in_front t) (filled r more)
+filled (element t a c l r) more =
+    let x : Item = record { tag = t; attrs = a; line = l } in
+    let first : fill (shape c) ((items c ++ items r) ++ more) ≡ (c, items r ++ more) =
+    ap (fill (shape c)) (append_assoc (items c) (items r) more) ∙ filled c (items r ++ more) in
+    ap (λ done. around x done.0 (fill (shape r) done.1)) first ∙ ap (around x c) (filled r more)
+
+-- the node of a shape with some elements
+abbrev rebuilt : Shape → List Item → Node
+rebuilt (branch c r) (x ∷ xs) = Element x.tag x.attrs (fill c xs).0 x.line
+rebuilt (leaf t s) xs = Text t
+rebuilt _ xs = Text []
+
+rebuilt_same : (n : Node) → rebuilt (node_shape n) (node_items n) ≡ n
+rebuilt_same (Element t a c l) =
+    ap (λ f. Element t a f l) (ap (λ xs. (fill (shape c) xs).0) (sym (append-nil (items c))) ∙ ap (λ done. done.0) (filled c []))
+rebuilt_same (Text t) = refl
+
+-- nodes with the same elements and the same shape are the same
+pub same_node : (n m : Node) → node_items n ≡ node_items m → node_shape n ≡ node_shape m → n ≡ m
+same_node n m xs s = sym (rebuilt_same n) ∙ ap₂ rebuilt s xs ∙ rebuilt_same m
