@@ -63,6 +63,7 @@ FAMILIES = {
     "field lists": lambda n: "text\n\n" + ":name: body\n" * n,
     "docinfo": lambda n: ":name: body\n" * n,
     "option lists": lambda n: "-a  description\n" * n,
+    "options of one item": lambda n: ", ".join(["-a"] * n) + "\n   description\n",
     "line blocks": lambda n: "| a\n|   b\n" * n,
     "nested lists": lambda n: nested(n, "- "),
     "nested quotes": lambda n: nested(n, " "),

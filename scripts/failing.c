@@ -5,13 +5,21 @@
  *     FAIL_WRITE=N    the Nth write fails
  *     SHORT=N         reads and writes move N bytes at most
  *     COUNTS=FILE     at the end the numbers of growths, reads and writes are written there
+ *
+ * What it needs of the GNU C library is declared here: the kit has a compiler, but no headers.
  */
-#define _GNU_SOURCE
-#include <dlfcn.h>
-#include <errno.h>
-#include <stdio.h>
-#include <stdlib.h>
-#include <unistd.h>
+typedef unsigned long size;
+
+extern void *dlsym(void *library, const char *name);
+extern int *__errno_location(void);
+extern char *getenv(const char *name);
+extern long atol(const char *digits);
+extern int creat(const char *path, unsigned mode);
+extern int dprintf(int file, const char *format, ...);
+
+#define NEXT ((void *)-1L)
+#define NO_MEMORY 12
+#define BAD_DEVICE 5
 
 static long growths, reads, writes;
 
@@ -26,61 +34,61 @@ static int grows(void)
     long at = given("FAIL_GROWTH");
     growths++;
     if (at && (growths == at || (getenv("FAIL_ON") && growths > at))) {
-        errno = ENOMEM;
+        *__errno_location() = NO_MEMORY;
         return 0;
     }
     return 1;
 }
 
-void *malloc(size_t size)
+void *malloc(size bytes)
 {
-    static void *(*next)(size_t);
+    static void *(*next)(size);
     if (!next)
-        next = dlsym(RTLD_NEXT, "malloc");
-    return grows() ? next(size) : NULL;
+        next = dlsym(NEXT, "malloc");
+    return grows() ? next(bytes) : 0;
 }
 
-void *realloc(void *held, size_t size)
+void *realloc(void *held, size bytes)
 {
-    static void *(*next)(void *, size_t);
+    static void *(*next)(void *, size);
     if (!next)
-        next = dlsym(RTLD_NEXT, "realloc");
-    return grows() ? next(held, size) : NULL;
+        next = dlsym(NEXT, "realloc");
+    return grows() ? next(held, bytes) : 0;
 }
 
-int posix_memalign(void **made, size_t alignment, size_t size)
+int posix_memalign(void **made, size alignment, size bytes)
 {
-    static int (*next)(void **, size_t, size_t);
+    static int (*next)(void **, size, size);
     if (!next)
-        next = dlsym(RTLD_NEXT, "posix_memalign");
-    return grows() ? next(made, alignment, size) : ENOMEM;
+        next = dlsym(NEXT, "posix_memalign");
+    return grows() ? next(made, alignment, bytes) : NO_MEMORY;
 }
 
-static size_t at_most(size_t count)
+static size at_most(size count)
 {
-    size_t most = (size_t)given("SHORT");
+    size most = (size)given("SHORT");
     return most && count > most ? most : count;
 }
 
-ssize_t read(int file, void *bytes, size_t count)
+long read(int file, void *bytes, size count)
 {
-    static ssize_t (*next)(int, void *, size_t);
+    static long (*next)(int, void *, size);
     if (!next)
-        next = dlsym(RTLD_NEXT, "read");
+        next = dlsym(NEXT, "read");
     if (++reads == given("FAIL_READ")) {
-        errno = EIO;
+        *__errno_location() = BAD_DEVICE;
         return -1;
     }
     return next(file, bytes, at_most(count));
 }
 
-ssize_t write(int file, const void *bytes, size_t count)
+long write(int file, const void *bytes, size count)
 {
-    static ssize_t (*next)(int, const void *, size_t);
+    static long (*next)(int, const void *, size);
     if (!next)
-        next = dlsym(RTLD_NEXT, "write");
+        next = dlsym(NEXT, "write");
     if (++writes == given("FAIL_WRITE")) {
-        errno = EIO;
+        *__errno_location() = BAD_DEVICE;
         return -1;
     }
     return next(file, bytes, at_most(count));
@@ -89,9 +97,7 @@ ssize_t write(int file, const void *bytes, size_t count)
 __attribute__((destructor)) static void count_calls(void)
 {
     const char *path = getenv("COUNTS");
-    FILE *file = path ? fopen(path, "w") : NULL;
-    if (file) {
-        fprintf(file, "%ld %ld %ld\n", growths, reads, writes);
-        fclose(file);
-    }
+    int file = path ? creat(path, 0600) : -1;
+    if (file >= 0)
+        dprintf(file, "%ld %ld %ld\n", growths, reads, writes);
 }

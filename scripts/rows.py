@@ -44,8 +44,18 @@ class Source:
         return self.find(pattern) or self.fail(f"this script reads only {pattern} here")
 
     def text(self, field):
-        """The text that a field has: a literal with escapes, or a raw one."""
-        plain, _, raw = self.take(f"{field}: {TEXT},").groups()
+        """The text that a field has."""
+        return self.literal(self.take(f"{field}: {TEXT},"))
+
+    def constant(self, name):
+        """The text of a file that defines nothing but this constant."""
+        text = self.literal(self.take(rf"(?://[^\n]*\n|\s)*pub\(super\) const {name}: &str = {TEXT};"))
+        self.take(r"\Z")
+        return text
+
+    def literal(self, match):
+        """The text that a literal with escapes, or a raw one, means."""
+        plain, _, raw = match.groups()
         return raw if plain is None else re.sub(ESCAPE, self.escaped, plain, flags=re.DOTALL)
 
     def escaped(self, match):

@@ -73,6 +73,8 @@ fn words(rt: &HostRuntime) -> Result<Vec<String>, Stop> {
 #[cfg(test)]
 mod large_tests;
 #[cfg(test)]
+mod refused_tests;
+#[cfg(test)]
 mod rows;
 #[cfg(test)]
 mod rows_bodies;
@@ -90,3 +92,5 @@ mod rows_titles;
 mod stream_tests;
 #[cfg(test)]
 mod tests;
+#[cfg(test)]
+mod whole_document;

@@ -3,6 +3,7 @@ use Rattle.std.proofs.Common.{◌≡◌, ◌∙◌, ℕ, ◌<◌, ◌++◌, true
 use Rattle.std.specs.Prelude.{Option, Some, None, Result, Ok, Err}
 use Rattle.std.specs.Io.KnownBytes.{Appends, Consumes, IsAtEnd, Keeps}
 use Rattle.std.proofs.lemmas.List.{append-nil, length-append}
+use Rattle.rst_settings.specs.Profile.{Profile}
 use Rattle.rst_settings.specs.declared.Settings.{Settings}
 use Rattle.rst_text.specs.Counted.{Stream, Gains}
 use Rattle.rst2pseudoxml_run.specs.declared.end.End.{End}
@@ -35,14 +36,14 @@ abbrev Shows : Result Parts End → Stream → Stream → End → Type 0
 Shows (Ok parts) out err end = (end ≡ Done parts.status) × Gains out parts.out × Gains err parts.err
 Shows (Err refusal) out err end = (end ≡ refusal) × Gains out [] × Gains err []
 
-module _ (settings : Settings) (source text : List ℕ) where
+module _ (profile : Profile) (settings : Settings) (source text : List ℕ) where
   abbrev Shown : Stream → Stream → End → Type 0
-  Shown out err end = (answer : Result Parts End) × Answers settings source text answer × Shows answer out err end
+  Shown out err end = (answer : Result Parts End) × Answers profile settings source text answer × Shows answer out err end
 
-  of_all : (bytes : List ℕ) (answer : Result Parts End) → bytes ≡ text → Answers settings source bytes answer → Answers settings source text answer
-  of_all bytes answer same h = subst (λ b. Answers settings source b answer) same h
+  of_all : (bytes : List ℕ) (answer : Result Parts End) → bytes ≡ text → Answers profile settings source bytes answer → Answers profile settings source text answer
+  of_all bytes answer same h = subst (λ b. Answers profile settings source b answer) same h
 
-  shown : (input out err : Stream) (bytes : List ℕ) (end : End) → input.before ≡ Some text → Consumes input.before input.after bytes → is_own end ≡ true → Ends (Answers settings source bytes) input out err end → Shown out err end
+  shown : (input out err : Stream) (bytes : List ℕ) (end : End) → input.before ≡ Some text → Consumes input.before input.after bytes → is_own end ≡ true → Ends (Answers profile settings source bytes) input out err end → Shown out err end
   shown input out err bytes (Done status) e h own ends =
       (Ok ends.1, of_all bytes (Ok ends.1) (all_handed input.before input.after text bytes e h ends.0.0) ends.2, (ap Done ends.3, ends.5.0, ends.4.0))
   shown input out err bytes (NotUtf8 at) e h own ends =
@@ -64,10 +65,10 @@ module _ (settings : Settings) (source text : List ℕ) where
   alike (Err refusal) out err also_out also_err end also f g =
       record { same = f.0 ∙ sym g.0; shown = []; told = []; out_gains = f.1; err_gains = f.2; also_out_gains = g.1; also_err_gains = g.2 }
 
-  pub one_end : (input out err also_input also_out also_err : Stream) (end also : End) → Comes settings source text input out err end → Comes settings source text also_input also_out also_err also
+  pub one_end : (input out err also_input also_out also_err : Stream) (end also : End) → Comes profile settings source text input out err end → Comes profile settings source text also_input also_out also_err also
       → EndAlike out err also_out also_err end also
   one_end input out err also_input also_out also_err end also f g =
       let one = shown input out err f.headline.0 end f.holds f.headline.1 f.own f.headline.2 in
       let other = shown also_input also_out also_err g.headline.0 also g.holds g.headline.1 g.own g.headline.2 in
-      let same : other.0 ≡ one.0 = one_answer settings source text other.0 one.0 other.1 one.1 in
+      let same : other.0 ≡ one.0 = one_answer profile settings source text other.0 one.0 other.1 one.1 in
       alike one.0 out err also_out also_err end also one.2 (subst (λ answer. Shows answer also_out also_err also) same other.2)

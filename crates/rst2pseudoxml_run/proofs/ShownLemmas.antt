@@ -1,5 +1,6 @@
 -- Lemmas on what is shown of a finished document.
 use Rattle.std.proofs.Common.{ℕ, List, Ok, Result, refl, subst, Vec}
+use Rattle.rst_settings.specs.Profile.{Profile}
 use Rattle.rst_settings.specs.declared.Settings.{Settings}
 use Rattle.rst_text.specs.Counted.{Stream, HandsOut, IsReadOut}
 use Rattle.rst_transform.specs.declared.finishing.Finished.{Finished}
@@ -22,9 +23,9 @@ ends_shown Answer parts input out err (NotUtf8 at) read answer shows = absurd sh
 ends_shown Answer parts input out err (TooDeep line) read answer shows = absurd shows
 
 -- a run over bytes of which a document was made
-pub ends_read : {A : Type 0} (settings : Settings) (source : List ℕ) (finished : Finished) (input out err : Stream) (taken : Vec ℕ A) (end : End)
-    → ((bytes : List ℕ) × HandsOut input bytes × Takes input bytes (Ok taken)) → Reads settings taken.items (Ok finished)
-    → Shows (parts_of settings source finished.document finished.notes.items) out err end → Headline (Answers settings source) input out err end
-ends_read settings source finished input out err taken end (bytes, handed, (read, same, short)) reads shows =
-    let made : Reads settings bytes (Ok finished) = subst (λ l. Reads settings l (Ok finished)) same reads in
-    (bytes, handed, ends_shown (Answers settings source bytes) _ input out err end read (short, finished, made, refl) shows)
+pub ends_read : {A : Type 0} (profile : Profile) (settings : Settings) (source : List ℕ) (finished : Finished) (input out err : Stream) (taken : Vec ℕ A) (end : End)
+    → ((bytes : List ℕ) × HandsOut input bytes × Takes input bytes (Ok taken)) → Reads profile settings taken.items (Ok finished)
+    → Shows (parts_of settings source finished.document finished.notes.items) out err end → Headline (Answers profile settings source) input out err end
+ends_read profile settings source finished input out err taken end (bytes, handed, (read, same, short)) reads shows =
+    let made : Reads profile settings bytes (Ok finished) = subst (λ l. Reads profile settings l (Ok finished)) same reads in
+    (bytes, handed, ends_shown (Answers profile settings source bytes) _ input out err end read (short, finished, made, refl) shows)

@@ -3,3 +3,5 @@ pub mod Reading
 pub mod Headline
 pub mod Report
 pub mod OneEnd
+pub mod CodeCalls
+pub mod Profiles

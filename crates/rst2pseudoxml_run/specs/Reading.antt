@@ -4,7 +4,7 @@ use Rattle.std.specs.Fmt.{decimal}
 use Rattle.std.specs.Str.Lossy.{utf8_valid_len}
 use Rattle.rst_block.specs.declared.parsing.Parsed.{Parsed}
 use Rattle.rst_block.specs.Documents.{document}
-use Rattle.rst_settings.specs.Profile.{profile_of}
+use Rattle.rst_settings.specs.Profile.{Profile}
 use Rattle.rst_settings.specs.declared.Settings.{Settings}
 use Rattle.rst_text.specs.Block.{Block}
 use Rattle.rst_text.specs.Lines.{first_longer, lines_of}
@@ -36,39 +36,39 @@ long_document line = Element Document [] (forest_of (long_message line ∷ [])) 
 
 -- What is read of the lines of a text where this one of them is too long, if one is: a document that says so and nothing else, or the document of the
 -- lines; with it how many numbers the messages on its texts have. Or the number of the line at which blocks are nested too deeply.
-abbrev pub read_by : Option ℕ → Settings → Block → Result (Node × ℕ) ℕ
-read_by None settings lines = document (profile_of settings) lines 0
-read_by (Some line) settings lines = Ok (long_document line, 0)
+abbrev pub read_by : Option ℕ → Profile → Block → Result (Node × ℕ) ℕ
+read_by None profile lines = document profile lines 0
+read_by (Some line) profile lines = Ok (long_document line, 0)
 
-abbrev pub read_of : Settings → Block → Result (Node × ℕ) ℕ
-read_of settings lines = read_by (first_longer settings.limit lines) settings lines
+abbrev pub read_of : Profile → Block → Result (Node × ℕ) ℕ
+read_of profile lines = read_by (first_longer profile.line_limit lines) profile lines
 
 -- what is read of the lines is their document, or a block nests too deep, or memory ran out
-abbrev pub Parses : Settings → Block → Result Parsed End → Type 0
-Parses settings lines (Ok parsed) = read_of settings lines ≡ Ok (parsed.document, parsed.messages)
-Parses settings lines (Err (TooDeep line)) = read_of settings lines ≡ Err line
-Parses settings lines (Err NoMemory) = Unit {0}
-Parses settings lines (Err _) = ⊥
+abbrev pub Parses : Profile → Block → Result Parsed End → Type 0
+Parses profile lines (Ok parsed) = read_of profile lines ≡ Ok (parsed.document, parsed.messages)
+Parses profile lines (Err (TooDeep line)) = read_of profile lines ≡ Err line
+Parses profile lines (Err NoMemory) = Unit {0}
+Parses profile lines (Err _) = ⊥
 
 -- no message in a document is below the report level, and no message but the last one halts the run
 abbrev pub IsFinished : Settings → Node → List Note → Type 0
 IsFinished settings document notes = (is_shown_in settings.report document ≡ true) × EndsAtHalt settings.halt notes
 
 -- what is read of a text, if there is one
-abbrev pub IsReadOf : Settings → Option (List ℕ) → Result (Node × ℕ) ℕ → Type 0
-IsReadOf settings None read = ⊥
-IsReadOf settings (Some text) read = read_of settings (lines_of settings.tab text) ≡ read
+abbrev pub IsReadOf : Profile → Settings → Option (List ℕ) → Result (Node × ℕ) ℕ → Type 0
+IsReadOf profile settings None read = ⊥
+IsReadOf profile settings (Some text) read = read_of profile (lines_of settings.tab text) ≡ read
 
 -- the finished document of a text, and its messages with their highest level
-abbrev pub IsMade : Settings → Option (List ℕ) → Finished → Type 0
-IsMade settings text finished =
-    ((root : Node) × (messages : ℕ) × IsReadOf settings text (Ok (root, messages)) × Leaves messages settings root finished.document finished.notes.items)
+abbrev pub IsMade : Profile → Settings → Option (List ℕ) → Finished → Type 0
+IsMade profile settings text finished =
+    ((root : Node) × (messages : ℕ) × IsReadOf profile settings text (Ok (root, messages)) × Leaves messages profile settings root finished.document finished.notes.items)
     × IsFinished settings finished.document finished.notes.items × (finished.highest ≡ highest_level finished.notes.items) × (finished.highest ≤ 4)
 
 -- a document was made of the bytes, or they were refused, or memory ran out
-abbrev pub Reads : Settings → List ℕ → Result Finished End → Type 0
-Reads settings bytes (Ok finished) = IsMade settings (text_of bytes) finished
-Reads settings bytes (Err (NotUtf8 at)) = (text_of bytes ≡ None) × (at ≡ utf8_valid_len bytes)
-Reads settings bytes (Err (TooDeep line)) = IsReadOf settings (text_of bytes) (Err line)
-Reads settings bytes (Err NoMemory) = Unit {0}
-Reads settings bytes (Err _) = ⊥
+abbrev pub Reads : Profile → Settings → List ℕ → Result Finished End → Type 0
+Reads profile settings bytes (Ok finished) = IsMade profile settings (text_of bytes) finished
+Reads profile settings bytes (Err (NotUtf8 at)) = (text_of bytes ≡ None) × (at ≡ utf8_valid_len bytes)
+Reads profile settings bytes (Err (TooDeep line)) = IsReadOf profile settings (text_of bytes) (Err line)
+Reads profile settings bytes (Err NoMemory) = Unit {0}
+Reads profile settings bytes (Err _) = ⊥

@@ -6,6 +6,7 @@ use Rattle.std.specs.Str.Lossy.{utf8_valid_len}
 use Rattle.rst_text.specs.Counted.{inner_of}
 use Rattle.rst_text.specs.Text.{text_of}
 use Rattle.rst_text.specs.declared.counted.Counted.{Counted}
+use Rattle.rst_settings.specs.Profile.{Profile}
 use Rattle.rst_settings.specs.declared.Settings.{Settings}
 use Rattle.rst_settings.specs.Threshold.{is_reached}
 use Rattle.rst_transform_messages.specs.Messages.{highest_level}
@@ -72,12 +73,12 @@ parts_of settings source document notes =
 
 -- The answer to some bytes: what is shown of the finished document that was made of their text, and of its messages; or the
 -- refusal of what is too long, no UTF-8 or nested too deeply.
-abbrev pub Answers : Settings → List ℕ → List ℕ → Result Parts End → Type 0
-Answers settings source bytes (Ok parts) = (length bytes ≤ 16777216) × (finished : Finished) × IsMade settings (text_of bytes) finished × (parts ≡ parts_of settings source finished.document finished.notes.items)
-Answers settings source bytes (Err TooLong) = 16777216 < length bytes
-Answers settings source bytes (Err (NotUtf8 at)) = (length bytes ≤ 16777216) × (text_of bytes ≡ None) × (at ≡ utf8_valid_len bytes)
-Answers settings source bytes (Err (TooDeep line)) = (length bytes ≤ 16777216) × IsReadOf settings (text_of bytes) (Err line)
-Answers settings source bytes (Err _) = ⊥
+abbrev pub Answers : Profile → Settings → List ℕ → List ℕ → Result Parts End → Type 0
+Answers profile settings source bytes (Ok parts) = (length bytes ≤ 16777216) × (finished : Finished) × IsMade profile settings (text_of bytes) finished × (parts ≡ parts_of settings source finished.document finished.notes.items)
+Answers profile settings source bytes (Err TooLong) = 16777216 < length bytes
+Answers profile settings source bytes (Err (NotUtf8 at)) = (length bytes ≤ 16777216) × (text_of bytes ≡ None) × (at ≡ utf8_valid_len bytes)
+Answers profile settings source bytes (Err (TooDeep line)) = (length bytes ≤ 16777216) × IsReadOf profile settings (text_of bytes) (Err line)
+Answers profile settings source bytes (Err _) = ⊥
 
 -- the text of the messages was made, or memory ran out
 abbrev pub MakesErrorText : {A : Type 0} → Settings → List ℕ → List Note → Result (Counted (Vec ℕ A)) End → Type 0

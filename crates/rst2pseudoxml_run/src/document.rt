@@ -1,6 +1,7 @@
 //! The document that an input is, and its messages.
 ghost use Rattle.std.specs.Prelude.{◌≡◌, ◌*◌, ◌^◌, ◌<◌, ◌≤◌, length, IfOk, string_bytes};
 ghost use Rattle.rst_block.specs.Ledger.{total_at};
+ghost use Rattle.rst_settings.specs.Profile.{profile_of};
 ghost use Rattle.rst_tree.specs.Faults.{Gives};
 ghost use Rattle.rst2pseudoxml_run.specs.Reading as spec;
 
@@ -18,7 +19,7 @@ use std::alloc::{AllocError, Global};
 /// The finished document of the bytes, or why they are refused.
 pub fn document_of(alloc: Global, settings: &Settings, bytes: Vec<u8>) -> Result<Finished, End>
     requires few { length bytes.items ≤ 16777216 }
-    ensures { spec.Reads settings.now bytes.items result }
+    ensures { spec.Reads (profile_of settings.now) settings.now bytes.items result }
 {
     let text = match text_in(bytes.as_slice()) {
         Ok(text) => text,
@@ -42,7 +43,7 @@ pub fn document_of(alloc: Global, settings: &Settings, bytes: Vec<u8>) -> Result
 /// What is read of the lines: if a line is too long, the document says nothing else.
 fn parsed_of(alloc: Global, settings: &Settings, lines: &Lines) -> Result<Parsed, End>
     requires few { 128 * total_at 0 lines.now < 2 ^ 119 }
-    ensures { spec.Parses settings.now lines.now result }
+    ensures { spec.Parses (profile_of settings.now) lines.now result }
 {
     if let Some(line) = lines.first_longer(settings.limit) {
         return match long_line(alloc, line) {

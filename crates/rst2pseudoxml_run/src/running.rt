@@ -1,5 +1,6 @@
 //! A run from a reader to two writers.
 ghost use Rattle.std.specs.Prelude.{◌≡◌, ◌≤◌, false};
+ghost use Rattle.rst_settings.specs.Profile.{profile_of};
 ghost use Rattle.rst_text.specs.Counted.{has_failed, between};
 ghost use Rattle.rst_transform_messages.specs.Messages.{highest_level};
 ghost use Rattle.rst2pseudoxml_run.specs.Headline.{Headline, Shows};
@@ -33,7 +34,7 @@ pub fn run<R: Read, O: Write, E: Write>(
     requires out { has_failed out.old ≡ false }
     requires err { has_failed err.old ≡ false }
 
-    ensures { Headline (Answers settings.now source.now)
+    ensures { Headline (Answers (profile_of settings.now) settings.now source.now)
         (between R.remaining input.old input.new)
         (between O.contents out.old out.new)
         (between E.contents err.old err.new) result }

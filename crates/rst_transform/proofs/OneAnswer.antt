@@ -1,5 +1,6 @@
 -- What is left of a document after all transforms is one.
 use Rattle.std.proofs.Common.{◌≡◌, ◌∙◌, ℕ, ◌++◌, Bool, true, false, List, map, sym, ap, ap₂}
+use Rattle.rst_settings.specs.Profile.{Profile}
 use Rattle.rst_settings.specs.declared.Settings.{Settings}
 use Rattle.rst_tree.specs.declared.node.Node.{Node}
 use Rattle.rst_tree.specs.declared.note.Note.{Note}
@@ -47,20 +48,20 @@ links_alike one other then_one then_other same f g =
     let numbered = numbered_alike f.led g.led f.numbered g.numbered led f.footnotes g.footnotes in
     resolved_alike f.numbered g.numbered then_one then_other numbered f.references g.references
 
-pub transformed_alike : (settings : Settings) → HasOneAnswer (IsTransformed settings)
-transformed_alike settings one other then_one then_other same f g =
+pub transformed_alike : (profile : Profile) (settings : Settings) → HasOneAnswer (IsTransformed profile settings)
+transformed_alike profile settings one other then_one then_other same f g =
     let expanded = expanded_alike one other f.expanded g.expanded same f.substitutions g.substitutions in
     let retargeted = retargeted_alike f.expanded g.expanded f.retargeted g.retargeted expanded f.targets g.targets in
     let titled = asked_alike settings.title IsTitled titled_alike f.retargeted g.retargeted f.titled g.titled retargeted f.title g.title in
-    let informed = asked_alike settings.info HasDocinfo informed_alike f.titled g.titled f.informed g.informed titled f.info g.info in
+    let informed = asked_alike profile.docinfo HasDocinfo informed_alike f.titled g.titled f.informed g.informed titled f.info g.info in
     let linked = links_alike f.informed g.informed f.linked g.linked informed f.links g.links in
     transitions_alike f.linked g.linked then_one then_other linked f.transitions g.transitions
 
-pub finished_alike : (messages : ℕ) (settings : Settings) (document one other : Node) (notes others : List Note) → Leaves messages settings document one notes → Leaves messages settings document other others → (one ≡ other) × (notes ≡ others)
-finished_alike messages settings document one other notes others f g =
+pub finished_alike : (messages : ℕ) (profile : Profile) (settings : Settings) (document one other : Node) (notes others : List Note) → Leaves messages profile settings document one notes → Leaves messages profile settings document other others → (one ≡ other) × (notes ≡ others)
+finished_alike messages profile settings document one other notes others f g =
     let registered = registered_alike messages document f.registered g.registered f.is_registered g.is_registered in
     let started = started_alike messages f.registered g.registered f.started g.started registered f.is_started g.is_started in
-    let transformed = transformed_alike settings f.started g.started f.transformed g.transformed started f.is_transformed g.is_transformed in
+    let transformed = transformed_alike profile settings f.started g.started f.transformed g.transformed started f.is_transformed g.is_transformed in
     let sectioned = sectioned_alike settings.report f.transformed g.transformed f.sectioned g.sectioned transformed f.has_section g.has_section in
     let all : f.all ≡ g.all =
     f.are_all ∙ ap₂ (λ (root : Node) (reports : List Report). messages_in root ++ map report_said reports) registered.root sectioned.reports ∙ sym g.are_all in (

@@ -4,6 +4,7 @@ use Rattle.rst_tree_index.specs.declared.kinds.Kinds.{Kinds}
 use Rattle.rst_tree_index.specs.Kinds.{kinds_of, HasNoNewKinds}
 use Rattle.rst_transform_names.specs.declared.registration.Registered.{Registered}
 use Rattle.rst_transform_names.specs.Registering.{IsRegistered}
+use Rattle.rst_settings.specs.Profile.{Profile}
 use Rattle.rst_settings.specs.declared.Settings.{Settings}
 use Rattle.rst_tree.specs.declared.node.Node.{Node}
 use Rattle.rst_tree.specs.declared.note.Note.{Note}
@@ -28,7 +29,7 @@ use Rattle.rst_transform_structure.specs.Targets.{IsRetargeted}
 use Rattle.rst_transform_structure.specs.Title.{IsTitled}
 use Rattle.rst_transform_structure.specs.Transitions.{HasTransitions}
 
--- a transform that settings ask for takes place; one that they don't leaves the document as it is
+-- a transform that is asked for takes place; one that isn't leaves the document as it is
 abbrev pub Where : Bool → (Work → Work → Type 0) → Work → Work → Type 0
 Where true Transforms before after = Transforms before after
 Where false Transforms before after = after ≡ before
@@ -52,8 +53,8 @@ pub record ResolvesLinks (before after : Work) : Type 0 where
   pub footnotes : NumbersFootnotes led numbered
   pub references : IsResolved numbered after
 
--- all transforms
-pub record IsTransformed (settings : Settings) (before after : Work) : Type 0 where
+-- all transforms; the profile says whether a leading field list is bibliographic
+pub record IsTransformed (profile : Profile) (settings : Settings) (before after : Work) : Type 0 where
   pub expanded : Work
   pub retargeted : Work
   pub titled : Work
@@ -62,7 +63,7 @@ pub record IsTransformed (settings : Settings) (before after : Work) : Type 0 wh
   pub substitutions : IsExpanded before expanded
   pub targets : IsRetargeted expanded retargeted
   pub title : Where settings.title IsTitled retargeted titled
-  pub info : Where settings.info HasDocinfo titled informed
+  pub info : Where profile.docinfo HasDocinfo titled informed
   pub links : ResolvesLinks informed linked
   pub transitions : HasTransitions linked after
 
@@ -72,14 +73,14 @@ all_messages registered reports = messages_in registered.root ++ map report_said
 
 -- What is left of a document that was parsed, in which so many numbers were given to messages: the document as it is shown, and the list of
 -- messages, up to the first that halts the run.
-pub record Leaves (messages : ℕ) (settings : Settings) (document : Node) (root : Node) (notes : List Note) : Type 0 where
+pub record Leaves (messages : ℕ) (profile : Profile) (settings : Settings) (document : Node) (root : Node) (notes : List Note) : Type 0 where
   pub registered : Registered
   pub started : Work
   pub transformed : Work
   pub sectioned : Work
   pub is_registered : IsRegistered messages document registered
   pub is_started : IsStarted messages registered started
-  pub is_transformed : IsTransformed settings started transformed
+  pub is_transformed : IsTransformed profile settings started transformed
   pub has_section : HasLastSection settings.report transformed sectioned
   pub all : List Numbered
   pub are_all : all ≡ all_messages registered sectioned.reports.items
@@ -87,9 +88,9 @@ pub record Leaves (messages : ℕ) (settings : Settings) (document : Node) (root
   pub root_is : root ≡ with_filtered settings.report (is_number_shown settings.report all) sectioned.root
 
 -- what is left of it is given, or memory ran out
-abbrev pub Finishes : ℕ → Settings → Node → Result Finished TreeFault → Type 0
-Finishes messages settings document (Ok done) = Leaves messages settings document done.document done.notes.items
-Finishes messages settings document (Err NoMemory) = Unit {0}
+abbrev pub Finishes : ℕ → Profile → Settings → Node → Result Finished TreeFault → Type 0
+Finishes messages profile settings document (Ok done) = Leaves messages profile settings document done.document done.notes.items
+Finishes messages profile settings document (Err NoMemory) = Unit {0}
 
 -- ---- no rule of markup: transforms need not look at a document without elements of their kinds
 

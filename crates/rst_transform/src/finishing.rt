@@ -1,5 +1,6 @@
 //! All transforms, in order.
 ghost use Rattle.std.specs.Prelude.{◌≡◌, ◌≤◌, ◌++◌, ℕ, map, IfOk, List, true};
+ghost use Rattle.rst_settings.specs.Profile.{profile_of};
 ghost use Rattle.rst_tree_index.specs.Kinds.{kinds_of, HasNoNewKinds, HasNoNewLinkKinds};
 ghost use Rattle.rst_transform_names.specs.Registering.{IsRegistered};
 ghost use Rattle.rst_tree.specs.declared.node.Node.{Node};
@@ -54,7 +55,7 @@ pub fn finish(
     messages: u64,
     settings: &Settings,
 ) -> Result<Finished, TreeFault>
-    ensures finishes { Finishes messages settings.now document result }
+    ensures finishes { Finishes messages (profile_of settings.now) settings.now document result }
     ensures shown { IfOk result (λ done. is_shown_in settings.now.report done.document ≡ true) }
     ensures halt { IfOk result (λ done. EndsAtHalt settings.now.halt done.notes.items) }
     ensures highest { IfOk result (λ done. done.highest ≡ highest_level done.notes.items) }
@@ -133,7 +134,7 @@ fn transformed(
     settings: &Settings,
 ) -> Result<Work, TreeFault>
     requires among { AreOfKinds kinds (node_items work.root) }
-    ensures { Gives (IsTransformed settings.now work) result }
+    ensures { Gives (IsTransformed (profile_of settings.now) settings.now work) result }
 {
     let expanded = expand(alloc, work, kinds.substitutions)?;
     let retargeted = targets(alloc, expanded, kinds.targets)?;

@@ -1,0 +1,148 @@
+-- A document that is read with few levels and without program code is read the same with more levels and with program code, where no directive is called
+-- that means something else then.
+use Rattle.std.proofs.Common.{◌≡◌, ℕ, zero, suc, ◌+◌, ◌-◌, ◌≤◌, Bool, true, false, List, [], ◌∷◌, map, Result, Ok, Err, arith, refl, sym, ◌∙◌, ap}
+use Rattle.std.specs.Prelude.{if◌then◌else◌}
+use Rattle.rst_settings.specs.Profile.{Profile}
+use Rattle.rst_text.specs.Block.{Block, is_blank}
+use Rattle.rst_tree.specs.declared.node.Node.{Node}
+use Rattle.rst_markup_blocks.specs.Partition.{Span, spans_from, construct_size}
+use Rattle.rst_block_nodes.specs.LineBlocks.{IndentedLine, LinePart, level_line, deeper_lines, least_indent, parts_of, part_node, line_block}
+use Rattle.rst_block_sections.specs.Sections.{document_of}
+use Rattle.rst_block.specs.Constructs.{Construct, nothing, block_quote, item_of_list, doctest_block, bar_line, grid, simple, explicit_markup, transition, overlined_title, misplaced_lines, underlined_title, paragraph, Found, found_at}
+use Rattle.rst_block.specs.Documents.{document}
+use Rattle.rst_block.specs.Joins.{runs_of, joining_of, joining_after}
+use Rattle.rst_block.specs.LineRuns.{indented_lines}
+use Rattle.rst_block.specs.Nodes.{nodes_among, piece_of, whole_by, ended, run_items, block_items, below_last_level, inner_nodes}
+use Rattle.rst_block.specs.Numbered.{Numbered, then_read, just, each, flat_each}
+use Rattle.rst_block.specs.Runs.{Run, members, runs}
+use Rattle.rst_block.specs.Titles.{Item}
+use Rattle.rst_block.specs.Within.{Within}
+use Rattle.rst2pseudoxml_run.proofs.ProfilesNeeds.{CallsAgreeUnder, OpenedKeep, CellsKeep}
+use Rattle.rst2pseudoxml_run.proofs.ProfilesReads.{Again, again, then_again, same_again, each_again, flat_again, ReadAgain, piece_again}
+use Rattle.std.specs.List.{AllByRecursion}
+
+-- ---- line blocks
+
+part_again : (f g : List IndentedLine → Numbered (Node × List Node)) → ((ls : List IndentedLine) (n : ℕ) → Again (f ls n) (g ls n)) → (part : LinePart) (n : ℕ) → Again (part_node f part n) (part_node g part n)
+part_again f g h (level_line l) n = again (part_node f (level_line l) n)
+part_again f g h (deeper_lines ls) n = h ls n
+
+-- a line block is read again with more levels
+pub lines_again : (levels more : ℕ) → levels ≤ more → (ls : List IndentedLine) (n : ℕ) → Again (line_block levels ls n) (line_block more ls n)
+lines_again zero more within ls n = tt
+lines_again (suc levels) zero within ls n = absurd (omega (arith, within))
+lines_again (suc levels) (suc more) within ls n =
+    same_again (each (part_node (line_block levels)) (parts_of (least_indent ls) ls) n) (each (part_node (line_block more)) (parts_of (least_indent ls) ls) n) _
+    (each_again (part_node (line_block levels)) (part_node (line_block more)) (part_again (line_block levels) (line_block more) (lines_again levels more (omega (arith, within)))) (parts_of (least_indent ls) ls) n)
+
+-- ---- blocks
+
+-- all blocks that keep a premise are read again
+abbrev pub ReadsAgain : (Block → Type 0) → (Block → Numbered (List Node)) → (Block → Numbered (List Node)) → Type 0
+ReadsAgain P g h = (B : Block) (n : ℕ) → P B → Again (g B n) (h B n)
+
+all_again : (P : Block → Type 0) (g h : Block → Numbered (List Node)) → ReadsAgain P g h → (Cs : List Block) → AllByRecursion P Cs → ReadAgain g h Cs
+all_again P g h reads [] keep = tt
+all_again P g h reads (C ∷ Cs) keep = (λ n. reads C n keep.0, all_again P g h reads Cs keep.1)
+
+-- ---- blank blocks
+
+-- the runs of some constructs of a block
+abbrev pub runs_at : Bool → Block → List Span → List (Run Found)
+runs_at titles B ss = runs (λ f. joining_of f.what f.span) (λ joining f. joining_after joining f.what f.span) (map (found_at titles B) ss)
+
+-- a block that is read below the last level is blank, so it has no constructs at all
+quiet_again : (titles : Bool) (n : ℕ) (given : List Span → Result (List Node × ℕ) ℕ) → given [] ≡ Ok ([], n) → (i : ℕ) (X : Block)
+    → Again (below_last_level X n) (given (spans_from titles i 0 X))
+unfolding below_last_level spans_from
+quiet_again titles n given e i [] = e
+quiet_again titles n given e i (l ∷ ls) = by (is_blank l.text) (quiet_again titles n given e (suc i) ls)
+  where
+    by : (b : Bool) → Again (below_last_level ls n) (given (spans_from titles (suc i) 0 ls))
+        → Again ((if b then below_last_level ls else (λ number. Err l.number)) n)
+        (given (if b then spans_from titles (suc i) 0 ls else (record { start = i; stop = i + construct_size titles (l ∷ ls) }) ∷ spans_from titles (suc i) (construct_size titles (l ∷ ls) - 1) ls))
+    by true h = h
+    by false h = tt
+
+read_again : {A : Type 0} (r s : Result (A × ℕ) ℕ) (x : A × ℕ) → Again r s → r ≡ Ok x → s ≡ Ok x
+read_again (Ok y) s x e is = e ∙ is
+read_again (Err line) s x e is = absurd (cc)
+
+-- ---- blocks in blocks
+
+module _ (P : Block → Type 0) (agree : CallsAgreeUnder P) (opened : OpenedKeep P) (cells : CellsKeep P) where
+  module _ (titles : Bool) (levels more : ℕ) (within : levels ≤ more) (g h : Block → Numbered (List Node)) (reads : ReadsAgain P g h) (B : Block) (keeps : P B) where
+    abbrev c : Within
+    c = record { titles = titles; code = false; levels = levels; inner = g }
+
+    abbrev d : Within
+    d = record { titles = titles; code = true; levels = more; inner = h }
+
+    found_again : (f : Found) (n : ℕ) → Again (piece_of c B f n) (piece_of d B f n)
+    found_again f n =
+        piece_again titles levels more g h B f n (agree B f.span.start keeps) (all_again P g h reads _ (opened c B f keeps)) (all_again P g h reads _ (cells B f keeps))
+
+    whole_again : (what : Construct) (run : Run Found) (items : List Item) (n : ℕ) → Again (whole_by what c B run items n) (whole_by what d B run items n)
+    whole_again nothing run items n = refl
+    whole_again block_quote run items n = refl
+    whole_again (item_of_list mark) run items n = refl
+    whole_again doctest_block run items n = refl
+    whole_again (bar_line m) run items n =
+        let ls : List IndentedLine = indented_lines B 0 (members run) in
+        same_again (then_read (λ (made : Node × List Node). just (made.0 ∷ made.1)) (line_block levels ls n)) (then_read (λ (made : Node × List Node). just (made.0 ∷ made.1)) (line_block more ls n)) _
+        (same_again (line_block levels ls n) (line_block more ls n) _ (lines_again levels more within ls n))
+    whole_again grid run items n = refl
+    whole_again simple run items n = refl
+    whole_again explicit_markup run items n = refl
+    whole_again transition run items n = refl
+    whole_again (overlined_title mark short) run items n = refl
+    whole_again (misplaced_lines level text) run items n = refl
+    whole_again (underlined_title infos short) run items n = refl
+    whole_again (paragraph infos) run items n = refl
+
+    ended_again : (run : Run Found) (items : List Item) (n : ℕ) → Again (ended c B run items n) (ended d B run items n)
+    ended_again run items n = same_again (whole_by run.first.what c B run items n) (whole_by run.first.what d B run items n) _ (whole_again run.first.what run items n)
+
+    run_again : (run : Run Found) (n : ℕ) → Again (run_items c B run n) (run_items d B run n)
+    run_again run n =
+        then_again (flat_each (piece_of c B) (members run) n) (flat_each (piece_of d B) (members run) n) (ended c B run) (ended d B run)
+        (flat_again (piece_of c B) (piece_of d B) found_again (members run) n) (ended_again run)
+
+    pub items_again : (n : ℕ) → Again (block_items c B n) (block_items d B n)
+    items_again n = flat_again (run_items c B) (run_items d B) run_again (runs_of titles B) n
+
+  -- ---- levels
+
+  -- the items of a block in which this many levels are left for the blocks inside
+  abbrev items_with : Bool → Bool → ℕ → Block → Numbered (List Item)
+  items_with titles code levels B = block_items (record { titles = titles; code = code; levels = suc levels; inner = inner_nodes code levels }) B
+
+  -- all blocks inside are read again with more levels
+  inner_again : (levels more : ℕ) → levels ≤ more → ReadsAgain P (inner_nodes false levels) (inner_nodes true more)
+  unfolding inner_nodes
+  inner_again zero zero within B n keeps = again (below_last_level B n)
+  inner_again zero (suc more) within B n keeps =
+      let d : Within = record { titles = false; code = true; levels = suc more; inner = inner_nodes true more } in
+      quiet_again false n (λ ss. then_read (λ items. just (nodes_among items)) (flat_each (run_items d B) (runs_at false B ss) n)) refl 0 B
+  inner_again (suc levels) zero within B n keeps = absurd (omega (arith, within))
+  inner_again (suc levels) (suc more) within B n keeps =
+      same_again (items_with false false levels B n) (items_with false true more B n) (λ items. just (nodes_among items))
+      (items_again false (suc levels) (suc more) (omega (arith, within)) (inner_nodes false levels) (inner_nodes true more) (inner_again levels more (omega (arith, within))) B keeps n)
+
+  -- ---- documents
+
+  abbrev document_by : Bool → ℕ → Block → ℕ → Result (Node × ℕ) ℕ
+  document_by code nesting B n = then_read (λ items. just (document_of items)) (items_with true code nesting B n)
+
+  document_again : (nesting more : ℕ) → nesting ≤ more → (B : Block) (n : ℕ) → P B → Again (document_by false nesting B n) (document_by true more B n)
+  document_again nesting more within B n keeps =
+      same_again (items_with true false nesting B n) (items_with true true more B n) (λ items. just (document_of items))
+      (items_again true (suc nesting) (suc more) (omega (arith, within)) (inner_nodes false nesting) (inner_nodes true more) (inner_again nesting more within) B keeps n)
+
+  -- a document that is read under one profile is read the same under a later one, which has as many levels or more, and program code
+  pub documents_follow : (first later : Profile) → first.nesting ≤ later.nesting → first.code ≡ false → later.code ≡ true → (B : Block) (n : ℕ) (r : Node × ℕ) → P B
+      → document first B n ≡ Ok r → document later B n ≡ Ok r
+  documents_follow first later within without with B n r keeps is =
+      ap (λ code. document_by code later.nesting B n) with
+      ∙ read_again (document_by false first.nesting B n) (document_by true later.nesting B n) r (document_again first.nesting later.nesting within B n keeps)
+      (sym (ap (λ code. document_by code first.nesting B n) without) ∙ is)
