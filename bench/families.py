@@ -49,6 +49,12 @@ def wide_open_grid(columns):
     return "+-" * columns + "+\n" + "| " * columns + "|\n+" + "-" * (2 * columns - 1) + "+\n"
 
 
+def chained(n, deep, name, text):
+    """References to the first of definitions that stand one in another, the last of which has a text, and `|b|` a letter."""
+    chain = "".join(f".. |a{k}| replace:: |a{k + 1}|\n" for k in range(deep))
+    return lines(n, f"|{name}| ") + "\n" + chain + f".. |a{deep}| replace:: {text}\n.. |b| replace:: c\n"
+
+
 # A family gives for n a document of some multiple of n bytes; each is made for n, 2n and 4n.
 FAMILIES = {
     "paragraphs": lambda n: "some words\nin two lines\n\n" * n,
@@ -92,6 +98,9 @@ FAMILIES = {
     "citations": lambda n: numbered(n, "[a{k}]_\n\n.. [a{k}] text\n\n"),
     "substitutions": lambda n: lines(n, "|a| ") + "\n.. |a| replace:: text\n",
     "substitution definitions": lambda n: numbered(n, "|a{k}|\n\n.. |a{k}| replace:: text\n\n"),
+    "substitutions that are too large": lambda n: lines(n, "|a| ") + "\n.. |a| replace:: " + "b" * 10_000 + "\n",
+    "deep substitutions that are too large": lambda n: chained(n, 90, "a0", "\\ ".join(["|b|"] * 5_200)),
+    "deep substitutions": lambda n: chained(n, 90, "d", "c") + ".. |d| replace:: " + "\\ ".join(["|a0|"] * 100) + "\n",
     "directives": lambda n: ".. note:: text\n\n" * n,
     "unknown directives": lambda n: ".. unknown:: text\n\n" * n,
     "emphasis": lambda n: lines(n, "*a* "),

@@ -3,3 +3,4 @@ pub mod ExpandedKinds
 pub mod Expanding
 pub mod NoReferences
 pub mod OneAnswer
+pub mod Remembering

@@ -1,3 +1,4 @@
 pub mod Definitions
 pub mod Expanded
 pub mod Expansion
+pub mod Outcomes

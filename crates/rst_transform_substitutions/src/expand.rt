@@ -1,5 +1,5 @@
 //! Substitution references give way to the contents of their definitions.
-ghost use Rattle.std.specs.Prelude.{◌≡◌, ◌++◌, false, List};
+ghost use Rattle.std.specs.Prelude.{◌≡◌, ◌++◌, false, List, OnOk};
 ghost use Rattle.rst_tree.specs.declared.node.Node.{Node as AnyNode};
 ghost use Rattle.rst_tree.specs.Faults.{Gives};
 ghost use Rattle.rst_tree.specs.Nodes.{forest_of};
@@ -8,9 +8,11 @@ ghost use Rattle.rst_tree_index.specs.Kinds.{kinds_of, HasNoNewKinds};
 ghost use Rattle.rst_transform_substitutions.specs.Definitions.{found_by, known_place};
 ghost use Rattle.rst_transform_substitutions.specs.Expanded.{within_element, ExpandsIn, GivesWay, IsExpanded, ReportsFault};
 ghost use Rattle.rst_transform_substitutions.specs.Expansion.{name_said, nodes_for};
+ghost use Rattle.rst_transform_substitutions.specs.Outcomes.{Remembers};
 
 use crate::definitions::Definitions;
-use crate::expansion::{ExpansionFault, Halted, expansion, is_reference};
+use crate::expansion::{ExpansionFault, is_reference};
+use crate::outcomes::{Outcome, Outcomes, reference_outcome};
 use rst_transform_work::{Work, said, take_root, take_source};
 use rst_tree::{Attrs, Children, Key, Level, Node, Tag, TreeFault};
 use std::alloc::Global;
@@ -67,7 +69,9 @@ fn expanded_root(alloc: Global, mut work: Work) -> Result<Work, TreeFault>
             children,
             line,
         } => {
-            let children = expanded_in(alloc, &definitions, children, None, &mut work)?;
+            let mut outcomes = Outcomes::new(alloc);
+            let outcomes = &mut outcomes;
+            let children = expanded_in(alloc, &definitions, children, None, outcomes, &mut work)?;
             work.root = Node::Element {
                 tag,
                 attrs,
@@ -85,9 +89,12 @@ fn expanded_in(
     definitions: &Definitions,
     nodes: Children,
     within: Option<usize>,
+    outcomes: &mut Outcomes,
     work: &mut Work,
 ) -> Result<Children, TreeFault>
-    ensures { Gives (λ done. (list : List AnyNode) × ExpandsIn (found_by definitions.now) (known_place definitions.now) within nodes work.old work.new list × (done ≡ forest_of list)) result }
+    requires { Remembers definitions.now outcomes.old }
+    ensures expanded { Gives (λ done. (list : List AnyNode) × ExpandsIn (found_by definitions.now) (known_place definitions.now) within nodes work.old work.new list × (done ≡ forest_of list)) result }
+    ensures remembers { OnOk result (Remembers definitions.now outcomes.new) }
 {
     let mut done = Vec::with_capacity(alloc, nodes.len())?;
     for node in nodes.into_list() {
@@ -103,11 +110,20 @@ fn expanded_in(
                 line,
             } => {
                 if is_reference(tag) {
-                    done = with_replaced(alloc, definitions, done, attrs, line, within, work)?;
+                    done = with_replaced(
+                        alloc,
+                        definitions,
+                        done,
+                        attrs,
+                        line,
+                        within,
+                        outcomes,
+                        work,
+                    )?;
                     continue;
                 }
                 let within = within_element(definitions, tag, &attrs, within);
-                let children = expanded_in(alloc, definitions, children, within, work)?;
+                let children = expanded_in(alloc, definitions, children, within, outcomes, work)?;
                 done.push(Node::Element {
                     tag,
                     attrs,
@@ -144,17 +160,21 @@ fn with_replaced(
     attrs: Attrs,
     line: usize,
     within: Option<usize>,
+    outcomes: &mut Outcomes,
     work: &mut Work,
 ) -> Result<Vec<Node>, TreeFault>
-    ensures { let wanted = nodes_for (found_by definitions.now) within (name_said attrs) in Gives (λ all. (here : List AnyNode) × GivesWay attrs line wanted work.old work.new here × (all.items ≡ nodes.items ++ here)) result }
+    requires { Remembers definitions.now outcomes.old }
+    ensures gives_way { let wanted = nodes_for (found_by definitions.now) within (name_said attrs) in Gives (λ all. (here : List AnyNode) × GivesWay attrs line wanted work.old work.new here × (all.items ≡ nodes.items ++ here)) result }
+    ensures remembers { OnOk result (Remembers definitions.now outcomes.new) }
 {
-    match expansion(alloc, definitions, said(&attrs, Key::Refname), within) {
-        Ok(mut expanded) => {
+    let name = said(&attrs, Key::Refname);
+    match reference_outcome(alloc, definitions, name, within, outcomes)? {
+        Outcome::Nodes(expanded) => {
+            let mut expanded = expanded.into_list();
             nodes.append(&mut expanded)?;
             Ok(nodes)
         }
-        Err(Halted::NoMemory) => Err(TreeFault::NoMemory),
-        Err(Halted::By(fault)) => {
+        Outcome::Fault(fault) => {
             let problematic = problematic(alloc, attrs, line, fault, work)?;
             nodes.push(problematic)?;
             Ok(nodes)

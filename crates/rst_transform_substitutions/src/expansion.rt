@@ -30,6 +30,17 @@ pub enum ExpansionFault {
 }
 
 impl ExpansionFault {
+    /// An equal fault.
+    pub fn copy(&self) -> Result<ExpansionFault, TreeFault>
+        ensures { Gives (λ equal. equal ≡ self.now) result }
+    {
+        match self {
+            ExpansionFault::Undefined(inner) => Ok(ExpansionFault::Undefined(inner.copy()?)),
+            ExpansionFault::Circular(inner) => Ok(ExpansionFault::Circular(inner.copy()?)),
+            ExpansionFault::TooLarge => Ok(ExpansionFault::TooLarge),
+        }
+    }
+
     /// What the message says of a reference to a name that isn't replaced.
     pub fn text(&self, alloc: Global, name: &str) -> Result<Text, TreeFault>
         ensures { Gives (λ text. text ≡ fault_text name.now self.now) result }

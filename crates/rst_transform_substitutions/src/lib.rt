@@ -5,3 +5,4 @@ mod definitions;
 pub mod expand;
 mod expansion;
 pub mod laws;
+mod outcomes;

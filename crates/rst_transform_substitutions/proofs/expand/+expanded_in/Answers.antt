@@ -18,24 +18,30 @@ expanded_in-requires t c =
     let h : height c.in-Element.children + 1 ≤ height c.args.nodes =
     inside_lower c.in-Some.node c.in-Element.tag c.in-Element.attrs c.in-Element.children c.args.nodes c.in-Element.line c.into_list-node-items.result.items _
     c.in-Element.is c.into_list-node-items.ensures.forest turn.1 turn.0 in
-    search (rules, h)
+    search (rules, h, c.loop-node.invariant.remembers)
 
 pub loop-node-preserved-then-is_reference : goal.loop-node-preserved-then-is_reference
 loop-node-preserved-then-is_reference t c =
     let items = c.in-Some.ensures.steps.0 ∙ ap (λ (n : Node). n ∷ c.next.new.self.rest.items) c.in-Element.is in
-    more_reference (found_by c.args.definitions.now) (known_place c.args.definitions.now) c.args.within c.args.nodes c.args.work.now c.loop-node.work c.with_replaced.new.work c.loop-node.done.items c.in_ok-done-in-Element.done.items c.in_ok-done-in-Element.ensures.0 c.loop-node.node-iterator.rest.items c.next.new.self.rest.items
-    c.in-Element.tag c.in-Element.attrs c.in-Element.children c.in-Element.line c.loop-node.invariant items (sym c.is_reference.ensures ∙ c.if-is_reference.true) c.in_ok-done-in-Element.ensures.1 c.in_ok-done-in-Element.ensures.2
+    record {
+      continues = more_reference (found_by c.args.definitions.now) (known_place c.args.definitions.now) c.args.within c.args.nodes c.args.work.now c.loop-node.work c.with_replaced.new.work c.loop-node.done.items c.in_ok-done-in-Element.done.items c.in_ok-done-in-Element.ensures.gives_way.0 c.loop-node.node-iterator.rest.items c.next.new.self.rest.items
+          c.in-Element.tag c.in-Element.attrs c.in-Element.children c.in-Element.line c.loop-node.invariant.continues items (sym c.is_reference.ensures ∙ c.if-is_reference.true) c.in_ok-done-in-Element.ensures.gives_way.1 c.in_ok-done-in-Element.ensures.gives_way.2;
+      remembers = c.in_ok-done-in-Element.ensures.remembers;
+    }
 
 pub loop-node-preserved : goal.loop-node-preserved
 loop-node-preserved t c =
     let items = c.in-Some.ensures.steps.0 ∙ ap (λ (n : Node). n ∷ c.next.new.self.rest.items) c.in-Element.is in
-    let nodes : List Node = c.in_ok-children-in-Element.ensures.0 in
+    let nodes : List Node = c.in_ok-children-in-Element.ensures.expanded.0 in
     let push : c.push-in-Element.new.self.items ≡ c.loop-node.done.items ++ Element c.in-Element.tag c.in-Element.attrs (forest_of nodes) c.in-Element.line ∷ [] =
-    rw (c.in_ok-children-in-Element.ensures.2) at c.in_ok-push-in-Element.ensures.items in
-    more_element (found_by c.args.definitions.now) (known_place c.args.definitions.now) c.args.within c.args.nodes c.args.work.now c.loop-node.work c.expanded_in.new.work c.loop-node.done.items c.push-in-Element.new.self.items nodes c.loop-node.node-iterator.rest.items c.next.new.self.rest.items
-    c.in-Element.tag c.in-Element.attrs c.in-Element.children c.in-Element.line c.loop-node.invariant items (sym c.is_reference.ensures ∙ c.if-is_reference.false) (rw (c.within_element-within.ensures) at c.in_ok-children-in-Element.ensures.1) push
+    rw (c.in_ok-children-in-Element.ensures.expanded.2) at c.in_ok-push-in-Element.ensures.items in
+    record {
+      continues = more_element (found_by c.args.definitions.now) (known_place c.args.definitions.now) c.args.within c.args.nodes c.args.work.now c.loop-node.work c.expanded_in.new.work c.loop-node.done.items c.push-in-Element.new.self.items nodes c.loop-node.node-iterator.rest.items c.next.new.self.rest.items
+          c.in-Element.tag c.in-Element.attrs c.in-Element.children c.in-Element.line c.loop-node.invariant.continues items (sym c.is_reference.ensures ∙ c.if-is_reference.false) (rw (c.within_element-within.ensures) at c.in_ok-children-in-Element.ensures.expanded.1) push;
+      remembers = c.in_ok-children-in-Element.ensures.remembers;
+    }
 
-pub returns : goal.returns
-returns t c =
+pub returns-clause-expanded : goal.returns-clause-expanded
+returns-clause-expanded t c =
     let none : c.loop-node.node-iterator.rest.items ≡ [] = grind (arith, common_steps) in
-    (c.loop-node.done.items, all_expanded (found_by c.args.definitions.now) (known_place c.args.definitions.now) c.args.within c.args.nodes c.args.work.now c.loop-node.work c.loop-node.done.items c.loop-node.node-iterator.rest.items c.loop-node.invariant none, c.of.ensures)
+    (c.loop-node.done.items, all_expanded (found_by c.args.definitions.now) (known_place c.args.definitions.now) c.args.within c.args.nodes c.args.work.now c.loop-node.work c.loop-node.done.items c.loop-node.node-iterator.rest.items c.loop-node.invariant.continues none, c.of.ensures)

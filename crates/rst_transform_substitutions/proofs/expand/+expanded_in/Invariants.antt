@@ -1,5 +1,6 @@
 use Rattle.rst_tree.specs.Forest.{height}
 use Rattle.rst_transform_substitutions.specs.Definitions.{found_by, known_place}
+use Rattle.rst_transform_substitutions.specs.Outcomes.{Remembers}
 use Rattle.rst_transform_substitutions.proofs.Expanding.{Continues}
 use Rattle.rst_transform_substitutions.proofs.expand.+expanded_in.Given as goal
 
@@ -7,4 +8,7 @@ abbrev pub decreases-expanded_in : goal.decreases-expanded_in
 decreases-expanded_in l = height l.nodes
 
 abbrev pub invariant-loop-node : goal.invariant-loop-node
-invariant-loop-node l = Continues (found_by l.fn.definitions) (known_place l.fn.definitions) l.fn.within l.fn.nodes l.fn.work l.work l.done.items l.node-iterator.rest.items
+invariant-loop-node l = record {
+  continues : Continues (found_by l.fn.definitions) (known_place l.fn.definitions) l.fn.within l.fn.nodes l.fn.work l.work l.done.items l.node-iterator.rest.items;
+  remembers : Remembers l.fn.definitions l.outcomes;
+}

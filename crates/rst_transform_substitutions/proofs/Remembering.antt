@@ -1,0 +1,56 @@
+-- What is remembered of references is what those that follow come to.
+use Rattle.std.proofs.Common.{◌≡◌, ℕ, ◌<◌, ◌++◌, ◌==◌, List, [], ◌∷◌, length, Bool, true, false, nat_cmp, nat_eq, eqb-true, true≢false, refl, sym, subst, ◌∙◌, ap, arith}
+use Rattle.std.specs.Prelude.{if◌then◌else◌, is_some, slice_get, unwrap_or, Option, Some, None}
+use Rattle.std.specs.BTreeMap.{get}
+use Rattle.std.specs.List.{list_any}
+use Rattle.rst_tree.specs.Forest.{Forest}
+use Rattle.rst_transform_substitutions.specs.declared.definitions.Definitions.{Definitions}
+use Rattle.rst_transform_substitutions.specs.declared.outcomes.Kept.{Kept}
+use Rattle.rst_transform_substitutions.specs.declared.outcomes.Outcome.{Outcome}
+use Rattle.rst_transform_substitutions.specs.declared.outcomes.Outcomes.{Outcomes}
+use Rattle.rst_transform_substitutions.specs.Definitions.{found_by, known_found}
+use Rattle.rst_transform_substitutions.specs.Expansion.{expanded, given, most_nested, most_visited, nodes_for, nodes_in, path_from}
+use Rattle.rst_transform_substitutions.specs.Outcomes.{came, kept_of, GoesInto, Remembers}
+use Rattle.rst_transform_substitutions.proofs.Expanding.{found-some, given-entered}
+
+-- at most one definition is gone into before a reference of the document
+short_path : (within : Option ℕ) → length (path_from within) < most_nested
+short_path None = omega arith
+short_path (Some place) = omega arith
+
+-- what a reference comes to that goes into a definition
+goes : (known : Definitions) (within : Option ℕ) (place : ℕ) (name : List ℕ) (content : Forest) → slice_get known.contents.items place ≡ Some content → known_found known name ≡ Some place → list_any (λ entered. entered == place) (path_from within) ≡ false
+    → nodes_for (found_by known) within name ≡ nodes_in (expanded (given (found_by known) (path_from within ++ place ∷ [])) content most_visited)
+goes known within place name content there finds other =
+    ap nodes_in (given-entered (found_by known) (path_from within) name most_visited (place, content) (found-some known name place content finds there) other (short_path within))
+
+-- two references that stand in the same definition, or in none, and go into the same one come to the same
+pub same_nodes : (known : Definitions) (within : Option ℕ) (place : ℕ) (one two : List ℕ) → GoesInto known within place one → GoesInto known within place two
+    → nodes_for (found_by known) within one ≡ nodes_for (found_by known) within two
+same_nodes known within place one two first second =
+    goes known within place one first.content first.there first.finds first.other ∙ sym (goes known within place two first.content first.there second.finds second.other)
+
+none_is : {A : Type 0} (a : A) → None ≡ Some a → ⊥
+none_is a e = true≢false (sym (ap is_some e))
+
+some_is : {A : Type 0} (a b : A) → Some a ≡ Some b → a ≡ b
+some_is a b e = ap (λ o. unwrap_or o a) e
+
+-- nothing is remembered in an empty map
+pub remembers-none : (known : Definitions) (outcomes : Outcomes) → ((place : ℕ) → get nat_cmp outcomes.kept place ≡ None) → Remembers known outcomes
+remembers-none known outcomes none = λ place kept name is goes. absurd (none_is kept (sym (none place) ∙ is))
+
+-- one more outcome is remembered
+remembers-case : (known : Definitions) (old : Outcomes) (place : ℕ) (within : Option ℕ) (outcome : Outcome) (name : List ℕ) → Remembers known old → GoesInto known within place name → came outcome ≡ nodes_for (found_by known) within name
+    → (other : ℕ) (kept : Kept) (another : List ℕ) (same : Bool) → nat_eq place other ≡ same → (if same then Some (kept_of within outcome) else get nat_cmp old.kept other) ≡ Some kept → GoesInto known kept.within other another
+    → came kept.outcome ≡ nodes_for (found_by known) kept.within another
+remembers-case known old place within outcome name before goes is other kept another true same put into =
+    let there : place ≡ other = eqb-true place other same in
+    let Fits : Kept → Type 0 = λ k. GoesInto known k.within other another → came k.outcome ≡ nodes_for (found_by known) k.within another in
+    subst Fits (some_is (kept_of within outcome) kept put) (λ here. sym (same_nodes known within place another name (subst (λ p. GoesInto known within p another) (sym there) here) goes ∙ sym is)) into
+remembers-case known old place within outcome name before goes is other kept another false same put into = before other kept another put into
+
+pub remembers-more : (known : Definitions) (old new : Outcomes) (place : ℕ) (within : Option ℕ) (outcome : Outcome) (name : List ℕ) → Remembers known old → GoesInto known within place name → came outcome ≡ nodes_for (found_by known) within name
+    → ((other : ℕ) → get nat_cmp new.kept other ≡ (if nat_eq place other then Some (kept_of within outcome) else get nat_cmp old.kept other)) → Remembers known new
+remembers-more known old new place within outcome name before goes is put = λ other kept another at into.
+    remembers-case known old place within outcome name before goes is other kept another (nat_eq place other) refl (sym (put other) ∙ at) into

@@ -1,0 +1,38 @@
+-- What references come to, remembered for those that follow. That each comes to what the definition says is the rule; this is what makes it so.
+use Rattle.std.specs.Prelude.{◌≡◌, ℕ, ◌==◌, false, List, slice_get, Option, Some, Result, Ok, Err}
+use Rattle.std.specs.BTreeMap.{get}
+use Rattle.std.specs.List.{list_any}
+use Rattle.std.specs.Ordering.{nat_cmp}
+use Rattle.rst_tree.specs.declared.node.Node.{Node}
+use Rattle.rst_tree.specs.Forest.{Forest}
+use Rattle.rst_tree.specs.Nodes.{nodes_of}
+use Rattle.rst_transform_substitutions.specs.declared.definitions.Definitions.{Definitions}
+use Rattle.rst_transform_substitutions.specs.declared.expansion.ExpansionFault.{ExpansionFault}
+use Rattle.rst_transform_substitutions.specs.declared.outcomes.Kept.{Kept}
+use Rattle.rst_transform_substitutions.specs.declared.outcomes.Outcome.{Outcome}
+use Rattle.rst_transform_substitutions.specs.declared.outcomes.Outcome.TheVariants.{Nodes, Fault}
+use Rattle.rst_transform_substitutions.specs.declared.outcomes.Outcomes.{Outcomes}
+use Rattle.rst_transform_substitutions.specs.Definitions.{found_by, known_found}
+use Rattle.rst_transform_substitutions.specs.Expansion.{nodes_for, path_from}
+
+-- an outcome, as the definition gives it
+abbrev pub came : Outcome → Result (List Node) ExpansionFault
+came (Nodes nodes) = Ok (nodes_of nodes)
+came (Fault fault) = Err fault
+
+-- what is kept of a reference that stands in the definition at a place, or in none
+abbrev pub kept_of : Option ℕ → Outcome → Kept
+kept_of within outcome = record { within = within; outcome = outcome }
+
+-- a reference to a name, which stands in the definition at a place or in none, goes into the definition at another place
+pub record GoesInto (known : Definitions) (within : Option ℕ) (place : ℕ) (name : List ℕ) : Type 0 where
+  pub content : Forest
+  pub there : slice_get known.contents.items place ≡ Some content
+  pub finds : known_found known name ≡ Some place
+  pub other : list_any (λ entered. entered == place) (path_from within) ≡ false
+
+-- what is remembered for a place is what each reference that goes into the definition there comes to, if it stands where the last one stood
+abbrev pub Remembers : Definitions → Outcomes → Type 0
+Remembers known outcomes =
+    (place : ℕ) (kept : Kept) (name : List ℕ) → get nat_cmp outcomes.kept place ≡ Some kept → GoesInto known kept.within place name
+    → came kept.outcome ≡ nodes_for (found_by known) kept.within name

@@ -1,0 +1,176 @@
+//! What references come to, remembered for those that follow.
+ghost use Rattle.std.specs.Prelude.{◌≡◌, if◌then◌else◌, nat_eq, true, ℕ, Option, Some, MatchOption, OnOk};
+ghost use Rattle.std.specs.BTreeMap.{get};
+ghost use Rattle.std.specs.Ordering.{nat_cmp};
+ghost use Rattle.rst_tree.specs.Faults.{Gives};
+ghost use Rattle.rst_transform_substitutions.specs.declared.definitions.Definitions.{Definitions as AnyDefinitions};
+ghost use Rattle.rst_transform_substitutions.specs.Definitions.{found_by};
+ghost use Rattle.rst_transform_substitutions.specs.Expansion.{nodes_for};
+ghost use Rattle.rst_transform_substitutions.specs.Outcomes.{came, kept_of, GoesInto, Remembers};
+
+use crate::definitions::Definitions;
+use crate::expansion::{ExpansionFault, Halted, expansion};
+use rst_transform_work::copies;
+use rst_tree::{Children, TreeFault};
+use std::alloc::Global;
+use std::collections::BTreeMap;
+
+/// What a reference comes to.
+#[derive(Drop)]
+pub enum Outcome {
+    /// It gives way to nodes.
+    Nodes(Children),
+    /// It isn't replaced.
+    Fault(ExpansionFault),
+}
+
+impl Outcome {
+    /// An equal outcome.
+    fn copy(&self, alloc: Global) -> Result<Outcome, TreeFault>
+        ensures { Gives (λ equal. equal ≡ self.now) result }
+    {
+        match self {
+            Outcome::Nodes(nodes) => Ok(Outcome::Nodes(copies(alloc, nodes)?)),
+            Outcome::Fault(fault) => Ok(Outcome::Fault(fault.copy()?)),
+        }
+    }
+}
+
+/// What came of the last reference that went into a definition.
+#[derive(Drop)]
+struct Kept {
+    /// The place of the definition that the reference stands in, if it stands in one.
+    within: Option<usize>,
+    /// What it came to.
+    outcome: Outcome,
+}
+
+/// What references came to, by the places of the definitions that they found.
+///
+/// Whatever its name and its line, each reference that stands in the same definition, or in none, and goes into the same one comes
+/// to the same. So only the first of them costs an expansion; this bounds the work of a document with many references to large
+/// definitions.
+#[derive(Drop)]
+pub struct Outcomes {
+    kept: BTreeMap<usize, Kept>,
+}
+
+impl Outcomes {
+    /// Nothing is remembered yet.
+    pub fn new(alloc: Global) -> Outcomes
+        ensures { (known : AnyDefinitions) → Remembers known result }
+    {
+        let kept = BTreeMap::new(alloc);
+        Outcomes { kept }
+    }
+
+    /// What a reference to the definition at a place came to, if it stands in the same definition as the last, or in none as that.
+    fn find(
+        &self,
+        alloc: Global,
+        place: usize,
+        within: Option<usize>,
+    ) -> Result<Option<Outcome>, TreeFault>
+        ensures { Gives (λ found. MatchOption found (Unit {0}) (λ outcome. get nat_cmp self.now.kept place ≡ Some (kept_of within outcome))) result }
+    {
+        let Some(kept) = self.kept.get(&place) else {
+            return Ok(None);
+        };
+        if !is_same(kept.within, within) {
+            return Ok(None);
+        }
+        Ok(Some(kept.outcome.copy(alloc)?))
+    }
+
+    /// Remembers what a reference to the definition at a place came to, instead of what the one before came to.
+    fn keep(
+        &mut self,
+        alloc: Global,
+        place: usize,
+        within: Option<usize>,
+        outcome: &Outcome,
+    ) -> Result<(), TreeFault>
+        ensures { Gives (λ _. (other : ℕ) → get nat_cmp self.new.kept other ≡ (if nat_eq place other then Some (kept_of within outcome.now) else get nat_cmp self.old.kept other)) result }
+    {
+        let outcome = outcome.copy(alloc)?;
+        self.kept.insert(place, Kept { within, outcome })?;
+        Ok(())
+    }
+}
+
+/// Whether two places are the same, or both are none.
+fn is_same(one: Option<usize>, other: Option<usize>) -> bool
+    ensures { result ≡ true → one ≡ other }
+{
+    match one {
+        None => other.is_none(),
+        Some(place) => match other {
+            None => false,
+            Some(other_place) => place == other_place,
+        },
+    }
+}
+
+/// The place of the definition that a reference goes into, if it goes into one that it doesn't stand in.
+fn entered_place(
+    alloc: Global,
+    definitions: &Definitions,
+    name: &str,
+    within: Option<usize>,
+) -> Result<Option<usize>, TreeFault>
+    ensures { Gives (λ place. MatchOption place (Unit {0}) (λ place. GoesInto definitions.now within place name.now)) result }
+{
+    let Some(place) = definitions.find(alloc, name)? else {
+        return Ok(None);
+    };
+    if definitions.content(place).is_none() {
+        return Ok(None);
+    }
+    if let Some(outer) = within {
+        if outer == place {
+            return Ok(None);
+        }
+    }
+    Ok(Some(place))
+}
+
+/// What a reference of a name comes to, expanded anew.
+fn new_outcome(
+    alloc: Global,
+    definitions: &Definitions,
+    name: &str,
+    within: Option<usize>,
+) -> Result<Outcome, TreeFault>
+    ensures { Gives (λ outcome. came outcome ≡ nodes_for (found_by definitions.now) within name.now) result }
+{
+    match expansion(alloc, definitions, name, within) {
+        Ok(nodes) => Ok(Outcome::Nodes(Children::of(nodes))),
+        Err(Halted::By(fault)) => Ok(Outcome::Fault(fault)),
+        Err(Halted::NoMemory) => Err(TreeFault::NoMemory),
+    }
+}
+
+/// What a reference of a name comes to; `within` is the definition that it stands in.
+pub fn reference_outcome(
+    alloc: Global,
+    definitions: &Definitions,
+    name: &str,
+    within: Option<usize>,
+    outcomes: &mut Outcomes,
+) -> Result<Outcome, TreeFault>
+    requires { Remembers definitions.now outcomes.old }
+    ensures came { Gives (λ outcome. came outcome ≡ nodes_for (found_by definitions.now) within name.now) result }
+    ensures remembers { OnOk result (Remembers definitions.now outcomes.new) }
+{
+    let entered = entered_place(alloc, definitions, name, within)?;
+    let Some(place) = entered else {
+        return new_outcome(alloc, definitions, name, within);
+    };
+    let before = outcomes.find(alloc, place, within)?;
+    if let Some(known) = before {
+        return Ok(known);
+    }
+    let new = new_outcome(alloc, definitions, name, within)?;
+    outcomes.keep(alloc, place, within, &new)?;
+    Ok(new)
+}
