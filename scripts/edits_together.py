@@ -8,7 +8,8 @@ and checks the crate once. So an edit costs some ten seconds, where scripts/edit
 in this checkout (crates/*/out/rlib). The first check proves the crate; later ones prove again what an edit changed.
 
 A function counts as refused if something of its own isn't proved; that a function it calls isn't proved doesn't count. An edit outside of a
-function, one of several functions, and one that can't be made beside the others are tried alone, and count as refused if any function is.
+function, one of several functions, one that can't be made beside the others, and one that isn't refused beside them are tried alone; the first two
+count as refused if any function is.
 
 The exit status is 0 if all were refused, 1 if one wasn't or doesn't compile, 2 if the arguments are wrong, 77 if the kit or a library is missing.
 """
@@ -139,8 +140,12 @@ class Trial:
         for edit in made:
             if refused is None:
                 self.tell(edit, "NOT COMPILED")
+            elif edit.function in refused or (edit.function is None and refused):
+                self.tell(edit, "refused")
+            elif len(group) > 1:
+                self.run([edit])  # perhaps its function wasn't looked at, since it calls another edited one
             else:
-                self.tell(edit, "refused" if edit.function in refused or (edit.function is None and refused) else "NOT REFUSED")
+                self.tell(edit, "NOT REFUSED")
         for edit in group:
             if edit not in made:
                 self.run([edit]) if len(group) > 1 else self.tell(edit, "CAN'T BE MADE")
