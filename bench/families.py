@@ -14,6 +14,11 @@ def outwards(n):
     return "".join(" " * depth + "a\n\n" for depth in reversed(range(DEPTH))) * max(1, n // DEPTH)
 
 
+def blank_inside(n):
+    """A list item as deep as `DEPTH`, with n line ends between its two paragraphs."""
+    return "- " * DEPTH + "a" + "\n" * n + "  " * DEPTH + "b\n"
+
+
 def numbered(n, text):
     """A text for each number below n, which stands in the place of each `{k}`."""
     return "".join(text.replace("{k}", str(k)) for k in range(n))
@@ -39,6 +44,15 @@ def grid_table(rows, columns):
     return rule + ("| cel " * columns + "|\n" + rule) * rows
 
 
+def nested_tables(lines):
+    """Grid tables of one cell, one inside another, as deep as `DEPTH`; the innermost holds a paragraph of so many lines."""
+    text = ["text"] * lines
+    for _ in range(DEPTH):
+        rule = "+" + "-" * len(text[0]) + "+"
+        text = [rule, *(f"|{line}|" for line in text), rule]
+    return "\n".join(text) + "\n"
+
+
 def open_grid(rows):
     """A grid whose last cells lack a corner, so that no cells cover it."""
     return "+--+--+\n" + "|  |  |\n+--+--+\n" * (rows - 1) + "|  |  |\n+-----+\n"
@@ -60,6 +74,7 @@ FAMILIES = {
     "paragraphs": lambda n: "some words\nin two lines\n\n" * n,
     "one paragraph": lambda n: "some words\n" * n,
     "blank lines": lambda n: "\n" * n,
+    "blank lines in an item": lambda n: blank_inside(10 * n),
     "sections": lambda n: numbered(n, "Title {k}\n==========\n\ntext\n\n"),
     "sections of one title": lambda n: "Title\n=====\n\ntext\n\n" * n,
     "bullet lists": lambda n: "* item\n" * n,
@@ -84,6 +99,7 @@ FAMILIES = {
     "grid table": lambda n: grid_table(n, 4),
     "wide grid table": lambda n: grid_table(4, n),
     "square grid table": lambda n: grid_table(*[max(2, round(n**0.5))] * 2),
+    "nested grid tables": lambda n: nested_tables(max(1, n // 20)),
     "malformed grid": lambda n: open_grid(n),
     "malformed wide grid": lambda n: wide_open_grid(n),
     "references": lambda n: numbered(n, "a{k}_\n\n.. _a{k}: u\n\n"),

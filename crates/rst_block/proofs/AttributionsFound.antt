@@ -16,6 +16,7 @@ use Rattle.rst_markup_blocks.specs.declared.attribution.Attribution.{Attribution
 use Rattle.rst_markup_blocks.specs.declared.lines.LineTest.TheVariants.{Blank, Filled}
 use Rattle.rst_markup_blocks.proofs.LineLemmas.{while_more}
 use Rattle.rst_block.specs.Quotes.{attribution_in, first_attribution}
+use Rattle.rst_block.proofs.PartFacts.{past_blanks}
 
 -- an attribution begins at a place
 abbrev pub begins_at : Block → ℕ → Bool
@@ -60,17 +61,6 @@ filled_end (l ∷ ls) = by (is_blank l.text) refl (filled_end ls)
     by : (b : Bool) → is_blank l.text ≡ b → is_blank (front_text (drop (lines_while Filled ls) ls)) ≡ true → is_blank (front_text (drop (cond (not b) (suc (lines_while Filled ls)) 0) (l ∷ ls))) ≡ true
     by true e g = e
     by false e g = g
-
--- the line that ends blank lines isn't blank
-blank_end : (Y : Block) → lines_while Blank Y < length Y → is_blank (front_text (drop (lines_while Blank Y) Y)) ≡ false
-unfolding lines_while
-blank_end [] h = absurd (omega arith)
-blank_end (l ∷ ls) h = by (is_blank l.text) refl h (λ g. blank_end ls g)
-  where
-    by : (b : Bool) → is_blank l.text ≡ b → cond b (suc (lines_while Blank ls)) 0 < suc (length ls) → (lines_while Blank ls < length ls → is_blank (front_text (drop (lines_while Blank ls) ls)) ≡ false)
-        → is_blank (front_text (drop (cond b (suc (lines_while Blank ls)) 0) (l ∷ ls))) ≡ false
-    by true e g i = i (omega arith)
-    by false e g i = e
 
 -- ---- where no attribution begins
 
@@ -135,7 +125,7 @@ pub Unfound-step : (Q : Block) (end place next : ℕ) → Unfound Q end → plac
 Unfound-step Q end place next u e h n a f =
     let Y : Block = drop (end + 1) Q in
     let at : drop (lines_while Blank Y) Y ≡ drop place Q = drop-drop (lines_while Blank Y) (end + 1) Q ∙ ap (λ i. drop i Q) (sym e) in
-    let dark : is_blank (front_text (drop place Q)) ≡ false = ap (λ X. is_blank (front_text X)) (sym at) ∙ blank_end Y (omega arith) in
+    let dark : is_blank (front_text (drop place Q)) ≡ false = ap (λ X. is_blank (front_text X)) (sym at) ∙ past_blanks Y (omega arith) in
     let more : place + lines_while Filled (drop place Q) ≡ place + 1 + lines_while Filled (drop (place + 1) Q) = while_more place Filled Q h (ap not dark) in
     let end_is : next ≡ place + lines_while Filled (drop place Q) = f ∙ sym more in
     record {

@@ -1,11 +1,8 @@
 -- The cells of tables, read one after the other, and what a block gives once its table is read.
-use Rattle.std.proofs.Common.{◌≡◌, ℕ, zero, suc, true, ◌+◌, ◌-◌, ◌<◌, ◌≤◌, List, [], ◌∷◌, ◌++◌, length, get_or, drop, drop-cons, map, Result, Ok, Err, arith, refl, sym, ◌∙◌, ap, append_assoc, append-nil, subst}
-use Rattle.std.proofs.lemmas.List.{drop_all}
-use Rattle.std.specs.Prelude.{Vec}
+use Rattle.std.proofs.Common.{◌≡◌, ℕ, zero, suc, true, ◌-◌, ◌≤◌, List, [], ◌∷◌, ◌++◌, drop, map, Result, Ok, Err, arith, refl, sym, ◌∙◌, ap, append_assoc, append-nil, subst}
 use Rattle.rst_text.specs.Block.{Block, first_number}
 use Rattle.rst_tree.specs.declared.node.Node.{Node}
 use Rattle.rst_tree.specs.declared.tag.Tag.TheVariants.{Row}
-use Rattle.rst_markup_tables.specs.Results.{cells_of}
 use Rattle.rst_markup_tables.specs.declared.results.Cell.{Cell}
 use Rattle.rst_markup_tables.specs.declared.results.TableResult.{TableResult}
 use Rattle.rst_markup_tables.specs.declared.results.TableResult.TheVariants.{Table}
@@ -49,32 +46,32 @@ each_step f x xs made a n m h =
 each_refused : {S A : Type 0} (f : S → Numbered A) (x : S) (xs : List S) (made : List A) (n line : ℕ) → f x n ≡ Err line → each_after f made (x ∷ xs) n ≡ Err line
 each_refused f x xs made n line h = ap (λ r. then_read (λ more. just (made ++ more)) (then_read (λ a. each f xs >>= λ others. just (a ∷ others)) r)) h
 
--- the same where the things stand in a list of others
-each_next : {T S A : Type 0} (f : S → Numbered A) (v : T → S) (ts : List T) (i : ℕ) (t : T) (made : List A) (a : A) (n m : ℕ) → i < length ts → t ≡ get_or ts i t → f (v t) n ≡ Ok (a, m)
-    → each_after f (made ++ a ∷ []) (map v (drop (i + 1) ts)) m ≡ each_after f made (map v (drop i ts)) n
-each_next f v ts i t made a n m h e k =
-    let j : i + 1 ≡ suc i = omega arith in
-    let d : drop i ts ≡ t ∷ drop (i + 1) ts = drop-cons ts i t h ∙ ap (λ u. u ∷ drop (suc i) ts) (sym e) ∙ ap (λ j. t ∷ drop j ts) (sym j) in
-    each_step f (v t) (map v (drop (i + 1) ts)) made a n m k ∙ ap (λ us. each_after f made (map v us) n) (sym d)
+-- none is made
+pub each_begins : {S A : Type 0} (f : S → Numbered A) (all left : List S) (made : List A) (n : ℕ) → made ≡ [] → left ≡ all → each_after f made left n ≡ each f all n
+each_begins f all left made n e l = ap (λ made. each_after f made left n) e ∙ ap (λ xs. each_after f [] xs n) l ∙ then_just (each f all n)
 
-each_fails : {T S A : Type 0} (f : S → Numbered A) (v : T → S) (ts : List T) (i : ℕ) (t : T) (made : List A) (n line : ℕ) → i < length ts → t ≡ get_or ts i t → f (v t) n ≡ Err line
-    → each_after f made (map v (drop i ts)) n ≡ Err line
-each_fails f v ts i t made n line h e k =
-    let d : drop i ts ≡ t ∷ drop (suc i) ts = drop-cons ts i t h ∙ ap (λ u. u ∷ drop (suc i) ts) (sym e) in
-    ap (λ us. each_after f made (map v us) n) d ∙ each_refused f (v t) (map v (drop (suc i) ts)) made n line k
+-- one more is made
+pub each_goes_on : {S A : Type 0} (f : S → Numbered A) (x : S) (left rest : List S) (made new : List A) (a : A) (n m : ℕ) (all : Result (List A × ℕ) ℕ)
+    → left ≡ x ∷ rest → Ok (a, m) ≡ f x n → new ≡ made ++ a ∷ [] → each_after f made left n ≡ all → each_after f new rest m ≡ all
+each_goes_on f x left rest made new a n m all l h e inv =
+    ap (λ made. each_after f made rest m) e ∙ each_step f x rest made a n m (sym h) ∙ ap (λ xs. each_after f made xs n) (sym l) ∙ inv
 
-each_ends : {T S A : Type 0} (f : S → Numbered A) (v : T → S) (ts : List T) (i : ℕ) (made : List A) (n : ℕ) → length ts ≤ i
-    → each_after f made (map v (drop i ts)) n ≡ Ok (made, n)
-each_ends f v ts i made n h = ap (λ us. each_after f made (map v us) n) (drop_all i ts h) ∙ ap (λ items. just items n) (append-nil made)
+-- all are made
+pub each_ends : {S A : Type 0} (f : S → Numbered A) (left : List S) (made : List A) (n : ℕ) (all : Result (List A × ℕ) ℕ) → left ≡ [] → each_after f made left n ≡ all → all ≡ Ok (made, n)
+each_ends f left made n all l inv = sym inv ∙ ap (λ xs. each_after f made xs n) l ∙ ap (λ items. just items n) (append-nil made)
+
+-- where one is refused, so are all
+pub each_keeps : {S A C D : Type 0} (f : S → Numbered A) (x : S) (left rest : List S) (made : List A) (n : ℕ) (all : Result (List A × ℕ) ℕ) (e : BlockFault) (g : C → Result (A × ℕ) ℕ) (h : D → Result (List A × ℕ) ℕ)
+    → left ≡ x ∷ rest → each_after f made left n ≡ all → Keeps (Err e) g (f x n) → Keeps (Err e) h all
+each_keeps f x left rest made n all (TooDeep line) g h l inv k = sym inv ∙ ap (λ xs. each_after f made xs n) l ∙ each_refused f x rest made n line k
+each_keeps f x left rest made n all NoMemory g h l inv k = tt
+
+-- where what is read first is refused, so is what follows
+then_keeps : {A B C D : Type 0} (r : Result (A × ℕ) ℕ) (f : A → Numbered B) (e : BlockFault) (g : C → Result (A × ℕ) ℕ) (h : D → Result (B × ℕ) ℕ) → Keeps (Err e) g r → Keeps (Err e) h (then_read f r)
+then_keeps r f (TooDeep line) g h k = ap (then_read f) k
+then_keeps r f NoMemory g h k = tt
 
 -- ---- cells
-
-abbrev same : Cell → Cell
-same cell = cell
-
-map_same : (cells : List Cell) → map same cells ≡ cells
-map_same [] = refl
-map_same (c ∷ cs) = ap (λ ds. c ∷ ds) (map_same cs)
 
 text_as : (d k : ℕ) (B : Block) (n : ℕ) → d ≤ deepest → deepest - d ≡ k → (text_with k (suc d) B >>= λ items. just (nodes_among items)) n ≡ inner_nodes true k B n
 text_as d zero B n h e =
@@ -108,32 +105,26 @@ entry_reads depth cell B level node n m low high b h e =
     ∙ ap (λ (ns : List Node). Ok (F ns, m)) (among_done level)
     ∙ ap (λ made. Ok (made, m)) (sym e)
 
-entry_refused : (depth : ℕ) (cell : Cell) (B : Block) (n line : ℕ) → 1 ≤ depth → depth ≤ 251 → B ≡ cell.lines → text_items depth B n ≡ Err line
-    → entry_of (within_at (depth - 1)) cell n ≡ Err line
-entry_refused depth cell B n line low high b h =
+entry_keeps : {A C : Type 0} (depth : ℕ) (cell : Cell) (B : Block) (n : ℕ) (e : BlockFault) (f : C → Result (List Item × ℕ) ℕ) (g : A → Result (Node × ℕ) ℕ) → 1 ≤ depth → depth ≤ 251 → B ≡ cell.lines
+    → Keeps (Err e) f (text_items depth B n) → Keeps (Err e) g (entry_of (within_at (depth - 1)) cell n)
+entry_keeps depth cell B n (TooDeep line) f g low high b h =
     let F : List Node → Node = λ ns. filled (entry_node cell.morerows cell.morecols 0) ns in
     ap (λ X. ((within_at (depth - 1)).inner X >>= λ nodes. just (F nodes)) n) (sym b)
     ∙ ap (then_read (λ nodes. just (F nodes))) (sym (text_inside depth B n low high) ∙ ap (then_read (λ items. just (nodes_among items))) h)
+entry_keeps depth cell B n NoMemory f g low high b h = tt
 
 -- ---- rows
 
--- a row of which some entries were made, and of whose cells some are left
-abbrev pub row_after : ℕ → List Node → List Cell → Numbered (List Node)
-row_after depth made left = each_after (entry_of (within_at (depth - 1))) made (map same left)
-
-row_fails : (depth : ℕ) (cells : List Cell) (i : ℕ) (cell : Cell) (made : List Node) (n m line : ℕ) → i < length cells → cell ≡ get_or cells i cell
-    → row_after depth made (drop i cells) m ≡ each (entry_of (within_at (depth - 1))) cells n → entry_of (within_at (depth - 1)) cell m ≡ Err line
-    → row_of (within_at (depth - 1)) cells n ≡ Err line
-row_fails depth cells i cell made n m line h c inv e =
-    ap (then_read (λ entries. just (element_of Row [] entries 0))) (sym inv ∙ each_fails (entry_of (within_at (depth - 1))) same cells i cell made m line h c e)
-
--- the same for a call's error
-pub row_keeps : {A : Type 0} (depth : ℕ) (cells : List Cell) (i : ℕ) (cell : Cell) (B : Block) (made : List Node) (n m : ℕ) (e : BlockFault)
-    (f : OpenBlock → Result (List Item × ℕ) ℕ) (g : A → Result (Node × ℕ) ℕ) → 1 ≤ depth → depth ≤ 251 → i < length cells → cell ≡ get_or cells i cell → B ≡ cell.lines
-    → row_after depth made (drop i cells) m ≡ each (entry_of (within_at (depth - 1))) cells n → Keeps (Err e) f (text_items depth B m)
+-- where a cell is refused, so is its row
+pub row_keeps : {A : Type 0} (depth : ℕ) (cells left rest : List Cell) (cell : Cell) (B : Block) (made : List Node) (n m : ℕ) (e : BlockFault)
+    (f : OpenBlock → Result (List Item × ℕ) ℕ) (g : A → Result (Node × ℕ) ℕ) → 1 ≤ depth → depth ≤ 251 → left ≡ cell ∷ rest → B ≡ cell.lines
+    → each_after (entry_of (within_at (depth - 1))) made left m ≡ each (entry_of (within_at (depth - 1))) cells n → Keeps (Err e) f (text_items depth B m)
     → Keeps (Err e) g (row_of (within_at (depth - 1)) cells n)
-row_keeps depth cells i cell B made n m (TooDeep line) f g low high h c b inv k = row_fails depth cells i cell made n m line h c inv (entry_refused depth cell B m line low high b k)
-row_keeps depth cells i cell B made n m NoMemory f g low high h c b inv k = tt
+row_keeps depth cells left rest cell B made n m e f g low high l b inv k =
+    let E : Cell → Numbered Node = entry_of (within_at (depth - 1)) in
+    let F : Node → Result (Node × ℕ) ℕ = λ node. just node m in
+    let G : List Node → Result (List Node × ℕ) ℕ = λ nodes. just nodes m in
+    then_keeps (each E cells n) (λ entries. just (element_of Row [] entries 0)) e G g (each_keeps E cell left rest made m (each E cells n) e F G l inv (entry_keeps depth cell B m e f F low high b k))
 
 -- ---- tables
 
@@ -153,49 +144,23 @@ table_reads old moved mid new B depth found cols head end rows made node n m q d
     ∙ ap (λ r. then_read (λ ns. reads_from old B (ns ++ N) end) (then_read (λ made. just (T made)) r)) (sym (ap (λ depth. each (row_of (within_at depth)) rows n) (sym c) ∙ h))
     ∙ ap (λ t. comes old B (Cells t) n) (sym q)
 
--- all rows were made
-pub rows_made : {Z : Type 0} (depth : ℕ) (items : List (Vec Cell Z)) (rows : List (List Cell)) (i : ℕ) (made : List Node) (n m : ℕ) → length items ≤ i → cells_of items ≡ rows
-    → each_after (row_of (within_at (depth - 1))) made (cells_of (drop i items)) m ≡ each (row_of (within_at (depth - 1))) (cells_of items) n
-    → each (row_of (within_at (depth - 1))) rows n ≡ Ok (made, m)
-rows_made {Z} depth items rows i made n m h r inv =
-    let R : List Cell → Numbered Node = row_of (within_at (depth - 1)) in
-    ap (λ rows. each R rows n) (sym r) ∙ sym inv ∙ each_ends R (λ (row : Vec Cell Z). row.items) items i made m h
-
--- a row is refused, so the table is
-pub table_keeps : {A C Z : Type 0} (old : OpenBlock) (B : Block) (depth : ℕ) (found : TableResult) (cols : List ℕ) (head end : ℕ) (items : List (Vec Cell Z)) (rows : List (List Cell)) (i : ℕ) (row : Vec Cell Z) (X : List Cell)
-    (made : List Node) (n m : ℕ) (e : BlockFault) (f : C → Result (Node × ℕ) ℕ) (g : A → Result (List Item × ℕ) ℕ) → found ≡ Table cols head rows end → depth ≡ suc old.depth
-    → i < length items → row ≡ get_or items i row → X ≡ row.items → cells_of items ≡ rows
-    → each_after (row_of (within_at (depth - 1))) made (cells_of (drop i items)) m ≡ each (row_of (within_at (depth - 1))) (cells_of items) n
-    → Keeps (Err e) f (row_of (within_at (depth - 1)) X m) → Keeps (Err e) g (comes old B (Cells found) n)
-table_keeps {A} {C} {Z} old B depth found cols head end items rows i row X made n m (TooDeep line) f g t d h r x q inv k =
+-- where its rows are refused, so is the table
+pub table_keeps : {A C : Type 0} (old : OpenBlock) (B : Block) (depth : ℕ) (found : TableResult) (cols : List ℕ) (head end : ℕ) (rows : List (List Cell)) (n : ℕ) (e : BlockFault)
+    (f : C → Result (List Node × ℕ) ℕ) (g : A → Result (List Item × ℕ) ℕ) → found ≡ Table cols head rows end → depth ≡ suc old.depth
+    → Keeps (Err e) f (each (row_of (within_at (depth - 1))) rows n) → Keeps (Err e) g (comes old B (Cells found) n)
+table_keeps old B depth found cols head end rows n (TooDeep line) f g t d k =
     let N : List Node = ending_notes (alone_ending grid) (drop end B) in
     let T : List Node → List Node = λ made. table_node cols head made (first_number (drop old.at B)) ∷ [] in
-    let R : List Cell → Numbered Node = row_of (within_at (depth - 1)) in
     let c : old.depth ≡ depth - 1 = omega (arith, d) in
-    let refused : each R rows n ≡ Err line =
-    ap (λ rows. each R rows n) (sym q) ∙ sym inv ∙ each_fails R (λ (row : Vec Cell Z). row.items) items i row made m line h r (ap (λ cells. R cells m) (sym x) ∙ k) in
     ap (λ t. comes old B (Cells t) n) t
     ∙ ap (λ depth. then_read (λ ns. reads_from old B (ns ++ N) end) (then_read (λ made. just (T made)) (each (row_of (within_at depth)) rows n))) c
-    ∙ ap (λ r. then_read (λ ns. reads_from old B (ns ++ N) end) (then_read (λ made. just (T made)) r)) refused
-table_keeps old B depth found cols head end items rows i row X made n m NoMemory f g t d h r x q inv k = tt
-
--- a row more
-pub row_next : {Z : Type 0} (depth : ℕ) (items : List (Vec Cell Z)) (i : ℕ) (row : Vec Cell Z) (X : List Cell) (made new : List Node) (node : Node) (n m : ℕ) (all : Result (List Node × ℕ) ℕ)
-    → i < length items → row ≡ get_or items i row → X ≡ row.items → Ok (node, m) ≡ row_of (within_at (depth - 1)) X n → new ≡ made ++ node ∷ []
-    → each_after (row_of (within_at (depth - 1))) made (cells_of (drop i items)) n ≡ all
-    → each_after (row_of (within_at (depth - 1))) new (cells_of (drop (i + 1) items)) m ≡ all
-row_next {Z} depth items i row X made new node n m all h r x k e inv =
-    let R : List Cell → Numbered Node = row_of (within_at (depth - 1)) in
-    ap (λ (made : List Node). each_after R made (cells_of (drop (i + 1) items)) m) e
-    ∙ each_next R (λ (row : Vec Cell Z). row.items) items i row made node n m h r (ap (λ cells. R cells n) (sym x) ∙ sym k)
-    ∙ inv
+    ∙ ap (λ r. then_read (λ ns. reads_from old B (ns ++ N) end) (then_read (λ made. just (T made)) r)) k
+table_keeps old B depth found cols head end rows n NoMemory f g t d k = tt
 
 -- an entry more
-pub entry_next : (depth : ℕ) (cells : List Cell) (i : ℕ) (cell : Cell) (B : Block) (level : OpenBlock) (made new : List Node) (node : Node) (n m : ℕ) (all : Result (List Node × ℕ) ℕ)
-    → 1 ≤ depth → depth ≤ 251 → i < length cells → cell ≡ get_or cells i cell → B ≡ cell.lines → just (done_of level) m ≡ text_items depth B n
+pub entry_next : (depth : ℕ) (cell : Cell) (B : Block) (left rest : List Cell) (level : OpenBlock) (made new : List Node) (node : Node) (n m : ℕ) (all : Result (List Node × ℕ) ℕ)
+    → 1 ≤ depth → depth ≤ 251 → left ≡ cell ∷ rest → B ≡ cell.lines → just (done_of level) m ≡ text_items depth B n
     → node ≡ filled (entry_node cell.morerows cell.morecols 0) level.nodes.items → new ≡ made ++ node ∷ []
-    → row_after depth made (drop i cells) n ≡ all → row_after depth new (drop (i + 1) cells) m ≡ all
-entry_next depth cells i cell B level made new node n m all low high h c b k e v inv =
-    ap (λ (made : List Node). row_after depth made (drop (i + 1) cells) m) v
-    ∙ each_next (entry_of (within_at (depth - 1))) same cells i cell made node n m h c (entry_reads depth cell B level node n m low high b k e)
-    ∙ inv
+    → each_after (entry_of (within_at (depth - 1))) made left n ≡ all → each_after (entry_of (within_at (depth - 1))) new rest m ≡ all
+entry_next depth cell B left rest level made new node n m all low high l b k e v inv =
+    each_goes_on (entry_of (within_at (depth - 1))) cell left rest made new node n m all l (sym (entry_reads depth cell B level node n m low high b k e)) v inv

@@ -1,9 +1,7 @@
 -- What directives and substitution definitions take of looks: the blocks that they open, and how many lines their parts have.
-use Rattle.std.proofs.Common.{◌≡◌, ℕ, ◌+◌, ◌-◌, ◌≤◌, Bool, true, false, not, ◌&&◌, cond, List, [], ◌∷◌, length, take, drop, Option, None, Some, option_map, Result, Ok, Err, IfOk, arith, refl, sym, ap, ◌∙◌, subst}
-use Rattle.std.specs.List.{prefix_len, take_while}
-use Rattle.std.proofs.lemmas.List.{length-map}
+use Rattle.std.proofs.Common.{◌≡◌, ℕ, ◌+◌, ◌-◌, ◌≤◌, Bool, true, false, not, cond, List, [], ◌∷◌, length, take, drop, Option, None, Some, option_map, Result, Ok, Err, IfOk, arith, refl, sym, ap, ◌∙◌, subst}
 use Rattle.std.proofs.lemmas.List.Sums.{prefix_len-le-length}
-use Rattle.rst_text.specs.Block.{Line, Block, is_blank}
+use Rattle.rst_text.specs.Block.{Block}
 use Rattle.rst_text.specs.Names.{normalized_white}
 use Rattle.rst_inline_scan.specs.Characters.{is_among}
 use Rattle.rst_markup_blocks.specs.declared.forms.Invocation.{Invocation}
@@ -14,7 +12,7 @@ use Rattle.rst_markup_directives.specs.Characters.{Text}
 use Rattle.rst_markup_directives.specs.Directive.{Read, Outcome, found, wrong, run_in, is_code_name, options_of, outcome_of, read_parts, read_by, read_block, read_at, outcome_at, of_block, judged, named_at, lines_at, is_late, directive_at}
 use Rattle.rst_markup_directives.specs.Judgement.{content_fault}
 use Rattle.rst_markup_directives.specs.Layout.{begins_field, before_field, layout_at, layout_of}
-use Rattle.rst_markup_directives.specs.Lines.{first_run, behind_blank}
+use Rattle.rst_markup_directives.specs.Lines.{behind_blank}
 use Rattle.rst_markup_directives.specs.Options.{Choice}
 use Rattle.rst_markup_directives.specs.Wrong.{Wrong, Fault, many_arguments, and_then, unless, fault_in}
 use Rattle.rst_markup_directives.specs.declared.argument.Argument.TheVariants.{Absent, Title, Uri, Language}
@@ -41,7 +39,7 @@ use Rattle.rst_block.specs.declared.step.Step.{Step}
 use Rattle.rst_block.specs.declared.step.Step.TheVariants.{Open}
 use Rattle.rst_block.proofs.ContentFacts.{run_in-le}
 use Rattle.rst_block.proofs.PaidSteps.{opened_after}
-use Rattle.rst_block.proofs.PartFacts.{take_le, part_le}
+use Rattle.rst_block.proofs.PartFacts.{part_le}
 
 -- ---- what a call opens
 

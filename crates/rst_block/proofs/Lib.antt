@@ -41,7 +41,6 @@ pub mod QuoteSteps
 pub mod QuotesPaid
 pub mod RestLemmas
 pub mod RoomLemmas
-pub mod ScanLemmas
 pub mod Spelling
 pub mod Splitting
 pub mod Stack

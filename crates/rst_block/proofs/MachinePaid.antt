@@ -1,14 +1,14 @@
 -- The looks that the machine takes: at the cells of tables, in the blocks that wait, and in whole texts.
-use Rattle.std.proofs.Common.{◌≡◌, ◌⊎◌, inl, inr, ℕ, suc, ◌+◌, ◌-◌, ◌*◌, ◌<◌, ◌≤◌, true, false, List, [], ◌∷◌, ◌++◌, length, get_or, drop, drop-cons, map, Option, Some, None, append-nil, arith, refl, ap, sym, ◌∙◌}
+use Rattle.std.proofs.Common.{◌≡◌, ◌⊎◌, inl, inr, ℕ, suc, ◌+◌, ◌-◌, ◌*◌, ◌<◌, ◌≤◌, true, false, List, [], ◌∷◌, ◌++◌, length, map, Option, Some, None, append-nil, arith, refl, ap, sym, subst, ◌∙◌}
 use Rattle.std.specs.Prelude.{Vec, IsTrue}
-use Rattle.std.proofs.lemmas.List.{drop_all, nil_from_length}
+use Rattle.std.proofs.lemmas.List.{nil_from_length}
 use Rattle.rst_settings.specs.Profile.{profile_of}
 use Rattle.rst_settings.specs.declared.Settings.{Settings}
 use Rattle.rst_text.specs.Block.{Block}
 use Rattle.rst_text.specs.Lines.{are_lines}
 use Rattle.rst_text.specs.Shown.{placement_block}
 use Rattle.rst_markup_blocks.specs.declared.part.Part.{Part}
-use Rattle.rst_markup_tables.specs.Results.{cells_of as kept_rows}
+use Rattle.rst_markup_tables.specs.Results.{cells_of}
 use Rattle.rst_markup_tables.specs.declared.results.Cell.{Cell}
 use Rattle.rst_markup_tables.specs.declared.results.TableResult.{TableResult}
 use Rattle.rst_markup_tables.specs.declared.results.TableResult.TheVariants.{Table}
@@ -37,12 +37,20 @@ use Rattle.rst_block.proofs.WaitingLooks.{cell_text, rows_cells, table_read}
 abbrev pub AreLeft : (all left before now : ℕ) → Type 0
 AreLeft all left before now = Takes (128 * all) all before (128 * left) left now
 
+-- none is read
+pub none_read : (all left now : ℕ) → left ≡ all → AreLeft all left now now
+none_read all left now e = record { no_more = omega (arith, e); no_less = omega (arith, e) }
+
 -- some more are read
 pub some_read : (all left lines rest before now after : ℕ) → AreLeft all left before now → left ≡ lines + rest → TakesFor lines now after → AreLeft all rest before after
 some_read all left lines rest before now after h e k = record {
   no_more = omega (arith, h.no_more, k.no_more, e);
   no_less = omega (arith, h.no_less, k.no_less, e);
 }
+
+-- all are read
+all_read : (all left before now : ℕ) → AreLeft all left before now → left ≡ 0 → TakesFor all before now
+all_read all left before now h e = record { no_more = omega (arith, h.no_more, e); no_less = omega (arith, h.no_less, e) }
 
 -- ---- the cells of tables
 
@@ -52,68 +60,69 @@ cell_lines cells = map (λ (c : Cell). c.lines) cells
 
 -- the lines of the cells of rows, as they are kept
 abbrev pub row_lines : {Z : Type 0} → List (Vec Cell Z) → List Block
-row_lines rows = cell_blocks (Table [] 0 (kept_rows rows) 0)
+row_lines rows = cell_blocks (Table [] 0 (cells_of rows) 0)
 
 -- the next cell of a row
-pub next_cell : (depth : ℕ) (cells : List Cell) (i : ℕ) (cell : Cell) (C : Block) → 1 ≤ depth → i < length cells → cell ≡ get_or cells i cell → C ≡ cell.lines
-    → totals (depth - 1) (cell_lines (drop i cells)) ≡ total_at depth C + totals (depth - 1) (cell_lines (drop (i + 1) cells))
+pub next_cell : (depth : ℕ) (left rest : List Cell) (cell : Cell) (C : Block) → 1 ≤ depth → left ≡ cell ∷ rest → C ≡ cell.lines
+    → totals (depth - 1) (cell_lines left) ≡ total_at depth C + totals (depth - 1) (cell_lines rest)
 unfolding sum_of
-next_cell depth cells i cell C low h c e =
-    let j : i + 1 ≡ suc i = omega arith in
+next_cell depth left rest cell C low l e =
     let n : depth ≡ suc (depth - 1) = omega (arith, low) in
-    let d : drop i cells ≡ cell ∷ drop (i + 1) cells = drop-cons cells i cell h ∙ ap (λ (u : Cell). u ∷ drop (suc i) cells) (sym c) ∙ ap (λ j. cell ∷ drop j cells) (sym j) in
     let one : total_at depth C ≡ total true (deepest - (depth - 1)) false cell.lines = ap (λ k. total_at k C) n ∙ cell_text (depth - 1) C ∙ ap (total true (deepest - (depth - 1)) false) e in
-    omega (arith, ap (λ (cs : List Cell). totals (depth - 1) (cell_lines cs)) d, one)
+    omega (arith, ap (λ (cs : List Cell). totals (depth - 1) (cell_lines cs)) l, one)
 
 -- the lines of a row are those of its cells
 pub one_row : (depth : ℕ) (cells : List Cell) → totals depth (cell_blocks (Table [] 0 (cells ∷ []) 0)) ≡ totals depth (cell_lines cells)
 one_row depth cells = ap (λ (cs : List Cell). totals depth (cell_lines cs)) (append-nil cells)
 
--- a row is read once all its cells are
-pub row_paid : (depth : ℕ) (cells : List Cell) (i before now : ℕ) → length cells ≤ i → AreLeft (totals depth (cell_lines cells)) (totals depth (cell_lines (drop i cells))) before now
-    → TakesFor (totals depth (cell_blocks (Table [] 0 (cells ∷ []) 0))) before now
+-- behind the last cell no line is left
+no_cell : (depth : ℕ) (left : List Cell) → left ≡ [] → totals depth (cell_lines left) ≡ 0
 unfolding sum_of
-row_paid depth cells i before now h k =
-    let none : totals depth (cell_lines (drop i cells)) ≡ 0 = ap (λ (cs : List Cell). totals depth (cell_lines cs)) (drop_all i cells h) in
-    let all = one_row depth cells in
-    record { no_more = omega (arith, k.no_more, none, all); no_less = omega (arith, k.no_less, none, all) }
+no_cell depth left l = ap (λ (cs : List Cell). totals depth (cell_lines cs)) l
+
+-- a row is read once all its cells are
+pub row_paid : (depth : ℕ) (cells left : List Cell) (before now : ℕ) → left ≡ [] → AreLeft (totals depth (cell_lines cells)) (totals depth (cell_lines left)) before now
+    → TakesFor (totals depth (cell_blocks (Table [] 0 (cells ∷ []) 0))) before now
+row_paid depth cells left before now l h = subst (λ n. TakesFor n before now) (sym (one_row depth cells)) (all_read _ _ before now h (no_cell depth left l))
 
 -- the next row of a table
-pub next_row : {Z : Type 0} (depth : ℕ) (rows : List (Vec Cell Z)) (i : ℕ) (row : Vec Cell Z) (cells : List Cell) → i < length rows → row ≡ get_or rows i row → cells ≡ row.items
-    → totals depth (row_lines (drop i rows)) ≡ totals depth (cell_blocks (Table [] 0 (cells ∷ []) 0)) + totals depth (row_lines (drop (i + 1) rows))
-next_row {Z} depth rows i row cells h r e =
-    let j : i + 1 ≡ suc i = omega arith in
-    let d : drop i rows ≡ row ∷ drop (i + 1) rows = drop-cons rows i row h ∙ ap (λ (u : Vec Cell Z). u ∷ drop (suc i) rows) (sym r) ∙ ap (λ j. row ∷ drop j rows) (sym j) in
-    ap (λ (some : List (Vec Cell Z)). totals depth (row_lines some)) d
-    ∙ rows_cells depth 0 0 0 [] row.items (kept_rows (drop (i + 1) rows))
-    ∙ ap (λ (some : List Cell). totals depth (cell_blocks (Table [] 0 (some ∷ []) 0)) + totals depth (row_lines (drop (i + 1) rows))) (sym e)
+pub next_row : {Z : Type 0} (depth : ℕ) (left rest : List (Vec Cell Z)) (row : Vec Cell Z) → left ≡ row ∷ rest
+    → totals depth (row_lines left) ≡ totals depth (cell_blocks (Table [] 0 (row.items ∷ []) 0)) + totals depth (row_lines rest)
+next_row {Z} depth left rest row l = ap (λ (some : List (Vec Cell Z)). totals depth (row_lines some)) l ∙ rows_cells depth 0 0 0 [] row.items (cells_of rest)
+
+-- behind the last row no line is left
+no_row : {Z : Type 0} (depth : ℕ) (left : List (Vec Cell Z)) → left ≡ [] → totals depth (row_lines left) ≡ 0
+unfolding sum_of
+no_row {Z} depth left l = ap (λ (some : List (Vec Cell Z)). totals depth (row_lines some)) l
+
+-- all rows are read once none is left
+pub rows_paid : {Z : Type 0} (depth : ℕ) (rows : List (List Cell)) (left : List (Vec Cell Z)) (before now : ℕ) → left ≡ [] → AreLeft (totals depth (cell_blocks (Table [] 0 rows 0))) (totals depth (row_lines left)) before now
+    → TakesFor (totals depth (cell_blocks (Table [] 0 rows 0))) before now
+rows_paid depth rows left before now l h = all_read _ _ before now h (no_row depth left l)
 
 -- the lines of a table are those of its rows
-table_rows : {Z : Type 0} (old : OpenBlock) (depth : ℕ) (cols : List ℕ) (head end : ℕ) (items : List (Vec Cell Z)) (rows : List (List Cell)) → depth ≡ suc old.depth → kept_rows items ≡ rows
-    → totals (depth - 1) (row_lines items) ≡ totals old.depth (cell_blocks (Table cols head rows end))
-table_rows old depth cols head end items rows d r =
+table_rows : (old : OpenBlock) (depth : ℕ) (cols : List ℕ) (head end : ℕ) (rows : List (List Cell)) → depth ≡ suc old.depth
+    → totals (depth - 1) (cell_blocks (Table [] 0 rows 0)) ≡ totals old.depth (cell_blocks (Table cols head rows end))
+table_rows old depth cols head end rows d =
     let c : depth - 1 ≡ old.depth = omega (arith, d) in
-    ap (λ (some : List (List Cell)). totals (depth - 1) (cell_blocks (Table [] 0 some 0))) r ∙ ap (λ n. totals n (cell_blocks (Table cols head rows end))) c
+    ap (λ n. totals n (cell_blocks (Table cols head rows end))) c
 
--- the looks at the rows that are left are among those that the table may take
-pub table_left : {Z : Type 0} (old : OpenBlock) (B : Block) (depth : ℕ) (found : TableResult) (cols : List ℕ) (head end : ℕ) (items : List (Vec Cell Z)) (rows : List (List Cell)) (i before now : ℕ)
-    → found ≡ Table cols head rows end → depth ≡ suc old.depth → kept_rows items ≡ rows → AreLeft (totals (depth - 1) (row_lines items)) (totals (depth - 1) (row_lines (drop i items))) before now
-    → now + 128 * totals (depth - 1) (row_lines (drop i items)) ≤ before + most_left old B (Cells found)
+-- the looks at its rows are among those that the table may take
+pub table_left : (old : OpenBlock) (B : Block) (depth : ℕ) (found : TableResult) (cols : List ℕ) (head end : ℕ) (rows : List (List Cell)) → found ≡ Table cols head rows end → depth ≡ suc old.depth
+    → 128 * totals (depth - 1) (cell_blocks (Table [] 0 rows 0)) ≤ most_left old B (Cells found)
 unfolding sum_of
-table_left {Z} old B depth found cols head end items rows i before now f d r k = rw f (omega (arith, k.no_more, table_rows old depth cols head end items rows d r))
+table_left old B depth found cols head end rows f d = rw f (omega (arith, table_rows old depth cols head end rows d))
 
--- a table is read once all its rows are, and the line after it was looked at
-pub table_paid : {Z : Type 0} (old moved mid new : OpenBlock) (B : Block) (depth : ℕ) (found : TableResult) (cols : List ℕ) (head end : ℕ) (items : List (Vec Cell Z)) (rows : List (List Cell)) (i : ℕ) (more last : List Node) (before now after : ℕ)
-    → found ≡ Table cols head rows end → depth ≡ suc old.depth → length items ≤ i → kept_rows items ≡ rows
-    → AreLeft (totals (depth - 1) (row_lines items)) (totals (depth - 1) (row_lines (drop i items))) before now
+-- a table is read once its rows are, and the line after it was looked at
+pub table_paid : (old moved mid new : OpenBlock) (B : Block) (depth : ℕ) (found : TableResult) (cols : List ℕ) (head end : ℕ) (rows : List (List Cell)) (more last : List Node) (before now after : ℕ)
+    → found ≡ Table cols head rows end → depth ≡ suc old.depth → TakesFor (totals (depth - 1) (cell_blocks (Table [] 0 rows 0))) before now
     → IsMoved old moved → moved.at ≡ end → HasMore moved mid more → HasMore mid new last → now ≤ after → after ≤ now + 1
     → Takes (most_left old B (Cells found)) (least_left old B (Cells found)) before (most_left new B Next) (least_left new B Next) after
 unfolding sum_of
-table_paid {Z} old moved mid new B depth found cols head end items rows i more last before now after f d h r k moves at some rest low few =
-    let none : totals (depth - 1) (row_lines (drop i items)) ≡ 0 = ap (λ (some : List (Vec Cell Z)). totals (depth - 1) (row_lines some)) (drop_all i items h) in
-    let all = table_rows old depth cols head end items rows d r in
+table_paid old moved mid new B depth found cols head end rows more last before now after f d k moves at some rest low few =
+    let all = table_rows old depth cols head end rows d in
     rw f (table_read old new B (Table cols head rows end) before now after (rest.depth ∙ some.depth ∙ moves.depth) (rest.at ∙ some.at ∙ at) (rest.run ∙ some.run ∙ moves.run)
-    (omega (arith, k.no_more, none, all)) (omega (arith, k.no_less, none, all)) few low)
+    (omega (arith, k.no_more, all)) (omega (arith, k.no_less, all)) few low)
 
 -- ---- blocks that wait
 

@@ -153,7 +153,7 @@ indented_fronted B Y i h e some =
     ap (λ (X : Block). is_blank (drop (least_of Y) (front_text X))) e ∙ without_least 0 Y t (omega (arith, less)) some)
 
 -- behind the blank lines comes one that isn't
-past_blanks : (Y : Block) → lines_while Blank Y < length Y → is_blank (front_text (drop (lines_while Blank Y) Y)) ≡ false
+pub past_blanks : (Y : Block) → lines_while Blank Y < length Y → is_blank (front_text (drop (lines_while Blank Y) Y)) ≡ false
 unfolding lines_while
 past_blanks [] h = absurd (omega (arith, h))
 past_blanks (l ∷ ls) h = by (is_blank l.text) refl h (past_blanks ls)

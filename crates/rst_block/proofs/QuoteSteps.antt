@@ -1,10 +1,11 @@
 -- A block quote as the machine reads it: a quote with its attribution, and then the lines that are left.
-use Rattle.std.proofs.Common.{◌≡◌, ℕ, zero, suc, ◌+◌, ◌-◌, ◌<◌, ◌≤◌, Bool, cond, List, [], ◌∷◌, ◌++◌, length, length-drop, take, drop, map, Option, Some, None, Ok, Box, box_value, Global, arith, refl, sym, ◌∙◌, ap, subst, append-nil, append_assoc, inl, inr, lt-ltb, le-ltb, ne_eqb, if◌then◌else◌}
+use Rattle.std.proofs.Common.{◌≡◌, ℕ, zero, suc, ◌+◌, ◌-◌, ◌<◌, ◌≤◌, Bool, cond, List, [], ◌∷◌, ◌++◌, length, length-drop, take, drop, map, Option, Some, None, option_map, Ok, Box, box_value, Global, arith, refl, sym, ◌∙◌, ap, subst, append-nil, append_assoc, inl, inr, lt-ltb, le-ltb, ne_eqb, if◌then◌else◌}
 use Rattle.std.proofs.lemmas.Bool.{cases_lt}
 use Rattle.std.proofs.lemmas.List.{drop_all, drop-drop, map-append}
 use Rattle.rst_text.specs.Block.{Block, cut, shorten_all, first_number}
 use Rattle.rst_text.specs.Extent.{extent}
 use Rattle.rst_text.proofs.CutLaws.{take-cut, drop-cut, length-cut}
+use Rattle.rst_tree.specs.declared.attrs.Attr.{Attr}
 use Rattle.rst_tree.specs.declared.node.Node.{Node}
 use Rattle.rst_tree.specs.declared.tag.Tag.TheVariants.{BlockQuote, Attribution as AttributionTag}
 use Rattle.rst_markup_blocks.specs.Attributions.{attribution_part}
@@ -239,3 +240,8 @@ quote_reads {old} {mid} {B} {n} {m} inside b e =
     ∙ ap (then_read (λ nodes. before (done_of mid ++ map plain (nodes ++ E)) rows)) (quotes_enough c (length Q) N Q m (omega arith) (omega (arith, length_Q)))
     ∙ ap (λ o. then_read (λ nodes. before (done_of mid ++ map plain (nodes ++ E)) (rest c B p.to o)) (quotes c N Q m)) (sym e.closed.run)
     ∙ ap (λ d. then_read (λ nodes. before (done_of mid ++ map plain (nodes ++ E)) (rest (within_at d) B p.to (open_of mid.run))) (quotes (within_at d) N Q m)) (sym e.closed.depth)
+
+-- a quote with its attribution, as it is put together, and the messages on that
+pub quote_made : (line : ℕ) (nodes all : List Node) (attribution : Option (Box Texted Global)) (boxed : Box Texted Global) (made : Texted) (attrs : List Attr) (element quote : Node) → attribution ≡ Some boxed → made ≡ box_value boxed
+    → attrs ≡ [] → element ≡ made.element → all ≡ nodes ++ element ∷ [] → quote ≡ element_of BlockQuote attrs all line → quote ∷ made.notes.items ≡ quote_by line (option_map box_value attribution) nodes
+quote_made line nodes all attribution boxed made attrs element quote is value bare own whole held = rw (is, held, whole, own, bare, value) refl

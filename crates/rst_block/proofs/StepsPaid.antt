@@ -4,13 +4,11 @@ use Rattle.std.specs.Prelude.{◌==◌, ◌⊎◌}
 use Rattle.std.proofs.lemmas.Result.{IfOk-weaker}
 use Rattle.rst_text.specs.Block.{Block}
 use Rattle.rst_markup_blocks.specs.Begun.{IsBegun}
-use Rattle.rst_markup_blocks.specs.Ends.{row_size, row_reach}
-use Rattle.rst_markup_blocks.specs.Kinds.{kind_at}
+use Rattle.rst_markup_blocks.specs.Ends.{row_size}
 use Rattle.rst_markup_blocks.specs.Partition.{construct_size}
 use Rattle.rst_markup_blocks.specs.TableRows.{grid_size, grid_scan, grid_reach, simple_size, simple_scan, simple_reach}
 use Rattle.rst_markup_blocks.specs.declared.begun.Begun.{Begun}
 use Rattle.rst_markup_blocks.specs.declared.begun.Begun.TheVariants as begun
-use Rattle.rst_markup_blocks.specs.declared.kind.Kind.{Kind}
 use Rattle.rst_markup_blocks.specs.declared.kind.Kind.TheVariants.{Grid, Simple}
 use Rattle.rst_markup_blocks.specs.declared.kind.Kind.TheVariants as kinds
 use Rattle.rst_markup_blocks.specs.declared.part.Part.{Part}

@@ -24,8 +24,8 @@ use Rattle.rst_markup_blocks.specs.declared.kind.Kind.{Kind}
 use Rattle.rst_markup_blocks.specs.declared.kind.Kind.TheVariants.{Blank, Quote, Bullet, Enumerator, Field, OptionItem, Doctest, Line as BarLine, Grid, Simple, Explicit, Anonymous, Adornment, Text}
 use Rattle.rst_markup_blocks.proofs.RowLemmas.{row_of_kind}
 use Rattle.rst_markup_blocks.proofs.PartitionLemmas.{end_inside}
+use Rattle.rst_markup_tables.proofs.ScanLemmas.{no_grid, no_simple}
 use Rattle.rst_block.specs.Reaches.{through, behind, is_behind_grid, is_behind_simple, unpaid}
-use Rattle.rst_block.proofs.ScanLemmas.{no_grid, no_simple}
 
 through_le : (p : List ℕ → Bool) (X : Block) → through p X ≤ length X
 unfolding through

@@ -5,11 +5,8 @@ use Rattle.std.proofs.lemmas.List.{take-append-drop}
 use Rattle.rst_text.specs.Block.{Block}
 use Rattle.rst_text.specs.Shown.{block_of, placement_block}
 use Rattle.rst_text.specs.declared.view.View.{View}
-use Rattle.rst_tree.specs.declared.attrs.Attr.{Attr}
 use Rattle.rst_tree.specs.declared.node.Node.{Node}
-use Rattle.rst_tree.specs.declared.tag.Tag.{Tag}
 use Rattle.rst_markup_blocks.specs.declared.part.Part.{Part}
-use Rattle.rst_block_nodes.specs.Elements.{element_of}
 use Rattle.rst_block_sections.specs.declared.heading.Heading.{Heading}
 use Rattle.rst_block_sections.specs.Sections.{items_from, title_of}
 use Rattle.rst_block.specs.Frames.{ended_as}
@@ -158,12 +155,3 @@ pub item_given : (old new last : OpenBlock) (B : Block) (item wanted : Node) (n 
     → reads last B n ≡ with_item old B wanted (open_of old.run) n
 item_given old new last B item wanted n h e w is =
     ap (λ l. reads l B n) is ∙ at_number n (item_is_read old new B item h w) ∙ ap (λ node. with_item old B node (open_of old.run) n) e
-
--- the item with a body behind its heads, as it is put together
-pub item_made : (item body : Tag) (line : ℕ) (a b : List Attr) (heads all notes nodes inner : List Node) (whole held : Node) → held ≡ element_of body a nodes line → a ≡ []
-    → nodes ≡ notes ++ inner → all ≡ heads ++ held ∷ [] → whole ≡ element_of item b all line → b ≡ []
-    → whole ≡ element_of item [] (heads ++ element_of body [] (notes ++ inner) line ∷ []) line
-item_made item body line a b heads all notes nodes inner whole held h x m g w y =
-    w
-    ∙ ap (λ attrs. element_of item attrs all line) y
-    ∙ ap (λ ns. element_of item [] ns line) (g ∙ ap (λ node. heads ++ node ∷ []) (h ∙ ap (λ attrs. element_of body attrs nodes line) x ∙ ap (λ ns. element_of body [] ns line) m))

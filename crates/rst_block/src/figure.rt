@@ -7,9 +7,10 @@ ghost use Rattle.rst_block.specs.Figures as spec;
 ghost use Rattle.rst_block.specs.MarkupSteps.{beginning_in};
 
 use super::texts::{alone, parted, push};
-use rst_block_nodes::{element_of, message};
-use rst_block_sections::{append, filled};
+use rst_block_nodes::message;
+use rst_block_sections::{append, completed};
 use rst_tree::{Attrs, Children, Key, Level, Node, Tag, TreeFault};
+use rst_tree_index::Marked;
 use std::alloc::Global;
 use std::vec::IntoIter;
 
@@ -38,8 +39,8 @@ enum Front {
 pub(crate) fn finished_figure(
     alloc: Global,
     open: OpenFigure,
-    nodes: Vec<Node>,
-) -> Result<Vec<Node>, TreeFault>
+    nodes: Vec<Marked>,
+) -> Result<Vec<Marked>, TreeFault>
     ensures { Gives (λ made. made.items ≡ spec.figure_nodes open.figure (spec.caption_error open.line (string_bytes open.source)) nodes.items) result }
 {
     let OpenFigure {
@@ -49,18 +50,21 @@ pub(crate) fn finished_figure(
     } = open;
     let mut rest = nodes.into_iter();
     let Some(first) = rest.next() else {
-        return Ok(alone(alloc, figure)?);
+        return Ok(alone(alloc, Marked::of(alloc, figure)?)?);
     };
-    match front_of(first) {
+    match front_of(first.into_root()) {
+        // The caption is marked as a new node. Its text was marked in its paragraph, but no caption stands in another: so nothing
+        // is marked more than twice.
         Front::Caption(caption, count) => {
-            captioned(alloc, figure, alone(alloc, caption)?, rest, count)
+            let caption = alone(alloc, Marked::of(alloc, caption)?)?;
+            captioned(alloc, figure, caption, rest, count)
         }
         Front::Missing => captioned(alloc, figure, Vec::new(alloc), rest, 0),
         Front::Wrong => {
             let text = "Figure caption must be a paragraph or empty comment.";
             let error = message(alloc, Level::Error, line, text, Some(source.as_str()))?;
-            let mut nodes = alone(alloc, figure)?;
-            push(&mut nodes, error)?;
+            let mut nodes = alone(alloc, Marked::of(alloc, figure)?)?;
+            push(&mut nodes, Marked::of(alloc, error)?)?;
             Ok(nodes)
         }
     }
@@ -71,15 +75,15 @@ pub(crate) fn finished_figure(
 fn captioned(
     alloc: Global,
     figure: Node,
-    mut held: Vec<Node>,
-    rest: IntoIter<Node, Global>,
+    mut held: Vec<Marked>,
+    rest: IntoIter<Marked, Global>,
     count: u64,
-) -> Result<Vec<Node>, TreeFault>
+) -> Result<Vec<Marked>, TreeFault>
     ensures { Gives (λ made. made.items ≡ filled figure (held.items ++ spec.legend_nodes (drop count (into_iter_items rest))) ∷ take count (into_iter_items rest)) result }
 {
     let (notes, legend) = parted(alloc, rest, count)?;
     append(&mut held, legend_nodes(alloc, legend)?)?;
-    let mut nodes = alone(alloc, filled(figure, held)?)?;
+    let mut nodes = alone(alloc, completed(alloc, figure, held)?)?;
     append(&mut nodes, notes)?;
     Ok(nodes)
 }
@@ -132,12 +136,12 @@ fn text_messages(attrs: &Attrs) -> u64
 }
 
 /// The legend of some nodes, if there are some.
-fn legend_nodes(alloc: Global, nodes: Vec<Node>) -> Result<Vec<Node>, TreeFault>
+fn legend_nodes(alloc: Global, nodes: Vec<Marked>) -> Result<Vec<Marked>, TreeFault>
     ensures { Gives (λ made. made.items ≡ spec.legend_nodes nodes.items) result }
 {
     if nodes.is_empty() {
         return Ok(nodes);
     }
-    let legend = element_of(Tag::Legend, Attrs::new(alloc), nodes, 0);
+    let legend = Marked::element(alloc, Tag::Legend, Attrs::new(alloc), nodes, 0)?;
     Ok(alone(alloc, legend)?)
 }

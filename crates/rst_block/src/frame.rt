@@ -18,7 +18,7 @@ use super::texts::Pass;
 use rst_block_sections::append;
 use rst_markup_blocks::Part;
 use rst_text::{Placement, View};
-use rst_tree::Node;
+use rst_tree_index::Marked;
 use std::alloc::Global;
 use std::default::MadeWith;
 use std::mem;
@@ -33,7 +33,7 @@ pub(crate) struct Frame {
     /// The part of its lines that is read behind the one that is being read.
     pub second: Option<Part>,
     /// The nodes of the part that was read before.
-    pub nodes: Vec<Node>,
+    pub nodes: Vec<Marked>,
 }
 
 /// What follows the end of a block inside another.

@@ -8,7 +8,7 @@ ghost use Rattle.rst_block.specs.Steps as spec;
 ghost use Rattle.rst_block.specs.declared.step.Step.TheVariants.{Next, Open, Cells};
 ghost use Rattle.rst_block.specs.OpenBlocks.{IsKept, IsPlaced};
 ghost use Rattle.rst_block.specs.Nodes.{block_items};
-ghost use Rattle.rst_block.specs.Numbered.{just};
+ghost use Rattle.rst_block.specs.Numbered.{each, just};
 ghost use Rattle.rst_block.specs.Tables as tables;
 ghost use Rattle.rst_block.specs.Ledger.{Takes, TakesFor, least_left, most_left, total_at, totals};
 ghost use Rattle.rst_block.specs.Inside.{cell_blocks};
@@ -24,11 +24,11 @@ use super::step::{Step, step_at};
 use super::table::{after_table, entry_of, table_of};
 use super::texts::Pass;
 use arrayvec::ArrayVec;
-use rst_block_nodes::element_of;
 use rst_markup_blocks::{LineTest, Part, lines_end};
-use rst_markup_tables::{Cell, TableResult};
+use rst_markup_tables::{Cell, Rows, TableResult};
 use rst_text::{Lines, View};
-use rst_tree::{Attrs, Node, Tag};
+use rst_tree::{Attrs, Tag};
+use rst_tree_index::Marked;
 use std::alloc::Global;
 
 /// The blocks that wait for one inside them, the outermost first.
@@ -242,39 +242,67 @@ fn cells(
         unreachable!()
     };
     let line = view.number(level.at);
-    let mut made = Vec::new(alloc);
-    for cells in rows.as_slice() {
-        made.push(row_of(alloc, cells, depth, frames, pass)?)?;
-    }
+    let made = rows_of(alloc, rows, depth, frames, pass)?;
     let table = table_of(alloc, line, cols.as_slice(), head, made)?;
     level.go_to(end);
-    level.push(table)?;
+    level.push_marked(table)?;
     after_table(alloc, view, level, pass)?;
     Ok(Step::Next)
 }
 
-/// A row of cells that stand in as many blocks as `depth` says.
+/// The rows of a table, whose cells stand in as many blocks as `depth` says.
 #[cycle(machine)]
-fn row_of(
+fn rows_of(
     alloc: Global,
-    cells: &[Cell],
+    rows: Rows,
     depth: usize,
     frames: &mut Frames,
     pass: &mut Pass,
-) -> Result<Node, BlockFault>
+) -> Result<Vec<Marked>, BlockFault>
     requires depth { depth ≤ 251 }
     requires room { length frames.old.items ≤ depth }
-    requires few { pass.old.looks + 128 * totals (depth - 1) (cell_blocks (Table [] 0 (cells.now ∷ []) 0)) < 2 ^ 119 }
+    requires few { pass.old.looks + 128 * totals (depth - 1) (cell_blocks (Table [] 0 rows 0)) < 2 ^ 119 }
     requires inner { 1 ≤ depth }
     ensures frames { IfOk result (λ _. frames.new.items ≡ frames.old.items) }
-    ensures row { Keeps result (λ node. Ok (node, pass.new.numbers)) (tables.row_of (within_at (depth - 1)) cells.now pass.old.numbers) }
-    ensures paid { IfOk result (λ _. TakesFor (totals (depth - 1) (cell_blocks (Table [] 0 (cells.now ∷ []) 0))) pass.old.looks pass.new.looks) }
+    ensures rows { Keeps result (λ made. Ok (made.items, pass.new.numbers)) (each (tables.row_of (within_at (depth - 1))) rows pass.old.numbers) }
+    ensures paid { IfOk result (λ _. TakesFor (totals (depth - 1) (cell_blocks (Table [] 0 rows 0))) pass.old.looks pass.new.looks) }
+{
+    let mut made = Vec::new(alloc);
+    for cells in rows.into_rows() {
+        made.push(row_of(alloc, cells, depth, frames, pass)?)?;
+    }
+    Ok(made)
+}
+
+/// A row of cells that stand in as many blocks as `depth` says. The lines of a cell are kept once, and only until they are read, so a
+/// line inside several tables is kept once for each of them.
+#[cycle(machine)]
+fn row_of(
+    alloc: Global,
+    cells: Vec<Cell>,
+    depth: usize,
+    frames: &mut Frames,
+    pass: &mut Pass,
+) -> Result<Marked, BlockFault>
+    requires depth { depth ≤ 251 }
+    requires room { length frames.old.items ≤ depth }
+    requires few { pass.old.looks + 128 * totals (depth - 1) (cell_blocks (Table [] 0 (cells.items ∷ []) 0)) < 2 ^ 119 }
+    requires inner { 1 ≤ depth }
+    ensures frames { IfOk result (λ _. frames.new.items ≡ frames.old.items) }
+    ensures row { Keeps result (λ node. Ok (node, pass.new.numbers)) (tables.row_of (within_at (depth - 1)) cells.items pass.old.numbers) }
+    ensures paid { IfOk result (λ _. TakesFor (totals (depth - 1) (cell_blocks (Table [] 0 (cells.items ∷ []) 0))) pass.old.looks pass.new.looks) }
 {
     let mut entries = Vec::new(alloc);
     for cell in cells {
-        let lines = Lines::numbered(alloc, cell.lines.as_slice())?;
+        let Cell {
+            morerows,
+            morecols,
+            lines,
+        } = cell;
+        let lines = lines.into_lines(alloc)?;
         let nodes = read(alloc, &lines, depth, frames, pass)?.nodes;
-        entries.push(entry_of(alloc, cell, nodes)?)?;
+        entries.push(entry_of(alloc, morerows, morecols, nodes)?)?;
     }
-    Ok(element_of(Tag::Row, Attrs::new(alloc), entries, 0))
+    let row = Marked::element(alloc, Tag::Row, Attrs::new(alloc), entries, 0)?;
+    Ok(row)
 }

@@ -15,6 +15,7 @@ use rst_markup_blocks::text_at;
 use rst_markup_lines::is_blank;
 use rst_text::View;
 use rst_tree::Node;
+use rst_tree_index::Marked;
 use std::alloc::Global;
 use std::mem;
 
@@ -26,7 +27,7 @@ pub(crate) struct OpenBlock {
     /// The place of the next line.
     pub at: usize,
     /// The nodes and messages so far, but for those of the open run.
-    pub nodes: Vec<Node>,
+    pub nodes: Vec<Marked>,
     /// The constructs before the next line that it may join.
     pub run: Run,
     /// The titles so far. Only the document has some.
@@ -68,16 +69,34 @@ impl OpenBlock {
         self.at = end.max(self.at + 1);
     }
 
-    /// Puts a node behind the last.
+    /// Puts a node that was just made behind the last. It is marked by a pass over it, the only one.
     pub fn push(&mut self, node: Node) -> Result<(), BlockFault>
+        ensures at { self.new.at ≡ self.old.at }
+        ensures more { spec.Gives (λ _. spec.HasMore self.old self.new (node ∷ [])) result }
+    {
+        let alloc = *self.nodes.allocator();
+        self.push_marked(Marked::of(alloc, node)?)
+    }
+
+    /// Puts a node behind the last.
+    pub fn push_marked(&mut self, node: Marked) -> Result<(), BlockFault>
         ensures at { self.new.at ≡ self.old.at }
         ensures more { spec.Gives (λ _. spec.HasMore self.old self.new (node ∷ [])) result }
     {
         Ok(push(&mut self.nodes, node)?)
     }
 
-    /// Puts more nodes behind the last.
+    /// Puts more nodes that were just made behind the last.
     pub fn append(&mut self, more: Vec<Node>) -> Result<(), BlockFault>
+        ensures at { self.new.at ≡ self.old.at }
+        ensures more { spec.Gives (λ _. spec.HasMore self.old self.new more.items) result }
+    {
+        let alloc = *self.nodes.allocator();
+        self.append_marked(Marked::each(alloc, more)?)
+    }
+
+    /// Puts more nodes behind the last.
+    pub fn append_marked(&mut self, more: Vec<Marked>) -> Result<(), BlockFault>
         ensures at { self.new.at ≡ self.old.at }
         ensures more { spec.Gives (λ _. spec.HasMore self.old self.new more.items) result }
     {
@@ -153,7 +172,7 @@ impl OpenBlock {
     }
 
     /// Puts an item into the open list; without one it is a node of its own.
-    pub fn push_item(&mut self, item: Node) -> Result<(), BlockFault>
+    pub fn push_item(&mut self, item: Marked) -> Result<(), BlockFault>
         ensures at { self.new.at ≡ self.old.at }
         ensures item { spec.Gives (λ _. spec.HasItem self.old self.new item) result }
     {

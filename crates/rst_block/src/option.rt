@@ -19,7 +19,7 @@ use super::part::hanging;
 use super::resume::Waits;
 use super::run::ListKind;
 use super::step::Step;
-use super::texts::{Pass, excerpt_behind, number_at};
+use super::texts::{Pass, excerpt_after, number_at};
 use rst_block_nodes::{element_of, option};
 use rst_markup_lines::{ListedOption, Marker, listed_options};
 use rst_text::{View, skip};
@@ -101,11 +101,11 @@ fn option_of(
     requires { chars rest.now ≡ drop passed (chars text.now) }
     ensures { Gives (λ node. node ≡ lists.option_in (chars text.now) line listed) result }
 {
-    let string = excerpt_behind(alloc, text, rest, passed, listed.string)?;
+    let string = excerpt_after(alloc, text, rest, passed, listed.string)?;
     let Some(argument) = listed.argument else {
         return option(alloc, string.as_str(), None, line);
     };
-    let written = excerpt_behind(alloc, text, rest, passed, argument.text)?;
+    let written = excerpt_after(alloc, text, rest, passed, argument.text)?;
     let argument = Some((argument.delimiter, written.as_str()));
     option(alloc, string.as_str(), argument, line)
 }

@@ -45,11 +45,8 @@ pub fn parse(alloc: Global, lines: &Lines) -> Result<Parsed, BlockFault>
     };
     let mut frames: Frames = ArrayVec::new_in(alloc);
     let level = read(alloc, lines, 0, &mut frames, &mut pass)?;
-    let root = document(alloc, level.nodes, level.headings)?;
-    // Mostly a number is that of a message and of one problematic.
-    let linked = pass.numbers.given().saturating_mul(2) as usize;
     Ok(Parsed {
-        document: Marked::with_room(alloc, root, linked)?,
+        document: document(alloc, level.nodes, level.headings)?,
         messages: pass.numbers.given(),
         looks: pass.looks.count(),
     })

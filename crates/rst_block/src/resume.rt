@@ -1,6 +1,8 @@
 //! What is done with the nodes of a block inside once it is read.
-ghost use Rattle.std.specs.Prelude.{◌≡◌, ◌+◌, ◌-◌, ◌*◌, ◌^◌, ◌<◌, ◌≤◌, [], length, drop, IfOk, IfSome, option_map, box_value, ℕ, Box, Option, None, Some};
+ghost use Rattle.std.specs.Prelude.{◌≡◌, ◌+◌, ◌-◌, ◌*◌, ◌^◌, ◌<◌, ◌≤◌, [], ◌∷◌, ◌++◌, length, drop, IfOk, IfSome, option_map, box_value, ℕ, Box, Option, None, Some};
 ghost use Rattle.rst_text.specs.Shown.{block_of};
+ghost use Rattle.rst_tree.specs.Faults as faults;
+ghost use Rattle.rst_block_nodes.specs.Elements.{element_of};
 ghost use Rattle.rst_markup_blocks.specs.Parts.{IsBlock, IsCall};
 ghost use Rattle.rst_block.specs.Steps as spec;
 ghost use Rattle.rst_block.specs.Meanings.{Keeps, after_quote, comes, quote_by, resumed};
@@ -17,11 +19,12 @@ use super::quote::quote_part;
 use super::step::Step;
 use super::substitution::{OpenReplacement, finished_replacement};
 use super::texts::{Pass, push};
-use rst_block_nodes::{Texted, element_of};
-use rst_block_sections::{append, filled};
+use rst_block_nodes::Texted;
+use rst_block_sections::{append, completed};
 use rst_markup_blocks::Part;
 use rst_text::View;
-use rst_tree::{Attrs, Node, Tag};
+use rst_tree::{Attrs, Node, Tag, TreeFault};
+use rst_tree_index::Marked;
 use std::alloc::Global;
 
 /// What a block waits for: the nodes of a block inside, and what becomes of them.
@@ -60,7 +63,7 @@ pub(crate) fn resume(
     view: &View<'_>,
     level: &mut OpenBlock,
     waits: Waits,
-    nodes: Vec<Node>,
+    nodes: Vec<Marked>,
     pass: &mut Pass,
 ) -> Result<Step, BlockFault>
     requires waits { spec.IsWaiting (block_of view.now) level.old.at waits }
@@ -74,19 +77,16 @@ pub(crate) fn resume(
 {
     match waits {
         Waits::ListItem { line } => {
-            level.push_item(element_of(Tag::ListItem, Attrs::new(alloc), nodes, line))?;
+            let item = Marked::element(alloc, Tag::ListItem, Attrs::new(alloc), nodes, line)?;
+            level.push_item(item)?;
         }
         Waits::ListedBody {
             line,
             item,
             body,
-            mut heads,
-            mut notes,
-        } => {
-            append(&mut notes, nodes)?;
-            push(&mut heads, element_of(body, Attrs::new(alloc), notes, line))?;
-            level.push_item(element_of(item, Attrs::new(alloc), heads, line))?;
-        }
+            heads,
+            notes,
+        } => level.push_item(listed_item(alloc, line, item, body, heads, notes, nodes)?)?,
         Waits::Quote {
             line,
             attribution,
@@ -96,8 +96,8 @@ pub(crate) fn resume(
             put_quote(alloc, level, line, nodes, attribution)?;
             return after_quote(alloc, view, level, rest, end, pass);
         }
-        Waits::Element(element) => level.push(filled(element, nodes)?)?,
-        Waits::Figure(figure) => level.append(finished_figure(
+        Waits::Element(element) => level.push_marked(completed(alloc, element, nodes)?)?,
+        Waits::Figure(figure) => level.append_marked(finished_figure(
             alloc,
             Box::into_inner(figure),
             nodes,
@@ -111,23 +111,46 @@ pub(crate) fn resume(
     Ok(Step::Next)
 }
 
+/// An item of a list: its heads, and its body, in which messages stand before the nodes of its block.
+fn listed_item(
+    alloc: Global,
+    line: usize,
+    item: Tag,
+    body: Tag,
+    heads: Vec<Node>,
+    notes: Vec<Node>,
+    nodes: Vec<Marked>,
+) -> Result<Marked, TreeFault>
+    ensures { faults.Gives (λ node. node ≡ element_of item [] (heads.items ++ element_of body [] (notes.items ++ nodes.items) line ∷ []) line) result }
+{
+    let mut content = Marked::each(alloc, notes)?;
+    append(&mut content, nodes)?;
+    let mut parts = Marked::each(alloc, heads)?;
+    push(
+        &mut parts,
+        Marked::element(alloc, body, Attrs::new(alloc), content, line)?,
+    )?;
+    Marked::element(alloc, item, Attrs::new(alloc), parts, line)
+}
+
 /// Puts a block quote behind the last node, with its attribution and the messages of that.
 fn put_quote(
     alloc: Global,
     level: &mut OpenBlock,
     line: usize,
-    mut nodes: Vec<Node>,
+    mut nodes: Vec<Marked>,
     attribution: Option<Box<Texted>>,
 ) -> Result<(), BlockFault>
     ensures at { level.new.at ≡ level.old.at }
     ensures more { Gives (λ _. HasMore level.old level.new (quote_by line (option_map box_value attribution) nodes.items)) result }
 {
+    let attrs = Attrs::new(alloc);
     match attribution {
-        None => level.push(element_of(Tag::BlockQuote, Attrs::new(alloc), nodes, line)),
+        None => level.push_marked(Marked::element(alloc, Tag::BlockQuote, attrs, nodes, line)?),
         Some(attribution) => {
             let Texted { element, notes } = Box::into_inner(attribution);
-            push(&mut nodes, element)?;
-            level.push(element_of(Tag::BlockQuote, Attrs::new(alloc), nodes, line))?;
+            push(&mut nodes, Marked::of(alloc, element)?)?;
+            level.push_marked(Marked::element(alloc, Tag::BlockQuote, attrs, nodes, line)?)?;
             level.append(notes)
         }
     }

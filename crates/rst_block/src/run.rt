@@ -13,11 +13,12 @@ ghost use Rattle.rst_block.specs.Rest.{end_of_run, joining_of_run, open_lines, r
 use super::fault::BlockFault;
 use super::texts::{Pass, push};
 use rst_block_nodes::{BarText, LineBlockFault, line_block};
-use rst_block_sections::{append, filled};
+use rst_block_sections::{append, completed};
 use rst_markup_lines::{
     Enumerator, Format, Ordinals, Sequence, first_reading, is_same_format, ordinal_in,
 };
 use rst_tree::{Node, TreeFault};
+use rst_tree_index::Marked;
 use std::alloc::Global;
 
 /// How many blocks a block may stand in.
@@ -52,7 +53,7 @@ pub(crate) struct OpenList {
     pub before: Vec<Node>,
     /// The list without its items.
     pub list: Node,
-    pub items: Vec<Node>,
+    pub items: Vec<Marked>,
     /// Messages that stand after the list.
     pub behind: Vec<Node>,
 }
@@ -179,7 +180,7 @@ impl Run {
     pub fn put(
         self,
         alloc: Global,
-        nodes: &mut Vec<Node>,
+        nodes: &mut Vec<Marked>,
         depth: usize,
         pass: &mut Pass,
     ) -> Result<(), BlockFault>
@@ -188,14 +189,14 @@ impl Run {
     {
         match self {
             Run::None | Run::Explicit { .. } => Ok(()),
-            Run::List(open) => Ok(put_list(nodes, Box::into_inner(open))?),
+            Run::List(open) => Ok(put_list(alloc, nodes, Box::into_inner(open))?),
             Run::Lines { lines, .. } => put_lines(alloc, nodes, lines, depth, pass),
         }
     }
 }
 
 /// Puts a list between its messages behind other nodes.
-fn put_list(nodes: &mut Vec<Node>, open: OpenList) -> Result<(), TreeFault>
+fn put_list(alloc: Global, nodes: &mut Vec<Marked>, open: OpenList) -> Result<(), TreeFault>
     ensures { Gives (λ _. nodes.new.items ≡ nodes.old.items ++ open.before.items ++ filled open.list open.items.items ∷ open.behind.items) result }
 {
     let OpenList {
@@ -205,15 +206,15 @@ fn put_list(nodes: &mut Vec<Node>, open: OpenList) -> Result<(), TreeFault>
         behind,
         ..
     } = open;
-    append(nodes, before)?;
-    push(nodes, filled(list, items)?)?;
-    append(nodes, behind)
+    append(nodes, Marked::each(alloc, before)?)?;
+    push(nodes, completed(alloc, list, items)?)?;
+    append(nodes, Marked::each(alloc, behind)?)
 }
 
 /// Puts a line block and the messages of its texts behind other nodes.
 fn put_lines(
     alloc: Global,
-    nodes: &mut Vec<Node>,
+    nodes: &mut Vec<Marked>,
     lines: Vec<BarText>,
     depth: usize,
     pass: &mut Pass,
@@ -223,8 +224,8 @@ fn put_lines(
 {
     match line_block(alloc, lines, depth, DEEPEST, &mut pass.numbers) {
         Ok(block) => {
-            push(nodes, block.element)?;
-            Ok(append(nodes, block.notes)?)
+            push(nodes, Marked::of(alloc, block.element)?)?;
+            Ok(append(nodes, Marked::each(alloc, block.notes)?)?)
         }
         Err(LineBlockFault::TooDeep { line }) => Err(BlockFault::TooDeep { line }),
         Err(LineBlockFault::NoMemory) => Err(BlockFault::NoMemory),

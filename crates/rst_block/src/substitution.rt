@@ -40,6 +40,7 @@ use rst_markup_blocks::Invocation;
 use rst_markup_directives::{Argument, Content, Directive, DirectiveFault, Place, Setting};
 use rst_text::{Looks, View};
 use rst_tree::{Children, Level, Node, Tag, TreeFault};
+use rst_tree_index::Marked;
 use std::alloc::{AllocError, Global};
 
 /// A substitution definition whose replacement text is read.
@@ -243,11 +244,13 @@ fn faulty_name<'a>(fault: &DirectiveFault, name: &'a str, written: &'a str) -> &
     }
 }
 
-/// A substitution definition with its replacement text, or the message on one that may not stand there.
+/// A substitution definition with its replacement text, or the message on one that may not stand there. The definition is marked
+/// as a new node. Its text was marked in its paragraph, but no replacement text stands in another: so nothing is marked more than
+/// twice.
 pub(crate) fn finished_replacement(
     alloc: Global,
     open: OpenReplacement,
-    nodes: Vec<Node>,
+    nodes: Vec<Marked>,
 ) -> Result<Node, TreeFault>
     ensures { Gives (λ node. node ≡ directives.replacement (string_bytes open.name) open.line (string_bytes open.source) (directives.first_paragraph nodes.items)) result }
 {
@@ -270,11 +273,11 @@ pub(crate) fn finished_replacement(
 }
 
 /// The nodes of the first paragraph.
-fn first_paragraph(alloc: Global, nodes: Vec<Node>) -> Children
+fn first_paragraph(alloc: Global, nodes: Vec<Marked>) -> Children
     ensures { nodes_of result ≡ directives.first_paragraph nodes.items }
 {
     for node in nodes {
-        if let Some(children) = paragraph_children(node) {
+        if let Some(children) = paragraph_children(node.into_root()) {
             return children;
         }
     }

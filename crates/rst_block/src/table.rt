@@ -23,11 +23,12 @@ use super::fault::BlockFault;
 use super::open_block::OpenBlock;
 use super::step::Step;
 use super::texts::{Pass, alone, number_at, parted, push, source};
-use rst_block_nodes::{element_of, entry, message, tgroup};
-use rst_block_sections::filled;
-use rst_markup_tables::{Cell, TableFault, TableResult, malformed_text};
+use rst_block_nodes::{entry, message, tgroup};
+use rst_block_sections::completed;
+use rst_markup_tables::{TableFault, TableResult, malformed_text};
 use rst_text::{Looks, View};
 use rst_tree::{Attrs, Level, Node, Tag, TreeFault};
+use rst_tree_index::Marked;
 use std::alloc::Global;
 
 /// A table, or the message on one that is malformed.
@@ -113,35 +114,40 @@ pub(crate) fn table_of(
     line: usize,
     widths: &[usize],
     head: usize,
-    rows: Vec<Node>,
-) -> Result<Node, TreeFault>
+    rows: Vec<Marked>,
+) -> Result<Marked, TreeFault>
     ensures { Gives (λ node. node ≡ table_node widths.now head rows.items line) result }
 {
     let (heads, bodies) = parted(alloc, rows.into_iter(), head as u64)?;
     let mut parts = head_nodes(alloc, head, heads)?;
     push(
         &mut parts,
-        element_of(Tag::Tbody, Attrs::new(alloc), bodies, 0),
+        Marked::element(alloc, Tag::Tbody, Attrs::new(alloc), bodies, 0)?,
     )?;
-    let group = filled(tgroup(alloc, widths, line)?, parts)?;
-    Ok(element_of(Tag::Table, Attrs::new(alloc), alone(alloc, group)?, line))
+    let group = completed(alloc, tgroup(alloc, widths, line)?, parts)?;
+    let group = alone(alloc, group)?;
+    Marked::element(alloc, Tag::Table, Attrs::new(alloc), group, line)
 }
 
 /// The head of a table of so many rows, if it has some.
-fn head_nodes(alloc: Global, head: usize, rows: Vec<Node>) -> Result<Vec<Node>, TreeFault>
+fn head_nodes(alloc: Global, head: usize, rows: Vec<Marked>) -> Result<Vec<Marked>, TreeFault>
     ensures { Gives (λ nodes. nodes.items ≡ (if nat_lt 0 head then element_of Thead [] rows.items 0 ∷ [] else [])) result }
 {
     if 0 < head {
-        let head = element_of(Tag::Thead, Attrs::new(alloc), rows, 0);
+        let head = Marked::element(alloc, Tag::Thead, Attrs::new(alloc), rows, 0)?;
         return Ok(alone(alloc, head)?);
     }
     Ok(Vec::new(alloc))
 }
 
-/// The entry of a cell with its nodes.
-pub(crate) fn entry_of(alloc: Global, cell: &Cell, nodes: Vec<Node>) -> Result<Node, TreeFault>
-    ensures { Gives (λ node. node ≡ filled (entry_node cell.now.morerows cell.now.morecols 0) nodes.items) result }
+/// The entry of a cell with its nodes, which takes this many rows and columns beside its first.
+pub(crate) fn entry_of(
+    alloc: Global,
+    morerows: usize,
+    morecols: usize,
+    nodes: Vec<Marked>,
+) -> Result<Marked, TreeFault>
+    ensures { Gives (λ node. node ≡ filled (entry_node morerows morecols 0) nodes.items) result }
 {
-    let entry = entry(alloc, cell.morerows, cell.morecols, 0)?;
-    filled(entry, nodes)
+    completed(alloc, entry(alloc, morerows, morecols, 0)?, nodes)
 }

@@ -14,6 +14,7 @@ use rst_block_nodes::{Numbers, message};
 use rst_markup_lines::Characters;
 use rst_text::{Looks, View, skip};
 use rst_tree::{Level, Node, TreeFault};
+use rst_tree_index::Marked;
 use std::alloc::{AllocError, Global};
 use std::vec::IntoIter;
 
@@ -32,7 +33,7 @@ pub(crate) fn excerpt(alloc: Global, text: &str, place: Characters) -> Result<St
 }
 
 /// The same where what follows the first characters of the text is at hand, so that nobody goes through these again.
-pub(crate) fn excerpt_behind(
+pub(crate) fn excerpt_after(
     alloc: Global,
     text: &str,
     rest: &str,
@@ -158,7 +159,7 @@ pub(crate) fn unindent(alloc: Global, line: usize, text: &str) -> Result<Node, T
 }
 
 /// One node in a list of its own.
-pub(crate) fn alone(alloc: Global, node: Node) -> Result<Vec<Node>, AllocError>
+pub(crate) fn alone<N: Drop>(alloc: Global, node: N) -> Result<Vec<N>, AllocError>
     ensures { IfOk result (λ nodes. nodes.items ≡ node ∷ []) }
 {
     let mut nodes = Vec::with_capacity(alloc, 1)?;
@@ -169,9 +170,9 @@ pub(crate) fn alone(alloc: Global, node: Node) -> Result<Vec<Node>, AllocError>
 /// Some nodes in two parts: the first ones, up to a number of them, and those after them.
 pub(crate) fn parted(
     alloc: Global,
-    nodes: IntoIter<Node, Global>,
+    nodes: IntoIter<Marked, Global>,
     count: u64,
-) -> Result<(Vec<Node>, Vec<Node>), AllocError>
+) -> Result<(Vec<Marked>, Vec<Marked>), AllocError>
     ensures first { IfOk result (λ parts. parts.0.items ≡ take count (into_iter_items nodes)) }
     ensures second { IfOk result (λ parts. parts.1.items ≡ drop count (into_iter_items nodes)) }
 {
@@ -188,7 +189,7 @@ pub(crate) fn parted(
 }
 
 /// Puts a node behind the last. A first one gets room for itself alone: most blocks inside others have one node.
-pub(crate) fn push(nodes: &mut Vec<Node>, node: Node) -> Result<(), AllocError>
+pub(crate) fn push<N: Drop>(nodes: &mut Vec<N>, node: N) -> Result<(), AllocError>
     ensures { IfOk result (λ _. nodes.new.items ≡ nodes.old.items ++ node ∷ []) }
 {
     if nodes.is_empty() {

@@ -6,5 +6,5 @@ mod nodes;
 mod sectioning;
 
 pub use heading::{Heading, Style};
-pub use nodes::{append, filled};
+pub use nodes::{append, completed, filled};
 pub use sectioning::document;

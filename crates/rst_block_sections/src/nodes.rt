@@ -4,11 +4,13 @@ ghost use Rattle.rst_tree.specs.Faults.{Gives};
 ghost use Rattle.rst_block_sections.specs.Sections.{filled};
 
 use rst_tree::{Children, Node, TreeFault};
+use rst_tree_index::Marked;
+use std::alloc::Global;
 
-/// Puts more nodes behind the last.
+/// Puts more nodes, marked or not, behind the last.
 ///
 /// The only refusal is [`TreeFault::NoMemory`].
-pub fn append(nodes: &mut Vec<Node>, mut more: Vec<Node>) -> Result<(), TreeFault>
+pub fn append<N: Drop>(nodes: &mut Vec<N>, mut more: Vec<N>) -> Result<(), TreeFault>
     ensures { Gives (λ _. nodes.new.items ≡ nodes.old.items ++ more.items) result }
 {
     if nodes.is_empty() {
@@ -44,5 +46,27 @@ pub fn filled(element: Node, more: Vec<Node>) -> Result<Node, TreeFault>
             })
         }
         Node::Text(text) => Ok(Node::Text(text)),
+    }
+}
+
+/// The same where the marks of the nodes are known. Those of the element are found by a pass over it: it was made for these
+/// nodes, and nobody marked it before.
+///
+/// The only refusal is [`TreeFault::NoMemory`].
+pub fn completed(alloc: Global, element: Node, more: Vec<Marked>) -> Result<Marked, TreeFault>
+    ensures { Gives (λ node. node ≡ filled element more.items) result }
+{
+    match element {
+        Node::Element {
+            tag,
+            attrs,
+            children,
+            line,
+        } => {
+            let mut nodes = Marked::each(alloc, children.into_list())?;
+            append(&mut nodes, more)?;
+            Marked::element(alloc, tag, attrs, nodes, line)
+        }
+        Node::Text(text) => Marked::of(alloc, Node::Text(text)),
     }
 }

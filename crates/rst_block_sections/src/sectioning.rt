@@ -7,9 +7,10 @@ ghost use Rattle.rst_block_sections.specs.Sections.{Item, titled, Member, sectio
 ghost use Rattle.rst_block_sections.specs.OpenSections.{goes_on, closed_with, StopsAt};
 
 use crate::heading::{Heading, Style};
-use crate::nodes::filled;
-use rst_block_nodes::{element_of, message, section};
+use crate::nodes::completed;
+use rst_block_nodes::{message, section};
 use rst_tree::{Attrs, Level as Gravity, Node, Tag, TreeFault};
+use rst_tree_index::Marked;
 use std::alloc::Global;
 use std::mem;
 use std::vec::IntoIter;
@@ -18,19 +19,22 @@ use std::vec::IntoIter;
 #[derive(Drop)]
 struct OpenSection {
     element: Node,
-    nodes: Vec<Node>,
+    nodes: Vec<Marked>,
 }
 
 /// The document with its sections: the section of a title holds what comes up to the next title of its level or a higher
 /// one.
 ///
 /// The only refusal is [`TreeFault::NoMemory`].
-pub fn document(alloc: Global, nodes: Vec<Node>, headings: Vec<Heading>) -> Result<Node, TreeFault>
+pub fn document(
+    alloc: Global,
+    nodes: Vec<Marked>,
+    headings: Vec<Heading>,
+) -> Result<Marked, TreeFault>
     ensures { Gives (λ root. root ≡ document_of (items_from 0 nodes.items headings.items)) result }
 {
     if headings.is_empty() {
-        let attrs = Attrs::new(alloc);
-        return Ok(element_of(Tag::Document, attrs, nodes, 0));
+        return Marked::element(alloc, Tag::Document, Attrs::new(alloc), nodes, 0);
     }
     let mut sections = Sections::none(alloc);
     let mut nodes = nodes.into_iter();
@@ -43,11 +47,15 @@ pub fn document(alloc: Global, nodes: Vec<Node>, headings: Vec<Heading>) -> Resu
     }
     let left = nodes.len();
     move_front(&mut nodes, left, &mut sections.current.nodes)?;
-    sections.closed()
+    sections.closed(alloc)
 }
 
 /// Puts so many nodes from the front of some behind others, or all that there are.
-fn move_front(nodes: &mut IntoIter<Node>, count: usize, to: &mut Vec<Node>) -> Result<(), TreeFault>
+fn move_front(
+    nodes: &mut IntoIter<Marked>,
+    count: usize,
+    to: &mut Vec<Marked>,
+) -> Result<(), TreeFault>
     ensures moved { Gives (λ _. to.new.items ≡ to.old.items ++ take count (into_iter_items nodes.old)) result }
     ensures left { Gives (λ _. into_iter_items nodes.new ≡ drop count (into_iter_items nodes.old)) result }
 {
@@ -96,12 +104,12 @@ impl Sections {
             return Ok(());
         }
         remember(&mut self.styles, heading.style, level)?;
-        self.end(level)?;
+        self.end(alloc, level)?;
         self.enter(alloc, heading)
     }
 
     /// Ends those of a level or a deeper one: each is put into the one round it.
-    fn end(&mut self, level: usize) -> Result<(), TreeFault>
+    fn end(&mut self, alloc: Global, level: usize) -> Result<(), TreeFault>
         requires { 1 ≤ level }
         ensures closed { Gives (λ _. (ms : List Member) → StopsAt level ms → closed_with self.new ms ≡ closed_with self.old ms) result }
         ensures few { Gives (λ _. length self.new.outer.items + 1 ≤ level) result }
@@ -109,20 +117,20 @@ impl Sections {
         ensures styles { Gives (λ _. self.new.styles ≡ self.old.styles) result }
     {
         while level <= self.outer.len() {
-            self.end_innermost()?;
+            self.end_innermost(alloc)?;
         }
         Ok(())
     }
 
     /// Ends the innermost, if it isn't the document.
-    fn end_innermost(&mut self) -> Result<(), TreeFault>
+    fn end_innermost(&mut self, alloc: Global) -> Result<(), TreeFault>
         ensures closed { Gives (λ _. (ms : List Member) → StopsAt (length self.old.outer.items) ms → closed_with self.new ms ≡ closed_with self.old ms) result }
         ensures len { Gives (λ _. length self.new.outer.items ≡ length self.old.outer.items - 1) result }
         ensures styles { Gives (λ _. self.new.styles ≡ self.old.styles) result }
     {
         if let Some(round) = self.outer.pop() {
             let OpenSection { element, nodes } = mem::replace(&mut self.current, round);
-            self.current.nodes.push(filled(element, nodes)?)?;
+            self.current.nodes.push(completed(alloc, element, nodes)?)?;
         }
         Ok(())
     }
@@ -139,12 +147,12 @@ impl Sections {
     }
 
     /// The document with all sections ended.
-    fn closed(mut self) -> Result<Node, TreeFault>
+    fn closed(mut self, alloc: Global) -> Result<Marked, TreeFault>
         ensures { Gives (λ root. root ≡ goes_on self []) result }
     {
-        self.end(1)?;
+        self.end(alloc, 1)?;
         let OpenSection { element, nodes } = self.current;
-        filled(element, nodes)
+        completed(alloc, element, nodes)
     }
 }
 
@@ -172,13 +180,13 @@ fn remember(styles: &mut Vec<Style>, style: Style, level: usize) -> Result<(), T
 }
 
 /// The message on a title whose level is inconsistent.
-fn inconsistent(alloc: Global, heading: &Heading) -> Result<Node, TreeFault>
+fn inconsistent(alloc: Global, heading: &Heading) -> Result<Marked, TreeFault>
     ensures { Gives (λ node. node ≡ inconsistent (title_of heading.now)) result }
 {
     let text = "Title level inconsistent:";
     let source = Some(heading.source.as_str());
     let node = message(alloc, Gravity::Severe, heading.line, text, source)?;
-    Ok(node)
+    Marked::of(alloc, node)
 }
 
 /// The section of a title, with the messages under the title alone.
@@ -192,9 +200,9 @@ fn begun(alloc: Global, heading: Heading) -> Result<OpenSection, TreeFault>
         line,
         ..
     } = heading;
-    let mut nodes = title.notes;
+    let mut nodes = Marked::each(alloc, title.notes)?;
     if let Some(warning) = warning {
-        nodes.push(warning)?;
+        nodes.push(Marked::of(alloc, warning)?)?;
     }
     let element = section(alloc, title.element, nodes.len(), line)?;
     Ok(OpenSection { element, nodes })

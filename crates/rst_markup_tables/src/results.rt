@@ -1,6 +1,8 @@
 //! What a table is, or what is wrong with it.
 ghost use Rattle.std.specs.Prelude.{◌≡◌};
 
+use rst_text::{Lines, TextFault};
+use std::alloc::Global;
 use std::marker::Model;
 
 /// The lines of a cell: their numbers in the document and their texts, in which no character ends a line and no white
@@ -27,6 +29,7 @@ impl Model for CellLines {
 
 impl CellLines {
     ghost use Rattle.std.specs.Prelude.{IsTrue};
+    ghost use Rattle.rst_text.specs.Faults.{Gives};
     ghost use Rattle.rst_text.specs.Lines.{are_lines};
     ghost use Rattle.rst_text.specs.Source.{block_with};
 
@@ -38,13 +41,13 @@ impl CellLines {
         CellLines { lines }
     }
 
-    /// The lines as they are kept: a number and a text each, in which no character ends a line and no white one is the
-    /// last (Markup Specification, 'Whitespace').
-    pub fn as_slice(&self) -> &[(usize, String)]
-        ensures value { block_with result.now ≡ self.now }
-        ensures lines { IsTrue (are_lines (block_with result.now)) }
+    /// These lines as those of a text of their own.
+    ///
+    /// The only refusal is [`TextFault::NoMemory`].
+    pub fn into_lines(self, alloc: Global) -> Result<Lines, TextFault>
+        ensures { Gives (λ lines. lines ≡ self) result }
     {
-        self.lines.as_slice()
+        Lines::numbered(alloc, self.lines.as_slice())
     }
 }
 
@@ -113,11 +116,11 @@ impl Rows {
         Rows { rows }
     }
 
-    /// The rows as they are kept.
-    pub fn as_slice(&self) -> &[Vec<Cell>]
-        ensures { cells_of result.now ≡ self.now }
+    /// The rows, from the top down.
+    pub fn into_rows(self) -> Vec<Vec<Cell>>
+        ensures { cells_of result.items ≡ self }
     {
-        self.rows.as_slice()
+        self.rows
     }
 }
 

@@ -12,8 +12,7 @@ use Rattle.rst_tree.specs.Attributes.{value_of}
 use Rattle.rst_tree.specs.declared.node.Node.{Node}
 use Rattle.rst_tree.specs.declared.node.Node.TheVariants.{Element, Text}
 use Rattle.rst_tree.specs.Forest.{Forest}
-use Rattle.rst_tree.specs.Nodes.{forest_of, nodes_of}
-use Rattle.rst_tree.proofs.Changes.{forest_of-nodes_of}
+use Rattle.rst_tree.specs.Nodes.{forest_of}
 use Rattle.rst_tree.specs.Walk.{Item, item, items, node_items}
 use Rattle.rst_tree_index.specs.declared.kinds.Kinds.{Kinds}
 use Rattle.rst_tree_index.specs.Kinds.{either, is_internal, is_message, is_of_footnotes, is_substitution, is_target, is_transition, kinds_of}
@@ -60,28 +59,26 @@ items-push [] (Text t) = refl
 items-push (Element t a c l ∷ ns) n = ap (λ xs. item t a l ∷ xs) (ap (λ xs. items c ++ xs) (items-push ns n) ∙ sym (append_assoc (items c) (items (forest_of ns)) (node_items n)))
 items-push (Text t ∷ ns) n = items-push ns n
 
+pub kinds_push : (ns : List Node) (n : Node) (first held inner now : Kinds) → held ≡ either first (kinds_of (items (forest_of ns))) → inner ≡ kinds_of (node_items n) → now ≡ either held inner
+    → now ≡ either first (kinds_of (items (forest_of (ns ++ n ∷ []))))
+kinds_push ns n first held inner now old more all =
+    all ∙ (rw (old, more) (either-append first (items (forest_of ns)) (node_items n))) ∙ ap (λ z. either first (kinds_of z)) (sym (items-push ns n))
+
 pub kinds_more : (ns : List Node) (i : ℕ) (child : Node) (k old new : Kinds) → i < length ns → child ≡ get_or ns i child → old ≡ either k (kinds_of (items (forest_of (take i ns))))
     → new ≡ either old (kinds_of (node_items child)) → new ≡ either k (kinds_of (items (forest_of (take (i + 1) ns))))
 kinds_more ns i child k old new fits at before all =
     let more : take (i + 1) ns ≡ take i ns ++ child ∷ [] = take_more ns i child fits ∙ ap (λ x. take i ns ++ x ∷ []) (sym at) in
-    all ∙ ap (λ z. either z (kinds_of (node_items child))) before ∙ either-append k (items (forest_of (take i ns))) (node_items child)
-    ∙ ap (λ z. either k (kinds_of z)) (sym (ap (λ z. items (forest_of z)) more ∙ items-push (take i ns) child))
-
-pub kinds_text : (ns : List Node) (i : ℕ) (child : Node) (t : List ℕ) (k old : Kinds) → i < length ns → child ≡ get_or ns i child → child ≡ Text t → old ≡ either k (kinds_of (items (forest_of (take i ns))))
-    → old ≡ either k (kinds_of (items (forest_of (take (i + 1) ns))))
-kinds_text ns i child t k old fits at is before = kinds_more ns i child k old old fits at before (rw is (either_none old))
+    kinds_push (take i ns) child k old (kinds_of (node_items child)) new before refl all ∙ ap (λ z. either k (kinds_of (items (forest_of z)))) (sym more)
 
 pub kinds_end : (node : Node) (t : Tag) (a : List Attr) (c : Forest) (l : ℕ) (ns : List Node) (i : ℕ) (old own now : Kinds) → node ≡ Element t a c l → c ≡ forest_of ns → length ns ≤ i
     → own ≡ either old (kinds_of (item t a 0 ∷ [])) → now ≡ either own (kinds_of (items (forest_of (take i ns)))) → now ≡ either old (kinds_of (node_items node))
 kinds_end node t a c l ns i old own now is nodes all mine held =
     held ∙ (rw (is, nodes, mine, take_all i ns all) (either-append old (item t a 0 ∷ []) (items (forest_of ns))))
 
--- those of an element with one node more
-pub kinds_pushed : (self child : Node) (t : Tag) (a : List Attr) (c c' : Forest) (l : ℕ) (held inner now : Kinds) → self ≡ Element t a c l → c' ≡ forest_of (nodes_of c ++ child ∷ [])
-    → held ≡ kinds_of (node_items self) → inner ≡ kinds_of (node_items child) → now ≡ either held inner → now ≡ kinds_of (item t a l ∷ items c')
-kinds_pushed self child t a c c' l held inner now is pushed old more all =
-    let e : items c' ≡ items c ++ node_items child = ap items pushed ∙ items-push (nodes_of c) child ∙ ap (λ z. items z ++ node_items child) (forest_of-nodes_of c) in
-    all ∙ (rw (old, more, is, e) (either-append (kinds_of []) (item t a l ∷ items c) (node_items child)))
+-- those of an element with nodes
+pub kinds_element : (t : Tag) (a : List Attr) (l : ℕ) (c c' : Forest) (none own now : Kinds) → none ≡ kinds_of [] → own ≡ either none (kinds_of (item t a 0 ∷ [])) → c' ≡ c → now ≡ either own (kinds_of (items c))
+    → now ≡ kinds_of (item t a l ∷ items c')
+kinds_element t a l c c' none own now begun mine is all = all ∙ (rw (mine, begun, is) (either-append (kinds_of []) (item t a 0 ∷ []) (items c)))
 
 -- an element on which no transform acts
 pub added_none : (k : Kinds) (t : Tag) (a : List Attr) → is_linked_tag t ≡ false → (t ≡ SubstitutionReference → ⊥) → (t ≡ SystemMessage → ⊥) → (t ≡ Transition → ⊥) → k ≡ either k (kinds_of (item t a 0 ∷ []))

@@ -1,3 +1,4 @@
 pub mod Marking
 pub mod Holding
 pub mod ElementKinds
+pub mod Visiting

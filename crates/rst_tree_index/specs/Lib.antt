@@ -1,4 +1,6 @@
 pub mod Registered
 pub mod Marks
+pub mod MarkPaths
+pub mod MarkLengths
 pub mod LinkedTags
 pub mod Kinds

@@ -8,7 +8,7 @@ use Rattle.rst_tree.specs.declared.key.Key.TheVariants.{OwnName, Message}
 use Rattle.rst_tree.specs.declared.tag.Tag.{Tag}
 use Rattle.rst_tree.specs.declared.tag.Tag.TheVariants.{Section, Target, Footnote, Citation, FootnoteReference, CitationReference, Problematic, SubstitutionDefinition}
 use Rattle.rst_tree.specs.Walk.{Item, item}
-use Rattle.rst_tree_index.specs.declared.marks.Element.{Element}
+use Rattle.rst_tree_index.specs.declared.marked.Element.{Element}
 
 -- the kinds of elements that always get an id, and substitution definitions
 abbrev pub is_registered_kind : Tag → Bool

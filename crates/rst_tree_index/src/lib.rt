@@ -2,7 +2,9 @@
 #![tactic(auto)]
 
 mod kinds;
+mod marked;
 mod marks;
+mod registered;
 
 pub use kinds::{Kinds, is_internal, is_linked_tag};
-pub use marks::{Element, Marked, Path};
+pub use marked::{Element, Marked};

@@ -6,18 +6,20 @@ use rst_tree_index::Marked;
 use std::alloc::Global;
 use std::test::Fail;
 
+/// An element without attributes.
+fn element(alloc: Global, tag: Tag, nodes: Vec<Marked>, line: usize) -> Result<Marked, TreeFault> {
+    Marked::element(alloc, tag, Attrs::new(alloc), nodes, line)
+}
+
 /// A document with a paragraph, and behind it a section with a title and a target.
 fn document(alloc: Global) -> Result<Marked, TreeFault> {
-    let title = Marked::element(alloc, Tag::Title, Attrs::new(alloc), 2)?;
-    let title = title.push(Marked::text(alloc, Text::from_str(alloc, "T")?))?;
+    let text = Node::Text(Text::from_str(alloc, "T")?);
+    let title = Marked::each(alloc, vec![in alloc; text]?)?;
+    let title = element(alloc, Tag::Title, title, 2)?;
     let target = Marked::of(alloc, Node::element(alloc, Tag::Target, 3))?;
-    let section = Marked::element(alloc, Tag::Section, Attrs::new(alloc), 2)?;
-    let section = section.push(title)?;
-    let section = section.push(target)?;
-    let paragraph = Marked::element(alloc, Tag::Paragraph, Attrs::new(alloc), 1)?;
-    let document = Marked::element(alloc, Tag::Document, Attrs::new(alloc), 1)?;
-    let document = document.push(paragraph)?;
-    document.push(section)
+    let section = element(alloc, Tag::Section, vec![in alloc; title, target]?, 2)?;
+    let paragraph = element(alloc, Tag::Paragraph, Vec::new(alloc), 1)?;
+    element(alloc, Tag::Document, vec![in alloc; paragraph, section]?, 1)
 }
 
 /// Gives each element that is visited line 9.
@@ -55,9 +57,10 @@ fn lines(node: &Node) -> (usize, usize) {
 fn marks_and_visits(rt: HostRuntime) -> Result<(), Fail> {
     let alloc = rt.alloc();
     let document = document(alloc)?;
-    assert_eq!(rt; document.marks().len(), 2);
-    for (mark, want) in document.marks().iter().zip([&[1][..], &[1, 1]]) {
-        assert_eq!(rt; mark.steps(), want);
+    let elements = document.elements(alloc)?;
+    assert_eq!(rt; elements.len(), 2);
+    for (element, line) in elements.iter().zip([2, 3]) {
+        assert_eq!(rt; element.line, line);
     }
     assert_eq!(rt; lines(document.root()), (1, 2));
     let visited = document.visit(&mut Lining)?;

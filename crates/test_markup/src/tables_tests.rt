@@ -273,21 +273,23 @@ const SIMPLES: &[(&str, &str)] = &[
 ];
 
 /// A cell as `[morerows morecols number:text; ..]`, spaces shown as `_`.
-fn show_cell(out: &mut String, cell: &Cell) -> Result<(), AllocError> {
+fn show_cell(alloc: Global, out: &mut String, cell: Cell) -> Result<(), Fail> {
     out.push_str(" [")?;
     push_number(out, cell.morerows)?;
     out.push_str(" ")?;
     push_number(out, cell.morecols)?;
-    for line in cell.lines.as_slice() {
+    let lines = cell.lines.into_lines(alloc)?;
+    let view = View::whole(&lines);
+    for i in 0..view.len() {
         out.push_str(" ")?;
-        push_number(out, line.0)?;
+        push_number(out, view.number(i))?;
         out.push_str(":")?;
-        for c in line.1.as_str().chars() {
+        for c in lines.line(i).chars() {
             out.push(if c == ' ' { '_' } else { c })?;
         }
         out.push_str(";")?;
     }
-    out.push_str("]")
+    Ok(out.push_str("]")?)
 }
 
 fn push_number(out: &mut String, number: usize) -> Result<(), AllocError> {
@@ -296,12 +298,12 @@ fn push_number(out: &mut String, number: usize) -> Result<(), AllocError> {
 }
 
 /// A table as `T`, its end, widths, head rows and rows, each behind a `/`; what is wrong as `E`, the end and the detail.
-fn show(alloc: Global, table: &TableResult) -> Result<String, AllocError> {
+fn show(alloc: Global, table: TableResult) -> Result<String, Fail> {
     let mut out = String::new(alloc);
     match table {
         TableResult::Malformed { end, note } => {
             out.push_str("E")?;
-            push_number(&mut out, *end)?;
+            push_number(&mut out, end)?;
             let text = malformed_text(alloc, note.detail)?;
             out.push_str(" ")?;
             out.push_str(
@@ -317,7 +319,7 @@ fn show(alloc: Global, table: &TableResult) -> Result<String, AllocError> {
             end,
         } => {
             out.push_str("T")?;
-            push_number(&mut out, *end)?;
+            push_number(&mut out, end)?;
             out.push_str(" w")?;
             for (k, width) in cols.as_slice().iter().enumerate() {
                 if k > 0 {
@@ -326,11 +328,11 @@ fn show(alloc: Global, table: &TableResult) -> Result<String, AllocError> {
                 push_number(&mut out, *width)?;
             }
             out.push_str(" h")?;
-            push_number(&mut out, *head)?;
-            for row in rows.as_slice() {
+            push_number(&mut out, head)?;
+            for row in rows.into_rows() {
                 out.push_str(" /")?;
                 for cell in row {
-                    show_cell(&mut out, cell)?;
+                    show_cell(alloc, &mut out, cell)?;
                 }
             }
         }
@@ -346,7 +348,7 @@ fn grids(rt: HostRuntime) -> Result<(), Fail> {
         assert!(rt; view.len() > 0);
         let mut looks = Looks::none();
         let table = grid(rt.alloc(), &view, 0, &mut looks)?;
-        let shown = show(rt.alloc(), &table)?;
+        let shown = show(rt.alloc(), table)?;
         assert_eq!(rt; shown.as_str(), want, "{text}");
     }
     Ok(())
@@ -360,22 +362,22 @@ fn simples(rt: HostRuntime) -> Result<(), Fail> {
         assert!(rt; view.len() > 0);
         let mut looks = Looks::none();
         let table = simple(rt.alloc(), &view, 0, &mut looks)?;
-        let shown = show(rt.alloc(), &table)?;
+        let shown = show(rt.alloc(), table)?;
         assert_eq!(rt; shown.as_str(), want, "{text}");
     }
     Ok(())
 }
 
 /// The table that the lines of a cell begin with, shown; nothing where the cell is empty.
-fn shown_in(alloc: Global, cell: &Cell) -> Result<String, Fail> {
-    let lines = Lines::numbered(alloc, cell.lines.as_slice())?;
+fn shown_in(alloc: Global, cell: Cell) -> Result<String, Fail> {
+    let lines = cell.lines.into_lines(alloc)?;
     let view = View::whole(&lines);
     if view.len() == 0 {
         return Ok(String::new(alloc));
     }
     let mut looks = Looks::none();
     let table = grid(alloc, &view, 0, &mut looks)?;
-    Ok(show(alloc, &table)?)
+    show(alloc, table)
 }
 
 #[test]
@@ -389,8 +391,9 @@ fn table_in_a_cell(rt: HostRuntime) -> Result<(), Fail> {
         assert!(rt; false);
         return Ok(());
     };
-    assert_eq!(rt; rows.as_slice().len(), 1);
-    for row in rows.as_slice() {
+    let rows = rows.into_rows();
+    assert_eq!(rt; rows.len(), 1);
+    for row in rows {
         for cell in row {
             let shown = shown_in(rt.alloc(), cell)?;
             assert_eq!(rt; shown.as_str(), "T3 w3 h0 / [0 0 3:x;]", "{text}");

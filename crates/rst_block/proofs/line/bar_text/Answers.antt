@@ -1,4 +1,4 @@
-use Rattle.std.proofs.Common.{◌≡◌, ◌-◌, drop, ◌∙◌, ap, arith}
+use Rattle.std.proofs.Common.{◌≡◌, drop, ◌∙◌, ap, arith}
 use Rattle.rst_text.specs.Block.{Block}
 use Rattle.rst_text.specs.Extent.{extent}
 use Rattle.rst_text.specs.Shown.{block_of}

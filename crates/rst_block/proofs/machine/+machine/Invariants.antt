@@ -1,29 +1,35 @@
-use Rattle.std.proofs.Common.{◌≡◌, ◌+◌, ◌-◌, ◌*◌, ◌^◌, ◌<◌, ◌≤◌, length, take, drop}
+use Rattle.std.proofs.Common.{◌≡◌, ◌+◌, ◌-◌, ◌*◌, ◌^◌, ◌<◌, ◌≤◌, [], length, take, drop}
+use Rattle.std.specs.Vec.Iter.{into_iter_items}
 use Rattle.rst_text.specs.Shown.{block_of, source_of}
 use Rattle.rst_markup_tables.specs.Results.{cells_of}
 use Rattle.rst_block.specs.Frames.{AreFrames, AreNested, IsNow}
+use Rattle.rst_markup_tables.specs.declared.results.TableResult.TheVariants.{Table}
+use Rattle.rst_block.specs.Inside.{cell_blocks}
 use Rattle.rst_block.specs.Ledger.{total_at, totals}
 use Rattle.rst_block.specs.Meanings.{comes, plug, within_at}
 use Rattle.rst_block.specs.Nodes.{block_items}
 use Rattle.rst_block.specs.Numbered.{each}
 use Rattle.rst_block.specs.OpenBlocks.{IsPlaced}
 use Rattle.rst_block.specs.Tables.{entry_of, row_of}
-use Rattle.rst_block.proofs.CellsRead.{each_after, row_after}
+use Rattle.rst_block.proofs.CellsRead.{each_after}
 use Rattle.rst_block.proofs.MachinePaid.{AreLeft, cell_lines, row_lines, IsPaidFor}
 use Rattle.rst_block.proofs.Stack.{all_left}
 use Rattle.rst_block.proofs.machine.+machine.Given as goal
 
 abbrev pub decreases-read : goal.decreases-read
-decreases-read l = 4 * (251 - l.depth) + 2
+decreases-read l = 5 * (251 - l.depth) + 2
 
 abbrev pub decreases-read_blocks : goal.decreases-read_blocks
-decreases-read_blocks l = 4 * (251 - l.depth) + 1
+decreases-read_blocks l = 5 * (251 - l.depth) + 1
 
 abbrev pub decreases-cells : goal.decreases-cells
-decreases-cells l = 4 * (251 - l.depth) + 4
+decreases-cells l = 5 * (251 - l.depth) + 5
+
+abbrev pub decreases-rows_of : goal.decreases-rows_of
+decreases-rows_of l = 5 * (251 - l.depth) + 4
 
 abbrev pub decreases-row_of : goal.decreases-row_of
-decreases-row_of l = 4 * (251 - l.depth) + 3
+decreases-row_of l = 5 * (251 - l.depth) + 3
 
 -- the blocks that wait make of what comes in the block that is read all that the text gives
 abbrev pub invariant-read_blocks-loop-now : goal.invariant-read_blocks-loop-now
@@ -46,16 +52,16 @@ invariant-read_blocks-loop-now l = record {
 abbrev pub decreases-read_blocks-loop-now : goal.decreases-read_blocks-loop-now
 decreases-read_blocks-loop-now l = all_left (2 ^ 64) (250 - l.depth) (source_of l.whole) (drop l.base l.frames.items) (length (block_of l.view)) l.level.at l.now
 
+abbrev pub invariant-rows_of-loop-cells : goal.invariant-rows_of-loop-cells
+invariant-rows_of-loop-cells l = record {
+  frames : l.frames.items ≡ l.fn.frames.items;
+  made : each_after (row_of (within_at (l.depth - 1))) l.made.items (cells_of (into_iter_items l.cells-iterator)) l.pass.numbers ≡ each (row_of (within_at (l.depth - 1))) l.fn.rows l.fn.pass.numbers;
+  paid : AreLeft (totals (l.depth - 1) (cell_blocks (Table [] 0 l.fn.rows 0))) (totals (l.depth - 1) (row_lines (into_iter_items l.cells-iterator))) l.fn.pass.looks l.pass.looks;
+}
+
 abbrev pub invariant-row_of-loop-cell : goal.invariant-row_of-loop-cell
 invariant-row_of-loop-cell l = record {
   frames : l.frames.items ≡ l.fn.frames.items;
-  made : row_after l.depth l.entries.items (drop l.cell-index l.fn.cells) l.pass.numbers ≡ each (entry_of (within_at (l.depth - 1))) l.fn.cells l.fn.pass.numbers;
-  paid : AreLeft (totals (l.depth - 1) (cell_lines l.fn.cells)) (totals (l.depth - 1) (cell_lines (drop l.cell-index l.fn.cells))) l.fn.pass.looks l.pass.looks;
-}
-
-abbrev pub invariant-cells-loop-cells : goal.invariant-cells-loop-cells
-invariant-cells-loop-cells l = record {
-  frames : l.frames.items ≡ l.fn.frames.items;
-  made : each_after (row_of (within_at (l.depth - 1))) l.made.items (cells_of (drop l.cells-index l.cells-items)) l.pass.numbers ≡ each (row_of (within_at (l.depth - 1))) (cells_of l.cells-items) l.fn.pass.numbers;
-  paid : AreLeft (totals (l.depth - 1) (row_lines l.cells-items)) (totals (l.depth - 1) (row_lines (drop l.cells-index l.cells-items))) l.fn.pass.looks l.pass.looks;
+  made : each_after (entry_of (within_at (l.depth - 1))) l.entries.items (into_iter_items l.cell-iterator) l.pass.numbers ≡ each (entry_of (within_at (l.depth - 1))) l.fn.cells.items l.fn.pass.numbers;
+  paid : AreLeft (totals (l.depth - 1) (cell_lines l.fn.cells.items)) (totals (l.depth - 1) (cell_lines (into_iter_items l.cell-iterator))) l.fn.pass.looks l.pass.looks;
 }

@@ -15,8 +15,8 @@ use Rattle.rst_block.proofs.Calls.{keeps_as}
 use Rattle.rst_block.proofs.Changes.{kept_more, kept_item}
 use Rattle.rst_block.proofs.QuoteSteps.{after_more}
 use Rattle.rst_block.proofs.QuotesPaid.{more_paid, nodes_paid, item_paid}
-use Rattle.rst_block.proofs.Waiting.{nodes_given, item_given, item_made}
-use Rattle.rst_block.proofs.resume.resume.Goals.{in-ListItem+in_ok-push_item-in-ListItem, in-ListedBody+in_ok-append-in-ListedBody+in_ok-push-in-ListedBody+in_ok-push_item-in-ListedBody, in-Element+in_ok-filled-in-Element+in_ok-push-in-Element, in-Figure+in_ok-finished_figure-in-Figure+in_ok-append-in-Figure, in-Replacement+in_ok-finished_replacement-in-Replacement+in_ok-push-in-Replacement}
+use Rattle.rst_block.proofs.Waiting.{nodes_given, item_given}
+use Rattle.rst_block.proofs.resume.resume.Goals.{in-ListItem+in_ok-item-in-ListItem+in_ok-push_item-in-ListItem, in-ListedBody+in_ok-listed_item-in-ListedBody+in_ok-push_item-in-ListedBody, in-Element+in_ok-completed-in-Element+in_ok-push_marked-in-Element, in-Figure+in_ok-finished_figure-in-Figure+in_ok-append_marked-in-Figure, in-Replacement+in_ok-finished_replacement-in-Replacement+in_ok-push-in-Replacement}
 use Rattle.rst_block.proofs.resume.resume.Goals as goal
 
 pub after_quote-requires-clause-placed : goal.after_quote-requires-clause-placed
@@ -37,11 +37,11 @@ pub returns-clause-kept : goal.returns-clause-kept
 returns-clause-kept c =
     let old = c.args.level.now in
     elim c.match-waits.branch [
-      | in-ListItem+in_ok-push_item-in-ListItem w ↦ rw w.level-is (kept_item old w.push_item.new.self _ w.in_ok-push_item-in-ListItem.ensures.item c.requires.placed)
-      | in-ListedBody+in_ok-append-in-ListedBody+in_ok-push-in-ListedBody+in_ok-push_item-in-ListedBody w ↦
+      | in-ListItem+in_ok-item-in-ListItem+in_ok-push_item-in-ListItem w ↦ rw w.level-is (kept_item old w.push_item.new.self _ w.in_ok-push_item-in-ListItem.ensures.item c.requires.placed)
+      | in-ListedBody+in_ok-listed_item-in-ListedBody+in_ok-push_item-in-ListedBody w ↦
           rw w.level-is (kept_item old w.push_item-in-ListedBody.new.self _ w.in_ok-push_item-in-ListedBody.ensures.item c.requires.placed)
-      | in-Element+in_ok-filled-in-Element+in_ok-push-in-Element w ↦ rw w.level-is (kept_more w.in_ok-push-in-Element.ensures.more c.requires.placed)
-      | in-Figure+in_ok-finished_figure-in-Figure+in_ok-append-in-Figure w ↦ rw w.level-is (kept_more w.in_ok-append-in-Figure.ensures.more c.requires.placed)
+      | in-Element+in_ok-completed-in-Element+in_ok-push_marked-in-Element w ↦ rw w.level-is (kept_more w.in_ok-push_marked-in-Element.ensures.more c.requires.placed)
+      | in-Figure+in_ok-finished_figure-in-Figure+in_ok-append_marked-in-Figure w ↦ rw w.level-is (kept_more w.in_ok-append_marked-in-Figure.ensures.more c.requires.placed)
       | in-Replacement+in_ok-finished_replacement-in-Replacement+in_ok-push-in-Replacement w ↦ rw w.level-is (kept_more w.in_ok-push-in-Replacement.ensures.more c.requires.placed)
     ]
 
@@ -53,26 +53,23 @@ returns-clause-read c =
     let last = c.match-waits.level in
     let ns : List Node = c.args.nodes.items in
     elim c.match-waits.branch [
-      | in-ListItem+in_ok-push_item-in-ListItem w ↦
+      | in-ListItem+in_ok-item-in-ListItem+in_ok-push_item-in-ListItem w ↦
           let item : Node = element_of ListItem [] ns w.in-ListItem.line in
-          let made : w.element_of.result ≡ item = w.element_of.ensures ∙ ap (λ attrs. element_of ListItem attrs ns w.in-ListItem.line) w.new.ensures in
-          item_given old w.push_item.new.self last B w.element_of.result item n w.in_ok-push_item-in-ListItem.ensures.item made c.requires.placed w.level-is
+          let made : w.in_ok-item-in-ListItem.item ≡ item = w.in_ok-item-in-ListItem.ensures ∙ ap (λ attrs. element_of ListItem attrs ns w.in-ListItem.line) w.new.ensures in
+          item_given old w.push_item.new.self last B w.in_ok-item-in-ListItem.item item n w.in_ok-push_item-in-ListItem.ensures.item made c.requires.placed w.level-is
           ∙ ap (λ waits. resumed old B waits ns n) (sym w.in-ListItem.is)
-      | in-ListedBody+in_ok-append-in-ListedBody+in_ok-push-in-ListedBody+in_ok-push_item-in-ListedBody w ↦
+      | in-ListedBody+in_ok-listed_item-in-ListedBody+in_ok-push_item-in-ListedBody w ↦
           let x = w.in-ListedBody in
-          let made = item_made x.item x.body x.line w.new-in-ListedBody.result w.new-in-ListedBody-2.result x.heads.items w.push.new.nodes.items x.notes.items w.append.new.nodes.items ns
-          w.element_of-in-ListedBody-2.result w.element_of-in-ListedBody.result w.element_of-in-ListedBody.ensures w.new-in-ListedBody.ensures w.in_ok-append-in-ListedBody.ensures
-          w.in_ok-push-in-ListedBody.ensures w.element_of-in-ListedBody-2.ensures w.new-in-ListedBody-2.ensures in
-          item_given old w.push_item-in-ListedBody.new.self last B w.element_of-in-ListedBody-2.result _ n w.in_ok-push_item-in-ListedBody.ensures.item made c.requires.placed w.level-is
+          item_given old w.push_item-in-ListedBody.new.self last B w.in_ok-listed_item-in-ListedBody.field-0 _ n w.in_ok-push_item-in-ListedBody.ensures.item w.in_ok-listed_item-in-ListedBody.ensures c.requires.placed w.level-is
           ∙ ap (λ waits. resumed old B waits ns n) (sym x.is)
-      | in-Element+in_ok-filled-in-Element+in_ok-push-in-Element w ↦
-          let node : Node = w.in_ok-filled-in-Element.field-0 in
-          nodes_given B n w.in_ok-push-in-Element.ensures.more
-          (ap (λ (m : Node). m ∷ []) w.in_ok-filled-in-Element.ensures) c.requires.placed w.level-is
+      | in-Element+in_ok-completed-in-Element+in_ok-push_marked-in-Element w ↦
+          let node : Node = w.in_ok-completed-in-Element.field-0 in
+          nodes_given B n w.in_ok-push_marked-in-Element.ensures.more
+          (ap (λ (m : Node). m ∷ []) w.in_ok-completed-in-Element.ensures) c.requires.placed w.level-is
           ∙ ap (λ waits. resumed old B waits ns n) (sym w.in-Element.is)
-      | in-Figure+in_ok-finished_figure-in-Figure+in_ok-append-in-Figure w ↦
+      | in-Figure+in_ok-finished_figure-in-Figure+in_ok-append_marked-in-Figure w ↦
           let figure_of : OpenFigure → List Node = λ o. figure_nodes o.figure (caption_error o.line (string_bytes o.source)) ns in
-          nodes_given B n w.in_ok-append-in-Figure.ensures.more
+          nodes_given B n w.in_ok-append_marked-in-Figure.ensures.more
           (w.in_ok-finished_figure-in-Figure.ensures ∙ ap figure_of w.into_inner.ensures) c.requires.placed w.level-is
           ∙ ap (λ waits. resumed old B waits ns n) (sym w.in-Figure.is)
       | in-Replacement+in_ok-finished_replacement-in-Replacement+in_ok-push-in-Replacement w ↦
@@ -97,10 +94,10 @@ returns-clause-paid c =
     let old = c.args.level.now in
     let last = c.match-waits.level in
     elim c.match-waits.branch [
-      | in-ListItem+in_ok-push_item-in-ListItem w ↦ item_paid old w.push_item.new.self last B _ c.args.waits n (subst WaitsForOne (sym w.in-ListItem.is) tt) w.in_ok-push_item-in-ListItem.ensures.item w.level-is
-      | in-ListedBody+in_ok-append-in-ListedBody+in_ok-push-in-ListedBody+in_ok-push_item-in-ListedBody w ↦
+      | in-ListItem+in_ok-item-in-ListItem+in_ok-push_item-in-ListItem w ↦ item_paid old w.push_item.new.self last B _ c.args.waits n (subst WaitsForOne (sym w.in-ListItem.is) tt) w.in_ok-push_item-in-ListItem.ensures.item w.level-is
+      | in-ListedBody+in_ok-listed_item-in-ListedBody+in_ok-push_item-in-ListedBody w ↦
           item_paid old w.push_item-in-ListedBody.new.self last B _ c.args.waits n (subst WaitsForOne (sym w.in-ListedBody.is) tt) w.in_ok-push_item-in-ListedBody.ensures.item w.level-is
-      | in-Element+in_ok-filled-in-Element+in_ok-push-in-Element w ↦ nodes_paid B c.args.waits n (subst WaitsForOne (sym w.in-Element.is) tt) w.in_ok-push-in-Element.ensures.more w.level-is
-      | in-Figure+in_ok-finished_figure-in-Figure+in_ok-append-in-Figure w ↦ nodes_paid B c.args.waits n (subst WaitsForOne (sym w.in-Figure.is) tt) w.in_ok-append-in-Figure.ensures.more w.level-is
+      | in-Element+in_ok-completed-in-Element+in_ok-push_marked-in-Element w ↦ nodes_paid B c.args.waits n (subst WaitsForOne (sym w.in-Element.is) tt) w.in_ok-push_marked-in-Element.ensures.more w.level-is
+      | in-Figure+in_ok-finished_figure-in-Figure+in_ok-append_marked-in-Figure w ↦ nodes_paid B c.args.waits n (subst WaitsForOne (sym w.in-Figure.is) tt) w.in_ok-append_marked-in-Figure.ensures.more w.level-is
       | in-Replacement+in_ok-finished_replacement-in-Replacement+in_ok-push-in-Replacement w ↦ nodes_paid B c.args.waits n (subst WaitsForOne (sym w.in-Replacement.is) tt) w.in_ok-push-in-Replacement.ensures.more w.level-is
     ]

@@ -12,7 +12,7 @@ use Rattle.rst_block_sections.proofs.sectioning.document.Goals as goal
 pub returns-then-is_empty : goal.returns-then-is_empty
 returns-then-is_empty c =
     let none : c.args.headings.items ≡ [] = nil_from_length _ (sym c.args.headings.ok.0 ∙ eqb-true _ 0 (sym c.is_empty.ensures ∙ c.if-is_empty.true)) in
-    (rw c.new-attrs.ensures at c.element_of.ensures) ∙ untitled c.args.nodes.items ∙ ap (λ hs. document_of (items_from 0 c.args.nodes.items hs)) (sym none)
+    subst (λ (n : Node). Gives (λ root. root ≡ n) c.element.result) (untitled c.args.nodes.items ∙ ap (λ hs. document_of (items_from 0 c.args.nodes.items hs)) (sym none)) (rw c.new.ensures at c.element.ensures)
 
 pub loop-heading-preserved : goal.loop-heading-preserved
 loop-heading-preserved c =

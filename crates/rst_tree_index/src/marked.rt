@@ -1,0 +1,300 @@
+//! A node with the places of the elements that registration needs, these elements, and changes at them.
+ghost use Rattle.std.specs.Prelude.{◌≡◌, ◌++◌, [], map, if◌then◌else◌};
+ghost use Rattle.std.specs.List.{filter};
+ghost use Rattle.rst_tree.specs.Faults.{Gives};
+ghost use Rattle.rst_tree.specs.Nodes.{forest_of};
+ghost use Rattle.rst_tree.specs.Walk.{item, items, node_items, after, scanned, walked_node, node_shape};
+ghost use Rattle.rst_tree_index.specs.Kinds.{either, kinds_of};
+ghost use Rattle.rst_tree_index.specs.MarkPaths.{node_paths};
+ghost use Rattle.rst_tree_index.specs.Marks.{marks_of, heeded_next, heeded_out, path_of, places, visited_all, with_all};
+ghost use Rattle.rst_tree_index.specs.Registered.{is_registered, item_of};
+
+use crate::kinds::Kinds;
+use crate::marks::Marks;
+use crate::registered::is_registered;
+use rst_tree::{Attrs, Children, Node, Tag, TreeFault, Visitor};
+use std::alloc::Global;
+use std::marker::Model;
+
+/// An element of a node, without the nodes in it.
+#[derive(Clone, Copy)]
+pub struct Element<'a> {
+    pub tag: Tag,
+    pub attrs: &'a Attrs,
+    /// The number of its first line.
+    pub line: usize,
+}
+
+/// Adds the marked ones of a node's elements.
+fn add_elements<'a>(
+    node: &'a Node,
+    own: bool,
+    inner: &Marks,
+    list: &mut Vec<Element<'a>>,
+) -> Result<(), TreeFault>
+    ensures { Gives (λ _. map item_of list.new.items ≡ with_all (node_paths own inner.now) node.now (map item_of list.old.items)) result }
+{
+    let Node::Element {
+        tag,
+        attrs,
+        children,
+        line,
+    } = node
+    else {
+        return Ok(());
+    };
+    if own {
+        list.push(Element {
+            tag: *tag,
+            attrs,
+            line: *line,
+        })?;
+    }
+    let nodes = children.as_slice();
+    let marks = inner.as_slice();
+    for mark in marks {
+        let place = mark.place;
+        if nodes.len() <= place {
+            continue;
+        }
+        add_elements(&nodes[place], mark.own, &mark.inner, list)?;
+    }
+    Ok(())
+}
+
+/// Visits an element, if it is marked.
+fn visit_own<V: Visitor>(
+    own: bool,
+    tag: &mut Tag,
+    attrs: &mut Attrs,
+    line: &mut usize,
+    visitor: &mut V,
+) -> Result<(), TreeFault>
+    ensures state { Gives (λ _. visitor.new ≡ (if own then V.next visitor.old (item tag.old attrs.old line.old) else visitor.old)) result }
+    ensures element { Gives (λ _. item tag.new attrs.new line.new ≡ (if own then V.out visitor.old (item tag.old attrs.old line.old) else item tag.old attrs.old line.old)) result }
+{
+    if own {
+        visitor.visit(tag, attrs, line)?;
+    }
+    Ok(())
+}
+
+/// Visits the marked ones of a node's elements, in preorder.
+fn visit_in<V: Visitor>(
+    node: &mut Node,
+    own: bool,
+    inner: &Marks,
+    visitor: &mut V,
+) -> Result<(), TreeFault>
+    ensures node { Gives (λ _. node.new ≡ (visited_all V.next V.out (node_paths own inner.now) (visitor.old, node.old)).1) result }
+    ensures state { Gives (λ _. visitor.new ≡ (visited_all V.next V.out (node_paths own inner.now) (visitor.old, node.old)).0) result }
+{
+    if let Node::Element {
+        tag,
+        attrs,
+        children,
+        line,
+    } = node
+    {
+        visit_own(own, tag, attrs, line, visitor)?;
+        let marks = inner.as_slice();
+        for mark in marks {
+            let place = mark.place;
+            if children.len() <= place {
+                continue;
+            }
+            let child = children.get_mut(place);
+            visit_in(child, mark.own, &mark.inner, visitor)?;
+        }
+    }
+    Ok(())
+}
+
+/// The marks of a node that was made elsewhere, by a pass over it: whether it is marked itself, and those in it. Its kinds are added.
+fn marks_of(alloc: Global, node: &Node, kinds: &mut Kinds) -> Result<(bool, Marks), TreeFault>
+    ensures marks { Gives (λ marks. node_paths marks.0 marks.1 ≡ marks_of is_registered node.now) result }
+    ensures kinds { Gives (λ _. kinds.new ≡ either kinds.old (kinds_of (node_items node.now))) result }
+{
+    let mut inner = Marks::none(alloc);
+    let Node::Element {
+        tag,
+        attrs,
+        children,
+        line,
+    } = node
+    else {
+        return Ok((false, inner));
+    };
+    kinds.add(*tag, attrs);
+    let nodes = children.as_slice();
+    for place in 0..nodes.len() {
+        let (own, marks) = marks_of(alloc, &nodes[place], kinds)?;
+        inner.push(place, own, marks)?;
+    }
+    Ok((is_registered(*tag, attrs, *line), inner))
+}
+
+/// The nodes of an element without their marks, which are put behind others, seen from the element. Their kinds are added.
+fn gathered(
+    alloc: Global,
+    nodes: Vec<Marked>,
+    marks: &mut Marks,
+    kinds: &mut Kinds,
+) -> Result<Children, TreeFault>
+    ensures nodes { Gives (λ children. children ≡ forest_of nodes.items) result }
+    ensures marks { Gives (λ _. marks.new ≡ marks.old ++ map path_of (places is_registered (forest_of nodes.items))) result }
+    ensures kinds { Gives (λ _. kinds.new ≡ either kinds.old (kinds_of (items (forest_of nodes.items)))) result }
+{
+    let mut list = Vec::with_capacity(alloc, nodes.len())?;
+    for node in nodes {
+        let Marked {
+            root,
+            own,
+            inner,
+            kinds: more,
+        } = node;
+        marks.push(list.len(), own, inner)?;
+        *kinds = kinds.or(more);
+        list.push(root)?;
+    }
+    Ok(Children::of(list))
+}
+
+/// A node, and where those of its elements stand that registration needs: their paths, in preorder; and which kinds of elements it
+/// holds.
+#[derive(Debug, Drop)]
+pub struct Marked {
+    root: Node,
+    /// Whether the node is marked itself.
+    own: bool,
+    /// The marks in it.
+    inner: Marks,
+    kinds: Kinds,
+}
+
+impl Model for Marked {
+    ghost use Rattle.std.specs.Prelude.{◌≡◌};
+    ghost use Rattle.rst_tree.specs.declared.node.Node.{Node};
+    ghost use Rattle.rst_tree.specs.contracts.node.Node as node;
+    ghost use Rattle.std.specs.Coded.{codes};
+
+    ghost Value = { Node };
+
+    ghost coded = { Prim.hlevel (codes, node.the_row.coded) };
+
+    ghost use Rattle.rst_tree.specs.Walk.{node_items};
+    ghost use Rattle.rst_tree_index.specs.Kinds.{kinds_of};
+    ghost use Rattle.rst_tree_index.specs.MarkPaths.{node_paths};
+    ghost use Rattle.rst_tree_index.specs.Marks.{marks_of};
+    ghost use Rattle.rst_tree_index.specs.Registered.{is_registered};
+
+    ghost view = { λ m. m.root };
+
+    ghost invariant = { λ m. (node_paths m.own m.inner ≡ marks_of is_registered m.root) × (m.kinds ≡ kinds_of (node_items m.root)) };
+}
+
+impl Marked {
+    ghost use Rattle.std.specs.Prelude.{◌≡◌};
+    ghost use Rattle.rst_tree.specs.declared.node.Node.TheVariants.{Element as Tagged};
+
+    /// A node that was made elsewhere.
+    pub fn of(alloc: Global, root: Node) -> Result<Marked, TreeFault>
+        ensures { Gives (λ m. m ≡ root) result }
+    {
+        let mut kinds = Kinds::none();
+        let (own, inner) = marks_of(alloc, &root, &mut kinds)?;
+        Ok(Marked {
+            root,
+            own,
+            inner,
+            kinds,
+        })
+    }
+
+    /// Each of some nodes that were made elsewhere.
+    pub fn each(alloc: Global, nodes: Vec<Node>) -> Result<Vec<Marked>, TreeFault>
+        ensures { Gives (λ list. list.items ≡ nodes.items) result }
+    {
+        let mut list = Vec::with_capacity(alloc, nodes.len())?;
+        for node in nodes {
+            list.push(Marked::of(alloc, node)?)?;
+        }
+        Ok(list)
+    }
+
+    /// An element with these nodes in it. Their marks are known, so nobody goes through them.
+    pub fn element(
+        alloc: Global,
+        tag: Tag,
+        attrs: Attrs,
+        nodes: Vec<Marked>,
+        line: usize,
+    ) -> Result<Marked, TreeFault>
+        ensures { Gives (λ m. m ≡ Tagged tag attrs (forest_of nodes.items) line) result }
+    {
+        let own = is_registered(tag, &attrs, line);
+        let mut inner = Marks::none(alloc);
+        let mut kinds = Kinds::none();
+        kinds.add(tag, &attrs);
+        let root = Node::Element {
+            tag,
+            attrs,
+            children: gathered(alloc, nodes, &mut inner, &mut kinds)?,
+            line,
+        };
+        Ok(Marked {
+            root,
+            own,
+            inner,
+            kinds,
+        })
+    }
+
+    /// Which kinds of elements that transforms act on the node holds.
+    pub fn kinds(&self) -> Kinds
+        ensures { result ≡ kinds_of (node_items self.now) }
+    {
+        self.kinds
+    }
+
+    /// The node alone.
+    pub fn into_root(self) -> Node
+        ensures { result ≡ self }
+    {
+        let Marked { root, .. } = self;
+        root
+    }
+
+    /// The whole node.
+    pub fn root(&self) -> &Node
+        ensures { result.now ≡ self.now }
+    {
+        &self.root
+    }
+
+    /// The elements that registration needs, in preorder, found by their marks.
+    pub fn elements(&self, alloc: Global) -> Result<Vec<Element<'_>>, TreeFault>
+        ensures { Gives (λ list. map item_of list.items ≡ filter is_registered (node_items self.now)) result }
+    {
+        let mut list = Vec::new(alloc);
+        add_elements(&self.root, self.own, &self.inner, &mut list)?;
+        Ok(list)
+    }
+
+    /// Visits the marked elements, in preorder, by their marks.
+    pub fn visit<V: Visitor>(self, visitor: &mut V) -> Result<Node, TreeFault>
+        ensures node { Gives (λ n. n ≡ walked_node (heeded_next is_registered V.next) (heeded_out is_registered V.out) visitor.old self) result }
+        ensures state { Gives (λ _. visitor.new ≡ after (heeded_next is_registered V.next) (heeded_out is_registered V.out) visitor.old (node_items self)) result }
+        ensures elements { Gives (λ n. node_items n ≡ scanned (heeded_next is_registered V.next) (heeded_out is_registered V.out) visitor.old (node_items self)) result }
+        ensures shape { Gives (λ n. node_shape n ≡ node_shape self) result }
+    {
+        let Marked {
+            mut root,
+            own,
+            inner,
+            ..
+        } = self;
+        visit_in(&mut root, own, &inner, visitor)?;
+        Ok(root)
+    }
+}
