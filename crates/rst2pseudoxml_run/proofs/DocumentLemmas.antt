@@ -1,12 +1,22 @@
 -- Lemmas on the document of some bytes.
-use Rattle.std.proofs.Common.{◌≡◌, ℕ, suc, ◌*◌, ◌^◌, ◌<◌, ◌≤◌, ◌==◌, Bool, true, false, cond, List, [], ◌∷◌, length, None, Some, refl, ap, arith}
+use Rattle.std.proofs.Common.{◌≡◌, ℕ, suc, ◌*◌, ◌^◌, ◌<◌, ◌≤◌, ◌==◌, Bool, true, false, cond, List, [], ◌∷◌, length, None, Some, refl, sym, ap, arith}
+use Rattle.std.specs.Prelude.{Option, Result, Ok, Err}
 use Rattle.std.specs.Str.{is_utf8, chars}
 use Rattle.std.proofs.lemmas.Str.{IsUtf8-from_is_utf8}
+use Rattle.rst_settings.specs.Profile.{Profile}
 use Rattle.rst_settings.specs.declared.Settings.{Settings}
-use Rattle.rst_text.specs.Lines.{lines_of}
+use Rattle.rst_text.specs.Block.{Block}
+use Rattle.rst_text.specs.Lines.{first_longer, lines_of}
 use Rattle.rst_text.specs.Text.{text_of, without_mark}
 use Rattle.rst_text.proofs.LinesLemmas.{length-chars}
+use Rattle.rst_tree.specs.declared.node.Node.{Node}
+use Rattle.rst_tree.specs.declared.tag.Tag.{Tag}
 use Rattle.rst_block.specs.Ledger.{total_at}
+use Rattle.rst_block.specs.Nodes.{document_items}
+use Rattle.rst_block.specs.Numbered.{just, then_read}
+use Rattle.rst_block_sections.specs.Sections.{document_of, Item}
+use Rattle.rst_transform_work.specs.States.{node_tag, IsDocument}
+use Rattle.rst2pseudoxml_run.specs.Reading.{read_by, read_of}
 use Rattle.rst_block.proofs.TextRoom.{few_looks}
 
 -- characters are no more without a mark
@@ -31,3 +41,21 @@ text_short bytes text is = by (is_utf8 bytes) refl is
 -- the looks at the text of an input can be counted
 pub input_few : (settings : Settings) (bytes text : List ℕ) → length bytes ≤ 16777216 → text_of bytes ≡ Some text → 128 * total_at 0 (lines_of settings.tab text) < 2 ^ 119
 input_few settings bytes text small is = few_looks settings text (omega (arith, small, text_short bytes text is))
+
+-- the kind of what is read, if it is an element
+abbrev read_tag : Result (Node × ℕ) ℕ → Option Tag
+read_tag (Ok read) = node_tag read.0
+read_tag (Err line) = None
+
+-- what is made of items that are read is a document
+made_document : (items : Result (List Item × ℕ) ℕ) (root : Node) (messages : ℕ) → then_read (λ some. just (document_of some)) items ≡ Ok (root, messages) → IsDocument root
+made_document (Ok (some, number)) root messages is = sym (ap read_tag is)
+made_document (Err line) root messages is = absurd cc
+
+-- so is what is read of lines, one of which may be too long
+read_by_document : (long : Option ℕ) (profile : Profile) (lines : Block) (root : Node) (messages : ℕ) → read_by long profile lines ≡ Ok (root, messages) → IsDocument root
+read_by_document None profile lines root messages is = made_document (document_items profile lines 0) root messages is
+read_by_document (Some line) profile lines root messages is = sym (ap read_tag is)
+
+pub read_document : (profile : Profile) (lines : Block) (root : Node) (messages : ℕ) → read_of profile lines ≡ Ok (root, messages) → IsDocument root
+read_document profile lines root messages is = read_by_document (first_longer profile.line_limit lines) profile lines root messages is

@@ -11,7 +11,7 @@ use Rattle.rst_tree.specs.declared.node.Node.{Node}
 use Rattle.rst_tree.specs.declared.note.Note.{Note}
 use Rattle.rst_transform.specs.Finishing.{Leaves}
 use Rattle.rst_transform.specs.declared.finishing.Finished.{Finished}
-use Rattle.rst_transform_work.specs.declared.work.Work.{Work}
+use Rattle.rst_transform_work.specs.States.{State}
 use Rattle.rst2pseudoxml_run.specs.CodeCalls.{IsWithoutCode}
 use Rattle.rst2pseudoxml_run.specs.declared.end.End.TheVariants.{Done, Read, TooLong, NotUtf8, TooDeep, NoMemory, WriteErr, WriteOut}
 use Rattle.rst2pseudoxml_run.specs.Profiles.{first_profile, list_of, AnswerAlike, CallsNoCode, HasNoList, IsTitledOf, NestsWithin, ProfilesAgree}
@@ -58,7 +58,7 @@ module _ (settings : Settings) where
   -- what is left of a document
   module _ (messages : ℕ) (document root : Node) (notes : List Note) where
     abbrev Apart : Type 0
-    Apart = (settings.info ≡ false) ⊎ ((titled : Work) → IsTitledOf messages settings document titled → list_of titled.root ≡ None)
+    Apart = (settings.info ≡ false) ⊎ ((titled : State) → IsTitledOf messages settings document titled → list_of titled.document ≡ None)
 
     left_alike_by : (info : Bool) → settings.info ≡ info → Apart
         → Leaves messages first_profile settings document root notes ↔ Leaves messages (profile_of settings) settings document root notes
@@ -74,7 +74,7 @@ module _ (settings : Settings) where
 
   -- bibliographic fields aren't looked for, or no field list leads the document
   apart : (text : Option (List ℕ)) (document : Node) (messages : ℕ) → IsReadOf first_profile settings text (Ok (document, messages)) → (settings.info ≡ false) ⊎ HasNoList first_profile settings text
-      → (settings.info ≡ false) ⊎ ((titled : Work) → IsTitledOf messages settings document titled → list_of titled.root ≡ None)
+      → (settings.info ≡ false) ⊎ ((titled : State) → IsTitledOf messages settings document titled → list_of titled.document ≡ None)
   apart text document messages read (inl off) = inl off
   apart text document messages read (inr none) = inr (λ titled is. none document messages titled read is)
 

@@ -5,37 +5,42 @@ use Rattle.rst_tree.specs.Forest.{Forest, bare, element, words}
 use Rattle.rst_tree.specs.Nodes.{forest_of}
 use Rattle.rst_tree.specs.declared.attrs.Attr.{Attr}
 use Rattle.rst_tree.specs.declared.node.Node.{Node}
-use Rattle.rst_tree.specs.declared.node.Node.TheVariants.{Element, Text}
+use Rattle.rst_tree.specs.declared.node.Node.TheVariants.{Element}
 use Rattle.rst_transform_substitutions.specs.declared.expansion.ExpansionFault.{ExpansionFault}
-use Rattle.rst_transform_substitutions.specs.Definitions.{definitions_in, found_among, place_of_name}
-use Rattle.rst_transform_substitutions.specs.Expanded.{within_element, ExpandsIn, ExpandsRoot, GivesWay, IsExpanded, ReportsFault, Whether}
+use Rattle.rst_transform_substitutions.specs.Definitions.{definitions_among, found_among, place_of_name}
+use Rattle.rst_transform_substitutions.specs.Expanded.{within_element, ExpandsIn, GivesWay, IsExpanded, ReportsFault, Whether}
 use Rattle.rst_transform_substitutions.specs.Expansion.{is_reference, name_said, nodes_for}
 use Rattle.rst_transform_structure.specs.Targets.{IsRetargeted}
 use Rattle.rst_transform_structure.specs.Title.{IsTitled}
-use Rattle.rst_transform_work.specs.declared.work.Report.{Report}
-use Rattle.rst_transform_work.specs.declared.work.Work.{Work}
+use Rattle.rst_transform_work.specs.declared.context.Context.{Context}
+use Rattle.rst_transform_work.specs.declared.report.Report.{Report}
 use Rattle.rst_transform_work.specs.Problematics.{MakesProblematic}
+use Rattle.rst_transform_work.specs.States.{state, State}
 use Rattle.rst_transform.specs.Finishing.{Where}
 
--- a document with the list of messages of another
-abbrev pub with_list_of : Work → Work → Work
-with_list_of other work = record work { reports = other.reports }
+-- what is known, with the list of messages of another
+abbrev pub with_list_of : Context → Context → Context
+with_list_of other context = record context { reports = other.reports }
+
+-- the document beside that
+abbrev pub saying : Context → State → State
+saying other s = state s.document (with_list_of other s.context)
 
 -- two lists of the same messages
-abbrev pub SayTheSame : Work → Work → Type 0
+abbrev pub SayTheSame : Context → Context → Type 0
 SayTheSame one other = one.reports.items ≡ other.reports.items
 
 -- before a step there is such a list, too
-abbrev pub Steps : (Work → Work → Type 0) → Work → Work → Work → Type 0
-Steps Becomes before after later = (earlier : Work) × SayTheSame earlier before × Becomes (with_list_of earlier before) (with_list_of later after)
+abbrev pub Steps : (Context → Context → Type 0) → Context → Context → Context → Type 0
+Steps Becomes before after later = (earlier : Context) × SayTheSame earlier before × Becomes (with_list_of earlier before) (with_list_of later after)
 
 -- where nothing happens it is the same list
-same_list : (before after later : Work) → SayTheSame later after → after ≡ before → SayTheSame later before
-same_list before after later same is = same ∙ ap (λ w. w.reports.items) is
+same_list : (before after later : Context) → SayTheSame later after → after ≡ before → SayTheSame later before
+same_list before after later same is = same ∙ ap (λ context. context.reports.items) is
 
 -- ---- substitutions
 
-problematic_before : (r : Option Report) (place : ℕ) (attrs : List Attr) (before after later : Work) → SayTheSame later after → MakesProblematic r place before after attrs
+problematic_before : (r : Option Report) (place : ℕ) (attrs : List Attr) (before after later : Context) → SayTheSame later after → MakesProblematic r place before after attrs
     → Steps (λ one other. MakesProblematic r place one other attrs) before after later
 problematic_before (Some r) place attrs before after later same made = (
   before,
@@ -52,9 +57,9 @@ problematic_before (Some r) place attrs before after later same made = (
   },
 )
 problematic_before None place attrs before after later same made =
-    (later, same ∙ ap (λ w. w.reports.items) made.rest, record { id = made.id; new_id = made.new_id; says = made.says; rest = ap (with_list_of later) made.rest })
+    (later, same ∙ ap (λ context. context.reports.items) made.rest, record { id = made.id; new_id = made.new_id; says = made.says; rest = ap (with_list_of later) made.rest })
 
-fault_before : (a : List Attr) (l : ℕ) (fault : ExpansionFault) (before after later : Work) (node : Node) → SayTheSame later after → ReportsFault a l fault before after node
+fault_before : (a : List Attr) (l : ℕ) (fault : ExpansionFault) (before after later : Context) (node : Node) → SayTheSame later after → ReportsFault a l fault before after node
     → ReportsFault a l fault before (with_list_of later after) node
 fault_before a l fault before after later node same f =
     let place = length before.reports.items in
@@ -68,18 +73,18 @@ fault_before a l fault before after later node same f =
       is = f.is;
     }
 
-way_before : (a : List Attr) (l : ℕ) (result : Result (List Node) ExpansionFault) (done : List Node) (before after later : Work) → SayTheSame later after
+way_before : (a : List Attr) (l : ℕ) (result : Result (List Node) ExpansionFault) (done : List Node) (before after later : Context) → SayTheSame later after
     → GivesWay a l result before after done → Steps (λ one other. GivesWay a l result one other done) before after later
 way_before a l (Ok nodes) done before after later same g = (later, same_list before after later same g.0, (ap (with_list_of later) g.0, g.1))
 way_before a l (Err fault) done before after later same g = (before, refl, (g.0, fault_before a l fault before after later g.0 same g.1, g.2))
 
-either_before : (test : Bool) (One Other : Work → Work → Type 0) (before after later : Work) → (One before after → Steps One before after later) → (Other before after → Steps Other before after later)
+either_before : (test : Bool) (One Other : Context → Context → Type 0) (before after later : Context) → (One before after → Steps One before after later) → (Other before after → Steps Other before after later)
     → Whether test (One before after) (Other before after) → Steps (λ one other. Whether test (One one other) (Other one other)) before after later
 either_before true One Other before after later f g is = f is
 either_before false One Other before after later f g is = g is
 
 module _ (found : List ℕ → Option (ℕ × Forest)) (place : List ℕ → Option ℕ) where
-  expansion_before : (within : Option ℕ) (f : Forest) (done : List Node) (before after later : Work) → SayTheSame later after → ExpandsIn found place within f before after done
+  expansion_before : (within : Option ℕ) (f : Forest) (done : List Node) (before after later : Context) → SayTheSame later after → ExpandsIn found place within f before after done
       → Steps (λ one other. ExpandsIn found place within f one other done) before after later
   expansion_before within bare done before after later same g = (later, same_list before after later same g.0, (ap (with_list_of later) g.0, g.1))
   expansion_before within (words t r) done before after later same g =
@@ -95,28 +100,25 @@ module _ (found : List ℕ → Option (ℕ × Forest)) (place : List ℕ → Opt
       g.3 in
       (first.0, first.1, (with_list_of more.0 g.0, g.1, g.2, first.2, more.2, g.5))
 
-root_before : (root : Node) (before after later : Work) → SayTheSame later after → ExpandsRoot root before after → Steps (ExpandsRoot root) before after later
-root_before (Text t) before after later same is = (later, same_list before after later same is, ap (with_list_of later) is)
-root_before (Element t a c l) before after later same g =
-    let all = definitions_in before.root in
-    let inside = expansion_before (found_among all) (place_of_name all) None c g.2 (record before { root = g.0 }) g.1 later (same ∙ ap (λ w. w.reports.items) g.4) g.3 in
-    (inside.0, inside.1, (g.0, with_list_of later g.1, g.2, inside.2, ap (with_list_of later) g.4))
-
-pub expanded_before : (before after later : Work) → SayTheSame later after → IsExpanded before after → Steps IsExpanded before after later
-expanded_before before after later same is = root_before before.root before after later same is
+pub expanded_before : (before after : State) (later : Context) → SayTheSame later after.context → IsExpanded before after
+    → (earlier : Context) × SayTheSame earlier before.context × IsExpanded (saying earlier before) (saying later after)
+expanded_before before after later same is =
+    let all = definitions_among before.document.children in
+    let inside = expansion_before (found_among all) (place_of_name all) None before.document.children is.0 before.context after.context later same is.1 in
+    (inside.0, inside.1, (is.0, inside.2, is.2))
 
 -- ---- targets and the title say nothing
 
-pub retargeted_before : (before after later : Work) → IsRetargeted before after → IsRetargeted (with_list_of later before) (with_list_of later after)
+pub retargeted_before : (before after : State) (later : Context) → IsRetargeted before after → IsRetargeted (saying later before) (saying later after)
 retargeted_before before after later is = record { elements = is.elements; shape = is.shape; names = is.names; rest = ap (with_list_of later) is.rest }
 
-pub titled_before : (asked : Bool) (before after later : Work) → Where asked IsTitled before after → Where asked IsTitled (with_list_of later before) (with_list_of later after)
-titled_before true before after later is = record { root = is.root; names = is.names; rest = ap (with_list_of later) is.rest }
-titled_before false before after later is = ap (with_list_of later) is
+pub titled_before : (asked : Bool) (before after : State) (later : Context) → Where asked IsTitled before after → Where asked IsTitled (saying later before) (saying later after)
+titled_before true before after later is = record { document = is.document; names = is.names; rest = ap (with_list_of later) is.rest }
+titled_before false before after later is = ap (saying later) is
 
-pub retargeted_says : (before after : Work) → IsRetargeted before after → SayTheSame after before
-retargeted_says before after is = ap (λ w. w.reports.items) is.rest
+pub retargeted_says : (before after : State) → IsRetargeted before after → SayTheSame after.context before.context
+retargeted_says before after is = ap (λ context. context.reports.items) is.rest
 
-pub titled_says : (asked : Bool) (before after : Work) → Where asked IsTitled before after → SayTheSame after before
-titled_says true before after is = ap (λ w. w.reports.items) is.rest
-titled_says false before after is = ap (λ w. w.reports.items) is
+pub titled_says : (asked : Bool) (before after : State) → Where asked IsTitled before after → SayTheSame after.context before.context
+titled_says true before after is = ap (λ context. context.reports.items) is.rest
+titled_says false before after is = ap (λ s. s.context.reports.items) is

@@ -7,14 +7,14 @@ use Rattle.rst_text.specs.Lines.{lines_of}
 use Rattle.rst_text.specs.Text.{text_of}
 use Rattle.rst_tree.specs.Nodes.{nodes_of}
 use Rattle.rst_tree.specs.declared.node.Node.{Node}
-use Rattle.rst_tree.specs.declared.node.Node.TheVariants.{Element, Text}
 use Rattle.rst_transform_docinfo.specs.Docinfo.{leading_list}
 use Rattle.rst_transform_names.specs.declared.registration.Registered.{Registered}
 use Rattle.rst_transform_names.specs.Registering.{IsRegistered}
 use Rattle.rst_transform_structure.specs.Targets.{IsRetargeted}
 use Rattle.rst_transform_structure.specs.Title.{IsTitled}
 use Rattle.rst_transform_substitutions.specs.Expanded.{IsExpanded}
-use Rattle.rst_transform_work.specs.declared.work.Work.{Work}
+use Rattle.rst_transform_work.specs.declared.document.Document.{Document}
+use Rattle.rst_transform_work.specs.States.{State}
 use Rattle.rst_transform.specs.Finishing.{IsStarted, Where}
 use Rattle.rst2pseudoxml_run.specs.CodeCalls.{IsWithoutCode}
 use Rattle.rst2pseudoxml_run.specs.declared.end.End.{End}
@@ -32,11 +32,11 @@ CallsNoCode settings None = Unit {0}
 CallsNoCode settings (Some text) = IsWithoutCode (lines_of settings.tab text)
 
 -- what a parsed document, in which so many numbers were given to messages, has become after the transform of its title
-pub record IsTitledOf (messages : ℕ) (settings : Settings) (document : Node) (titled : Work) : Type 0 where
+pub record IsTitledOf (messages : ℕ) (settings : Settings) (document : Node) (titled : State) : Type 0 where
   pub registered : Registered
-  pub started : Work
-  pub expanded : Work
-  pub retargeted : Work
+  pub started : State
+  pub expanded : State
+  pub retargeted : State
   pub is_registered : IsRegistered messages document registered
   pub is_started : IsStarted messages registered started
   pub substitutions : IsExpanded started expanded
@@ -44,15 +44,14 @@ pub record IsTitledOf (messages : ℕ) (settings : Settings) (document : Node) (
   pub title : Where settings.title IsTitled retargeted titled
 
 -- the field list of a document that would become its bibliography, if there is one
-abbrev pub list_of : Node → Option Node
-list_of (Element t a c l) = leading_list (nodes_of c)
-list_of (Text t) = None
+abbrev pub list_of : Document → Option Node
+list_of document = leading_list (nodes_of document.children)
 
 -- there is none in the document that is read of a text, after its title
 abbrev pub HasNoList : Profile → Settings → Option (List ℕ) → Type 0
 HasNoList profile settings text =
-    (document : Node) (messages : ℕ) (titled : Work) → IsReadOf profile settings text (Ok (document, messages)) → IsTitledOf messages settings document titled
-    → list_of titled.root ≡ None
+    (document : Node) (messages : ℕ) (titled : State) → IsReadOf profile settings text (Ok (document, messages)) → IsTitledOf messages settings document titled
+    → list_of titled.document ≡ None
 
 -- no block is nested too deeply: that isn't the answer under a profile
 abbrev pub NestsWithin : Profile → Settings → List ℕ → List ℕ → Type 0

@@ -1,2 +1,3 @@
 pub mod NoNewKinds
 pub mod OneAnswer
+pub mod Registered

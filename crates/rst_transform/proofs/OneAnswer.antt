@@ -3,14 +3,16 @@ use Rattle.std.proofs.Common.{◌≡◌, ◌∙◌, ℕ, ◌++◌, Bool, true, f
 use Rattle.rst_settings.specs.Profile.{Profile}
 use Rattle.rst_settings.specs.declared.Settings.{Settings}
 use Rattle.rst_tree.specs.declared.node.Node.{Node}
+use Rattle.rst_tree.specs.declared.node.Node.TheVariants.{Element, Text}
 use Rattle.rst_tree.specs.declared.note.Note.{Note}
 use Rattle.rst_transform_names.specs.declared.registration.Registered.{Registered}
 use Rattle.rst_transform_names.specs.Alike.{AreRegisteredAlike}
 use Rattle.rst_transform_names.specs.Names.{held_by}
 use Rattle.rst_transform_names.proofs.OneAnswer.{registered_alike}
-use Rattle.rst_transform_work.specs.declared.work.Report.{Report}
-use Rattle.rst_transform_work.specs.declared.work.Work.{Work}
+use Rattle.rst_transform_work.specs.declared.document.Document.{Document}
+use Rattle.rst_transform_work.specs.declared.report.Report.{Report}
 use Rattle.rst_transform_work.specs.Alike.{AreAlike, HasOneAnswer}
+use Rattle.rst_transform_work.specs.States.{document_node, State}
 use Rattle.rst_transform_work.proofs.OneAnswer.{alike_by, taken_by}
 use Rattle.rst_transform_substitutions.proofs.OneAnswer.{expanded_alike}
 use Rattle.rst_transform_hyperlinks.proofs.OneAnswer.{led_alike, paired_alike}
@@ -26,19 +28,30 @@ use Rattle.rst_transform_messages.specs.Messages.{is_number_shown, notes_of, unt
 use Rattle.rst_transform_messages.specs.MessagesIn.{messages_in}
 use Rattle.rst_transform.specs.Finishing.{IsStarted, IsTransformed, Leaves, ResolvesLinks, Where}
 
+-- the document that an element is, given one for a text
+abbrev document_in : Document → Node → Document
+document_in other (Element t a c l) = record { attrs = a; children = c; line = l }
+document_in other (Text t) = other
+
+-- documents that are the same as nodes
+same_document : (one other : Document) → document_node one ≡ document_node other → one ≡ other
+same_document one other is = ap (document_in one) is
+
 -- where a transform has one answer, it has one where it is asked for or not
-asked_alike : (asked : Bool) (Becomes : Work → Work → Type 0) → HasOneAnswer Becomes → HasOneAnswer (Where asked Becomes)
+asked_alike : (asked : Bool) (Becomes : State → State → Type 0) → HasOneAnswer Becomes → HasOneAnswer (Where asked Becomes)
 asked_alike true Becomes alike one other then_one then_other same f g = alike one other then_one then_other same f g
 asked_alike false Becomes alike one other then_one then_other same f g = alike_by same f g
 
-started_alike : (messages : ℕ) (registered also : Registered) (one other : Work) → AreRegisteredAlike registered also → IsStarted messages registered one → IsStarted messages also other → AreAlike one other
+started_alike : (messages : ℕ) (registered also : Registered) (one other : State) → AreRegisteredAlike registered also → IsStarted messages registered one → IsStarted messages also other → AreAlike one other
 started_alike messages registered also one other same f g = record {
-  root = f.root ∙ same.root ∙ sym g.root;
-  ids = taken_by registered.ids also.ids one.ids other.ids same.ids f.ids g.ids;
-  names = λ name. ap (λ names. held_by names name) g.names ∙ same.names name ∙ sym (ap (λ names. held_by names name) f.names);
-  reports = f.reports ∙ sym g.reports;
-  first_number = f.first_number ∙ sym g.first_number;
-  serials = f.serials ∙ same.serials ∙ sym g.serials;
+  document = same_document one.document other.document (f.document ∙ same.root ∙ sym g.document);
+  context = record {
+    ids = taken_by registered.ids also.ids one.context.ids other.context.ids same.ids f.ids g.ids;
+    names = λ name. ap (λ names. held_by names name) g.names ∙ same.names name ∙ sym (ap (λ names. held_by names name) f.names);
+    reports = f.reports ∙ sym g.reports;
+    first_number = f.first_number ∙ sym g.first_number;
+    serials = f.serials ∙ same.serials ∙ sym g.serials;
+  };
 }
 
 pub links_alike : HasOneAnswer ResolvesLinks
@@ -64,7 +77,7 @@ finished_alike messages profile settings document one other notes others f g =
     let transformed = transformed_alike profile settings f.started g.started f.transformed g.transformed started f.is_transformed g.is_transformed in
     let sectioned = sectioned_alike settings.report f.transformed g.transformed f.sectioned g.sectioned transformed f.has_section g.has_section in
     let all : f.all ≡ g.all =
-    f.are_all ∙ ap₂ (λ (root : Node) (reports : List Report). messages_in root ++ map report_said reports) registered.root sectioned.reports ∙ sym g.are_all in (
-      f.root_is ∙ ap₂ (λ (all : List Numbered) (root : Node). with_filtered settings.report (is_number_shown settings.report all) root) all sectioned.root ∙ sym g.root_is,
+    f.are_all ∙ ap₂ (λ (root : Node) (reports : List Report). messages_in root ++ map report_said reports) registered.root sectioned.context.reports ∙ sym g.are_all in (
+      f.root_is ∙ ap₂ (λ (all : List Numbered) (document : Document). document_node (with_filtered settings.report (is_number_shown settings.report all) document)) all sectioned.document ∙ sym g.root_is,
       f.notes_are ∙ ap (λ all. until_halt settings.halt (notes_of all)) all ∙ sym g.notes_are,
     )

@@ -12,8 +12,8 @@ use Rattle.rst_tree.specs.declared.fault.TreeFault.{TreeFault}
 use Rattle.rst_tree.specs.declared.fault.TreeFault.TheVariants.{NoMemory}
 use Rattle.rst_tree.specs.Walk.{Item}
 use Rattle.rst_transform.specs.declared.finishing.Finished.{Finished}
-use Rattle.rst_transform_work.specs.declared.work.Report.{Report}
-use Rattle.rst_transform_work.specs.declared.work.Work.{Work}
+use Rattle.rst_transform_work.specs.declared.report.Report.{Report}
+use Rattle.rst_transform_work.specs.States.{document_node, State}
 use Rattle.rst_transform_hyperlinks.specs.Anonymous.{IsAnonymous}
 use Rattle.rst_transform_docinfo.specs.Docinfo.{HasDocinfo}
 use Rattle.rst_transform_substitutions.specs.Expanded.{IsExpanded}
@@ -30,36 +30,36 @@ use Rattle.rst_transform_structure.specs.Title.{IsTitled}
 use Rattle.rst_transform_structure.specs.Transitions.{HasTransitions}
 
 -- a transform that is asked for takes place; one that isn't leaves the document as it is
-abbrev pub Where : Bool → (Work → Work → Type 0) → Work → Work → Type 0
+abbrev pub Where : Bool → (State → State → Type 0) → State → State → Type 0
 Where true Transforms before after = Transforms before after
 Where false Transforms before after = after ≡ before
 
 -- what registration leaves is the document before the transforms; so many numbers were given to messages
-pub record IsStarted (messages : ℕ) (registered : Registered) (work : Work) : Type 0 where
-  pub root : work.root ≡ registered.root
-  pub ids : work.ids ≡ registered.ids
-  pub names : work.names ≡ registered.names
-  pub reports : work.reports.items ≡ []
-  pub first_number : work.first_number ≡ messages
-  pub serials : work.serials ≡ registered.serials
+pub record IsStarted (messages : ℕ) (registered : Registered) (start : State) : Type 0 where
+  pub document : document_node start.document ≡ registered.root
+  pub ids : start.context.ids ≡ registered.ids
+  pub names : start.context.names ≡ registered.names
+  pub reports : start.context.reports.items ≡ []
+  pub first_number : start.context.first_number ≡ messages
+  pub serials : start.context.serials ≡ registered.serials
 
 -- the transforms of links
-pub record ResolvesLinks (before after : Work) : Type 0 where
-  pub paired : Work
-  pub led : Work
-  pub numbered : Work
+pub record ResolvesLinks (before after : State) : Type 0 where
+  pub paired : State
+  pub led : State
+  pub numbered : State
   pub anonymous : IsAnonymous before paired
   pub indirect : IsIndirect paired led
   pub footnotes : NumbersFootnotes led numbered
   pub references : IsResolved numbered after
 
 -- all transforms; the profile says whether a leading field list is bibliographic
-pub record IsTransformed (profile : Profile) (settings : Settings) (before after : Work) : Type 0 where
-  pub expanded : Work
-  pub retargeted : Work
-  pub titled : Work
-  pub informed : Work
-  pub linked : Work
+pub record IsTransformed (profile : Profile) (settings : Settings) (before after : State) : Type 0 where
+  pub expanded : State
+  pub retargeted : State
+  pub titled : State
+  pub informed : State
+  pub linked : State
   pub substitutions : IsExpanded before expanded
   pub targets : IsRetargeted expanded retargeted
   pub title : Where settings.title IsTitled retargeted titled
@@ -75,17 +75,17 @@ all_messages registered reports = messages_in registered.root ++ map report_said
 -- messages, up to the first that halts the run.
 pub record Leaves (messages : ℕ) (profile : Profile) (settings : Settings) (document : Node) (root : Node) (notes : List Note) : Type 0 where
   pub registered : Registered
-  pub started : Work
-  pub transformed : Work
-  pub sectioned : Work
+  pub started : State
+  pub transformed : State
+  pub sectioned : State
   pub is_registered : IsRegistered messages document registered
   pub is_started : IsStarted messages registered started
   pub is_transformed : IsTransformed profile settings started transformed
   pub has_section : HasLastSection settings.report transformed sectioned
   pub all : List Numbered
-  pub are_all : all ≡ all_messages registered sectioned.reports.items
+  pub are_all : all ≡ all_messages registered sectioned.context.reports.items
   pub notes_are : notes ≡ until_halt settings.halt (notes_of all)
-  pub root_is : root ≡ with_filtered settings.report (is_number_shown settings.report all) sectioned.root
+  pub root_is : root ≡ document_node (with_filtered settings.report (is_number_shown settings.report all) sectioned.document)
 
 -- what is left of it is given, or memory ran out
 abbrev pub Finishes : ℕ → Profile → Settings → Node → Result Finished TreeFault → Type 0

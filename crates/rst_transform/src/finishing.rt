@@ -6,6 +6,7 @@ ghost use Rattle.rst_transform_names.specs.Registering.{IsRegistered};
 ghost use Rattle.rst_tree.specs.declared.node.Node.{Node};
 ghost use Rattle.rst_tree.specs.Faults.{Gives};
 ghost use Rattle.rst_tree.specs.Walk.{node_items};
+ghost use Rattle.rst_transform_work.specs.States.{document_node, elements_of, state, IsDocument};
 ghost use Rattle.rst_transform_docinfo.specs.Docinfo.{HasDocinfo};
 ghost use Rattle.rst_transform_messages.specs.Filtered.{with_filtered};
 ghost use Rattle.rst_transform.specs.Finishing.{AreOfKinds, Finishes, IsStarted, IsTransformed, ResolvesLinks, Where};
@@ -29,7 +30,7 @@ use rst_transform_structure::targets::targets;
 use rst_transform_structure::title::title;
 use rst_transform_structure::transitions::transitions;
 use rst_transform_substitutions::expand::expand;
-use rst_transform_work::Work;
+use rst_transform_work::{Context, Document, Report};
 use rst_tree::{Node, Note, TreeFault};
 use rst_tree_index::{Kinds, Marked};
 use std::alloc::Global;
@@ -55,6 +56,7 @@ pub fn finish(
     messages: u64,
     settings: &Settings,
 ) -> Result<Finished, TreeFault>
+    requires document { IsDocument document }
     ensures finishes { Finishes messages (profile_of settings.now) settings.now document result }
     ensures shown { IfOk result (λ done. is_shown_in settings.now.report done.document ≡ true) }
     ensures halt { IfOk result (λ done. EndsAtHalt settings.now.halt done.notes.items) }
@@ -64,13 +66,13 @@ pub fn finish(
     let kinds = document.kinds();
     let registered = register(alloc, document, messages)?;
     let list = listed(alloc, &registered, kinds, messages, settings)?;
-    let work = started(alloc, registered, messages);
-    let after = transformed(alloc, work, kinds, settings)?;
-    let work = last_section(alloc, after, settings.report)?;
-    let (root, list) = filtered(alloc, work, list, settings.report)?;
+    let (start, mut context) = started(alloc, registered, messages);
+    let after = transformed(alloc, start, &mut context, kinds, settings)?;
+    let sectioned = last_section(alloc, after, &mut context, settings.report)?;
+    let (shown, list) = filtered(alloc, sectioned, context.reports, list, settings.report)?;
     let (notes, highest) = list.end();
     Ok(Finished {
-        document: root,
+        document: shown.into_node(),
         notes,
         highest,
     })
@@ -96,86 +98,103 @@ fn listed(
 /// A document with its last section, filtered, and the list of messages with those of the transforms.
 fn filtered(
     alloc: Global,
-    work: Work,
+    document: Document,
+    reports: Vec<Report>,
     list: Messages,
     report: Threshold,
-) -> Result<(Node, Messages), TreeFault>
+) -> Result<(Document, Messages), TreeFault>
     ensures halt { Gives (λ done. done.1.halt ≡ list.halt) result }
-    ensures lists { (all : List Numbered) → Lists all list → Gives (λ done. Lists (all ++ map report_said work.reports.items) done.1) result }
-    ensures root { (all : List Numbered) → Lists all list → list.report ≡ report → Gives (λ done. done.0 ≡ with_filtered report (is_number_shown report (all ++ map report_said work.reports.items)) work.root) result }
-    ensures shown { Gives (λ done. is_shown_in report done.0 ≡ true) result }
+    ensures lists { (all : List Numbered) → Lists all list → Gives (λ done. Lists (all ++ map report_said reports.items) done.1) result }
+    ensures document { (all : List Numbered) → Lists all list → list.report ≡ report → Gives (λ done. done.0 ≡ with_filtered report (is_number_shown report (all ++ map report_said reports.items)) document) result }
+    ensures shown { Gives (λ done. is_shown_in report (document_node done.0) ≡ true) result }
 {
-    let Work { root, reports, .. } = work;
     let mut list = list;
     list.add_reports(reports)?;
-    let root = filter(alloc, root, report, list.shown())?;
-    Ok((root, list))
+    let document = filter(alloc, document, report, list.shown())?;
+    Ok((document, list))
 }
 
-/// A registered document before the transforms, where so many numbers were given to messages.
-fn started(alloc: Global, registered: Registered, messages: u64) -> Work
-    ensures { IsStarted messages registered result }
+/// A registered document before the transforms, where so many numbers were given to messages, and what is known beside it.
+fn started(alloc: Global, registered: Registered, messages: u64) -> (Document, Context)
+    requires document { IsDocument registered.root }
+    ensures { IsStarted messages registered (state result.0 result.1) }
 {
-    Work {
-        root: registered.root,
+    let context = Context {
         ids: registered.ids,
         names: registered.names,
         reports: Vec::new(alloc),
         first_number: messages,
         serials: registered.serials,
-    }
+    };
+    (Document::of(registered.root), context)
 }
 
 /// A document with elements of some kinds after all transforms, in order.
 fn transformed(
     alloc: Global,
-    work: Work,
+    document: Document,
+    context: &mut Context,
     kinds: Kinds,
     settings: &Settings,
-) -> Result<Work, TreeFault>
-    requires among { AreOfKinds kinds (node_items work.root) }
-    ensures { Gives (IsTransformed (profile_of settings.now) settings.now work) result }
+) -> Result<Document, TreeFault>
+    requires among { AreOfKinds kinds (elements_of document) }
+    ensures { Gives (λ after. IsTransformed (profile_of settings.now) settings.now (state document context.old) (state after context.new)) result }
 {
-    let expanded = expand(alloc, work, kinds.substitutions)?;
-    let retargeted = targets(alloc, expanded, kinds.targets)?;
-    let titled = with_title(alloc, retargeted, settings.title)?;
-    let informed = with_info(alloc, titled, settings.info)?;
-    let linked = resolve_links(alloc, informed, kinds)?;
-    let work = transitions(alloc, linked, kinds.transitions)?;
-    Ok(work)
+    let expanded = expand(alloc, document, context, kinds.substitutions)?;
+    let retargeted = targets(alloc, expanded, context, kinds.targets)?;
+    let titled = with_title(alloc, retargeted, context, settings.title)?;
+    let informed = with_info(alloc, titled, context, settings.info)?;
+    let linked = resolve_links(alloc, informed, context, kinds)?;
+    let after = transitions(alloc, linked, context, kinds.transitions)?;
+    Ok(after)
 }
 
 /// A document with its title, if that is asked for.
-fn with_title(alloc: Global, work: Work, asked: bool) -> Result<Work, TreeFault>
-    ensures titled { Gives (Where asked IsTitled work) result }
-    ensures kinds { Gives (λ after. HasNoNewKinds (node_items work.root) (node_items after.root)) result }
+fn with_title(
+    alloc: Global,
+    document: Document,
+    context: &mut Context,
+    asked: bool,
+) -> Result<Document, TreeFault>
+    ensures titled { Gives (λ after. Where asked IsTitled (state document context.old) (state after context.new)) result }
+    ensures kinds { Gives (λ after. HasNoNewKinds (elements_of document) (elements_of after)) result }
 {
     if !asked {
-        return Ok(work);
+        return Ok(document);
     }
-    title(alloc, work)
+    title(alloc, document, context)
 }
 
 /// A document with its bibliography, if that is asked for.
-fn with_info(alloc: Global, work: Work, asked: bool) -> Result<Work, TreeFault>
-    ensures informed { Gives (Where asked HasDocinfo work) result }
-    ensures kinds { Gives (λ after. HasNoNewKinds (node_items work.root) (node_items after.root)) result }
+fn with_info(
+    alloc: Global,
+    document: Document,
+    context: &mut Context,
+    asked: bool,
+) -> Result<Document, TreeFault>
+    ensures informed { Gives (λ after. Where asked HasDocinfo (state document context.old) (state after context.new)) result }
+    ensures kinds { Gives (λ after. HasNoNewKinds (elements_of document) (elements_of after)) result }
 {
     if !asked {
-        return Ok(work);
+        return Ok(document);
     }
-    docinfo(alloc, work)
+    docinfo(alloc, document, context)
 }
 
 /// A document with elements of some kinds after the transforms of links, in order.
-fn resolve_links(alloc: Global, work: Work, kinds: Kinds) -> Result<Work, TreeFault>
-    requires among { AreOfKinds kinds (node_items work.root) }
-    ensures links { Gives (ResolvesLinks work) result }
-    ensures kinds { Gives (λ after. HasNoNewLinkKinds (node_items work.root) (node_items after.root)) result }
+fn resolve_links(
+    alloc: Global,
+    document: Document,
+    context: &mut Context,
+    kinds: Kinds,
+) -> Result<Document, TreeFault>
+    requires among { AreOfKinds kinds (elements_of document) }
+    ensures links { Gives (λ after. ResolvesLinks (state document context.old) (state after context.new)) result }
+    ensures kinds { Gives (λ after. HasNoNewLinkKinds (elements_of document) (elements_of after)) result }
 {
-    let paired = anonymous(alloc, work, kinds.anonymous)?;
-    let led = indirect(alloc, paired, kinds.indirect)?;
-    let numbered = footnotes(alloc, led, kinds.footnotes)?;
-    let work = resolve(alloc, numbered, kinds.links)?;
-    Ok(work)
+    let paired = anonymous(alloc, document, context, kinds.anonymous)?;
+    let led = indirect(alloc, paired, context, kinds.indirect)?;
+    let numbered = footnotes(alloc, led, context, kinds.footnotes)?;
+    let after = resolve(alloc, numbered, context, kinds.links)?;
+    Ok(after)
 }

@@ -11,16 +11,17 @@ use Rattle.rst_tree.specs.declared.key.Key.TheVariants.{Anonymous, Dupnames, Ids
 use Rattle.rst_tree.specs.declared.node.Node.{Node}
 use Rattle.rst_tree.specs.declared.node.Node.TheVariants.{Element, Text}
 use Rattle.rst_tree.specs.declared.tag.Tag.{Tag}
-use Rattle.rst_tree.specs.declared.tag.Tag.TheVariants.{Docinfo}
+use Rattle.rst_tree.specs.declared.tag.Tag.TheVariants.{Docinfo, Document as IsDocument}
 use Rattle.rst_tree.specs.Attributes.{value_of, without_key}
 use Rattle.rst_tree.specs.KeyNames.{is_same}
 use Rattle.rst_tree.specs.Nodes.{forest_of, nodes_of}
-use Rattle.rst_tree.specs.Walk.{item, items, node_items, Item}
+use Rattle.rst_tree.specs.Walk.{item, items, Item}
 use Rattle.rst_tree.proofs.Changes.{forest_of-nodes_of}
 use Rattle.rst_tree_index.specs.Kinds.{HasNoNewKinds}
 use Rattle.rst_tree_index.proofs.ElementKinds.{lacks-append, no_new_kinds, said_with, said_without, KeepsKind, Lacks, TellsKind}
-use Rattle.rst_transform_work.specs.declared.work.Report.{Report}
-use Rattle.rst_transform_work.specs.declared.work.Work.{Work}
+use Rattle.rst_transform_work.specs.declared.report.Report.{Report}
+use Rattle.rst_transform_work.specs.declared.document.Document.{Document}
+use Rattle.rst_transform_work.specs.States.{State, elements_of}
 use Rattle.rst_transform_work.specs.Lists.{listed, named, with_list_of, with_listed, with_names}
 use Rattle.rst_transform_work.specs.Reading.{is_title}
 use Rattle.rst_transform_docinfo.specs.declared.bibliography.Row.{Row}
@@ -182,15 +183,16 @@ module _ (test : Item → Bool) where
         lacks-append test (take titles rest) (replaced first reports list ++ drop titles rest) (take-lacks titles rest rest_none)
         (lacks-append test (replaced first reports list) (drop titles rest) (replaced-lacks first reports list list_none) (drop-lacks titles rest rest_none))
 
-    with_docinfo-lacks : (first : ℕ) (reports : List Report) (root : Node) → NodeLacks test root → NodeLacks test (with_docinfo first reports root)
-    with_docinfo-lacks first reports (Text t) none = refl
-    with_docinfo-lacks first reports (Element t a c l) none =
-        let parts = or_parts (test (item t a l)) (list_any test (items c)) none in
-        let nodes : Lacks test (forest_of (nodes_of c)) = ap (λ g. list_any test (items g)) (forest_of-nodes_of c) ∙ parts.1 in
-        or_from (test (item t a l)) (list_any test (items (forest_of (nodes_with first reports (leading_list (nodes_of c)) (nodes_of c))))) parts.0
-        (nodes_with-lack first reports (leading_list (nodes_of c)) (nodes_of c) (list_in-lacks (slice_get (nodes_of c) (list_place (nodes_of c))) (get-lacks (nodes_of c) (list_place (nodes_of c)) nodes)) nodes)
+    with_docinfo-lacks : (first : ℕ) (reports : List Report) (d : Document) → list_any test (elements_of d) ≡ false → list_any test (elements_of (with_docinfo first reports d)) ≡ false
+    with_docinfo-lacks first reports d none =
+        let ns : List Node = nodes_of d.children in
+        let own : Item = item IsDocument d.attrs d.line in
+        let parts = or_parts (test own) (list_any test (items d.children)) none in
+        let nodes : Lacks test (forest_of ns) = ap (λ g. list_any test (items g)) (forest_of-nodes_of d.children) ∙ parts.1 in
+        or_from (test own) (list_any test (items (forest_of (nodes_with first reports (leading_list ns) ns)))) parts.0
+        (nodes_with-lack first reports (leading_list ns) ns (list_in-lacks (slice_get ns (list_place ns)) (get-lacks ns (list_place ns) nodes)) nodes)
 
-pub no_new_informed : (before after : Work) → HasDocinfo before after → HasNoNewKinds (node_items before.root) (node_items after.root)
+pub no_new_informed : (before after : State) → HasDocinfo before after → HasNoNewKinds (elements_of before.document) (elements_of after.document)
 no_new_informed before after informed =
-    no_new_kinds (node_items before.root) (node_items after.root)
-    (λ test kind none. ap (λ n. list_any test (node_items n)) informed.root ∙ with_docinfo-lacks test kind before.first_number before.reports.items before.root none)
+    no_new_kinds (elements_of before.document) (elements_of after.document)
+    (λ test kind none. ap (λ d. list_any test (elements_of d)) informed.document ∙ with_docinfo-lacks test kind before.context.first_number before.context.reports.items before.document none)

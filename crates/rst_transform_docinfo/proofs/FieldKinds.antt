@@ -15,7 +15,7 @@ use Rattle.rst_tree.specs.Paths.{with_child}
 use Rattle.rst_tree.specs.Walk.{item, items, node_items, Item}
 use Rattle.rst_tree.proofs.Changes.{forest_of-nodes_of}
 use Rattle.rst_tree_index.proofs.ElementKinds.{is_plain, items-cons, lacks-append, lacks-element, lacks-parts, none_in, none_of_both, Lacks, TellsKind}
-use Rattle.rst_transform_work.specs.declared.work.Report.{Report}
+use Rattle.rst_transform_work.specs.declared.report.Report.{Report}
 use Rattle.rst_transform_work.specs.Reports.{report_attrs, report_node}
 use Rattle.rst_transform_docinfo.specs.declared.bibliography.Row.{Row}
 use Rattle.rst_transform_docinfo.specs.declared.bibliography.Row.TheVariants.{Simple, Address, Authors, Topic, Generic}

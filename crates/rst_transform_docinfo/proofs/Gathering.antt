@@ -13,7 +13,7 @@ use Rattle.rst_transform_docinfo.specs.Bibliography.{made, row_of}
 use Rattle.rst_transform_docinfo.specs.Docinfo.{behind_titles, is_field_list, leading_list, list_in, list_place, nodes_with, replaced}
 use Rattle.rst_transform_docinfo.specs.Gathered.{Gathered, by_form, gathered, is_further, with_seen, with_fault, with_field, with_node, with_row}
 use Rattle.rst_transform_work.specs.Reading.{is_title}
-use Rattle.rst_transform_work.specs.declared.work.Report.{Report}
+use Rattle.rst_transform_work.specs.declared.report.Report.{Report}
 use Rattle.std.proofs.lemmas.Option.{unwrap_or-slice_get}
 use Rattle.rst_tree.specs.Faults.{Gives}
 use Rattle.rst_tree.specs.declared.fault.TreeFault.{TreeFault}

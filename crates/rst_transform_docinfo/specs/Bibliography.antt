@@ -17,7 +17,7 @@ use Rattle.rst_transform_docinfo.specs.declared.bibliography.Row.TheVariants.{Si
 use Rattle.rst_transform_docinfo.specs.declared.bibliography.TopicKind.{TopicKind}
 use Rattle.rst_transform_docinfo.specs.declared.bibliography.TopicKind.TheVariants.{Dedication, Abstract}
 use Rattle.rst_transform_docinfo.specs.declared.field.Field.{Field}
-use Rattle.rst_transform_work.specs.declared.work.Report.{Report}
+use Rattle.rst_transform_work.specs.declared.report.Report.{Report}
 use Rattle.rst_transform_docinfo.specs.Authors.{authors_node}
 use Rattle.rst_transform_docinfo.specs.Fields.{field, field_node, nodes_in, paragraph_in}
 use Rattle.rst_transform_work.specs.Reading.{identifier}

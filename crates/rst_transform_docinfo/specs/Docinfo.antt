@@ -9,8 +9,10 @@ use Rattle.rst_tree.specs.declared.tag.Tag.{Tag}
 use Rattle.rst_tree.specs.declared.tag.Tag.TheVariants.{FieldList}
 use Rattle.rst_tree.specs.Forest.{Forest}
 use Rattle.rst_tree.specs.Nodes.{forest_of, nodes_of}
-use Rattle.rst_transform_work.specs.declared.work.Report.{Report}
-use Rattle.rst_transform_work.specs.declared.work.Work.{Work}
+use Rattle.rst_transform_work.specs.declared.report.Report.{Report}
+use Rattle.rst_transform_work.specs.declared.document.Document.{Document}
+use Rattle.rst_transform_work.specs.Reports.{KeepsRest}
+use Rattle.rst_transform_work.specs.States.{State}
 use Rattle.rst_transform_docinfo.specs.Gathered.{Gathered, docinfo_nodes, gathered, none_yet}
 use Rattle.rst_transform_work.specs.Reading.{is_title, may_precede}
 use Rattle.rst_transform_work.specs.Lists.{named}
@@ -70,16 +72,14 @@ reports_with first reports None = reports
 reports_with first reports (Some list) = list_reports first reports list
 
 -- the document whose leading field list became its bibliography, and the messages then
-abbrev pub with_docinfo : ℕ → List Report → Node → Node
-with_docinfo first reports (Element t a c l) = Element t a (forest_of (nodes_with first reports (leading_list (nodes_of c)) (nodes_of c))) l
-with_docinfo first reports (Text t) = Text t
+abbrev pub with_docinfo : ℕ → List Report → Document → Document
+with_docinfo first reports d = let nodes = nodes_of d.children in record d { children = forest_of (nodes_with first reports (leading_list nodes) nodes) }
 
-abbrev pub docinfo_reports : ℕ → List Report → Node → List Report
-docinfo_reports first reports (Element t a c l) = reports_with first reports (leading_list (nodes_of c))
-docinfo_reports first reports (Text t) = reports
+abbrev pub docinfo_reports : ℕ → List Report → Document → List Report
+docinfo_reports first reports d = reports_with first reports (leading_list (nodes_of d.children))
 
 -- the document before and after
-pub record HasDocinfo (before after : Work) : Type 0 where
-  pub root : after.root ≡ with_docinfo before.first_number before.reports.items before.root
-  pub reports : after.reports.items ≡ docinfo_reports before.first_number before.reports.items before.root
-  pub rest : after ≡ record before { root = after.root; reports = after.reports }
+pub record HasDocinfo (before after : State) : Type 0 where
+  pub document : after.document ≡ with_docinfo before.context.first_number before.context.reports.items before.document
+  pub reports : after.context.reports.items ≡ docinfo_reports before.context.first_number before.context.reports.items before.document
+  pub rest : KeepsRest before.context after.context

@@ -4,7 +4,7 @@ ghost use Rattle.std.specs.Option.{option_to_list};
 ghost use Rattle.rst_tree.specs.Faults.{Gives};
 ghost use Rattle.rst_tree.specs.Paths.{with_child};
 ghost use Rattle.rst_tree.specs.declared.node.Node.TheVariants.{Element};
-ghost use Rattle.rst_transform_work.specs.declared.work.Report.{Report};
+ghost use Rattle.rst_transform_work.specs.declared.report.Report.{Report};
 ghost use Rattle.rst_transform_docinfo.specs.Bibliography.{address_node, fault_node, fault_report, generic, made, row_of, simple_node, title_node, topic_class, topic_node, topic_title, with_class};
 ghost use Rattle.rst_transform_docinfo.specs.Gathered.{docinfo_nodes, info_nodes, is_further, none_yet, so_far, with_element, with_fault, with_field, with_node, with_seen};
 ghost use Rattle.rst_transform_docinfo.specs.Fields.{last_in, nodes_in};
@@ -12,7 +12,7 @@ ghost use Rattle.rst_transform_work.specs.Reports.{report_node, KeepsRest};
 
 use crate::authors::authors;
 use crate::field::{Field, into_children, into_last};
-use rst_transform_work::{Work, identified};
+use rst_transform_work::{Context, identified};
 use rst_tree::{Attrs, Children, Key, Level, Node, Tag, Text, Texts, TreeFault, Value};
 use std::alloc::Global;
 
@@ -211,12 +211,17 @@ fn set_class(alloc: Global, attrs: &mut Attrs, class: &str) -> Result<(), TreeFa
 }
 
 /// A field of the table that isn't in its form: any other field, whose body ends with a WARNING.
-fn out_of_form(alloc: Global, name: &str, field: Field, work: &mut Work) -> Result<Node, TreeFault>
-    ensures node { let next = fault_report work.old.first_number work.old.reports.items name.now field.line in Gives (λ node. node ≡ fault_node name.now next field) result }
-    ensures reports { let next = fault_report work.old.first_number work.old.reports.items name.now field.line in Gives (λ _. work.new.reports.items ≡ work.old.reports.items ++ next ∷ []) result }
-    ensures rest { Gives (λ _. KeepsRest work.old work.new) result }
+fn out_of_form(
+    alloc: Global,
+    name: &str,
+    field: Field,
+    context: &mut Context,
+) -> Result<Node, TreeFault>
+    ensures node { let next = fault_report context.old.first_number context.old.reports.items name.now field.line in Gives (λ node. node ≡ fault_node name.now next field) result }
+    ensures reports { let next = fault_report context.old.first_number context.old.reports.items name.now field.line in Gives (λ _. context.new.reports.items ≡ context.old.reports.items ++ next ∷ []) result }
+    ensures rest { Gives (λ _. KeepsRest context.old context.new) result }
 {
-    let message = message(alloc, field.line, name, work)?;
+    let message = message(alloc, field.line, name, context)?;
     let Field {
         attrs,
         name: named,
@@ -234,10 +239,10 @@ fn out_of_form(alloc: Global, name: &str, field: Field, work: &mut Work) -> Resu
 }
 
 /// The WARNING on a field of this name that isn't in its form. It is in the list of messages, too.
-fn message(alloc: Global, line: usize, name: &str, work: &mut Work) -> Result<Node, TreeFault>
-    ensures node { let next = fault_report work.old.first_number work.old.reports.items name.now line in Gives (λ node. node ≡ report_node next) result }
-    ensures reports { let next = fault_report work.old.first_number work.old.reports.items name.now line in Gives (λ _. work.new.reports.items ≡ work.old.reports.items ++ next ∷ []) result }
-    ensures rest { Gives (λ _. KeepsRest work.old work.new) result }
+fn message(alloc: Global, line: usize, name: &str, context: &mut Context) -> Result<Node, TreeFault>
+    ensures node { let next = fault_report context.old.first_number context.old.reports.items name.now line in Gives (λ node. node ≡ report_node next) result }
+    ensures reports { let next = fault_report context.old.first_number context.old.reports.items name.now line in Gives (λ _. context.new.reports.items ≡ context.old.reports.items ++ next ∷ []) result }
+    ensures rest { Gives (λ _. KeepsRest context.old context.new) result }
 {
     let text = Text::of_three(
         alloc,
@@ -245,7 +250,7 @@ fn message(alloc: Global, line: usize, name: &str, work: &mut Work) -> Result<No
         name,
         "\" is not in its form.",
     )?;
-    work.report_in_place(alloc, Level::Warning, line, text)
+    context.report_in_place(alloc, Level::Warning, line, text)
 }
 
 /// A body with one more node behind those in it.
@@ -299,12 +304,17 @@ impl Bibliography {
     }
 
     /// Takes in the next node of the field list. One that is no field stays as it is.
-    pub fn add_node(&mut self, alloc: Global, node: Node, work: &mut Work) -> Result<(), TreeFault>
-        ensures gathered { Gives (λ _. so_far self.new work.new.reports.items ≡ with_node work.old.first_number node (so_far self.old work.old.reports.items)) result }
-        ensures rest { Gives (λ _. KeepsRest work.old work.new) result }
+    pub fn add_node(
+        &mut self,
+        alloc: Global,
+        node: Node,
+        context: &mut Context,
+    ) -> Result<(), TreeFault>
+        ensures gathered { Gives (λ _. so_far self.new context.new.reports.items ≡ with_node context.old.first_number node (so_far self.old context.old.reports.items)) result }
+        ensures rest { Gives (λ _. KeepsRest context.old context.new) result }
     {
         match Field::of(node) {
-            Ok(field) => self.add(alloc, field, work),
+            Ok(field) => self.add(alloc, field, context),
             Err(node) => {
                 self.info.push(node)?;
                 Ok(())
@@ -313,19 +323,19 @@ impl Bibliography {
     }
 
     /// Takes in the next field.
-    fn add(&mut self, alloc: Global, field: Field, work: &mut Work) -> Result<(), TreeFault>
-        ensures gathered { Gives (λ _. so_far self.new work.new.reports.items ≡ with_field work.old.first_number field (so_far self.old work.old.reports.items)) result }
-        ensures rest { Gives (λ _. KeepsRest work.old work.new) result }
+    fn add(&mut self, alloc: Global, field: Field, context: &mut Context) -> Result<(), TreeFault>
+        ensures gathered { Gives (λ _. so_far self.new context.new.reports.items ≡ with_field context.old.first_number field (so_far self.old context.old.reports.items)) result }
+        ensures rest { Gives (λ _. KeepsRest context.old context.new) result }
     {
         let name = field.name(alloc)?;
         let row = row_of(name.as_str());
         if self.is_further(row) {
-            return self.put_fault(alloc, name.as_str(), field, work);
+            return self.put_fault(alloc, name.as_str(), field, context);
         }
         self.mark_seen(row);
         match made(alloc, row, name.as_str(), field)? {
             Ok(node) => self.put(row, node),
-            Err(field) => self.put_fault(alloc, name.as_str(), field, work),
+            Err(field) => self.put_fault(alloc, name.as_str(), field, context),
         }
     }
 
@@ -369,12 +379,12 @@ impl Bibliography {
         alloc: Global,
         name: &str,
         field: Field,
-        work: &mut Work,
+        context: &mut Context,
     ) -> Result<(), TreeFault>
-        ensures gathered { Gives (λ _. so_far self.new work.new.reports.items ≡ with_fault work.old.first_number name.now field (so_far self.old work.old.reports.items)) result }
-        ensures rest { Gives (λ _. KeepsRest work.old work.new) result }
+        ensures gathered { Gives (λ _. so_far self.new context.new.reports.items ≡ with_fault context.old.first_number name.now field (so_far self.old context.old.reports.items)) result }
+        ensures rest { Gives (λ _. KeepsRest context.old context.new) result }
     {
-        let node = out_of_form(alloc, name, field, work)?;
+        let node = out_of_form(alloc, name, field, context)?;
         self.info.push(node)?;
         Ok(())
     }

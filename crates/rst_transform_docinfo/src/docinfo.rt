@@ -3,18 +3,17 @@ ghost use Rattle.std.specs.Prelude.{◌≡◌, ◌≤◌, ◌++◌, take, drop, 
 ghost use Rattle.std.specs.List.{prefix_len};
 ghost use Rattle.rst_tree.specs.Faults.{Gives};
 ghost use Rattle.rst_tree.specs.Nodes.{forest_of, nodes_of};
-ghost use Rattle.rst_tree.specs.Walk.{node_items};
 ghost use Rattle.rst_tree_index.specs.Kinds.{HasNoNewKinds};
-ghost use Rattle.rst_transform_docinfo.specs.Docinfo.{behind_titles, docinfo_reports, first_named, is_field_list, leading_list, list_gathered, list_in, list_place, may_lead, nodes_with, list_reports, replaced, reports_with, with_docinfo, HasDocinfo};
+ghost use Rattle.rst_transform_docinfo.specs.Docinfo.{first_named, is_field_list, leading_list, list_gathered, list_in, list_place, may_lead, nodes_with, list_reports, replaced, reports_with, HasDocinfo};
 ghost use Rattle.rst_transform_docinfo.specs.Gathered.{docinfo_nodes};
 ghost use Rattle.rst_transform_work.specs.Reports.{KeepsRest};
+ghost use Rattle.rst_transform_work.specs.States.{elements_of, state};
 ghost use Rattle.rst_transform_work.specs.Reading.{is_title};
 
 use crate::bibliography::Bibliography;
-use rst_transform_work::{Work, add_names, is_title, may_precede};
+use rst_transform_work::{Context, Document, add_names, is_title, may_precede};
 use rst_tree::{Attrs, Children, Node, Tag, TreeFault};
 use std::alloc::Global;
-use std::mem;
 
 /// Whether a node may stand before the field list.
 fn may_lead(node: &Node) -> bool
@@ -69,15 +68,15 @@ fn bibliography(
     alloc: Global,
     fields: Children,
     line: usize,
-    work: &mut Work,
+    context: &mut Context,
 ) -> Result<Vec<Node>, TreeFault>
-    ensures nodes { let all = list_gathered work.old.first_number work.old.reports.items fields in Gives (λ nodes. nodes.items ≡ docinfo_nodes line all) result }
-    ensures reports { let all = list_gathered work.old.first_number work.old.reports.items fields in Gives (λ _. work.new.reports.items ≡ all.reports) result }
-    ensures rest { Gives (λ _. KeepsRest work.old work.new) result }
+    ensures nodes { let all = list_gathered context.old.first_number context.old.reports.items fields in Gives (λ nodes. nodes.items ≡ docinfo_nodes line all) result }
+    ensures reports { let all = list_gathered context.old.first_number context.old.reports.items fields in Gives (λ _. context.new.reports.items ≡ all.reports) result }
+    ensures rest { Gives (λ _. KeepsRest context.old context.new) result }
 {
     let mut bibliography = Bibliography::new(alloc);
     for node in fields.into_list() {
-        bibliography.add_node(alloc, node, work)?;
+        bibliography.add_node(alloc, node, context)?;
     }
     bibliography.into_nodes(alloc, line)
 }
@@ -96,10 +95,10 @@ fn with_names(alloc: Global, mut nodes: Vec<Node>, attrs: &Attrs) -> Result<Vec<
 }
 
 /// What the fields of a field list become, the first of it with the list's ids and names, too.
-fn replaced(alloc: Global, list: Node, work: &mut Work) -> Result<Vec<Node>, TreeFault>
-    ensures nodes { Gives (λ nodes. nodes.items ≡ replaced work.old.first_number work.old.reports.items list) result }
-    ensures reports { Gives (λ _. work.new.reports.items ≡ list_reports work.old.first_number work.old.reports.items list) result }
-    ensures rest { Gives (λ _. KeepsRest work.old work.new) result }
+fn replaced(alloc: Global, list: Node, context: &mut Context) -> Result<Vec<Node>, TreeFault>
+    ensures nodes { Gives (λ nodes. nodes.items ≡ replaced context.old.first_number context.old.reports.items list) result }
+    ensures reports { Gives (λ _. context.new.reports.items ≡ list_reports context.old.first_number context.old.reports.items list) result }
+    ensures rest { Gives (λ _. KeepsRest context.old context.new) result }
 {
     match list {
         Node::Element {
@@ -108,7 +107,7 @@ fn replaced(alloc: Global, list: Node, work: &mut Work) -> Result<Vec<Node>, Tre
             children,
             line,
         } => {
-            let nodes = bibliography(alloc, children, line, work)?;
+            let nodes = bibliography(alloc, children, line, context)?;
             with_names(alloc, nodes, &attrs)
         }
         Node::Text(_text) => Ok(Vec::new(alloc)),
@@ -134,18 +133,18 @@ fn with_nodes_at(
 fn with_bibliography(
     alloc: Global,
     children: Children,
-    work: &mut Work,
+    context: &mut Context,
 ) -> Result<Children, TreeFault>
-    ensures nodes { let list = leading_list (nodes_of children) in Gives (λ all. all ≡ forest_of (nodes_with work.old.first_number work.old.reports.items list (nodes_of children))) result }
-    ensures reports { let list = leading_list (nodes_of children) in Gives (λ _. work.new.reports.items ≡ reports_with work.old.first_number work.old.reports.items list) result }
-    ensures rest { Gives (λ _. KeepsRest work.old work.new) result }
+    ensures nodes { let list = leading_list (nodes_of children) in Gives (λ all. all ≡ forest_of (nodes_with context.old.first_number context.old.reports.items list (nodes_of children))) result }
+    ensures reports { let list = leading_list (nodes_of children) in Gives (λ _. context.new.reports.items ≡ reports_with context.old.first_number context.old.reports.items list) result }
+    ensures rest { Gives (λ _. KeepsRest context.old context.new) result }
 {
     let mut nodes = children.into_list();
     let place = list_place(&nodes);
     if !is_list_at(&nodes, place) {
         return Ok(Children::of(nodes));
     }
-    let made = replaced(alloc, nodes.remove(place), work)?;
+    let made = replaced(alloc, nodes.remove(place), context)?;
     let first = title_count(&nodes);
     Ok(Children::of(with_nodes_at(nodes, first, made)?))
 }
@@ -180,30 +179,23 @@ fn with_bibliography(
 /// ```
 ///
 /// The only refusal is [`TreeFault::NoMemory`].
-pub fn docinfo(alloc: Global, mut work: Work) -> Result<Work, TreeFault>
-    ensures informed { Gives (HasDocinfo work) result }
-    ensures kinds { Gives (λ after. HasNoNewKinds (node_items work.root) (node_items after.root)) result }
+pub fn docinfo(
+    alloc: Global,
+    document: Document,
+    context: &mut Context,
+) -> Result<Document, TreeFault>
+    ensures informed { Gives (λ after. HasDocinfo (state document context.old) (state after context.new)) result }
+    ensures kinds { Gives (λ after. HasNoNewKinds (elements_of document) (elements_of after)) result }
 {
-    let empty = Node::element(alloc, Tag::Document, 0);
-    match mem::replace(&mut work.root, empty) {
-        Node::Text(text) => {
-            work.root = Node::Text(text);
-            Ok(work)
-        }
-        Node::Element {
-            tag,
-            attrs,
-            children,
-            line,
-        } => {
-            let children = with_bibliography(alloc, children, &mut work)?;
-            work.root = Node::Element {
-                tag,
-                attrs,
-                children,
-                line,
-            };
-            Ok(work)
-        }
-    }
+    let Document {
+        attrs,
+        children,
+        line,
+    } = document;
+    let children = with_bibliography(alloc, children, context)?;
+    Ok(Document {
+        attrs,
+        children,
+        line,
+    })
 }

@@ -4,19 +4,20 @@ use Rattle.std.specs.Prelude.{if◌then◌else◌, slice_get, Option, Some, None
 use Rattle.std.specs.List.{enumerate_from, list_all}
 use Rattle.rst_tree.specs.declared.key.Key.TheVariants.{Ids}
 use Rattle.rst_tree.specs.declared.node.Node.{Node}
-use Rattle.rst_tree.specs.Walk.{node_items}
 use Rattle.rst_tree_index.specs.Kinds.{HasNoNewLinkKinds}
+use Rattle.rst_transform_links.specs.declared.links.Outcome.{Outcome}
 use Rattle.rst_transform_links.specs.declared.links.Outcome.TheVariants.{Stays}
 use Rattle.rst_transform_links.specs.FootnoteOrders.{found_by_order, reference_order}
 use Rattle.rst_transform_links.specs.Holders.{lead_to_id}
-use Rattle.rst_transform_links.specs.Linkings.{Held, linked_of}
+use Rattle.rst_transform_links.specs.Linkings.{Held}
 use Rattle.rst_transform_links.specs.Outcomes.{adds}
-use Rattle.rst_transform_links.proofs.LinkKinds.{is_nameless, is_no_name, settled_kinds}
-use Rattle.rst_transform_work.specs.declared.work.Work.{Work}
+use Rattle.rst_transform_links.proofs.LinkKinds.{is_nameless, is_no_name, links_kinds}
+use Rattle.rst_transform_work.specs.declared.context.Context.{Context}
+use Rattle.rst_transform_work.specs.States.{elements_of, State}
 use Rattle.rst_transform_work.specs.Lists.{at_place}
 use Rattle.rst_transform_work.specs.Reading.{list_said}
 use Rattle.rst_transform_footnotes.specs.FootnoteLabels.{labels}
-use Rattle.rst_transform_footnotes.specs.Footnotes.{is_label, label_in, lead_to_footnote, outcome_at, outcome_by, outcomes, own_number, report_of, with_number, NumbersFootnotes}
+use Rattle.rst_transform_footnotes.specs.Footnotes.{is_label, label_in, lead_to_footnote, outcome_at, outcome_by, own_number, report_of, with_number, DecidesFootnotes, NumbersFootnotes}
 
 to_id : (id : Option (List ℕ)) → is_no_name (lead_to_id id) ≡ true
 to_id None = refl
@@ -43,9 +44,8 @@ all_nameless linked labels found numbers symbols place [] = refl
 all_nameless linked labels found numbers symbols place (one ∷ more) =
     rw (one_nameless linked labels place one (at_place found place) (report_of (reference_order one.0) numbers symbols)) (all_nameless linked labels found numbers symbols (place + 1) more)
 
-pub numbered_kinds : (before after : Work) → NumbersFootnotes before after → HasNoNewLinkKinds (node_items before.root) (node_items after.root)
-numbered_kinds before after n =
-    let linked : List Held = linked_of before.root in
-    rw (n.back)
-    (settled_kinds linked (outcomes linked n.become.numbers n.become.symbols) n.become.reported n.settled n.changes before.root n.become.settles
-    (all_nameless linked (labels linked) (found_by_order linked) n.become.numbers n.become.symbols 0 linked))
+decided_nameless : (linked : List Held) (before after : Context) (outcomes : List Outcome) → DecidesFootnotes linked before after outcomes → list_all is_nameless outcomes ≡ true
+decided_nameless linked before after outcomes d = rw (d.become) (all_nameless linked (labels linked) (found_by_order linked) d.numbers d.symbols 0 linked)
+
+pub numbered_kinds : (before after : State) → NumbersFootnotes before after → HasNoNewLinkKinds (elements_of before.document) (elements_of after.document)
+numbered_kinds before after n = links_kinds DecidesFootnotes before after n decided_nameless

@@ -6,16 +6,15 @@ use Rattle.rst_tree.specs.declared.note.Level.TheVariants.{Error}
 use Rattle.rst_transform_links.specs.declared.links.Outcome.{Outcome}
 use Rattle.rst_transform_links.specs.declared.footnote_orders.Order.{Order}
 use Rattle.rst_transform_links.specs.declared.footnote_orders.Order.TheVariants.{Numbers, Symbols}
-use Rattle.rst_transform_work.specs.declared.work.Work.{Work}
-use Rattle.rst_transform_footnotes.specs.Footnotes.{first_left_over, outcomes_by, too_many, ChangesFootnotes, HoldNumbers, TellsLeftOver}
+use Rattle.rst_transform_work.specs.declared.context.Context.{Context}
+use Rattle.rst_transform_footnotes.specs.Footnotes.{first_left_over, outcomes_by, too_many, DecidesFootnotes, HoldNumbers, TellsLeftOver}
 use Rattle.rst_transform_links.specs.Linkings.{Held}
 use Rattle.rst_transform_footnotes.specs.FootnoteLabels.{labels}
 use Rattle.rst_transform_links.specs.FootnoteOrders.{found_by_order, in_order}
 use Rattle.rst_transform_work.specs.Reports.{next_report, KeepsRest}
-use Rattle.rst_transform_links.specs.Settling.{Settles}
 
 -- the references left over that there are
-pub left_over_of : (first : Option ℕ) (order : Order) (line footnotes counted place : ℕ) (text : List ℕ) (before after : Work) → first ≡ Some line → counted ≡ footnotes → text ≡ too_many order counted
+pub left_over_of : (first : Option ℕ) (order : Order) (line footnotes counted place : ℕ) (text : List ℕ) (before after : Context) → first ≡ Some line → counted ≡ footnotes → text ≡ too_many order counted
     → place ≡ length before.reports.items → after.reports.items ≡ before.reports.items ++ next_report before.first_number before.reports.items Error line text true ∷ [] → KeepsRest before after
     → TellsLeftOver first order footnotes before after (Some place)
 left_over_of None order line footnotes counted place text before after is count says at reports rest = absurd (cc)
@@ -24,19 +23,18 @@ left_over_of (Some first) order line footnotes counted place text before after i
     (ap Some at, rw (says, count, same) at reports, rest)
 
 -- the steps, by what was listed
-pub changed : (all linked : List Held) (list : List (Option (List ℕ))) (found : List (Option ℕ)) (before named between reported after : Work) (names : Names) (numbers symbols : Option ℕ) (outcomes changes : List Outcome)
-    → linked ≡ all → list ≡ labels linked → found ≡ found_by_order linked → named ≡ record before { names = names } → HoldNumbers list linked before.names names
-    → TellsLeftOver (first_left_over Numbers found linked) Numbers (length (in_order Numbers linked)) named between numbers
-    → TellsLeftOver (first_left_over Symbols found linked) Symbols (length (in_order Symbols linked)) between reported symbols
-    → outcomes ≡ outcomes_by linked list found numbers symbols → Settles linked outcomes reported after changes → ChangesFootnotes all before after changes
-changed all linked list found before named between reported after names numbers symbols outcomes changes is labelled finds named_is hold by_numbers by_symbols become settles = record {
+pub decided : (linked : List Held) (list : List (Option (List ℕ))) (found : List (Option ℕ)) (before between after : Context) (names : Names) (numbers symbols : Option ℕ) (outcomes : List Outcome)
+    → list ≡ labels linked → found ≡ found_by_order linked → HoldNumbers list linked before.names names
+    → TellsLeftOver (first_left_over Numbers found linked) Numbers (length (in_order Numbers linked)) (record before { names = names }) between numbers
+    → TellsLeftOver (first_left_over Symbols found linked) Symbols (length (in_order Symbols linked)) between after symbols
+    → outcomes ≡ outcomes_by linked list found numbers symbols → DecidesFootnotes linked before after outcomes
+decided linked list found before between after names numbers symbols outcomes labelled finds hold by_numbers by_symbols become = record {
   names = names;
   numbers = numbers;
   symbols = symbols;
   between = between;
-  reported = reported;
-  hold = rw (labelled, is) at hold;
-  tells_numbers = rw (finds, named_is, is) at by_numbers;
-  tells_symbols = rw (finds, is) at by_symbols;
-  settles = rw (become, labelled, finds, is) at settles;
+  hold = rw labelled at hold;
+  tells_numbers = rw finds at by_numbers;
+  tells_symbols = rw finds at by_symbols;
+  become = rw (labelled, finds) at become;
 }

@@ -8,7 +8,6 @@ use Rattle.rst_tree.specs.declared.node.Node.TheVariants.{Element}
 use Rattle.rst_tree.specs.declared.tag.Tag.{Tag}
 use Rattle.rst_tree.specs.declared.tag.Tag.TheVariants.{Footnote, FootnoteReference}
 use Rattle.rst_tree.specs.Forest.{Forest}
-use Rattle.rst_tree.specs.Walk.{node_items}
 use Rattle.rst_tree_index.specs.Kinds.{is_of_footnotes, kinds_of}
 use Rattle.rst_tree_index.specs.LinkedTags.{is_linked_tag}
 use Rattle.rst_transform_links.specs.declared.footnote_orders.Order.{Order}
@@ -18,13 +17,12 @@ use Rattle.rst_transform_links.specs.FootnoteOrders.{found_by_order, in_order, i
 use Rattle.rst_transform_links.specs.Linkings.{Held, linked_of}
 use Rattle.rst_transform_links.specs.Links.{is_idle}
 use Rattle.rst_transform_links.specs.Outcomes.{adds, stays}
-use Rattle.rst_transform_links.proofs.Idle.{idle_root}
+use Rattle.rst_transform_links.proofs.Idle.{unchanged}
 use Rattle.rst_transform_links.proofs.LinkKinds.{held_all}
-use Rattle.rst_transform_links.proofs.SettlingLemmas.{idle}
-use Rattle.rst_transform_work.specs.declared.work.Work.{Work}
+use Rattle.rst_transform_work.specs.States.{elements_of, State}
 use Rattle.rst_transform_work.specs.Lists.{at_place}
 use Rattle.rst_transform_footnotes.specs.FootnoteLabels.{free_numbers, labels, labels_from}
-use Rattle.rst_transform_footnotes.specs.Footnotes.{label_in, left_over, numbered_entry, outcome_at, outcome_by, outcomes, own_number, NumbersFootnotes}
+use Rattle.rst_transform_footnotes.specs.Footnotes.{label_in, left_over, numbered_entry, outcome_at, outcome_by, outcomes_of, own_number, DecidesFootnotes, NumbersFootnotes}
 use Rattle.rst_transform_footnotes.proofs.HoldingNumbers.{nothing_more}
 
 -- ---- what is no footnote and no reference to one
@@ -103,27 +101,21 @@ all_same linked labels found test place (one ∷ more) passes unlabelled finds p
     rw (plain.1, same_one linked labels found place one unlabelled (finds place) plain.0, passes) (all_same linked labels found test (place + 1) more passes unlabelled finds plain.2)
 
 -- a document without footnotes and references to them, before and after
-pub unnumbered : (work : Work) → (kinds_of (node_items work.root)).footnotes ≡ false → NumbersFootnotes work work
-unnumbered work none =
-    let linked : List Held = linked_of work.root in
-    let plain : ArePlain linked = are_plain linked (held_all (λ x. is_of_footnotes x.tag) is_plain work.root plain_element none) in
-    let changes : List Outcome = outcomes linked None None in
+pub unnumbered : (before : State) → (kinds_of (elements_of before.document)).footnotes ≡ false → NumbersFootnotes before before
+unnumbered before none =
+    let linked : List Held = linked_of before.document in
+    let plain : ArePlain linked = are_plain linked (held_all (λ x. is_of_footnotes x.tag) is_plain before.document plain_element none) in
     let unlabelled : (p : ℕ) → at_place (labels linked) p ≡ None = λ p. no_labels linked p (free_numbers linked) 0 plain in
     let finds : (p : ℕ) → at_place (found_by_order linked) p ≡ None = λ p. none_found linked p (in_order Numbers linked) (in_order Symbols linked) plain in
-    record {
-      out = work.root;
-      settled = work;
-      changes = changes;
-      become = record {
-        names = work.names;
-        numbers = None;
-        symbols = None;
-        between = work;
-        reported = work;
-        hold = nothing_more (numbered_entry (labels linked) (enumerate_from 0 linked)) work.names (λ name. none_numbered (labels linked) name 0 linked plain);
-        tells_numbers = rw (none_left_over Numbers (found_by_order linked) 0 linked plain) (refl, refl);
-        tells_symbols = rw (none_left_over Symbols (found_by_order linked) 0 linked plain) (refl, refl);
-        settles = idle linked changes work (all_same linked (labels linked) (found_by_order linked) stays 0 linked refl unlabelled finds plain);
-      };
-      back = rw (idle_root changes work.root (all_same linked (labels linked) (found_by_order linked) is_idle 0 linked refl unlabelled finds plain)) refl;
-    }
+    unchanged DecidesFootnotes before (outcomes_of linked None None)
+    (record {
+      names = before.context.names;
+      numbers = None;
+      symbols = None;
+      between = before.context;
+      hold = nothing_more (numbered_entry (labels linked) (enumerate_from 0 linked)) before.context.names (λ name. none_numbered (labels linked) name 0 linked plain);
+      tells_numbers = rw (none_left_over Numbers (found_by_order linked) 0 linked plain) (refl, refl);
+      tells_symbols = rw (none_left_over Symbols (found_by_order linked) 0 linked plain) (refl, refl);
+      become = refl;
+    })
+    (all_same linked (labels linked) (found_by_order linked) stays 0 linked refl unlabelled finds plain) (all_same linked (labels linked) (found_by_order linked) is_idle 0 linked refl unlabelled finds plain)

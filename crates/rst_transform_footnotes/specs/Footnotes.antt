@@ -20,16 +20,16 @@ use Rattle.rst_transform_links.specs.declared.links.Outcome.{Outcome}
 use Rattle.rst_transform_links.specs.declared.links.Outcome.TheVariants.{Stays, Fails}
 use Rattle.rst_transform_links.specs.declared.footnote_orders.Order.{Order}
 use Rattle.rst_transform_links.specs.declared.footnote_orders.Order.TheVariants.{Numbers, Symbols}
-use Rattle.rst_transform_work.specs.declared.work.Work.{Work}
+use Rattle.rst_transform_work.specs.declared.context.Context.{Context}
+use Rattle.rst_transform_work.specs.States.{State}
 use Rattle.rst_transform_links.specs.Holders.{lead_to_id}
-use Rattle.rst_transform_links.specs.Linkings.{Held, linked_of}
-use Rattle.rst_transform_links.specs.Links.{changed_root}
+use Rattle.rst_transform_links.specs.Linkings.{Held}
+use Rattle.rst_transform_links.specs.LinkTransforms.{ChangesLinks}
 use Rattle.rst_transform_footnotes.specs.FootnoteLabels.{labels}
 use Rattle.rst_transform_links.specs.FootnoteOrders.{footnote_order, found_by_order, in_order, is_order, order_name, reference_order}
 use Rattle.rst_transform_links.specs.Outcomes.{adds}
 use Rattle.rst_transform_work.specs.Reading.{line_of, list_said, number_said}
 use Rattle.rst_transform_work.specs.Reports.{next_report, KeepsRest}
-use Rattle.rst_transform_links.specs.Settling.{Settles}
 use Rattle.rst_transform_work.specs.Lists.{at_place}
 
 -- ---- the numbers as names
@@ -83,7 +83,7 @@ abbrev pub too_many : Order → ℕ → List ℕ
 too_many order footnotes = codes "Too many " ++ (order_name order ++ (codes " footnote references: only " ++ (decimal footnotes ++ codes " corresponding footnotes available.")))
 
 -- one ERROR on them, on the line of the first, behind the other messages; its place is given
-abbrev pub TellsLeftOver : Option ℕ → Order → ℕ → Work → Work → Option ℕ → Type 0
+abbrev pub TellsLeftOver : Option ℕ → Order → ℕ → Context → Context → Option ℕ → Type 0
 TellsLeftOver None order footnotes before after report = (after ≡ before) × (report ≡ None)
 TellsLeftOver (Some line) order footnotes before after report =
     (report ≡ Some (length before.reports.items)) ×
@@ -141,32 +141,27 @@ outcome_at linked labels found numbers symbols (place, one) = outcome_by linked 
 abbrev pub outcomes_by : List Held → List (Option (List ℕ)) → List (Option ℕ) → Option ℕ → Option ℕ → List Outcome
 outcomes_by linked labels found numbers symbols = map (outcome_at linked labels found numbers symbols) (enumerate_from 0 linked)
 
-abbrev pub outcomes : List Held → Option ℕ → Option ℕ → List Outcome
-outcomes linked = outcomes_by linked (labels linked) (found_by_order linked)
+abbrev pub outcomes_of : List Held → Option ℕ → Option ℕ → List Outcome
+outcomes_of linked = outcomes_by linked (labels linked) (found_by_order linked)
 
 -- ---- the whole
 
 -- the message on the references of an order that find none
-abbrev pub TellsOf : Order → List Held → Work → Work → Option ℕ → Type 0
+abbrev pub TellsOf : Order → List Held → Context → Context → Option ℕ → Type 0
 TellsOf order linked before after report = TellsLeftOver (first_left_over order (found_by_order linked) linked) order (length (in_order order linked)) before after report
 
--- What becomes of the linked elements, and the document before and after: the numbers are held as names, then come the messages on the
--- references left over, those to numbered footnotes first, and then what fails becomes a problematic.
-pub record ChangesFootnotes (linked : List Held) (before after : Work) (changes : List Outcome) : Type 0 where
+-- What becomes of the linked elements, and what is known before and after: the numbers are held as names, and then come the messages on the
+-- references left over, those to numbered footnotes first.
+pub record DecidesFootnotes (linked : List Held) (before after : Context) (outcomes : List Outcome) : Type 0 where
   pub names : KnownNames
   pub numbers : Option ℕ
   pub symbols : Option ℕ
-  pub between : Work
-  pub reported : Work
+  pub between : Context
   pub hold : HoldNumbers (labels linked) linked before.names names
   pub tells_numbers : TellsOf Numbers linked (record before { names = names }) between numbers
-  pub tells_symbols : TellsOf Symbols linked between reported symbols
-  pub settles : Settles linked (outcomes linked numbers symbols) reported after changes
+  pub tells_symbols : TellsOf Symbols linked between after symbols
+  pub become : outcomes ≡ outcomes_of linked numbers symbols
 
--- the document before and after; its root is taken out, and put back as it changed
-pub record NumbersFootnotes (before after : Work) : Type 0 where
-  pub out : Node
-  pub settled : Work
-  pub changes : List Outcome
-  pub become : ChangesFootnotes (linked_of before.root) (record before { root = out }) settled changes
-  pub back : after ≡ record settled { root = changed_root changes before.root }
+-- the document before and after
+abbrev pub NumbersFootnotes : State → State → Type 0
+NumbersFootnotes = ChangesLinks DecidesFootnotes

@@ -1,20 +1,22 @@
 //! Footnotes.
 ghost use Rattle.std.specs.Prelude.{◌≡◌, MatchOption, None, Some, false, length, map, slice_get};
 ghost use Rattle.rst_tree.specs.Faults.{Gives};
-ghost use Rattle.rst_tree.specs.Walk.{node_items};
 ghost use Rattle.rst_tree_index.specs.Kinds.{kinds_of, HasNoNewLinkKinds};
-ghost use Rattle.rst_transform_footnotes.specs.Footnotes.{entry_of, first_left_over, is_label, label_in, labelled, lead_to_footnote, outcome_by, outcomes_by, own_number, referring, report_of, too_many, with_number, ChangesFootnotes, HoldNumbers, KnowsOrElse, NumbersFootnotes, TellsLeftOver};
-ghost use Rattle.rst_transform_links.specs.Linkings.{held, linked_of};
+ghost use Rattle.rst_transform_footnotes.specs.Footnotes.{entry_of, first_left_over, is_label, label_in, labelled, lead_to_footnote, outcome_by, outcomes_by, own_number, referring, report_of, too_many, with_number, HoldNumbers, KnowsOrElse, NumbersFootnotes, TellsLeftOver};
+ghost use Rattle.rst_transform_links.specs.Linkings.{held};
 ghost use Rattle.rst_transform_links.specs.FootnoteOrders.{in_order, reference_order};
 ghost use Rattle.rst_transform_work.specs.Lists.{at_place};
+ghost use Rattle.rst_transform_work.specs.States.{elements_of, state};
 
 use crate::footnote_labels::labels;
 use rst_transform_links::{
-    Addition, Changes, Linked, Order, Outcome, footnote_order, found_by_order, in_order, linked_in,
-    put_back, reference_order, settle, text_attr,
+    Addition, LinkTransform, Linked, Order, Outcome, change_links, footnote_order, found_by_order,
+    in_order, reference_order, text_attr,
 };
 use rst_transform_names::{Holder, NameEntry, Names, Strength};
-use rst_transform_work::{Work, at_place, first_said, line_of, list_said, number_said, take_root};
+use rst_transform_work::{
+    Context, Document, at_place, first_said, line_of, list_said, number_said,
+};
 use rst_tree::{Entry, Key, Level, Node, Tag, Text, TreeFault, Value};
 use std::alloc::Global;
 
@@ -57,60 +59,51 @@ use std::alloc::Global;
 ///
 /// References left over become problematics of one ERROR for each of the two numberings. `has` says whether the document may have a
 /// footnote or a reference to one; without them it stays as it is.
-pub fn footnotes(alloc: Global, work: Work, has: bool) -> Result<Work, TreeFault>
-    requires has { has ≡ false → (kinds_of (node_items work.root)).footnotes ≡ false }
-    ensures footnotes { Gives (NumbersFootnotes work) result }
-    ensures kinds { Gives (λ after. HasNoNewLinkKinds (node_items work.root) (node_items after.root)) result }
+pub fn footnotes(
+    alloc: Global,
+    document: Document,
+    context: &mut Context,
+    has: bool,
+) -> Result<Document, TreeFault>
+    requires has { has ≡ false → (kinds_of (elements_of document)).footnotes ≡ false }
+    ensures footnotes { Gives (λ after. NumbersFootnotes (state document context.old) (state after context.new)) result }
+    ensures kinds { Gives (λ after. HasNoNewLinkKinds (elements_of document) (elements_of after)) result }
 {
     if !has {
-        return Ok(work);
+        return Ok(document);
     }
-    let work = numbered(alloc, work)?;
-    Ok(work)
+    let document = change_links::<Numbering>(alloc, document, context)?;
+    Ok(document)
 }
 
-/// Numbers the footnotes of a document, and lets the references find them.
-fn numbered(alloc: Global, mut work: Work) -> Result<Work, TreeFault>
-    ensures { Gives (NumbersFootnotes work) result }
-{
-    let root = take_root(alloc, &mut work);
-    let changes = changes_of(alloc, &mut work, &root)?;
-    put_back(alloc, &mut work, root, changes)?;
-    Ok(work)
-}
+/// The transform of links that numbers footnotes.
+struct Numbering;
 
-/// The changes of a tree's linked elements.
-fn changes_of(alloc: Global, work: &mut Work, root: &Node) -> Result<Changes, TreeFault>
-    ensures { Gives (ChangesFootnotes (linked_of root.now) work.old work.new) result }
-{
-    let linked = linked_in(alloc, root)?;
-    let labels = labels(alloc, linked.as_slice())?;
-    let found = found_by_order(alloc, linked.as_slice())?;
-    hold_numbers(alloc, &mut work.names, linked.as_slice(), labels.as_slice())?;
-    let numbers = leftover(
-        alloc,
-        work,
-        linked.as_slice(),
-        found.as_slice(),
-        Order::Numbers,
-    )?;
-    let symbols = leftover(
-        alloc,
-        work,
-        linked.as_slice(),
-        found.as_slice(),
-        Order::Symbols,
-    )?;
-    let outcomes = outcomes(
-        alloc,
-        linked.as_slice(),
-        labels.as_slice(),
-        found.as_slice(),
-        numbers,
-        symbols,
-    )?;
-    let changes = settle(alloc, work, linked.as_slice(), outcomes)?;
-    Ok(changes)
+impl LinkTransform for Numbering {
+    ghost use Rattle.rst_transform_footnotes.specs.Footnotes.{DecidesFootnotes};
+
+    ghost decides = { DecidesFootnotes };
+
+    fn outcomes(
+        alloc: Global,
+        context: &mut Context,
+        linked: &[Linked<'_>],
+    ) -> Result<Vec<Outcome>, TreeFault> {
+        let labels = labels(alloc, linked)?;
+        let found = found_by_order(alloc, linked)?;
+        hold_numbers(alloc, &mut context.names, linked, labels.as_slice())?;
+        let numbers = leftover(alloc, context, linked, found.as_slice(), Order::Numbers)?;
+        let symbols = leftover(alloc, context, linked, found.as_slice(), Order::Symbols)?;
+        let outcomes = outcomes_by(
+            alloc,
+            linked,
+            labels.as_slice(),
+            found.as_slice(),
+            numbers,
+            symbols,
+        )?;
+        Ok(outcomes)
+    }
 }
 
 /// The label of the footnote at a place, if there is one.
@@ -217,19 +210,19 @@ fn too_many(alloc: Global, order: Order, footnotes: usize) -> Result<Text, TreeF
 /// The message on the references of an order for which no footnote is left, if there are such.
 fn leftover(
     alloc: Global,
-    work: &mut Work,
+    context: &mut Context,
     linked: &[Linked<'_>],
     found: &[Option<usize>],
     order: Order,
 ) -> Result<Option<usize>, TreeFault>
-    ensures { Gives (TellsLeftOver (first_left_over order found.now (map held linked.now)) order (length (in_order order (map held linked.now))) work.old work.new) result }
+    ensures { Gives (TellsLeftOver (first_left_over order found.now (map held linked.now)) order (length (in_order order (map held linked.now))) context.old context.new) result }
 {
     let Some(line) = first_left_over(linked, found, order) else {
         return Ok(None);
     };
     let footnotes = in_order(alloc, linked, order)?;
     let text = too_many(alloc, order, footnotes.len())?;
-    let place = work.report(alloc, Level::Error, line, text, true)?;
+    let place = context.report(alloc, Level::Error, line, text, true)?;
     Ok(Some(place))
 }
 
@@ -244,8 +237,8 @@ fn report_of(node: &Node, numbers: Option<usize>, symbols: Option<usize>) -> Opt
     }
 }
 
-/// What becomes of the linked elements.
-fn outcomes(
+/// What becomes of the linked elements, by their labels, what they find and the messages on the two orders.
+fn outcomes_by(
     alloc: Global,
     linked: &[Linked<'_>],
     labels: &[Option<Text>],

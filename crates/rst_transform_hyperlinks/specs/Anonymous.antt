@@ -12,13 +12,13 @@ use Rattle.rst_tree_index.specs.Kinds.{is_target}
 use Rattle.rst_tree.specs.declared.note.Level.TheVariants.{Error}
 use Rattle.rst_transform_links.specs.declared.links.Outcome.{Outcome}
 use Rattle.rst_transform_links.specs.declared.links.Outcome.TheVariants.{Fails}
-use Rattle.rst_transform_work.specs.declared.work.Work.{Work}
-use Rattle.rst_transform_links.specs.Linkings.{Held, linked_of}
-use Rattle.rst_transform_links.specs.Links.{changed_root}
+use Rattle.rst_transform_work.specs.declared.context.Context.{Context}
+use Rattle.rst_transform_links.specs.Linkings.{Held}
+use Rattle.rst_transform_links.specs.LinkTransforms.{ChangesLinks}
 use Rattle.rst_transform_links.specs.Outcomes.{adds}
 use Rattle.rst_transform_work.specs.Reading.{line_of, list_said}
 use Rattle.rst_transform_work.specs.Reports.{next_report, KeepsRest}
-use Rattle.rst_transform_links.specs.Settling.{Settles}
+use Rattle.rst_transform_work.specs.States.{State}
 use Rattle.rst_transform_links.specs.Holders.{lead_of, lead_to_id}
 
 abbrev pub is_reference : Tag → Bool
@@ -58,28 +58,16 @@ paired (one ∷ more) targets =
     if is_anonymous_reference one.0 then adds (first_lead targets) ∷ paired more (drop 1 targets)
     else adds None ∷ paired more targets
 
--- the anonymous references and targets in a document
-abbrev pub references_in : Node → List Held
-references_in root = filter (λ one. is_anonymous_reference one.0) (linked_of root)
+-- the anonymous references and targets among linked elements
+abbrev pub anonymous_references : List Held → List Held
+anonymous_references linked = filter (λ one. is_anonymous_reference one.0) linked
 
-abbrev pub targets_in : Node → List Held
-targets_in root = filter (λ one. is_anonymous_target one.0) (linked_of root)
+abbrev pub anonymous_targets : List Held → List Held
+anonymous_targets linked = filter (λ one. is_anonymous_target one.0) linked
 
 -- there are as many of the ones as of the others
-abbrev pub Agrees : Node → Type 0
-Agrees root = length (references_in root) ≡ length (targets_in root)
-
--- what becomes of the linked elements, where there are
-abbrev pub agreed : Node → List Outcome
-agreed root = paired (linked_of root) (targets_in root)
-
--- a document whose references took their targets
-abbrev pub with_anonymous : Work → Work
-with_anonymous work = record work { root = changed_root (agreed work.root) work.root }
-
--- whether there are
-abbrev pub agree : Node → Bool
-agree root = nat_eq (length (references_in root)) (length (targets_in root))
+abbrev pub agree : List Held → Bool
+agree linked = nat_eq (length (anonymous_references linked)) (length (anonymous_targets linked))
 
 -- the line of the first reference, or else target
 abbrev pub first_line : List Held → List Held → ℕ
@@ -91,26 +79,26 @@ first_line [] [] = 0
 abbrev pub mismatch : ℕ → ℕ → List ℕ
 mismatch references targets = codes "Anonymous hyperlink mismatch: " ++ (decimal references ++ (codes " references but " ++ (decimal targets ++ codes " targets.")))
 
--- the one ERROR of that, on a line, comes behind the other messages
-abbrev pub ReportsMismatch : ℕ → ℕ → ℕ → Work → Work → Type 0
-ReportsMismatch line references targets before after =
-    (after.reports.items ≡ before.reports.items ++ next_report before.first_number before.reports.items Error line (mismatch references targets) true ∷ []) × KeepsRest before after
+-- the one ERROR of that comes behind the other messages
+abbrev pub ReportsMismatch : List Held → List Held → Context → Context → Type 0
+ReportsMismatch references targets before after =
+    let text : List ℕ = mismatch (length references) (length targets) in
+    (after.reports.items ≡ before.reports.items ++ next_report before.first_number before.reports.items Error (first_line references targets) text true ∷ []) × KeepsRest before after
 
 -- each anonymous reference fails for a message
 abbrev pub failing : ℕ → Node → Outcome
 failing report node = if is_anonymous_reference node then Fails report else adds None
 
--- what becomes of the linked elements of a tree, by whether there are as many, and the document before and after
-abbrev pub ChangesAnonymous : Bool → Node → Work → Work → List Outcome → Type 0
-ChangesAnonymous true root before after changes = (changes ≡ agreed root) × (after ≡ before)
-ChangesAnonymous false root before after changes =
-    (between : Work) × ReportsMismatch (first_line (references_in root) (targets_in root)) (length (references_in root)) (length (targets_in root)) before between ×
-    Settles (linked_of root) (map (λ one. failing (length before.reports.items) one.0) (linked_of root)) between after changes
+-- what becomes of linked elements, by whether there are as many
+abbrev pub DecidesIf : Bool → List Held → Context → Context → List Outcome → Type 0
+DecidesIf true linked before after outcomes = (outcomes ≡ paired linked (anonymous_targets linked)) × (after ≡ before)
+DecidesIf false linked before after outcomes =
+    ReportsMismatch (anonymous_references linked) (anonymous_targets linked) before after
+    × (outcomes ≡ map (λ one. failing (length before.reports.items) one.0) linked)
 
--- the document before and after; its root is taken out, and put back as it changed
-pub record IsAnonymous (before after : Work) : Type 0 where
-  pub out : Node
-  pub settled : Work
-  pub changes : List Outcome
-  pub become : ChangesAnonymous (agree before.root) before.root (record before { root = out }) settled changes
-  pub back : after ≡ record settled { root = changed_root changes before.root }
+abbrev pub DecidesAnonymous : List Held → Context → Context → List Outcome → Type 0
+DecidesAnonymous linked = DecidesIf (agree linked) linked
+
+-- the linked elements of a document change by that
+abbrev pub IsAnonymous : State → State → Type 0
+IsAnonymous = ChangesLinks DecidesAnonymous

@@ -1,6 +1,5 @@
 -- Indirect targets, which lead where the names that they refer to lead (Markup Specification, 'Hyperlink Targets').
-use Rattle.std.specs.Prelude.{◌≡◌, ℕ, ◌+◌, Bool, true, false, List, [], ◌∷◌, ◌++◌, codes, drop, length, map, if◌then◌else◌, is_none, is_some, option_map, slice_get, unwrap_or, Option, Some, None}
-use Rattle.std.specs.List.{list_all}
+use Rattle.std.specs.Prelude.{◌≡◌, ℕ, ◌+◌, Bool, true, false, List, [], ◌∷◌, ◌++◌, codes, drop, length, if◌then◌else◌, is_some, option_map, slice_get, unwrap_or, Option, Some, None}
 use Rattle.rst_transform_names.specs.declared.names.NameEntry.{NameEntry}
 use Rattle.rst_transform_names.specs.declared.names.Holder.{Holder}
 use Rattle.rst_transform_names.specs.declared.names.Holder.TheVariants.{Nobody, Element as Numbered, Unregistered}
@@ -13,22 +12,19 @@ use Rattle.rst_tree.specs.declared.note.Level.TheVariants.{Error}
 use Rattle.rst_tree.specs.Paths.{node_value}
 use Rattle.rst_transform_links.specs.declared.links.Outcome.{Outcome}
 use Rattle.rst_transform_links.specs.declared.links.Outcome.TheVariants.{Fails}
-use Rattle.rst_transform_hyperlinks.specs.declared.ways.Answer.{Answer}
-use Rattle.rst_transform_hyperlinks.specs.declared.ways.Answer.TheVariants.{Leads, Missing, Circular}
-use Rattle.rst_transform_hyperlinks.specs.declared.ways.Step.{Step}
-use Rattle.rst_transform_hyperlinks.specs.declared.ways.Step.TheVariants.{To, Ends}
-use Rattle.rst_transform_work.specs.declared.work.Report.{Report}
-use Rattle.rst_transform_work.specs.declared.work.Work.{Work}
+use Rattle.rst_transform_hyperlinks.specs.declared.chains.Answer.{Answer}
+use Rattle.rst_transform_hyperlinks.specs.declared.chains.Answer.TheVariants.{Leads, Missing, Circular}
+use Rattle.rst_transform_work.specs.declared.context.Context.{Context}
+use Rattle.rst_transform_work.specs.declared.report.Report.{Report}
 use Rattle.rst_transform_hyperlinks.specs.Anonymous.{is_anonymous_reference, is_anonymous_target, is_reference}
 use Rattle.rst_transform_links.specs.Holders.{holder_place, is_target_node, name_lead}
-use Rattle.rst_transform_links.specs.Linkings.{Held, linked_of}
-use Rattle.rst_transform_links.specs.Links.{changed_root}
+use Rattle.rst_transform_links.specs.Linkings.{Held}
+use Rattle.rst_transform_links.specs.LinkTransforms.{ChangesLinks}
 use Rattle.rst_transform_links.specs.Outcomes.{adds}
 use Rattle.rst_transform_work.specs.Reading.{line_of, text_said}
 use Rattle.rst_transform_work.specs.Reports.{next_report, KeepsRest}
-use Rattle.rst_transform_links.specs.Settling.{Settles}
-use Rattle.rst_transform_hyperlinks.specs.Ways.{comes_to}
 use Rattle.rst_transform_work.specs.Lists.{at_place}
+use Rattle.rst_transform_work.specs.States.{State}
 
 -- the name that an indirect target refers to
 abbrev pub indirect_name : Node → Option (List ℕ)
@@ -40,40 +36,56 @@ has_holder Nobody = false
 has_holder (Numbered serial) = true
 has_holder Unregistered = true
 
--- a way ends where a name leads: its holder, and the URI and the id of the element that brought it
-abbrev pub ends_at_name : Option Node → Option (List ℕ) → List ℕ → Step
-ends_at_name holder uri id = Ends (Leads (name_lead holder uri id))
+-- what is known of a name, if an element holds it
+abbrev pub if_held : Option NameEntry → Option NameEntry
+if_held None = None
+if_held (Some entry) = if has_holder entry.holder then Some entry else None
 
--- the first step to an element at a place is there if it is another indirect target, or else where the name leads
-abbrev pub step_to_one : ℕ → Option Node → Option (List ℕ) → List ℕ → Step
-step_to_one place None uri id = ends_at_name None uri id
-step_to_one place (Some node) uri id = if is_some (indirect_name node) then To place else ends_at_name (Some node) uri id
+-- the linked element at a place
+abbrev pub element_at : List Held → Option ℕ → Option Node
+element_at linked None = None
+element_at linked (Some place) = option_map (λ one. one.0) (slice_get linked place)
 
-abbrev pub step_to : List Held → Option ℕ → Option (List ℕ) → List ℕ → Step
-step_to linked None uri id = ends_at_name None uri id
-step_to linked (Some place) uri id = step_to_one place (option_map (λ one. one.0) (slice_get linked place)) uri id
+-- the name that an element refers to in turn, if it is an indirect target
+abbrev pub further_name : Option Node → Option (List ℕ)
+further_name None = None
+further_name (Some node) = indirect_name node
 
--- the first step to a name, by what is known of it
-abbrev pub step_by : List Held → (Holder → Option ℕ) → List ℕ → Option NameEntry → Step
-step_by linked places name None = Ends (Missing name)
-step_by linked places name (Some known) = if has_holder known.holder then step_to linked (places known.holder) known.uri known.id else Ends (Missing name)
+-- Where a name leads an indirect target that refers to it, given what is known of names, and which linked elements hold them.
+pub data Reaches (known : List ℕ → Option NameEntry) (element : Holder → Option Node) : List ℕ → Answer → Type 0 where
+  -- nowhere, if no element holds it
+  breaks : (name : List ℕ) → if_held (known name) ≡ None → Reaches known element name (Missing name)
+  -- to the URI or the id that it stands for, if what holds it is no indirect target
+  leads : (name : List ℕ) (entry : NameEntry) → if_held (known name) ≡ Some entry → further_name (element entry.holder) ≡ None
+      → Reaches known element name (Leads (name_lead (element entry.holder) entry.uri entry.id))
+  -- where the name leads that its holder refers to, if that is an indirect target too
+  follows : (name next : List ℕ) (entry : NameEntry) (answer : Answer) → if_held (known name) ≡ Some entry → further_name (element entry.holder) ≡ Some next
+      → Reaches known element next answer → Reaches known element name answer
 
--- the first step to what a name means among linked elements, by the places of the holders
-abbrev pub first_step : Names → (Holder → Option ℕ) → List Held → List ℕ → Step
-first_step names places linked name = step_by linked places name (held_by names name)
+-- given the same
+module _ (known : List ℕ → Option NameEntry) (element : Holder → Option Node) where
+  -- what an indirect target comes to that refers to a name: what is reached from there, or, where nothing is, a circle that its chain of names runs into
+  abbrev pub ComesTo : List ℕ → Answer → Type 0
+  ComesTo name Circular = (answer : Answer) → Reaches known element name answer → ⊥
+  ComesTo name answer = Reaches known element name answer
 
--- the first step from an element, if it is an indirect target
-abbrev pub own_step : Names → (Holder → Option ℕ) → List Held → Node → Option Step
-own_step names places linked node = option_map (first_step names places linked) (indirect_name node)
+  -- an indirect target, which refers to a name, has an answer, and no other element has one
+  abbrev pub HasAnswer : Option (List ℕ) → Option Answer → Type 0
+  HasAnswer (Some name) (Some answer) = ComesTo name answer
+  HasAnswer (Some name) None = ⊥
+  HasAnswer None answer = answer ≡ None
 
-abbrev pub steps_of : Names → (Holder → Option ℕ) → List Held → List (Option Step)
-steps_of names places linked = map (λ one. own_step names places linked one.0) linked
+  -- the answers of some elements
+  abbrev pub AreAnswers : List Held → List (Option Answer) → Type 0
+  AreAnswers [] answers = answers ≡ []
+  AreAnswers (one ∷ more) [] = ⊥
+  AreAnswers (one ∷ more) (answer ∷ answers) = HasAnswer (indirect_name one.0) answer × AreAnswers more answers
 
--- what the message says of a target whose way ends at a name that no element holds
+-- what the message says of a target whose chain breaks at a name that no element holds
 abbrev pub missing_text : List ℕ → List ℕ → List ℕ
 missing_text name missing = codes "Indirect hyperlink target \"" ++ (name ++ (codes "\" refers to target \"" ++ (missing ++ codes "\", which does not exist.")))
 
--- what the message says of a target whose way is a circle
+-- what the message says of a target whose chain runs into a circle
 abbrev pub circle_text : List ℕ → List ℕ
 circle_text name = codes "Indirect hyperlink target \"" ++ (name ++ codes "\" is circular.")
 
@@ -161,7 +173,7 @@ abbrev pub outcome_through : (ℕ → Option Answer) → (ℕ → Option ℕ) �
 outcome_through answers reports node None = adds None
 outcome_through answers reports node (Some target) = outcome_by node (reports target) (answers target)
 
--- an indirect target leads where its way ends
+-- an indirect target leads where its answer says
 abbrev pub outcome_or : Option Answer → Outcome → Outcome
 outcome_or (Some answer) other = led answer
 outcome_or None other = other
@@ -174,41 +186,20 @@ abbrev pub outcomes_from : (ℕ → Option Answer) → (ℕ → Option ℕ) → 
 outcomes_from answers reports targets place [] = []
 outcomes_from answers reports targets place (one ∷ more) = outcome_at answers reports one.0 (targets place) place ∷ outcomes_from answers reports targets (place + 1) more
 
--- what each indirect target in a document comes to, by its place
-abbrev pub answers_in : Node → Work → ℕ → Option Answer
-answers_in root work = comes_to (steps_of work.names (holder_place work.serials (linked_of root)) (linked_of root))
+-- the linked element that holds a name
+abbrev pub holding_element : ℕ → List Held → Holder → Option Node
+holding_element serials linked holder = element_at linked (holder_place serials linked holder)
 
--- the place of the message on each
-abbrev pub reports_in : Node → Work → ℕ → Option ℕ
-reports_in root work = at_place (reports_from (answers_in root work) (length work.reports.items) 0 (linked_of root))
+-- What becomes of linked elements. Each indirect target leads where its answer says. Where that is nowhere, an ERROR comes behind the other
+-- messages, and the references to the target fail for it.
+pub record DecidesIndirect (linked : List Held) (before after : Context) (outcomes : List Outcome) : Type 0 where
+  pub answers : List (Option Answer)
+  pub are : AreAnswers (held_by before.names) (holding_element before.serials linked) linked answers
+  pub reports : after.reports.items ≡ with_reports (at_place answers) before.first_number before.reports.items 0 linked
+  pub rest : KeepsRest before after
+  pub become : outcomes ≡ outcomes_from (at_place answers) (at_place (reports_from (at_place answers) (length before.reports.items) 0 linked))
+      (at_place (targets_of before.names (holder_place before.serials linked) linked)) 0 linked
 
--- the place of the target that each reference means
-abbrev pub targets_in : Node → Work → ℕ → Option ℕ
-targets_in root work = at_place (targets_of work.names (holder_place work.serials (linked_of root)) (linked_of root))
-
--- what becomes of the linked elements in a document
-abbrev pub outcomes_in : Node → Work → List Outcome
-outcomes_in root work = outcomes_from (answers_in root work) (reports_in root work) (targets_in root work) 0 (linked_of root)
-
--- no way is a circle, or ends at a name that no element holds
-abbrev pub NoneFails : Node → Work → Type 0
-NoneFails root work = list_all is_none (reports_from (answers_in root work) (length work.reports.items) 0 (linked_of root)) ≡ true
-
--- a document whose indirect targets lead where their ways end
-abbrev pub with_indirect : Work → Work
-with_indirect work = record work { root = changed_root (outcomes_in work.root work) work.root }
-
--- what becomes of the linked elements of a tree, and the document before and after
-pub record ChangesIndirect (root : Node) (before after : Work) (changes : List Outcome) : Type 0 where
-  pub reported : Work
-  pub reports : reported.reports.items ≡ with_reports (answers_in root before) before.first_number before.reports.items 0 (linked_of root)
-  pub rest : KeepsRest before reported
-  pub settles : Settles (linked_of root) (outcomes_in root before) reported after changes
-
--- the document before and after; its root is taken out, and put back as it changed
-pub record IsIndirect (before after : Work) : Type 0 where
-  pub out : Node
-  pub settled : Work
-  pub changes : List Outcome
-  pub become : ChangesIndirect before.root (record before { root = out }) settled changes
-  pub back : after ≡ record settled { root = changed_root changes before.root }
+-- the linked elements of a document change by that
+abbrev pub IsIndirect : State → State → Type 0
+IsIndirect = ChangesLinks DecidesIndirect

@@ -1,3 +1,3 @@
 pub mod Anonymous
 pub mod Indirect
-pub mod Ways
+pub mod Chains

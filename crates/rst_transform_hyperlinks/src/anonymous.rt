@@ -1,15 +1,13 @@
 //! Anonymous references.
-ghost use Rattle.std.specs.Prelude.{◌≡◌, drop, false, filter, length, map};
+ghost use Rattle.std.specs.Prelude.{◌≡◌, drop, false, length, map};
 ghost use Rattle.rst_tree.specs.Faults.{Gives};
-ghost use Rattle.rst_tree.specs.Walk.{node_items};
 ghost use Rattle.rst_tree_index.specs.Kinds.{kinds_of, HasNoNewLinkKinds};
-ghost use Rattle.rst_transform_hyperlinks.specs.Anonymous.{agree, agreed, failing, first_lead, first_line, is_anonymous_reference, is_anonymous_target, lead_to, mismatch, paired, with_anonymous, Agrees, ChangesAnonymous, IsAnonymous, ReportsMismatch};
+ghost use Rattle.rst_transform_work.specs.States.{elements_of, state};
+ghost use Rattle.rst_transform_hyperlinks.specs.Anonymous.{anonymous_references, anonymous_targets, failing, first_lead, first_line, is_anonymous_reference, is_anonymous_target, lead_to, mismatch, paired, IsAnonymous, ReportsMismatch};
 ghost use Rattle.rst_transform_links.specs.Linkings.{held};
 
-use rst_transform_links::{
-    Changes, Linked, Outcome, lead_of, linked_in, put_back, settle, text_attr,
-};
-use rst_transform_work::{Work, first_said, has, line_of, take_root};
+use rst_transform_links::{LinkTransform, Linked, Outcome, change_links, lead_of, text_attr};
+use rst_transform_work::{Context, Document, first_said, has, line_of};
 use rst_tree::{Entry, Key, Level, Node, Tag, Text, TreeFault};
 use std::alloc::Global;
 
@@ -35,38 +33,46 @@ use std::alloc::Global;
 ///
 /// One through an indirect target is left to the next transform. If there are more of the ones than of the others, there is
 /// one ERROR, and each reference becomes a problematic. `has` says whether the document may have an anonymous element.
-pub fn anonymous(alloc: Global, mut work: Work, has: bool) -> Result<Work, TreeFault>
-    requires has { has ≡ false → (kinds_of (node_items work.root)).anonymous ≡ false }
-    ensures anonymous { Gives (IsAnonymous work) result }
-    ensures agrees { Agrees work.root → Gives (λ done. done ≡ with_anonymous work) result }
-    ensures kinds { Gives (λ after. HasNoNewLinkKinds (node_items work.root) (node_items after.root)) result }
+pub fn anonymous(
+    alloc: Global,
+    document: Document,
+    context: &mut Context,
+    has: bool,
+) -> Result<Document, TreeFault>
+    requires has { has ≡ false → (kinds_of (elements_of document)).anonymous ≡ false }
+    ensures anonymous { Gives (λ after. IsAnonymous (state document context.old) (state after context.new)) result }
+    ensures kinds { Gives (λ after. HasNoNewLinkKinds (elements_of document) (elements_of after)) result }
 {
     if !has {
-        return Ok(work);
+        return Ok(document);
     }
-    let root = take_root(alloc, &mut work);
-    let changes = changes_of(alloc, &mut work, &root)?;
-    put_back(alloc, &mut work, root, changes)?;
-    Ok(work)
+    let document = change_links::<Pairing>(alloc, document, context)?;
+    Ok(document)
 }
 
-/// The changes of a tree's linked elements.
-#[tactic(auto, using(crate::proofs::Pairing::paired_stay))]
-fn changes_of(alloc: Global, work: &mut Work, root: &Node) -> Result<Changes, TreeFault>
-    ensures done { Gives (ChangesAnonymous (agree root.now) root.now work.old work.new) result }
-    ensures changes { Agrees root.now → Gives (λ changes. changes ≡ agreed root.now) result }
-    ensures work { Agrees root.now → work.new ≡ work.old }
-{
-    let linked = linked_in(alloc, root)?;
-    let references = anonymous_references(alloc, linked.as_slice())?;
-    let targets = anonymous_targets(alloc, linked.as_slice())?;
-    if references.len() == targets.len() {
-        let outcomes = paired(alloc, linked.as_slice(), targets.as_slice())?;
-        return settle(alloc, work, linked.as_slice(), outcomes);
+/// The transform of links that gives anonymous references their targets.
+struct Pairing;
+
+impl LinkTransform for Pairing {
+    ghost use Rattle.rst_transform_hyperlinks.specs.Anonymous.{DecidesAnonymous};
+
+    ghost decides = { DecidesAnonymous };
+
+    fn outcomes(
+        alloc: Global,
+        context: &mut Context,
+        linked: &[Linked<'_>],
+    ) -> Result<Vec<Outcome>, TreeFault> {
+        let references = anonymous_references(alloc, linked)?;
+        let targets = anonymous_targets(alloc, linked)?;
+        if references.len() == targets.len() {
+            let outcomes = paired(alloc, linked, targets.as_slice())?;
+            return Ok(outcomes);
+        }
+        let report = report_mismatch(alloc, context, references.as_slice(), targets.as_slice())?;
+        let outcomes = mismatched(alloc, linked, report)?;
+        Ok(outcomes)
     }
-    let report = report_mismatch(alloc, work, references.as_slice(), targets.as_slice())?;
-    let outcomes = mismatched(alloc, linked.as_slice(), report)?;
-    settle(alloc, work, linked.as_slice(), outcomes)
 }
 
 /// Whether a node is an anonymous reference.
@@ -98,7 +104,7 @@ fn anonymous_references<'a>(
     alloc: Global,
     linked: &[Linked<'a>],
 ) -> Result<Vec<Linked<'a>>, TreeFault>
-    ensures { Gives (λ list. map held list.items ≡ filter (λ one. is_anonymous_reference one.0) (map held linked.now)) result }
+    ensures { Gives (λ list. map held list.items ≡ anonymous_references (map held linked.now)) result }
 {
     let mut list = Vec::new(alloc);
     for one in linked {
@@ -111,7 +117,7 @@ fn anonymous_references<'a>(
 
 /// The anonymous targets among linked elements, in order.
 fn anonymous_targets<'a>(alloc: Global, linked: &[Linked<'a>]) -> Result<Vec<Linked<'a>>, TreeFault>
-    ensures { Gives (λ list. map held list.items ≡ filter (λ one. is_anonymous_target one.0) (map held linked.now)) result }
+    ensures { Gives (λ list. map held list.items ≡ anonymous_targets (map held linked.now)) result }
 {
     let mut list = Vec::new(alloc);
     for one in linked {
@@ -148,16 +154,16 @@ fn mismatch(alloc: Global, references: usize, targets: usize) -> Result<Text, Tr
 /// Adds the ERROR that there are, and gives its place.
 fn report_mismatch(
     alloc: Global,
-    work: &mut Work,
+    context: &mut Context,
     references: &[Linked<'_>],
     targets: &[Linked<'_>],
 ) -> Result<usize, TreeFault>
-    ensures place { Gives (λ place. place ≡ length work.old.reports.items) result }
-    ensures reports { Gives (λ _. ReportsMismatch (first_line (map held references.now) (map held targets.now)) (length references.now) (length targets.now) work.old work.new) result }
+    ensures place { Gives (λ place. place ≡ length context.old.reports.items) result }
+    ensures reports { Gives (λ _. ReportsMismatch (map held references.now) (map held targets.now) context.old context.new) result }
 {
     let line = first_line(references, targets);
     let text = mismatch(alloc, references.len(), targets.len())?;
-    let place = work.report(alloc, Level::Error, line, text, true)?;
+    let place = context.report(alloc, Level::Error, line, text, true)?;
     Ok(place)
 }
 

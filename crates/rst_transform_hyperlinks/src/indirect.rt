@@ -1,27 +1,26 @@
 //! Indirect targets.
-ghost use Rattle.std.specs.Prelude.{◌≡◌, ◌++◌, ℕ, drop, false, is_none, is_some, length, map, slice_get, unwrap_or, MatchOption, None, Some, [], true};
-ghost use Rattle.std.specs.List.{list_all};
+ghost use Rattle.std.specs.Prelude.{◌≡◌, drop, false, is_some, length, map, unwrap_or, MatchOption, None, Some, []};
 ghost use Rattle.rst_tree.specs.Faults.{Gives};
-ghost use Rattle.rst_tree.specs.Walk.{node_items};
 ghost use Rattle.rst_tree.specs.declared.key.Key.TheVariants.{OwnName};
 ghost use Rattle.rst_tree_index.specs.Kinds.{kinds_of, HasNoNewLinkKinds};
-ghost use Rattle.rst_transform_names.specs.Names.{held_by};
 ghost use Rattle.rst_transform_links.specs.Holders.{holding, place_at};
-ghost use Rattle.rst_transform_hyperlinks.specs.Indirect.{anonymous_from, circle_text, ends_at_name, failure_of, first_step, has_holder, indirect_name, is_reference_node, led, missing_text, named_place, next_count, outcome_at, outcome_through, outcomes_from, outcomes_in, own_step, report_place, reports_from, step_to, steps_of, targets_from, targets_of, with_indirect, with_report, with_reports, ChangesIndirect, IsIndirect, NoneFails};
-ghost use Rattle.rst_transform_hyperlinks.specs.declared.ways.Answer.TheVariants.{Missing};
-ghost use Rattle.rst_transform_hyperlinks.specs.declared.ways.Step.TheVariants.{Ends};
+ghost use Rattle.rst_transform_hyperlinks.specs.Indirect.{anonymous_from, circle_text, failure_of, has_holder, indirect_name, is_reference_node, led, missing_text, named_place, next_count, outcome_at, outcome_through, outcomes_from, report_place, reports_from, targets_from, targets_of, with_report, with_reports, IsIndirect};
+ghost use Rattle.rst_transform_hyperlinks.specs.Chains.{ends_at_name, first_step, own_step, step_to, steps_of};
+ghost use Rattle.rst_transform_hyperlinks.specs.declared.chains.Answer.TheVariants.{Missing};
+ghost use Rattle.rst_transform_hyperlinks.specs.declared.chains.Step.TheVariants.{Ends};
 ghost use Rattle.rst_transform_links.specs.Linkings.{held};
 ghost use Rattle.rst_transform_work.specs.Reading.{text_said};
 ghost use Rattle.rst_transform_work.specs.Reports.{KeepsRest};
 ghost use Rattle.rst_transform_work.specs.Lists.{at_place};
+ghost use Rattle.rst_transform_work.specs.States.{elements_of, state};
 
 use crate::anonymous::{is_anonymous_reference, is_anonymous_target};
-use crate::ways::{Answer, Step, answer_at, answers};
+use crate::chains::{Answer, Step, answer_at, answers};
 use rst_transform_links::{
-    Changes, Holders, Linked, Outcome, is_target, lead_by_name, linked_in, put_back, settle,
+    Holders, LinkTransform, Linked, Outcome, change_links, is_target, lead_by_name,
 };
 use rst_transform_names::{Holder, NameEntry, Names};
-use rst_transform_work::{Work, at_place, has, line_of, take_root, text_said};
+use rst_transform_work::{Context, Document, at_place, has, line_of, text_said};
 use rst_tree::{Key, Level, Node, Tag, Text, TreeFault};
 use std::alloc::Global;
 
@@ -50,45 +49,53 @@ use std::alloc::Global;
 /// <target ids="b" names="b" refuri="https://x.org/">
 /// ```
 ///
-/// References by name are left to the last of these transforms. A target whose way is a circle, or ends at a name that no
-/// element holds, gives an ERROR, and the references through it become problematics of that message: message by message,
+/// References by name are left to the last of these transforms. A target whose chain runs into a circle, or breaks at a name
+/// that no element holds, gives an ERROR, and the references through it become problematics of that message: message by message,
 /// under each in the order of the document. `has` says whether the document may have an indirect target.
-pub fn indirect(alloc: Global, mut work: Work, has: bool) -> Result<Work, TreeFault>
-    requires has { has ≡ false → (kinds_of (node_items work.root)).indirect ≡ false }
-    ensures indirect { Gives (IsIndirect work) result }
-    ensures led { NoneFails work.root work → Gives (λ done. done ≡ with_indirect work) result }
-    ensures kinds { Gives (λ after. HasNoNewLinkKinds (node_items work.root) (node_items after.root)) result }
+pub fn indirect(
+    alloc: Global,
+    document: Document,
+    context: &mut Context,
+    has: bool,
+) -> Result<Document, TreeFault>
+    requires has { has ≡ false → (kinds_of (elements_of document)).indirect ≡ false }
+    ensures indirect { Gives (λ after. IsIndirect (state document context.old) (state after context.new)) result }
+    ensures kinds { Gives (λ after. HasNoNewLinkKinds (elements_of document) (elements_of after)) result }
 {
     if !has {
-        return Ok(work);
+        return Ok(document);
     }
-    let root = take_root(alloc, &mut work);
-    let changes = changes_of(alloc, &mut work, &root)?;
-    put_back(alloc, &mut work, root, changes)?;
-    Ok(work)
+    let document = change_links::<Following>(alloc, document, context)?;
+    Ok(document)
 }
 
-/// The changes of a tree's linked elements.
-fn changes_of(alloc: Global, work: &mut Work, root: &Node) -> Result<Changes, TreeFault>
-    ensures done { Gives (ChangesIndirect root.now work.old work.new) result }
-    ensures changes { NoneFails root.now work.old → Gives (λ changes. changes ≡ outcomes_in root.now work.old) result }
-    ensures work { NoneFails root.now work.old → Gives (λ _. work.new ≡ work.old) result }
-{
-    let linked = linked_in(alloc, root)?;
-    let holders = Holders::of(alloc, linked.as_slice(), work.serials)?;
-    let steps = first_steps(alloc, &work.names, &holders, linked.as_slice())?;
-    let targets = targets_of(alloc, &work.names, &holders, linked.as_slice())?;
-    let answers = answers(alloc, steps.as_slice())?;
-    let reports = reports(alloc, work, linked.as_slice(), answers.as_slice())?;
-    let outcomes = outcomes(
-        alloc,
-        linked.as_slice(),
-        answers.as_slice(),
-        reports.as_slice(),
-        targets.as_slice(),
-    )?;
-    let changes = settle(alloc, work, linked.as_slice(), outcomes)?;
-    Ok(changes)
+/// The transform of links that follows indirect targets.
+struct Following;
+
+impl LinkTransform for Following {
+    ghost use Rattle.rst_transform_hyperlinks.specs.Indirect.{DecidesIndirect};
+
+    ghost decides = { DecidesIndirect };
+
+    fn outcomes(
+        alloc: Global,
+        context: &mut Context,
+        linked: &[Linked<'_>],
+    ) -> Result<Vec<Outcome>, TreeFault> {
+        let holders = Holders::of(alloc, linked, context.serials)?;
+        let steps = first_steps(alloc, &context.names, &holders, linked)?;
+        let targets = targets_of(alloc, &context.names, &holders, linked)?;
+        let answers = answers(alloc, steps.as_slice())?;
+        let reports = reports(alloc, context, linked, answers.as_slice())?;
+        let outcomes = outcomes(
+            alloc,
+            linked,
+            answers.as_slice(),
+            reports.as_slice(),
+            targets.as_slice(),
+        )?;
+        Ok(outcomes)
+    }
 }
 
 /// The name that an indirect target refers to.
@@ -115,7 +122,7 @@ fn has_holder(known: &NameEntry) -> bool
     !matches!(known.holder, Holder::Nobody)
 }
 
-/// A way that ends where a name leads.
+/// A chain that ends where a name leads.
 fn ends_at_name(alloc: Global, known: &NameEntry, holder: Option<&Node>) -> Result<Step, TreeFault>
     ensures { Gives (λ step. step ≡ ends_at_name (holding holder.entry) known.now.uri known.now.id) result }
 {
@@ -164,7 +171,7 @@ fn first_step(
     Ok(step)
 }
 
-/// A way that ends at a name which no element holds.
+/// A chain that ends at a name which no element holds.
 fn missing(alloc: Global, name: &str) -> Result<Step, TreeFault>
     ensures { Gives (λ step. step ≡ Ends (Missing name.now)) result }
 {
@@ -215,7 +222,7 @@ fn own_name(node: &Node) -> &str
     }
 }
 
-/// What the message says of a target whose way ends at a name that no element holds.
+/// What the message says of a target whose chain breaks at a name that no element holds.
 fn missing_text(alloc: Global, name: &str, missing: &str) -> Result<Text, TreeFault>
     ensures { Gives (λ text. text ≡ missing_text name.now missing.now) result }
 {
@@ -225,7 +232,7 @@ fn missing_text(alloc: Global, name: &str, missing: &str) -> Result<Text, TreeFa
     Ok(Text::new(text))
 }
 
-/// What the message says of a target whose way is a circle.
+/// What the message says of a target whose chain runs into a circle.
 fn circle_text(alloc: Global, name: &str) -> Result<Text, TreeFault>
     ensures { Gives (λ text. text ≡ circle_text name.now) result }
 {
@@ -254,39 +261,37 @@ fn failure_at(
 /// Adds the message on an element, if it fails, and gives the place of the message.
 fn report_failure(
     alloc: Global,
-    work: &mut Work,
+    context: &mut Context,
     node: &Node,
     failure: Option<Text>,
 ) -> Result<Option<usize>, TreeFault>
-    ensures place { Gives (λ place. place ≡ report_place (length work.old.reports.items) failure) result }
-    ensures reports { Gives (λ _. work.new.reports.items ≡ with_report work.old.first_number work.old.reports.items node.now failure) result }
-    ensures count { Gives (λ _. length work.new.reports.items ≡ next_count (length work.old.reports.items) failure) result }
-    ensures rest { Gives (λ _. KeepsRest work.old work.new) result }
-    ensures same { Gives (λ place. place ≡ None → work.new ≡ work.old) result }
+    ensures place { Gives (λ place. place ≡ report_place (length context.old.reports.items) failure) result }
+    ensures reports { Gives (λ _. context.new.reports.items ≡ with_report context.old.first_number context.old.reports.items node.now failure) result }
+    ensures count { Gives (λ _. length context.new.reports.items ≡ next_count (length context.old.reports.items) failure) result }
+    ensures rest { Gives (λ _. KeepsRest context.old context.new) result }
 {
     let Some(text) = failure else {
         return Ok(None);
     };
-    let place = work.report(alloc, Level::Error, line_of(node), text, true)?;
+    let place = context.report(alloc, Level::Error, line_of(node), text, true)?;
     Ok(Some(place))
 }
 
 /// The message of each target that fails, by its place.
 fn reports(
     alloc: Global,
-    work: &mut Work,
+    context: &mut Context,
     linked: &[Linked<'_>],
     answers: &[Option<Answer>],
 ) -> Result<Vec<Option<usize>>, TreeFault>
-    ensures places { Gives (λ reports. reports.items ≡ reports_from (at_place answers.now) (length work.old.reports.items) 0 (map held linked.now)) result }
-    ensures reports { Gives (λ _. work.new.reports.items ≡ with_reports (at_place answers.now) work.old.first_number work.old.reports.items 0 (map held linked.now)) result }
-    ensures rest { Gives (λ _. KeepsRest work.old work.new) result }
-    ensures same { Gives (λ reports. list_all is_none reports.items ≡ true → work.new ≡ work.old) result }
+    ensures places { Gives (λ reports. reports.items ≡ reports_from (at_place answers.now) (length context.old.reports.items) 0 (map held linked.now)) result }
+    ensures reports { Gives (λ _. context.new.reports.items ≡ with_reports (at_place answers.now) context.old.first_number context.old.reports.items 0 (map held linked.now)) result }
+    ensures rest { Gives (λ _. KeepsRest context.old context.new) result }
 {
     let mut reports = Vec::with_capacity(alloc, linked.len())?;
     for (place, one) in linked.iter().enumerate() {
         let failure = failure_at(alloc, one.element, answers, place)?;
-        let report = report_failure(alloc, work, one.element, failure)?;
+        let report = report_failure(alloc, context, one.element, failure)?;
         reports.push(report)?;
     }
     Ok(reports)

@@ -8,7 +8,7 @@ pub fn paired_alike()
     ensures { HasOneAnswer IsAnonymous }
 {}
 
-/// Indirect targets are led to where their ways end in one way.
+/// Indirect targets are led to where their chains end in one way.
 pub fn led_alike()
     ensures { HasOneAnswer IsIndirect }
 {}

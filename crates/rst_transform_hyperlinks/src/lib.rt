@@ -2,6 +2,6 @@
 #![tactic(auto)]
 
 pub mod anonymous;
+mod chains;
 pub mod indirect;
 pub mod laws;
-mod ways;

@@ -6,4 +6,5 @@ pub mod OneAnswer
 pub mod OneAnswerTurns
 pub mod SettlingLemmas
 pub mod StandingIn
+pub mod Staying
 pub mod TurnsFound

@@ -1,7 +1,7 @@
 -- What a change of linked elements does to the kinds of elements: none is new where no outcome lets an element refer to a name. And what
 -- linked elements are, where no element is of some kind.
-use Rattle.std.proofs.Common.{◌≡◌, ℕ, zero, suc, ◌+◌, List, [], ◌∷◌, ◌++◌, drop, length, refl, sym, ◌∙◌, ap, Bool, true, false, Option}
-use Rattle.std.specs.Prelude.{◌&&◌, ◌||◌, not, if◌then◌else◌, is_some, nat_lt, slice_set, Some, None}
+use Rattle.std.proofs.Common.{◌≡◌, ℕ, zero, suc, ◌+◌, List, [], ◌∷◌, ◌++◌, drop, length, refl, Bool, true, false, Option}
+use Rattle.std.specs.Prelude.{◌&&◌, not, if◌then◌else◌, is_some, slice_set, Some, None}
 use Rattle.std.specs.List.{list_all, list_any}
 use Rattle.std.proofs.lemmas.Bool.{and_parts, not-true, or_parts}
 use Rattle.std.proofs.lemmas.List.Folds.{list_all-append}
@@ -12,7 +12,7 @@ use Rattle.rst_tree.specs.declared.node.Node.TheVariants.{Element, Text}
 use Rattle.rst_tree.specs.declared.rewriting.Rewrite.{Rewrite}
 use Rattle.rst_tree.specs.declared.rewriting.Rewrite.TheVariants.{Keep, Replace}
 use Rattle.rst_tree.specs.declared.tag.Tag.{Tag}
-use Rattle.rst_tree.specs.declared.tag.Tag.TheVariants.{Problematic}
+use Rattle.rst_tree.specs.declared.tag.Tag.TheVariants.{Document as DocumentTag, Problematic}
 use Rattle.rst_tree.specs.Attributes.{value_of}
 use Rattle.rst_tree.specs.Forest.{Forest, bare, element, words}
 use Rattle.rst_tree.specs.KeyNames.{is_same}
@@ -25,9 +25,12 @@ use Rattle.rst_tree_index.proofs.ElementKinds.{none_in, none_of_both, said_with}
 use Rattle.rst_transform_links.specs.declared.links.Outcome.{Outcome}
 use Rattle.rst_transform_links.specs.declared.links.Outcome.TheVariants.{Stays, Fails, Failed}
 use Rattle.rst_transform_links.specs.Linkings.{Held, inner_of, linked_among, linked_of, own_linked}
-use Rattle.rst_transform_links.specs.Links.{change_next, change_of, changed_by, changed_root, shown_as, with_more}
+use Rattle.rst_transform_links.specs.Links.{change_next, change_of, changed_by, changed_document, shown_as, with_more}
+use Rattle.rst_transform_links.specs.LinkTransforms.{ChangesLinks}
 use Rattle.rst_transform_links.specs.Settling.{at_places, Settles, TakesTurns}
-use Rattle.rst_transform_work.specs.declared.work.Work.{Work}
+use Rattle.rst_transform_work.specs.declared.context.Context.{Context}
+use Rattle.rst_transform_work.specs.declared.document.Document.{Document}
+use Rattle.rst_transform_work.specs.States.{elements_of, State}
 
 -- an attribute by which an element refers to no name
 abbrev pub is_no_name : Option Attr → Bool
@@ -105,23 +108,22 @@ nodes_spared q s (element t a c l r) spared h none =
     went_on q (change_of s (Element t a c l)) (change_next s (Element t a c l)) (λ u. rewritten change_next change_of u c) (λ u. rewritten change_next change_of u r) itself.0 itself.1
     (λ u k. nodes_spared q u c spared k parts.0) (λ u k. nodes_spared q u r spared k parts.1)
 
-root_spared : (q : Item → Bool) (s : List Outcome) (root : Node) → Spared q → list_all is_nameless s ≡ true → list_any q (node_items root) ≡ false → list_any q (node_items (changed_root s root)) ≡ false
-root_spared q s (Element t a c l) spared h none =
-    let own = or_parts (q (item t a l)) (list_any q (items c)) none in
-    rw (own.0) ((nodes_spared q s c spared h own.1).0)
-root_spared q s (Text t) spared h none = none
+document_spared : (q : Item → Bool) (s : List Outcome) (document : Document) → Spared q → list_all is_nameless s ≡ true → list_any q (elements_of document) ≡ false → list_any q (elements_of (changed_document s document)) ≡ false
+document_spared q s document spared h none =
+    let own = or_parts (q (item DocumentTag document.attrs document.line)) (list_any q (items document.children)) none in
+    rw (own.0) ((nodes_spared q s document.children spared h own.1).0)
 
 -- what stays is as indirect as it was
 as_indirect : (t : Tag) (more : Option Attr) (a : List Attr) (l : ℕ) → is_no_name more ≡ true → (is_target t && is_some (value_of Refname a)) ≡ false → (is_target t && is_some (value_of Refname (with_more more a))) ≡ false
 as_indirect t more a l h none = rw (no_name more a h) none
 
--- the changed tree has no new kinds of those that transforms of links ask for
-pub changed_kinds : (s : List Outcome) (root : Node) → list_all is_nameless s ≡ true → HasNoNewLinkKinds (node_items root) (node_items (changed_root s root))
-changed_kinds s root h = record {
-  indirect = root_spared (λ x. is_target x.tag && tells Refname x) s root (record { stays = as_indirect; fails = λ p l. refl }) h;
-  footnotes = root_spared (λ x. is_of_footnotes x.tag) s root (record { stays = λ t more a l k none. none; fails = λ p l. refl }) h;
-  links = root_spared (λ x. is_linked_tag x.tag) s root (record { stays = λ t more a l k none. none; fails = λ p l. refl }) h;
-  transitions = root_spared (λ x. is_transition x.tag) s root (record { stays = λ t more a l k none. none; fails = λ p l. refl }) h;
+-- the changed document has no new kinds of those that transforms of links ask for
+changed_kinds : (s : List Outcome) (document : Document) → list_all is_nameless s ≡ true → HasNoNewLinkKinds (elements_of document) (elements_of (changed_document s document))
+changed_kinds s document h = record {
+  indirect = document_spared (λ x. is_target x.tag && tells Refname x) s document (record { stays = as_indirect; fails = λ p l. refl }) h;
+  footnotes = document_spared (λ x. is_of_footnotes x.tag) s document (record { stays = λ t more a l k none. none; fails = λ p l. refl }) h;
+  links = document_spared (λ x. is_linked_tag x.tag) s document (record { stays = λ t more a l k none. none; fails = λ p l. refl }) h;
+  transitions = document_spared (λ x. is_transition x.tag) s document (record { stays = λ t more a l k none. none; fails = λ p l. refl }) h;
 }
 
 -- ---- settled outcomes
@@ -131,7 +133,7 @@ set_nameless [] place one h k = refl
 set_nameless (x ∷ more) zero one h k = let parts = and_parts (is_nameless x) (list_all is_nameless more) k in rw h (parts.1)
 set_nameless (x ∷ more) (suc place) one h k = let parts = and_parts (is_nameless x) (list_all is_nameless more) k in rw (parts.0) (set_nameless more place one h parts.1)
 
-turns_nameless : (turns : List (ℕ × ℕ)) (before : Work) (outcomes : List Outcome) (after : Work) (settled : List Outcome) → TakesTurns turns before outcomes after settled → list_all is_nameless outcomes ≡ true → list_all is_nameless settled ≡ true
+turns_nameless : (turns : List (ℕ × ℕ)) (before : Context) (outcomes : List Outcome) (after : Context) (settled : List Outcome) → TakesTurns turns before outcomes after settled → list_all is_nameless outcomes ≡ true → list_all is_nameless settled ≡ true
 turns_nameless [] before outcomes after settled takes h = rw (takes.1) h
 turns_nameless (turn ∷ more) before outcomes after settled takes h =
     turns_nameless more takes.0 (slice_set outcomes turn.1 (Failed takes.1)) after settled takes.3 (set_nameless outcomes turn.1 (Failed takes.1) refl h)
@@ -147,14 +149,17 @@ remaining_nameless remains place (one ∷ more) h =
     kept_nameless (remains place) one (at_places remains (place + 1) more) parts.0 (remaining_nameless remains (place + 1) more parts.1)
 
 -- what settles outcomes lets no element refer to a name, if they don't
-pub settled_nameless : (linked : List Held) (outcomes : List Outcome) (before after : Work) (changes : List Outcome) → Settles linked outcomes before after changes → list_all is_nameless outcomes ≡ true → list_all is_nameless changes ≡ true
+settled_nameless : (linked : List Held) (outcomes : List Outcome) (before after : Context) (changes : List Outcome) → Settles linked outcomes before after changes → list_all is_nameless outcomes ≡ true → list_all is_nameless changes ≡ true
 settled_nameless linked outcomes before after changes settles h =
     rw (settles.changed) (remaining_nameless settles.remains 0 settles.settled (turns_nameless settles.turns before outcomes after settles.settled settles.takes h))
 
--- the tree changed by what settles outcomes has no new kinds
-pub settled_kinds : (linked : List Held) (outcomes : List Outcome) (before after : Work) (changes : List Outcome) (root : Node) → Settles linked outcomes before after changes → list_all is_nameless outcomes ≡ true
-    → HasNoNewLinkKinds (node_items root) (node_items (changed_root changes root))
-settled_kinds linked outcomes before after changes root settles h = changed_kinds changes root (settled_nameless linked outcomes before after changes settles h)
+-- a transform of links brings no new kinds, if none of the outcomes that it decides lets an element refer to a name
+pub links_kinds : (Decides : List Held → Context → Context → List Outcome → Type 0) (before after : State) → ChangesLinks Decides before after
+    → ((linked : List Held) (one next : Context) (outcomes : List Outcome) → Decides linked one next outcomes → list_all is_nameless outcomes ≡ true)
+    → HasNoNewLinkKinds (elements_of before.document) (elements_of after.document)
+links_kinds Decides before after c nameless =
+    let linked : List Held = linked_of before.document in
+    rw (c.changed) (changed_kinds c.changes before.document (settled_nameless linked c.outcomes c.decided after.context c.changes c.settles (nameless linked before.context c.decided c.outcomes c.decides)))
 
 -- ---- what linked elements are
 
@@ -176,20 +181,18 @@ module _ (q : Item → Bool) (p : Node → Bool) (holds : (t : Tag) (a : List At
       all_in_both (λ (one : Held). p one.0) itself (inside ++ rest) (own_all (is_linked_tag t) outer t a c l refl own.0)
       (all_in_both (λ (one : Held). p one.0) inside rest (among_all (before + length itself) (inner_of before outer t) c parts.0) (among_all (before + length itself + length inside) outer r parts.1))
 
-  -- what holds of each linked element that isn't of some kind holds of all where no element is
-  root_all : (root : Node) → list_any q (node_items root) ≡ false → list_all (λ (one : Held). p one.0) (linked_of root) ≡ true
-  root_all (Element t a c l) none = let own = or_parts (q (item t a l)) (list_any q (items c)) none in among_all 0 None c own.1
-  root_all (Text t) none = refl
+  document_all : (document : Document) → list_any q (elements_of document) ≡ false → list_all (λ (one : Held). p one.0) (linked_of document) ≡ true
+  document_all document none = let own = or_parts (q (item DocumentTag document.attrs document.line)) (list_any q (items document.children)) none in among_all 0 None document.children own.1
 
 -- what holds of each linked element that isn't of some kind holds of all where no element is
-pub held_all : (q : Item → Bool) (p : Node → Bool) (root : Node) → ((t : Tag) (a : List Attr) (c : Forest) (l : ℕ) → is_linked_tag t ≡ true → q (item t a l) ≡ false → p (Element t a c l) ≡ true) → list_any q (node_items root) ≡ false
-    → list_all (λ (one : Held). p one.0) (linked_of root) ≡ true
-held_all q p root holds none = root_all q p holds root none
+pub held_all : (q : Item → Bool) (p : Node → Bool) (document : Document) → ((t : Tag) (a : List Attr) (c : Forest) (l : ℕ) → is_linked_tag t ≡ true → q (item t a l) ≡ false → p (Element t a c l) ≡ true) → list_any q (elements_of document) ≡ false
+    → list_all (λ (one : Held). p one.0) (linked_of document) ≡ true
+held_all q p document holds none = document_all q p holds document none
 
 nobody : (xs : List Held) → list_all (λ (one : Held). false) xs ≡ true → xs ≡ []
 nobody [] h = refl
 nobody (x ∷ xs) h = absurd (cc)
 
 -- no element is linked where none is of the linked kinds
-pub none_linked : (root : Node) → list_any (λ x. is_linked_tag x.tag) (node_items root) ≡ false → linked_of root ≡ []
-none_linked root none = nobody (linked_of root) (held_all (λ x. is_linked_tag x.tag) (λ n. false) root (λ t a c l is no. absurd (cc)) none)
+pub none_linked : (document : Document) → list_any (λ x. is_linked_tag x.tag) (elements_of document) ≡ false → linked_of document ≡ []
+none_linked document none = nobody (linked_of document) (held_all (λ x. is_linked_tag x.tag) (λ n. false) document (λ t a c l is no. absurd (cc)) none)

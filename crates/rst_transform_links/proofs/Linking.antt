@@ -1,6 +1,5 @@
 -- The linked elements of a document, found one node after another.
-use Rattle.std.proofs.Common.{◌≡◌, ℕ, ◌+◌, ◌<◌, ◌≤◌, List, [], ◌∷◌, ◌++◌, length, map, get_or, drop, append_assoc, sym, ◌∙◌, ap, Option}
-use Rattle.std.specs.Prelude.{if◌then◌else◌}
+use Rattle.std.proofs.Common.{◌≡◌, ℕ, ◌+◌, ◌<◌, ◌≤◌, List, ◌++◌, length, map, get_or, drop, append_assoc, sym, ◌∙◌, ap, Option}
 use Rattle.std.proofs.lemmas.List.{append-nil, drop_all, drop_more, length-append, length-map}
 use Rattle.rst_tree.specs.declared.attrs.Attr.{Attr}
 use Rattle.rst_tree.specs.declared.node.Node.{Node}

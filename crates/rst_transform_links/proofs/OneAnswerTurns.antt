@@ -10,7 +10,7 @@ use Rattle.rst_transform_links.specs.declared.links.Outcome.{Outcome}
 use Rattle.rst_transform_links.specs.declared.links.Outcome.TheVariants.{Failed}
 use Rattle.rst_transform_links.specs.Linkings.{Held}
 use Rattle.rst_transform_links.specs.Settling.{at_places, in_order, AreTurns, TakesTurns}
-use Rattle.rst_transform_work.specs.declared.work.Work.{Work}
+use Rattle.rst_transform_work.specs.declared.context.Context.{Context}
 
 -- ---- lists in strict order
 
@@ -76,7 +76,7 @@ set_long (y ∷ ys) zero x = refl
 set_long (y ∷ ys) (suc n) x = ap suc (set_long ys n x)
 
 -- there are as many outcomes after the turns
-pub turns_long : (turns : List (ℕ × ℕ)) (before after : Work) (outcomes settled : List Outcome) → TakesTurns turns before outcomes after settled → length settled ≡ length outcomes
+pub turns_long : (turns : List (ℕ × ℕ)) (before after : Context) (outcomes settled : List Outcome) → TakesTurns turns before outcomes after settled → length settled ≡ length outcomes
 turns_long [] before after outcomes settled takes = ap length takes.1
 turns_long (turn ∷ more) before after outcomes settled takes =
     turns_long more takes.0 after (slice_set outcomes turn.1 (Failed takes.1)) settled takes.3 ∙ set_long outcomes turn.1 (Failed takes.1)

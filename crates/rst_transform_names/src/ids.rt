@@ -3,7 +3,7 @@ ghost use Rattle.std.specs.Prelude.{◌≡◌, ◌++◌, ◌<◌, ◌^◌, Bool,
 ghost use Rattle.rst_tree.specs.Faults.{Gives};
 ghost use Rattle.rst_tree.specs.TagNames.{hyphenated, tag_name};
 ghost use Rattle.std.specs.BTreeSet.{contains_text};
-ghost use Rattle.rst_transform_names.specs.Ids.{is_taken, last_of, wanted_id, GivesId, GivesNumber, GivesNumbered, IsLeastFree, Tries, UsesUpOrFails};
+ghost use Rattle.rst_transform_names.specs.Ids.{is_taken, last_of, wanted_id, GivesId, GivesNumber, GivesNumbered, IsLeastFree, TakesOrFails, Tries};
 ghost use Rattle.rst_transform_names.specs.Ids as spec;
 ghost use Rattle.rst_transform_names.specs.Written as written;
 
@@ -17,10 +17,11 @@ use std::collections::{BTreeMap, BTreeSet};
 pub struct Ids {
     /// Those that names gave and that have no number behind a hyphen.
     named: BTreeSet<String>,
-    /// Those that names gave and that have one, which alone can hinder ids with a number.
+    /// For each text that ids with a number were made of, a number: with each from 1 to it the id is taken.
+    last: BTreeMap<String, u32>,
+    /// The other ids with a number: those that names gave, and those with a number of more than 32 bits. They alone can hinder an id
+    /// whose number is behind the last one. Each takes memory, so there are fewer of them than numbers of 64 bits: one is always free.
     hindering: BTreeSet<String>,
-    /// For each text that ids with a number were made of the last number. With each from 1 to it the id is taken.
-    last: BTreeMap<String, u64>,
 }
 
 impl Ids {
@@ -30,8 +31,8 @@ impl Ids {
     {
         Ids {
             named: BTreeSet::new(alloc),
-            hindering: BTreeSet::new(alloc),
             last: BTreeMap::new(alloc),
+            hindering: BTreeSet::new(alloc),
         }
     }
 
@@ -84,7 +85,7 @@ impl Ids {
         match number_of(id.as_str()) {
             None => Ok(self.named.insert(id)?),
             Some((base, number)) => {
-                if number <= self.last_of(base) {
+                if number <= u64::from(self.last_of(base)) {
                     return Ok(false);
                 }
                 Ok(self.hindering.insert(id)?)
@@ -102,8 +103,8 @@ impl Ids {
         Ok(id)
     }
 
-    /// The last number of ids of a text; 0 where there is none.
-    fn last_of(&self, base: &str) -> u64
+    /// The number up to which the ids of a text are taken; 0 where there is none.
+    fn last_of(&self, base: &str) -> u32
         ensures { result ≡ last_of self.now base.now }
     {
         match self.last.get(base) {
@@ -114,20 +115,22 @@ impl Ids {
 
     /// The least number from 1 with which the id of a text is free.
     ///
-    /// Each hindering id hinders one number at most, so no more steps than there are of these come before the last. Ids stay
-    /// taken, so a number that was passed over need never be looked at again.
+    /// Each hindering id hinders one number at most, so no more numbers are passed over than there are of these ids. Ids stay taken,
+    /// so a number that was passed over need never be looked at again.
     fn free_number(&self, alloc: Global, base: &str) -> Result<u64, TreeFault>
         ensures { Gives (λ number. IsLeastFree (is_taken self.now) base.now number) result }
     {
-        for number in self.last_of(base).saturating_add(1)..u64::MAX {
+        let first = u64::from(self.last_of(base)) + 1;
+        let behind_all = first + self.hindering.len() as u64;
+        for number in first..behind_all {
             if !self.hinders(alloc, base, number)? {
                 return Ok(number);
             }
         }
-        Err(TreeFault::NoMemory)
+        Ok(behind_all)
     }
 
-    /// Whether a name gave the id of a text and a number.
+    /// Whether the id of a text and a number is one of those that hinder.
     fn hinders(&self, alloc: Global, base: &str, number: u64) -> Result<bool, TreeFault>
         ensures { Gives (λ hinders. hinders ≡ contains_text self.now.hindering (spec.numbered base.now number)) result }
     {
@@ -138,10 +141,16 @@ impl Ids {
         Ok(self.hindering.contains(wanted.as_str()))
     }
 
-    /// Takes the ids of a text with all numbers up to one.
+    /// Takes the id of a text and the least number that makes it free.
     fn use_up(&mut self, alloc: Global, base: &str, number: u64) -> Result<(), TreeFault>
-        ensures { UsesUpOrFails base.now number self.old self.new result }
+        requires { IsLeastFree (is_taken self.now) base.now number }
+        ensures { TakesOrFails (spec.numbered base.now number) self.old self.new result }
     {
+        let Ok(number) = u32::try_from(number) else {
+            let id = String::from_str(alloc, numbered(alloc, base, number)?.as_str())?;
+            self.take(id)?;
+            return Ok(());
+        };
         if let Some(last) = self.last.get_mut(base) {
             *last = number;
             return Ok(());

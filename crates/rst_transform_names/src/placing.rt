@@ -7,6 +7,7 @@ ghost use Rattle.rst_tree.specs.Faults.{Gives};
 ghost use Rattle.rst_transform_names.specs.NameMessages as spec;
 ghost use Rattle.rst_transform_names.specs.PlacingMessages.{IsInside};
 
+use super::duplicate_messages::NameMessage;
 use super::inside::{Head, Inside, OwnMessage, with_all};
 use rst_tree::{Attrs, Children, Key, Node, Tag, TreeFault};
 use std::alloc::Global;
@@ -15,7 +16,7 @@ use std::collections::{BTreeMap, VecDeque};
 /// Messages on names that have no place yet: each with the number of its element, in preorder.
 #[derive(Drop)]
 pub struct NameMessages {
-    queue: VecDeque<(u64, Node)>,
+    queue: VecDeque<(u64, NameMessage)>,
 }
 
 impl NameMessages {
@@ -29,7 +30,7 @@ impl NameMessages {
     }
 
     /// One more message, on the name of the element with a number above the earlier ones.
-    pub fn push(&mut self, serial: u64, message: Node) -> Result<(), TreeFault>
+    pub fn push(&mut self, serial: u64, message: NameMessage) -> Result<(), TreeFault>
         ensures { Gives (λ _. deque_items self.new.queue ≡ deque_items self.old.queue ++ (serial, message) ∷ []) result }
     {
         self.queue.push_back((serial, message))?;
@@ -58,7 +59,7 @@ impl NameMessages {
 /// The messages on names by the numbers of their elements.
 #[derive(Drop)]
 struct NumberedMessages {
-    messages: BTreeMap<u64, Node>,
+    messages: BTreeMap<u64, NameMessage>,
 }
 
 impl NumberedMessages {
@@ -69,7 +70,7 @@ impl NumberedMessages {
         let mut own = Vec::new(alloc);
         if let Some(serial) = attrs.number(Key::Serial) {
             if let Some(message) = self.messages.get(&serial) {
-                own.push(message.copy(alloc)?)?;
+                own.push(message.node(alloc)?)?;
             }
         }
         Ok(own)

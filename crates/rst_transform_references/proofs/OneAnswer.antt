@@ -1,27 +1,26 @@
 -- Resolving references by name has one answer.
-use Rattle.std.proofs.Common.{◌≡◌, ◌∙◌, ℕ, ◌+◌, ◌++◌, ◌||◌, Bool, List, [], ◌∷◌, length, map, refl, sym, ap, ap₂, subst, if◌then◌else◌}
+use Rattle.std.proofs.Common.{◌≡◌, ◌∙◌, ℕ, ◌+◌, ◌++◌, ◌||◌, Bool, List, [], ◌∷◌, length, map, refl, sym, ap, ap₂, if◌then◌else◌}
 use Rattle.std.specs.Prelude.{Option, Some, None}
 use Rattle.std.specs.List.{enumerate_from}
 use Rattle.rst_tree.specs.declared.node.Node.{Node}
 use Rattle.rst_transform_names.specs.declared.names.Holder.{Holder}
 use Rattle.rst_transform_names.specs.declared.names.Names.{Names}
 use Rattle.rst_transform_names.specs.Names.{KnowsTheSame}
-use Rattle.rst_transform_work.specs.declared.work.Report.{Report}
-use Rattle.rst_transform_work.specs.declared.work.Work.{Work}
-use Rattle.rst_transform_work.specs.Alike.{AreAlike}
+use Rattle.rst_transform_work.specs.declared.report.Report.{Report}
+use Rattle.rst_transform_work.specs.declared.context.Context.{Context}
+use Rattle.rst_transform_work.specs.Alike.{AreContextsAlike, HasOneAnswer}
 use Rattle.rst_transform_work.specs.Lists.{at_place}
-use Rattle.rst_transform_work.proofs.OneAnswer.{IsRestAlike, rest_with_reports}
+use Rattle.rst_transform_work.proofs.OneAnswer.{contexts_with_reports}
 use Rattle.rst_transform_links.specs.declared.links.Outcome.{Outcome}
 use Rattle.rst_transform_links.specs.FootnoteOrders.{found_by_order}
 use Rattle.rst_transform_links.specs.Holders.{holder_place}
-use Rattle.rst_transform_links.specs.Linkings.{Held, linked_of}
+use Rattle.rst_transform_links.specs.Linkings.{Held}
 use Rattle.rst_transform_links.specs.Outcomes.{fails}
-use Rattle.rst_transform_links.specs.Settling.{Settles}
-use Rattle.rst_transform_links.proofs.OneAnswer.{changed_alike, out_alike, settled_rest}
+use Rattle.rst_transform_links.proofs.OneAnswer.{changed_alike, IsDecidedOnce}
 use Rattle.rst_transform_references.specs.declared.meanings.Meaning.{Meaning}
 use Rattle.rst_transform_references.specs.Backrefs.{referent_at, referent_meant, referent_of, referents_of, with_backrefs}
 use Rattle.rst_transform_references.specs.Meanings.{known_meaning, meaning_of, meaning_to, reference_name, refers_to_footnote_or_citation}
-use Rattle.rst_transform_references.specs.Resolved.{outcomes_among, places_among, resolved_among, ChangesReferences, IsResolved}
+use Rattle.rst_transform_references.specs.Resolved.{outcomes_among, places_among, resolved_among, DecidesReferences, IsResolved}
 use Rattle.rst_transform_references.specs.Resolving.{is_gone, reports_behind, resolved_from, what_becomes}
 
 -- by what is known of each name
@@ -59,7 +58,7 @@ module _ (places : Holder → Option ℕ) (linked : List Held) (m n : Names) (sa
       ∙ ap (on first ended reports one more) (meaning_alike one.0)
 
 -- among linked elements
-module _ (linked : List Held) (one other : Work) (same : IsRestAlike one other) where
+module _ (linked : List Held) (one other : Context) (same : AreContextsAlike one other) where
   places_alike : places_among linked one ≡ places_among linked other
   places_alike = ap (λ serials. holder_place serials linked) same.serials
 
@@ -76,16 +75,10 @@ module _ (linked : List Held) (one other : Work) (same : IsRestAlike one other) 
       ∙ referents_alike (places_among linked other) linked one.names other.names same.names (found_by_order linked) 0 linked in
       ap₂ (λ (rs : List (Option ℕ)) (resolved : List Outcome × List Report). with_backrefs rs linked resolved.0) referents among_alike
 
-changes_alike : (root : Node) (one other then_one then_other : Work) (changes others : List Outcome) → IsRestAlike one other → ChangesReferences root one then_one changes → ChangesReferences root other then_other others
-    → IsRestAlike then_one then_other × (changes ≡ others)
-changes_alike root one other then_one then_other changes others same f g =
-    let linked : List Held = linked_of root in
-    let reports : f.between.reports.items ≡ g.between.reports.items = f.reports ∙ ap (λ resolved. resolved.1) (among_alike linked one other same) ∙ sym g.reports in
-    let settles : Settles linked (outcomes_among linked one) g.between then_other others = subst (λ outcomes. Settles linked outcomes g.between then_other others) (sym (outcomes_alike linked one other same)) g.settles in
-    settled_rest linked (outcomes_among linked one) f.between g.between then_one then_other changes others (rest_with_reports one other f.between g.between same f.rest g.rest reports) f.settles settles
+decided_once : IsDecidedOnce DecidesReferences
+decided_once linked a b c d outcomes others same f g =
+    let reports : c.reports.items ≡ d.reports.items = f.reports ∙ ap (λ resolved. resolved.1) (among_alike linked a b same) ∙ sym g.reports in
+    (contexts_with_reports a b c d same f.rest g.rest reports, f.become ∙ outcomes_alike linked a b same ∙ sym g.become)
 
-pub resolved_alike : (one other then_one then_other : Work) → AreAlike one other → IsResolved one then_one → IsResolved other then_other → AreAlike then_one then_other
-resolved_alike one other then_one then_other same f g =
-    let become : ChangesReferences one.root (record other { root = g.out }) g.settled g.changes = subst (λ root. ChangesReferences root (record other { root = g.out }) g.settled g.changes) (sym same.root) g.become in
-    let changes = changes_alike one.root (record one { root = f.out }) (record other { root = g.out }) f.settled g.settled f.changes g.changes (out_alike one other f.out g.out same) f.become become in
-    changed_alike f.settled g.settled then_one then_other one.root other.root f.changes g.changes same.root changes f.back g.back
+pub resolved_alike : HasOneAnswer IsResolved
+resolved_alike = changed_alike DecidesReferences decided_once

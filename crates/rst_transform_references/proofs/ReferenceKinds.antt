@@ -5,7 +5,6 @@ use Rattle.std.specs.List.{enumerate_from, list_all}
 use Rattle.rst_tree.specs.declared.attrs.Attr.{Attr}
 use Rattle.rst_tree.specs.declared.node.Node.{Node}
 use Rattle.rst_tree.specs.declared.key.Key.TheVariants.{Refid, Refuri}
-use Rattle.rst_tree.specs.Walk.{node_items}
 use Rattle.rst_tree_index.specs.Kinds.{HasNoNewLinkKinds}
 use Rattle.rst_transform_names.specs.declared.names.Holder.{Holder}
 use Rattle.rst_transform_names.specs.declared.names.NameEntry.{NameEntry}
@@ -13,17 +12,18 @@ use Rattle.rst_transform_names.specs.declared.names.Names.{Names}
 use Rattle.rst_transform_names.specs.Names.{held_by}
 use Rattle.rst_transform_links.specs.declared.links.Outcome.{Outcome}
 use Rattle.rst_transform_links.specs.Holders.{is_target_node, kept_lead, lead_by, lead_of, name_lead}
-use Rattle.rst_transform_links.specs.Linkings.{Held, linked_of}
+use Rattle.rst_transform_links.specs.Linkings.{Held}
 use Rattle.rst_transform_links.specs.Outcomes.{fails}
-use Rattle.rst_transform_links.proofs.LinkKinds.{is_nameless, is_no_name, settled_kinds}
-use Rattle.rst_transform_work.specs.declared.work.Report.{Report}
-use Rattle.rst_transform_work.specs.declared.work.Work.{Work}
+use Rattle.rst_transform_links.proofs.LinkKinds.{is_nameless, is_no_name, links_kinds}
+use Rattle.rst_transform_work.specs.declared.report.Report.{Report}
+use Rattle.rst_transform_work.specs.declared.context.Context.{Context}
+use Rattle.rst_transform_work.specs.States.{elements_of, State}
 use Rattle.rst_transform_work.specs.Reading.{text_said}
 use Rattle.rst_transform_references.specs.declared.meanings.Meaning.{Meaning}
 use Rattle.rst_transform_references.specs.declared.meanings.Meaning.TheVariants.{Leads, Unknown, Duplicate}
 use Rattle.rst_transform_references.specs.Backrefs.{ids_of_references, referents_of, referred_at, referred_to}
 use Rattle.rst_transform_references.specs.Meanings.{element_at, is_nobody, known_meaning, meaning_of, meaning_to, reference_name, referent_place, refers_to_footnote_or_citation}
-use Rattle.rst_transform_references.specs.Resolved.{outcomes_among, places_among, resolved_among, IsResolved}
+use Rattle.rst_transform_references.specs.Resolved.{places_among, resolved_among, DecidesReferences, IsResolved}
 use Rattle.rst_transform_references.specs.Resolving.{is_gone, reports_behind, resolved_from, what_becomes}
 
 -- ---- what a name means
@@ -105,10 +105,11 @@ backrefs_nameless ids place (outcome ∷ more) h =
     let first = referred_nameless (ids place) outcome (list_all is_nameless more) h in
     rw (first.0) (backrefs_nameless ids (place + 1) more first.1)
 
-pub resolved_kinds : (before after : Work) → IsResolved before after → HasNoNewLinkKinds (node_items before.root) (node_items after.root)
-resolved_kinds before after r =
-    let linked : List Held = linked_of before.root in
+decided_nameless : (linked : List Held) (before after : Context) (outcomes : List Outcome) → DecidesReferences linked before after outcomes → list_all is_nameless outcomes ≡ true
+decided_nameless linked before after outcomes d =
     let referents : List (Option ℕ) = referents_of (places_among linked before) linked before.names in
-    rw (r.back)
-    (settled_kinds linked (outcomes_among linked before) r.become.between r.settled r.changes before.root r.become.settles
-    (backrefs_nameless (ids_of_references referents linked) 0 (resolved_among linked before).0 (resolved_nameless (places_among linked before) linked before.names before.first_number [] before.reports.items linked)))
+    rw (d.become)
+    (backrefs_nameless (ids_of_references referents linked) 0 (resolved_among linked before).0 (resolved_nameless (places_among linked before) linked before.names before.first_number [] before.reports.items linked))
+
+pub resolved_kinds : (before after : State) → IsResolved before after → HasNoNewLinkKinds (elements_of before.document) (elements_of after.document)
+resolved_kinds before after r = links_kinds DecidesReferences before after r decided_nameless

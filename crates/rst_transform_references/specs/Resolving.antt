@@ -13,7 +13,7 @@ use Rattle.rst_transform_links.specs.declared.links.Outcome.{Outcome}
 use Rattle.rst_transform_links.specs.declared.links.Outcome.TheVariants.{Stays, Fails}
 use Rattle.rst_transform_references.specs.declared.meanings.Meaning.{Meaning}
 use Rattle.rst_transform_references.specs.declared.meanings.Meaning.TheVariants.{Leads, Unknown, Duplicate}
-use Rattle.rst_transform_work.specs.declared.work.Report.{Report}
+use Rattle.rst_transform_work.specs.declared.report.Report.{Report}
 use Rattle.rst_transform_links.specs.Linkings.{Held}
 use Rattle.rst_transform_references.specs.Meanings.{element_at, meaning_to, refers_to_footnote_or_citation}
 use Rattle.rst_transform_links.specs.Outcomes.{adds, fails}

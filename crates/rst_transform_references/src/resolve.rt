@@ -1,7 +1,6 @@
 //! References by name.
 ghost use Rattle.std.specs.Prelude.{◌≡◌, ◌||◌, false, length, map};
 ghost use Rattle.rst_tree.specs.Faults.{Gives};
-ghost use Rattle.rst_tree.specs.Walk.{node_items};
 ghost use Rattle.rst_tree_index.specs.Kinds.{kinds_of, HasNoNewLinkKinds};
 ghost use Rattle.rst_transform_links.specs.declared.links.Outcome.TheVariants.{Fails};
 ghost use Rattle.rst_transform_links.specs.Holders.{place_at};
@@ -9,16 +8,15 @@ ghost use Rattle.rst_transform_links.specs.Linkings.{held};
 ghost use Rattle.rst_transform_references.specs.Meanings.{meaning_to};
 ghost use Rattle.rst_transform_links.specs.Outcomes.{fails};
 ghost use Rattle.rst_transform_work.specs.Reports.{KeepsRest};
-ghost use Rattle.rst_transform_references.specs.Resolved.{outcomes_among, resolved_among, ChangesReferences, IsResolved};
+ghost use Rattle.rst_transform_work.specs.States.{elements_of, state};
+ghost use Rattle.rst_transform_references.specs.Resolved.{outcomes_among, resolved_among, IsResolved};
 ghost use Rattle.rst_transform_references.specs.Resolving.{duplicate, is_gone, label_of, name_of, outcome_of, reports_behind, reports_with, resolved, shown_for, shows_label, unknown, what_becomes, with_error};
 
 use crate::backrefs::with_backrefs;
 use crate::meanings::{Lookup, Meaning, element_at, refers_to_footnote_or_citation};
-use rst_transform_links::{
-    Addition, Changes, Holders, Linked, Outcome, linked_in, put_back, settle,
-};
+use rst_transform_links::{Addition, Holders, LinkTransform, Linked, Outcome, change_links};
 use rst_transform_names::Names;
-use rst_transform_work::{Work, has, line_of, take_root, text_said};
+use rst_transform_work::{Context, Document, has, line_of, text_said};
 use rst_tree::{Key, Level, Node, Text, TreeFault};
 use std::alloc::Global;
 use std::mem;
@@ -56,73 +54,62 @@ use std::mem;
 ///
 /// A name that means nothing gives an ERROR, and the reference becomes a problematic; the references inside it are gone, and
 /// give no message. `has` says whether the document may have an element at an end of a link; without one it stays as it is.
-pub fn resolve(alloc: Global, work: Work, has: bool) -> Result<Work, TreeFault>
-    requires has { has ≡ false → (kinds_of (node_items work.root)).links ≡ false }
-    ensures resolved { Gives (IsResolved work) result }
-    ensures kinds { Gives (λ after. HasNoNewLinkKinds (node_items work.root) (node_items after.root)) result }
+pub fn resolve(
+    alloc: Global,
+    document: Document,
+    context: &mut Context,
+    has: bool,
+) -> Result<Document, TreeFault>
+    requires has { has ≡ false → (kinds_of (elements_of document)).links ≡ false }
+    ensures resolved { Gives (λ after. IsResolved (state document context.old) (state after context.new)) result }
+    ensures kinds { Gives (λ after. HasNoNewLinkKinds (elements_of document) (elements_of after)) result }
 {
     if !has {
-        return Ok(work);
+        return Ok(document);
     }
-    let work = resolved(alloc, work)?;
-    Ok(work)
+    let document = change_links::<Resolving>(alloc, document, context)?;
+    Ok(document)
 }
 
-/// Resolves the references by name of a document.
-fn resolved(alloc: Global, mut work: Work) -> Result<Work, TreeFault>
-    ensures { Gives (IsResolved work) result }
-{
-    let root = take_root(alloc, &mut work);
-    let changes = changes_of(alloc, &mut work, &root)?;
-    put_back(alloc, &mut work, root, changes)?;
-    Ok(work)
+/// The transform of links that resolves references by name.
+struct Resolving;
+
+impl LinkTransform for Resolving {
+    ghost use Rattle.rst_transform_references.specs.Resolved.{DecidesReferences};
+
+    ghost decides = { DecidesReferences };
+
+    fn outcomes(
+        alloc: Global,
+        context: &mut Context,
+        linked: &[Linked<'_>],
+    ) -> Result<Vec<Outcome>, TreeFault> {
+        let names = mem::replace(&mut context.names, Names::new(alloc));
+        let outcomes = looked_up(alloc, context, &names, linked)?;
+        context.names = names;
+        Ok(outcomes)
+    }
 }
 
-/// The changes of a tree's linked elements.
-fn changes_of(alloc: Global, work: &mut Work, root: &Node) -> Result<Changes, TreeFault>
-    ensures { Gives (ChangesReferences root.now work.old work.new) result }
-{
-    let linked = linked_in(alloc, root)?;
-    let outcomes = outcomes_of(alloc, work, linked.as_slice())?;
-    let changes = settle(alloc, work, linked.as_slice(), outcomes)?;
-    Ok(changes)
-}
-
-/// What becomes of linked elements, where the messages of those that fail are made, and each footnote and citation tells the references
-/// to it.
-fn outcomes_of(
-    alloc: Global,
-    work: &mut Work,
-    linked: &[Linked<'_>],
-) -> Result<Vec<Outcome>, TreeFault>
-    ensures outcomes { Gives (λ outcomes. outcomes.items ≡ outcomes_among (map held linked.now) work.old) result }
-    ensures reports { Gives (λ _. work.new.reports.items ≡ (resolved_among (map held linked.now) work.old).1) result }
-    ensures rest { Gives (λ _. KeepsRest work.old work.new) result }
-{
-    let names = mem::replace(&mut work.names, Names::new(alloc));
-    let outcomes = looked_up(alloc, work, &names, linked)?;
-    work.names = names;
-    Ok(outcomes)
-}
-
-/// The same by names that were taken out of the document.
+/// What becomes of linked elements, by names that were taken out of what is known: the messages of those that fail are made, and each footnote
+/// and citation tells the references to it.
 fn looked_up<'a>(
     alloc: Global,
-    work: &mut Work,
+    context: &mut Context,
     names: &'a Names,
     linked: &'a [Linked<'a>],
 ) -> Result<Vec<Outcome>, TreeFault>
-    ensures outcomes { Gives (λ outcomes. outcomes.items ≡ outcomes_among (map held linked.now) (record work.old { names = names.now })) result }
-    ensures reports { Gives (λ _. work.new.reports.items ≡ (resolved_among (map held linked.now) (record work.old { names = names.now })).1) result }
-    ensures rest { Gives (λ _. KeepsRest work.old work.new) result }
+    ensures outcomes { Gives (λ outcomes. outcomes.items ≡ outcomes_among (map held linked.now) (record context.old { names = names.now })) result }
+    ensures reports { Gives (λ _. context.new.reports.items ≡ (resolved_among (map held linked.now) (record context.old { names = names.now })).1) result }
+    ensures rest { Gives (λ _. KeepsRest context.old context.new) result }
 {
-    let holders = Holders::of(alloc, linked, work.serials)?;
+    let holders = Holders::of(alloc, linked, context.serials)?;
     let lookup = Lookup {
         linked,
         names,
         holders,
     };
-    let outcomes = outcomes(alloc, work, &lookup)?;
+    let outcomes = resolved(alloc, context, &lookup)?;
     let outcomes = with_backrefs(alloc, &lookup, outcomes)?;
     Ok(outcomes)
 }
@@ -194,30 +181,30 @@ fn name_of(reference: &Node) -> &str
 /// A reference that fails for an ERROR of its own.
 fn failing(
     alloc: Global,
-    work: &mut Work,
+    context: &mut Context,
     reference: &Node,
     text: Text,
 ) -> Result<Outcome, TreeFault>
-    ensures outcome { Gives (λ outcome. outcome ≡ Fails (length work.old.reports.items)) result }
-    ensures reports { Gives (λ _. work.new.reports.items ≡ with_error work.old.first_number work.old.reports.items reference.now text) result }
-    ensures rest { Gives (λ _. KeepsRest work.old work.new) result }
+    ensures outcome { Gives (λ outcome. outcome ≡ Fails (length context.old.reports.items)) result }
+    ensures reports { Gives (λ _. context.new.reports.items ≡ with_error context.old.first_number context.old.reports.items reference.now text) result }
+    ensures rest { Gives (λ _. KeepsRest context.old context.new) result }
 {
     let line = line_of(reference);
-    let report = work.report(alloc, Level::Error, line, text, true)?;
+    let report = context.report(alloc, Level::Error, line, text, true)?;
     Ok(Outcome::Fails(report))
 }
 
 /// What becomes of a reference whose name means this.
 fn outcome_of(
     alloc: Global,
-    work: &mut Work,
+    context: &mut Context,
     linked: &[Linked<'_>],
     reference: &Node,
     meaning: Meaning,
 ) -> Result<Outcome, TreeFault>
-    ensures outcome { Gives (λ outcome. outcome ≡ outcome_of (map held linked.now) (length work.old.reports.items) reference.now meaning) result }
-    ensures reports { Gives (λ _. work.new.reports.items ≡ reports_with work.old.first_number work.old.reports.items reference.now meaning) result }
-    ensures rest { Gives (λ _. KeepsRest work.old work.new) result }
+    ensures outcome { Gives (λ outcome. outcome ≡ outcome_of (map held linked.now) (length context.old.reports.items) reference.now meaning) result }
+    ensures reports { Gives (λ _. context.new.reports.items ≡ reports_with context.old.first_number context.old.reports.items reference.now meaning) result }
+    ensures rest { Gives (λ _. KeepsRest context.old context.new) result }
 {
     match meaning {
         Meaning::Leads { attr, referent } => {
@@ -227,11 +214,11 @@ fn outcome_of(
         }
         Meaning::Unknown => {
             let text = unknown(alloc, name_of(reference))?;
-            failing(alloc, work, reference, text)
+            failing(alloc, context, reference, text)
         }
         Meaning::Duplicate => {
             let text = duplicate(alloc, name_of(reference))?;
-            failing(alloc, work, reference, text)
+            failing(alloc, context, reference, text)
         }
     }
 }
@@ -249,14 +236,14 @@ fn is_gone(ended: &[bool], outer: Option<usize>) -> bool
 /// What becomes of an element that may be gone.
 fn what_becomes(
     alloc: Global,
-    work: &mut Work,
+    context: &mut Context,
     lookup: &Lookup<'_>,
     element: &Node,
     gone: bool,
 ) -> Result<Outcome, TreeFault>
-    ensures outcome { let meaning = meaning_to (place_at lookup.now.holders.places.items) (map held lookup.now.linked.now) lookup.now.names.now element.now in Gives (λ outcome. outcome ≡ what_becomes (map held lookup.now.linked.now) gone (length work.old.reports.items) element.now meaning) result }
-    ensures reports { let meaning = meaning_to (place_at lookup.now.holders.places.items) (map held lookup.now.linked.now) lookup.now.names.now element.now in Gives (λ _. work.new.reports.items ≡ reports_behind gone work.old.first_number work.old.reports.items element.now meaning) result }
-    ensures rest { Gives (λ _. KeepsRest work.old work.new) result }
+    ensures outcome { let meaning = meaning_to (place_at lookup.now.holders.places.items) (map held lookup.now.linked.now) lookup.now.names.now element.now in Gives (λ outcome. outcome ≡ what_becomes (map held lookup.now.linked.now) gone (length context.old.reports.items) element.now meaning) result }
+    ensures reports { let meaning = meaning_to (place_at lookup.now.holders.places.items) (map held lookup.now.linked.now) lookup.now.names.now element.now in Gives (λ _. context.new.reports.items ≡ reports_behind gone context.old.first_number context.old.reports.items element.now meaning) result }
+    ensures rest { Gives (λ _. KeepsRest context.old context.new) result }
 {
     if gone {
         return Ok(Outcome::same());
@@ -264,7 +251,7 @@ fn what_becomes(
     let Some(meaning) = lookup.meaning_to(alloc, element)? else {
         return Ok(Outcome::same());
     };
-    outcome_of(alloc, work, lookup.linked, element, meaning)
+    outcome_of(alloc, context, lookup.linked, element, meaning)
 }
 
 /// Whether an element that may be gone, and of which this becomes, is gone or fails.
@@ -275,17 +262,21 @@ fn ends(gone: bool, outcome: &Outcome) -> bool
 }
 
 /// What becomes of all linked elements, where the messages of those that fail are made.
-fn outcomes(alloc: Global, work: &mut Work, lookup: &Lookup<'_>) -> Result<Vec<Outcome>, TreeFault>
-    ensures outcomes { let all = resolved (place_at lookup.now.holders.places.items) (map held lookup.now.linked.now) lookup.now.names.now work.old.first_number work.old.reports.items in Gives (λ outcomes. outcomes.items ≡ all.0) result }
-    ensures reports { let all = resolved (place_at lookup.now.holders.places.items) (map held lookup.now.linked.now) lookup.now.names.now work.old.first_number work.old.reports.items in Gives (λ _. work.new.reports.items ≡ all.1) result }
-    ensures rest { Gives (λ _. KeepsRest work.old work.new) result }
+fn resolved(
+    alloc: Global,
+    context: &mut Context,
+    lookup: &Lookup<'_>,
+) -> Result<Vec<Outcome>, TreeFault>
+    ensures outcomes { let all = resolved (place_at lookup.now.holders.places.items) (map held lookup.now.linked.now) lookup.now.names.now context.old.first_number context.old.reports.items in Gives (λ outcomes. outcomes.items ≡ all.0) result }
+    ensures reports { let all = resolved (place_at lookup.now.holders.places.items) (map held lookup.now.linked.now) lookup.now.names.now context.old.first_number context.old.reports.items in Gives (λ _. context.new.reports.items ≡ all.1) result }
+    ensures rest { Gives (λ _. KeepsRest context.old context.new) result }
 {
     let linked = lookup.linked;
     let mut outcomes = Vec::with_capacity(alloc, linked.len())?;
     let mut ended: Vec<bool> = Vec::with_capacity(alloc, linked.len())?;
     for one in linked {
         let gone = is_gone(ended.as_slice(), one.outer);
-        let outcome = what_becomes(alloc, work, lookup, one.element, gone)?;
+        let outcome = what_becomes(alloc, context, lookup, one.element, gone)?;
         ended.push(ends(gone, &outcome))?;
         outcomes.push(outcome)?;
     }

@@ -9,9 +9,10 @@ use Rattle.rst_tree.specs.declared.node.Node.TheVariants.{Element, Text}
 use Rattle.rst_tree.specs.declared.tag.Tag.{Tag}
 use Rattle.rst_tree.specs.Forest.{Forest, bare, element, words}
 use Rattle.rst_tree.specs.Nodes.{forest_of}
-use Rattle.rst_tree.specs.Walk.{Item, item, items, node_items}
-use Rattle.rst_transform_work.specs.declared.work.Report.{Report}
-use Rattle.rst_transform_work.specs.declared.work.Work.{Work}
+use Rattle.rst_tree.specs.Walk.{Item, item, items}
+use Rattle.rst_transform_work.specs.declared.report.Report.{Report}
+use Rattle.rst_transform_work.specs.declared.document.Document.{Document}
+use Rattle.rst_transform_work.specs.States.{State, elements_of}
 use Rattle.rst_transform_work.specs.Reports.{report_node}
 use Rattle.rst_transform_structure.specs.Transitions.{and_then, at_end, before_next, ending, faults_after, faults_at, faults_before, faults_in, is_last, is_transition, message_nodes, messages, moved, next_number, others, titles, transition, transitions_in, with_messages, with_places, Before, HasTransitions}
 use Rattle.rst_transform_structure.proofs.Messages.{element_ending, element_moved, element_noted, ending_messages, noted_last, transition_moved, transition_noted}
@@ -196,15 +197,13 @@ none_out next b (element t a c l (words u r)) =
       | false ↦ λ is. element_end next b t a c l (words u r) false is refl (none_out (next + length (faults_in false titles c)) (before_next b t (ending c)) (words u r))
     ] refl
 
-none_lost : (first : ℕ) (reports : List Report) (n : Node) → transitions_in (node_items (with_places first reports n)) ≡ transitions_in (node_items n)
-none_lost first reports (Text t) = refl
-none_lost first reports (Element t a c l) =
-    let noted : Forest = with_messages (next_number first reports) true titles c in
-    ap (λ xs. cond (is_transition t) (item t a l ∷ xs) xs)
-    (sym (append-nil (transitions_in (items (moved noted))))
-    ∙ ap (λ ns. transitions_in (items (moved noted)) ++ transitions_in (items (forest_of ns))) (sym (none_out (next_number first reports) titles c))
+none_lost : (first : ℕ) (reports : List Report) (d : Document) → transitions_in (elements_of (with_places first reports d)) ≡ transitions_in (elements_of d)
+none_lost first reports d =
+    let noted : Forest = with_messages (next_number first reports) true titles d.children in
+    sym (append-nil (transitions_in (items (moved noted))))
+    ∙ ap (λ ns. transitions_in (items (moved noted)) ++ transitions_in (items (forest_of ns))) (sym (none_out (next_number first reports) titles d.children))
     ∙ in_all noted
-    ∙ with_noted (next_number first reports) true titles c)
+    ∙ with_noted (next_number first reports) true titles d.children
 
-pub transitions_stay : (before after : Work) → HasTransitions before after → transitions_in (node_items after.root) ≡ transitions_in (node_items before.root)
-transitions_stay before after h = ap (λ n. transitions_in (node_items n)) h.root ∙ none_lost before.first_number before.reports.items before.root
+pub transitions_stay : (before after : State) → HasTransitions before after → transitions_in (elements_of after.document) ≡ transitions_in (elements_of before.document)
+transitions_stay before after h = ap (λ d. transitions_in (elements_of d)) h.document ∙ none_lost before.context.first_number before.context.reports.items before.document

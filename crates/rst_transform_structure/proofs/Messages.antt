@@ -7,7 +7,7 @@ use Rattle.rst_tree.specs.declared.node.Node.TheVariants.{Element, Text}
 use Rattle.rst_tree.specs.declared.tag.Tag.{Tag}
 use Rattle.rst_tree.specs.Forest.{Forest, bare, element, words}
 use Rattle.rst_tree.specs.Nodes.{join_node, nodes_of}
-use Rattle.rst_transform_work.specs.declared.work.Report.{Report}
+use Rattle.rst_transform_work.specs.declared.report.Report.{Report}
 use Rattle.rst_transform_work.specs.Reports.{report_node}
 use Rattle.rst_transform_structure.specs.Transitions.{and_then, before_next, ending, faults_after, faults_at, faults_before, faults_in, is_last, is_transition, message, message_nodes, messages, moved, others, titles, transition, with_messages, Before, Fault}
 

@@ -9,18 +9,19 @@ use Rattle.rst_tree.specs.declared.tag.Tag.{Tag}
 use Rattle.rst_tree.specs.Forest.{Forest}
 use Rattle.rst_tree.specs.Nodes.{forest_of, nodes_of, join_node}
 use Rattle.rst_transform_structure.specs.declared.transitions.Placed.{Placed}
-use Rattle.rst_transform_work.specs.declared.work.Report.{Report}
-use Rattle.rst_transform_work.specs.declared.work.Work.{Work}
+use Rattle.rst_transform_work.specs.declared.report.Report.{Report}
+use Rattle.rst_transform_work.specs.declared.context.Context.{Context}
+use Rattle.rst_transform_work.specs.declared.document.Document.{Document}
 use Rattle.rst_transform_work.specs.Reports.{KeepsRest}
 use Rattle.rst_transform_structure.specs.Siblings.{Siblings, all_placed, further, put_after, put_element, put_transition, so_far, with_node}
-use Rattle.rst_transform_structure.specs.Transitions.{is_last, is_transition, moved, next_number, titles, with_messages, with_places, with_reports}
+use Rattle.rst_transform_structure.specs.Transitions.{is_last, is_transition, moved, next_number, titles, with_messages, with_places}
 use Rattle.rst_transform_structure.proofs.Steps.{place_in, place_none, siblings, step_element, step_text, step_transition}
 
-keeps_first : (old new : Work) → KeepsRest old new → new.first_number ≡ old.first_number
+keeps_first : (old new : Context) → KeepsRest old new → new.first_number ≡ old.first_number
 keeps_first old new kept = ap (λ w. w.first_number) kept
 
-pub keeps_more : (old now new : Work) → KeepsRest old now → KeepsRest now new → KeepsRest old new
-keeps_more old now new h k = k ∙ ap (λ (w : Work). record w { reports = new.reports }) h
+pub keeps_more : (old now new : Context) → KeepsRest old now → KeepsRest now new → KeepsRest old new
+keeps_more old now new h k = k ∙ ap (λ (w : Context). record w { reports = new.reports }) h
 
 drops : (ns : List Node) (i : ℕ) (n : Node) → i < length ns → n ≡ get_or ns i n → drop i ns ≡ n ∷ drop (i + 1) ns
 drops ns i n fits at = rw add-one (drop-cons ns i n fits ∙ ap (λ m. m ∷ drop (suc i) ns) (sym at))
@@ -31,15 +32,15 @@ last_of (Element t a c l ∷ ns) = grind arith
 last_of (Text t ∷ ns) = grind arith
 
 -- places the nodes of an element: what is left of them gives what all give
-pub record Placing (old : Work) (ends : Bool) (nodes : Forest) (left i : ℕ) (placed : Placed) (work : Work) : Type 0 where
-  pub same : place_in old.first_number ends (so_far placed work) (forest_of (drop i (nodes_of nodes))) ≡ all_placed old.first_number ends old.reports.items nodes
-  pub kept : KeepsRest old work
+pub record Placing (old : Context) (ends : Bool) (nodes : Forest) (left i : ℕ) (placed : Placed) (context : Context) : Type 0 where
+  pub same : place_in old.first_number ends (so_far placed context) (forest_of (drop i (nodes_of nodes))) ≡ all_placed old.first_number ends old.reports.items nodes
+  pub kept : KeepsRest old context
   pub counted : left + i ≡ length (nodes_of nodes)
 
 abbrev none_yet : List Report → Siblings
 none_yet reports = record { placed = []; moving = []; reports = reports }
 
-pub Placing-init : (old : Work) (ends : Bool) (nodes : Forest) (left : ℕ) (placed : Placed) → placed.nodes.items ≡ [] → placed.moving.items ≡ [] → left ≡ length (nodes_of nodes)
+pub Placing-init : (old : Context) (ends : Bool) (nodes : Forest) (left : ℕ) (placed : Placed) → placed.nodes.items ≡ [] → placed.moving.items ≡ [] → left ≡ length (nodes_of nodes)
     → Placing old ends nodes left 0 placed old
 Placing-init old ends nodes left placed none still all =
     record {
@@ -74,37 +75,37 @@ step_more first ends s s' all xs i less n same cut counted step =
     let last : is_last (forest_of (drop (i + 1) xs)) ≡ nat_eq less 0 = last_of (drop (i + 1) xs) ∙ ap (λ k. nat_eq k 0) (rest_length xs (i + 1) less counted) in
     sym (step (forest_of (drop (i + 1) xs)) last) ∙ ap (λ ys. place_in first ends s (forest_of ys)) (sym cut) ∙ same
 
-Placing-more : (old : Work) (ends : Bool) (nodes : Forest) (left less i j : ℕ) (placed placed' : Placed) (work work' : Work) (n : Node) (ns : List Node) → Placing old ends nodes left i placed work
-    → Met nodes left less i j n ns → KeepsRest work work'
-    → ((r : Forest) → is_last r ≡ nat_eq less 0 → place_in old.first_number ends (so_far placed work) (join_node n r) ≡ place_in old.first_number ends (so_far placed' work') r)
-    → Placing old ends nodes less j placed' work'
-Placing-more old ends nodes left less i j placed placed' work work' n ns p m kept step =
-    subst (λ k. Placing old ends nodes less k placed' work') (sym m.next) (record {
-      same = step_more old.first_number ends (so_far placed work) (so_far placed' work') (all_placed old.first_number ends old.reports.items nodes) (nodes_of nodes) i less n p.same (met_drops nodes left less i j n ns m)
+Placing-more : (old : Context) (ends : Bool) (nodes : Forest) (left less i j : ℕ) (placed placed' : Placed) (context context' : Context) (n : Node) (ns : List Node) → Placing old ends nodes left i placed context
+    → Met nodes left less i j n ns → KeepsRest context context'
+    → ((r : Forest) → is_last r ≡ nat_eq less 0 → place_in old.first_number ends (so_far placed context) (join_node n r) ≡ place_in old.first_number ends (so_far placed' context') r)
+    → Placing old ends nodes less j placed' context'
+Placing-more old ends nodes left less i j placed placed' context context' n ns p m kept step =
+    subst (λ k. Placing old ends nodes less k placed' context') (sym m.next) (record {
+      same = step_more old.first_number ends (so_far placed context) (so_far placed' context') (all_placed old.first_number ends old.reports.items nodes) (nodes_of nodes) i less n p.same (met_drops nodes left less i j n ns m)
           (met_left nodes left less i j n ns m p.counted) step;
-      kept = keeps_more old work work' p.kept kept;
+      kept = keeps_more old context context' p.kept kept;
       counted = met_left nodes left less i j n ns m p.counted;
     })
 
-pub Placing-text : (old : Work) (ends : Bool) (nodes : Forest) (left less i j : ℕ) (placed placed' : Placed) (work : Work) (n : Node) (ns : List Node) (t : List ℕ) → Placing old ends nodes left i placed work
+pub Placing-text : (old : Context) (ends : Bool) (nodes : Forest) (left less i j : ℕ) (placed placed' : Placed) (context : Context) (n : Node) (ns : List Node) (t : List ℕ) → Placing old ends nodes left i placed context
     → ns ≡ nodes_of nodes → i < length ns → n ≡ get_or ns i n → less ≡ left - 1 → j ≡ i + 1
     → n ≡ Text t → placed'.nodes.items ≡ placed.nodes.items ++ Text t ∷ [] → placed'.moving.items ≡ placed.moving.items
-    → Placing old ends nodes less j placed' work
-Placing-text old ends nodes left less i j placed placed' work n ns t p items fits at one next is put still =
-    Placing-more old ends nodes left less i j placed placed' work work n ns p (record { items = items; fits = fits; at = at; one = one; next = next }) refl
-    (λ r last. ap (λ m. place_in old.first_number ends (so_far placed work) (join_node m r)) is ∙ step_text old.first_number ends (so_far placed work) t r
-    ∙ ap (λ s. place_in old.first_number ends s r) (siblings (with_node (Text t) (so_far placed work)) (so_far placed' work) (sym put) (sym still) refl))
+    → Placing old ends nodes less j placed' context
+Placing-text old ends nodes left less i j placed placed' context n ns t p items fits at one next is put still =
+    Placing-more old ends nodes left less i j placed placed' context context n ns p (record { items = items; fits = fits; at = at; one = one; next = next }) refl
+    (λ r last. ap (λ m. place_in old.first_number ends (so_far placed context) (join_node m r)) is ∙ step_text old.first_number ends (so_far placed context) t r
+    ∙ ap (λ s. place_in old.first_number ends s r) (siblings (with_node (Text t) (so_far placed context)) (so_far placed' context) (sym put) (sym still) refl))
 
-pub Placing-transition : (old : Work) (ends : Bool) (nodes : Forest) (left less i j : ℕ) (placed placed' : Placed) (work work' : Work) (n : Node) (ns : List Node) (t : Tag) (a : List Attr) (c : Forest) (l : ℕ)
-    → Placing old ends nodes left i placed work → ns ≡ nodes_of nodes → i < length ns → n ≡ get_or ns i n → less ≡ left - 1 → j ≡ i + 1
-    → n ≡ Element t a c l → is_transition t ≡ true → KeepsRest work work'
-    → so_far placed' work' ≡ put_transition work.first_number (nat_eq less 0) ends (Element t a c l) l (so_far placed work)
-    → Placing old ends nodes less j placed' work'
-Placing-transition old ends nodes left less i j placed placed' work work' n ns t a c l p items fits at one next is kind kept put =
-    Placing-more old ends nodes left less i j placed placed' work work' n ns p (record { items = items; fits = fits; at = at; one = one; next = next }) kept
-    (λ r last. ap (λ m. place_in old.first_number ends (so_far placed work) (join_node m r)) is ∙ step_transition old.first_number ends (so_far placed work) t a c l r kind
-    ∙ ap (λ b. place_in old.first_number ends (put_transition old.first_number b ends (Element t a c l) l (so_far placed work)) r) last
-    ∙ ap (λ k. place_in old.first_number ends (put_transition k (nat_eq less 0) ends (Element t a c l) l (so_far placed work)) r) (sym (keeps_first old work p.kept))
+pub Placing-transition : (old : Context) (ends : Bool) (nodes : Forest) (left less i j : ℕ) (placed placed' : Placed) (context context' : Context) (n : Node) (ns : List Node) (t : Tag) (a : List Attr) (c : Forest) (l : ℕ)
+    → Placing old ends nodes left i placed context → ns ≡ nodes_of nodes → i < length ns → n ≡ get_or ns i n → less ≡ left - 1 → j ≡ i + 1
+    → n ≡ Element t a c l → is_transition t ≡ true → KeepsRest context context'
+    → so_far placed' context' ≡ put_transition context.first_number (nat_eq less 0) ends (Element t a c l) l (so_far placed context)
+    → Placing old ends nodes less j placed' context'
+Placing-transition old ends nodes left less i j placed placed' context context' n ns t a c l p items fits at one next is kind kept put =
+    Placing-more old ends nodes left less i j placed placed' context context' n ns p (record { items = items; fits = fits; at = at; one = one; next = next }) kept
+    (λ r last. ap (λ m. place_in old.first_number ends (so_far placed context) (join_node m r)) is ∙ step_transition old.first_number ends (so_far placed context) t a c l r kind
+    ∙ ap (λ b. place_in old.first_number ends (put_transition old.first_number b ends (Element t a c l) l (so_far placed context)) r) last
+    ∙ ap (λ k. place_in old.first_number ends (put_transition k (nat_eq less 0) ends (Element t a c l) l (so_far placed context)) r) (sym (keeps_first old context p.kept))
     ∙ ap (λ s. place_in old.first_number ends s r) (sym put))
 
 element_put : (last : Bool) (t : Tag) (a : List Attr) (l : ℕ) (inside s u : Siblings) → u.placed ≡ s.placed ++ Element t a (forest_of inside.placed) l ∷ put_after last inside.moving
@@ -112,20 +113,20 @@ element_put : (last : Bool) (t : Tag) (a : List Attr) (l : ℕ) (inside s u : Si
 unfolding put_element
 element_put last t a l inside s u p m r = siblings (put_element last t a l inside s) u (sym p) (sym m) (sym r)
 
-pub Placing-element : (old : Work) (ends : Bool) (nodes : Forest) (left less i j : ℕ) (placed placed' inner : Placed) (work work' : Work) (n : Node) (ns : List Node) (t : Tag) (a : List Attr) (c : Forest) (l : ℕ) (last : Bool)
-    → Placing old ends nodes left i placed work → ns ≡ nodes_of nodes → i < length ns → n ≡ get_or ns i n → less ≡ left - 1 → j ≡ i + 1
+pub Placing-element : (old : Context) (ends : Bool) (nodes : Forest) (left less i j : ℕ) (placed placed' inner : Placed) (context context' : Context) (n : Node) (ns : List Node) (t : Tag) (a : List Attr) (c : Forest) (l : ℕ) (last : Bool)
+    → Placing old ends nodes left i placed context → ns ≡ nodes_of nodes → i < length ns → n ≡ get_or ns i n → less ≡ left - 1 → j ≡ i + 1
     → n ≡ Element t a c l → is_transition t ≡ false → last ≡ nat_eq less 0
-    → so_far inner work' ≡ all_placed work.first_number (ends && last) work.reports.items c → KeepsRest work work'
+    → so_far inner context' ≡ all_placed context.first_number (ends && last) context.reports.items c → KeepsRest context context'
     → placed'.nodes.items ≡ placed.nodes.items ++ Element t a (forest_of inner.nodes.items) l ∷ put_after last inner.moving.items
     → placed'.moving.items ≡ placed.moving.items ++ further last inner.moving.items
-    → Placing old ends nodes less j placed' work'
-Placing-element old ends nodes left less i j placed placed' inner work work' n ns t a c l last p items fits at one next is kind none_left inside kept put more =
-    Placing-more old ends nodes left less i j placed placed' work work' n ns p (record { items = items; fits = fits; at = at; one = one; next = next }) kept
-    (λ r ended. ap (λ m. place_in old.first_number ends (so_far placed work) (join_node m r)) is ∙ step_element old.first_number ends (so_far placed work) t a c l r kind
-    ∙ ap (λ b. place_in old.first_number ends (put_element b t a l (all_placed old.first_number (ends && b) work.reports.items c) (so_far placed work)) r) (ended ∙ sym none_left)
-    ∙ ap (λ k. place_in old.first_number ends (put_element last t a l (all_placed k (ends && last) work.reports.items c) (so_far placed work)) r) (sym (keeps_first old work p.kept))
-    ∙ ap (λ s. place_in old.first_number ends (put_element last t a l s (so_far placed work)) r) (sym inside)
-    ∙ ap (λ s. place_in old.first_number ends s r) (element_put last t a l (so_far inner work') (so_far placed work) (so_far placed' work') put more refl))
+    → Placing old ends nodes less j placed' context'
+Placing-element old ends nodes left less i j placed placed' inner context context' n ns t a c l last p items fits at one next is kind none_left inside kept put more =
+    Placing-more old ends nodes left less i j placed placed' context context' n ns p (record { items = items; fits = fits; at = at; one = one; next = next }) kept
+    (λ r ended. ap (λ m. place_in old.first_number ends (so_far placed context) (join_node m r)) is ∙ step_element old.first_number ends (so_far placed context) t a c l r kind
+    ∙ ap (λ b. place_in old.first_number ends (put_element b t a l (all_placed old.first_number (ends && b) context.reports.items c) (so_far placed context)) r) (ended ∙ sym none_left)
+    ∙ ap (λ k. place_in old.first_number ends (put_element last t a l (all_placed k (ends && last) context.reports.items c) (so_far placed context)) r) (sym (keeps_first old context p.kept))
+    ∙ ap (λ s. place_in old.first_number ends (put_element last t a l s (so_far placed context)) r) (sym inside)
+    ∙ ap (λ s. place_in old.first_number ends s r) (element_put last t a l (so_far inner context') (so_far placed context) (so_far placed' context') put more refl))
 
 none_left : (xs : List Node) → length xs ≡ 0 → xs ≡ []
 none_left [] e = refl
@@ -134,18 +135,14 @@ none_left (x ∷ xs) e = absurd (omega (arith, e))
 drop_all : (xs : List Node) (i : ℕ) → i ≡ length xs → drop i xs ≡ []
 drop_all xs i e = none_left (drop i xs) (rest_length xs i 0 (omega (arith, e)))
 
-pub Placing-all : (old : Work) (ends : Bool) (nodes : Forest) (left i : ℕ) (placed : Placed) (work : Work) (ns : List Node) → Placing old ends nodes left i placed work → ns ≡ nodes_of nodes → i ≡ length ns
-    → so_far placed work ≡ all_placed old.first_number ends old.reports.items nodes
-Placing-all old ends nodes left i placed work ns p items all =
-    sym (place_none old.first_number ends (so_far placed work)) ∙ ap (λ ys. place_in old.first_number ends (so_far placed work) (forest_of ys)) (sym (drop_all (nodes_of nodes) i (all ∙ ap length items))) ∙ p.same
+pub Placing-all : (old : Context) (ends : Bool) (nodes : Forest) (left i : ℕ) (placed : Placed) (context : Context) (ns : List Node) → Placing old ends nodes left i placed context → ns ≡ nodes_of nodes → i ≡ length ns
+    → so_far placed context ≡ all_placed old.first_number ends old.reports.items nodes
+Placing-all old ends nodes left i placed context ns p items all =
+    sym (place_none old.first_number ends (so_far placed context)) ∙ ap (λ ys. place_in old.first_number ends (so_far placed context) (forest_of ys)) (sym (drop_all (nodes_of nodes) i (all ∙ ap length items))) ∙ p.same
 
 -- the document whose nodes have all their places
-pub placed_root : (first : ℕ) (reports : List Report) (n : Node) (t : Tag) (a : List Attr) (c : Forest) (l : ℕ) (nodes : Forest) (ns : List Node) (s : Siblings) → n ≡ Element t a c l
-    → s ≡ all_placed first true reports c → nodes ≡ forest_of ns → ns ≡ s.placed → Element t a nodes l ≡ with_places first reports n
-placed_root first reports n t a c l nodes ns s is all made same =
-    let noted : Forest = with_messages (next_number first reports) true titles c in
-    ap (λ f. Element t a f l) (made ∙ ap forest_of (same ∙ ap (λ u. u.placed) all) ∙ forest_of-nodes_of (moved noted)) ∙ ap (with_places first reports) (sym is)
-
-pub placed_reports : (first : ℕ) (reports : List Report) (n : Node) (t : Tag) (a : List Attr) (c : Forest) (l : ℕ) (s : Siblings) → n ≡ Element t a c l
-    → s ≡ all_placed first true reports c → s.reports ≡ with_reports first reports n
-placed_reports first reports n t a c l s is all = ap (λ u. u.reports) all ∙ ap (with_reports first reports) (sym is)
+pub placed_nodes : (first : ℕ) (reports : List Report) (d : Document) (nodes : Forest) (ns : List Node) (s : Siblings) → s ≡ all_placed first true reports d.children → nodes ≡ forest_of ns → ns ≡ s.placed
+    → record d { children = nodes } ≡ with_places first reports d
+placed_nodes first reports d nodes ns s all made same =
+    let noted : Forest = with_messages (next_number first reports) true titles d.children in
+    ap (λ f. record d { children = f }) (made ∙ ap forest_of (same ∙ ap (λ u. u.placed) all) ∙ forest_of-nodes_of (moved noted))

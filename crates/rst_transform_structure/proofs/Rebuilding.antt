@@ -1,9 +1,9 @@
--- A node is made of its elements and its shape.
+-- A document is made of its elements and its shape.
 use Rattle.std.proofs.Common.{◌≡◌, ◌∙◌, ℕ, List, [], ◌∷◌, ◌++◌, append_assoc, append-nil, refl, sym, ap, ap₂}
-use Rattle.rst_tree.specs.declared.node.Node.{Node}
-use Rattle.rst_tree.specs.declared.node.Node.TheVariants.{Element, Text}
 use Rattle.rst_tree.specs.Forest.{Forest, bare, element, words}
-use Rattle.rst_tree.specs.Walk.{branch, items, leaf, no_shape, node_items, node_shape, shape, Item, Shape}
+use Rattle.rst_tree.specs.Walk.{branch, items, leaf, no_shape, shape, Item, Shape}
+use Rattle.rst_transform_work.specs.declared.document.Document.{Document}
+use Rattle.rst_transform_work.specs.States.{elements_of}
 
 -- nodes, and the elements that are left
 abbrev Built : Type 0
@@ -31,17 +31,16 @@ filled (element t a c l r) more =
     ap (fill (shape c)) (append_assoc (items c) (items r) more) ∙ filled c (items r ++ more) in
     ap (λ done. around x done.0 (fill (shape r) done.1)) first ∙ ap (around x c) (filled r more)
 
--- the node of a shape with some elements
-abbrev rebuilt : Shape → List Item → Node
-rebuilt (branch c r) (x ∷ xs) = Element x.tag x.attrs (fill c xs).0 x.line
-rebuilt (leaf t s) xs = Text t
-rebuilt _ xs = Text []
+-- the document whose nodes have a shape, with some elements
+abbrev rebuilt : Shape → List Item → Document
+rebuilt s [] = record { attrs = []; children = bare; line = 0 }
+rebuilt s (x ∷ xs) = record { attrs = x.attrs; children = (fill s xs).0; line = x.line }
 
-rebuilt_same : (n : Node) → rebuilt (node_shape n) (node_items n) ≡ n
-rebuilt_same (Element t a c l) =
-    ap (λ f. Element t a f l) (ap (λ xs. (fill (shape c) xs).0) (sym (append-nil (items c))) ∙ ap (λ done. done.0) (filled c []))
-rebuilt_same (Text t) = refl
+rebuilt_same : (d : Document) → rebuilt (shape d.children) (elements_of d) ≡ d
+rebuilt_same d =
+    ap (λ f. record d { children = f })
+    (ap (λ xs. (fill (shape d.children) xs).0) (sym (append-nil (items d.children))) ∙ ap (λ done. done.0) (filled d.children []))
 
--- nodes with the same elements and the same shape are the same
-pub same_node : (n m : Node) → node_items n ≡ node_items m → node_shape n ≡ node_shape m → n ≡ m
-same_node n m xs s = sym (rebuilt_same n) ∙ ap₂ rebuilt s xs ∙ rebuilt_same m
+-- documents with the same elements and the same shape are the same
+pub same_document : (d e : Document) → elements_of d ≡ elements_of e → shape d.children ≡ shape e.children → d ≡ e
+same_document d e xs s = sym (rebuilt_same d) ∙ ap₂ rebuilt s xs ∙ rebuilt_same e

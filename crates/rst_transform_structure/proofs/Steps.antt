@@ -10,7 +10,7 @@ use Rattle.rst_tree.specs.declared.node.Node.TheVariants.{Element, Text}
 use Rattle.rst_tree.specs.declared.tag.Tag.{Tag}
 use Rattle.rst_tree.specs.Forest.{Forest, bare, element, words}
 use Rattle.rst_tree.specs.Nodes.{forest_of, nodes_of}
-use Rattle.rst_transform_work.specs.declared.work.Report.{Report}
+use Rattle.rst_transform_work.specs.declared.report.Report.{Report}
 use Rattle.rst_transform_work.specs.Reading.{is_title}
 use Rattle.rst_transform_work.specs.Reports.{report_node}
 use Rattle.rst_transform_structure.specs.Siblings.{all_placed, ends_in_transition, fault_before, put_element, put_last, put_transition, with_fault, with_message, with_node, Siblings}

@@ -10,7 +10,7 @@ use Rattle.rst_tree.specs.declared.key.Key.TheVariants.{Anonymous, Dupnames, Ids
 use Rattle.rst_tree.specs.declared.node.Node.{Node}
 use Rattle.rst_tree.specs.declared.node.Node.TheVariants.{Element, Text}
 use Rattle.rst_tree.specs.declared.tag.Tag.{Tag}
-use Rattle.rst_tree.specs.declared.tag.Tag.TheVariants.{Section as IsSection, Subtitle}
+use Rattle.rst_tree.specs.declared.tag.Tag.TheVariants.{Document as IsDocument, Section as IsSection, Subtitle}
 use Rattle.rst_tree.specs.Attributes.{value_of, with_attr}
 use Rattle.rst_tree.specs.Forest.{Forest, bare, element, words}
 use Rattle.rst_tree.specs.KeyNames.{is_same}
@@ -23,6 +23,8 @@ use Rattle.rst_tree_index.proofs.ElementKinds.{asks_anonymous, asks_footnote, as
 use Rattle.rst_transform_structure.specs.declared.title.Section.{Section}
 use Rattle.rst_transform_structure.specs.Title.{behind, lone_section, section_in, section_of, subtitle, subtitled_by, title_attrs, titled, titled_by}
 use Rattle.rst_transform_structure.proofs.KeptKinds.{said_listed}
+use Rattle.rst_transform_work.specs.declared.document.Document.{Document}
+use Rattle.rst_transform_work.specs.States.{elements_of}
 use Rattle.rst_transform_work.specs.Lists.{listed, with_list_of, with_names}
 use Rattle.rst_transform_work.specs.Reading.{may_precede}
 
@@ -103,8 +105,8 @@ still_said j (Some s) a ids names lost title =
     ∙ listed_more j Ids s.attrs t ids
     ∙ said_with j Title (Says (text_in s.title)) a title
 
-document_keeps : (s : Option Section) (t : Tag) (a : List Attr) (l : ℕ) → KeepsKind (item t a l) (item t (title_attrs s a) l)
-document_keeps s t a l =
+document_keeps : (s : Option Section) (a : List Attr) (l : ℕ) → KeepsKind (item IsDocument a l) (item IsDocument (title_attrs s a) l)
+document_keeps s a l =
     record {
       tag = refl;
       anonymous = still_said Anonymous s a refl refl refl refl;
@@ -113,25 +115,25 @@ document_keeps s t a l =
       refuri = still_said Refuri s a refl refl refl refl;
     }
 
-none_then : (p : Item → Bool) → IsOfKind p → (n : Node) → list_any p (node_items n) ≡ false → list_any p (node_items (titled n)) ≡ false
-none_then p kind (Element t a c l) none =
-    let parts = or_none (p (item t a l)) (list_any p (items c)) none in
-    let s : Option Section = lone_section c in
-    ap (λ b. b || list_any p (items (titled_by s c))) (kind.asks (item t a l) (item t (title_attrs s a) l) (document_keeps s t a l) ∙ parts.0)
-    ∙ none_titled p kind s c (none_of_lone p c parts.1) parts.1
-none_then p kind (Text t) none = none
+none_then : (p : Item → Bool) → IsOfKind p → (d : Document) → list_any p (elements_of d) ≡ false → list_any p (elements_of (titled d)) ≡ false
+none_then p kind d none =
+    let own : Item = item IsDocument d.attrs d.line in
+    let parts = or_none (p own) (list_any p (items d.children)) none in
+    let s : Option Section = lone_section d.children in
+    ap (λ b. b || list_any p (items (titled_by s d.children))) (kind.asks own (item IsDocument (title_attrs s d.attrs) d.line) (document_keeps s d.attrs d.line) ∙ parts.0)
+    ∙ none_titled p kind s d.children (none_of_lone p d.children parts.1) parts.1
 
-titled_kinds : (n : Node) → HasNoNewKinds (node_items n) (node_items (titled n))
-titled_kinds n =
+titled_kinds : (d : Document) → HasNoNewKinds (elements_of d) (elements_of (titled d))
+titled_kinds d =
     record {
-      substitutions = none_then (λ x. is_substitution x.tag) (record { asks = asks_substitution; subtitle = λ a l. refl }) n;
-      targets = none_then is_internal (record { asks = asks_target; subtitle = λ a l. refl }) n;
-      anonymous = none_then (λ x. is_linked_tag x.tag && tells Anonymous x) (record { asks = asks_anonymous; subtitle = λ a l. refl }) n;
-      indirect = none_then (λ x. is_target x.tag && tells Refname x) (record { asks = asks_indirect; subtitle = λ a l. refl }) n;
-      footnotes = none_then (λ x. is_of_footnotes x.tag) (record { asks = asks_footnote; subtitle = λ a l. refl }) n;
-      links = none_then (λ x. is_linked_tag x.tag) (record { asks = asks_link; subtitle = λ a l. refl }) n;
-      transitions = none_then (λ x. is_transition x.tag) (record { asks = asks_transition; subtitle = λ a l. refl }) n;
+      substitutions = none_then (λ x. is_substitution x.tag) (record { asks = asks_substitution; subtitle = λ a l. refl }) d;
+      targets = none_then is_internal (record { asks = asks_target; subtitle = λ a l. refl }) d;
+      anonymous = none_then (λ x. is_linked_tag x.tag && tells Anonymous x) (record { asks = asks_anonymous; subtitle = λ a l. refl }) d;
+      indirect = none_then (λ x. is_target x.tag && tells Refname x) (record { asks = asks_indirect; subtitle = λ a l. refl }) d;
+      footnotes = none_then (λ x. is_of_footnotes x.tag) (record { asks = asks_footnote; subtitle = λ a l. refl }) d;
+      links = none_then (λ x. is_linked_tag x.tag) (record { asks = asks_link; subtitle = λ a l. refl }) d;
+      transitions = none_then (λ x. is_transition x.tag) (record { asks = asks_transition; subtitle = λ a l. refl }) d;
     }
 
-pub no_kind_by_title : (before after : Node) → after ≡ titled before → HasNoNewKinds (node_items before) (node_items after)
-no_kind_by_title before after is = subst (λ n. HasNoNewKinds (node_items before) (node_items n)) (sym is) (titled_kinds before)
+pub no_kind_by_title : (before after : Document) → after ≡ titled before → HasNoNewKinds (elements_of before) (elements_of after)
+no_kind_by_title before after is = subst (λ d. HasNoNewKinds (elements_of before) (elements_of d)) (sym is) (titled_kinds before)

@@ -6,15 +6,15 @@ use Rattle.std.proofs.lemmas.Bool.{or_parts as or_none}
 use Rattle.std.proofs.lemmas.List.{append-nil}
 use Rattle.rst_tree.specs.declared.attrs.Attr.{Attr}
 use Rattle.rst_tree.specs.declared.node.Node.{Node}
-use Rattle.rst_tree.specs.declared.node.Node.TheVariants.{Element, Text}
 use Rattle.rst_tree.specs.declared.tag.Tag.{Tag}
 use Rattle.rst_tree.specs.declared.tag.Tag.TheVariants.{Transition}
 use Rattle.rst_tree.specs.Forest.{Forest, bare, element, words}
-use Rattle.rst_tree.specs.Walk.{item, items, node_items}
+use Rattle.rst_tree.specs.Walk.{item, items}
 use Rattle.rst_tree_index.specs.Kinds as kinds
 use Rattle.rst_tree_index.proofs.ElementKinds.{none_in}
-use Rattle.rst_transform_work.specs.declared.work.Report.{Report}
-use Rattle.rst_transform_work.specs.declared.work.Work.{Work}
+use Rattle.rst_transform_work.specs.declared.report.Report.{Report}
+use Rattle.rst_transform_work.specs.declared.document.Document.{Document}
+use Rattle.rst_transform_work.specs.States.{State, elements_of}
 use Rattle.rst_transform_structure.specs.Transitions.{and_then, before_next, ending, faults_in, is_last, is_transition, messages, moved, next_number, others, titles, with_messages, with_places, with_reports, Before, HasTransitions}
 use Rattle.rst_transform_structure.proofs.Messages.{element_ending, element_faults, element_moved, element_noted}
 
@@ -91,22 +91,17 @@ none_wrong ends b (element t a c l r) none =
     ∙ ap (λ fs. fs ++ faults_in ends d r) (none_wrong z titles c p.inside)
     ∙ none_wrong ends d r p.after
 
-nodes_stay : (first : ℕ) (reports : List Report) (n : Node) → (kinds.kinds_of (node_items n)).transitions ≡ false → with_places first reports n ≡ n
-nodes_stay first reports (Text t) none = refl
-nodes_stay first reports (Element t a c l) none =
-    let inside : HasNone c = (or_none (kinds.is_transition t) (list_any (λ x. kinds.is_transition x.tag) (items c)) none).1 in
-    ap (λ f. Element t a (moved f) l) (none_noted (next_number first reports) true titles c inside) ∙ ap (λ f. Element t a f l) (none_moved c inside)
+nodes_stay : (first : ℕ) (reports : List Report) (d : Document) → HasNone d.children → with_places first reports d ≡ d
+nodes_stay first reports d none =
+    ap (λ f. record d { children = moved f }) (none_noted (next_number first reports) true titles d.children none) ∙ ap (λ f. record d { children = f }) (none_moved d.children none)
 
-reports_stay : (first : ℕ) (reports : List Report) (n : Node) → (kinds.kinds_of (node_items n)).transitions ≡ false → with_reports first reports n ≡ reports
-reports_stay first reports (Text t) none = refl
-reports_stay first reports (Element t a c l) none =
-    let inside : HasNone c = (or_none (kinds.is_transition t) (list_any (λ x. kinds.is_transition x.tag) (items c)) none).1 in
-    ap (λ fs. reports ++ messages (next_number first reports) fs) (none_wrong true titles c inside) ∙ append-nil reports
+reports_stay : (first : ℕ) (reports : List Report) (d : Document) → HasNone d.children → with_reports first reports d ≡ reports
+reports_stay first reports d none = ap (λ fs. reports ++ messages (next_number first reports) fs) (none_wrong true titles d.children none) ∙ append-nil reports
 
-pub without_transitions : (work : Work) → (kinds.kinds_of (node_items work.root)).transitions ≡ false → HasTransitions work work
-without_transitions work none =
+pub without_transitions : (s : State) → (kinds.kinds_of (elements_of s.document)).transitions ≡ false → HasTransitions s s
+without_transitions s none =
     record {
-      root = sym (nodes_stay work.first_number work.reports.items work.root none);
-      reports = sym (reports_stay work.first_number work.reports.items work.root none);
+      document = sym (nodes_stay s.context.first_number s.context.reports.items s.document none);
+      reports = sym (reports_stay s.context.first_number s.context.reports.items s.document none);
       rest = refl;
     }

@@ -1,5 +1,5 @@
 -- The last section of a document, with the messages of the transforms (Document Tree, 'system_message').
-use Rattle.std.specs.Prelude.{◌≡◌, ◌&&◌, Bool, true, false, List, [], ◌∷◌, codes, map, if◌then◌else◌}
+use Rattle.std.specs.Prelude.{◌≡◌, ◌&&◌, Bool, true, false, List, [], ◌∷◌, ◌++◌, codes, map, if◌then◌else◌}
 use Rattle.std.specs.List.{list_any}
 use Rattle.rst_settings.specs.declared.Threshold.{Threshold}
 use Rattle.rst_settings.specs.Threshold.{is_reached}
@@ -11,11 +11,11 @@ use Rattle.rst_tree.specs.declared.tag.Tag.TheVariants.{Section, Title}
 use Rattle.rst_tree.specs.Attributes.{attr}
 use Rattle.rst_tree.specs.Forest.{bare, words}
 use Rattle.rst_tree.specs.LevelNames.{level_number}
-use Rattle.rst_tree.specs.Nodes.{forest_of}
-use Rattle.rst_tree.specs.Paths.{with_child}
-use Rattle.rst_transform_work.specs.declared.work.Report.{Report}
-use Rattle.rst_transform_work.specs.declared.work.Work.{Work}
-use Rattle.rst_transform_work.specs.Reports.{report_node, without_ids}
+use Rattle.rst_tree.specs.Nodes.{forest_of, nodes_of}
+use Rattle.rst_transform_work.specs.declared.report.Report.{Report}
+use Rattle.rst_transform_work.specs.declared.document.Document.{Document}
+use Rattle.rst_transform_work.specs.States.{State}
+use Rattle.rst_transform_work.specs.Reports.{report_node, without_ids, KeepsRest}
 
 -- a message stands in the last section and is at or above the report level
 abbrev pub is_shown : Threshold → Report → Bool
@@ -35,13 +35,23 @@ abbrev pub section_of : List Report → Node
 section_of reports = Element Section (attr Classes (Listed (codes "system-messages" ∷ [])) ∷ []) (forest_of (heading ∷ own_nodes reports)) 0
 
 -- a message whose ids have moved to its element, if that stands in the section
-abbrev pub handed : Report → Report
-handed one = if one.own then without_ids one else one
+abbrev pub ids_moved : Report → Report
+ids_moved one = if one.own then without_ids one else one
 
--- the document before and after: the section is its last node, if one of its messages is shown
-abbrev pub EndsWithMessages : Bool → Work → Work → Type 0
-EndsWithMessages true before after = (after.root ≡ with_child (section_of before.reports.items) before.root) × (after.reports.items ≡ map handed before.reports.items) × (after ≡ record before { root = after.root; reports = after.reports })
+-- the document with one more node behind the others
+abbrev pub with_last : Node → Document → Document
+with_last n d = record d { children = forest_of (nodes_of d.children ++ n ∷ []) }
+
+-- the document before and after: the section is its last node
+pub record HasSection (before after : State) : Type 0 where
+  pub document : after.document ≡ with_last (section_of before.context.reports.items) before.document
+  pub reports : after.context.reports.items ≡ map ids_moved before.context.reports.items
+  pub rest : KeepsRest before.context after.context
+
+-- it has the section if one of its messages is shown, and else stays as it is
+abbrev pub EndsWithMessages : Bool → State → State → Type 0
+EndsWithMessages true before after = HasSection before after
 EndsWithMessages false before after = after ≡ before
 
-abbrev pub HasLastSection : Threshold → Work → Work → Type 0
-HasLastSection report before after = EndsWithMessages (list_any (is_shown report) before.reports.items) before after
+abbrev pub HasLastSection : Threshold → State → State → Type 0
+HasLastSection report before after = EndsWithMessages (list_any (is_shown report) before.context.reports.items) before after

@@ -1,5 +1,7 @@
 pub mod LastSection
+pub mod Passing
 pub mod Siblings
+pub mod Handing
 pub mod Targets
 pub mod Title
 pub mod Transitions

@@ -9,8 +9,8 @@ use Rattle.rst_tree.specs.declared.tag.Tag.{Tag}
 use Rattle.rst_tree.specs.Forest.{Forest}
 use Rattle.rst_tree.specs.Nodes.{forest_of, nodes_of}
 use Rattle.rst_transform_structure.specs.declared.transitions.Placed.{Placed}
-use Rattle.rst_transform_work.specs.declared.work.Report.{Report}
-use Rattle.rst_transform_work.specs.declared.work.Work.{Work}
+use Rattle.rst_transform_work.specs.declared.report.Report.{Report}
+use Rattle.rst_transform_work.specs.declared.context.Context.{Context}
 use Rattle.rst_transform_work.specs.Reports.{next_report, report_node}
 use Rattle.rst_transform_work.specs.Reading.{is_title}
 use Rattle.rst_transform_structure.specs.Transitions.{adjacent, at_beginning, at_end, ending, faults_in, is_transition, messages, moved, next_number, titles, with_messages}
@@ -35,8 +35,8 @@ pub record Siblings : Type 0 where
   pub moving : List Node
   pub reports : List Report
 
-abbrev pub so_far : Placed → Work → Siblings
-so_far p w = record { placed = p.nodes.items; moving = p.moving.items; reports = w.reports.items }
+abbrev pub so_far : Placed → Context → Siblings
+so_far p c = record { placed = p.nodes.items; moving = p.moving.items; reports = c.reports.items }
 
 -- one more node
 abbrev pub with_node : Node → Siblings → Siblings

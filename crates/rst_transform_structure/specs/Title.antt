@@ -1,8 +1,6 @@
 -- The title and the subtitle of a document (reStructuredText Markup Specification, 'Document Title').
 use Rattle.std.specs.Prelude.{◌≡◌, ℕ, List, [], ◌++◌, Option, Some, None, if◌then◌else◌, option_map}
-use Rattle.std.specs.List.{list_any}
-use Rattle.std.specs.Str.{bytes_eq}
-use Rattle.rst_transform_names.specs.Names.{held_by, moved}
+use Rattle.rst_transform_names.specs.Names.{held_by}
 use Rattle.rst_transform_names.specs.declared.names.Holder.TheVariants.{Unregistered}
 use Rattle.rst_transform_names.specs.declared.names.Names.{Names}
 use Rattle.rst_tree.specs.declared.attrs.Attr.{Attr}
@@ -16,8 +14,10 @@ use Rattle.rst_tree.specs.Forest.{Forest, bare, element, words}
 use Rattle.rst_tree.specs.Nodes.{join_node}
 use Rattle.rst_tree.specs.Tree.{text_in}
 use Rattle.rst_transform_structure.specs.declared.title.Section.{Section}
+use Rattle.rst_transform_structure.specs.Passing.{passed}
 use Rattle.rst_transform_work.specs.Lists.{listed, with_names}
-use Rattle.rst_transform_work.specs.declared.work.Work.{Work}
+use Rattle.rst_transform_work.specs.declared.document.Document.{Document}
+use Rattle.rst_transform_work.specs.States.{State}
 use Rattle.rst_transform_work.specs.Reading.{may_precede}
 
 -- a section's attributes, its title, and its body: the nodes behind the title
@@ -68,9 +68,8 @@ title_attrs None a = a
 title_attrs (Some s) a = with_names s.attrs (with_attr Title (Says (text_in s.title)) a)
 
 -- the document with its title and its subtitle, if it gets them
-abbrev pub titled : Node → Node
-titled (Element t a c l) = Element t (title_attrs (lone_section c) a) (titled_by (lone_section c) c) l
-titled (Text t) = Text t
+abbrev pub titled : Document → Document
+titled d = let section = lone_section d.children in record { attrs = title_attrs section d.attrs; children = titled_by section d.children; line = d.line }
 
 -- the names that the subtitle gets
 abbrev pub subtitle_names : Option Section → List (List ℕ)
@@ -82,17 +81,12 @@ abbrev pub title_names : Option Section → List (List ℕ)
 title_names None = []
 title_names (Some s) = listed OfNames s.attrs ++ subtitle_names (lone_section s.body)
 
-abbrev pub names_got : Node → List (List ℕ)
-names_got (Element t a c l) = title_names (lone_section c)
-names_got (Text t) = []
-
 -- an element without number holds each of these names that is known; of the others the same is known as before
 abbrev pub Moves : List (List ℕ) → Names → Names → Type 0
-Moves names old new =
-    (name : List ℕ) → held_by new name ≡ (if list_any (bytes_eq name) names then moved Unregistered (held_by old name) else held_by old name)
+Moves names old new = (name : List ℕ) → held_by new name ≡ passed names Unregistered name (held_by old name)
 
 -- the document before and after
-pub record IsTitled (before after : Work) : Type 0 where
-  pub root : after.root ≡ titled before.root
-  pub names : Moves (names_got before.root) before.names after.names
-  pub rest : after ≡ record before { root = after.root; names = after.names }
+pub record IsTitled (before after : State) : Type 0 where
+  pub document : after.document ≡ titled before.document
+  pub names : Moves (title_names (lone_section before.document.children)) before.context.names after.context.names
+  pub rest : after.context ≡ record before.context { names = after.context.names }

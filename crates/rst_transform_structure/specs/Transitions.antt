@@ -3,16 +3,17 @@
 use Rattle.std.specs.Prelude.{◌≡◌, ℕ, ◌+◌, ◌-◌, ◌^◌, min, Bool, true, false, ◌&&◌, List, [], ◌∷◌, ◌++◌, length, map, None, if◌then◌else◌, codes}
 use Rattle.std.specs.List.{filter}
 use Rattle.rst_tree.specs.declared.node.Node.{Node}
-use Rattle.rst_tree.specs.declared.node.Node.TheVariants.{Element, Text}
+use Rattle.rst_tree.specs.declared.node.Node.TheVariants.{Element}
 use Rattle.rst_tree.specs.declared.note.Level.TheVariants.{Error}
 use Rattle.rst_tree.specs.declared.tag.Tag.{Tag}
 use Rattle.rst_tree.specs.declared.tag.Tag.TheVariants.{Transition}
 use Rattle.rst_tree.specs.Forest.{Forest, bare, element, words}
 use Rattle.rst_tree.specs.Nodes.{join_node}
 use Rattle.rst_tree.specs.Walk.{Item}
-use Rattle.rst_transform_work.specs.declared.work.Report.{Report}
-use Rattle.rst_transform_work.specs.declared.work.Work.{Work}
-use Rattle.rst_transform_work.specs.Reports.{report_node}
+use Rattle.rst_transform_work.specs.declared.report.Report.{Report}
+use Rattle.rst_transform_work.specs.declared.document.Document.{Document}
+use Rattle.rst_transform_work.specs.States.{State}
+use Rattle.rst_transform_work.specs.Reports.{report_node, KeepsRest}
 use Rattle.rst_transform_work.specs.Reading.{is_heading}
 
 abbrev pub is_transition : Tag → Bool
@@ -125,20 +126,18 @@ abbrev pub next_number : ℕ → List Report → ℕ
 next_number first reports = first + length reports
 
 -- A document whose transitions get their messages, and then their places. One that the document ends with stays, for then a message follows it.
-abbrev pub with_places : ℕ → List Report → Node → Node
-with_places first reports (Element t a c l) = Element t a (moved (with_messages (next_number first reports) true titles c)) l
-with_places first reports (Text t) = Text t
+abbrev pub with_places : ℕ → List Report → Document → Document
+with_places first reports d = record d { children = moved (with_messages (next_number first reports) true titles d.children) }
 
 -- the messages then
-abbrev pub with_reports : ℕ → List Report → Node → List Report
-with_reports first reports (Element t a c l) = reports ++ messages (next_number first reports) (faults_in true titles c)
-with_reports first reports (Text t) = reports
+abbrev pub with_reports : ℕ → List Report → Document → List Report
+with_reports first reports d = reports ++ messages (next_number first reports) (faults_in true titles d.children)
 
 -- the document before and after
-pub record HasTransitions (before after : Work) : Type 0 where
-  pub root : after.root ≡ with_places before.first_number before.reports.items before.root
-  pub reports : after.reports.items ≡ with_reports before.first_number before.reports.items before.root
-  pub rest : after ≡ record before { root = after.root; reports = after.reports }
+pub record HasTransitions (before after : State) : Type 0 where
+  pub document : after.document ≡ with_places before.context.first_number before.context.reports.items before.document
+  pub reports : after.context.reports.items ≡ with_reports before.context.first_number before.context.reports.items before.document
+  pub rest : KeepsRest before.context after.context
 
 -- the transitions among some elements
 abbrev pub transitions_in : List Item → List Item

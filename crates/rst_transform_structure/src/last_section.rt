@@ -3,11 +3,11 @@ ghost use Rattle.std.specs.Prelude.{◌≡◌, ◌∷◌, ◌++◌, [], map};
 ghost use Rattle.std.specs.List.{list_any};
 ghost use Rattle.rst_tree.specs.Faults.{Gives};
 ghost use Rattle.rst_tree.specs.Nodes.{forest_of, nodes_of};
-ghost use Rattle.rst_tree.specs.Paths.{with_child};
-ghost use Rattle.rst_transform_structure.specs.LastSection.{handed, heading, is_shown, own_nodes, section_of, HasLastSection};
+ghost use Rattle.rst_transform_work.specs.States.{state};
+ghost use Rattle.rst_transform_structure.specs.LastSection.{ids_moved, heading, is_shown, own_nodes, section_of, HasLastSection};
 
 use rst_settings::Threshold;
-use rst_transform_work::{Report, Work};
+use rst_transform_work::{Context, Document, Report};
 use rst_tree::{Attrs, Children, Key, Node, Tag, Text, Texts, TreeFault, Value};
 use std::alloc::Global;
 
@@ -18,26 +18,20 @@ use std::alloc::Global;
 ///         <title>
 ///             Docutils System Messages
 ///         <system_message ..>
-pub fn last_section(alloc: Global, mut work: Work, report: Threshold) -> Result<Work, TreeFault>
-    ensures { Gives (HasLastSection report work) result }
+pub fn last_section(
+    alloc: Global,
+    mut document: Document,
+    context: &mut Context,
+    report: Threshold,
+) -> Result<Document, TreeFault>
+    ensures { Gives (λ after. HasLastSection report (state document context.old) (state after context.new)) result }
 {
-    if !is_any_shown(work.reports.as_slice(), report) {
-        return Ok(work);
+    if !is_any_shown(context.reports.as_slice(), report) {
+        return Ok(document);
     }
-    let section = section(alloc, &mut work.reports)?;
-    put_last(&mut work.root, section)?;
-    Ok(work)
-}
-
-/// Puts a node behind the last in a document.
-fn put_last(root: &mut Node, node: Node) -> Result<(), TreeFault>
-    ensures { Gives (λ _. root.new ≡ with_child node root.old) result }
-{
-    match root {
-        Node::Element { children, .. } => children.push(node)?,
-        Node::Text(_) => {}
-    }
-    Ok(())
+    let section = section(alloc, &mut context.reports)?;
+    document.children.push(section)?;
+    Ok(document)
 }
 
 /// Whether one of some messages stands in the last section and is at or above the report level.
@@ -62,7 +56,7 @@ fn is_shown(report: &Report, threshold: Threshold) -> bool
 /// The section with the messages that stand in it.
 fn section(alloc: Global, reports: &mut Vec<Report>) -> Result<Node, TreeFault>
     ensures section { Gives (λ section. section ≡ section_of reports.old.items) result }
-    ensures reports { Gives (λ _. reports.new.items ≡ map handed reports.old.items) result }
+    ensures reports { Gives (λ _. reports.new.items ≡ map ids_moved reports.old.items) result }
 {
     let children = section_nodes(alloc, reports)?;
     let classes = Texts::lone(alloc, Text::from_str(alloc, "system-messages")?);
@@ -78,7 +72,7 @@ fn section(alloc: Global, reports: &mut Vec<Report>) -> Result<Node, TreeFault>
 /// The title of the section, and the messages that stand in it.
 fn section_nodes(alloc: Global, reports: &mut Vec<Report>) -> Result<Children, TreeFault>
     ensures nodes { Gives (λ nodes. nodes ≡ forest_of (heading ∷ own_nodes reports.old.items)) result }
-    ensures reports { Gives (λ _. reports.new.items ≡ map handed reports.old.items) result }
+    ensures reports { Gives (λ _. reports.new.items ≡ map ids_moved reports.old.items) result }
 {
     let mut nodes = Children::with_room(alloc, reports.len().saturating_add(1))?;
     nodes.push(heading(alloc)?)?;
@@ -91,7 +85,7 @@ fn section_nodes(alloc: Global, reports: &mut Vec<Report>) -> Result<Children, T
 /// Adds a message, if it stands in the section, and hands over its ids.
 fn add_own(alloc: Global, report: &mut Report, nodes: &mut Children) -> Result<(), TreeFault>
     ensures nodes { Gives (λ _. nodes.new ≡ forest_of (nodes_of nodes.old ++ own_nodes (report.old ∷ []))) result }
-    ensures report { Gives (λ _. report.new ≡ handed report.old) result }
+    ensures report { Gives (λ _. report.new ≡ ids_moved report.old) result }
 {
     if !report.own {
         return Ok(());

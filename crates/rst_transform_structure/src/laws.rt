@@ -1,9 +1,8 @@
 //! Laws on the definitions, each by a function that does nothing and whose contract is the law.
 ghost use Rattle.std.specs.Prelude.{◌≡◌};
 ghost use Rattle.rst_settings.specs.declared.Threshold.{Threshold};
-ghost use Rattle.rst_tree.specs.Walk.{node_items};
 ghost use Rattle.rst_transform_work.specs.Alike.{HasOneAnswer};
-ghost use Rattle.rst_transform_work.specs.declared.work.Work.{Work};
+ghost use Rattle.rst_transform_work.specs.States.{State, elements_of};
 ghost use Rattle.rst_transform_structure.specs.LastSection.{HasLastSection};
 ghost use Rattle.rst_transform_structure.specs.Targets.{IsRetargeted};
 ghost use Rattle.rst_transform_structure.specs.Title.{IsTitled};
@@ -26,7 +25,7 @@ pub fn transitions_alike()
 
 /// No transition is lost or comes up, and their order in the document stays.
 pub fn transitions_stay()
-    ensures { (before after : Work) → HasTransitions before after → transitions_in (node_items after.root) ≡ transitions_in (node_items before.root) }
+    ensures { (before after : State) → HasTransitions before after → transitions_in (elements_of after.document) ≡ transitions_in (elements_of before.document) }
 {}
 
 /// A document gets its last section in one way, for each report level.

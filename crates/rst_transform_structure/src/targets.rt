@@ -1,12 +1,14 @@
 //! Internal targets.
-ghost use Rattle.std.specs.Prelude.{◌≡◌, ◌++◌, [], false, map, reverse};
+ghost use Rattle.std.specs.Prelude.{◌≡◌, ◌++◌, [], drop, false, map, reverse};
 ghost use Rattle.rst_tree.specs.Faults.{Gives};
-ghost use Rattle.rst_tree.specs.Walk.{item, node_items, node_shape};
+ghost use Rattle.rst_tree.specs.Walk.{item, node_items};
 ghost use Rattle.rst_tree_index.specs.Kinds.{kinds_of, HasNoNewKinds};
-ghost use Rattle.rst_transform_structure.specs.Targets.{found, found_turns, given, got_by, handed, handed_first, holder_of, is_turn, names_got, referring, retargeted, takes_ids, turns, turns_left, underway, with_refid, Passes, IsRetargeted};
+ghost use Rattle.rst_transform_work.specs.States.{elements_of, state};
+ghost use Rattle.rst_transform_structure.specs.Handing.{got_by, is_turn, reached, takers, Passes};
+ghost use Rattle.rst_transform_structure.specs.Targets.{given, handed, handed_by, holder_of, referring, takes_ids, with_refid, IsRetargeted};
 
 use rst_transform_names::{Holder, Names};
-use rst_transform_work::{Work, append, take_list};
+use rst_transform_work::{Context, Document, append, take_list};
 use rst_tree::{
     Attrs, Key, Node, Reader, Tag, Text, TreeFault, Value, Visitor, read_elements, walk,
 };
@@ -33,27 +35,36 @@ use std::mem;
 ///
 /// A target that no element follows, or one that takes no ids, stays as it is. The document may have an internal target only
 /// if it `has` one.
-pub fn targets(alloc: Global, work: Work, has: bool) -> Result<Work, TreeFault>
-    requires has { has ≡ false → (kinds_of (node_items work.root)).targets ≡ false }
-    ensures retargeted { Gives (IsRetargeted work) result }
-    ensures kinds { Gives (λ after. HasNoNewKinds (node_items work.root) (node_items after.root)) result }
+pub fn targets(
+    alloc: Global,
+    document: Document,
+    context: &mut Context,
+    has: bool,
+) -> Result<Document, TreeFault>
+    requires has { has ≡ false → (kinds_of (elements_of document)).targets ≡ false }
+    ensures retargeted { Gives (λ after. IsRetargeted (state document context.old) (state after context.new)) result }
+    ensures kinds { Gives (λ after. HasNoNewKinds (elements_of document) (elements_of after)) result }
 {
     if !has {
-        return Ok(work);
+        return Ok(document);
     }
-    retargeted(alloc, work)
+    retargeted(alloc, document, context)
 }
 
 /// The document once its internal targets have handed on their ids and names.
-fn retargeted(alloc: Global, mut work: Work) -> Result<Work, TreeFault>
-    ensures { Gives (IsRetargeted work) result }
+fn retargeted(
+    alloc: Global,
+    document: Document,
+    context: &mut Context,
+) -> Result<Document, TreeFault>
+    ensures { Gives (λ after. IsRetargeted (state document context.old) (state after context.new)) result }
 {
-    let turns = turns(alloc, &work.root)?;
-    let mut moving = Moving::of(alloc, turns);
-    let root = mem::replace(&mut work.root, Node::element(alloc, Tag::Document, 0));
-    work.root = walk(root, &mut moving)?;
-    pass(moving.into_got(), &mut work.names);
-    Ok(work)
+    let node = document.into_node();
+    let takers = takers(alloc, &node)?;
+    let mut walking = Walking::of(alloc, takers);
+    let node = walk(node, &mut walking)?;
+    pass(walking.into_got(), &mut context.names);
+    Ok(Document::of(node))
 }
 
 /// Whether an element of a kind takes the ids and names of a target before it.
@@ -66,136 +77,108 @@ fn takes_ids(tag: Tag) -> bool
     )
 }
 
-/// For each internal target in a node, in preorder, whether the element that follows it in preorder takes its ids: since
-/// such a target holds no element, that is its next sibling or else the next one of the nearest ancestor that has one.
-fn turns(alloc: Global, node: &Node) -> Result<Vec<bool>, TreeFault>
-    ensures { Gives (λ list. list.items ≡ turns (node_items node.now)) result }
+/// For each element in a node, in document order, whether it takes the ids and names of a target before it.
+fn takers(alloc: Global, node: &Node) -> Result<Vec<bool>, TreeFault>
+    ensures { Gives (λ list. list.items ≡ takers (node_items node.now)) result }
 {
-    let mut followers = Followers::none(alloc);
-    read_elements(alloc, node, &mut followers)?;
-    followers.end()
+    let mut takers = TakerReader {
+        list: Vec::new(alloc),
+    };
+    read_elements(alloc, node, &mut takers)?;
+    Ok(takers.list)
 }
 
-/// What was found of the elements that follow internal targets.
+/// For each element that was read whether it takes ids.
 #[derive(Drop)]
-struct Followers {
-    /// For each target but one at the end: whether the element behind it takes its ids.
-    turns: Vec<bool>,
-    /// Whether the last element was an internal target.
-    awaited: bool,
+struct TakerReader {
+    list: Vec<bool>,
 }
 
-impl Model for Followers {
-    ghost use Rattle.rst_transform_structure.specs.Targets.{Found, found};
+impl Model for TakerReader {
+    ghost use Rattle.std.specs.Prelude.{Bool, List};
 
-    ghost Value = { Found };
+    ghost Value = { List Bool };
 
-    ghost view = { λ f. found f.turns.items f.awaited };
+    ghost view = { λ t. t.list.items };
 }
 
-impl Followers {
-    /// Before the first element.
-    fn none(alloc: Global) -> Followers
-        ensures { result ≡ found [] false }
-    {
-        Followers {
-            turns: Vec::new(alloc),
-            awaited: false,
-        }
-    }
+impl Reader for TakerReader {
+    ghost use Rattle.rst_transform_structure.specs.Handing.{with_taker};
 
-    /// What was found of all targets. The last element has none behind it.
-    fn end(self) -> Result<Vec<bool>, TreeFault>
-        ensures { Gives (λ list. list.items ≡ found_turns self) result }
-    {
-        let Followers { mut turns, awaited } = self;
-        if awaited {
-            turns.push(false)?;
-        }
-        Ok(turns)
-    }
-}
-
-impl Reader for Followers {
-    ghost use Rattle.rst_transform_structure.specs.Targets.{found_next};
-
-    ghost next = { found_next };
+    ghost next = { with_taker };
 
     fn read(&mut self, _alloc: Global, element: &Node) -> Result<(), TreeFault> {
-        if let Node::Element { tag, attrs, .. } = element {
-            if self.awaited {
-                self.turns.push(takes_ids(*tag))?;
-            }
-            self.awaited = is_internal(*tag, attrs);
+        if let Node::Element { tag, .. } = element {
+            self.list.push(takes_ids(*tag))?;
         }
         Ok(())
     }
 }
 
-/// What targets have handed on and no element has got yet.
+/// What a walk over the elements of a document knows when it comes to one of them.
 #[derive(Drop)]
-struct Moving {
+struct Walking {
     alloc: Global,
-    /// For each internal target that is still to come whether it hands on its ids and names.
-    turns: VecDeque<bool>,
-    /// The ids that are handed on, the last first: so each target adds its own at the end.
+    /// For this element and each one behind it whether it takes ids.
+    takers: VecDeque<bool>,
+    /// The ids that it gets, the last first: so each target adds its own at the end.
     ids: Vec<Text>,
-    /// The names, likewise.
+    /// The names that it gets, likewise.
     names: Vec<Text>,
-    /// The names that elements got, each with the element's number, if it has one.
+    /// The names that elements before it keep, each with the element's number, if it has one.
     got: Vec<(Text, Option<u64>)>,
 }
 
-impl Model for Moving {
+impl Model for Walking {
     ghost use Rattle.std.specs.Prelude.{reverse};
-    ghost use Rattle.rst_transform_structure.specs.Targets.{Underway, handed, underway};
+    ghost use Rattle.rst_transform_structure.specs.Handing.{reached, Reached};
+    ghost use Rattle.rst_transform_structure.specs.Targets.{handed};
 
-    ghost Value = { Underway };
+    ghost Value = { Reached };
 
-    ghost view = { λ m. underway m.turns.items (handed (reverse m.ids.items) (reverse m.names.items)) m.got.items };
+    ghost view = { λ w. reached w.takers.items (handed (reverse w.ids.items) (reverse w.names.items)) w.got.items };
 }
 
-impl Moving {
+impl Walking {
     /// Before the first element.
-    fn of(alloc: Global, turns: Vec<bool>) -> Moving
-        ensures { result ≡ underway turns.items (handed [] []) [] }
+    fn of(alloc: Global, takers: Vec<bool>) -> Walking
+        ensures { result ≡ reached takers.items (handed [] []) [] }
     {
-        Moving {
+        Walking {
             alloc,
-            turns: VecDeque::from_vec(turns),
+            takers: VecDeque::from_vec(takers),
             ids: Vec::new(alloc),
             names: Vec::new(alloc),
             got: Vec::new(alloc),
         }
     }
 
-    /// The names that elements got.
+    /// The names that elements keep.
     fn into_got(self) -> Vec<(Text, Option<u64>)>
         ensures { result.items ≡ self.got }
     {
-        let Moving { got, .. } = self;
+        let Walking { got, .. } = self;
         got
     }
 
-    /// Whether an element is a target whose turn it is to hand on its ids.
+    /// Whether the element is a target that hands on its ids.
     fn is_turn(&mut self, tag: Tag, attrs: &Attrs) -> bool
         ensures turn { result ≡ is_turn self.old (item tag attrs.now 0) }
-        ensures left { self.new ≡ record self.old { turns = turns_left self.old (item tag attrs.now 0) } }
+        ensures left { self.new ≡ record self.old { takers = drop 1 self.old.takers } }
     {
-        if !is_internal(tag, attrs) {
-            return false;
-        }
-        match self.turns.pop_front() {
-            Some(turn) => turn,
+        let next_takes = match self.takers.get(1) {
+            Some(takes) => *takes,
             None => false,
-        }
+        };
+        self.takers.pop_front();
+        is_internal(tag, attrs) && next_takes
     }
 
     /// Takes the ids and names from a target, which refers to its first id from now on.
     #[tactic(auto, using(crate::proofs::Retargeting::reversed_behind, crate::proofs::Retargeting::listed_still))]
     fn hand_on(&mut self, attrs: &mut Attrs) -> Result<(), TreeFault>
         ensures attrs { Gives (λ _. attrs.new ≡ referring attrs.old) result }
-        ensures handed { Gives (λ _. self.new ≡ record self.old { handed = handed_first attrs.old self.old.handed }) result }
+        ensures handed { Gives (λ _. self.new ≡ record self.old { handed = handed_by attrs.old self.old.handed }) result }
     {
         let ids = take_list(self.alloc, attrs, Key::Ids);
         let names = take_list(self.alloc, attrs, Key::Names);
@@ -209,7 +192,7 @@ impl Moving {
     /// Gives the ids and names that were handed on to an element.
     fn hand_over(&mut self, attrs: &mut Attrs) -> Result<(), TreeFault>
         ensures attrs { Gives (λ _. attrs.new ≡ given self.old.handed attrs.old) result }
-        ensures handed { Gives (λ _. self.new ≡ underway self.old.turns (handed [] []) (self.old.got ++ got_by attrs.old self.old.handed.names)) result }
+        ensures handed { Gives (λ _. self.new ≡ reached self.old.takers (handed [] []) (self.old.got ++ got_by attrs.old self.old.handed.names)) result }
     {
         let number = attrs.number(Key::Serial);
         self.ids.reverse();
@@ -222,12 +205,12 @@ impl Moving {
     }
 }
 
-impl Visitor for Moving {
-    ghost use Rattle.rst_transform_structure.specs.Targets.{passed_on, underway_after};
+impl Visitor for Walking {
+    ghost use Rattle.rst_transform_structure.specs.Handing.{changed_at, next_reached};
 
-    ghost next = { underway_after };
+    ghost next = { next_reached };
 
-    ghost out = { passed_on };
+    ghost out = { changed_at };
 
     fn visit(
         &mut self,

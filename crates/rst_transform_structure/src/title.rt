@@ -1,17 +1,17 @@
 //! The title and the subtitle of a document.
-ghost use Rattle.std.specs.Prelude.{◌≡◌, ◌++◌, [], Some, None, MatchResult};
+ghost use Rattle.std.specs.Prelude.{◌≡◌, ◌++◌, Some, None, MatchResult};
 ghost use Rattle.std.specs.List.{list_all};
 ghost use Rattle.rst_tree.specs.declared.key.Key.TheVariants.{Names as OfNames};
 ghost use Rattle.rst_tree.specs.Faults.{Gives};
 ghost use Rattle.rst_tree.specs.Nodes.{forest_of, join_node, nodes_of};
-ghost use Rattle.rst_tree.specs.Walk.{node_items};
 ghost use Rattle.rst_tree_index.specs.Kinds.{HasNoNewKinds};
 ghost use Rattle.rst_transform_work.specs.Lists.{with_names, listed};
-ghost use Rattle.rst_transform_structure.specs.Title.{lone_section, names_got, section_in, subtitle, subtitle_names, subtitled_by, title_attrs, title_names, titled, titled_by, Moves, IsTitled};
+ghost use Rattle.rst_transform_work.specs.States.{elements_of, state};
+ghost use Rattle.rst_transform_structure.specs.Title.{lone_section, section_in, subtitle, subtitle_names, subtitled_by, title_attrs, title_names, titled, titled_by, Moves, IsTitled};
 ghost use Rattle.rst_transform_work.specs.Reading.{may_precede};
 
 use rst_transform_names::{Holder, Names};
-use rst_transform_work::{Work, append_names, may_precede};
+use rst_transform_work::{Context, Document, append_names, may_precede};
 use rst_tree::{Attrs, Children, Key, Node, Said, Tag, Text, TreeFault, Value};
 use std::alloc::Global;
 
@@ -34,42 +34,24 @@ use std::alloc::Global;
 ///         <paragraph>
 ///
 /// Comments, targets, substitution definitions and messages may stand before the section.
-pub fn title(alloc: Global, work: Work) -> Result<Work, TreeFault>
-    ensures titled { Gives (IsTitled work) result }
-    ensures kinds { Gives (λ after. HasNoNewKinds (node_items work.root) (node_items after.root)) result }
+pub fn title(
+    alloc: Global,
+    document: Document,
+    context: &mut Context,
+) -> Result<Document, TreeFault>
+    ensures titled { Gives (λ after. IsTitled (state document context.old) (state after context.new)) result }
+    ensures kinds { Gives (λ after. HasNoNewKinds (elements_of document) (elements_of after)) result }
 {
-    let Work {
-        root,
-        ids,
-        mut names,
-        reports,
-        first_number,
-        serials,
-    } = work;
-    let root = match root {
-        Node::Element {
-            tag,
-            mut attrs,
-            children,
-            line,
-        } => {
-            let children = titled(alloc, &mut attrs, children, &mut names)?;
-            Node::Element {
-                tag,
-                attrs,
-                children,
-                line,
-            }
-        }
-        Node::Text(text) => Node::Text(text),
-    };
-    Ok(Work {
-        root,
-        ids,
-        names,
-        reports,
-        first_number,
-        serials,
+    let Document {
+        mut attrs,
+        children,
+        line,
+    } = document;
+    let children = titled(alloc, &mut attrs, children, &mut context.names)?;
+    Ok(Document {
+        attrs,
+        children,
+        line,
     })
 }
 

@@ -3,18 +3,17 @@ ghost use Rattle.std.specs.Prelude.{◌≡◌, ◌++◌, ◌∷◌, [], ◌&&◌
 ghost use Rattle.std.specs.List.{list_all};
 ghost use Rattle.rst_tree.specs.Faults.{Gives};
 ghost use Rattle.rst_tree.specs.Nodes.{forest_of};
-ghost use Rattle.rst_tree.specs.Walk.{node_items};
 ghost use Rattle.rst_tree.specs.declared.node.Node.TheVariants.{Element};
 ghost use Rattle.rst_tree_index.specs.Kinds.{kinds_of};
 ghost use Rattle.rst_transform_work.specs.Reports.{KeepsRest, report_node};
+ghost use Rattle.rst_transform_work.specs.States.{elements_of, state};
 ghost use Rattle.rst_transform_structure.specs.Siblings.{all_placed, ends_in_transition, fault_before, further, put_after, put_last, put_transition, so_far, transition_report, with_fault, with_message};
 ghost use Rattle.rst_transform_structure.specs.Transitions.{is_transition, HasTransitions};
 ghost use Rattle.rst_transform_work.specs.Reading.{is_title};
 
-use rst_transform_work::{Work, is_title};
+use rst_transform_work::{Context, Document, is_title};
 use rst_tree::{Attrs, Children, Level, Node, Tag, Text, TreeFault};
 use std::alloc::Global;
-use std::mem;
 
 /// Looks at the places of the transitions in document order (Markup Specification, 'Transitions'): each that begins a section
 /// or follows another one gets a message before it, and each that ends a section moves after it.
@@ -36,42 +35,40 @@ use std::mem;
 ///     <section>
 ///
 /// One that the document ends with stays, and a message follows it. The document may have a transition only if it `has` one.
-pub fn transitions(alloc: Global, work: Work, has: bool) -> Result<Work, TreeFault>
-    requires has { has ≡ false → (kinds_of (node_items work.root)).transitions ≡ false }
-    ensures { Gives (HasTransitions work) result }
+pub fn transitions(
+    alloc: Global,
+    document: Document,
+    context: &mut Context,
+    has: bool,
+) -> Result<Document, TreeFault>
+    requires has { has ≡ false → (kinds_of (elements_of document)).transitions ≡ false }
+    ensures { Gives (λ after. HasTransitions (state document context.old) (state after context.new)) result }
 {
     if !has {
-        return Ok(work);
+        return Ok(document);
     }
-    with_places(alloc, work)
+    with_places(alloc, document, context)
 }
 
 /// The document once its transitions have their places.
-fn with_places(alloc: Global, mut work: Work) -> Result<Work, TreeFault>
-    ensures { Gives (HasTransitions work) result }
+fn with_places(
+    alloc: Global,
+    document: Document,
+    context: &mut Context,
+) -> Result<Document, TreeFault>
+    ensures { Gives (λ after. HasTransitions (state document context.old) (state after context.new)) result }
 {
-    let root = mem::replace(&mut work.root, Node::element(alloc, Tag::Document, 0));
-    match root {
-        Node::Element {
-            tag,
-            attrs,
-            children,
-            line,
-        } => {
-            let Placed { nodes, moving: _ } = place_in(alloc, children, true, &mut work)?;
-            work.root = Node::Element {
-                tag,
-                attrs,
-                children: Children::of(nodes),
-                line,
-            };
-            Ok(work)
-        }
-        Node::Text(text) => {
-            work.root = Node::Text(text);
-            Ok(work)
-        }
-    }
+    let Document {
+        attrs,
+        children,
+        line,
+    } = document;
+    let Placed { nodes, moving: _ } = place_in(alloc, children, true, context)?;
+    Ok(Document {
+        attrs,
+        children: Children::of(nodes),
+        line,
+    })
 }
 
 /// The nodes of an element, whose transitions have their places.
@@ -88,10 +85,10 @@ fn place_in(
     alloc: Global,
     nodes: Children,
     ends: bool,
-    work: &mut Work,
+    context: &mut Context,
 ) -> Result<Placed, TreeFault>
-    ensures placed { Gives (λ placed. so_far placed work.new ≡ all_placed work.old.first_number ends work.old.reports.items nodes) result }
-    ensures rest { Gives (λ _. KeepsRest work.old work.new) result }
+    ensures placed { Gives (λ placed. so_far placed context.new ≡ all_placed context.old.first_number ends context.old.reports.items nodes) result }
+    ensures rest { Gives (λ _. KeepsRest context.old context.new) result }
 {
     let mut left = nodes.len();
     let mut placed = Placed::with_room(alloc, left)?;
@@ -116,10 +113,10 @@ fn place_in(
                         children,
                         line,
                     };
-                    placed.put_transition(alloc, transition, line, last, ends, work)?;
+                    placed.put_transition(alloc, transition, line, last, ends, context)?;
                     continue;
                 }
-                let inner = place_in(alloc, children, ends && last, work)?;
+                let inner = place_in(alloc, children, ends && last, context)?;
                 placed.put_element(tag, attrs, line, inner, last)?;
                 continue;
             }
@@ -147,24 +144,29 @@ impl Placed {
         alloc: Global,
         line: usize,
         words: &str,
-        work: &mut Work,
+        context: &mut Context,
     ) -> Result<(), TreeFault>
-        ensures siblings { Gives (λ _. so_far self.new work.new ≡ with_message work.old.first_number line words.now (so_far self.old work.old)) result }
-        ensures rest { Gives (λ _. KeepsRest work.old work.new) result }
+        ensures siblings { Gives (λ _. so_far self.new context.new ≡ with_message context.old.first_number line words.now (so_far self.old context.old)) result }
+        ensures rest { Gives (λ _. KeepsRest context.old context.new) result }
     {
-        let message = message(alloc, line, words, work)?;
+        let message = message(alloc, line, words, context)?;
         self.nodes.push(message)?;
         Ok(())
     }
 
     /// Puts the message on what is wrong with a transition after the nodes there, if anything is.
     #[tactic(auto, unfolding(crate::specs::Siblings::with_fault))]
-    fn put_fault(&mut self, alloc: Global, line: usize, work: &mut Work) -> Result<(), TreeFault>
-        ensures siblings { Gives (λ _. so_far self.new work.new ≡ with_fault work.old.first_number line (fault_before self.old.nodes.items) (so_far self.old work.old)) result }
-        ensures rest { Gives (λ _. KeepsRest work.old work.new) result }
+    fn put_fault(
+        &mut self,
+        alloc: Global,
+        line: usize,
+        context: &mut Context,
+    ) -> Result<(), TreeFault>
+        ensures siblings { Gives (λ _. so_far self.new context.new ≡ with_fault context.old.first_number line (fault_before self.old.nodes.items) (so_far self.old context.old)) result }
+        ensures rest { Gives (λ _. KeepsRest context.old context.new) result }
     {
         match fault_before(self.nodes.as_slice()) {
-            Some(words) => self.put_message(alloc, line, words, work),
+            Some(words) => self.put_message(alloc, line, words, context),
             None => Ok(()),
         }
     }
@@ -178,17 +180,17 @@ impl Placed {
         transition: Node,
         line: usize,
         ends: bool,
-        work: &mut Work,
+        context: &mut Context,
     ) -> Result<(), TreeFault>
-        ensures siblings { Gives (λ _. so_far self.new work.new ≡ put_last work.old.first_number ends transition line (so_far self.old work.old)) result }
-        ensures rest { Gives (λ _. KeepsRest work.old work.new) result }
+        ensures siblings { Gives (λ _. so_far self.new context.new ≡ put_last context.old.first_number ends transition line (so_far self.old context.old)) result }
+        ensures rest { Gives (λ _. KeepsRest context.old context.new) result }
     {
         if !ends {
             self.moving.push(transition)?;
             return Ok(());
         }
         self.nodes.push(transition)?;
-        self.put_message(alloc, line, AT_END, work)
+        self.put_message(alloc, line, AT_END, context)
     }
 
     /// Puts a transition, which is the last node or not, to its place, with the messages on it.
@@ -200,14 +202,14 @@ impl Placed {
         line: usize,
         last: bool,
         ends: bool,
-        work: &mut Work,
+        context: &mut Context,
     ) -> Result<(), TreeFault>
-        ensures siblings { Gives (λ _. so_far self.new work.new ≡ put_transition work.old.first_number last ends transition line (so_far self.old work.old)) result }
-        ensures rest { Gives (λ _. KeepsRest work.old work.new) result }
+        ensures siblings { Gives (λ _. so_far self.new context.new ≡ put_transition context.old.first_number last ends transition line (so_far self.old context.old)) result }
+        ensures rest { Gives (λ _. KeepsRest context.old context.new) result }
     {
-        self.put_fault(alloc, line, work)?;
+        self.put_fault(alloc, line, context)?;
         if last {
-            return self.put_last(alloc, transition, line, ends, work);
+            return self.put_last(alloc, transition, line, ends, context);
         }
         self.nodes.push(transition)?;
         Ok(())
@@ -288,11 +290,16 @@ fn is_transition(tag: Tag) -> bool
 }
 
 /// An ERROR on a transition. It is in the list of messages, too.
-fn message(alloc: Global, line: usize, words: &str, work: &mut Work) -> Result<Node, TreeFault>
-    ensures node { let next = transition_report work.old.first_number work.old.reports.items line words.now in Gives (λ node. node ≡ report_node next) result }
-    ensures reports { let next = transition_report work.old.first_number work.old.reports.items line words.now in Gives (λ _. work.new.reports.items ≡ work.old.reports.items ++ next ∷ []) result }
-    ensures rest { Gives (λ _. KeepsRest work.old work.new) result }
+fn message(
+    alloc: Global,
+    line: usize,
+    words: &str,
+    context: &mut Context,
+) -> Result<Node, TreeFault>
+    ensures node { let next = transition_report context.old.first_number context.old.reports.items line words.now in Gives (λ node. node ≡ report_node next) result }
+    ensures reports { let next = transition_report context.old.first_number context.old.reports.items line words.now in Gives (λ _. context.new.reports.items ≡ context.old.reports.items ++ next ∷ []) result }
+    ensures rest { Gives (λ _. KeepsRest context.old context.new) result }
 {
     let text = Text::from_str(alloc, words)?;
-    work.report_in_place(alloc, Level::Error, line, text)
+    context.report_in_place(alloc, Level::Error, line, text)
 }

@@ -9,22 +9,21 @@ use Rattle.rst_tree.specs.declared.key.Key.TheVariants.{Anonymous, Inline, Refna
 use Rattle.rst_tree.specs.declared.node.Node.{Node}
 use Rattle.rst_tree.specs.declared.node.Node.TheVariants.{Element, Text}
 use Rattle.rst_tree.specs.declared.tag.Tag.{Tag}
-use Rattle.rst_tree.specs.declared.tag.Tag.TheVariants.{Problematic, SubstitutionDefinition}
+use Rattle.rst_tree.specs.declared.tag.Tag.TheVariants.{Document as DocumentTag, Problematic, SubstitutionDefinition}
 use Rattle.rst_tree.specs.Attributes.{without_key}
-use Rattle.rst_tree.specs.declared.fault.TreeFault.{TreeFault}
-use Rattle.rst_tree.specs.declared.fault.TreeFault.TheVariants.{NoMemory}
-use Rattle.rst_tree.specs.Faults.{Gives}
 use Rattle.rst_tree.specs.Forest.{Forest, bare, element, words}
 use Rattle.rst_tree.specs.Nodes.{forest_of}
-use Rattle.rst_tree.specs.Walk.{item, items, node_items, Item}
+use Rattle.rst_tree.specs.Walk.{item, items, Item}
 use Rattle.rst_tree_index.specs.Kinds.{HasNoNewKinds}
 use Rattle.rst_tree_index.proofs.ElementKinds.{lacks-append, lacks-element, lacks-parts, no_new_kinds, said_without, KeepsKind, Lacks, TellsKind}
 use Rattle.rst_transform_substitutions.specs.declared.expansion.ExpansionFault.{ExpansionFault}
 use Rattle.rst_transform_substitutions.specs.declared.expansion.ExpansionFault.TheVariants.{Circular, TooLarge}
-use Rattle.rst_transform_work.specs.declared.work.Work.{Work}
+use Rattle.rst_transform_work.specs.declared.context.Context.{Context}
+use Rattle.rst_transform_work.specs.declared.document.Document.{Document}
 use Rattle.rst_transform_work.specs.Reading.{source_said}
-use Rattle.rst_transform_substitutions.specs.Definitions.{definitions_among, definitions_in, found_among, own_definition, place_found, place_of_name, placed, with_place, Definition}
-use Rattle.rst_transform_substitutions.specs.Expanded.{within_element, ExpandsIn, ExpandsRoot, GivesWay, IsExpanded, Whether}
+use Rattle.rst_transform_work.specs.States.{elements_of, State}
+use Rattle.rst_transform_substitutions.specs.Definitions.{definitions_among, found_among, own_definition, place_found, place_of_name, placed, with_place, Definition}
+use Rattle.rst_transform_substitutions.specs.Expanded.{within_element, ExpandsIn, GivesWay, IsExpanded, Whether}
 use Rattle.rst_transform_substitutions.specs.Expansion.{and_then, behind, entering, expanded, given_within, inside, is_reference, most_nested, most_visited, name_said, nodes_for, nodes_in, path_from, size_of, visiting, Expansion}
 
 -- a copy is of the kind of the element that was copied
@@ -70,12 +69,6 @@ module _ (test : Item → Bool) where
       let parts = lacks-parts test t a c l r none in
       none-append (own_definition t a c) (definitions_among c ++ definitions_among r) (own_lacks t a c parts.1)
       (none-append (definitions_among c) (definitions_among r) (among_lack c parts.1) (among_lack r parts.2))
-
-  in_lack : (n : Node) → list_any test (node_items n) ≡ false → list_any (has_one test) (definitions_in n) ≡ false
-  in_lack (Text t) none = refl
-  in_lack (Element t a c l) none =
-      let inner : Lacks test c = (or_parts (test (item t a l)) (list_any test (items c)) none).1 in
-      none-append (own_definition t a c) (definitions_among c) (own_lacks t a c inner) (among_lack c inner)
 
   -- ---- the definition that a name finds
 
@@ -158,20 +151,20 @@ module _ (test : Item → Bool) where
 
     -- ---- the document
 
-    way_lacks : (a : List Attr) (l : ℕ) (r : Result (List Node) ExpansionFault) (before after : Work) (here : List Node) → ComesToNone r → GivesWay a l r before after here → Lacks test (forest_of here)
+    way_lacks : (a : List Attr) (l : ℕ) (r : Result (List Node) ExpansionFault) (before after : Context) (here : List Node) → ComesToNone r → GivesWay a l r before after here → Lacks test (forest_of here)
     way_lacks a l (Ok nodes) before after here none gives = ap (λ ns. list_any test (items (forest_of ns))) gives.1 ∙ none
     way_lacks a l (Err fault) before after here none gives =
         ap (λ ns. list_any test (items (forest_of ns))) (gives.2 ∙ ap (λ n. n ∷ []) gives.1.is)
         ∙ lacks-element test Problematic gives.1.attrs (words (source_said a) bare) l bare (kind.plain Problematic gives.1.attrs l refl) refl refl
 
-    nodes_lack : (found : List ℕ → Option (ℕ × Forest)) (place : List ℕ → Option ℕ) → FindsNone found → (within : Option ℕ) (f : Forest) (before after : Work) (done : List Node) → Lacks test f
+    nodes_lack : (found : List ℕ → Option (ℕ × Forest)) (place : List ℕ → Option ℕ) → FindsNone found → (within : Option ℕ) (f : Forest) (before after : Context) (done : List Node) → Lacks test f
         → ExpandsIn found place within f before after done → Lacks test (forest_of done)
     nodes_lack found place finds within bare before after done none expands = ap (λ ns. list_any test (items (forest_of ns))) expands.1
     nodes_lack found place finds within (words t r) before after done none expands =
         ap (λ ns. list_any test (items (forest_of ns))) expands.2 ∙ nodes_lack found place finds within r before after expands.0 none expands.1
     nodes_lack found place finds within (element t a c l r) before after done none expands =
         let parts = lacks-parts test t a c l r none in
-        let between : Work = expands.0 in
+        let between : Context = expands.0 in
         let here : List Node = expands.1 in
         let wanted : Result (List Node) ExpansionFault = nodes_for found within (name_said a) in
         let wanted_none : ComesToNone wanted = nodes_none (given_within found (most_nested - length (path_from within)) (path_from within) (name_said a) most_visited)
@@ -187,21 +180,16 @@ module _ (test : Item → Bool) where
         ap (λ ns. list_any test (items (forest_of ns))) expands.5
         ∙ lacks-append test here expands.2 first (nodes_lack found place finds within r between after expands.2 parts.2 expands.4)
 
-    root_lacks : (root : Node) (before after : Work) → before.root ≡ root → list_any test (node_items root) ≡ false → ExpandsRoot root before after → list_any test (node_items after.root) ≡ false
-    root_lacks (Text t) before after is none expands = ap (λ (w : Work). list_any test (node_items w.root)) expands ∙ ap (λ n. list_any test (node_items n)) is
-    root_lacks (Element t a c l) before after is none expands =
-        let all : List Definition = definitions_in before.root in
-        let parts = or_parts (test (item t a l)) (list_any test (items c)) none in
-        let finds : FindsNone (found_among all) = finds_none all (ap (λ n. list_any (has_one test) (definitions_in n)) is ∙ in_lack (Element t a c l) none) in
-        ap (λ (w : Work). list_any test (node_items w.root)) expands.4
-        ∙ or_from (test (item t a l)) (list_any test (items (forest_of expands.2))) parts.0
-        (nodes_lack (found_among all) (place_of_name all) finds None c (record before { root = expands.0 }) expands.1 expands.2 parts.1 expands.3)
+    document_lacks : (before after : State) → list_any test (elements_of before.document) ≡ false → IsExpanded before after → list_any test (elements_of after.document) ≡ false
+    document_lacks before after none expands =
+        let document : Document = before.document in
+        let all : List Definition = definitions_among document.children in
+        let own : Bool = test (item DocumentTag document.attrs document.line) in
+        let parts = or_parts own (list_any test (items document.children)) none in
+        ap (λ (d : Document). list_any test (elements_of d)) expands.2
+        ∙ or_from own (list_any test (items (forest_of expands.0))) parts.0
+        (nodes_lack (found_among all) (place_of_name all) (finds_none all (among_lack document.children parts.1)) None document.children before.context after.context expands.0 parts.1 expands.1)
 
-pub no_new_expanded : (before after : Work) → IsExpanded before after → HasNoNewKinds (node_items before.root) (node_items after.root)
+pub no_new_expanded : (before after : State) → IsExpanded before after → HasNoNewKinds (elements_of before.document) (elements_of after.document)
 no_new_expanded before after expands =
-    no_new_kinds (node_items before.root) (node_items after.root) (λ test kind none. root_lacks test kind before.root before after refl none expands)
-
--- the same of what a call gives
-pub no_new_given : (before : Work) (r : Result Work TreeFault) → Gives (IsExpanded before) r → Gives (λ after. HasNoNewKinds (node_items before.root) (node_items after.root)) r
-no_new_given before (Ok after) expands = no_new_expanded before after expands
-no_new_given before (Err NoMemory) expands = tt
+    no_new_kinds (elements_of before.document) (elements_of after.document) (λ test kind none. document_lacks test kind before after none expands)

@@ -11,9 +11,11 @@ use Rattle.rst_tree.specs.Forest.{Forest}
 use Rattle.rst_tree.specs.Nodes.{forest_of}
 use Rattle.rst_transform_substitutions.specs.declared.definitions.Definitions.{Definitions}
 use Rattle.rst_transform_substitutions.specs.declared.expansion.ExpansionFault.TheVariants.{Undefined, Circular, TooLarge}
-use Rattle.rst_transform_work.specs.declared.work.Work.{Work}
-use Rattle.rst_transform_substitutions.specs.Definitions.{definitions_in, found_by, known_found, known_place, AreKnown}
-use Rattle.rst_transform_substitutions.specs.Expanded.{within_element, ExpandsIn, ExpandsRoot, GivesWay}
+use Rattle.rst_transform_work.specs.declared.context.Context.{Context}
+use Rattle.rst_transform_work.specs.declared.document.Document.{Document}
+use Rattle.rst_transform_work.specs.States.{state}
+use Rattle.rst_transform_substitutions.specs.Definitions.{definitions_among, found_by, known_found, known_place, AreKnown, Definition}
+use Rattle.rst_transform_substitutions.specs.Expanded.{within_element, ExpandsIn, GivesWay, IsExpanded}
 use Rattle.rst_transform_substitutions.specs.Expansion.{behind, expanded, given, given_within, is_reference, most_nested, name_said, nodes_for, Expansion}
 use Rattle.rst_transform_substitutions.proofs.Defining.{found_known, place_known}
 
@@ -69,35 +71,36 @@ given-entered found path name left one is among within =
     ap (λ more. given_within found more path name left) more ∙ entered_within found (most_nested - length (path ++ one.0 ∷ [])) path name left one is among
 
 -- what the nodes that are left make of a document, all of some nodes do
-abbrev pub Continues : (List ℕ → Option (ℕ × Forest)) → (List ℕ → Option ℕ) → Option ℕ → Forest → Work → Work → List Node → List Node → Type 0
+abbrev pub Continues : (List ℕ → Option (ℕ × Forest)) → (List ℕ → Option ℕ) → Option ℕ → Forest → Context → Context → List Node → List Node → Type 0
 Continues found place within all first now done rest =
-    (after : Work) (more : List Node) → ExpandsIn found place within (forest_of rest) now after more → ExpandsIn found place within all first after (done ++ more)
+    (after : Context) (more : List Node) → ExpandsIn found place within (forest_of rest) now after more → ExpandsIn found place within all first after (done ++ more)
 
-pub more_text : (found : List ℕ → Option (ℕ × Forest)) (place : List ℕ → Option ℕ) (within : Option ℕ) (all : Forest) (first now : Work) (done next items left : List Node) (x : List ℕ)
+pub more_text : (found : List ℕ → Option (ℕ × Forest)) (place : List ℕ → Option ℕ) (within : Option ℕ) (all : Forest) (first now : Context) (done next items left : List Node) (x : List ℕ)
     → Continues found place within all first now done items → items ≡ Text x ∷ left → next ≡ done ++ Text x ∷ [] → Continues found place within all first now next left
 more_text found place within all first now done next items left x before is push = λ after more rest.
     rw (push, append_assoc done (Text x ∷ []) more) (before after (Text x ∷ more) (rw is (more, rest, refl)))
 
-pub more_reference : (found : List ℕ → Option (ℕ × Forest)) (place : List ℕ → Option ℕ) (within : Option ℕ) (all : Forest) (first now between : Work) (done next here items left : List Node) (t : Tag) (a : List Attr) (c : Forest) (l : ℕ)
+pub more_reference : (found : List ℕ → Option (ℕ × Forest)) (place : List ℕ → Option ℕ) (within : Option ℕ) (all : Forest) (first now between : Context) (done next here items left : List Node) (t : Tag) (a : List Attr) (c : Forest) (l : ℕ)
     → Continues found place within all first now done items → items ≡ Element t a c l ∷ left → is_reference t ≡ true → GivesWay a l (nodes_for found within (name_said a)) now between here → next ≡ done ++ here
     → Continues found place within all first between next left
 more_reference found place within all first now between done next here items left t a c l before is test gives push = λ after more rest.
     rw (push, append_assoc done here more) (before after (here ++ more) (rw is (between, here, more, rw test gives, rest, refl)))
 
-pub more_element : (found : List ℕ → Option (ℕ × Forest)) (place : List ℕ → Option ℕ) (within : Option ℕ) (all : Forest) (first now between : Work) (done next nodes items left : List Node) (t : Tag) (a : List Attr) (c : Forest) (l : ℕ)
+pub more_element : (found : List ℕ → Option (ℕ × Forest)) (place : List ℕ → Option ℕ) (within : Option ℕ) (all : Forest) (first now between : Context) (done next nodes items left : List Node) (t : Tag) (a : List Attr) (c : Forest) (l : ℕ)
     → Continues found place within all first now done items → items ≡ Element t a c l ∷ left → is_reference t ≡ false → ExpandsIn found place (within_element place t a within) c now between nodes
     → next ≡ done ++ Element t a (forest_of nodes) l ∷ [] → Continues found place within all first between next left
 more_element found place within all first now between done next nodes items left t a c l before is test inner push = λ after more rest.
     let here : List Node = Element t a (forest_of nodes) l ∷ [] in
     rw (push, append_assoc done here more) (before after (here ++ more) (rw is (between, here, more, rw test (nodes, inner, refl), rest, refl)))
 
-pub all_expanded : (found : List ℕ → Option (ℕ × Forest)) (place : List ℕ → Option ℕ) (within : Option ℕ) (all : Forest) (first now : Work) (done items : List Node)
+pub all_expanded : (found : List ℕ → Option (ℕ × Forest)) (place : List ℕ → Option ℕ) (within : Option ℕ) (all : Forest) (first now : Context) (done items : List Node)
     → Continues found place within all first now done items → items ≡ [] → ExpandsIn found place within all first now done
 all_expanded found place within all first now done items before is = rw (append-nil done) at (before now [] (rw is (refl, refl)))
 
 -- a document whose nodes were expanded by what is known of its definitions
-pub root_expanded : (root : Node) (before taken expanded after : Work) (known : Definitions) (t : Tag) (a : List Attr) (c children : Forest) (l : ℕ) (nodes : List Node) → root ≡ Element t a c l → AreKnown (definitions_in before.root) known
-    → taken ≡ record before { root = taken.root } → ExpandsIn (found_by known) (known_place known) None c taken expanded nodes → children ≡ forest_of nodes → after ≡ record expanded { root = Element t a children l } → ExpandsRoot root before after
-root_expanded root before taken expanded after known t a c children l nodes is are kept expands become back =
-    let by_names = rw (found_known (definitions_in before.root) known are, place_known (definitions_in before.root) known are) at expands in
-    rw is (taken.root, expanded, nodes, rw kept at by_names, rw become at back)
+pub document_expanded : (document : Document) (before after : Context) (known : Definitions) (children : Forest) (nodes : List Node) → AreKnown (definitions_among document.children) known
+    → ExpandsIn (found_by known) (known_place known) None document.children before after nodes → children ≡ forest_of nodes
+    → IsExpanded (state document before) (state (record document { children = children }) after)
+document_expanded document before after known children nodes are expands become =
+    let all : List Definition = definitions_among document.children in
+    (nodes, rw (found_known all known are, place_known all known are) at expands, ap (λ (c : Forest). record document { children = c }) become)

@@ -1,21 +1,20 @@
 -- A document without substitution references is its own expansion.
 use Rattle.std.proofs.Common.{◌≡◌, ℕ, List, [], ◌∷◌, refl, sym, ◌∙◌, ap, Bool, false}
 use Rattle.std.specs.Prelude.{Option, None}
-use Rattle.std.specs.List.{list_any}
-use Rattle.std.proofs.lemmas.Bool.{or_parts}
-use Rattle.rst_tree.specs.declared.node.Node.{Node}
-use Rattle.rst_tree.specs.declared.node.Node.TheVariants.{Element, Text}
+use Rattle.rst_tree.specs.declared.node.Node.TheVariants.{Element}
 use Rattle.rst_tree.specs.declared.tag.Tag.{Tag}
 use Rattle.rst_tree.specs.declared.tag.Tag.TheVariants.{SubstitutionReference}
 use Rattle.rst_tree.specs.Forest.{Forest, bare, element, words}
 use Rattle.rst_tree.specs.Nodes.{nodes_of}
-use Rattle.rst_tree.specs.Walk.{items, node_items, Item}
+use Rattle.rst_tree.specs.Walk.{Item}
 use Rattle.rst_tree.proofs.Changes.{forest_of-nodes_of}
 use Rattle.rst_tree_index.specs.Kinds.{is_substitution, kinds_of}
 use Rattle.rst_tree_index.proofs.ElementKinds.{lacks-parts, Lacks}
-use Rattle.rst_transform_work.specs.declared.work.Work.{Work}
-use Rattle.rst_transform_substitutions.specs.Definitions.{definitions_in, found_among, place_of_name, Definition}
-use Rattle.rst_transform_substitutions.specs.Expanded.{within_element, ExpandsIn, ExpandsRoot, IsExpanded}
+use Rattle.rst_transform_work.specs.declared.context.Context.{Context}
+use Rattle.rst_transform_work.specs.declared.document.Document.{Document}
+use Rattle.rst_transform_work.specs.States.{elements_of, State}
+use Rattle.rst_transform_substitutions.specs.Definitions.{definitions_among, found_among, place_of_name, Definition}
+use Rattle.rst_transform_substitutions.specs.Expanded.{within_element, ExpandsIn, IsExpanded}
 use Rattle.rst_transform_substitutions.specs.Expansion.{is_reference}
 
 abbrev refers : Item → Bool
@@ -27,32 +26,25 @@ same_test _ = refl
 
 module _ (found : List ℕ → Option (ℕ × Forest)) (place : List ℕ → Option ℕ) where
   -- nodes without references stay
-  nodes_stay : (within : Option ℕ) (f : Forest) (work : Work) → Lacks refers f → ExpandsIn found place within f work work (nodes_of f)
-  nodes_stay within bare work none = (refl, refl)
-  nodes_stay within (words t r) work none = (nodes_of r, nodes_stay within r work none, refl)
-  nodes_stay within (element t a c l r) work none =
+  nodes_stay : (within : Option ℕ) (f : Forest) (context : Context) → Lacks refers f → ExpandsIn found place within f context context (nodes_of f)
+  nodes_stay within bare context none = (refl, refl)
+  nodes_stay within (words t r) context none = (nodes_of r, nodes_stay within r context none, refl)
+  nodes_stay within (element t a c l r) context none =
       let parts = lacks-parts refers t a c l r none in
       let other : is_reference t ≡ false = same_test t ∙ parts.0 in (
-        work,
+        context,
         Element t a c l ∷ [],
         nodes_of r,
-        rw other (nodes_of c, nodes_stay (within_element place t a within) c work parts.1, ap (λ f. Element t a f l ∷ []) (sym (forest_of-nodes_of c))),
-        nodes_stay within r work parts.2,
+        rw other (nodes_of c, nodes_stay (within_element place t a within) c context parts.1, ap (λ f. Element t a f l ∷ []) (sym (forest_of-nodes_of c))),
+        nodes_stay within r context parts.2,
         refl,
       )
 
--- the root is put back around the same nodes
-root_stays : (root : Node) (work : Work) → work.root ≡ root → list_any refers (node_items root) ≡ false → ExpandsRoot root work work
-root_stays (Text t) work is none = refl
-root_stays (Element t a c l) work is none =
-    let all : List Definition = definitions_in work.root in
-    let inner : Lacks refers c = (or_parts (is_substitution t) (list_any refers (items c)) none).1 in (
-      work.root,
-      work,
-      nodes_of c,
-      nodes_stay (found_among all) (place_of_name all) None c work inner,
-      ap (λ n. record work { root = n }) (is ∙ ap (λ f. Element t a f l) (sym (forest_of-nodes_of c))),
+pub stays_expanded : (before : State) → (kinds_of (elements_of before.document)).substitutions ≡ false → IsExpanded before before
+stays_expanded before none =
+    let document : Document = before.document in
+    let all : List Definition = definitions_among document.children in (
+      nodes_of document.children,
+      nodes_stay (found_among all) (place_of_name all) None document.children before.context none,
+      ap (λ (c : Forest). record document { children = c }) (sym (forest_of-nodes_of document.children)),
     )
-
-pub stays_expanded : (work : Work) → (kinds_of (node_items work.root)).substitutions ≡ false → IsExpanded work work
-stays_expanded work none = root_stays work.root work refl none

@@ -7,21 +7,23 @@ use Rattle.rst_tree.specs.declared.node.Node.{Node}
 use Rattle.rst_tree.specs.declared.node.Node.TheVariants.{Element, Text}
 use Rattle.rst_tree.specs.declared.note.Level.TheVariants.{Error}
 use Rattle.rst_tree.specs.declared.tag.Tag.TheVariants.{Problematic}
-use Rattle.rst_transform_work.specs.declared.work.Work.{Work}
-use Rattle.rst_transform_work.specs.Alike.{AreAlike}
+use Rattle.rst_transform_work.specs.declared.context.Context.{Context}
+use Rattle.rst_transform_work.specs.declared.document.Document.{Document}
+use Rattle.rst_transform_work.specs.Alike.{AreAlike, AreContextsAlike}
 use Rattle.rst_transform_work.specs.Reading.{source_said}
 use Rattle.rst_transform_work.specs.Reports.{next_report}
-use Rattle.rst_transform_work.proofs.OneAnswer.{alike_by, alike_with, both, one_problematic, rest_by, rest_of, rest_with, rest_with_reports, IsRestAlike}
+use Rattle.rst_transform_work.specs.States.{State}
+use Rattle.rst_transform_work.proofs.OneAnswer.{both, contexts_by, contexts_with_reports, one_problematic}
 use Rattle.rst_transform_substitutions.specs.declared.expansion.ExpansionFault.{ExpansionFault}
-use Rattle.rst_transform_substitutions.specs.Definitions.{definitions_in, found_among, place_of_name}
-use Rattle.rst_transform_substitutions.specs.Expanded.{within_element, ExpandsIn, ExpandsRoot, GivesWay, IsExpanded, ReportsFault, Whether}
+use Rattle.rst_transform_substitutions.specs.Definitions.{definitions_among, found_among, place_of_name, Definition}
+use Rattle.rst_transform_substitutions.specs.Expanded.{within_element, ExpandsIn, GivesWay, IsExpanded, ReportsFault, Whether}
 use Rattle.rst_transform_substitutions.specs.Expansion.{fault_text, is_reference, name_said, nodes_for}
 
 -- ---- one reference
 
-fault_alike : (attrs : List Attr) (l : ℕ) (fault : ExpansionFault) (a b c d : Work) (x y : Node) → IsRestAlike a b
+fault_alike : (attrs : List Attr) (l : ℕ) (fault : ExpansionFault) (a b c d : Context) (x y : Node) → AreContextsAlike a b
     → ReportsFault attrs l fault a c x → ReportsFault attrs l fault b d y
-    → (x ≡ y) × IsRestAlike c d
+    → (x ≡ y) × AreContextsAlike c d
 fault_alike attrs l fault a b c d x y s f g =
     let told : f.between.reports.items ≡ g.between.reports.items =
     both
@@ -29,17 +31,17 @@ fault_alike attrs l fault a b c d x y s f g =
     ∙ ap (λ rs. rs ++ next_report b.first_number rs Error l (fault_text (name_said attrs) fault) true ∷ []) s.reports)
     f.reports g.reports in
     let place : length a.reports.items ≡ length b.reports.items = ap length s.reports in
-    let made : (f.attrs ≡ g.attrs) × IsRestAlike c d =
+    let made : (f.attrs ≡ g.attrs) × AreContextsAlike c d =
     one_problematic (slice_get f.between.reports.items (length a.reports.items)) (slice_get g.between.reports.items (length b.reports.items))
     (length a.reports.items) (length b.reports.items) f.between g.between c d f.attrs g.attrs (ap₂ slice_get told place) place
-    (rest_with_reports a b f.between g.between s f.rest g.rest told) f.makes g.makes in
+    (contexts_with_reports a b f.between g.between s f.rest g.rest told) f.makes g.makes in
     (both (ap (λ told_attrs. Element Problematic told_attrs (words (source_said attrs) bare) l) made.0) f.is g.is, made.1)
 
-way_alike : (attrs : List Attr) (l : ℕ) (result : Result (List Node) ExpansionFault) (a b c d : Work) (x y : List Node) → IsRestAlike a b
-    → GivesWay attrs l result a c x → GivesWay attrs l result b d y → (x ≡ y) × IsRestAlike c d
-way_alike attrs l (Ok nodes) a b c d x y s f g = (f.1 ∙ sym g.1, rest_by s f.0 g.0)
+way_alike : (attrs : List Attr) (l : ℕ) (result : Result (List Node) ExpansionFault) (a b c d : Context) (x y : List Node) → AreContextsAlike a b
+    → GivesWay attrs l result a c x → GivesWay attrs l result b d y → (x ≡ y) × AreContextsAlike c d
+way_alike attrs l (Ok nodes) a b c d x y s f g = (f.1 ∙ sym g.1, contexts_by s f.0 g.0)
 way_alike attrs l (Err fault) a b c d x y s f g =
-    let told : (f.0 ≡ g.0) × IsRestAlike c d = fault_alike attrs l fault a b c d f.0 g.0 s f.1 g.1 in
+    let told : (f.0 ≡ g.0) × AreContextsAlike c d = fault_alike attrs l fault a b c d f.0 g.0 s f.1 g.1 in
     (both (ap (λ n. n ∷ []) told.0) f.2 g.2, told.1)
 
 -- ---- all references
@@ -51,14 +53,14 @@ of_either true one other first second p q f g = p f g
 of_either false one other first second p q f g = q f g
 
 module _ (found : List ℕ → Option (ℕ × Forest)) (place : List ℕ → Option ℕ) where
-  expansion_alike : (within : Option ℕ) (f : Forest) (a b c d : Work) (x y : List Node) → IsRestAlike a b
-      → ExpandsIn found place within f a c x → ExpandsIn found place within f b d y → (x ≡ y) × IsRestAlike c d
-  expansion_alike within bare a b c d x y s f g = (f.1 ∙ sym g.1, rest_by s f.0 g.0)
+  expansion_alike : (within : Option ℕ) (f : Forest) (a b c d : Context) (x y : List Node) → AreContextsAlike a b
+      → ExpandsIn found place within f a c x → ExpandsIn found place within f b d y → (x ≡ y) × AreContextsAlike c d
+  expansion_alike within bare a b c d x y s f g = (f.1 ∙ sym g.1, contexts_by s f.0 g.0)
   expansion_alike within (words t r) a b c d x y s f g =
-      let more : (f.0 ≡ g.0) × IsRestAlike c d = expansion_alike within r a b c d f.0 g.0 s f.1 g.1 in
+      let more : (f.0 ≡ g.0) × AreContextsAlike c d = expansion_alike within r a b c d f.0 g.0 s f.1 g.1 in
       (both (ap (λ ns. Text t ∷ ns) more.0) f.2 g.2, more.1)
   expansion_alike within (element t attrs nodes l r) a b c d x y s f g =
-      let here : (f.1 ≡ g.1) × IsRestAlike f.0 g.0 =
+      let here : (f.1 ≡ g.1) × AreContextsAlike f.0 g.0 =
       of_either (is_reference t)
       (GivesWay attrs l (nodes_for found within (name_said attrs)) a f.0 f.1)
       ((inner : List Node) × ExpandsIn found place (within_element place t attrs within) nodes a f.0 inner
@@ -68,27 +70,24 @@ module _ (found : List ℕ → Option (ℕ × Forest)) (place : List ℕ → Opt
       × (g.1 ≡ Element t attrs (forest_of inner) l ∷ []))
       (way_alike attrs l (nodes_for found within (name_said attrs)) a b f.0 g.0 f.1 g.1 s)
       (λ p q.
-      let inner : (p.0 ≡ q.0) × IsRestAlike f.0 g.0 =
+      let inner : (p.0 ≡ q.0) × AreContextsAlike f.0 g.0 =
       expansion_alike (within_element place t attrs within) nodes a b f.0 g.0 p.0 q.0 s p.1 q.1 in
       (both (ap (λ ns. Element t attrs (forest_of ns) l ∷ []) inner.0) p.2 q.2, inner.1))
       f.3 g.3 in
-      let more : (f.2 ≡ g.2) × IsRestAlike c d = expansion_alike within r f.0 g.0 c d f.2 g.2 here.1 f.4 g.4 in
+      let more : (f.2 ≡ g.2) × AreContextsAlike c d = expansion_alike within r f.0 g.0 c d f.2 g.2 here.1 f.4 g.4 in
       (both (ap₂ (λ (first rest : List Node). first ++ rest) here.0 more.0) f.5 g.5, more.1)
 
 -- ---- the document
 
-root_alike : (n : Node) (a b c d : Work) → AreAlike a b → ExpandsRoot n a c → ExpandsRoot n b d → AreAlike c d
-root_alike (Text t) a b c d s f g = alike_by s f g
-root_alike (Element t attrs nodes l) a b c d s f g =
-    let out : IsRestAlike (record a { root = f.0 }) (record b { root = g.0 }) = rest_with a b f.0 g.0 (rest_of s) in
-    let done : (f.2 ≡ g.2) × IsRestAlike f.1 g.1 =
-    expansion_alike (found_among (definitions_in b.root)) (place_of_name (definitions_in b.root)) None nodes
-    (record a { root = f.0 }) (record b { root = g.0 }) f.1 g.1 f.2 g.2 out
-    (subst (λ all. ExpandsIn (found_among all) (place_of_name all) None nodes (record a { root = f.0 }) f.1 f.2) (ap definitions_in s.root) f.3)
-    g.3 in
-    alike_by
-    (alike_with f.1 g.1 (Element t attrs (forest_of f.2) l) (Element t attrs (forest_of g.2) l) done.1 (ap (λ ns. Element t attrs (forest_of ns) l) done.0))
-    f.4 g.4
-
-pub expanded_alike : (a b c d : Work) → AreAlike a b → IsExpanded a c → IsExpanded b d → AreAlike c d
-expanded_alike a b c d s f g = root_alike b.root a b c d s (subst (λ n. ExpandsRoot n a c) s.root f) g
+pub expanded_alike : (a b c d : State) → AreAlike a b → IsExpanded a c → IsExpanded b d → AreAlike c d
+expanded_alike a b c d s f g =
+    let all : List Definition = definitions_among b.document.children in
+    let first : ExpandsIn (found_among all) (place_of_name all) None b.document.children a.context c.context f.0 =
+    subst (λ (document : Document). ExpandsIn (found_among (definitions_among document.children)) (place_of_name (definitions_among document.children)) None document.children a.context c.context f.0)
+    s.document f.1 in
+    let done : (f.0 ≡ g.0) × AreContextsAlike c.context d.context =
+    expansion_alike (found_among all) (place_of_name all) None b.document.children a.context b.context c.context d.context f.0 g.0 s.context first g.1 in
+    record {
+      document = both (ap₂ (λ (document : Document) (nodes : List Node). record document { children = forest_of nodes }) s.document done.0) f.2 g.2;
+      context = done.1;
+    }

@@ -4,8 +4,6 @@ use Rattle.std.specs.BTreeMap.{get_by_text}
 use Rattle.std.specs.Str.{bytes_eq}
 use Rattle.rst_tree.specs.declared.attrs.Attr.{Attr}
 use Rattle.rst_tree.specs.declared.key.Key.TheVariants.{OwnName}
-use Rattle.rst_tree.specs.declared.node.Node.{Node}
-use Rattle.rst_tree.specs.declared.node.Node.TheVariants.{Element, Text}
 use Rattle.rst_tree.specs.declared.tag.Tag.{Tag}
 use Rattle.rst_tree.specs.declared.tag.Tag.TheVariants.{SubstitutionDefinition}
 use Rattle.rst_tree.specs.Attributes.{said_text, value_of}
@@ -32,11 +30,6 @@ abbrev pub definitions_among : Forest → List Definition
 definitions_among bare = []
 definitions_among (words t r) = definitions_among r
 definitions_among (element t a c l r) = own_definition t a c ++ (definitions_among c ++ definitions_among r)
-
--- those in a document
-abbrev pub definitions_in : Node → List Definition
-definitions_in (Element t a c l) = own_definition t a c ++ definitions_among c
-definitions_in (Text t) = []
 
 -- the place of the last of some definitions whose name passes a test, behind so many others, or else that among those
 abbrev pub last_place : (List ℕ → Bool) → ℕ → Option ℕ → List Definition → Option ℕ
@@ -73,7 +66,7 @@ placed contents (Some place) = with_place place (slice_get contents place)
 abbrev pub found_among : List Definition → List ℕ → Option (ℕ × Forest)
 found_among all name = placed (map (λ one. one.1) all) (place_found all name)
 
--- the definitions that a document's are known by
+-- some definitions are known by their names
 pub record AreKnown (all : List Definition) (known : Definitions) : Type 0 where
   pub contents : known.contents.items ≡ map (λ one. one.1) all
   pub exact : (name : List ℕ) → get_by_text known.exact name ≡ place_of_name all name

@@ -12,21 +12,22 @@ use Rattle.rst_tree.specs.Attributes.{said_text, value_of}
 use Rattle.rst_tree.specs.Forest.{Forest, bare, element, words}
 use Rattle.rst_tree.specs.Nodes.{forest_of}
 use Rattle.rst_transform_substitutions.specs.declared.expansion.ExpansionFault.{ExpansionFault}
-use Rattle.rst_transform_work.specs.declared.work.Report.{Report}
-use Rattle.rst_transform_work.specs.declared.work.Work.{Work}
-use Rattle.rst_transform_substitutions.specs.Definitions.{definitions_in, found_among, place_of_name, Definition}
+use Rattle.rst_transform_work.specs.declared.context.Context.{Context}
+use Rattle.rst_transform_work.specs.declared.report.Report.{Report}
+use Rattle.rst_transform_substitutions.specs.Definitions.{definitions_among, found_among, place_of_name, Definition}
 use Rattle.rst_transform_substitutions.specs.Expansion.{fault_text, is_reference, name_said, nodes_for}
 use Rattle.rst_transform_work.specs.Problematics.{MakesProblematic}
 use Rattle.rst_transform_work.specs.Reading.{source_said}
 use Rattle.rst_transform_work.specs.Reports.{next_report, KeepsRest}
+use Rattle.rst_transform_work.specs.States.{State}
 
 -- the ERROR on a reference that isn't replaced, behind the messages so far
-abbrev pub error_on : List Attr → ℕ → ExpansionFault → Work → Report
-error_on a l fault work = next_report work.first_number work.reports.items Error l (fault_text (name_said a) fault) true
+abbrev pub error_on : List Attr → ℕ → ExpansionFault → Context → Report
+error_on a l fault context = next_report context.first_number context.reports.items Error l (fault_text (name_said a) fault) true
 
 -- a reference that isn't replaced becomes the problematic of an ERROR, with its source text
-pub record ReportsFault (a : List Attr) (l : ℕ) (fault : ExpansionFault) (before after : Work) (node : Node) : Type 0 where
-  pub between : Work
+pub record ReportsFault (a : List Attr) (l : ℕ) (fault : ExpansionFault) (before after : Context) (node : Node) : Type 0 where
+  pub between : Context
   pub reports : between.reports.items ≡ before.reports.items ++ error_on a l fault before ∷ []
   pub rest : KeepsRest before between
   pub attrs : List Attr
@@ -34,7 +35,7 @@ pub record ReportsFault (a : List Attr) (l : ℕ) (fault : ExpansionFault) (befo
   pub is : node ≡ Element Problematic attrs (words (source_said a) bare) l
 
 -- a reference gives way to nodes, or to that problematic
-abbrev pub GivesWay : List Attr → ℕ → Result (List Node) ExpansionFault → Work → Work → List Node → Type 0
+abbrev pub GivesWay : List Attr → ℕ → Result (List Node) ExpansionFault → Context → Context → List Node → Type 0
 GivesWay a l (Ok nodes) before after done = (after ≡ before) × (done ≡ nodes)
 GivesWay a l (Err fault) before after done = (node : Node) × ReportsFault a l fault before after node × (done ≡ node ∷ [])
 
@@ -55,24 +56,20 @@ Whether false one other = other
 module _ (found : List ℕ → Option (ℕ × Forest)) (place : List ℕ → Option ℕ) where
   -- The references among some nodes, and in them, gave way in the order of the document, and these nodes came of it. They stand in the
   -- definition at a place, or in none.
-  abbrev pub ExpandsIn : Option ℕ → Forest → Work → Work → List Node → Type 0
+  abbrev pub ExpandsIn : Option ℕ → Forest → Context → Context → List Node → Type 0
   ExpandsIn within bare before after done = (after ≡ before) × (done ≡ [])
   ExpandsIn within (words t r) before after done = (more : List Node) × ExpandsIn within r before after more × (done ≡ Text t ∷ more)
   ExpandsIn within (element t a c l r) before after done =
-      (between : Work) × (here : List Node) × (more : List Node)
+      (between : Context) × (here : List Node) × (more : List Node)
       × Whether (is_reference t) (GivesWay a l (nodes_for found within (name_said a)) before between here)
       ((nodes : List Node) × ExpandsIn (within_element place t a within) c before between nodes × (here ≡ Element t a (forest_of nodes) l ∷ []))
       × ExpandsIn within r between after more
       × (done ≡ here ++ more)
 
--- the document before and after; its root is taken out, and put back around what its nodes became
-abbrev pub ExpandsRoot : Node → Work → Work → Type 0
-ExpandsRoot (Text t) before after = after ≡ before
-ExpandsRoot (Element t a c l) before after =
-    let all : List Definition = definitions_in before.root in
-    (out : Node) × (expanded : Work) × (nodes : List Node)
-    × ExpandsIn (found_among all) (place_of_name all) None c (record before { root = out }) expanded nodes
-    × (after ≡ record expanded { root = Element t a (forest_of nodes) l })
-
-abbrev pub IsExpanded : Work → Work → Type 0
-IsExpanded before after = ExpandsRoot before.root before after
+-- each reference in a document gives way, by the definitions in the document
+abbrev pub IsExpanded : State → State → Type 0
+IsExpanded before after =
+    let all : List Definition = definitions_among before.document.children in
+    (nodes : List Node)
+    × ExpandsIn (found_among all) (place_of_name all) None before.document.children before.context after.context nodes
+    × (after.document ≡ record before.document { children = forest_of nodes })

@@ -3,7 +3,7 @@ ghost use Rattle.std.specs.Prelude.{◌≡◌, ◌∷◌, ◌++◌, [], if◌the
 ghost use Rattle.std.specs.BTreeMap.{get_by_text};
 ghost use Rattle.std.specs.Str.{bytes_eq};
 ghost use Rattle.rst_tree.specs.Faults.{Gives};
-ghost use Rattle.rst_transform_substitutions.specs.Definitions.{defined, definitions_among, definitions_in, known_found, known_place, own_definition, AreKnown, Definition};
+ghost use Rattle.rst_transform_substitutions.specs.Definitions.{defined, definitions_among, known_found, known_place, own_definition, AreKnown, Definition};
 
 use rst_transform_work::{copies, folded, said};
 use rst_tree::{Attrs, Children, Key, Node, Tag, TreeFault};
@@ -34,11 +34,12 @@ pub struct Definitions {
 }
 
 impl Definitions {
-    /// The definitions in a document.
-    pub fn of(alloc: Global, root: &Node) -> Result<Definitions, TreeFault>
-        ensures { Gives (AreKnown (definitions_in root.now)) result }
+    /// The definitions among the nodes of a document, and in them.
+    pub fn of(alloc: Global, nodes: &Children) -> Result<Definitions, TreeFault>
+        ensures { Gives (AreKnown (definitions_among nodes.now)) result }
     {
-        let list = defined_in(alloc, root)?;
+        let mut list = Vec::new(alloc);
+        add_defined(nodes, &mut list)?;
         let mut definitions = Definitions {
             contents: Vec::with_capacity(alloc, list.len())?,
             exact: BTreeMap::new(alloc),
@@ -98,25 +99,7 @@ fn know(places: &mut BTreeMap<String, usize>, name: String, place: usize) -> Res
     Ok(())
 }
 
-/// The definitions in a document, in preorder.
-fn defined_in<'a>(alloc: Global, root: &'a Node) -> Result<Vec<Defined<'a>>, TreeFault>
-    ensures { Gives (λ list. map defined list.items ≡ definitions_in root.now) result }
-{
-    let mut list = Vec::new(alloc);
-    if let Node::Element {
-        tag,
-        attrs,
-        children,
-        ..
-    } = root
-    {
-        add_own(*tag, attrs, children, &mut list)?;
-        add_defined(children, &mut list)?;
-    }
-    Ok(list)
-}
-
-/// Adds the definitions among nodes, and in them.
+/// Adds the definitions among nodes, and in them, in preorder.
 fn add_defined<'a>(nodes: &'a Children, list: &mut Vec<Defined<'a>>) -> Result<(), TreeFault>
     ensures { Gives (λ _. map defined list.new.items ≡ map defined list.old.items ++ definitions_among nodes.now) result }
 {

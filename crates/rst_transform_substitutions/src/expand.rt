@@ -3,8 +3,8 @@ ghost use Rattle.std.specs.Prelude.{◌≡◌, ◌++◌, false, List, OnOk};
 ghost use Rattle.rst_tree.specs.declared.node.Node.{Node as AnyNode};
 ghost use Rattle.rst_tree.specs.Faults.{Gives};
 ghost use Rattle.rst_tree.specs.Nodes.{forest_of};
-ghost use Rattle.rst_tree.specs.Walk.{node_items};
 ghost use Rattle.rst_tree_index.specs.Kinds.{kinds_of, HasNoNewKinds};
+ghost use Rattle.rst_transform_work.specs.States.{elements_of, state};
 ghost use Rattle.rst_transform_substitutions.specs.Definitions.{found_by, known_place};
 ghost use Rattle.rst_transform_substitutions.specs.Expanded.{within_element, ExpandsIn, GivesWay, IsExpanded, ReportsFault};
 ghost use Rattle.rst_transform_substitutions.specs.Expansion.{name_said, nodes_for};
@@ -13,7 +13,7 @@ ghost use Rattle.rst_transform_substitutions.specs.Outcomes.{Remembers};
 use crate::definitions::Definitions;
 use crate::expansion::{ExpansionFault, is_reference};
 use crate::outcomes::{Outcome, Outcomes, reference_outcome};
-use rst_transform_work::{Work, said, take_root, take_source};
+use rst_transform_work::{Context, Document, said, take_source};
 use rst_tree::{Attrs, Children, Key, Level, Node, Tag, TreeFault};
 use std::alloc::Global;
 
@@ -42,45 +42,32 @@ use std::alloc::Global;
 /// `has` says whether the document may have a reference; without one it stays as it is.
 ///
 /// The only refusal is [`TreeFault::NoMemory`].
-pub fn expand(alloc: Global, work: Work, has: bool) -> Result<Work, TreeFault>
-    requires has { has ≡ false → (kinds_of (node_items work.root)).substitutions ≡ false }
-    ensures expanded { Gives (IsExpanded work) result }
-    ensures kinds { Gives (λ after. HasNoNewKinds (node_items work.root) (node_items after.root)) result }
+pub fn expand(
+    alloc: Global,
+    document: Document,
+    context: &mut Context,
+    has: bool,
+) -> Result<Document, TreeFault>
+    requires has { has ≡ false → (kinds_of (elements_of document)).substitutions ≡ false }
+    ensures expanded { Gives (λ after. IsExpanded (state document context.old) (state after context.new)) result }
+    ensures kinds { Gives (λ after. HasNoNewKinds (elements_of document) (elements_of after)) result }
 {
     if !has {
-        return Ok(work);
+        return Ok(document);
     }
-    expanded_root(alloc, work)
-}
-
-/// Replaces the references in the root.
-fn expanded_root(alloc: Global, mut work: Work) -> Result<Work, TreeFault>
-    ensures { Gives (IsExpanded work) result }
-{
-    let definitions = Definitions::of(alloc, &work.root)?;
-    match take_root(alloc, &mut work) {
-        Node::Text(text) => {
-            work.root = Node::Text(text);
-            Ok(work)
-        }
-        Node::Element {
-            tag,
-            attrs,
-            children,
-            line,
-        } => {
-            let mut outcomes = Outcomes::new(alloc);
-            let outcomes = &mut outcomes;
-            let children = expanded_in(alloc, &definitions, children, None, outcomes, &mut work)?;
-            work.root = Node::Element {
-                tag,
-                attrs,
-                children,
-                line,
-            };
-            Ok(work)
-        }
-    }
+    let Document {
+        attrs,
+        children,
+        line,
+    } = document;
+    let definitions = Definitions::of(alloc, &children)?;
+    let mut outcomes = Outcomes::new(alloc);
+    let children = expanded_in(alloc, &definitions, children, None, &mut outcomes, context)?;
+    Ok(Document {
+        attrs,
+        children,
+        line,
+    })
 }
 
 /// Replaces the references in nodes, in document order; `within` is the definition that the nodes stand in.
@@ -90,10 +77,10 @@ fn expanded_in(
     nodes: Children,
     within: Option<usize>,
     outcomes: &mut Outcomes,
-    work: &mut Work,
+    context: &mut Context,
 ) -> Result<Children, TreeFault>
     requires { Remembers definitions.now outcomes.old }
-    ensures expanded { Gives (λ done. (list : List AnyNode) × ExpandsIn (found_by definitions.now) (known_place definitions.now) within nodes work.old work.new list × (done ≡ forest_of list)) result }
+    ensures expanded { Gives (λ done. (list : List AnyNode) × ExpandsIn (found_by definitions.now) (known_place definitions.now) within nodes context.old context.new list × (done ≡ forest_of list)) result }
     ensures remembers { OnOk result (Remembers definitions.now outcomes.new) }
 {
     let mut done = Vec::with_capacity(alloc, nodes.len())?;
@@ -118,12 +105,19 @@ fn expanded_in(
                         line,
                         within,
                         outcomes,
-                        work,
+                        context,
                     )?;
                     continue;
                 }
                 let within = within_element(definitions, tag, &attrs, within);
-                let children = expanded_in(alloc, definitions, children, within, outcomes, work)?;
+                let children = expanded_in(
+                    alloc,
+                    definitions,
+                    children,
+                    within,
+                    outcomes,
+                    context,
+                )?;
                 done.push(Node::Element {
                     tag,
                     attrs,
@@ -161,10 +155,10 @@ fn with_replaced(
     line: usize,
     within: Option<usize>,
     outcomes: &mut Outcomes,
-    work: &mut Work,
+    context: &mut Context,
 ) -> Result<Vec<Node>, TreeFault>
     requires { Remembers definitions.now outcomes.old }
-    ensures gives_way { let wanted = nodes_for (found_by definitions.now) within (name_said attrs) in Gives (λ all. (here : List AnyNode) × GivesWay attrs line wanted work.old work.new here × (all.items ≡ nodes.items ++ here)) result }
+    ensures gives_way { let wanted = nodes_for (found_by definitions.now) within (name_said attrs) in Gives (λ all. (here : List AnyNode) × GivesWay attrs line wanted context.old context.new here × (all.items ≡ nodes.items ++ here)) result }
     ensures remembers { OnOk result (Remembers definitions.now outcomes.new) }
 {
     let name = said(&attrs, Key::Refname);
@@ -175,7 +169,7 @@ fn with_replaced(
             Ok(nodes)
         }
         Outcome::Fault(fault) => {
-            let problematic = problematic(alloc, attrs, line, fault, work)?;
+            let problematic = problematic(alloc, attrs, line, fault, context)?;
             nodes.push(problematic)?;
             Ok(nodes)
         }
@@ -188,13 +182,13 @@ fn problematic(
     mut attrs: Attrs,
     line: usize,
     fault: ExpansionFault,
-    work: &mut Work,
+    context: &mut Context,
 ) -> Result<Node, TreeFault>
-    ensures { Gives (ReportsFault attrs line fault work.old work.new) result }
+    ensures { Gives (ReportsFault attrs line fault context.old context.new) result }
 {
     let text = fault.text(alloc, said(&attrs, Key::Refname))?;
-    let report = work.report(alloc, Level::Error, line, text, true)?;
+    let report = context.report(alloc, Level::Error, line, text, true)?;
     let source = take_source(alloc, &mut attrs)?;
-    let node = work.problematic(alloc, report, source, line)?;
+    let node = context.problematic(alloc, report, source, line)?;
     Ok(node)
 }

@@ -1,5 +1,5 @@
 //! What stands for one substitution reference.
-ghost use Rattle.std.specs.Prelude.{◌≡◌, ◌+◌, ◌++◌, ◌==◌, ◌≤◌, nat_le, true, take, vec_len, ◌-◌, OnOk};
+ghost use Rattle.std.specs.Prelude.{◌≡◌, ◌+◌, ◌==◌, ◌≤◌, nat_le, true, take, vec_len, ◌-◌, OnOk};
 ghost use Rattle.std.specs.List.{list_any};
 ghost use Rattle.rst_tree.specs.Faults.{Gives};
 ghost use Rattle.rst_transform_substitutions.specs.declared.expansion.ExpansionFault.TheVariants.{Undefined};
@@ -10,7 +10,7 @@ ghost use Rattle.rst_transform_substitutions.specs.Expansion.{behind, copied, ex
 use crate::definitions::Definitions;
 use rst_transform_work::said;
 use rst_tree::{Attrs, Children, Key, Node, Tag, Text, TreeFault};
-use std::alloc::{AllocError, AllocFailed, Global};
+use std::alloc::{AllocFailed, Global};
 
 /// The most definitions that are gone into for one reference, each found in the one before.
 const MOST_NESTED: usize = 100;

@@ -9,8 +9,8 @@ use Rattle.rst_tree.specs.Attributes.{attr}
 use Rattle.rst_tree.specs.TagNames.{hyphenated, tag_name}
 use Rattle.rst_transform_names.specs.declared.ids.Ids.{Ids}
 use Rattle.rst_transform_names.specs.Ids.{is_taken, IsNumbered, Takes}
-use Rattle.rst_transform_work.specs.declared.work.Report.{Report}
-use Rattle.rst_transform_work.specs.declared.work.Work.{Work}
+use Rattle.rst_transform_work.specs.declared.report.Report.{Report}
+use Rattle.rst_transform_work.specs.declared.context.Context.{Context}
 
 -- a new id of a kind's name is taken
 abbrev pub NewId : Tag → List ℕ → Ids → Ids → Type 0
@@ -35,7 +35,7 @@ abbrev pub problematic_attrs : List ℕ → Option (ℕ × List ℕ) → List At
 problematic_attrs id message = attr IdsKey (Listed (id ∷ [])) ∷ message_attrs message
 
 -- the next problematic of a message, which is the one at a place
-pub record IsNext (r : Report) (place : ℕ) (before after : Work) (attrs : List Attr) : Type 0 where
+pub record IsNext (r : Report) (place : ℕ) (before after : Context) (attrs : List Attr) : Type 0 where
   pub id : List ℕ
   pub own : List ℕ
   pub between : Ids
@@ -46,13 +46,13 @@ pub record IsNext (r : Report) (place : ℕ) (before after : Work) (attrs : List
   pub rest : after ≡ record before { ids = after.ids; reports = after.reports }
 
 -- a problematic without message
-pub record IsAlone (before after : Work) (attrs : List Attr) : Type 0 where
+pub record IsAlone (before after : Context) (attrs : List Attr) : Type 0 where
   pub id : List ℕ
   pub new_id : NewId Problematic id before.ids after.ids
   pub says : attrs ≡ problematic_attrs id None
   pub rest : after ≡ record before { ids = after.ids }
 
 -- the next problematic of the message at a place, if there is that
-abbrev pub MakesProblematic : Option Report → ℕ → Work → Work → List Attr → Type 0
+abbrev pub MakesProblematic : Option Report → ℕ → Context → Context → List Attr → Type 0
 MakesProblematic (Some r) place before after attrs = IsNext r place before after attrs
 MakesProblematic None place before after attrs = IsAlone before after attrs

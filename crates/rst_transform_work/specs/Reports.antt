@@ -9,8 +9,8 @@ use Rattle.rst_tree.specs.declared.note.Note.{Note}
 use Rattle.rst_tree.specs.Attributes.{attr}
 use Rattle.rst_tree.specs.LevelNames.{level_number}
 use Rattle.rst_tree.specs.Messages.{message_with}
-use Rattle.rst_transform_work.specs.declared.work.Report.{Report}
-use Rattle.rst_transform_work.specs.declared.work.Work.{Work}
+use Rattle.rst_transform_work.specs.declared.report.Report.{Report}
+use Rattle.rst_transform_work.specs.declared.context.Context.{Context}
 
 -- what the message says, for the list of messages
 abbrev pub report_note : Report → Note
@@ -39,5 +39,5 @@ next_report first reports level line text own =
     record { level = level; line = line; text = text; number = min (first + length reports) (2 ^ 64 - 1); id = None; backrefs = []; own = own }
 
 -- all but the messages is as it was
-abbrev pub KeepsRest : Work → Work → Type 0
+abbrev pub KeepsRest : Context → Context → Type 0
 KeepsRest old new = new ≡ record old { reports = new.reports }

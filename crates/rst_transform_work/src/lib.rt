@@ -1,17 +1,21 @@
-//! What passes from one transform to the next: the tree, its names and ids, and the messages so far; and how transforms read and change elements.
+//! What passes from one transform to the next: the document, its names and ids, and the messages so far; and how transforms read and change elements.
 #![tactic(auto)]
 
+mod context;
+mod document;
 pub mod laws;
 mod lists;
 mod problematics;
 mod reading;
+mod report;
 mod texts;
-mod work;
 
+pub use context::Context;
+pub use document::Document;
 pub use lists::{append, append_names, at_place, take_list};
 pub use problematics::ProblematicAttrs;
 pub use reading::{
     first_said, has, is_title, line_of, list_said, may_precede, number_said, said, text_said,
 };
+pub use report::Report;
 pub use texts::{add_names, copies, folded, identified, take_source};
-pub use work::{Report, Work, take_root};

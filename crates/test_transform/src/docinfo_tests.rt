@@ -1,6 +1,6 @@
 //! Documents before and after their leading field list becomes a bibliography.
 
-use crate::outline::{named, shown, work};
+use crate::outline::{context, document, naming, shown};
 use rst_transform_docinfo::docinfo::docinfo;
 use rst_transform_names::NameEntry;
 use std::test::Fail;
@@ -240,8 +240,10 @@ const ROWS: &[(&str, &str)] = &[
 fn field_lists_become_bibliographies(rt: HostRuntime) -> Result<(), Fail> {
     let alloc = rt.alloc();
     for &(before, after) in ROWS {
-        let changed = docinfo(alloc, work(alloc, before)?)?;
-        assert_eq!(rt; shown(alloc, changed)?.as_str(), after);
+        let document = document(alloc, before)?;
+        let mut context = context(alloc);
+        let changed = docinfo(alloc, document, &mut context)?;
+        assert_eq!(rt; shown(alloc, changed, &context)?.as_str(), after);
     }
     Ok(())
 }
@@ -265,12 +267,14 @@ fn uris_of_targets_that_leave_are_kept(rt: HostRuntime) -> Result<(), Fail> {
         <author>
             Ann
 ";
-    let changed = docinfo(alloc, named(alloc, before)?)?;
-    let uri = match changed.names.get("author") {
+    let document = document(alloc, before)?;
+    let mut context = naming(alloc, &document)?;
+    let changed = docinfo(alloc, document, &mut context)?;
+    let uri = match context.names.get("author") {
         Some(NameEntry { uri: Some(uri), .. }) => uri.as_str(),
         _ => "none",
     };
     assert_eq!(rt; uri, "u");
-    assert_eq!(rt; shown(alloc, changed)?.as_str(), after);
+    assert_eq!(rt; shown(alloc, changed, &context)?.as_str(), after);
     Ok(())
 }

@@ -1,6 +1,6 @@
 //! Documents before and after substitution references are replaced.
 
-use crate::outline::{shown, work};
+use crate::outline::{context, document, shown};
 use rst_transform_substitutions::expand::expand;
 use rst_tree::TreeFault;
 use std::alloc::Global;
@@ -143,8 +143,10 @@ const ROWS: &[(&str, &str)] = &[
 fn references_are_replaced(rt: HostRuntime) -> Result<(), Fail> {
     let alloc = rt.alloc();
     for &(before, after) in ROWS {
-        let expanded = expand(alloc, work(alloc, before)?, true)?;
-        assert_eq!(rt; shown(alloc, expanded)?.as_str(), after);
+        let document = document(alloc, before)?;
+        let mut context = context(alloc);
+        let expanded = expand(alloc, document, &mut context, true)?;
+        assert_eq!(rt; shown(alloc, expanded, &context)?.as_str(), after);
     }
     Ok(())
 }
@@ -195,8 +197,10 @@ fn expansions_are_bounded(rt: HostRuntime) -> Result<(), Fail> {
     ];
     for (definitions, copies, length, fits) in rows {
         let outline = chain(alloc, definitions, copies, length)?;
-        let expanded = expand(alloc, work(alloc, outline.as_str())?, true)?;
-        match expanded.reports.first() {
+        let document = document(alloc, outline.as_str())?;
+        let mut context = context(alloc);
+        expand(alloc, document, &mut context, true)?;
+        match context.reports.first() {
             None => assert!(rt; fits),
             Some(report) => {
                 assert!(rt; !fits);

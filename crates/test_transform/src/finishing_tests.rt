@@ -1,6 +1,6 @@
 //! Parsed documents and what they are when all is done, as lines of their trees.
 
-use crate::outline::{printed, tree};
+use crate::outline::{document, printed};
 use rst_settings::{Settings, Threshold};
 use rst_transform::{Finished, finish};
 use rst_tree_index::Marked;
@@ -233,12 +233,12 @@ fn finishes_documents(rt: HostRuntime) -> Result<(), Fail> {
         let mut settings = Settings::usual();
         settings.report = report;
         settings.halt = halt;
-        let document = Marked::of(alloc, tree(alloc, before)?)?;
+        let parsed = Marked::of(alloc, document(alloc, before)?.into_node())?;
         let Finished {
             document,
             notes,
             ..
-        } = finish(alloc, document, 10, &settings)?;
+        } = finish(alloc, parsed, 10, &settings)?;
         let mut text = printed(alloc, document)?;
         for note in &notes {
             let level = note.level.number();

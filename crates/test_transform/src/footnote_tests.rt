@@ -1,6 +1,6 @@
 //! Documents before and after footnotes are numbered and names resolved.
 
-use crate::outline::{named, shown};
+use crate::outline::{document, naming, shown};
 use rst_transform_footnotes::footnotes::footnotes;
 use rst_transform_references::resolve::resolve;
 use std::test::Fail;
@@ -269,8 +269,10 @@ const RESOLVE: &[(&str, &str)] = &[
 fn numbers_footnotes(rt: HostRuntime) -> Result<(), Fail> {
     let alloc = rt.alloc();
     for &(before, after) in FOOTNOTES {
-        let work = footnotes(alloc, named(alloc, before)?, true)?;
-        assert_eq!(rt; shown(alloc, work)?.as_str(), after);
+        let document = document(alloc, before)?;
+        let mut context = naming(alloc, &document)?;
+        let changed = footnotes(alloc, document, &mut context, true)?;
+        assert_eq!(rt; shown(alloc, changed, &context)?.as_str(), after);
     }
     Ok(())
 }
@@ -279,8 +281,10 @@ fn numbers_footnotes(rt: HostRuntime) -> Result<(), Fail> {
 fn resolves_names(rt: HostRuntime) -> Result<(), Fail> {
     let alloc = rt.alloc();
     for &(before, after) in RESOLVE {
-        let work = resolve(alloc, named(alloc, before)?, true)?;
-        assert_eq!(rt; shown(alloc, work)?.as_str(), after);
+        let document = document(alloc, before)?;
+        let mut context = naming(alloc, &document)?;
+        let changed = resolve(alloc, document, &mut context, true)?;
+        assert_eq!(rt; shown(alloc, changed, &context)?.as_str(), after);
     }
     Ok(())
 }

@@ -4,8 +4,8 @@
 
 use rst_text::Counted;
 use rst_transform_names::{Holder, Ids, NameEntry, Names, Strength};
-use rst_transform_work::Work;
-use rst_tree::{Attrs, Key, Node, Said, Tag, Text, Texts, Tree, TreeFault, Value, print};
+use rst_transform_work::{Context, Document};
+use rst_tree::{Attrs, Children, Key, Node, Said, Tag, Text, Texts, Tree, TreeFault, Value, print};
 use std::alloc::Global;
 use std::test::Fail;
 use test_outline::outline;
@@ -114,7 +114,7 @@ fn node_of(alloc: Global, said: &str, line: usize) -> Result<Node, TreeFault> {
     Ok(Node::Element {
         tag,
         attrs,
-        children: rst_tree::Children::new(alloc),
+        children: Children::new(alloc),
         line,
     })
 }
@@ -129,8 +129,8 @@ fn close(open: &mut Vec<Node>) -> Result<(), TreeFault> {
     Ok(())
 }
 
-/// The tree of an outline, whose first line is the root; the line of an element is the number of its own.
-pub fn tree(alloc: Global, outline: &str) -> Result<Node, TreeFault> {
+/// The document of an outline, whose first line it is; the line of an element is the number of its own.
+pub fn document(alloc: Global, outline: &str) -> Result<Document, TreeFault> {
     let mut open = Vec::new(alloc);
     for (i, line) in outline.lines().enumerate() {
         let said = line.trim_start();
@@ -144,21 +144,35 @@ pub fn tree(alloc: Global, outline: &str) -> Result<Node, TreeFault> {
         close(&mut open)?;
     }
     match open.pop() {
-        Some(root) => Ok(root),
-        None => Ok(Node::element(alloc, Tag::Document, 0)),
+        Some(
+            Node::Element {
+                attrs,
+                children,
+                line,
+                ..
+            },
+        ) => Ok(Document {
+            attrs,
+            children,
+            line,
+        }),
+        _ => Ok(Document {
+            attrs: Attrs::new(alloc),
+            children: Children::new(alloc),
+            line: 0,
+        }),
     }
 }
 
-/// The document of an outline before a transform, without names and earlier messages.
-pub fn work(alloc: Global, outline: &str) -> Result<Work, TreeFault> {
-    Ok(Work {
-        root: tree(alloc, outline)?,
+/// What is known before a transform: no name and no earlier message.
+pub fn context(alloc: Global) -> Context {
+    Context {
         ids: Ids::new(alloc),
         names: Names::new(alloc),
         reports: Vec::new(alloc),
         first_number: 0,
         serials: 0,
-    })
+    }
 }
 
 /// The holder of the names of an element.
@@ -200,30 +214,30 @@ fn hold_listed(
     Ok(())
 }
 
-/// Lets the elements of a node hold their names, and nobody those that they lost.
-fn hold_names(alloc: Global, node: &Node, names: &mut Names) -> Result<(), TreeFault> {
-    if let Node::Element {
-        tag,
-        attrs,
-        children,
-        ..
-    } = node
-    {
-        hold_listed(alloc, *tag, attrs, Key::Names, holder(attrs), names)?;
-        hold_listed(alloc, *tag, attrs, Key::Dupnames, Holder::Nobody, names)?;
-        for child in children.as_slice() {
-            hold_names(alloc, child, names)?;
+/// Lets elements hold their names, and nobody those that they lost.
+fn hold_names(alloc: Global, nodes: &Children, names: &mut Names) -> Result<(), TreeFault> {
+    for node in nodes.as_slice() {
+        if let Node::Element {
+            tag,
+            attrs,
+            children,
+            ..
+        } = node
+        {
+            hold_listed(alloc, *tag, attrs, Key::Names, holder(attrs), names)?;
+            hold_listed(alloc, *tag, attrs, Key::Dupnames, Holder::Nobody, names)?;
+            hold_names(alloc, children, names)?;
         }
     }
     Ok(())
 }
 
-/// The document of an outline with the names that stand in it; the id of each is the name itself.
-pub fn named(alloc: Global, outline: &str) -> Result<Work, TreeFault> {
-    let mut work = work(alloc, outline)?;
-    hold_names(alloc, &work.root, &mut work.names)?;
-    work.serials = 10;
-    Ok(work)
+/// What is known before a transform of a document whose elements hold their names; the id of each is the name itself.
+pub fn naming(alloc: Global, document: &Document) -> Result<Context, TreeFault> {
+    let mut context = context(alloc);
+    hold_names(alloc, &document.children, &mut context.names)?;
+    context.serials = 10;
+    Ok(context)
 }
 
 /// A document as it is printed, if it is a tree.
@@ -239,10 +253,9 @@ pub fn printed(alloc: Global, document: Node) -> Result<String, Fail> {
 }
 
 /// The document with all its attributes, and behind it each message: its line, and what it says.
-pub fn shown(alloc: Global, work: Work) -> Result<String, Fail> {
-    let Work { root, reports, .. } = work;
-    let mut text = outline(alloc, &root)?;
-    for report in &reports {
+pub fn shown(alloc: Global, document: Document, context: &Context) -> Result<String, Fail> {
+    let mut text = outline(alloc, &document.into_node())?;
+    for report in &context.reports {
         let said = report.text.as_str();
         let line = report.line;
         let note = format!(in alloc; "{line}: {said}\n")?;

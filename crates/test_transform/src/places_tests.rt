@@ -1,6 +1,6 @@
 //! Documents before and after the transforms that move what stands in them, as lines of their trees.
 
-use crate::outline::{shown, work};
+use crate::outline::{context, document, shown};
 use rst_transform_structure::targets::targets;
 use rst_transform_structure::title::title;
 use std::test::Fail;
@@ -144,8 +144,10 @@ const TARGETS: &[(&str, &str)] = &[
 fn places_targets(rt: HostRuntime) -> Result<(), Fail> {
     let alloc = rt.alloc();
     for &(before, after) in TARGETS {
-        let work = targets(alloc, work(alloc, before)?, true)?;
-        assert_eq!(rt; shown(alloc, work)?.as_str(), after);
+        let document = document(alloc, before)?;
+        let mut context = context(alloc);
+        let changed = targets(alloc, document, &mut context, true)?;
+        assert_eq!(rt; shown(alloc, changed, &context)?.as_str(), after);
     }
     Ok(())
 }
@@ -294,8 +296,10 @@ const TITLES: &[(&str, &str)] = &[
 fn places_titles(rt: HostRuntime) -> Result<(), Fail> {
     let alloc = rt.alloc();
     for &(before, after) in TITLES {
-        let work = title(alloc, work(alloc, before)?)?;
-        assert_eq!(rt; shown(alloc, work)?.as_str(), after);
+        let document = document(alloc, before)?;
+        let mut context = context(alloc);
+        let changed = title(alloc, document, &mut context)?;
+        assert_eq!(rt; shown(alloc, changed, &context)?.as_str(), after);
     }
     Ok(())
 }

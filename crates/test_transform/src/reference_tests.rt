@@ -1,6 +1,6 @@
 //! Documents before and after anonymous references and indirect targets are joined.
 
-use crate::outline::{named, shown};
+use crate::outline::{document, naming, shown};
 use rst_transform_hyperlinks::anonymous::anonymous;
 use rst_transform_hyperlinks::indirect::indirect;
 use std::test::Fail;
@@ -177,8 +177,10 @@ const INDIRECT: &[(&str, &str)] = &[
 fn joins_anonymous_references(rt: HostRuntime) -> Result<(), Fail> {
     let alloc = rt.alloc();
     for &(before, after) in ANONYMOUS {
-        let work = anonymous(alloc, named(alloc, before)?, true)?;
-        assert_eq!(rt; shown(alloc, work)?.as_str(), after);
+        let document = document(alloc, before)?;
+        let mut context = naming(alloc, &document)?;
+        let changed = anonymous(alloc, document, &mut context, true)?;
+        assert_eq!(rt; shown(alloc, changed, &context)?.as_str(), after);
     }
     Ok(())
 }
@@ -187,8 +189,10 @@ fn joins_anonymous_references(rt: HostRuntime) -> Result<(), Fail> {
 fn follows_indirect_targets(rt: HostRuntime) -> Result<(), Fail> {
     let alloc = rt.alloc();
     for &(before, after) in INDIRECT {
-        let work = indirect(alloc, named(alloc, before)?, true)?;
-        assert_eq!(rt; shown(alloc, work)?.as_str(), after);
+        let document = document(alloc, before)?;
+        let mut context = naming(alloc, &document)?;
+        let changed = indirect(alloc, document, &mut context, true)?;
+        assert_eq!(rt; shown(alloc, changed, &context)?.as_str(), after);
     }
     Ok(())
 }

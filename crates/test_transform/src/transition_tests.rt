@@ -1,6 +1,6 @@
 //! Documents before and after transitions have their places, as lines of their trees.
 
-use crate::outline::{shown, work};
+use crate::outline::{context, document, shown};
 use rst_transform_structure::transitions::transitions;
 use std::test::Fail;
 
@@ -211,8 +211,10 @@ const TRANSITIONS: &[(&str, &str)] = &[
 fn places_transitions(rt: HostRuntime) -> Result<(), Fail> {
     let alloc = rt.alloc();
     for &(before, after) in TRANSITIONS {
-        let work = transitions(alloc, work(alloc, before)?, true)?;
-        assert_eq!(rt; shown(alloc, work)?.as_str(), after);
+        let document = document(alloc, before)?;
+        let mut context = context(alloc);
+        let changed = transitions(alloc, document, &mut context, true)?;
+        assert_eq!(rt; shown(alloc, changed, &context)?.as_str(), after);
     }
     Ok(())
 }

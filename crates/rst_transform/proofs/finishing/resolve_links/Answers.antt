@@ -1,3 +1,4 @@
+use Rattle.rst_transform_work.specs.States.{state}
 use Rattle.rst_transform.proofs.NoNewKinds.{link_kinds_after, no_anonymous, no_footnotes, no_indirect, no_links}
 use Rattle.rst_transform.proofs.finishing.resolve_links.Goals as goal
 
@@ -17,14 +18,14 @@ resolve-requires c = record {
 
 pub returns-clause-links : goal.returns-clause-links
 returns-clause-links c = record {
-  paired = c.in_ok-paired.paired;
-  led = c.in_ok-led.led;
-  numbered = c.in_ok-numbered.numbered;
+  paired = state c.in_ok-paired.paired c.anonymous.new.context;
+  led = state c.in_ok-led.led c.indirect.new.context;
+  numbered = state c.in_ok-numbered.numbered c.footnotes.new.context;
   anonymous = c.in_ok-paired.ensures.anonymous;
   indirect = c.in_ok-led.ensures.indirect;
   footnotes = c.in_ok-numbered.ensures.footnotes;
-  references = c.in_ok-work.ensures.resolved;
+  references = c.in_ok-after.ensures.resolved;
 }
 
 pub returns-clause-kinds : goal.returns-clause-kinds
-returns-clause-kinds c = link_kinds_after (link_kinds_after (link_kinds_after c.in_ok-paired.ensures.kinds c.in_ok-led.ensures.kinds) c.in_ok-numbered.ensures.kinds) c.in_ok-work.ensures.kinds
+returns-clause-kinds c = link_kinds_after (link_kinds_after (link_kinds_after c.in_ok-paired.ensures.kinds c.in_ok-led.ensures.kinds) c.in_ok-numbered.ensures.kinds) c.in_ok-after.ensures.kinds

@@ -1,3 +1,4 @@
+use Rattle.rst_transform_work.specs.States.{state}
 use Rattle.rst_transform.proofs.NoNewKinds.{among_after, no_substitutions, no_targets, no_transitions}
 use Rattle.rst_transform.proofs.finishing.transformed.Goals as goal
 
@@ -20,15 +21,15 @@ transitions-requires c =
 
 pub returns : goal.returns
 returns c = record {
-  expanded = c.in_ok-expanded.expanded;
-  retargeted = c.in_ok-retargeted.retargeted;
-  titled = c.in_ok-titled.titled;
-  informed = c.in_ok-informed.informed;
-  linked = c.in_ok-linked.linked;
+  expanded = state c.in_ok-expanded.expanded c.expand.new.context;
+  retargeted = state c.in_ok-retargeted.retargeted c.targets.new.context;
+  titled = state c.in_ok-titled.titled c.with_title.new.context;
+  informed = state c.in_ok-informed.informed c.with_info.new.context;
+  linked = state c.in_ok-linked.linked c.resolve_links.new.context;
   substitutions = c.in_ok-expanded.ensures.expanded;
   targets = c.in_ok-retargeted.ensures.retargeted;
   title = c.in_ok-titled.ensures.titled;
   info = c.in_ok-informed.ensures.informed;
   links = c.in_ok-linked.ensures.links;
-  transitions = c.in_ok-work.ensures;
+  transitions = c.in_ok-after.ensures;
 }

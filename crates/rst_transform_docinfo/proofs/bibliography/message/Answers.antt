@@ -6,6 +6,6 @@ use Rattle.rst_transform_docinfo.proofs.bibliography.message.Goals as goal
 
 pub returns-clause-reports : goal.returns-clause-reports
 returns-clause-reports c =
-    subst (λ text. Gives (λ _. c.report_in_place.new.self.reports.items ≡ c.args.work.now.reports.items
-    ++ next_report c.args.work.now.first_number c.args.work.now.reports.items Warning c.args.line text false ∷ []) c.report_in_place.result)
+    subst (λ text. Gives (λ _. c.report_in_place.new.self.reports.items ≡ c.args.context.now.reports.items
+    ++ next_report c.args.context.now.first_number c.args.context.now.reports.items Warning c.args.line text false ∷ []) c.report_in_place.result)
     c.in_ok-text.ensures c.report_in_place.ensures.reports

@@ -4,23 +4,23 @@ use Rattle.std.proofs.lemmas.Iterator.Consumers.{YieldsList-end}
 use Rattle.std.proofs.lemmas.Iterator.Adapters.{YieldsList-from_vec}
 use Rattle.rst_tree.specs.declared.node.Node.{Node}
 use Rattle.rst_tree.specs.Nodes.{nodes_of}
-use Rattle.rst_transform_work.specs.declared.work.Report.{Report}
-use Rattle.rst_transform_work.specs.declared.work.Work.{Work}
+use Rattle.rst_transform_work.specs.declared.report.Report.{Report}
+use Rattle.rst_transform_work.specs.declared.context.Context.{Context}
 use Rattle.rst_transform_docinfo.specs.Docinfo.{list_gathered}
 use Rattle.rst_transform_docinfo.specs.Gathered.{docinfo_nodes, gathered, none_yet, so_far, with_node}
 use Rattle.rst_transform_docinfo.proofs.Gathering.{gathered_more, given}
 use Rattle.rst_transform_docinfo.proofs.docinfo.bibliography.Goals as goal
 
 pub loop-node-init : goal.loop-node-init
-loop-node-init c = record { taken = c.new-bibliography.ensures c.args.work.now.reports.items; rest = refl }
+loop-node-init c = record { taken = c.new-bibliography.ensures c.args.context.now.reports.items; rest = refl }
 
 pub loop-node-preserved : goal.loop-node-preserved
 loop-node-preserved c = record {
   taken =
-      c.in_ok-add_node.ensures.gathered ∙ ap (λ (w : Work). with_node w.first_number c.in-Some.node (so_far c.loop-node.bibliography c.loop-node.work.reports.items)) c.loop-node.invariant.rest
-      ∙ ap (with_node c.args.work.now.first_number c.in-Some.node) c.loop-node.invariant.taken
-      ∙ sym (gathered_more c.args.work.now.first_number (none_yet c.args.work.now.reports.items) c.loop-node.yielded c.in-Some.node);
-  rest = c.in_ok-add_node.ensures.rest ∙ ap (λ (w : Work). record w { reports = c.add_node.new.work.reports }) c.loop-node.invariant.rest;
+      c.in_ok-add_node.ensures.gathered ∙ ap (λ (w : Context). with_node w.first_number c.in-Some.node (so_far c.loop-node.bibliography c.loop-node.context.reports.items)) c.loop-node.invariant.rest
+      ∙ ap (with_node c.args.context.now.first_number c.in-Some.node) c.loop-node.invariant.taken
+      ∙ sym (gathered_more c.args.context.now.first_number (none_yet c.args.context.now.reports.items) c.loop-node.yielded c.in-Some.node);
+  rest = c.in_ok-add_node.ensures.rest ∙ ap (λ (w : Context). record w { reports = c.add_node.new.context.reports }) c.loop-node.invariant.rest;
 }
 
 pub returns-clause-nodes : goal.returns-clause-nodes
@@ -29,6 +29,6 @@ returns-clause-nodes c =
     c.loop-node.yielded c.loop-node.node-iterator c.loop-node.yielded_by c.next.result c.next.new.self c.in-None.is c.next.ensures.steps in
     let all : c.loop-node.yielded ≡ nodes_of c.args.fields = sym (map-id c.loop-node.yielded) ∙ end.0 ∙ c.into_list-node-items.ensures.nodes in
     given (λ (nodes : Vec Node Global). (reports : List Report) → nodes.items ≡ docinfo_nodes c.args.line (so_far c.loop-node.bibliography reports))
-    (λ (nodes : Vec Node Global). nodes.items ≡ docinfo_nodes c.args.line (list_gathered c.args.work.now.first_number c.args.work.now.reports.items c.args.fields)) c.into_nodes.result
-    (λ nodes h. h c.loop-node.work.reports.items
-    ∙ ap (docinfo_nodes c.args.line) (c.loop-node.invariant.taken ∙ ap (gathered c.args.work.now.first_number (none_yet c.args.work.now.reports.items)) all)) c.into_nodes.ensures
+    (λ (nodes : Vec Node Global). nodes.items ≡ docinfo_nodes c.args.line (list_gathered c.args.context.now.first_number c.args.context.now.reports.items c.args.fields)) c.into_nodes.result
+    (λ nodes h. h c.loop-node.context.reports.items
+    ∙ ap (docinfo_nodes c.args.line) (c.loop-node.invariant.taken ∙ ap (gathered c.args.context.now.first_number (none_yet c.args.context.now.reports.items)) all)) c.into_nodes.ensures

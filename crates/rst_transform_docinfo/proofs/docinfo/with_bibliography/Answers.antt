@@ -17,14 +17,14 @@ returns-clause-nodes c =
     let list = list_there c.into_list-nodes.result.items c.list_place-place.result c.remove.result there
     (subst (λ xs. is_some (list_in (slice_get xs c.list_place-place.result)) ≡ true) c.deref-2.ensures.value (sym c.is_list_at.ensures ∙ c.if-not-is_list_at.false)) c.remove.ensures.value in
     c.of-2.ensures
-    ∙ ap forest_of (list_replaced c.args.work.now.first_number c.args.work.now.reports.items c.into_list-nodes.result.items c.remove.new.self.items c.in_ok-made.made.items c.in_ok-with_nodes_at.field-0.items c.list_place-place.result
+    ∙ ap forest_of (list_replaced c.args.context.now.first_number c.args.context.now.reports.items c.into_list-nodes.result.items c.remove.new.self.items c.in_ok-made.made.items c.in_ok-with_nodes_at.field-0.items c.list_place-place.result
     c.title_count-first.result c.remove.result list there c.remove.ensures.items c.in_ok-made.ensures.nodes (c.title_count-first.ensures ∙ ap (prefix_len is_title) c.deref-3.ensures.value) c.in_ok-with_nodes_at.ensures)
-    ∙ ap (λ xs. forest_of (nodes_with c.args.work.now.first_number c.args.work.now.reports.items (leading_list xs) xs)) c.into_list-nodes.ensures.nodes
+    ∙ ap (λ xs. forest_of (nodes_with c.args.context.now.first_number c.args.context.now.reports.items (leading_list xs) xs)) c.into_list-nodes.ensures.nodes
 
 pub returns-clause-reports : goal.returns-clause-reports
 returns-clause-reports c =
     let there : c.list_place-place.result ≡ list_place c.into_list-nodes.result.items = c.list_place-place.ensures ∙ ap list_place c.deref.ensures.value in
     let list = list_there c.into_list-nodes.result.items c.list_place-place.result c.remove.result there
     (subst (λ xs. is_some (list_in (slice_get xs c.list_place-place.result)) ≡ true) c.deref-2.ensures.value (sym c.is_list_at.ensures ∙ c.if-not-is_list_at.false)) c.remove.ensures.value in
-    c.in_ok-made.ensures.reports ∙ sym (ap (reports_with c.args.work.now.first_number c.args.work.now.reports.items) list)
-    ∙ ap (λ xs. reports_with c.args.work.now.first_number c.args.work.now.reports.items (leading_list xs)) c.into_list-nodes.ensures.nodes
+    c.in_ok-made.ensures.reports ∙ sym (ap (reports_with c.args.context.now.first_number c.args.context.now.reports.items) list)
+    ∙ ap (λ xs. reports_with c.args.context.now.first_number c.args.context.now.reports.items (leading_list xs)) c.into_list-nodes.ensures.nodes

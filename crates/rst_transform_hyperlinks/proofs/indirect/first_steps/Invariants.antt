@@ -1,6 +1,6 @@
 use Rattle.std.proofs.Common.{◌≡◌, ◌++◌, map, drop}
 use Rattle.rst_transform_links.specs.Holders.{place_at}
-use Rattle.rst_transform_hyperlinks.specs.Indirect.{own_step, steps_of}
+use Rattle.rst_transform_hyperlinks.specs.Chains.{own_step, steps_of}
 use Rattle.rst_transform_links.specs.Linkings.{held}
 use Rattle.rst_transform_hyperlinks.proofs.indirect.first_steps.Given as goal
 

@@ -2,9 +2,10 @@ use Rattle.std.proofs.Common.{rules, ◌≡◌, sym, ◌∙◌, ap, subst, Bool,
 use Rattle.std.specs.Prelude.{if◌then◌else◌, is_some, slice_get}
 use Rattle.std.proofs.lemmas.Option.{slice_get-get_or}
 use Rattle.rst_tree.specs.Faults.{Gives}
-use Rattle.rst_transform_hyperlinks.specs.declared.ways.Step.{Step}
-use Rattle.rst_transform_hyperlinks.specs.declared.ways.Step.TheVariants.{To}
-use Rattle.rst_transform_hyperlinks.specs.Indirect.{ends_at_name, indirect_name}
+use Rattle.rst_transform_hyperlinks.specs.declared.chains.Step.{Step}
+use Rattle.rst_transform_hyperlinks.specs.declared.chains.Step.TheVariants.{To}
+use Rattle.rst_transform_hyperlinks.specs.Indirect.{indirect_name}
+use Rattle.rst_transform_hyperlinks.specs.Chains.{ends_at_name}
 use Rattle.rst_transform_hyperlinks.proofs.Leading.{stepping}
 use Rattle.rst_transform_hyperlinks.proofs.indirect.step_to.Goals as goal
 

@@ -4,5 +4,5 @@ use Rattle.rst_transform_messages.specs.Messages.{marked}
 use Rattle.rst_transform_messages.specs.Shown.{are_shown}
 use Rattle.rst_transform_messages.proofs.filter.filter.Goals as goal
 
-pub returns-in_ok-filter_in-in-Element-clause-shown : goal.returns-in_ok-filter_in-in-Element-clause-shown
-returns-in_ok-filter_in-in-Element-clause-shown c = ap (are_shown c.args.report) c.in_ok-filter_in-in-Element.ensures ∙ filtered_shown c.args.report (marked c.args.shown.now) c.in-Element.children
+pub returns-clause-shown : goal.returns-clause-shown
+returns-clause-shown c = ap (are_shown c.args.report) c.in_ok-filter_in.ensures ∙ filtered_shown c.args.report (marked c.args.shown.now) c.args.document.children

@@ -1,7 +1,11 @@
 use Rattle.std.proofs.Common.{◌≡◌, rules}
+use Rattle.rst_transform_work.specs.declared.document.Document.{Document}
 use Rattle.rst_transform_structure.specs.Title.{titled}
 use Rattle.rst_transform_structure.proofs.TitledKinds.{no_kind_by_title}
 use Rattle.rst_transform_structure.proofs.title.title.Goals as goal
 
 pub returns-clause-kinds : goal.returns-clause-kinds
-returns-clause-kinds c = let is : c.match-root.root ≡ titled c.args.work.root = search rules in no_kind_by_title c.args.work.root c.match-root.root is
+returns-clause-kinds c =
+    let after : Document = record c.args.document { attrs = c.titled.new.attrs; children = c.in_ok-children.children } in
+    let is : after ≡ titled c.args.document = search rules in
+    no_kind_by_title c.args.document after is

@@ -28,7 +28,7 @@ pub loop-node-preserved-then-is_transition : goal.loop-node-preserved-then-is_tr
 loop-node-preserved-then-is_transition t c =
     let turn = YieldsList-turn (YieldsList-from_vec {s = c.into_iter-node-iterator.result} c.into_list-node-items.result.items (search rules) (search rules))
     c.loop-node.yielded c.loop-node.node-iterator c.loop-node.yielded_by c.next.result c.next.new.self c.in-Some.node c.in-Some.is c.next.ensures.steps in
-    Placing-transition _ _ _ c.loop-node.left _ _ _ c.loop-node.placed _ c.loop-node.work _ c.in-Some.node c.into_list-node-items.result.items c.in-Element.tag c.in-Element.attrs c.in-Element.children c.in-Element.line
+    Placing-transition _ _ _ c.loop-node.left _ _ _ c.loop-node.placed _ c.loop-node.context _ c.in-Some.node c.into_list-node-items.result.items c.in-Element.tag c.in-Element.attrs c.in-Element.children c.in-Element.line
     c.loop-node.invariant c.into_list-node-items.ensures.nodes turn.0 turn.1 c.saturating_sub-left.ensures (length-append c.loop-node.yielded (c.in-Some.node ∷ [])) c.in-Element.is
     (sym c.is_transition.ensures ∙ c.if-is_transition.true) c.in_ok-put_transition-in-Element.ensures.rest c.in_ok-put_transition-in-Element.ensures.siblings
 
@@ -38,7 +38,7 @@ loop-node-preserved t c =
     c.loop-node.yielded c.loop-node.node-iterator c.loop-node.yielded_by c.next.result c.next.new.self c.in-Some.node c.in-Some.is c.next.ensures.steps in
     let either : c.if-ends.place_in ≡ (c.args.ends && nat_eq c.saturating_sub-left.result 0) =
     elim c.if-ends.branch [ then-ends w ↦ rw w.if-ends.true w.place_in-is | else-ends w ↦ rw w.if-ends.false (w.place_in-is ∙ w.if-ends.false) ] in
-    Placing-element _ _ _ c.loop-node.left _ _ _ c.loop-node.placed _ c.in_ok-inner-in-Element.inner c.loop-node.work _ c.in-Some.node c.into_list-node-items.result.items c.in-Element.tag c.in-Element.attrs c.in-Element.children c.in-Element.line
+    Placing-element _ _ _ c.loop-node.left _ _ _ c.loop-node.placed _ c.in_ok-inner-in-Element.inner c.loop-node.context _ c.in-Some.node c.into_list-node-items.result.items c.in-Element.tag c.in-Element.attrs c.in-Element.children c.in-Element.line
     (nat_eq c.saturating_sub-left.result 0)
     c.loop-node.invariant c.into_list-node-items.ensures.nodes turn.0 turn.1 c.saturating_sub-left.ensures (length-append c.loop-node.yielded (c.in-Some.node ∷ [])) c.in-Element.is
     (sym c.is_transition.ensures ∙ c.if-is_transition.false) refl (rw (← either) c.in_ok-inner-in-Element.ensures.placed) c.in_ok-inner-in-Element.ensures.rest

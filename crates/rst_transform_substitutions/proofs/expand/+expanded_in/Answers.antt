@@ -24,7 +24,7 @@ pub loop-node-preserved-then-is_reference : goal.loop-node-preserved-then-is_ref
 loop-node-preserved-then-is_reference t c =
     let items = c.in-Some.ensures.steps.0 ∙ ap (λ (n : Node). n ∷ c.next.new.self.rest.items) c.in-Element.is in
     record {
-      continues = more_reference (found_by c.args.definitions.now) (known_place c.args.definitions.now) c.args.within c.args.nodes c.args.work.now c.loop-node.work c.with_replaced.new.work c.loop-node.done.items c.in_ok-done-in-Element.done.items c.in_ok-done-in-Element.ensures.gives_way.0 c.loop-node.node-iterator.rest.items c.next.new.self.rest.items
+      continues = more_reference (found_by c.args.definitions.now) (known_place c.args.definitions.now) c.args.within c.args.nodes c.args.context.now c.loop-node.context c.with_replaced.new.context c.loop-node.done.items c.in_ok-done-in-Element.done.items c.in_ok-done-in-Element.ensures.gives_way.0 c.loop-node.node-iterator.rest.items c.next.new.self.rest.items
           c.in-Element.tag c.in-Element.attrs c.in-Element.children c.in-Element.line c.loop-node.invariant.continues items (sym c.is_reference.ensures ∙ c.if-is_reference.true) c.in_ok-done-in-Element.ensures.gives_way.1 c.in_ok-done-in-Element.ensures.gives_way.2;
       remembers = c.in_ok-done-in-Element.ensures.remembers;
     }
@@ -36,7 +36,7 @@ loop-node-preserved t c =
     let push : c.push-in-Element.new.self.items ≡ c.loop-node.done.items ++ Element c.in-Element.tag c.in-Element.attrs (forest_of nodes) c.in-Element.line ∷ [] =
     rw (c.in_ok-children-in-Element.ensures.expanded.2) at c.in_ok-push-in-Element.ensures.items in
     record {
-      continues = more_element (found_by c.args.definitions.now) (known_place c.args.definitions.now) c.args.within c.args.nodes c.args.work.now c.loop-node.work c.expanded_in.new.work c.loop-node.done.items c.push-in-Element.new.self.items nodes c.loop-node.node-iterator.rest.items c.next.new.self.rest.items
+      continues = more_element (found_by c.args.definitions.now) (known_place c.args.definitions.now) c.args.within c.args.nodes c.args.context.now c.loop-node.context c.expanded_in.new.context c.loop-node.done.items c.push-in-Element.new.self.items nodes c.loop-node.node-iterator.rest.items c.next.new.self.rest.items
           c.in-Element.tag c.in-Element.attrs c.in-Element.children c.in-Element.line c.loop-node.invariant.continues items (sym c.is_reference.ensures ∙ c.if-is_reference.false) (rw (c.within_element-within.ensures) at c.in_ok-children-in-Element.ensures.expanded.1) push;
       remembers = c.in_ok-children-in-Element.ensures.remembers;
     }
@@ -44,4 +44,4 @@ loop-node-preserved t c =
 pub returns-clause-expanded : goal.returns-clause-expanded
 returns-clause-expanded t c =
     let none : c.loop-node.node-iterator.rest.items ≡ [] = grind (arith, common_steps) in
-    (c.loop-node.done.items, all_expanded (found_by c.args.definitions.now) (known_place c.args.definitions.now) c.args.within c.args.nodes c.args.work.now c.loop-node.work c.loop-node.done.items c.loop-node.node-iterator.rest.items c.loop-node.invariant.continues none, c.of.ensures)
+    (c.loop-node.done.items, all_expanded (found_by c.args.definitions.now) (known_place c.args.definitions.now) c.args.within c.args.nodes c.args.context.now c.loop-node.context c.loop-node.done.items c.loop-node.node-iterator.rest.items c.loop-node.invariant.continues none, c.of.ensures)

@@ -9,6 +9,6 @@ decreases-expanded_in l = height l.nodes
 
 abbrev pub invariant-loop-node : goal.invariant-loop-node
 invariant-loop-node l = record {
-  continues : Continues (found_by l.fn.definitions) (known_place l.fn.definitions) l.fn.within l.fn.nodes l.fn.work l.work l.done.items l.node-iterator.rest.items;
+  continues : Continues (found_by l.fn.definitions) (known_place l.fn.definitions) l.fn.within l.fn.nodes l.fn.context l.context l.done.items l.node-iterator.rest.items;
   remembers : Remembers l.fn.definitions l.outcomes;
 }

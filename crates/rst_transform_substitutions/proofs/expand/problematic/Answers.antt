@@ -3,7 +3,7 @@ use Rattle.rst_transform_substitutions.proofs.expand.problematic.Goals as goal
 
 pub returns : goal.returns
 returns c =
-    let place : c.in_ok-report.report ≡ length c.args.work.now.reports.items = grind arith in
+    let place : c.in_ok-report.report ≡ length c.args.context.now.reports.items = grind arith in
     record {
       between = c.report.new.self;
       reports = rw (c.in_ok-text.ensures, c.said.ensures) at c.in_ok-report.ensures.reports;

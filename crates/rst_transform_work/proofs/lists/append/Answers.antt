@@ -1,4 +1,4 @@
-use Rattle.std.proofs.Common.{◌≡◌, ◌∙◌, arith, sym, rules}
+use Rattle.std.proofs.Common.{◌∙◌, arith, sym}
 use Rattle.rst_transform_work.proofs.Listing.{becomes_same, listed_by}
 use Rattle.rst_transform_work.proofs.lists.append.Goals as goal
 

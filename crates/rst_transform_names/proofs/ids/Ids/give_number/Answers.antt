@@ -1,6 +1,5 @@
-use Rattle.std.proofs.Common.{subst, arith}
+use Rattle.std.proofs.Common.{subst}
 use Rattle.rst_transform_names.specs.Ids.{is_taken, numbered, IsLeastFree, Takes}
-use Rattle.rst_transform_names.proofs.IdLemmas.{used_up}
 use Rattle.rst_transform_names.proofs.ids.Ids.give_number.Goals as goal
 
 pub returns : goal.returns
@@ -8,5 +7,4 @@ returns c =
     let old = c.args.self.now in
     let new = c.use_up.new.self in
     let n = c.in_ok-number.number in
-    let free = c.in_ok-number.ensures in
-    subst (λ base. IsLeastFree (is_taken old) base n × Takes (numbered base n) old new) c.hyphenated-base.ensures (free, used_up old new c.hyphenated-base.result.now n free (omega arith) c.in_ok-use_up.ensures)
+    subst (λ base. IsLeastFree (is_taken old) base n × Takes (numbered base n) old new) c.hyphenated-base.ensures (c.in_ok-number.ensures, c.in_ok-use_up.ensures)

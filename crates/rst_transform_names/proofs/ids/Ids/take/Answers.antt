@@ -18,5 +18,5 @@ returns-in_ok-insert-in-Some c =
     let id = string_bytes c.args.id in
     let read : number_of id ≡ Some (c.in-Some.base.now, c.in-Some.number) = ap number_of (sym c.as_str.ensures.value) ∙ c.in-Some.ensures in
     let was = was_there _ _ c.in_ok-insert-in-Some.ensures.added in
-    let behind = lt-leb c.in-Some.number (last_of old c.in-Some.base.now) (omega (arith, c.last_of.ensures, c.if-number-last_of.false)) in
+    let behind = lt-leb c.in-Some.number (last_of old c.in-Some.base.now) (omega (arith, c.last_of.ensures, c.if-number-from.false)) in
     (ap (taken_by old id) read ∙ rw behind was, took_hindering old _ id c.in-Some.base.now c.in-Some.number read (added old.hindering c.insert-in-Some.new.self id c.in_ok-insert-in-Some.ensures.updates) refl refl)

@@ -1,0 +1,5 @@
+use Rattle.rst_transform_links.proofs.Staying as lemma
+use Rattle.rst_transform_links.proofs.laws.settled_stay.Goals as goal
+
+pub returns : goal.returns
+returns c = lemma.settled_stay

@@ -1,0 +1,129 @@
+//! What is known beside the document between two transforms.
+ghost use Rattle.std.specs.Prelude.{◌≡◌, ◌+◌, ◌∷◌, ◌++◌, [], false, vec_len, List, slice_get};
+ghost use Rattle.rst_tree.specs.Faults.{Gives};
+ghost use Rattle.rst_transform_work.specs.Problematics.{MakesProblematic};
+ghost use Rattle.rst_transform_work.specs.Reports.{report_node, next_report, KeepsRest};
+
+use crate::problematics::ProblematicAttrs;
+use crate::report::Report;
+use rst_transform_names::{Ids, Names};
+use rst_tree::{Attrs, Children, Level, Node, Tag, Text, Texts, TreeFault};
+use std::alloc::Global;
+
+/// What is known beside the document between two transforms: what registration left, and the messages of the transforms so far.
+#[derive(Drop)]
+pub struct Context {
+    /// The ids that are taken.
+    pub ids: Ids,
+    /// The names and their holders.
+    pub names: Names,
+    /// The messages of the transforms, in order.
+    pub reports: Vec<Report>,
+    /// The number of the first report: those of the messages that the parser gave end below.
+    pub first_number: u64,
+    /// How many elements were registered.
+    pub serials: u64,
+}
+
+impl Context {
+    ghost use Rattle.rst_tree.specs.declared.attrs.Attr.{Attr};
+    ghost use Rattle.rst_tree.specs.declared.node.Node.TheVariants.{Element};
+    ghost use Rattle.rst_tree.specs.declared.tag.Tag.TheVariants.{Problematic};
+    ghost use Rattle.rst_tree.specs.Forest.{bare, words};
+
+    /// The next message, which has no problematics yet.
+    fn next_report(&self, alloc: Global, level: Level, line: usize, text: Text, own: bool) -> Report
+        ensures { result ≡ next_report self.now.first_number self.now.reports.items level line text own }
+    {
+        Report {
+            level,
+            line,
+            text,
+            // The sum can't saturate: memory doesn't hold so many messages.
+            number: self.first_number.saturating_add(self.reports.len() as u64),
+            id: None,
+            backrefs: Texts::new(alloc),
+            own,
+        }
+    }
+
+    /// Adds a message, and gives its place among the reports. It stands in the last section if it is `own`, and else where
+    /// the caller puts its `node`.
+    pub fn report(
+        &mut self,
+        alloc: Global,
+        level: Level,
+        line: usize,
+        text: Text,
+        own: bool,
+    ) -> Result<usize, TreeFault>
+        ensures place { Gives (λ place. (place ≡ vec_len self.old.reports) × (vec_len self.new.reports ≡ place + 1)) result }
+        ensures reports { let next = next_report self.old.first_number self.old.reports.items level line text own in Gives (λ _. self.new.reports.items ≡ self.old.reports.items ++ next ∷ []) result }
+        ensures rest { Gives (λ _. KeepsRest self.old self.new) result }
+    {
+        let place = self.reports.len();
+        let report = self.next_report(alloc, level, line, text, own);
+        self.reports.push(report)?;
+        Ok(place)
+    }
+
+    /// Adds a message that stands in the tree itself, and gives its node, for the caller to put into its place.
+    pub fn report_in_place(
+        &mut self,
+        alloc: Global,
+        level: Level,
+        line: usize,
+        text: Text,
+    ) -> Result<Node, TreeFault>
+        ensures node { let next = next_report self.old.first_number self.old.reports.items level line text false in Gives (λ node. node ≡ report_node next) result }
+        ensures reports { let next = next_report self.old.first_number self.old.reports.items level line text false in Gives (λ _. self.new.reports.items ≡ self.old.reports.items ++ next ∷ []) result }
+        ensures rest { Gives (λ _. KeepsRest self.old self.new) result }
+    {
+        let mut report = self.next_report(alloc, level, line, text, false);
+        let node = report.node(alloc)?;
+        self.reports.push(report)?;
+        Ok(node)
+    }
+
+    /// The problematic with the source text of a reference that is at fault, as the message at a place among the reports
+    /// tells.
+    pub fn problematic(
+        &mut self,
+        alloc: Global,
+        report: usize,
+        source: Text,
+        line: usize,
+    ) -> Result<Node, TreeFault>
+        ensures { Gives (λ node. (attrs : List Attr) × MakesProblematic (slice_get self.old.reports.items report) report self.old self.new attrs × (node ≡ Element Problematic attrs (words source bare) line)) result }
+    {
+        let mut attrs = Attrs::new(alloc);
+        self.next_problematic(alloc, report)?
+            .tell(alloc, &mut attrs)?;
+        let children = Children::lone(alloc, Node::Text(source))?;
+        Ok(Node::Element {
+            tag: Tag::Problematic,
+            attrs,
+            children,
+            line,
+        })
+    }
+
+    /// What the next problematic tells, as the message at a place among the reports has it. It gets its id before the message
+    /// gets one. A place behind the last report gives a problematic without message.
+    pub fn next_problematic(
+        &mut self,
+        alloc: Global,
+        report: usize,
+    ) -> Result<ProblematicAttrs, TreeFault>
+        ensures { Gives (λ attrs. MakesProblematic (slice_get self.old.reports.items report) report self.old self.new attrs) result }
+    {
+        let id = self.ids.give_kind(alloc, Tag::Problematic)?;
+        if report >= self.reports.len() {
+            return Ok(ProblematicAttrs::alone(id));
+        }
+        let back = id.copy()?;
+        let report = &mut self.reports[report];
+        let own = report.refer_back(alloc, &mut self.ids, back)?;
+        Ok(ProblematicAttrs::of(id, report.number, own))
+    }
+}

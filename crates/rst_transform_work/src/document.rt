@@ -1,0 +1,50 @@
+//! The document that transforms change.
+ghost use Rattle.std.specs.Prelude.{◌≡◌};
+ghost use Rattle.rst_transform_work.specs.States.{document_node, IsDocument};
+
+use rst_tree::{Attrs, Children, Node, Tag};
+
+/// The document: the element that all others stand in (Document Tree, 'document'). Its tag is always `Tag::Document`.
+#[derive(Drop)]
+pub struct Document {
+    /// Its attributes.
+    pub attrs: Attrs,
+    /// The nodes in it.
+    pub children: Children,
+    /// The number of its first line.
+    pub line: usize,
+}
+
+impl Document {
+    /// The document that a node is.
+    pub fn of(node: Node) -> Document
+        requires { IsDocument node }
+        ensures { document_node result ≡ node }
+    {
+        match node {
+            Node::Element {
+                attrs,
+                children,
+                line,
+                ..
+            } => Document {
+                attrs,
+                children,
+                line,
+            },
+            Node::Text(_) => unreachable!(),
+        }
+    }
+
+    /// The document as a node.
+    pub fn into_node(self) -> Node
+        ensures { result ≡ document_node self }
+    {
+        Node::Element {
+            tag: Tag::Document,
+            attrs: self.attrs,
+            children: self.children,
+            line: self.line,
+        }
+    }
+}

@@ -1,0 +1,105 @@
+//! The messages of the transforms.
+ghost use Rattle.std.specs.Prelude.{◌≡◌, ◌++◌};
+ghost use Rattle.rst_tree.specs.Faults.{Gives};
+ghost use Rattle.rst_transform_work.specs.Problematics.{referring, OwnId};
+ghost use Rattle.rst_transform_work.specs.Reports.{id_attrs, report_attrs, report_node, report_note, without_ids};
+
+use rst_transform_names::Ids;
+use rst_tree::{Attrs, Entry, Key, Level, Node, Note, Tag, Text, Texts, TreeFault, Value};
+use std::alloc::Global;
+use std::mem;
+
+/// A message of a transform.
+#[derive(Debug, Drop)]
+pub struct Report {
+    /// How grave it is.
+    pub level: Level,
+    /// The number of the line that it speaks of.
+    pub line: usize,
+    /// What it says.
+    pub text: Text,
+    /// The number that it and its problematics carry (`Key::Message`), which no other message has.
+    pub number: u64,
+    /// Its id, which it gets with its first problematic.
+    pub id: Option<Text>,
+    /// The ids of its problematics, in the order in which they were made.
+    pub backrefs: Texts,
+    /// Whether it stands in the last section. One that doesn't stands where its transform put it.
+    pub own: bool,
+}
+
+impl Report {
+    /// The message as a `system_message`, to which its id and those of its problematics move.
+    pub fn node(&mut self, alloc: Global) -> Result<Node, TreeFault>
+        ensures node { Gives (λ node. node ≡ report_node self.old) result }
+        ensures left { Gives (λ _. self.new ≡ without_ids self.old) result }
+    {
+        let note = Note {
+            level: self.level,
+            line: self.line,
+            text: self.text.copy()?,
+            block: None,
+        };
+        let attrs = self.take_attrs(alloc)?;
+        let node = note.into_node_with(alloc, attrs)?;
+        Ok(node)
+    }
+
+    /// What the `system_message` tells, in the order of the names: the ids of its problematics and its own, which move there, its level
+    /// and its number.
+    fn take_attrs(&mut self, alloc: Global) -> Result<Attrs, TreeFault>
+        ensures attrs { Gives (λ attrs. attrs ≡ report_attrs self.old) result }
+        ensures left { Gives (λ _. self.new ≡ without_ids self.old) result }
+    {
+        let mut list = Vec::with_capacity(alloc, 4)?;
+        let backrefs = mem::replace(&mut self.backrefs, Texts::new(alloc));
+        list.push(Entry::new(Key::Backrefs, Value::List(backrefs)))?;
+        let id = mem::replace(&mut self.id, None);
+        push_id(alloc, &mut list, id)?;
+        let level = Value::Number(u64::from(self.level.number()));
+        list.push(Entry::new(Key::Level, level))?;
+        list.push(Entry::new(Key::Message, Value::Number(self.number)))?;
+        Ok(Attrs::of(list))
+    }
+
+    /// What it says, for the list of messages.
+    pub fn into_note(self) -> Note
+        ensures { result ≡ report_note self }
+    {
+        Note {
+            level: self.level,
+            line: self.line,
+            text: self.text,
+            block: None,
+        }
+    }
+
+    /// Adds a problematic by its id, and gives the message's own, which it gets with the first.
+    pub(crate) fn refer_back(
+        &mut self,
+        alloc: Global,
+        ids: &mut Ids,
+        id: Text,
+    ) -> Result<Text, TreeFault>
+        ensures report { Gives (λ own. self.new ≡ referring own id self.old) result }
+        ensures ids { Gives (λ own. OwnId self.old.id own ids.old ids.new) result }
+    {
+        self.backrefs.push(id)?;
+        if let Some(own) = &self.id {
+            return own.copy();
+        }
+        let own = ids.give_kind(alloc, Tag::SystemMessage)?;
+        self.id = Some(own.copy()?);
+        Ok(own)
+    }
+}
+
+/// Adds the id of an element, if it has one.
+fn push_id(alloc: Global, list: &mut Vec<Entry>, id: Option<Text>) -> Result<(), TreeFault>
+    ensures { Gives (λ _. list.new.items ≡ list.old.items ++ id_attrs id) result }
+{
+    if let Some(id) = id {
+        list.push(Entry::new(Key::Ids, Value::List(Texts::lone(alloc, id))))?;
+    }
+    Ok(())
+}
