@@ -9,7 +9,7 @@ in this checkout (crates/*/out/rlib). The first check proves the crate; later on
 
 A function counts as refused if something of its own isn't proved; that a function it calls isn't proved doesn't count. An edit outside of a
 function, one of several functions, one that can't be made beside the others, and one that isn't refused beside them are tried alone; the first two
-count as refused if any function is.
+count as refused if any function is, or a lemma that no function of the crate needs.
 
 The exit status is 0 if all were refused, 1 if one wasn't or doesn't compile, 2 if the arguments are wrong, 77 if the kit or a library is missing.
 """
@@ -124,7 +124,10 @@ class Trial:
         verdicts = VERDICT.findall(run.stdout)
         if run.returncode != 0 and not verdicts:
             return made, None
-        return made, {path.split("::")[-1] for path, text in verdicts if REFUSED.search(text)}
+        refused = {path.split("::")[-1] for path, text in verdicts if REFUSED.search(text)}
+        if not refused and "\nlogic=not-proved" in run.stdout:
+            refused.add(None)  # a lemma, which is in no function
+        return made, refused
 
     def tell(self, edit, verdict):
         self.wrong += verdict != "refused"

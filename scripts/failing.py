@@ -4,13 +4,13 @@
     scripts/failing.py [PROGRAM]
 
 The document is that of crates/rst2pseudoxml/src/whole_document.rt. A growth that fails gives the one line that memory ran out, and
-nothing on standard output; so does a read, with its own line. Where a write fails, standard error has the beginning of the messages, and
-standard output the beginning of the document, or nothing if standard error failed. Short reads and writes change nothing. Growths fail
-also in a run with all options that go together, over a file. PROGRAM is by default the one that scripts/program.sh finds. Without a
-C compiler, `cc` or the kit's, nothing is tried, and the exit status is 77.
+nothing on standard output. A read or a write that fails, or a write that takes no byte, gives its own line, and nothing more on standard output;
+so what was written is the beginning of the whole. Short reads and writes change nothing: where they move one byte a call, a call fails
+behind each byte. Growths fail also in a run with all options that go together, over a file. PROGRAM is by default the one that scripts/program.sh
+finds. Without a C compiler, `cc` or the kit's, or if the program has the C library inside, nothing is tried, and the exit status is 77.
 """
 
-import collections
+import concurrent.futures
 import os
 import pathlib
 import shutil
@@ -24,8 +24,8 @@ from rows import Source
 HERE = pathlib.Path(__file__).resolve().parent
 SKIPPED = 77
 NAME = b"rst2pseudoxml: "
-# So many calls at each end of a long run are tried.
-ENDS = 150
+# So many bytes are moved by a read or a write at most; 0 for as many as there are.
+STEPS = [1, 7, 97, 0]
 OPTIONS = "-r info --halt=5 --exit-status=error --no-doc-title --no-doc-info --tab-width=4 --line-length-limit=500".split()
 
 
@@ -41,12 +41,16 @@ def compiler():
     return None
 
 
+def skip(why):
+    print(f"skipped: {why}")
+    sys.exit(SKIPPED)
+
+
 def preloaded(folder):
     """failing.c as a library in a folder."""
     words = compiler()
     if not words:
-        print("skipped: there is no C compiler, neither cc nor the kit's")
-        sys.exit(SKIPPED)
+        skip("there is no C compiler, neither cc nor the kit's")
     library = os.path.join(folder, "failing.so")
     if subprocess.run([*words, "-o", library, str(HERE / "failing.c")], check=False).returncode:
         sys.exit(f"{os.path.basename(sys.argv[0])}: {words[0]} doesn't compile failing.c")
@@ -66,7 +70,6 @@ class Trial:
         self.command = command
         self.text = text
         self.library = library
-        self.counts = library + ".counts"
         self.whole = self.run()
         if self.whole[0] != status or not self.whole[1] or not self.whole[2]:
             sys.exit("failing.py: the program doesn't show the document and its messages")
@@ -78,13 +81,15 @@ class Trial:
         done = subprocess.run(self.command, input=self.text, stdout=subprocess.PIPE, stderr=subprocess.PIPE, env=env, check=False)
         return done.returncode, done.stdout, done.stderr
 
-    def calls(self, **failing):
-        """How many growths, reads and writes a run makes that ends as if none failed."""
-        if self.run(COUNTS=self.counts, **failing) != self.whole:
-            sys.exit(f"failing.py: {failing} changes what a run shows")
-        if not os.path.exists(self.counts):
-            sys.exit("failing.py: the program doesn't call the C library that failing.c replaces")
-        return map(int, pathlib.Path(self.counts).read_text(encoding="ascii").split())
+    def calls(self, **variables):
+        """How many growths, reads and writes a run makes that ends as if none failed, and how many of its children ended wrongly."""
+        with tempfile.NamedTemporaryFile() as file:
+            if self.run(COUNTS=file.name, **variables) != self.whole:
+                sys.exit(f"failing.py: {variables} changes what a run shows")
+            counts = file.read()
+        if not counts:
+            skip("the program doesn't call the C library that failing.c replaces")
+        return [int(count) for count in counts.split()]
 
     def of_growth(self, answer):
         """Whether a growth failed: in the program, where it reads its arguments (status 2), or in the C library, which does without."""
@@ -95,43 +100,36 @@ class Trial:
         cannot_open = (1, b"", NAME + b"cannot open " + os.fsencode(self.command[-1]) + b"\n")
         return self.of_growth(answer) or answer == cannot_open
 
-    def of_read(self, answer):
-        return answer == (1, b"", NAME + b"read failed\n")
-
-    def of_write(self, answer):
-        status, out, err = answer
-        line = NAME + b"write failed\n"
-        messages = err[: -len(line)] if err.endswith(line) else err
-        is_whole = messages == self.whole[2]
-        return status == 1 and self.whole[2].startswith(messages) and (self.whole[1].startswith(out) if is_whole else out == b"")
-
-
-def tried(count):
-    """The calls that are tried of so many."""
-    return sorted({*range(1, min(count, ENDS) + 1), *range(max(1, count - ENDS), count + 1)})
+    def growths(self, fits, **variables):
+        """How many growths a run makes, and with how many of them, if they fail, the answer doesn't fit."""
+        count, *_ = self.calls()
+        failing = ({**variables, "FAIL_GROWTH": at} for at in range(1, count + 1))
+        return count, sum(not fits(self.run(**one)) for one in failing)
 
 
 def main():
     path = program(sys.argv[1:])
     text = document()
-    wrong = collections.Counter()
     with tempfile.TemporaryDirectory() as folder:
         library = preloaded(folder)
-        trial = Trial([path], text, library)
-        growths, _, _ = trial.calls()
-        for on in (0, 1):
-            wrong["growths"] += sum(not trial.of_growth(trial.run(FAIL_GROWTH=at, FAIL_ON=on)) for at in range(1, growths + 1))
-        for short in (0, 1, 97):
-            _, reads, writes = trial.calls(SHORT=short)
-            wrong["reads"] += sum(not trial.of_read(trial.run(FAIL_READ=at, SHORT=short)) for at in tried(reads))
-            wrong["writes"] += sum(not trial.of_write(trial.run(FAIL_WRITE=at, SHORT=short)) for at in tried(writes))
+        usual = Trial([path], text, library)
+        usual.calls()
         file = os.path.join(folder, "a document.rst")
         pathlib.Path(file).write_bytes(text)
-        trial = Trial([path, *OPTIONS, file], b"", library, status=13)
-        more, _, _ = trial.calls()
-        wrong["growths"] += sum(not trial.of_growth_at_open(trial.run(FAIL_GROWTH=at)) for at in range(1, more + 1))
-    print(f"failing calls: {growths} and {more} growths; {', '.join(f'{count} {name} wrong' for name, count in wrong.items())}")
-    return 1 if any(wrong.values()) else 0
+        full = Trial([path, *OPTIONS, file], b"", library, status=13)
+        with concurrent.futures.ThreadPoolExecutor(os.cpu_count()) as pool:
+            moved = [pool.submit(usual.calls, FAIL_EACH=1, SHORT=step) for step in STEPS]
+            grown = [
+                pool.submit(usual.growths, usual.of_growth),
+                pool.submit(usual.growths, usual.of_growth, FAIL_ON=1),
+                pool.submit(full.growths, full.of_growth_at_open),
+            ]
+            counts = [one.result() for one in [*grown, *moved]]
+    wrong = sum(count[-1] for count in counts)
+    growths = sum(count[0] for count in counts[: len(grown)])
+    calls = sum(count[1] + count[2] for count in counts[len(grown) :])
+    print(f"{growths} growths and {calls} reads and writes failed in turn; {wrong} answers were wrong")
+    return 1 if wrong else 0
 
 
 if __name__ == "__main__":

@@ -1,11 +1,11 @@
 #!/usr/bin/env python3
-"""Refuses growths, one at a time, to the tests of crates/rst2pseudoxml/src/refused_tests.rt.
+"""Refuses growths, one at a time, to the tests that assert what has to hold then.
 
-    scripts/refusing.py [TESTS]
+    scripts/refusing.py [TESTS]..
 
-TESTS is the program of the crate's tests, by default the one that `rt ci` left. Each of these tests asserts what has to hold where any one
-growth is refused; it has to pass each time. All of the first growths are refused, and of those after them each seventh. The status is
-77 if there is no such program, or no C compiler, `cc` or the kit's.
+These tests are in the files `refused_tests.rt` of crates/rst2pseudoxml and of the crates of tests. TESTS are programs of a crate's tests, by
+default those that `rt ci` left. A test has to pass each time. All of the first growths are refused, and of those after them each seventh. The
+status is 77 if there is no such program, or no C compiler, `cc` or the kit's.
 """
 
 import os
@@ -17,7 +17,7 @@ import tempfile
 from failing import SKIPPED, preloaded
 from program import TOP, program
 
-MADE = TOP / "crates/rst2pseudoxml/out/rst2pseudoxml_tests"
+MADE = [file.parent.parent / f"out/{file.parent.parent.name}_tests" for file in sorted(TOP.glob("crates/*/src/refused_tests.rt"))]
 PREFIX = "refused_tests::"
 # So many growths are all refused, and from then on each of STEP.
 FIRST = 500
@@ -57,19 +57,22 @@ class Refusing:
 
 
 def main():
-    if not sys.argv[1:] and not MADE.exists():
-        print(f"skipped: rt ci left no {MADE.relative_to(TOP)}")
+    paths = sys.argv[1:] or [str(path) for path in MADE if path.exists()]
+    if not paths:
+        print(f"skipped: rt ci left no {' or '.join(str(path.relative_to(TOP)) for path in MADE)}")
         return SKIPPED
-    path = program(sys.argv[1:] or [str(MADE)])
     failed = False
     with tempfile.TemporaryDirectory() as folder:
-        refusing = Refusing(path, preloaded(folder))
-        tests = tests_of(path)
-        for test in tests:
-            wrong, tried = refusing.wrong(test)
-            print(f"{test}: {tried} growths refused, {len(wrong)} wrong {wrong[:5] or ''}")
-            failed = failed or bool(wrong)
-    return 1 if failed or not tests else 0
+        library = preloaded(folder)
+        for path in paths:
+            refusing = Refusing(program([path]), library)
+            tests = tests_of(refusing.path)
+            for test in tests:
+                wrong, tried = refusing.wrong(test)
+                print(f"{test}: {tried} growths refused, {len(wrong)} wrong {wrong[:5] or ''}")
+                failed = failed or bool(wrong)
+            failed = failed or not tests
+    return 1 if failed else 0
 
 
 if __name__ == "__main__":

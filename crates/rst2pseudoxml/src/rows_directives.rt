@@ -247,6 +247,18 @@ unknown option: "foo".
         status: 0,
     },
     Row {
+        name: "a limit that tabs reach, but not white characters at the end of a line",
+        words: "--line-length-limit=10 --tab-width=4",
+        input: "\tabcdef\t \r\n\u{2028}a\t\tbc\u{2029}\t\tde\tf",
+        out: r#"<document source="<stdin>">
+    <system_message level="3" line="4" source="<stdin>" type="ERROR">
+        <paragraph>
+            Line 4 exceeds the line-length-limit.
+"#,
+        err: "<stdin>:4: (ERROR/3) Line 4 exceeds the line-length-limit.\n",
+        status: 0,
+    },
+    Row {
         name: "a limit of zero",
         words: "--line-length-limit=0",
         input: "",

@@ -1,5 +1,5 @@
 //! Runs over readers and writers in memory that fail in mid-stream, and what is reported of each end.
-ghost use Rattle.std.specs.Prelude.{Some};
+ghost use Rattle.std.specs.Prelude.{◌≤◌, Some};
 
 use rst_settings::Settings;
 use rst_text::Counted;
@@ -47,14 +47,29 @@ impl Write for Narrow {
     }
 }
 
-/// A reader that gives `left` times a byte, at most `step` a call, and then ends, or fails. It counts its calls.
+/// A reader that gives `left` times a byte and then ends, or fails: the last `single` of them one by one, the others at most `step`
+/// a call. It counts its calls.
 #[derive(Drop)]
 struct Bytes {
     byte: u8,
     step: usize,
+    single: usize,
     left: usize,
     fails: bool,
     calls: u64,
+}
+
+impl Bytes {
+    /// The most bytes that the next call gives.
+    fn most(&self) -> usize
+        ensures { result ≤ self.now.left }
+    {
+        if self.left > self.single {
+            self.step.min(self.left - self.single)
+        } else {
+            self.left.min(1)
+        }
+    }
 }
 
 impl Read for Bytes {
@@ -63,7 +78,7 @@ impl Read for Bytes {
         if self.left == 0 && self.fails {
             return Err(Error::from(ErrorKind::UnexpectedEof));
         }
-        let n = buf.len().min(self.step).min(self.left);
+        let n = buf.len().min(self.most());
         buf[..n].fill(self.byte);
         self.left -= n;
         Ok(n)
@@ -87,15 +102,9 @@ fn run_into(alloc: Global, text: &[u8], mut out: Narrow) -> (End, Narrow) {
     (end, out)
 }
 
-/// How a run over so many bytes, all the same, ends, and how often the reader was called.
-fn run_over(alloc: Global, byte: u8, step: usize, left: usize, fails: bool) -> (End, u64) {
-    let mut input = Counted::of(Bytes {
-        byte,
-        step,
-        left,
-        fails,
-        calls: 0,
-    });
+/// How a run over such a reader ends, and how often the reader was called.
+fn run_over(alloc: Global, bytes: Bytes) -> (End, u64) {
+    let mut input = Counted::of(bytes);
     let mut out = Counted::of(Narrow::new(alloc, 0, 0, true));
     let mut err = Counted::of(Narrow::new(alloc, 0, 0, true));
     let settings = Settings::usual();
@@ -191,27 +200,55 @@ fn keeps_what_a_narrow_error_writer_took(rt: HostRuntime) -> std::result::Result
     Ok(())
 }
 
-// The bytes are no UTF-8, so that nothing is made of them.
+/// How a run ends over so many bytes that are no UTF-8, so that nothing is made of them, and how often the reader was called.
+fn read_over(alloc: Global, left: usize, single: usize, fails: bool) -> (End, u64) {
+    run_over(
+        alloc,
+        Bytes {
+            byte: 0xFF,
+            step: 8192,
+            single,
+            left,
+            fails,
+            calls: 0,
+        },
+    )
+}
+
+/// Each call hands out a byte at least, and none follows the one that hands out the 16,777,217th. So there are no more calls than these.
 #[test]
 fn reads_to_the_limit(rt: HostRuntime) {
     assert_eq!(rt;
-        run_over(rt.alloc(), 0xFF, 8192, 16_777_216, false),
+        read_over(rt.alloc(), 16_777_216, 0, false),
         (End::NotUtf8 { at: 0 }, 2049)
     );
     assert_eq!(rt;
-        run_over(rt.alloc(), 0xFF, 8192, 16_777_217, false),
+        read_over(rt.alloc(), 16_777_217, 0, false),
         (End::TooLong, 2049)
     );
+    // All but 8,192 bytes of the limit in 2,047 calls, then one by one.
     assert_eq!(rt;
-        run_over(rt.alloc(), 0xFF, 1, 20_000_000, true),
-        (End::TooLong, 16_777_217)
+        read_over(rt.alloc(), 16_777_216, 8192, false),
+        (End::NotUtf8 { at: 0 }, 2047 + 8192 + 1)
+    );
+    assert_eq!(rt;
+        read_over(rt.alloc(), 16_777_216 + 5000, 8192 + 5000, true),
+        (End::TooLong, 2047 + 8193)
     );
 }
 
 #[test]
 fn tells_a_failed_read(rt: HostRuntime) {
     for n in 0usize..40 {
-        let (end, calls) = run_over(rt.alloc(), b'a', 1, n, true);
+        let bytes = Bytes {
+            byte: b'a',
+            step: 1,
+            single: n,
+            left: n,
+            fails: true,
+            calls: 0,
+        };
+        let (end, calls) = run_over(rt.alloc(), bytes);
         assert_eq!(rt; end, End::Read);
         assert_eq!(rt; calls, n as u64 + 1);
     }

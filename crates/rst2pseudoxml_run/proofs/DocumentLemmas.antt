@@ -1,9 +1,9 @@
 -- Lemmas on the document of some bytes.
-use Rattle.std.proofs.Common.{◌≡◌, ℕ, suc, ◌*◌, ◌^◌, ◌<◌, ◌≤◌, ◌==◌, Bool, true, false, cond, List, [], ◌∷◌, length, None, Some, refl, sym, ap, arith}
+use Rattle.std.proofs.Common.{◌≡◌, ℕ, suc, ◌*◌, ◌^◌, ◌<◌, ◌≤◌, ◌==◌, Bool, true, false, cond, List, [], ◌∷◌, length, None, Some, refl, sym, ap, ◌∙◌, subst, arith}
 use Rattle.std.specs.Prelude.{Option, Result, Ok, Err}
 use Rattle.std.specs.Str.{is_utf8, chars}
 use Rattle.std.proofs.lemmas.Str.{IsUtf8-from_is_utf8}
-use Rattle.rst_settings.specs.Profile.{Profile}
+use Rattle.rst_settings.specs.Profile.{Profile, profile_of}
 use Rattle.rst_settings.specs.declared.Settings.{Settings}
 use Rattle.rst_text.specs.Block.{Block}
 use Rattle.rst_text.specs.Lines.{first_longer, lines_of}
@@ -11,12 +11,13 @@ use Rattle.rst_text.specs.Text.{text_of, without_mark}
 use Rattle.rst_text.proofs.LinesLemmas.{length-chars}
 use Rattle.rst_tree.specs.declared.node.Node.{Node}
 use Rattle.rst_tree.specs.declared.tag.Tag.{Tag}
+use Rattle.rst_block.specs.Documents.{document}
 use Rattle.rst_block.specs.Ledger.{total_at}
 use Rattle.rst_block.specs.Nodes.{document_items}
 use Rattle.rst_block.specs.Numbered.{just, then_read}
 use Rattle.rst_block_sections.specs.Sections.{document_of, Item}
 use Rattle.rst_transform_work.specs.States.{node_tag, IsDocument}
-use Rattle.rst2pseudoxml_run.specs.Reading.{read_by, read_of}
+use Rattle.rst2pseudoxml_run.specs.Reading.{read_by, read_of, IsReadOf}
 use Rattle.rst_block.proofs.TextRoom.{few_looks}
 
 -- characters are no more without a mark
@@ -29,7 +30,7 @@ unmarked_short (c ∷ cs) = by (c == 0xFEFF)
     by false = omega arith
 
 -- a text has no more characters than the bytes that spell it
-text_short : (bytes text : List ℕ) → text_of bytes ≡ Some text → length text ≤ length bytes
+pub text_short : (bytes text : List ℕ) → text_of bytes ≡ Some text → length text ≤ length bytes
 text_short bytes text is = by (is_utf8 bytes) refl is
   where
     by : (b : Bool) → is_utf8 bytes ≡ b → cond b (Some (without_mark (chars bytes))) None ≡ Some text → length text ≤ length bytes
@@ -41,6 +42,13 @@ text_short bytes text is = by (is_utf8 bytes) refl is
 -- the looks at the text of an input can be counted
 pub input_few : (settings : Settings) (bytes text : List ℕ) → length bytes ≤ 16777216 → text_of bytes ≡ Some text → 128 * total_at 0 (lines_of settings.tab text) < 2 ^ 119
 input_few settings bytes text small is = few_looks settings text (omega (arith, small, text_short bytes text is))
+
+-- what is read of a text without a line that is too long is the document of its lines, or the line at which blocks are nested too deeply
+pub read_short : (settings : Settings) (bytes text : List ℕ) (lines : Block) (read : Result (Node × ℕ) ℕ) → text_of bytes ≡ Some text → lines ≡ lines_of settings.tab text
+    → first_longer settings.limit (lines_of settings.tab text) ≡ None → document (profile_of settings) lines 0 ≡ read → IsReadOf (profile_of settings) settings (text_of bytes) read
+read_short settings bytes text lines read is made short found =
+    subst (λ t. IsReadOf (profile_of settings) settings t read) (sym is)
+    (ap (λ long. read_by long (profile_of settings) (lines_of settings.tab text)) short ∙ ap (λ ls. document (profile_of settings) ls 0) (sym made) ∙ found)
 
 -- the kind of what is read, if it is an element
 abbrev read_tag : Result (Node × ℕ) ℕ → Option Tag
@@ -57,5 +65,10 @@ read_by_document : (long : Option ℕ) (profile : Profile) (lines : Block) (root
 read_by_document None profile lines root messages is = made_document (document_items profile lines 0) root messages is
 read_by_document (Some line) profile lines root messages is = sym (ap read_tag is)
 
-pub read_document : (profile : Profile) (lines : Block) (root : Node) (messages : ℕ) → read_of profile lines ≡ Ok (root, messages) → IsDocument root
+read_document : (profile : Profile) (lines : Block) (root : Node) (messages : ℕ) → read_of profile lines ≡ Ok (root, messages) → IsDocument root
 read_document profile lines root messages is = read_by_document (first_longer profile.line_limit lines) profile lines root messages is
+
+-- so is what is read of a text
+pub read_of_document : (profile : Profile) (settings : Settings) (text : Option (List ℕ)) (root : Node) (messages : ℕ) → IsReadOf profile settings text (Ok (root, messages)) → IsDocument root
+read_of_document profile settings None root messages is = absurd is
+read_of_document profile settings (Some text) root messages is = read_document profile (lines_of settings.tab text) root messages is

@@ -43,13 +43,6 @@ read_by (Some line) profile lines = Ok (long_document line, 0)
 abbrev pub read_of : Profile → Block → Result (Node × ℕ) ℕ
 read_of profile lines = read_by (first_longer profile.line_limit lines) profile lines
 
--- what is read of the lines is their document, or a block nests too deep, or memory ran out
-abbrev pub Parses : Profile → Block → Result Parsed End → Type 0
-Parses profile lines (Ok parsed) = read_of profile lines ≡ Ok (parsed.document, parsed.messages)
-Parses profile lines (Err (TooDeep line)) = read_of profile lines ≡ Err line
-Parses profile lines (Err NoMemory) = Unit {0}
-Parses profile lines (Err _) = ⊥
-
 -- no message in a document is below the report level, and no message but the last one halts the run
 abbrev pub IsFinished : Settings → Node → List Note → Type 0
 IsFinished settings document notes = (is_shown_in settings.report document ≡ true) × EndsAtHalt settings.halt notes
@@ -58,6 +51,18 @@ IsFinished settings document notes = (is_shown_in settings.report document ≡ t
 abbrev pub IsReadOf : Profile → Settings → Option (List ℕ) → Result (Node × ℕ) ℕ → Type 0
 IsReadOf profile settings None read = ⊥
 IsReadOf profile settings (Some text) read = read_of profile (lines_of settings.tab text) ≡ read
+
+-- the bytes are refused on this ground, or memory ran out
+abbrev pub Refuses : Profile → Settings → List ℕ → End → Type 0
+Refuses profile settings bytes (NotUtf8 at) = (text_of bytes ≡ None) × (at ≡ utf8_valid_len bytes)
+Refuses profile settings bytes (TooDeep line) = IsReadOf profile settings (text_of bytes) (Err line)
+Refuses profile settings bytes NoMemory = Unit {0}
+Refuses profile settings bytes _ = ⊥
+
+-- a document was read of the bytes, or they were refused, or memory ran out
+abbrev pub Parses : Profile → Settings → List ℕ → Result Parsed End → Type 0
+Parses profile settings bytes (Ok parsed) = IsReadOf profile settings (text_of bytes) (Ok (parsed.document, parsed.messages))
+Parses profile settings bytes (Err end) = Refuses profile settings bytes end
 
 -- the finished document of a text, and its messages with their highest level
 abbrev pub IsMade : Profile → Settings → Option (List ℕ) → Finished → Type 0
@@ -68,7 +73,4 @@ IsMade profile settings text finished =
 -- a document was made of the bytes, or they were refused, or memory ran out
 abbrev pub Reads : Profile → Settings → List ℕ → Result Finished End → Type 0
 Reads profile settings bytes (Ok finished) = IsMade profile settings (text_of bytes) finished
-Reads profile settings bytes (Err (NotUtf8 at)) = (text_of bytes ≡ None) × (at ≡ utf8_valid_len bytes)
-Reads profile settings bytes (Err (TooDeep line)) = IsReadOf profile settings (text_of bytes) (Err line)
-Reads profile settings bytes (Err NoMemory) = Unit {0}
-Reads profile settings bytes (Err _) = ⊥
+Reads profile settings bytes (Err end) = Refuses profile settings bytes end

@@ -1,11 +1,11 @@
 //! The document that an input is, and its messages.
-ghost use Rattle.std.specs.Prelude.{◌≡◌, ◌*◌, ◌^◌, ◌<◌, ◌≤◌, length, IfOk, string_bytes};
-ghost use Rattle.rst_block.specs.Ledger.{total_at};
+ghost use Rattle.std.specs.Prelude.{◌≡◌, ◌≤◌, length, IfOk, string_bytes};
 ghost use Rattle.rst_settings.specs.Profile.{profile_of};
 ghost use Rattle.rst_tree.specs.Faults.{Gives};
 ghost use Rattle.rst2pseudoxml_run.specs.Reading as spec;
 
 use crate::end::End;
+use crate::line_limit::first_longer;
 use itoa::Buffer;
 use rst_block::{BlockFault, Parsed, parse};
 use rst_block_nodes::message;
@@ -21,37 +21,36 @@ pub fn document_of(alloc: Global, settings: &Settings, bytes: Vec<u8>) -> Result
     requires few { length bytes.items ≤ 16777216 }
     ensures { spec.Reads (profile_of settings.now) settings.now bytes.items result }
 {
-    let text = match text_in(bytes.as_slice()) {
-        Ok(text) => text,
-        Err(TextFault::NotUtf8 { at }) => return Err(End::NotUtf8 { at }),
-        Err(TextFault::NoMemory) => return Err(End::NoMemory),
-    };
-    let lines = match Lines::of(alloc, text, settings.tab) {
-        Ok(lines) => lines,
-        Err(_) => return Err(End::NoMemory),
-    };
-    // Each form of the input is given up before the next is made, so that memory holds few at once.
-    drop(bytes);
-    let parsed = parsed_of(alloc, settings, &lines)?;
-    drop(lines);
+    let parsed = parsed_of(alloc, settings, bytes)?;
     match finish(alloc, parsed.document, parsed.messages, settings) {
         Ok(finished) => Ok(finished),
         Err(_) => Err(End::NoMemory),
     }
 }
 
-/// What is read of the lines: if a line is too long, the document says nothing else.
-fn parsed_of(alloc: Global, settings: &Settings, lines: &Lines) -> Result<Parsed, End>
-    requires few { 128 * total_at 0 lines.now < 2 ^ 119 }
-    ensures { spec.Parses (profile_of settings.now) lines.now result }
+/// What is read of the bytes: if a line of their text is too long, the document says nothing else.
+fn parsed_of(alloc: Global, settings: &Settings, bytes: Vec<u8>) -> Result<Parsed, End>
+    requires few { length bytes.items ≤ 16777216 }
+    ensures { spec.Parses (profile_of settings.now) settings.now bytes.items result }
 {
-    if let Some(line) = lines.first_longer(settings.limit) {
+    let text = match text_in(bytes.as_slice()) {
+        Ok(text) => text,
+        Err(TextFault::NotUtf8 { at }) => return Err(End::NotUtf8 { at }),
+        Err(TextFault::NoMemory) => return Err(End::NoMemory),
+    };
+    if let Some(line) = first_longer(text, settings.tab, settings.limit) {
         return match long_line(alloc, line) {
             Ok(parsed) => Ok(parsed),
             Err(_) => Err(End::NoMemory),
         };
     }
-    match parse(alloc, lines) {
+    let lines = match Lines::of(alloc, text, settings.tab) {
+        Ok(lines) => lines,
+        Err(_) => return Err(End::NoMemory),
+    };
+    // Each form of the input is given up before the next is made, so that memory holds few at once.
+    drop(bytes);
+    match parse(alloc, &lines) {
         Ok(parsed) => Ok(parsed),
         Err(BlockFault::TooDeep { line }) => Err(End::TooDeep { line }),
         Err(BlockFault::NoMemory) => Err(End::NoMemory),

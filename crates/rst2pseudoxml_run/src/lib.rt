@@ -6,6 +6,7 @@ mod end;
 mod error_text;
 mod input;
 pub mod laws;
+mod line_limit;
 mod reporting;
 mod running;
 

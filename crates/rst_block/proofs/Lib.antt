@@ -52,6 +52,7 @@ pub mod TextRoom
 pub mod TextsPaid
 pub mod TextsRead
 pub mod UnpaidLemmas
+pub mod Views
 pub mod Waiting
 pub mod WaitingLooks
 pub mod Walks

@@ -1,5 +1,5 @@
 -- Blocks that wait for one inside them, and the block that is being read.
-use Rattle.std.specs.Prelude.{◌≡◌, ℕ, suc, ◌^◌, ◌<◌, ◌≤◌, List, [], ◌∷◌, length, Option, None, Some}
+use Rattle.std.specs.Prelude.{◌≡◌, ℕ, suc, ◌<◌, List, [], ◌∷◌, length, Option, None, Some}
 use Rattle.rst_text.specs.Block.{Block}
 use Rattle.rst_text.specs.Shown.{block_of, source_of, IsPlacement, placement_block}
 use Rattle.rst_markup_blocks.specs.Parts.{IsBlock}
@@ -19,7 +19,7 @@ use Rattle.rst_block.specs.declared.step.Step.TheVariants.{Next, Open, Cells, Do
 -- a block of a text that waits: its parts are those of its lines, and its titles stand among its nodes
 abbrev pub IsFrame : Block → Frame → Type 0
 IsFrame S f =
-    IsPlacement S f.placement × (length (placement_block S f.placement) < 2 ^ 64) × IsBlockIf (placement_block S f.placement) f.second
+    IsPlacement S f.placement × IsBlockIf (placement_block S f.placement) f.second
     × IsWaiting (placement_block S f.placement) f.level.at f.waits × IsPlaced f.level
 
 -- all of them are
@@ -49,7 +49,7 @@ HasSecond None = ⊥
 abbrev pub IsEnded : Block → Frame → ℕ → Ended → Type 0
 IsEnded S f to (Waiting g part) =
     IsFrame S g × (g.placement ≡ f.placement) × (g.level.at ≡ f.level.at) × (g.second ≡ None) × HasSecond f.second
-    × (source_of part ≡ S) × (length (block_of part) ≤ length (placement_block S f.placement)) × (to ≡ 0)
+    × (source_of part ≡ S) × (to ≡ 0)
 IsEnded S f to (GoesOn view s) = (source_of view ≡ S) × (block_of view ≡ placement_block S f.placement) × IsResumed (block_of view) f.level.at to s
 
 -- what follows keeps the block that waited: the next part is read from its begin and stands in so many blocks, or the block goes on

@@ -35,7 +35,6 @@ pub(crate) fn definition(
     pass: &mut Pass,
 ) -> Result<Step, BlockFault>
     requires inside { level.old.at < length (block_of view.now) }
-    requires short { length (block_of view.now) < 2 ^ 64 }
     requires few { pass.old.looks < 2 ^ 119 + 2 ^ 114 }
     requires text { IsText level.old (block_of view.now) infos.items }
     requires form { text_form (front_text (drop level.old.at (block_of view.now))) (next_text (drop level.old.at (block_of view.now))) ≡ Definition }

@@ -61,7 +61,6 @@ pub(crate) fn directive_at(
     pass: &mut Pass,
 ) -> Result<Directive, BlockFault>
     requires call { IsCall (block_of view.now) at invocation.now }
-    requires short { length (block_of view.now) < 2 ^ 64 }
     requires few { pass.old.looks < 2 ^ 119 + 2 ^ 115 }
     ensures outcome { Gives (λ found. directives.outcome_of found ≡ meaning.called (within_at 0) (block_of view.now) at invocation.now place) result }
     ensures parts { IfOk result (IsDirectiveIn (block_of view.now)) }
@@ -98,7 +97,6 @@ fn is_paragraph(
     looks: &mut Looks,
 ) -> bool
     requires block { IsBlock (block_of view.now) invocation.now.block }
-    requires short { length (block_of view.now) < 2 ^ 64 }
     requires few { looks.old < 2 ^ 119 + 2 ^ 116 }
     ensures flag { (at : ℕ) (place : Place) → name ≡ called_at true (block_of view.now) at invocation.now → directives.directive_at true (block_of view.now) at invocation.now place result ≡ meaning.called (within_at 0) (block_of view.now) at invocation.now place }
     ensures looks { looks.new ≤ looks.old + 2 ^ 66 }
@@ -121,7 +119,6 @@ pub(crate) fn directive_block(
 ) -> Result<Step, BlockFault>
     requires call { IsCall (block_of view.now) level.old.at invocation.now }
     requires inside { level.old.at < length (block_of view.now) }
-    requires short { length (block_of view.now) < 2 ^ 64 }
     requires few { pass.old.looks < 2 ^ 119 + 2 ^ 113 }
     requires later { level.old.at < invocation.now.block.to }
     requires placed { IsPlaced level.old }
@@ -185,7 +182,6 @@ pub(crate) fn wrong_directive(
     name: &str,
     looks: &mut Looks,
 ) -> Result<Node, BlockFault>
-    requires short { length (block_of view.now) < 2 ^ 64 }
     requires few { looks.old < 2 ^ 120 }
     ensures error { Gives (λ node. node ≡ shown Error (first_number (drop at (block_of view.now))) (fault_text (fault_in fault.now) name.now) (source_of (block_of view.now) (record { start = at; stop = end }))) result }
     ensures looks { looks.new ≤ looks.old + 2 ^ 64 }
@@ -228,7 +224,6 @@ fn directive_nodes(
     requires content { IsContentIn (block_of view.now) found.now.content }
     requires argument { IsArgumentIn (block_of view.now) found.now.argument }
     requires inside { level.old.at < length (block_of view.now) }
-    requires short { length (block_of view.now) < 2 ^ 64 }
     requires few { pass.old.looks < 2 ^ 119 + 2 ^ 114 }
     requires later { level.old.at < found.now.end }
     requires placed { IsPlaced level.old }
@@ -260,7 +255,6 @@ fn titled_block(
     requires content { IsContentIn (block_of view.now) found.now.content }
     requires title { IsBlock (block_of view.now) title }
     requires inside { level.old.at < length (block_of view.now) }
-    requires short { length (block_of view.now) < 2 ^ 64 }
     requires few { pass.old.looks < 2 ^ 119 + 2 ^ 115 }
     requires later { level.old.at < found.now.end }
     requires placed { IsPlaced level.old }
@@ -284,7 +278,6 @@ fn plain_block(
 ) -> Result<Step, BlockFault>
     requires content { IsContentIn (block_of view.now) found.now.content }
     requires inside { level.old.at < length (block_of view.now) }
-    requires short { length (block_of view.now) < 2 ^ 64 }
     requires few { pass.old.looks < 2 ^ 119 + 2 ^ 115 }
     requires later { level.old.at < found.now.end }
     requires placed { IsPlaced level.old }
@@ -312,7 +305,6 @@ fn image_block(
 ) -> Result<Step, BlockFault>
     requires content { IsContentIn (block_of view.now) found.now.content }
     requires inside { level.old.at < length (block_of view.now) }
-    requires short { length (block_of view.now) < 2 ^ 64 }
     requires few { pass.old.looks < 2 ^ 119 + 2 ^ 115 }
     requires later { level.old.at < found.now.end }
     requires placed { IsPlaced level.old }
@@ -357,7 +349,6 @@ fn figure_block(
 ) -> Result<Step, BlockFault>
     requires content { IsContentIn (block_of view.now) found.now.content }
     requires inside { level.old.at < length (block_of view.now) }
-    requires short { length (block_of view.now) < 2 ^ 64 }
     requires few { pass.old.looks < 2 ^ 119 + 2 ^ 116 }
     requires later { level.old.at < found.now.end }
     requires placed { IsPlaced level.old }
@@ -392,7 +383,6 @@ fn code_nodes(
 ) -> Result<Step, BlockFault>
     requires content { IsContentIn (block_of view.now) found.now.content }
     requires inside { level.old.at < length (block_of view.now) }
-    requires short { length (block_of view.now) < 2 ^ 64 }
     requires few { pass.old.looks < 2 ^ 119 + 2 ^ 116 }
     requires later { level.old.at < found.now.end }
     requires placed { IsPlaced level.old }
@@ -418,7 +408,6 @@ fn titled(
     pass: &mut Pass,
 ) -> Result<Node, TreeFault>
     requires title { IsBlock (block_of view.now) title }
-    requires short { length (block_of view.now) < 2 ^ 64 }
     requires few { pass.old.looks < 2 ^ 120 }
     ensures node { faults.Gives (λ node. then_read (λ made. just (filled (titled_element found.now.name (directive_element found.now.name (choices_in found.now.options.items) line) made.0) (made.0 ∷ made.1))) (texted TitleTag (number_or line (lines_in (block_of view.now) title)) (joined (lines_in (block_of view.now) title)) (number_or line (lines_in (block_of view.now) title)) pass.old.numbers) ≡ Ok (node, pass.new.numbers)) result }
     ensures looks { pass.new.looks ≤ pass.old.looks + 2 ^ 64 }

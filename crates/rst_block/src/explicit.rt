@@ -39,7 +39,7 @@ use rst_tree::{Level, Node, Tag};
 use std::alloc::{AllocError, Global};
 
 /// Explicit markup, which joins other explicit markup before it.
-#[tactic(auto, using(crate::proofs::Looked::explicit_looks))]
+#[tactic(auto, using(crate::proofs::Views::few_lines, crate::proofs::Looked::explicit_looks))]
 pub(crate) fn explicit_markup(
     alloc: Global,
     view: &View<'_>,
@@ -48,7 +48,6 @@ pub(crate) fn explicit_markup(
 ) -> Result<Step, BlockFault>
     requires inside { level.old.at < length (block_of view.now) }
     requires kind { IsTrue (is_explicit_kind (kind_of (block_of view.now) level.old.at)) }
-    requires short { length (block_of view.now) < 2 ^ 64 }
     requires few { pass.old.looks < 2 ^ 119 + 2 ^ 111 }
     requires placed { IsPlaced level.old }
     ensures step { IfOk result (λ s. spec.IsStep (block_of view.now) level.old.at level.new.at s) }
@@ -78,7 +77,6 @@ fn begin_markup(
     end: usize,
     pass: &mut Pass,
 ) -> Result<(), BlockFault>
-    requires short { length (block_of view.now) < 2 ^ 64 }
     requires few { pass.old.looks < 2 ^ 120 }
     requires placed { IsPlaced level.old }
     ensures at { level.new.at ≡ level.old.at }
@@ -109,7 +107,6 @@ fn markup_of(
     requires markup { IsExplicitIn (block_of view.now) level.old.at found }
     requires end { end ≡ explicit_end level.old.at found }
     requires inside { level.old.at < length (block_of view.now) }
-    requires short { length (block_of view.now) < 2 ^ 64 }
     requires few { pass.old.looks < 2 ^ 119 + 2 ^ 112 }
     requires later { level.old.at < end }
     requires placed { IsPlaced level.old }
@@ -145,7 +142,6 @@ fn footnote_block(
 ) -> Result<Step, BlockFault>
     requires body { IsBlock (block_of view.now) body }
     requires inside { level.old.at < length (block_of view.now) }
-    requires short { length (block_of view.now) < 2 ^ 64 }
     requires few { pass.old.looks < 2 ^ 119 + 2 ^ 113 }
     requires later { level.old.at < body.to }
     requires placed { IsPlaced level.old }
@@ -171,7 +167,6 @@ fn citation_block(
 ) -> Result<Step, BlockFault>
     requires body { IsBlock (block_of view.now) body }
     requires inside { level.old.at < length (block_of view.now) }
-    requires short { length (block_of view.now) < 2 ^ 64 }
     requires few { pass.old.looks < 2 ^ 119 + 2 ^ 113 }
     requires later { level.old.at < body.to }
     requires placed { IsPlaced level.old }
@@ -197,7 +192,6 @@ fn target_block(
 ) -> Result<Step, BlockFault>
     requires text { IsBlock (block_of view.now) text }
     requires inside { level.old.at < length (block_of view.now) }
-    requires short { length (block_of view.now) < 2 ^ 64 }
     requires few { pass.old.looks < 2 ^ 119 + 2 ^ 113 }
     requires later { level.old.at < text.to }
     requires placed { IsPlaced level.old }
@@ -247,7 +241,6 @@ fn comment(
 ) -> Result<Step, BlockFault>
     requires text { IsBlock (block_of view.now) text }
     requires inside { level.old.at < length (block_of view.now) }
-    requires short { length (block_of view.now) < 2 ^ 64 }
     requires few { pass.old.looks < 2 ^ 119 + 2 ^ 113 }
     requires later { level.old.at < text.to }
     requires placed { IsPlaced level.old }

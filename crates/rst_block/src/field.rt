@@ -34,7 +34,6 @@ pub(crate) fn field(
     pass: &mut Pass,
 ) -> Result<Step, BlockFault>
     requires inside { level.old.at < length (block_of view.now) }
-    requires short { length (block_of view.now) < 2 ^ 64 }
     requires few { pass.old.looks < 2 ^ 119 + 2 ^ 111 }
     requires begun { IsBegun (drop level.old.at (block_of view.now)) (Field mark) }
     requires placed { IsPlaced level.old }
@@ -91,7 +90,6 @@ pub(crate) fn join_list(
     end: usize,
     pass: &mut Pass,
 ) -> Result<(), BlockFault>
-    requires short { length (block_of view.now) < 2 ^ 64 }
     requires few { pass.old.looks < 2 ^ 120 }
     ensures at { level.new.at ≡ level.old.at }
     ensures joins { list_kind_in level.old.run ≡ Some kind → Gives (λ _. HasRun level.old level.new (joined_at (joining_in kind) end (open_of level.old.run))) result }

@@ -69,7 +69,6 @@ pub(crate) fn opened(
 ) -> Frame
     requires second { spec.IsBlockIf (block_of view.now) second }
     requires waits { spec.IsWaiting (block_of view.now) level.old.at waits }
-    requires short { length (block_of view.now) < 2 ^ 64 }
     requires placed { IsPlaced level.old }
     ensures frame { frames.IsFrame (source_of view.now) result }
     ensures block { placement_block (source_of view.now) result.placement ≡ block_of view.now }

@@ -1,5 +1,5 @@
 //! Blocks: the lines of a document, or of a part of it, as nodes and sections (Markup Specification, 'Syntax Details').
-#![tactic(auto)]
+#![tactic(auto, using(crate::proofs::Views::few_lines))]
 
 mod adornment;
 mod definition;

@@ -36,7 +36,6 @@ pub(crate) fn bar_line(
     pass: &mut Pass,
 ) -> Result<(), BlockFault>
     requires inside { level.old.at < length (block_of view.now) }
-    requires short { length (block_of view.now) < 2 ^ 64 }
     requires few { pass.old.looks < 2 ^ 119 + 2 ^ 111 }
     requires begun { IsBegun (drop level.old.at (block_of view.now)) (Line marker) }
     requires placed { IsPlaced level.old }
@@ -91,7 +90,6 @@ fn bar_text(
     pass: &mut Pass,
 ) -> Result<BarText, AllocError>
     requires inside { at < length (block_of view.now) }
-    requires short { length (block_of view.now) < 2 ^ 64 }
     requires few { pass.old.looks < 2 ^ 119 + 2 ^ 112 }
     ensures line { IfOk result (λ text. (last : ℕ) → indented_by (unwrap_or text.indent last) text ≡ indented_line (indentation_of last marker) (block_of view.now) marker (record { start = at; stop = end })) }
     ensures numbers { pass.new.numbers ≡ pass.old.numbers }

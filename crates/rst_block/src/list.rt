@@ -62,7 +62,6 @@ pub(crate) fn bullet_item(
     pass: &mut Pass,
 ) -> Result<Step, BlockFault>
     requires inside { level.old.at < length (block_of view.now) }
-    requires short { length (block_of view.now) < 2 ^ 64 }
     requires few { pass.old.looks < 2 ^ 119 + 2 ^ 111 }
     requires begun { IsBegun (drop level.old.at (block_of view.now)) (Bullet mark marker) }
     requires placed { IsPlaced level.old }
@@ -93,7 +92,6 @@ pub(crate) fn enumerated_item(
     pass: &mut Pass,
 ) -> Result<Step, BlockFault>
     requires inside { level.old.at < length (block_of view.now) }
-    requires short { length (block_of view.now) < 2 ^ 64 }
     requires few { pass.old.looks < 2 ^ 119 + 2 ^ 111 }
     requires begun { IsBegun (drop level.old.at (block_of view.now)) (ItemEnumerator enumerator) }
     requires placed { IsPlaced level.old }
@@ -134,7 +132,6 @@ fn begin_enumerated_list(
     pass: &mut Pass,
 ) -> Result<(), BlockFault>
     requires inside { level.old.at < length (block_of view.now) }
-    requires short { length (block_of view.now) < 2 ^ 64 }
     requires few { pass.old.looks < 2 ^ 120 }
     ensures at { level.new.at ≡ level.old.at }
     ensures run { blocks.Gives (λ _. HasRun level.old level.new (begun_run (item_of_list (enumerated_item enumerator)) (block_of view.now) (record { start = level.old.at; stop = end }) (drop level.old.at (block_of view.now)))) result }

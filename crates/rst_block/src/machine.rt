@@ -72,7 +72,6 @@ fn read_blocks(
 ) -> Result<OpenBlock, BlockFault>
     requires depth { depth ≤ 250 }
     requires room { length frames.old.items ≤ depth }
-    requires short { length (block_of whole) < 2 ^ 64 }
     requires few { pass.old.looks + 128 * total_at depth (block_of whole) < 2 ^ 119 }
     ensures frames { IfOk result (λ _. frames.new.items ≡ frames.old.items) }
     ensures placed { IfOk result IsPlaced }
@@ -120,14 +119,13 @@ fn read_blocks(
 }
 
 /// What comes in a block behind the constructs that are read at once: one that waits for a block inside, or the block's end.
-#[tactic(auto, using(crate::proofs::Stack::next_of_step))]
+#[tactic(auto, using(crate::proofs::Views::few_lines, crate::proofs::Stack::next_of_step))]
 fn next(
     alloc: Global,
     view: &View<'_>,
     level: &mut OpenBlock,
     pass: &mut Pass,
 ) -> Result<Step, BlockFault>
-    requires short { length (block_of view.now) < 2 ^ 64 }
     requires few { pass.old.looks + most_left level.old (block_of view.now) Next < 2 ^ 119 }
     requires placed { IsPlaced level.old }
     ensures next { IfOk result (λ s. spec.IsNext (block_of view.now) level.old.at level.new.at s) }
@@ -159,7 +157,6 @@ fn last_of(frames: &mut Frames, base: usize) -> Option<Frame>
 
 /// Refuses lines that are nested too deeply, unless they are blank.
 fn not_blank(view: &View<'_>, pass: &mut Pass) -> Result<(), BlockFault>
-    requires short { length (block_of view.now) < 2 ^ 64 }
     requires few { pass.old.looks < 2 ^ 120 }
     ensures blank { TellsBlank (block_of view.now) result }
     ensures numbers { pass.new.numbers ≡ pass.old.numbers }
@@ -190,7 +187,6 @@ fn flat(
     requires first { IsBlock (block_of view.now) first }
     requires second { spec.IsBlockIf (block_of view.now) second }
     requires waits { spec.IsWaiting (block_of view.now) level.old.at waits }
-    requires short { length (block_of view.now) < 2 ^ 64 }
     requires few { pass.old.looks + most_left level.old (block_of view.now) (Open waits first second) < 2 ^ 119 }
     requires placed { IsPlaced level.old }
     requires deepest { level.old.depth ≡ deepest }
@@ -220,7 +216,6 @@ fn cells(
     requires inside { level.old.at < length (block_of view.now) }
     requires depth { depth ≤ 251 }
     requires room { length frames.old.items ≤ depth }
-    requires short { length (block_of view.now) < 2 ^ 64 }
     requires few { pass.old.looks + most_left level.old (block_of view.now) (Cells found) < 2 ^ 119 }
     requires placed { IsPlaced level.old }
     requires level { depth ≡ suc level.old.depth }

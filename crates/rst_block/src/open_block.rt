@@ -120,7 +120,6 @@ impl OpenBlock {
         view: &View<'_>,
         pass: &mut Pass,
     ) -> Result<(), BlockFault>
-        requires short { length (block_of view.now) < 2 ^ 64 }
         requires few { pass.old.looks < 2 ^ 120 }
         ensures at { self.new.at ≡ self.old.at }
         ensures low { pass.old.looks ≤ pass.new.looks }
@@ -191,7 +190,6 @@ impl OpenBlock {
         text: &str,
         pass: &mut Pass,
     ) -> Result<(), BlockFault>
-        requires short { length (block_of view.now) < 2 ^ 64 }
         requires few { pass.old.looks < 2 ^ 120 }
         ensures at { self.new.at ≡ self.old.at }
         ensures more { spec.Gives (λ _. spec.HasMore self.old self.new (warned text.now (drop end (block_of view.now)))) result }

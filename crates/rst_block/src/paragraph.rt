@@ -47,7 +47,6 @@ pub(crate) fn doctest_block(
     pass: &mut Pass,
 ) -> Result<(), BlockFault>
     requires inside { level.old.at < length (block_of view.now) }
-    requires short { length (block_of view.now) < 2 ^ 64 }
     requires few { pass.old.looks < 2 ^ 119 + 2 ^ 111 }
     requires begun { IsBegun (drop level.old.at (block_of view.now)) Doctest }
     requires placed { IsPlaced level.old }
@@ -89,7 +88,6 @@ pub(crate) fn paragraph(
     pass: &mut Pass,
 ) -> Result<(), BlockFault>
     requires inside { level.old.at < length (block_of view.now) }
-    requires short { length (block_of view.now) < 2 ^ 64 }
     requires few { pass.old.looks < 2 ^ 119 + 2 ^ 114 }
     requires plain { is_loose (front_text (drop level.old.at (block_of view.now))) ≡ false }
     ensures later { IfOk result (λ _. level.old.at < level.new.at) }
@@ -118,7 +116,6 @@ fn paragraph_of(
 ) -> Result<(), BlockFault>
     requires end { end ≤ length (block_of view.now) }
     requires inside { level.old.at < length (block_of view.now) }
-    requires short { length (block_of view.now) < 2 ^ 64 }
     requires few { pass.old.looks < 2 ^ 119 + 2 ^ 114 + 2 ^ 70 }
     requires behind { level.old.at < end }
     ensures later { IfOk result (λ _. level.old.at < level.new.at) }
@@ -145,7 +142,6 @@ fn put_paragraph(
     end: usize,
     pass: &mut Pass,
 ) -> Result<(), BlockFault>
-    requires short { length (block_of view.now) < 2 ^ 64 }
     requires few { pass.old.looks < 2 ^ 120 }
     ensures at { level.new.at ≡ level.old.at }
     ensures read { Gives (λ _. ReadsNodes (parts.shown_paragraph (chars text.now) level.old.at end (block_of view.now) pass.old.numbers) level.old level.new level.old.at pass.new.numbers) result }
@@ -197,7 +193,6 @@ fn literal(
 ) -> Result<(), BlockFault>
     requires end { end ≤ length (block_of view.now) }
     requires inside { level.old.at < length (block_of view.now) }
-    requires short { length (block_of view.now) < 2 ^ 64 }
     requires few { pass.old.looks < 2 ^ 119 + 2 ^ 115 }
     requires behind { level.old.at < end }
     ensures later { IfOk result (λ _. level.old.at < level.new.at) }
@@ -239,7 +234,6 @@ fn indented_literal(
 ) -> Result<(), BlockFault>
     requires start { start ≤ length (block_of view.now) }
     requires inside { level.old.at < length (block_of view.now) }
-    requires short { length (block_of view.now) < 2 ^ 64 }
     requires few { pass.old.looks < 2 ^ 119 + 2 ^ 116 }
     requires behind { level.old.at < start }
     ensures later { IfOk result (λ _. level.old.at < level.new.at) }
@@ -273,7 +267,6 @@ fn quoted_literal(
 ) -> Result<(), BlockFault>
     requires start { start ≤ length (block_of view.now) }
     requires inside { level.old.at < length (block_of view.now) }
-    requires short { length (block_of view.now) < 2 ^ 64 }
     requires few { pass.old.looks < 2 ^ 119 + 2 ^ 116 }
     requires behind { level.old.at < start }
     requires quoted { begins_with quote (front_text (drop start (block_of view.now))) ≡ true }
@@ -309,7 +302,6 @@ fn quoted_literal(
 /// Whether the lines of a block in a block are one paragraph that doesn't vanish, and nothing else. It makes at most six looks more
 /// than there are lines.
 pub(crate) fn is_single_paragraph(view: &View<'_>, looks: &mut Looks) -> bool
-    requires short { length (block_of view.now) < 2 ^ 64 }
     requires few { looks.old < 2 ^ 119 + 2 ^ 116 }
     ensures paragraph { result ≡ paragraphs.is_single_paragraph (block_of view.now) }
     ensures looks { looks.new ≤ looks.old + 2 ^ 66 }
@@ -336,7 +328,6 @@ fn is_colons(text: &str) -> bool
 /// Whether the first line of a block in a block begins a paragraph.
 fn begins_paragraph(view: &View<'_>, looks: &mut Looks) -> bool
     requires inside { 0 < length (block_of view.now) }
-    requires short { length (block_of view.now) < 2 ^ 64 }
     requires few { looks.old < 2 ^ 119 + 2 ^ 117 }
     ensures paragraph { result ≡ paragraphs.begins_paragraph (block_of view.now) }
     ensures looks { looks.new ≤ looks.old + 5 + overline_looks (next_text (block_of view.now)) }
@@ -354,7 +345,6 @@ fn begins_paragraph(view: &View<'_>, looks: &mut Looks) -> bool
 /// Whether the first line of a block in a block, before the next, begins text.
 fn begins_text(view: &View<'_>, next: &str, looks: &mut Looks) -> bool
     requires inside { 0 < length (block_of view.now) }
-    requires short { length (block_of view.now) < 2 ^ 64 }
     requires next { chars next.now ≡ next_text (block_of view.now) }
     requires few { looks.old < 2 ^ 119 + 2 ^ 118 }
     ensures text { result ≡ paragraphs.begins_text (block_of view.now) }

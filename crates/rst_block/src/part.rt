@@ -15,7 +15,6 @@ use rst_text::{Looks, View};
 /// The lines from place `from` on that are blank or indented, without their least indentation.
 pub(crate) fn indented(view: &View<'_>, from: usize, looks: &mut Looks) -> Part
     requires inside { from ≤ length (block_of view.now) }
-    requires short { length (block_of view.now) < 2 ^ 64 }
     requires few { looks.old < 2 ^ 120 }
     ensures block { IsBlock (block_of view.now) result }
     ensures part { result ≡ within.indented_part from (drop from (block_of view.now)) }
@@ -35,7 +34,6 @@ pub(crate) fn indented(view: &View<'_>, from: usize, looks: &mut Looks) -> Part
 /// What stands behind a marker, and the indented block below.
 pub(crate) fn hanging(view: &View<'_>, at: usize, marker: Marker, looks: &mut Looks) -> Part
     requires inside { at < length (block_of view.now) }
-    requires short { length (block_of view.now) < 2 ^ 64 }
     requires few { looks.old < 2 ^ 120 }
     ensures block { IsBlock (block_of view.now) result }
     ensures part { result ≡ within.hanging at marker (drop at (block_of view.now)) }
@@ -49,7 +47,6 @@ pub(crate) fn hanging(view: &View<'_>, at: usize, marker: Marker, looks: &mut Lo
 /// The block of a list's item with this marker.
 pub(crate) fn item_part(view: &View<'_>, at: usize, marker: Marker, looks: &mut Looks) -> Part
     requires inside { at < length (block_of view.now) }
-    requires short { length (block_of view.now) < 2 ^ 64 }
     requires few { looks.old < 2 ^ 120 }
     ensures block { IsBlock (block_of view.now) result }
     ensures part { result ≡ within.item_part at marker (drop at (block_of view.now)) }

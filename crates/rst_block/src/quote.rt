@@ -35,7 +35,6 @@ pub(crate) fn block_quote(
     pass: &mut Pass,
 ) -> Result<Step, BlockFault>
     requires inside { level.old.at < length (block_of view.now) }
-    requires short { length (block_of view.now) < 2 ^ 64 }
     requires few { pass.old.looks < 2 ^ 119 + 2 ^ 111 }
     requires begun { IsBegun (drop level.old.at (block_of view.now)) Quote }
     requires placed { IsPlaced level.old }
@@ -61,7 +60,6 @@ pub(crate) fn quote_part(
     requires block { IsBlock (block_of view.now) quote }
     requires at { level.old.at ≤ quote.from }
     requires inside { level.old.at < length (block_of view.now) }
-    requires short { length (block_of view.now) < 2 ^ 64 }
     requires few { pass.old.looks < 2 ^ 119 + 2 ^ 112 }
     requires placed { IsPlaced level.old }
     requires filled { quote.from < quote.to }
@@ -127,7 +125,6 @@ fn rest_of(quote: Part, next: usize) -> Option<Part>
 /// The first attribution in a quote, with its place: behind a blank line. It makes at most five looks for each line through its
 /// end, or for each line of the quote where there is none.
 fn first_attribution(lines: &View<'_>, looks: &mut Looks) -> Option<(usize, Attribution)>
-    requires short { length (block_of lines.now) < 2 ^ 64 }
     requires few { looks.old < 2 ^ 119 + 2 ^ 113 }
     ensures first { result ≡ quotes.first_attribution (block_of lines.now) }
     ensures place { IfSome result (λ found. (0 < found.0) × (found.0 ≤ found.1.end)) }
@@ -160,7 +157,6 @@ fn attribution_text(
     pass: &mut Pass,
 ) -> Result<Texted, TreeFault>
     requires inside { IsBlock (block_of lines.now) (attribution_part place found) }
-    requires short { length (block_of lines.now) < 2 ^ 64 }
     requires few { pass.old.looks < 2 ^ 120 }
     ensures text { Gives (λ made. texted AttributionTag (first_number (drop place (block_of lines.now))) (joined (lines_in (block_of lines.now) (attribution_part place found))) (first_number (drop place (block_of lines.now))) pass.old.numbers ≡ Ok ((made.element, made.notes.items), pass.new.numbers)) result }
     ensures looks { pass.new.looks ≤ pass.old.looks + 2 ^ 64 }

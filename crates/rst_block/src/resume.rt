@@ -67,7 +67,6 @@ pub(crate) fn resume(
     pass: &mut Pass,
 ) -> Result<Step, BlockFault>
     requires waits { spec.IsWaiting (block_of view.now) level.old.at waits }
-    requires short { length (block_of view.now) < 2 ^ 64 }
     requires few { pass.old.looks < 2 ^ 119 + 2 ^ 109 }
     requires placed { IsPlaced level.old }
     ensures step { IfOk result (λ s. spec.IsResumed (block_of view.now) level.old.at level.new.at s) }
@@ -166,7 +165,6 @@ fn after_quote(
     pass: &mut Pass,
 ) -> Result<Step, BlockFault>
     requires rest { spec.IsRest (block_of view.now) level.old.at rest }
-    requires short { length (block_of view.now) < 2 ^ 64 }
     requires few { pass.old.looks < 2 ^ 119 + 2 ^ 109 }
     requires placed { IsPlaced level.old }
     ensures step { IfOk result (λ s. spec.IsResumed (block_of view.now) level.old.at level.new.at s) }

@@ -45,7 +45,7 @@ pub(crate) enum Step {
 }
 
 /// Reads the construct at the next line.
-#[tactic(auto, using(crate::proofs::Looked::grid_looks, crate::proofs::Looked::simple_looks))]
+#[tactic(auto, using(crate::proofs::Views::few_lines, crate::proofs::Looked::grid_looks, crate::proofs::Looked::simple_looks))]
 pub(crate) fn step_at(
     alloc: Global,
     view: &View<'_>,
@@ -53,7 +53,6 @@ pub(crate) fn step_at(
     pass: &mut Pass,
 ) -> Result<Step, BlockFault>
     requires inside { level.old.at < length (block_of view.now) }
-    requires short { length (block_of view.now) < 2 ^ 64 }
     requires few { pass.old.looks < 2 ^ 119 }
     requires placed { IsPlaced level.old }
     ensures step { IfOk result (λ s. spec.IsStep (block_of view.now) level.old.at level.new.at s) }

@@ -67,7 +67,6 @@ pub(crate) fn substitution_definition(
 ) -> Result<Step, BlockFault>
     requires call { IfSome held (IsCall (block_of view.now) level.old.at) }
     requires inside { level.old.at < length (block_of view.now) }
-    requires short { length (block_of view.now) < 2 ^ 64 }
     requires few { pass.old.looks < 2 ^ 119 + 2 ^ 113 }
     requires later { level.old.at < end }
     requires placed { IsPlaced level.old }
@@ -117,7 +116,6 @@ fn holding(
 ) -> Result<Step, BlockFault>
     requires call { IsCall (block_of view.now) level.old.at invocation.now }
     requires inside { level.old.at < length (block_of view.now) }
-    requires short { length (block_of view.now) < 2 ^ 64 }
     requires few { pass.old.looks < 2 ^ 119 + 2 ^ 114 }
     requires later { level.old.at < end }
     requires placed { IsPlaced level.old }
@@ -185,7 +183,6 @@ fn replacement(
 ) -> Result<Step, BlockFault>
     requires content { IsContentIn (block_of view.now) content }
     requires inside { level.old.at < length (block_of view.now) }
-    requires short { length (block_of view.now) < 2 ^ 64 }
     requires few { pass.old.looks < 2 ^ 119 + 2 ^ 115 }
     requires later { level.old.at < end }
     requires placed { IsPlaced level.old }
@@ -222,7 +219,6 @@ fn wrong_definition(
     looks: &mut Looks,
 ) -> Result<Node, BlockFault>
     requires inside { at < length (block_of view.now) }
-    requires short { length (block_of view.now) < 2 ^ 64 }
     requires few { looks.old < 2 ^ 119 + 2 ^ 115 }
     ensures error { blocks.Gives (λ node. node ≡ texts.shown Error (first_number (drop at (block_of view.now))) (fault_text (fault_in fault.now) (directives.faulty_name (fault_in fault.now) name.now (texts.excerpt (front_text (drop at (block_of view.now))) invocation.now.name))) (texts.source_of (block_of view.now) (record { start = at; stop = end }))) result }
     ensures looks { looks.new ≤ looks.old + 2 ^ 65 }

@@ -40,7 +40,6 @@ pub(crate) fn table(
     pass: &mut Pass,
 ) -> Result<Step, BlockFault>
     requires inside { level.old.at < length (block_of view.now) }
-    requires short { length (block_of view.now) < 2 ^ 64 }
     requires few { pass.old.looks < 2 ^ 119 + 2 ^ 111 }
     requires table { IsTableAt (block_of view.now) level.old.at found }
     requires placed { IsPlaced level.old }
@@ -71,7 +70,6 @@ fn malformed(
     fault: TableFault,
     looks: &mut Looks,
 ) -> Result<Node, TreeFault>
-    requires short { length (block_of view.now) < 2 ^ 64 }
     requires few { looks.old < 2 ^ 120 }
     ensures error { Gives (λ node. node ≡ shown Error (first_number (drop at (block_of view.now))) (malformed_text fault.detail) (source_of (block_of view.now) (record { start = at; stop = end }))) result }
     ensures looks { looks.new ≤ looks.old + 2 ^ 64 }
@@ -96,7 +94,6 @@ pub(crate) fn after_table(
     level: &mut OpenBlock,
     pass: &mut Pass,
 ) -> Result<(), BlockFault>
-    requires short { length (block_of view.now) < 2 ^ 64 }
     requires few { pass.old.looks < 2 ^ 120 }
     ensures at { level.new.at ≡ level.old.at }
     ensures more { blocks.Gives (λ _. blocks.HasMore level.old level.new (warned (codes "Blank line required after table.") (drop level.old.at (block_of view.now)))) result }

@@ -38,7 +38,6 @@ pub(crate) fn text_line(
     pass: &mut Pass,
 ) -> Result<Step, BlockFault>
     requires inside { level.old.at < length (block_of view.now) }
-    requires short { length (block_of view.now) < 2 ^ 64 }
     requires few { pass.old.looks < 2 ^ 119 + 2 ^ 113 }
     requires text { IsText level.old (block_of view.now) infos.items }
     requires placed { IsPlaced level.old }
@@ -81,7 +80,6 @@ fn put_short_underline(
     level: &mut OpenBlock,
 ) -> Result<(), BlockFault>
     requires inside { level.old.at < length (block_of view.now) }
-    requires short { length (block_of view.now) < 2 ^ 64 }
     ensures at { level.new.at ≡ level.old.at }
     ensures more { Gives (λ _. HasMore level.old level.new (constructs.short_underline (level.old.depth == 0) (drop level.old.at (block_of view.now)))) result }
 {
@@ -109,7 +107,6 @@ fn underlined(
     pass: &mut Pass,
 ) -> Result<(), BlockFault>
     requires inside { level.old.at + 1 < length (block_of view.now) }
-    requires short { length (block_of view.now) < 2 ^ 64 }
     requires few { pass.old.looks < 2 ^ 119 + 2 ^ 114 }
     requires placed { IsPlaced level.old }
     ensures later { IfOk result (λ _. level.old.at < level.new.at) }
@@ -144,7 +141,6 @@ fn put_title(
     pass: &mut Pass,
 ) -> Result<(), BlockFault>
     requires inside { level.old.at + 1 < length (block_of view.now) }
-    requires short { length (block_of view.now) < 2 ^ 64 }
     requires few { pass.old.looks < 2 ^ 120 }
     requires placed { IsPlaced level.old }
     ensures later { IfOk result (λ _. level.old.at < level.new.at) }
@@ -174,7 +170,6 @@ fn put_unexpected(
     lines: &str,
 ) -> Result<(), BlockFault>
     requires inside { level.old.at + 1 < length (block_of view.now) }
-    requires short { length (block_of view.now) < 2 ^ 64 }
     ensures later { IfOk result (λ _. level.old.at < level.new.at) }
     ensures gone { Gives (λ _. HasMoreAt level.old level.new (unexpected_notes warning lines.now (drop level.old.at (block_of view.now))) (level.old.at + 2)) result }
 {

@@ -81,7 +81,6 @@ pub(crate) fn joined(
     view: &View<'_>,
     looks: &mut Looks,
 ) -> Result<String, AllocError>
-    requires short { length (block_of view.now) < 2 ^ 64 }
     requires few { looks.old < 2 ^ 120 }
     ensures bytes { IfOk result (λ text. string_bytes text ≡ spec.spelled (block_of view.now)) }
     ensures text { IfOk result (λ text. chars_of text ≡ spec.joined (block_of view.now)) }
@@ -108,7 +107,6 @@ pub(crate) fn source(
     to: usize,
     looks: &mut Looks,
 ) -> Result<String, AllocError>
-    requires short { length (block_of view.now) < 2 ^ 64 }
     requires few { looks.old < 2 ^ 120 }
     ensures bytes { IfOk result (λ text. string_bytes text ≡ spec.source_of (block_of view.now) (record { start = from; stop = to })) }
     ensures text { IfOk result (λ text. chars_of text ≡ spec.joined (slice_range (block_of view.now) from to)) }

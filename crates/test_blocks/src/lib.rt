@@ -7,3 +7,5 @@ mod few_lines;
 mod looks_tests;
 #[cfg(test)]
 mod nesting_tests;
+#[cfg(test)]
+mod refused_tests;

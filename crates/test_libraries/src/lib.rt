@@ -24,6 +24,8 @@ mod options_tests;
 #[cfg(test)]
 mod printed;
 #[cfg(test)]
+mod refused_tests;
+#[cfg(test)]
 mod text_tests;
 #[cfg(test)]
 mod tree_change_tests;

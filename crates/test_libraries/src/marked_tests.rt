@@ -62,6 +62,7 @@ fn marks_and_visits(rt: HostRuntime) -> Result<(), Fail> {
     for (element, line) in elements.iter().zip([2, 3]) {
         assert_eq!(rt; element.line, line);
     }
+    drop(elements);
     assert_eq!(rt; lines(document.root()), (1, 2));
     let visited = document.visit(&mut Lining)?;
     assert_eq!(rt; lines(&visited), (1, 9));

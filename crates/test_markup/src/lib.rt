@@ -18,4 +18,6 @@ mod markup_tests;
 #[cfg(test)]
 mod parts;
 #[cfg(test)]
+mod refused_tests;
+#[cfg(test)]
 mod tables_tests;

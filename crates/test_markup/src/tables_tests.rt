@@ -1,7 +1,7 @@
 //! Examples whose answers come from outside, and that the calls succeed.
 use rst_markup::{Cell, TableResult, grid, simple};
 use rst_markup_tables::malformed_text;
-use rst_text::{Lines, Looks, View};
+use rst_text::{Lines, Looks, TextFault, View};
 use std::alloc::{AllocError, Global};
 use std::test::Fail;
 
@@ -273,7 +273,7 @@ const SIMPLES: &[(&str, &str)] = &[
 ];
 
 /// A cell as `[morerows morecols number:text; ..]`, spaces shown as `_`.
-fn show_cell(alloc: Global, out: &mut String, cell: Cell) -> Result<(), Fail> {
+fn show_cell(alloc: Global, out: &mut String, cell: Cell) -> Result<(), TextFault> {
     out.push_str(" [")?;
     push_number(out, cell.morerows)?;
     out.push_str(" ")?;
@@ -298,7 +298,7 @@ fn push_number(out: &mut String, number: usize) -> Result<(), AllocError> {
 }
 
 /// A table as `T`, its end, widths, head rows and rows, each behind a `/`; what is wrong as `E`, the end and the detail.
-fn show(alloc: Global, table: TableResult) -> Result<String, Fail> {
+pub fn show(alloc: Global, table: TableResult) -> Result<String, TextFault> {
     let mut out = String::new(alloc);
     match table {
         TableResult::Malformed { end, note } => {
@@ -369,7 +369,7 @@ fn simples(rt: HostRuntime) -> Result<(), Fail> {
 }
 
 /// The table that the lines of a cell begin with, shown; nothing where the cell is empty.
-fn shown_in(alloc: Global, cell: Cell) -> Result<String, Fail> {
+fn shown_in(alloc: Global, cell: Cell) -> Result<String, TextFault> {
     let lines = cell.lines.into_lines(alloc)?;
     let view = View::whole(&lines);
     if view.len() == 0 {

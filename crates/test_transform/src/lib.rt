@@ -16,4 +16,6 @@ mod places_tests;
 #[cfg(test)]
 mod reference_tests;
 #[cfg(test)]
+mod refused_tests;
+#[cfg(test)]
 mod transition_tests;

@@ -1,16 +1,26 @@
-use Rattle.std.proofs.Common.{◌≡◌, None, sym, ◌∙◌, ap}
-use Rattle.rst_settings.specs.Profile.{profile_of}
-use Rattle.rst_text.specs.Lines.{first_longer}
-use Rattle.rst2pseudoxml_run.specs.Reading.{read_by}
+use Rattle.std.proofs.Common.{◌≡◌, ◌∙◌, Some, sym, ap, arith}
+use Rattle.std.specs.Str.{chars}
+use Rattle.rst_text.specs.Text.{text_of}
+use Rattle.rst2pseudoxml_run.proofs.DocumentLemmas.{text_short, input_few, read_short}
 use Rattle.rst2pseudoxml_run.proofs.document.parsed_of.Goals as goal
+
+pub first_longer-requires-clause-few : goal.first_longer-requires-clause-few
+first_longer-requires-clause-few c =
+    let is : text_of c.args.bytes.items ≡ Some (chars c.in-Ok.text.now) = sym (ap text_of c.as_slice.ensures.value) ∙ c.in-Ok.ensures in
+    omega (arith, c.requires.few, text_short c.args.bytes.items (chars c.in-Ok.text.now) is)
+
+pub parse-requires : goal.parse-requires
+parse-requires c =
+    let is : text_of c.args.bytes.items ≡ Some (chars c.in-Ok.text.now) = sym (ap text_of c.as_slice.ensures.value) ∙ c.in-Ok.ensures in
+    record { few = rw c.in-Ok-of.ensures (input_few c.args.settings.now c.args.bytes.items (chars c.in-Ok.text.now) c.requires.few is) }
 
 pub returns-in-Ok-parse : goal.returns-in-Ok-parse
 returns-in-Ok-parse c =
-    let short : first_longer c.args.settings.now.limit c.args.lines.now ≡ None = sym c.first_longer.ensures ∙ c.in_default.is in
-    ap (λ long. read_by long (profile_of c.args.settings.now) c.args.lines.now) short ∙ c.in-Ok-parse.ensures.document c.args.settings.now
+    let is : text_of c.args.bytes.items ≡ Some (chars c.in-Ok.text.now) = sym (ap text_of c.as_slice.ensures.value) ∙ c.in-Ok.ensures in
+    read_short c.args.settings.now c.args.bytes.items (chars c.in-Ok.text.now) c.in-Ok-of.lines _ is c.in-Ok-of.ensures (sym c.first_longer.ensures ∙ c.in_default.is) (c.in-Ok-parse.ensures.document c.args.settings.now)
 
 pub returns-in-Err-TooDeep : goal.returns-in-Err-TooDeep
 returns-in-Err-TooDeep c =
-    let short : first_longer c.args.settings.now.limit c.args.lines.now ≡ None = sym c.first_longer.ensures ∙ c.in_default.is in
+    let is : text_of c.args.bytes.items ≡ Some (chars c.in-Ok.text.now) = sym (ap text_of c.as_slice.ensures.value) ∙ c.in-Ok.ensures in
     let deep = c.in-Err-TooDeep.ensures.document c.args.settings.now in
-    ap (λ long. read_by long (profile_of c.args.settings.now) c.args.lines.now) short ∙ rw c.in-Err-TooDeep.field-0-is at deep
+    read_short c.args.settings.now c.args.bytes.items (chars c.in-Ok.text.now) c.in-Ok-of.lines _ is c.in-Ok-of.ensures (sym c.first_longer.ensures ∙ c.in_default.is) (rw c.in-Err-TooDeep.field-0-is at deep)

@@ -13,6 +13,7 @@ use Rattle.rst_block.proofs.Calls.{close_refuses, gives_keeps, gives_kept}
 use Rattle.rst_block.proofs.Changes.{kept_closed, kept_moved, kept_title, kept_then}
 use Rattle.rst_block.proofs.NextConstructs.{next_some, next_within, lines_after, end_behind, goes_behind, span_to, has_ended, next_refused, next_title}
 use Rattle.rst_block.proofs.TextsPaid.{paid_flat, lines_looked}
+use Rattle.rst_block.proofs.Views.{few_lines}
 use Rattle.rst_block.proofs.adornment.overlined.Goals as goal
 
 pub returns-in_err-close-clause-read : goal.returns-in_err-close-clause-read
@@ -30,11 +31,11 @@ returns-clause-read c =
     let l = c.args.level.now in
     let found = c.requires.found in
     let within : l.at + 3 ≤ length B = next_within found c.requires.inside in
-    let stop : c.saturating_add-end.result ≡ l.at + 3 = end_behind l.at c.close.new.self.at c.saturating_add-end.result 3 (length B) c.close.ensures.at c.saturating_add-end.ensures within c.requires.short in
+    let stop : c.saturating_add-end.result ≡ l.at + 3 = end_behind l.at c.close.new.self.at c.saturating_add-end.result 3 (length B) c.close.ensures.at c.saturating_add-end.ensures within (few_lines c.args.view.now) in
     let bytes : string_bytes c.in_ok-lines.lines ≡ source_of B (span_to l.at (l.at + 3)) =
     c.in_ok-lines.ensures.bytes ∙ ap (λ i. source_of B (span_to i c.saturating_add-end.result)) c.close.ensures.at ∙ ap (λ i. source_of B (span_to l.at i)) stop in
-    let second : c.saturating_add.result ≡ l.at + 1 = omega (arith, c.saturating_add.ensures, c.close.ensures.at, within, c.requires.short) in
-    let third : c.saturating_add-2.result ≡ l.at + 1 = omega (arith, c.saturating_add-2.ensures, c.close.ensures.at, within, c.requires.short) in
+    let second : c.saturating_add.result ≡ l.at + 1 = omega (arith, c.saturating_add.ensures, c.close.ensures.at, within, few_lines c.args.view.now) in
+    let third : c.saturating_add-2.result ≡ l.at + 1 = omega (arith, c.saturating_add-2.ensures, c.close.ensures.at, within, few_lines c.args.view.now) in
     let line : c.number_at-line.result ≡ first_number (drop 1 (drop l.at B)) = c.number_at-line.ensures ∙ ap first_number (sym (lines_after B l.at 1 c.saturating_add.result second)) in
     let text : chars c.skip-text.result.now ≡ unindented (next_text (drop l.at B)) =
     c.skip-text.ensures.chars
@@ -46,7 +47,7 @@ returns-clause-read c =
     ∙ ap (short_warning c.args.short (first_number (drop l.at B)) _) c.as_str.ensures.value in
     let at : c.go_to.new.self.at ≡ l.at + 3 =
     goes_behind l.at c.close.new.self.at c.go_to.new.self.at c.saturating_add-end.result 3 (length B) c.close.ensures.at c.saturating_add-end.ensures (next_some found c.requires.inside)
-    within c.requires.short c.go_to.ensures.there in
+    within (few_lines c.args.view.now) c.go_to.ensures.there in
     gives_keeps _ c.push_heading.result _ _ c.push_heading.ensures.title
     (λ _ h. next_title found tt (has_ended B _ c.in_ok-close.ensures.closed c.requires.placed)
     (overlined_reads c.args.mark c.args.short B l.at (l.at + 3) c.number_at-line.result c.close.new.pass.numbers (chars c.skip-text.result.now) (string_bytes c.in_ok-lines.lines) c.in_ok-warning.warning _
@@ -59,11 +60,11 @@ returns-clause-paid c =
     let l = c.args.level.now in
     let found = c.requires.found in
     let within : l.at + 3 ≤ length B = next_within found c.requires.inside in
-    let stop : c.saturating_add-end.result ≡ l.at + 3 = end_behind l.at c.close.new.self.at c.saturating_add-end.result 3 (length B) c.close.ensures.at c.saturating_add-end.ensures within c.requires.short in
+    let stop : c.saturating_add-end.result ≡ l.at + 3 = end_behind l.at c.close.new.self.at c.saturating_add-end.result 3 (length B) c.close.ensures.at c.saturating_add-end.ensures within (few_lines c.args.view.now) in
     let looked : length (slice_range B c.close.new.self.at c.saturating_add-end.result) ≡ 3 = lines_looked B c.close.new.self.at c.saturating_add-end.result c.close.ensures.at stop within in
     let at : c.go_to.new.self.at ≡ l.at + 3 =
     goes_behind l.at c.close.new.self.at c.go_to.new.self.at c.saturating_add-end.result 3 (length B) c.close.ensures.at c.saturating_add-end.ensures (next_some found c.requires.inside)
-    within c.requires.short c.go_to.ensures.there in
+    within (few_lines c.args.view.now) c.go_to.ensures.there in
     let moved = c.go_to.ensures.moved in
     gives_kept _ _ c.push_heading.result c.push_heading.ensures.title
     (λ _ h. paid_flat 27 c.push_heading.new.self c.args.pass.now.looks c.heading_of.new.pass.looks found tt c.in_ok-close.ensures.closed (h.depth ∙ moved.depth) (h.run ∙ moved.run) (h.at ∙ at)

@@ -7,6 +7,7 @@ use Rattle.rst_block.proofs.Calls.{close_refuses, gives_keeps, gives_kept}
 use Rattle.rst_block.proofs.Changes.{moved_more, kept_closed, kept_more, kept_then}
 use Rattle.rst_block.proofs.NextConstructs.{next_some, next_within, goes_behind, has_ended, next_refused, next_nodes}
 use Rattle.rst_block.proofs.TextsPaid.{paid_flat}
+use Rattle.rst_block.proofs.Views.{few_lines}
 use Rattle.rst_block.proofs.adornment.transition.Goals as goal
 
 pub returns-in_err-close-clause-read : goal.returns-in_err-close-clause-read
@@ -26,7 +27,7 @@ returns-clause-read c =
     c.element-node.ensures ∙ ap transition_node (c.number_at.ensures ∙ ap (λ i. first_number (drop i B)) c.close.ensures.at) in
     let at : c.go_to.new.self.at ≡ l.at + 1 =
     goes_behind l.at c.close.new.self.at c.go_to.new.self.at c.saturating_add.result 1 (length B) c.close.ensures.at c.saturating_add.ensures (next_some found c.requires.inside)
-    (next_within found c.requires.inside) c.requires.short c.go_to.ensures.there in
+    (next_within found c.requires.inside) (few_lines c.args.view.now) c.go_to.ensures.there in
     gives_keeps _ c.push.result _ _ c.push.ensures.more
     (λ _ h. next_nodes (c.element-node.result ∷ []) found tt (has_ended B _ c.in_ok-close.ensures.closed c.requires.placed)
     (ap (λ (n : Node). Ok (plain n ∷ [], c.close.new.pass.numbers)) (sym node)) (moved_more c.go_to.ensures.moved at h))
@@ -37,7 +38,7 @@ returns-clause-paid c =
     let found = c.requires.found in
     let at : c.go_to.new.self.at ≡ l.at + 1 =
     goes_behind l.at c.close.new.self.at c.go_to.new.self.at c.saturating_add.result 1 (length (block_of c.args.view.now)) c.close.ensures.at c.saturating_add.ensures (next_some found c.requires.inside)
-    (next_within found c.requires.inside) c.requires.short c.go_to.ensures.there in
+    (next_within found c.requires.inside) (few_lines c.args.view.now) c.go_to.ensures.there in
     let moved = c.go_to.ensures.moved in
     gives_kept _ _ c.push.result c.push.ensures.more
     (λ _ h. paid_flat 27 c.push.new.self c.args.pass.now.looks c.close.new.pass.looks found tt c.in_ok-close.ensures.closed (h.depth ∙ moved.depth) (h.run ∙ moved.run) (h.at ∙ at)

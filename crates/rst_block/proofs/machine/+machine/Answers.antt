@@ -27,6 +27,7 @@ use Rattle.rst_block.proofs.Changes.{moved_more, more_more, kept_more}
 use Rattle.rst_block.proofs.LastLevel.{flat_text, flat_text_fails}
 use Rattle.rst_block.proofs.MachinePaid.{none_read, some_read, next_cell, one_row, row_paid, next_row, rows_paid, table_left, table_paid, text_begins, block_goes_on, block_opens, block_ends, block_waits, text_ends, flat_paid}
 use Rattle.rst_block.proofs.Stack.{left, parts_left, now_of_next, now_of_resumed, cost_of_resumed, goes_on, stepped, opens, resumes, waits_again, second_left, parts_at_most, parts_at_least, taken, placed, nested_push, nested_pop}
+use Rattle.rst_block.proofs.Views.{few_lines}
 use Rattle.rst_block.proofs.Waiting.{plug_begins, plug_end_fails, plug_ends, plug_fails, plug_goes_on, plug_opens, plug_over, plug_waits}
 use Rattle.rst_block.proofs.machine.+machine.Goals.{read-else-len-gt0-via-then-len-gt0+else-depth-le-DEEPEST, read-else-len-gt0-via-else-len-gt0}
 use Rattle.rst_block.proofs.machine.+machine.Goals as goal
@@ -93,7 +94,7 @@ read_blocks-loop-now-smaller-else-inner-gt-DEEPEST t c =
     let few : length (drop c.len-base.result c.loop-now.frames.items) < 250 - c.args.depth = omega (arith, length-drop c.len-base.result c.loop-now.frames.items, c.len.ensures.value, c.if-inner-gt-DEEPEST.false, c.loop-now.invariant.base) in
     rw (c.in-Open.is, c.opened.ensures.begin, c.push.ensures.items, drop-append-le c.len-base.result c.loop-now.frames.items (f ∷ []) c.loop-now.invariant.base)
     (opens (2 ^ 64) (250 - c.args.depth) S (drop c.len-base.result c.loop-now.frames.items) B c.loop-now.level.at (Open c.in-Open.waits c.in-Open.first c.in-Open.second) f
-    (length (block_of c.inside-view.result)) few same fewer (omega (arith, c.inside-view.ensures.fewer, c.loop-now.invariant.short)))
+    (length (block_of c.inside-view.result)) few same fewer (omega (arith, few_lines c.inside-view.result)))
 
 pub read_blocks-loop-now-preserved-else-inner-gt-DEEPEST : goal.read_blocks-loop-now-preserved-else-inner-gt-DEEPEST
 read_blocks-loop-now-preserved-else-inner-gt-DEEPEST t c =
@@ -109,7 +110,6 @@ read_blocks-loop-now-preserved-else-inner-gt-DEEPEST t c =
       outer = rw c.push.ensures.items (on.2 ∙ c.loop-now.invariant.outer);
       waiting = rw c.push.ensures.items on.3;
       text = c.inside-view.ensures.text ∙ c.loop-now.invariant.text;
-      short = omega (arith, c.inside-view.ensures.fewer, c.loop-now.invariant.short);
       now = tt;
       depth = rw c.push.ensures.items (omega (arith, length-append c.loop-now.frames.items (f ∷ []), c.len.ensures.value, c.opened.ensures.depth, c.loop-now.invariant.base));
       placed = c.opened.ensures.placed;
@@ -138,9 +138,9 @@ read_blocks-loop-now-smaller-in-Waiting t c =
     let lines : length (placement_block S g.placement) ≡ length (placement_block S f.placement) = ap (λ p. length (placement_block S p)) e.1 in
     let fewer : left S g < left S f = omega (arith, lines, e.2, ap parts_left e.3, second_left f.second e.4) in
     let few : length (drop c.len-base.result c.last_of.new.frames.items) < 250 - c.args.depth = omega (arith, length-drop c.len-base.result c.last_of.new.frames.items, ap length c.in-Some.ensures.some.0, length-append c.last_of.new.frames.items (f ∷ []), c.loop-now.invariant.room, some) in
-    rw (e.7, c.push-in-Waiting.ensures.items, drop-append-le c.len-base.result c.last_of.new.frames.items (g ∷ []) off.0, off.1)
+    rw (e.6, c.push-in-Waiting.ensures.items, drop-append-le c.len-base.result c.last_of.new.frames.items (g ∷ []) off.0, off.1)
     (waits_again (2 ^ 64) (250 - c.args.depth) S (drop c.len-base.result c.last_of.new.frames.items) f g (length (block_of c.loop-now.view)) c.loop-now.level.at (length (block_of c.in-Waiting.part)) c.loop-now.now
-    few fewer (omega (arith, e.6, off.4.1)))
+    few fewer (omega (arith, few_lines c.in-Waiting.part)))
 
 pub read_blocks-loop-now-preserved-in-Waiting : goal.read_blocks-loop-now-preserved-in-Waiting
 read_blocks-loop-now-preserved-in-Waiting t c =
@@ -161,7 +161,6 @@ read_blocks-loop-now-preserved-in-Waiting t c =
       outer = rw c.push-in-Waiting.ensures.items (on.2 ∙ sym off.2 ∙ c.loop-now.invariant.outer);
       waiting = rw c.push-in-Waiting.ensures.items on.3;
       text = e.5;
-      short = omega (arith, e.6, off.4.1);
       now = tt;
       depth = rw c.push-in-Waiting.ensures.items (omega (arith, length-append c.last_of.new.frames.items (g ∷ []), ap length c.in-Some.ensures.some.0, length-append c.last_of.new.frames.items (f ∷ []), c.len.ensures.value, keeps.2, c.loop-now.invariant.base, off.0));
       placed = keeps.3;
@@ -206,7 +205,6 @@ read_blocks-loop-now-preserved t c =
       outer = sym off.2 ∙ c.loop-now.invariant.outer;
       waiting = off.3;
       text = e.0;
-      short = omega (arith, ap length e.1, off.4.1);
       now = now_of_resumed (block_of c.in-GoesOn.outer) f.level.at c.closed.new.level.at c.in-GoesOn.next e.2;
       depth = omega (arith, keeps.depth, nest.1, length-drop c.len-base.result c.last_of.new.frames.items, off.0);
       placed = keeps.placed;
@@ -229,7 +227,6 @@ read_blocks-loop-now-preserved-in_ok-now-in-Next t c =
       outer = c.loop-now.invariant.outer;
       waiting = c.loop-now.invariant.waiting;
       text = c.loop-now.invariant.text;
-      short = c.loop-now.invariant.short;
       now = now_of_next B c.loop-now.level.at c.next.new.level.at s c.in_ok-now-in-Next.ensures.next;
       depth = c.in_ok-now-in-Next.ensures.kept.depth ∙ c.loop-now.invariant.depth;
       placed = c.in_ok-now-in-Next.ensures.kept.placed;
@@ -252,7 +249,6 @@ read_blocks-loop-now-preserved-in_ok-now-in-Cells t c =
       outer = rw same c.loop-now.invariant.outer;
       waiting = rw same c.loop-now.invariant.waiting;
       text = c.loop-now.invariant.text;
-      short = c.loop-now.invariant.short;
       now = rw c.in_ok-now-in-Cells.ensures.next tt;
       depth = rw same (c.in_ok-now-in-Cells.ensures.kept.depth ∙ c.loop-now.invariant.depth);
       placed = c.in_ok-now-in-Cells.ensures.kept.placed;
@@ -275,7 +271,6 @@ read_blocks-loop-now-preserved-in_ok-now-in-Open t c =
       outer = c.loop-now.invariant.outer;
       waiting = c.loop-now.invariant.waiting;
       text = c.loop-now.invariant.text;
-      short = c.loop-now.invariant.short;
       now = now_of_resumed B c.loop-now.level.at c.flat.new.level.at s c.in_ok-now-in-Open.ensures.step;
       depth = c.in_ok-now-in-Open.ensures.kept.depth ∙ c.loop-now.invariant.depth;
       placed = c.in_ok-now-in-Open.ensures.kept.placed;
@@ -298,7 +293,6 @@ read_blocks-loop-now-init t c =
       outer = take_all base c.args.frames.now.items all;
       waiting = rw none tt;
       text = refl;
-      short = c.requires.short;
       now = tt;
       depth = omega (arith, c.len-base.ensures.value, c.new-level.ensures.depth);
       placed = c.new-level.ensures.placed;
@@ -383,8 +377,8 @@ cells-rows_of-requires t c =
     let inner : 1 ≤ c.args.depth = omega (arith, c.requires.level) in
     search (rules, few, inner)
 
-pub cells-after_table-requires-clause-few : goal.cells-after_table-requires-clause-few
-cells-after_table-requires-clause-few t c =
+pub cells-after_table-requires : goal.cells-after_table-requires
+cells-after_table-requires t c =
     let left = table_left c.args.level.now (block_of c.args.view.now) c.args.depth c.args.found c.in-Table.cols c.in-Table.head c.in-Table.end c.in-Table.rows c.in-Table.is c.requires.level in
     omega (arith, left, c.in_ok-made.ensures.paid.no_more, c.requires.few)
 

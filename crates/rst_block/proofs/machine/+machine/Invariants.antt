@@ -1,4 +1,4 @@
-use Rattle.std.proofs.Common.{◌≡◌, ◌+◌, ◌-◌, ◌*◌, ◌^◌, ◌<◌, ◌≤◌, [], length, take, drop}
+use Rattle.std.proofs.Common.{◌≡◌, ◌+◌, ◌-◌, ◌*◌, ◌^◌, ◌≤◌, [], length, take, drop}
 use Rattle.std.specs.Vec.Iter.{into_iter_items}
 use Rattle.rst_text.specs.Shown.{block_of, source_of}
 use Rattle.rst_markup_tables.specs.Results.{cells_of}
@@ -40,7 +40,6 @@ invariant-read_blocks-loop-now l = record {
   outer : take l.base l.frames.items ≡ l.fn.frames.items;
   waiting : AreFrames (source_of l.whole) (drop l.base l.frames.items);
   text : source_of l.view ≡ source_of l.whole;
-  short : length (block_of l.view) < 2 ^ 64;
   now : IsNow (block_of l.view) l.level.at l.now;
   depth : l.level.depth ≡ l.depth + (length l.frames.items - l.base);
   placed : IsPlaced l.level;

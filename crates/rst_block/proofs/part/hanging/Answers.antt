@@ -2,6 +2,7 @@ use Rattle.std.proofs.Common.{arith}
 use Rattle.rst_text.specs.Shown.{block_of}
 use Rattle.rst_markup_blocks.proofs.ExplicitLemmas.{hanging_block}
 use Rattle.rst_block.proofs.Looked.{reach_hanging}
+use Rattle.rst_block.proofs.Views.{few_lines}
 use Rattle.rst_block.proofs.part.hanging.Goals as goal
 
 pub returns-clause-block : goal.returns-clause-block
@@ -10,4 +11,4 @@ returns-clause-block c =
 
 pub returns-clause-looks : goal.returns-clause-looks
 returns-clause-looks c =
-    omega (arith, c.hanging_part.ensures.looks, reach_hanging (block_of c.args.view.now) c.args.at c.requires.inside, c.requires.short)
+    omega (arith, c.hanging_part.ensures.looks, reach_hanging (block_of c.args.view.now) c.args.at c.requires.inside, few_lines c.args.view.now)

@@ -4,6 +4,7 @@ use Rattle.rst_text.specs.Reach.{reach}
 use Rattle.rst_text.specs.Shown.{block_of}
 use Rattle.rst_block.proofs.Blocks.{item_block}
 use Rattle.rst_block.proofs.Looked.{bare_item, reach_item}
+use Rattle.rst_block.proofs.Views.{few_lines}
 use Rattle.rst_block.proofs.part.item_part.Goals as goal
 
 pub returns-clause-block : goal.returns-clause-block
@@ -12,7 +13,7 @@ returns-clause-block c =
 
 pub returns-clause-looks : goal.returns-clause-looks
 returns-clause-looks c =
-    omega (arith, c.item_end.ensures.looks, reach_item (block_of c.args.view.now) c.args.at c.args.marker c.requires.inside, c.requires.short)
+    omega (arith, c.item_end.ensures.looks, reach_item (block_of c.args.view.now) c.args.at c.args.marker c.requires.inside, few_lines c.args.view.now)
 
 pub returns-then-marker-clause-reach : goal.returns-then-marker-clause-reach
 returns-then-marker-clause-reach c =

@@ -6,6 +6,7 @@ use Rattle.rst_markup_blocks.specs.Lines.{lines_while}
 use Rattle.rst_markup_blocks.specs.RowLaws.{while_le}
 use Rattle.rst_markup_blocks.specs.declared.lines.LineTest.TheVariants.{Filled}
 use Rattle.rst_block.proofs.AttributionsFound.{Unfound-start, Unfound-step, Unfound-found, Unfound-blank, Unfound-end, attribution_end}
+use Rattle.rst_block.proofs.Views.{few_lines}
 use Rattle.rst_block.proofs.quote.first_attribution.Goals as goal
 
 pub loop-end-init : goal.loop-end-init
@@ -23,7 +24,7 @@ returns-in-Some-clause-first c =
 pub returns-in-Some-clause-looks : goal.returns-in-Some-clause-looks
 returns-in-Some-clause-looks c =
     let B : Block = block_of c.args.lines.now in
-    omega (arith, c.requires.short, c.lines_end-place.ensures.end, c.lines_end-place.ensures.few, c.lines_end-place.ensures.within, c.attribution_at.ensures.looks, c.loop-end.invariant.within, c.loop-end.invariant.looks, while_le Filled (drop 1 (drop c.lines_end-place.result B)), length-drop 1 (drop c.lines_end-place.result B), length-drop c.lines_end-place.result B)
+    omega (arith, few_lines c.args.lines.now, c.lines_end-place.ensures.end, c.lines_end-place.ensures.few, c.lines_end-place.ensures.within, c.attribution_at.ensures.looks, c.loop-end.invariant.within, c.loop-end.invariant.looks, while_le Filled (drop 1 (drop c.lines_end-place.result B)), length-drop 1 (drop c.lines_end-place.result B), length-drop c.lines_end-place.result B)
 
 pub returns-then-place-len-clause-first : goal.returns-then-place-len-clause-first
 returns-then-place-len-clause-first c =
@@ -47,7 +48,7 @@ loop-end-preserved c =
 pub lines_end-end-requires-in-None-clause-few : goal.lines_end-end-requires-in-None-clause-few
 lines_end-end-requires-in-None-clause-few c =
     let B : Block = block_of c.args.lines.now in
-    omega (arith, c.requires.short, c.requires.few, c.lines_end-place.ensures.end, c.lines_end-place.ensures.few, c.lines_end-place.ensures.within, c.attribution_at.ensures.looks, c.loop-end.invariant.within, c.loop-end.invariant.looks, while_le Filled (drop 1 (drop c.lines_end-place.result B)), length-drop 1 (drop c.lines_end-place.result B), length-drop c.lines_end-place.result B)
+    omega (arith, few_lines c.args.lines.now, c.requires.few, c.lines_end-place.ensures.end, c.lines_end-place.ensures.few, c.lines_end-place.ensures.within, c.attribution_at.ensures.looks, c.loop-end.invariant.within, c.loop-end.invariant.looks, while_le Filled (drop 1 (drop c.lines_end-place.result B)), length-drop 1 (drop c.lines_end-place.result B), length-drop c.lines_end-place.result B)
 
 pub returns-in-Some-clause-through : goal.returns-in-Some-clause-through
 returns-in-Some-clause-through c =

@@ -8,14 +8,15 @@ use Rattle.rst_block.specs.Texts.{shown}
 use Rattle.rst_block.proofs.Calls.{gives_map}
 use Rattle.rst_block.proofs.Changes.{more_as, more_more, more_moved}
 use Rattle.rst_block.proofs.TextLines.{under_number}
+use Rattle.rst_block.proofs.Views.{few_lines}
 use Rattle.rst_block.proofs.text.put_unexpected.Goals as goal
 
 pub returns-clause-gone : goal.returns-clause-gone
 returns-clause-gone c =
     let B = block_of c.args.view.now in
     let l = c.args.level.now in
-    let place : c.saturating_add.result ≡ l.at + 1 = omega arith in
-    let end : c.saturating_add-2.result ≡ l.at + 2 = omega (arith, c.push_if_any.ensures.at) in
+    let place : c.saturating_add.result ≡ l.at + 1 = omega (arith, few_lines c.args.view.now) in
+    let end : c.saturating_add-2.result ≡ l.at + 2 = omega (arith, few_lines c.args.view.now, c.push_if_any.ensures.at) in
     let severe : c.in_ok-severe.severe ≡ shown Severe (first_number (drop 1 (drop l.at B))) (codes "Unexpected section title.") c.args.lines.now =
     c.in_ok-severe.ensures ∙ ap (λ line. shown Severe line (codes "Unexpected section title.") c.args.lines.now) (under_number B l.at place c.number_at-under.ensures) in
     let nodes = ap (λ (node : Node). option_to_list c.args.warning ++ node ∷ []) severe in
