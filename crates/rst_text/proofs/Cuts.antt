@@ -175,6 +175,12 @@ text_in_view v i h =
     ap front_text (drop-byte_cut v.first v.rest i (kept v)) ∙ front_at (cond (eqb i 0) v.first v.rest) v.rest (drop i (kept v)) (some_left v i h)
     ∙ ap (λ (cs : List ℕ). chars (drop (cond (eqb i 0) v.first v.rest) (encodes cs))) (front_kept v i h)
 
+-- a line that is empty is so with any cut
+pub empty_in_view : (v : View) (i : ℕ) → i < length (block_of v) → front_text (drop (v.from + i) v.lines.now) ≡ [] → front_text (drop i (block_of v)) ≡ []
+empty_in_view v i h none =
+    let cut : ℕ = cond (eqb i 0) v.first v.rest in
+    text_in_view v i h ∙ ap (λ (cs : List ℕ). chars (drop cut (encodes cs))) none ∙ ap chars (drop_all cut [] (omega arith)) ∙ chars-nil
+
 pub number_in_view : (v : View) (i : ℕ) → i < length (block_of v) → first_number (drop i (block_of v)) ≡ first_number (drop (v.from + i) v.lines.now)
 unfolding block_of
 number_in_view v i h =

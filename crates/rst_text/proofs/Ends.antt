@@ -8,6 +8,7 @@ use Rattle.std.proofs.Common.{inl, inr, length-drop}
 use Rattle.std.proofs.lemmas.Bool.{cases_lt}
 use Rattle.rst_text.specs.Extent.{extent, past_blank, least_indent, extent_of}
 use Rattle.rst_text.proofs.Least.{lower, least_from, least_from-all}
+use Rattle.rst_text.specs.Kept.{AreEmpty, IsEmptyRun}
 use Rattle.rst_text.specs.Reach.{looked}
 use Rattle.rst_text.specs.declared.view.Extent.{Extent}
 
@@ -118,6 +119,23 @@ Finds-blank B from least i end lowest f after there none =
           in_order = omega (arith, f.in_order);
           blank = λ h. blank_at end i B f.in_order f.blank (ap (λ (Y : Block). is_blank (front_text Y)) same ∙ b);
         }
+
+-- some lines that are blank
+pub Finds-blanks : (n : ℕ) (B : Block) (from least i end : ℕ) (lowest : Option ℕ) → Finds B from least i end lowest → from ≤ i → i + n ≤ length B → AreEmpty B i (i + n) → Finds B from least (i + n) end lowest
+Finds-blanks zero B from least i end lowest f after there none = let same : i + 0 ≡ i = omega arith in rw same f
+Finds-blanks (suc n) B from least i end lowest f after there none =
+    let one = Finds-blank B from least i end lowest f after (omega arith) (ap length (none i (omega arith) (omega arith))) in
+    let rest = Finds-blanks n B from least (i + 1) end lowest one (omega arith) (omega arith) (λ k low high. none k (omega arith) (omega arith)) in
+    let same : i + suc n ≡ (i + 1) + n = omega arith in
+    rw same rest
+
+-- a blank line, and the empty ones behind it
+pub Finds-run : (B : Block) (from least i end : ℕ) (lowest : Option ℕ) (next : ℕ) → Finds B from least i end lowest → from ≤ i → i < length B → length (front_text (drop i B)) ≡ 0 → IsEmptyRun B (i + 1) (length B) next
+    → Finds B from least next end lowest
+Finds-run B from least i end lowest next f after there none run =
+    let same : (i + 1) + (next - (i + 1)) ≡ next = omega (arith, run.above) in
+    let one = Finds-blank B from least i end lowest f after there none in
+    rw same at (Finds-blanks (next - (i + 1)) B from least (i + 1) end lowest one (omega arith) (omega (arith, run.within)) (λ k low high. run.empty k low (omega arith)))
 
 -- a line that is indented enough
 pub Finds-more : (B : Block) (from least i end : ℕ) (lowest : Option ℕ) → Finds B from least i end lowest → from ≤ i → i < length B → 1 ≤ length (front_text (drop i B))

@@ -1,16 +1,16 @@
 -- Lemmas on lines.
-use Rattle.std.proofs.Common.{◌≡◌, ℕ, zero, suc, ◌+◌, ◌-◌, ◌%◌, ◌<◌, ◌≤◌, ◌==◌, nat_eq, nat_lt, Bool, true, false, cond, ◌&&◌, ◌||◌, List, [], ◌∷◌, ◌++◌, length, take, drop, map, replicate, refl, sym, ap, ◌∙◌, subst, arith, append_assoc, append-nil, mod-lt, Option, option_map, None, Some, MatchOption, Bor, unwrap_or, Result, Ok, Err, IfOk, String}
+use Rattle.std.proofs.Common.{◌≡◌, ℕ, zero, suc, ◌+◌, ◌-◌, ◌%◌, ◌<◌, ◌≤◌, ◌==◌, nat_eq, Bool, true, false, cond, ◌&&◌, ◌||◌, List, [], ◌∷◌, ◌++◌, length, take, map, replicate, refl, sym, ap, ◌∙◌, subst, arith, append_assoc, append-nil, mod-lt, Option, None, Some, MatchOption, Bor, unwrap_or, Result, Ok, Err, IfOk, String}
 use Rattle.std.specs.Char.{is_whitespace}
 use Rattle.std.specs.Str.{IsUtf8, chars, NonePass, trim_end, drop_trailing_whitespace}
 use Rattle.std.specs.Str.Pattern.{FindsCharPrefix, StripsPrefix}
 use Rattle.std.proofs.Math.Utf8.{scalar, scalars, encode, encodes}
-use Rattle.std.proofs.lemmas.Bool.{eqb-true, lt-ltb, le-ltb}
+use Rattle.std.proofs.lemmas.Bool.{eqb-true}
 use Rattle.std.proofs.lemmas.Str.{chars_past_char, encodes-chars, chars-encodes, scalars-chars, length-le-encodes}
-use Rattle.rst_text.specs.Block.{Line, Block, front_text, first_number}
+use Rattle.rst_text.specs.Block.{Block}
 use Rattle.rst_text.specs.Text.{chars_of}
 use Rattle.rst_text.specs.Kept.{line_of}
-use Rattle.rst_text.specs.Lines.{first_longer, is_line_end, begins_with, pieces, shown, expanded, tidied, numbered_from}
-use Rattle.std.specs.List.{find, onto_first}
+use Rattle.rst_text.specs.Lines.{is_line_end, begins_with, pieces, shown, expanded, tidied, numbered_from}
+use Rattle.std.specs.List.{onto_first}
 use Rattle.rst_text.proofs.Tabs.{expanded_from, expanded_from-start}
 use Rattle.rst_text.proofs.TextLemmas.{not_true, and_true}
 use Rattle.rst_text.proofs.Scanning.{Scans, chars-scanned, take-scanned, length-scanned}
@@ -225,20 +225,6 @@ pub all_read : (tab n : ℕ) (so_far all : Block) (rest : List ℕ) → so_far +
 unfolding chars
 all_read tab n so_far all [] e none = sym (append-nil so_far) ∙ e
 all_read tab n so_far all (x ∷ rest) e none = absurd (omega arith)
-
--- ---- the first line that is longer
-
-pub first_longer-here : (limit i n : ℕ) (B : Block) → i < length B → n ≡ length (front_text (drop i B)) → limit < n → first_longer limit (drop i B) ≡ Some (first_number (drop i B))
-first_longer-here limit i n [] within is over = absurd (omega arith)
-first_longer-here limit zero n (l ∷ ls) within is over =
-    let longer : nat_lt limit (length l.text) ≡ true = lt-ltb limit (length l.text) (omega (arith, is)) in ap (λ b. option_map (λ (x : Line). x.number) (cond b (Some l) (find (λ (x : Line). nat_lt limit (length x.text)) ls))) longer
-first_longer-here limit (suc i) n (l ∷ ls) within is over = first_longer-here limit i n ls (omega arith) is over
-
-pub first_longer-next : (limit i n : ℕ) (B : Block) → i < length B → n ≡ length (front_text (drop i B)) → n ≤ limit → first_longer limit (drop i B) ≡ first_longer limit (drop (suc i) B)
-first_longer-next limit i n [] within is under = absurd (omega arith)
-first_longer-next limit zero n (l ∷ ls) within is under =
-    let short : nat_lt limit (length l.text) ≡ false = le-ltb limit (length l.text) (omega (arith, is)) in ap (λ b. option_map (λ (x : Line). x.number) (cond b (Some l) (find (λ (x : Line). nat_lt limit (length x.text)) ls))) short
-first_longer-next limit (suc i) n (l ∷ ls) within is under = first_longer-next limit i n ls (omega arith) is under
 
 -- a character is a byte at least
 pub length-chars : (text : List ℕ) → IsUtf8 text → length (chars text) ≤ length text

@@ -1,8 +1,8 @@
 //! Lines as they are kept: their texts stand one behind another in one `String`.
-ghost use Rattle.std.specs.Prelude.{◌≡◌, ◌<◌, ◌^◌, [], ◌∷◌, ◌++◌, length, drop, encode_utf8_all, IfOk, IsTrue};
+ghost use Rattle.std.specs.Prelude.{◌≡◌, ◌≤◌, ◌<◌, ◌^◌, [], ◌∷◌, ◌++◌, length, drop, encode_utf8_all, IfOk, IsTrue};
 ghost use Rattle.std.specs.Str.{chars};
 ghost use Rattle.rst_text.specs.Block.{front_text, first_number};
-ghost use Rattle.rst_text.specs.Kept.{line_of};
+ghost use Rattle.rst_text.specs.Kept.{line_of, AreEmpty, IsEmptyRun};
 ghost use Rattle.rst_text.specs.MayCut.{are_texts};
 
 use std::alloc::{AllocError, Global};
@@ -81,5 +81,40 @@ impl Kept {
         ensures { result ≡ first_number (drop i self.now) }
     {
         self.spans[i].number
+    }
+
+    /// Whether the lines from place `i` up to place `end` are empty. `false` tells nothing.
+    fn are_empty(&self, i: usize, end: usize) -> bool
+        requires some { i < end }
+        requires within { end ≤ length self.now }
+        ensures { IsTrue result → AreEmpty self.now i end }
+    {
+        // The texts stand in order, so all are empty if the last ends where the first begins.
+        let first = self.spans[i];
+        let last = self.spans[end - 1];
+        first.start == last.end
+    }
+
+    /// The place behind some empty lines from place `i` on, `to` at most. A long run of them takes few steps: each is
+    /// twice the one before, as long as the run goes on, and then half of it.
+    pub(crate) fn empty_end(&self, i: usize, to: usize) -> usize
+        requires in_order { i ≤ to }
+        requires within { to ≤ length self.now }
+        requires few { to < 2 ^ 63 }
+        ensures { IsEmptyRun self.now i to result }
+    {
+        let mut end = i;
+        let mut step = 1;
+        while step <= to - end && self.are_empty(i, end + step) {
+            end += step;
+            step *= 2;
+        }
+        while step > 1 {
+            step /= 2;
+            if step <= to - end && self.are_empty(i, end + step) {
+                end += step;
+            }
+        }
+        end
     }
 }

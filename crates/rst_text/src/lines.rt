@@ -3,7 +3,7 @@ ghost use Rattle.std.specs.Prelude.{◌≡◌, ◌≤◌, ◌<◌, ◌∷◌, �
 ghost use Rattle.std.specs.Str.{chars, IsUtf8};
 ghost use Rattle.rst_text.specs.Block.{front_text};
 ghost use Rattle.rst_text.specs.Faults.{Gives};
-ghost use Rattle.rst_text.specs.Lines.{is_line_end, pieces, shown, expanded, tidied, lines_of, are_lines, first_longer};
+ghost use Rattle.rst_text.specs.Lines.{is_line_end, pieces, shown, expanded, tidied, lines_of, are_lines};
 ghost use Rattle.rst_text.specs.Printable.{ArePrintable};
 ghost use Rattle.rst_text.specs.Source.{block_with};
 ghost use Rattle.rst_text.specs.Text.{chars_of};
@@ -77,23 +77,6 @@ impl Lines {
         Ok(Lines { kept })
     }
 
-    /// The number of the first line with more than `limit` characters.
-    pub fn first_longer(&self, limit: usize) -> Option<usize>
-        ensures { result ≡ first_longer limit self.now }
-    {
-        for i in 0..self.kept.len() {
-            let text = self.kept.line(i);
-            // A character is a byte at least, so most lines need no count.
-            if text.len() <= limit {
-                continue;
-            }
-            if length_of(text) > limit {
-                return Some(self.kept.number(i));
-            }
-        }
-        None
-    }
-
     /// How many lines there are.
     pub fn count(&self) -> usize
         ensures { result ≡ length self.now }
@@ -108,13 +91,6 @@ impl Lines {
     {
         self.kept.line(i)
     }
-}
-
-/// How many characters a text has.
-fn length_of(text: &str) -> usize
-    ensures { result ≡ length (chars text.now) }
-{
-    text.chars().count()
 }
 
 /// Whether a character ends a line: LF, CR, U+001C to U+001E, U+0085, U+2028 and U+2029 do.

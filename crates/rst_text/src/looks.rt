@@ -40,4 +40,12 @@ impl Looks {
     {
         self.count += 1;
     }
+
+    /// So many looks more.
+    pub(crate) fn look_at(&mut self, count: usize)
+        requires { self.old < 2 ^ 127 }
+        ensures { self.new ≡ self.old + count }
+    {
+        self.count += count as u128;
+    }
 }

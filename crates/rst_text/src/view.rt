@@ -68,6 +68,7 @@ impl<'a> View<'a> {
     ghost use Rattle.rst_text.specs.Block.{cut, front_text, first_number};
     ghost use Rattle.rst_text.specs.Shown.{block_of, source_of, IsPlacement, placement_block};
     ghost use Rattle.rst_text.specs.Extent.{extent_of};
+    ghost use Rattle.rst_text.specs.Kept.{IsEmptyRun};
     ghost use Rattle.rst_text.specs.Reach.{looked};
 
     /// All the lines, without a cut.
@@ -185,6 +186,14 @@ impl<'a> View<'a> {
         }
     }
 
+    /// The place behind some lines from place `i` on that are empty without a cut, and so with any.
+    fn empty_end(&self, i: usize) -> usize
+        requires { i ≤ length (block_of self.now) }
+        ensures { IsEmptyRun (block_of self.now) i (length (block_of self.now)) result }
+    {
+        self.lines.empty_end(self.from + i, self.to) - self.from
+    }
+
     /// The lines from place `from` on that are blank or indented, by at least `least` spaces if that is given, blank
     /// ones at their end left off. It looks once at each line from `from` through the one that stops it.
     pub fn block_end(&self, from: usize, least: Option<usize>, looks: &mut Looks) -> Extent
@@ -196,12 +205,18 @@ impl<'a> View<'a> {
         let enough = least.unwrap_or(1);
         let mut end = from;
         let mut lowest: Option<usize> = None;
-        for i in from..self.len() {
-            looks.look();
+        let len = self.len();
+        let mut i = from;
+        while i < len {
             let text = self.text(i);
             if text.is_empty() {
+                // Each level of a nest asks for the same lines, so a run of blank ones is charged and left at once.
+                let next = self.empty_end(i + 1);
+                looks.look_at(next - i);
+                i = next;
                 continue;
             }
+            looks.look();
             let indent = indentation(text);
             if indent < enough {
                 return Extent {
@@ -211,7 +226,8 @@ impl<'a> View<'a> {
                 };
             }
             lowest = Some(lowest.unwrap_or(indent).min(indent));
-            end = i + 1;
+            i += 1;
+            end = i;
         }
         Extent {
             end,

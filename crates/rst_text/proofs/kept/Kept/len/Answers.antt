@@ -8,4 +8,4 @@ pub returns-clause-texts : goal.returns-clause-texts
 returns-clause-texts c =
     let t = c.self.inside.text in
     let few : length (string_bytes t) < 2 ^ 63 = omega (arith, t.bytes.ok, t.bytes.small) in
-    sym (ap are_texts c.self.view_is) ∙ texts-of_spans (string_bytes t) c.self.inside.spans.items (IsUtf8-string_bytes t) few c.self.invariant
+    sym (ap are_texts c.self.view_is) ∙ texts-of_spans 0 (string_bytes t) c.self.inside.spans.items (IsUtf8-string_bytes t) few c.self.invariant

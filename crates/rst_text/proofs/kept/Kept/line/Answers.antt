@@ -13,7 +13,7 @@ range-requires-clause-start_le_end c =
     let bytes = string_bytes c.self.inside.text in
     let spans = c.self.inside.spans.items in
     let within : c.args.i < length spans = omega (arith, c.requires, ap length c.self.view_is, length-map spans (line_in bytes)) in
-    let span = span-at bytes spans c.args.i c.index-span.result.now c.self.invariant within c.index-span.ensures in
+    let span = span-at 0 bytes spans c.args.i c.index-span.result.now c.self.invariant within c.index-span.ensures in
     span.0
 
 pub range-requires-clause-start_boundary : goal.range-requires-clause-start_boundary
@@ -21,7 +21,7 @@ range-requires-clause-start_boundary c = λ some.
     let bytes = string_bytes c.self.inside.text in
     let spans = c.self.inside.spans.items in
     let within : c.args.i < length spans = omega (arith, c.requires, ap length c.self.view_is, length-map spans (line_in bytes)) in
-    let span = span-at bytes spans c.args.i c.index-span.result.now c.self.invariant within c.index-span.ensures in
+    let span = span-at 0 bytes spans c.args.i c.index-span.result.now c.self.invariant within c.index-span.ensures in
     subst (λ bs. IsCharBoundary bs c.index-span.result.now.start) (sym c.as_str.ensures.value) span.1
 
 pub range-requires-clause-end_boundary : goal.range-requires-clause-end_boundary
@@ -29,7 +29,7 @@ range-requires-clause-end_boundary c =
     let bytes = string_bytes c.self.inside.text in
     let spans = c.self.inside.spans.items in
     let within : c.args.i < length spans = omega (arith, c.requires, ap length c.self.view_is, length-map spans (line_in bytes)) in
-    let span = span-at bytes spans c.args.i c.index-span.result.now c.self.invariant within c.index-span.ensures in
+    let span = span-at 0 bytes spans c.args.i c.index-span.result.now c.self.invariant within c.index-span.ensures in
     subst (λ bs. IsCharBoundary bs c.index-span.result.now.end) (sym c.as_str.ensures.value) span.2
 
 pub returns : goal.returns
@@ -38,6 +38,6 @@ returns c =
     let spans = c.self.inside.spans.items in
     let s = c.index-span.result.now in
     let within : c.args.i < length spans = omega (arith, c.requires, ap length c.self.view_is, length-map spans (line_in bytes)) in
-    let span = span-at bytes spans c.args.i s c.self.invariant within c.index-span.ensures in
+    let span = span-at 0 bytes spans c.args.i s c.self.invariant within c.index-span.ensures in
     c.range.ensures.value ∙ ap (λ bs. slice_range bs s.start s.end) c.as_str.ensures.value ∙ sym (text-of_span bytes s (IsUtf8-string_bytes c.self.inside.text) span)
     ∙ ap encodes (sym (front_text-at bytes spans c.args.i s within c.index-span.ensures) ∙ ap (λ (B : Block). front_text (drop c.args.i B)) c.self.view_is)

@@ -3,16 +3,20 @@ use Rattle.rst_text.specs.Block.{Block, front_text, indentation}
 use Rattle.rst_text.proofs.Least.{lower, lower-is}
 use Rattle.rst_text.specs.Shown.{block_of}
 use Rattle.rst_text.proofs.Indenting.{no_front, some_front}
-use Rattle.rst_text.proofs.Ends.{Finds-blank, Finds-more, Finds-over, Finds-end, extent_is, finish_at, finish_end}
+use Rattle.rst_text.proofs.Ends.{Finds-run, Finds-more, Finds-over, Finds-end, extent_is, finish_at, finish_end}
 use Rattle.rst_text.proofs.view.View.block_end.Goals as goal
 
 pub loop-i-preserved-then-is_empty : goal.loop-i-preserved-then-is_empty
 loop-i-preserved-then-is_empty c =
     let B : Block = block_of c.args.self.now in
-    let none : length c.text-text.result.now ≡ 0 = search rules in (
-      Finds-blank B c.args.from _ c.loop-i.i _ _ c.loop-i.invariant.0 (omega arith) (omega arith) (no_front _ _ c.text-text.ensures none),
-      omega (arith, c.loop-i.invariant.1),
-    )
+    let none : length c.text-text.result.now ≡ 0 = search rules in
+    let run = c.empty_end-next.ensures in
+    record {
+      found = Finds-run B c.args.from c.unwrap_or-enough.result c.loop-i.i c.loop-i.end c.loop-i.lowest c.empty_end-next.result c.loop-i.invariant.found (omega arith) (omega arith) (no_front _ _ c.text-text.ensures none) run;
+      looks = omega (arith, c.loop-i.invariant.looks, c.look_at.ensures, run.above);
+      above = omega (arith, run.above);
+      within = run.within;
+    }
 
 pub loop-i-preserved : goal.loop-i-preserved
 loop-i-preserved c =
@@ -20,38 +24,41 @@ loop-i-preserved c =
     let some : 1 ≤ length c.text-text.result.now = search rules in
     let level : c.indentation-indent.result ≡ indentation (front_text (drop c.loop-i.i B)) = c.indentation-indent.ensures.value ∙ ap indentation c.text-text.ensures in
     let same : c.min.result ≡ lower c.loop-i.lowest (indentation (front_text (drop c.loop-i.i B))) =
-    c.min.ensures ∙ ap (λ m. min m c.indentation-indent.result) c.unwrap_or-in-loop-i.ensures ∙ lower-is c.loop-i.lowest _ ∙ ap (lower c.loop-i.lowest) level in (
-      rw same (Finds-more B c.args.from c.unwrap_or-enough.result c.loop-i.i c.loop-i.end c.loop-i.lowest c.loop-i.invariant.0 (omega arith) (omega arith) (some_front _ _ c.text-text.utf8 c.text-text.ensures some) (omega arith)),
-      omega (arith, c.loop-i.invariant.1),
-    )
+    c.min.ensures ∙ ap (λ m. min m c.indentation-indent.result) c.unwrap_or-in-loop-i.ensures ∙ lower-is c.loop-i.lowest _ ∙ ap (lower c.loop-i.lowest) level in
+    record {
+      found = rw same (Finds-more B c.args.from c.unwrap_or-enough.result c.loop-i.i c.loop-i.end c.loop-i.lowest c.loop-i.invariant.found (omega arith) (omega arith) (some_front _ _ c.text-text.utf8 c.text-text.ensures some) (omega arith));
+      looks = omega (arith, c.loop-i.invariant.looks);
+      above = omega arith;
+      within = omega arith;
+    }
 
 pub returns-then-indent-enough-clause-extent : goal.returns-then-indent-enough-clause-extent
 returns-then-indent-enough-clause-extent c =
     let B : Block = block_of c.args.self.now in
     let some : 1 ≤ length c.text-text.result.now = search rules in
     let level : c.indentation-indent.result ≡ indentation (front_text (drop c.loop-i.i B)) = c.indentation-indent.ensures.value ∙ ap indentation c.text-text.ensures in
-    let over = Finds-over B c.args.from c.unwrap_or-enough.result c.loop-i.i c.loop-i.end c.loop-i.lowest c.loop-i.invariant.0 (omega arith) (some_front _ _ c.text-text.utf8 c.text-text.ensures some) (omega arith) in
-    rw (← c.unwrap_or-enough.ensures) (extent_is B c.args.from c.unwrap_or-enough.result c.loop-i.end c.loop-i.lowest _ _ over.0 c.unwrap_or.ensures (finish_at B c.args.from _ _ _ _ c.loop-i.invariant.0 over.2))
+    let over = Finds-over B c.args.from c.unwrap_or-enough.result c.loop-i.i c.loop-i.end c.loop-i.lowest c.loop-i.invariant.found (omega arith) (some_front _ _ c.text-text.utf8 c.text-text.ensures some) (omega arith) in
+    rw (← c.unwrap_or-enough.ensures) (extent_is B c.args.from c.unwrap_or-enough.result c.loop-i.end c.loop-i.lowest _ _ over.0 c.unwrap_or.ensures (finish_at B c.args.from _ _ _ _ c.loop-i.invariant.found over.2))
 
 pub returns-then-indent-enough-clause-looks : goal.returns-then-indent-enough-clause-looks
 returns-then-indent-enough-clause-looks c =
     let B : Block = block_of c.args.self.now in
     let some : 1 ≤ length c.text-text.result.now = search rules in
     let level : c.indentation-indent.result ≡ indentation (front_text (drop c.loop-i.i B)) = c.indentation-indent.ensures.value ∙ ap indentation c.text-text.ensures in
-    let over = Finds-over B c.args.from c.unwrap_or-enough.result c.loop-i.i c.loop-i.end c.loop-i.lowest c.loop-i.invariant.0 (omega arith) (some_front _ _ c.text-text.utf8 c.text-text.ensures some) (omega arith) in
-    rw (← c.unwrap_or-enough.ensures) (omega (arith, c.look.ensures, c.loop-i.invariant.0.looks, c.loop-i.invariant.1, over.1))
+    let over = Finds-over B c.args.from c.unwrap_or-enough.result c.loop-i.i c.loop-i.end c.loop-i.lowest c.loop-i.invariant.found (omega arith) (some_front _ _ c.text-text.utf8 c.text-text.ensures some) (omega arith) in
+    rw (← c.unwrap_or-enough.ensures) (omega (arith, c.look.ensures, c.loop-i.invariant.found.looks, c.loop-i.invariant.looks, over.1))
 
 pub returns-clause-extent : goal.returns-clause-extent
 returns-clause-extent c =
     let B : Block = block_of c.args.self.now in
     let over : length B ≤ c.loop-i.i = omega arith in
     let within : c.loop-i.i ≤ length B = omega arith in
-    let found = Finds-end B c.args.from c.unwrap_or-enough.result c.loop-i.i c.loop-i.end c.loop-i.lowest c.loop-i.invariant.0 over in
-    rw (← c.unwrap_or-enough.ensures) (extent_is B c.args.from c.unwrap_or-enough.result c.loop-i.end c.loop-i.lowest _ _ found.0 c.unwrap_or-2.ensures (finish_end B c.args.from _ _ _ _ c.loop-i.invariant.0 over within))
+    let found = Finds-end B c.args.from c.unwrap_or-enough.result c.loop-i.i c.loop-i.end c.loop-i.lowest c.loop-i.invariant.found over in
+    rw (← c.unwrap_or-enough.ensures) (extent_is B c.args.from c.unwrap_or-enough.result c.loop-i.end c.loop-i.lowest _ _ found.0 c.unwrap_or-2.ensures (finish_end B c.args.from _ _ _ _ c.loop-i.invariant.found over within))
 
 pub returns-clause-looks : goal.returns-clause-looks
 returns-clause-looks c =
     let B : Block = block_of c.args.self.now in
     let over : length B ≤ c.loop-i.i = omega arith in
-    let found = Finds-end B c.args.from c.unwrap_or-enough.result c.loop-i.i c.loop-i.end c.loop-i.lowest c.loop-i.invariant.0 over in
-    rw (← c.unwrap_or-enough.ensures) (omega (arith, c.loop-i.invariant.0.looks, c.loop-i.invariant.1, found.1))
+    let found = Finds-end B c.args.from c.unwrap_or-enough.result c.loop-i.i c.loop-i.end c.loop-i.lowest c.loop-i.invariant.found over in
+    rw (← c.unwrap_or-enough.ensures) (omega (arith, c.loop-i.invariant.found.looks, c.loop-i.invariant.looks, found.1))

@@ -1,0 +1,17 @@
+use Rattle.std.proofs.Common.{◌<◌, ◌-◌, length, drop, sym, ap, arith, ◌∙◌, string_bytes}
+use Rattle.std.proofs.lemmas.Bool.{eqb-true}
+use Rattle.std.proofs.lemmas.List.{length-map}
+use Rattle.rst_text.specs.Block.{Block, front_text}
+use Rattle.rst_text.specs.Kept.{line_in}
+use Rattle.rst_text.proofs.KeptLemmas.{empty-between}
+use Rattle.rst_text.proofs.kept.Kept.are_empty.Goals as goal
+
+pub returns : goal.returns
+returns c = λ same k low high.
+    let bytes = string_bytes c.self.inside.text in
+    let spans = c.self.inside.spans.items in
+    let s = c.index-first.result.now in
+    let t = c.index-last.result.now in
+    let within : c.args.end - 1 < length spans = omega (arith, c.requires.some, c.requires.within, ap length c.self.view_is, length-map spans (line_in bytes)) in
+    sym (ap (λ (B : Block). front_text (drop k B)) c.self.view_is)
+    ∙ empty-between bytes spans c.args.i (c.args.end - 1) s t c.self.invariant within c.index-first.ensures c.index-last.ensures (eqb-true s.start t.end same) k low (omega arith)
