@@ -13,6 +13,7 @@ use rst_settings::Settings;
 use rst_text::{Lines, TextFault, text_in};
 use rst_transform::{Finished, finish};
 use rst_tree::{Attrs, Children, Level, Node, Tag, TreeFault};
+use rst_tree_index::Marked;
 use std::alloc::{AllocError, Global};
 
 /// The finished document of the bytes, or why they are refused.
@@ -82,5 +83,9 @@ fn long_line(alloc: Global, line: usize) -> Result<Parsed, TreeFault>
         children,
         line: 0,
     };
-    Parsed::of(alloc, root)
+    Ok(Parsed {
+        document: Marked::of(alloc, root)?,
+        messages: 0,
+        looks: 0,
+    })
 }

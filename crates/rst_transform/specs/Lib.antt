@@ -1,2 +1,1 @@
 pub mod Finishing
-pub mod Law

@@ -1,5 +1,4 @@
 pub mod Holders
-pub mod Law
 pub mod Linkings
 pub mod Links
 pub mod LinkTransforms

@@ -1,5 +1,4 @@
 pub mod LastSection
-pub mod Law
 pub mod Passing
 pub mod Siblings
 pub mod Handing

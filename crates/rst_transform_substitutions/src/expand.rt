@@ -1,10 +1,13 @@
 //! Substitution references give way to the contents of their definitions.
-ghost use Rattle.std.specs.Prelude.{◌≡◌, false, OnOk};
+ghost use Rattle.std.specs.Prelude.{◌≡◌, ◌++◌, false, List, OnOk};
+ghost use Rattle.rst_tree.specs.declared.node.Node.{Node as AnyNode};
 ghost use Rattle.rst_tree.specs.Faults.{Gives};
+ghost use Rattle.rst_tree.specs.Nodes.{forest_of};
 ghost use Rattle.rst_tree_index.specs.Kinds.{kinds_of, HasNoNewKinds};
 ghost use Rattle.rst_transform_work.specs.States.{elements_of, state};
 ghost use Rattle.rst_transform_substitutions.specs.Definitions.{found_by, known_place};
-ghost use Rattle.rst_transform_substitutions.specs.Expanded.{within_element, ExpandsBy, IsExpanded, IsReplaced, ReportsFault};
+ghost use Rattle.rst_transform_substitutions.specs.Expanded.{within_element, ExpandsIn, GivesWay, IsExpanded, ReportsFault};
+ghost use Rattle.rst_transform_substitutions.specs.Expansion.{name_said, nodes_for};
 ghost use Rattle.rst_transform_substitutions.specs.Outcomes.{Remembers};
 
 use crate::definitions::Definitions;
@@ -77,7 +80,7 @@ fn expanded_in(
     context: &mut Context,
 ) -> Result<Children, TreeFault>
     requires { Remembers definitions.now outcomes.old }
-    ensures expanded { Gives (ExpandsBy definitions.now within nodes context.old context.new) result }
+    ensures expanded { Gives (λ done. (list : List AnyNode) × ExpandsIn (found_by definitions.now) (known_place definitions.now) within nodes context.old context.new list × (done ≡ forest_of list)) result }
     ensures remembers { OnOk result (Remembers definitions.now outcomes.new) }
 {
     let mut done = Vec::with_capacity(alloc, nodes.len())?;
@@ -94,24 +97,31 @@ fn expanded_in(
                 line,
             } => {
                 if is_reference(tag) {
-                    let mut here = replaced(
+                    done = with_replaced(
                         alloc,
                         definitions,
+                        done,
                         attrs,
                         line,
                         within,
                         outcomes,
                         context,
                     )?;
-                    done.append(&mut here)?;
                     continue;
                 }
                 let within = within_element(definitions, tag, &attrs, within);
-                let inner = expanded_in(alloc, definitions, children, within, outcomes, context)?;
+                let children = expanded_in(
+                    alloc,
+                    definitions,
+                    children,
+                    within,
+                    outcomes,
+                    context,
+                )?;
                 done.push(Node::Element {
                     tag,
                     attrs,
-                    children: inner,
+                    children,
                     line,
                 })?;
                 continue;
@@ -136,10 +146,11 @@ fn within_element(
     within
 }
 
-/// What becomes of a reference: the nodes for it, or a problematic.
-fn replaced(
+/// Puts what becomes of a reference behind the nodes before it: the nodes for it, or a problematic.
+fn with_replaced(
     alloc: Global,
     definitions: &Definitions,
+    mut nodes: Vec<Node>,
     attrs: Attrs,
     line: usize,
     within: Option<usize>,
@@ -147,15 +158,18 @@ fn replaced(
     context: &mut Context,
 ) -> Result<Vec<Node>, TreeFault>
     requires { Remembers definitions.now outcomes.old }
-    ensures replaced { Gives (λ nodes. IsReplaced (found_by definitions.now) within attrs line context.old context.new nodes.items) result }
+    ensures gives_way { let wanted = nodes_for (found_by definitions.now) within (name_said attrs) in Gives (λ all. (here : List AnyNode) × GivesWay attrs line wanted context.old context.new here × (all.items ≡ nodes.items ++ here)) result }
     ensures remembers { OnOk result (Remembers definitions.now outcomes.new) }
 {
     let name = said(&attrs, Key::Refname);
     match reference_outcome(alloc, definitions, name, within, outcomes)? {
-        Outcome::Nodes(nodes) => Ok(nodes.into_list()),
+        Outcome::Nodes(expanded) => {
+            let mut expanded = expanded.into_list();
+            nodes.append(&mut expanded)?;
+            Ok(nodes)
+        }
         Outcome::Fault(fault) => {
             let problematic = problematic(alloc, attrs, line, fault, context)?;
-            let mut nodes = Vec::with_capacity(alloc, 1)?;
             nodes.push(problematic)?;
             Ok(nodes)
         }

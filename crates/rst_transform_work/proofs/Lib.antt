@@ -1,4 +1,3 @@
-pub mod Additions
 pub mod Listing
 pub mod OneAnswer
 pub mod Spelling

@@ -1,5 +1,4 @@
 pub mod Lists
-pub mod Made
 pub mod Problematics
 pub mod Reading
 pub mod Reports
