@@ -53,14 +53,6 @@ impl Tree {
         }
     }
 
-    /// A node that is known to be a tree, as a tree.
-    pub fn sound(root: Node) -> Tree
-        requires { IsTrue (is_tree root) }
-        ensures { result ≡ root }
-    {
-        Tree { root }
-    }
-
     /// The whole node.
     pub fn root(&self) -> &Node
         ensures root { result.now ≡ self.now }
