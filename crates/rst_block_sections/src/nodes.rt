@@ -50,7 +50,7 @@ pub fn filled(element: Node, more: Vec<Node>) -> Result<Node, TreeFault>
 }
 
 /// The same where the marks of the nodes are known. Those of the element are found by a pass over it: it was made for these
-/// nodes, and nobody marked it before.
+/// nodes, and nobody marked it before. Most such elements are empty, and need no pass.
 ///
 /// The only refusal is [`TreeFault::NoMemory`].
 pub fn completed(alloc: Global, element: Node, more: Vec<Marked>) -> Result<Marked, TreeFault>
@@ -63,6 +63,9 @@ pub fn completed(alloc: Global, element: Node, more: Vec<Marked>) -> Result<Mark
             children,
             line,
         } => {
+            if children.len() == 0 {
+                return Marked::element(alloc, tag, attrs, more, line);
+            }
             let mut nodes = Marked::each(alloc, children.into_list())?;
             append(&mut nodes, more)?;
             Marked::element(alloc, tag, attrs, nodes, line)

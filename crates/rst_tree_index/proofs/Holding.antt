@@ -1,8 +1,9 @@
 -- The kinds of elements that stand among some, and among more.
-use Rattle.std.proofs.Common.{◌≡◌, ⊎_elim, ℕ, ◌+◌, ◌<◌, ◌≤◌, length, get_or, take, append_assoc, List, [], ◌∷◌, ◌++◌, refl, sym, ◌∙◌, ap, Bool, true, false}
+use Rattle.std.proofs.Common.{◌≡◌, ⊎_elim, ℕ, ◌+◌, ◌<◌, length, get_or, take, append_assoc, List, [], ◌∷◌, ◌++◌, refl, sym, ◌∙◌, ap, Bool, true, false}
 use Rattle.std.specs.Prelude.{◌||◌, ◌⊎◌, is_some}
 use Rattle.std.specs.List.{list_any}
-use Rattle.std.proofs.lemmas.List.{append-nil, take_all, take_more}
+use Rattle.std.proofs.Math.Bool.{or_assoc}
+use Rattle.std.proofs.lemmas.List.{append-nil, take_more}
 use Rattle.std.proofs.lemmas.List.Folds.{list_any-append}
 use Rattle.rst_tree.specs.declared.attrs.Attr.{Attr}
 use Rattle.rst_tree.specs.declared.key.Key.TheVariants.{Anonymous, Refname}
@@ -25,10 +26,6 @@ or_false false = refl
 or_true : (b : Bool) → true ≡ (b || true)
 or_true true = refl
 or_true false = refl
-
-or_assoc : (a b c : Bool) → ((a || b) || c) ≡ (a || (b || c))
-or_assoc true b c = refl
-or_assoc false b c = refl
 
 alike : (a b c d e f g h a' b' c' d' e' f' g' h' : Bool) → a ≡ a' → b ≡ b' → c ≡ c' → d ≡ d' → e ≡ e' → f ≡ f' → g ≡ g' → h ≡ h'
     → ◌≡◌ {A = Kinds} record { messages = a; substitutions = b; targets = c; anonymous = d; indirect = e; footnotes = f; links = g; transitions = h }
@@ -70,10 +67,15 @@ kinds_more ns i child k old new fits at before all =
     let more : take (i + 1) ns ≡ take i ns ++ child ∷ [] = take_more ns i child fits ∙ ap (λ x. take i ns ++ x ∷ []) (sym at) in
     kinds_push (take i ns) child k old (kinds_of (node_items child)) new before refl all ∙ ap (λ z. either k (kinds_of (items (forest_of z)))) (sym more)
 
-pub kinds_end : (node : Node) (t : Tag) (a : List Attr) (c : Forest) (l : ℕ) (ns : List Node) (i : ℕ) (old own now : Kinds) → node ≡ Element t a c l → c ≡ forest_of ns → length ns ≤ i
-    → own ≡ either old (kinds_of (item t a 0 ∷ [])) → now ≡ either own (kinds_of (items (forest_of (take i ns)))) → now ≡ either old (kinds_of (node_items node))
-kinds_end node t a c l ns i old own now is nodes all mine held =
-    held ∙ (rw (is, nodes, mine, take_all i ns all) (either-append old (item t a 0 ∷ []) (items (forest_of ns))))
+-- those of an element, and then of the nodes in it
+pub kinds_within : (node : Node) (t : Tag) (a : List Attr) (c : Forest) (l : ℕ) (old own now : Kinds) → node ≡ Element t a c l → own ≡ either old (kinds_of (item t a 0 ∷ [])) → now ≡ either own (kinds_of (items c))
+    → now ≡ either old (kinds_of (node_items node))
+kinds_within node t a c l old own now is mine all = all ∙ (rw (is, mine) (either-append old (item t a 0 ∷ []) (items c)))
+
+-- a text among the nodes is of no kind
+pub kinds_past : (ns : List Node) (i : ℕ) (child : Node) (t : List ℕ) (k old : Kinds) → i < length ns → child ≡ get_or ns i child → child ≡ Text t → old ≡ either k (kinds_of (items (forest_of (take i ns))))
+    → old ≡ either k (kinds_of (items (forest_of (take (i + 1) ns))))
+kinds_past ns i child t k old fits at is before = kinds_more ns i child k old old fits at before (rw is (either_none old))
 
 -- those of an element with nodes
 pub kinds_element : (t : Tag) (a : List Attr) (l : ℕ) (c c' : Forest) (none own now : Kinds) → none ≡ kinds_of [] → own ≡ either none (kinds_of (item t a 0 ∷ [])) → c' ≡ c → now ≡ either own (kinds_of (items c))

@@ -163,7 +163,17 @@ module _ (needs : Item → Bool) where
       let more : take (i + 1) ns ≡ take i ns ++ child ∷ [] = take_more ns i child fits ∙ ap (λ x. take i ns ++ x ∷ []) (sym at) in
       paths_push (take i ns) child own held (marks_of needs child) now i old (sym (length-take-le i ns k)) refl all ∙ ap (λ z. own ++ map path_of (places needs (forest_of z))) (sym more)
 
+  -- a text among the nodes has none
+  pub paths_past : (ns : List Node) (i : ℕ) (child : Node) (t : List ℕ) (own held : List (List ℕ)) → i < length ns → child ≡ get_or ns i child → child ≡ Text t → held ≡ own ++ map path_of (places needs (forest_of (take i ns)))
+      → held ≡ own ++ map path_of (places needs (forest_of (take (i + 1) ns)))
+  paths_past ns i child t own held fits at is old = paths_more ns i child own held held fits at old (rw is (sym (append-nil held)))
+
   -- the marks of an element with nodes
   pub marks_element : (t : Tag) (a : List Attr) (l : ℕ) (c c' : Forest) (own : Bool) (none inner : List (List ℕ)) → own ≡ needs (item t a l) → none ≡ [] → c' ≡ c → inner ≡ none ++ map path_of (places needs c)
       → node_paths own inner ≡ own_mark needs (item t a l) ++ map path_of (places needs c')
   marks_element t a l c c' own none inner mine begun is all = rw (all, begun, mine, is) refl
+
+  -- the same of an element that is there
+  pub marks_within : (node : Node) (t : Tag) (a : List Attr) (c : Forest) (l : ℕ) (own : Bool) (none inner : List (List ℕ)) → node ≡ Element t a c l → own ≡ needs (item t a l) → none ≡ []
+      → inner ≡ none ++ map path_of (places needs c) → node_paths own inner ≡ marks_of needs node
+  marks_within node t a c l own none inner is mine begun all = marks_element t a l c c own none inner mine begun refl all ∙ ap (marks_of needs) (sym is)

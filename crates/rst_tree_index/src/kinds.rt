@@ -105,18 +105,19 @@ impl Kinds {
     }
 
     /// Those of either.
+    #[inline(always)]
     pub(crate) fn or(self, other: Kinds) -> Kinds
         ensures { result ≡ either self other }
     {
         Kinds {
-            messages: self.messages || other.messages,
-            substitutions: self.substitutions || other.substitutions,
-            targets: self.targets || other.targets,
-            anonymous: self.anonymous || other.anonymous,
-            indirect: self.indirect || other.indirect,
-            footnotes: self.footnotes || other.footnotes,
-            links: self.links || other.links,
-            transitions: self.transitions || other.transitions,
+            messages: self.messages | other.messages,
+            substitutions: self.substitutions | other.substitutions,
+            targets: self.targets | other.targets,
+            anonymous: self.anonymous | other.anonymous,
+            indirect: self.indirect | other.indirect,
+            footnotes: self.footnotes | other.footnotes,
+            links: self.links | other.links,
+            transitions: self.transitions | other.transitions,
         }
     }
 }

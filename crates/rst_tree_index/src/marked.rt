@@ -110,7 +110,39 @@ fn visit_in<V: Visitor>(
     Ok(())
 }
 
+/// Puts the marks of nodes that were made elsewhere behind others, seen from the element that holds them. Their kinds are added.
+///
+/// Most of these nodes are texts or hold texts alone: those cost no list of marks.
+fn add_marks(
+    alloc: Global,
+    nodes: &Children,
+    marks: &mut Marks,
+    kinds: &mut Kinds,
+) -> Result<(), TreeFault>
+    ensures marks { Gives (λ _. marks.new ≡ marks.old ++ map path_of (places is_registered nodes.now)) result }
+    ensures kinds { Gives (λ _. kinds.new ≡ either kinds.old (kinds_of (items nodes.now))) result }
+{
+    let list = nodes.as_slice();
+    for place in 0..list.len() {
+        let Node::Element {
+            tag,
+            attrs,
+            children,
+            line,
+        } = &list[place]
+        else {
+            continue;
+        };
+        kinds.add(*tag, attrs);
+        let mut inner = Marks::none(alloc);
+        add_marks(alloc, children, &mut inner, kinds)?;
+        marks.push(place, is_registered(*tag, attrs, *line), inner)?;
+    }
+    Ok(())
+}
+
 /// The marks of a node that was made elsewhere, by a pass over it: whether it is marked itself, and those in it. Its kinds are added.
+#[inline(always)]
 fn marks_of(alloc: Global, node: &Node, kinds: &mut Kinds) -> Result<(bool, Marks), TreeFault>
     ensures marks { Gives (λ marks. node_paths marks.0 marks.1 ≡ marks_of is_registered node.now) result }
     ensures kinds { Gives (λ _. kinds.new ≡ either kinds.old (kinds_of (node_items node.now))) result }
@@ -126,11 +158,7 @@ fn marks_of(alloc: Global, node: &Node, kinds: &mut Kinds) -> Result<(bool, Mark
         return Ok((false, inner));
     };
     kinds.add(*tag, attrs);
-    let nodes = children.as_slice();
-    for place in 0..nodes.len() {
-        let (own, marks) = marks_of(alloc, &nodes[place], kinds)?;
-        inner.push(place, own, marks)?;
-    }
+    add_marks(alloc, children, &mut inner, kinds)?;
     Ok((is_registered(*tag, attrs, *line), inner))
 }
 
@@ -155,7 +183,7 @@ fn gathered(
         } = node;
         marks.push(list.len(), own, inner)?;
         *kinds = kinds.or(more);
-        list.push(root)?;
+        list.push_reserved(root);
     }
     Ok(Children::of(list))
 }
@@ -215,9 +243,12 @@ impl Marked {
     pub fn each(alloc: Global, nodes: Vec<Node>) -> Result<Vec<Marked>, TreeFault>
         ensures { Gives (λ list. list.items ≡ nodes.items) result }
     {
+        if nodes.is_empty() {
+            return Ok(Vec::new(alloc));
+        }
         let mut list = Vec::with_capacity(alloc, nodes.len())?;
         for node in nodes {
-            list.push(Marked::of(alloc, node)?)?;
+            list.push_reserved(Marked::of(alloc, node)?);
         }
         Ok(list)
     }

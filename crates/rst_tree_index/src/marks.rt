@@ -47,6 +47,7 @@ impl Model for Marks {
 }
 
 /// Whether a node is marked itself, or has marks in it.
+#[inline(always)]
 fn is_used(own: bool, inner: &Marks) -> bool
     ensures used { result ≡ true → node_paths own inner.now ≢ [] }
     ensures unused { result ≡ false → node_paths own inner.now ≡ [] }
@@ -76,6 +77,7 @@ impl Marks {
     }
 
     /// Puts the marks of the node at a place behind the others: its own, if it is marked, and those in it.
+    #[inline(always)]
     pub fn push(&mut self, place: usize, own: bool, inner: Marks) -> Result<(), TreeFault>
         ensures { Gives (λ _. self.new ≡ self.old ++ map (λ p. place ∷ p) (node_paths own inner)) result }
     {

@@ -1,0 +1,16 @@
+use Rattle.std.proofs.Common.{◌≡◌, ◌++◌, [], ap, sym, ◌∙◌, subst, arith}
+use Rattle.std.proofs.lemmas.List.{nil_from_length}
+use Rattle.rst_tree.specs.Faults.{Gives}
+use Rattle.rst_tree.specs.Nodes.{forest_of, nodes_of}
+use Rattle.rst_tree.specs.declared.node.Node.{Node}
+use Rattle.rst_tree.specs.declared.node.Node.TheVariants.{Element}
+use Rattle.rst_block_sections.specs.Sections.{filled}
+use Rattle.rst_block_sections.proofs.nodes.completed.Goals as goal
+
+pub returns-then-len-eq0 : goal.returns-then-len-eq0
+returns-then-len-eq0 c =
+    let inside = c.in-Element in
+    let none : nodes_of inside.children ≡ [] = nil_from_length _ (omega (arith, c.len.ensures, c.if-len-eq0.true)) in
+    let is : Element inside.tag inside.attrs (forest_of c.args.more.items) inside.line ≡ filled c.args.element c.args.more.items =
+    ap (λ ns. Element inside.tag inside.attrs (forest_of (ns ++ c.args.more.items)) inside.line) (sym none) ∙ ap (λ n. filled n c.args.more.items) (sym inside.is) in
+    subst (λ (n : Node). Gives (λ m. m ≡ n) c.element.result) is c.element.ensures
