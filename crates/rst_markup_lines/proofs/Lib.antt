@@ -5,6 +5,7 @@ pub mod AdornmentLemmas
 pub mod SimpleNames
 pub mod LabelLemmas
 pub mod RomanLemmas
+pub mod NumeralLetters
 pub mod Steps
 pub mod OptionLemmas
 pub mod PlacedLemmas

@@ -1,11 +1,11 @@
 -- Enumerators (Markup Specification, 'Enumerated Lists').
-use Rattle.std.specs.Prelude.{ℕ, suc, ◌+◌, ◌-◌, Bool, true, false, ◌&&◌, ◌||◌, ◌==◌, nat_lt, not, unwrap_or, List, take, drop, if◌then◌else◌, Option, None, Some}
-use Rattle.std.specs.Char.{is_ascii_lowercase, is_ascii_uppercase}
+use Rattle.std.specs.Prelude.{ℕ, suc, ◌+◌, ◌-◌, Bool, true, false, ◌&&◌, ◌||◌, ◌==◌, nat_lt, not, unwrap_or, List, [], ◌∷◌, take, drop, if◌then◌else◌, Option, None, Some}
+use Rattle.std.specs.Char.{is_ascii_lowercase, is_ascii_uppercase, is_ascii_digit, is_ascii_alphabetic}
 use Rattle.std.specs.Option.{option_and_then, option_map, option_or}
 use Rattle.rst_markup_lines.specs.Front.{first, begins_with}
 use Rattle.rst_markup_lines.specs.Class.{run}
 use Rattle.rst_markup_lines.specs.Decimal.{number_of}
-use Rattle.rst_markup_lines.specs.Roman.{roman}
+use Rattle.rst_markup_lines.specs.Roman.{roman, is_numeral_letter}
 use Rattle.rst_markup_lines.specs.declared.class.Class.TheVariants.{Digit, Letter}
 use Rattle.rst_markup_lines.specs.declared.enumerator.Case.{Case}
 use Rattle.rst_markup_lines.specs.declared.enumerator.Case.TheVariants.{Lower, Upper}
@@ -57,10 +57,20 @@ letters_at t = option_and_then (λ c. letters_by c (run Letter t) t) (first t)
 unfoldable pub written_at : List ℕ → Option Written
 written_at t = if begins_with 35 t then Some (record { ordinals = Auto; len = 1 }) else option_or (arabic_at t) (letters_at t)
 
--- Neither `x)` nor `x.` can stand at the front: neither `#` nor a digit begins the text, and neither `)` nor `.` is behind the
--- letters there.
+-- A letter with this character behind it, if there is one, is no ordinal and begins none: not both are letters of numerals, or
+-- the other is neither a letter nor what ends an enumerator.
+abbrev pub is_no_ordinal : ℕ → Option ℕ → Bool
+is_no_ordinal letter None = true
+is_no_ordinal letter (Some c) = if is_ascii_alphabetic c then not (is_numeral_letter letter && is_numeral_letter c) else not (c == 41 || c == 46)
+
+-- such a letter, or what is neither a letter, a digit, `#` nor `(`
+abbrev pub is_no_front : ℕ → Option ℕ → Bool
+is_no_front c behind = if is_ascii_alphabetic c then is_no_ordinal c behind else not (is_ascii_digit c || (c == 35 || c == 40))
+
+-- the first two characters of a text, which may have fewer, begin no enumerator
 unfoldable pub begins_no_enumerator : List ℕ → Bool
-begins_no_enumerator t = not (begins_with 35 t) && (run Digit t == 0 && (not (begins_with 41 (drop (run Letter t) t)) && not (begins_with 46 (drop (run Letter t) t))))
+begins_no_enumerator [] = true
+begins_no_enumerator (c ∷ cs) = is_no_front c (first cs)
 
 -- an enumerator of this format with an ordinal that stands behind `from` characters and before one more, if spaces or the
 -- end are behind it

@@ -1,6 +1,6 @@
 -- Roman numerals in their canonical form (Markup Specification, 'Enumerated Lists'): a digit each for thousands, hundreds,
 -- tens and ones.
-use Rattle.std.specs.Prelude.{ℕ, ◌+◌, ◌-◌, ◌*◌, ◌/◌, ◌%◌, ◌&&◌, ◌==◌, nat_le, nat_lt, List, [], ◌∷◌, ◌++◌, replicate, drop, if◌then◌else◌, Option, None, Some}
+use Rattle.std.specs.Prelude.{ℕ, ◌+◌, ◌-◌, ◌*◌, ◌/◌, ◌%◌, Bool, ◌&&◌, ◌||◌, ◌==◌, nat_le, nat_lt, List, [], ◌∷◌, ◌++◌, replicate, drop, if◌then◌else◌, Option, None, Some}
 use Rattle.std.specs.Str.{bytes_eq}
 use Rattle.rst_text.specs.Places.{first_from}
 use Rattle.rst_markup_lines.specs.Front.{begins_with}
@@ -43,6 +43,20 @@ numeral_of case n =
 -- the value of letters: the number of which they are the numeral, up to 4999, if there is one
 unfoldable pub roman : Case → List ℕ → Option ℕ
 roman case letters = first_from (λ n. bytes_eq (numeral_of case n) letters) 0 5000
+
+-- ---- the letters
+
+-- c, d, i, l, m, v, x
+abbrev pub is_lower_numeral : ℕ → Bool
+is_lower_numeral c = (c == 99 || (c == 100 || c == 105)) || ((c == 108 || c == 109) || (c == 118 || c == 120))
+
+-- C, D, I, L, M, V, X
+abbrev pub is_upper_numeral : ℕ → Bool
+is_upper_numeral c = (c == 67 || (c == 68 || c == 73)) || ((c == 76 || c == 77) || (c == 86 || c == 88))
+
+-- a letter that stands in Roman numerals of some case
+abbrev pub is_numeral_letter : ℕ → Bool
+is_numeral_letter c = is_lower_numeral c || is_upper_numeral c
 
 -- ---- a digit at the front of a text
 

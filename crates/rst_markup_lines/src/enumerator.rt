@@ -6,8 +6,8 @@ ghost use Rattle.rst_markup_lines.specs.Enumerator as spec;
 use super::class::{Class, run};
 use super::decimal::decimal;
 use super::marker::{Marker, marker_of};
-use super::roman::roman;
-use super::text::{begins_with, front};
+use super::roman::{is_numeral_letter, roman};
+use super::text::{after_first, begins_with, front};
 use rst_text::skip;
 
 /// What stands round an enumerator's ordinal.
@@ -162,21 +162,61 @@ fn framed(format: Format, from: usize, written: Written, text: &str) -> Option<E
     })
 }
 
-/// Whether neither `#` nor digits are at the front of a text, and what ends an enumerator isn't behind the letters there.
+/// Whether a letter is no ordinal and begins none, by the character behind it.
+fn is_no_ordinal(letter: char, behind: Option<char>) -> bool
+    ensures { result ≡ spec.is_no_ordinal letter behind }
+{
+    match behind {
+        None => true,
+        Some(c) => {
+            if c.is_ascii_alphabetic() {
+                !(is_numeral_letter(letter) && is_numeral_letter(c))
+            } else {
+                c != ')' && c != '.'
+            }
+        }
+    }
+}
+
+/// Whether a character can't begin an enumerator, by the one behind it.
+fn is_no_front(c: char, behind: Option<char>) -> bool
+    ensures { result ≡ spec.is_no_front c behind }
+{
+    if c.is_ascii_alphabetic() {
+        is_no_ordinal(c, behind)
+    } else {
+        !matches!(c, '0'..='9' | '#' | '(')
+    }
+}
+
+/// Whether the first two characters of a text show that it begins with no enumerator.
 #[tactic(auto, unfolding(crate::specs::Enumerator::begins_no_enumerator))]
-fn begins_word(text: &str) -> bool
+fn begins_no_enumerator(text: &str) -> bool
     ensures { result ≡ spec.begins_no_enumerator (chars text.now) }
 {
-    if begins_with('#', text) || run(Class::Digit, text) != 0 {
-        return false;
+    match front(text) {
+        Some(c) => is_no_front(c, front(after_first(text))),
+        None => true,
     }
-    let behind = skip(text, run(Class::Letter, text));
-    !begins_with(')', behind) && !begins_with('.', behind)
 }
 
 /// The enumerator at the front of a line: `(x)`, `x)` or `x.`, and its marker.
-#[tactic(auto, unfolding(crate::specs::Enumerator::enumerator_of), using(crate::proofs::EnumeratorLemmas::word_none))]
+#[tactic(auto, using(crate::proofs::EnumeratorLemmas::word_none))]
 pub fn enumerator_of(text: &str) -> Option<Enumerator>
+    ensures { result ≡ spec.enumerator_of (chars text.now) }
+{
+    // Most lines begin with a word, which its first two letters tell.
+    if begins_no_enumerator(text) {
+        return None;
+    }
+    read_enumerator(text)
+}
+
+/// The enumerator at the front of a line, which is read to its end.
+// It stays out of its caller, which then has little to do for most lines.
+#[inline(never)]
+#[tactic(auto, unfolding(crate::specs::Enumerator::enumerator_of))]
+fn read_enumerator(text: &str) -> Option<Enumerator>
     ensures { result ≡ spec.enumerator_of (chars text.now) }
 {
     if begins_with('(', text) {
@@ -185,10 +225,6 @@ pub fn enumerator_of(text: &str) -> Option<Enumerator>
             return None;
         }
         return framed(Format::Parentheses, 1, written, text);
-    }
-    // Most lines begin with a word, which isn't read as a numeral first.
-    if begins_word(text) {
-        return None;
     }
     let written = written_at(text)?;
     let behind = skip(text, written.len);

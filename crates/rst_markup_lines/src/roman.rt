@@ -79,6 +79,27 @@ fn ones(case: Case) -> RomanPlace
     }
 }
 
+/// Whether a character is a letter of lower case that stands in Roman numerals.
+fn is_lower_numeral(c: char) -> bool
+    ensures { result ≡ spec.is_lower_numeral c }
+{
+    matches!(c, 'c' | 'd' | 'i' | 'l' | 'm' | 'v' | 'x')
+}
+
+/// Whether a character is a letter of upper case that stands in Roman numerals.
+fn is_upper_numeral(c: char) -> bool
+    ensures { result ≡ spec.is_upper_numeral c }
+{
+    matches!(c, 'C' | 'D' | 'I' | 'L' | 'M' | 'V' | 'X')
+}
+
+/// Whether a character is a letter that stands in Roman numerals.
+pub(crate) fn is_numeral_letter(c: char) -> bool
+    ensures { result ≡ spec.is_numeral_letter c }
+{
+    is_lower_numeral(c) || is_upper_numeral(c)
+}
+
 /// The digit at the front of a text, in a place with these letters; none where more than three ones stand together.
 #[tactic(auto, unfolding(crate::specs::Roman::digit_at))]
 fn digit_at(place: RomanPlace, text: &str) -> Option<RomanDigit>

@@ -69,6 +69,10 @@ fn rule_spans(
     requires { columns.now ≡ spec.columns_of lines.now }
     ensures { IfOk result (λ found. option_map vec_items found ≡ spec.rule_spans lines.now rule) }
 {
+    // Most rows end at no rule; the runs of the top border are the columns.
+    if rule == 0 {
+        return spread(alloc, columns, columns);
+    }
     let spans = line_spans(alloc, lines, rule)?;
     let found = spread(alloc, columns, &spans)?;
     Ok(found)

@@ -19,14 +19,6 @@ fn is_space(row: &[Place], place: usize) -> bool
     mark_at(row, place) == ' '
 }
 
-/// Whether a run of marks begins at a place.
-#[tactic(auto, unfolding(crate::specs::SimpleTable::begins_span))]
-fn begins_span(row: &[Place], place: usize) -> bool
-    ensures { result ≡ spec.begins_span row.now place }
-{
-    !is_space(row, place) && (place == 0 || is_space(row, place.saturating_sub(1)))
-}
-
 /// Where the run ends that begins at a place.
 fn span_end(row: &[Place], from: usize) -> usize
     ensures { result ≡ spec.span_end row.now from }
@@ -44,16 +36,20 @@ pub(crate) fn spans_of(alloc: Global, row: &[Place]) -> Result<Vec<RuleSpan>, Al
     ensures { IfOk result (λ spans. spans.items ≡ spec.spans_of row.now) }
 {
     let mut spans = Vec::new(alloc);
-    for from in 0..row.len() {
-        if begins_span(row, from) {
-            let to = span_end(row, from);
-            spans.push(RuleSpan {
-                from,
-                to,
-                columns: 1,
-            })?;
+    let mut from = 0;
+    // No run goes on at `from`, so that one begins there unless it is a space.
+    while from < row.len() {
+        if is_space(row, from) {
+            from += 1;
             continue;
         }
+        let to = span_end(row, from);
+        spans.push(RuleSpan {
+            from,
+            to,
+            columns: 1,
+        })?;
+        from = to;
     }
     Ok(spans)
 }
