@@ -4,7 +4,6 @@ use Rattle.rst_settings.specs.Profile.{Profile}
 use Rattle.rst_settings.specs.declared.Settings.{Settings}
 use Rattle.rst_tree.specs.declared.node.Node.{Node}
 use Rattle.rst_tree.specs.declared.node.Node.TheVariants.{Element, Text}
-use Rattle.rst_tree.specs.declared.note.Note.{Note}
 use Rattle.rst_transform_names.specs.declared.registration.Registered.{Registered}
 use Rattle.rst_transform_names.specs.Alike.{AreRegisteredAlike}
 use Rattle.rst_transform_names.specs.Names.{held_by}
@@ -26,7 +25,8 @@ use Rattle.rst_transform_messages.specs.Filtered.{with_filtered}
 use Rattle.rst_transform_messages.specs.Listed.{report_said}
 use Rattle.rst_transform_messages.specs.Messages.{is_number_shown, notes_of, until_halt, Numbered}
 use Rattle.rst_transform_messages.specs.MessagesIn.{messages_in}
-use Rattle.rst_transform.specs.Finishing.{IsStarted, IsTransformed, Leaves, ResolvesLinks, Where}
+use Rattle.rst_transform.specs.Finishing.{IsStarted, IsTransformed, ResolvesLinks, Where}
+use Rattle.rst_transform.specs.Law.{LeavesOneThing}
 
 -- the document that an element is, given one for a text
 abbrev document_in : Document → Node → Document
@@ -70,7 +70,7 @@ transformed_alike profile settings one other then_one then_other same f g =
     let linked = links_alike f.informed g.informed f.linked g.linked informed f.links g.links in
     transitions_alike f.linked g.linked then_one then_other linked f.transitions g.transitions
 
-pub finished_alike : (messages : ℕ) (profile : Profile) (settings : Settings) (document one other : Node) (notes others : List Note) → Leaves messages profile settings document one notes → Leaves messages profile settings document other others → (one ≡ other) × (notes ≡ others)
+pub finished_alike : LeavesOneThing
 finished_alike messages profile settings document one other notes others f g =
     let registered = registered_alike messages document f.registered g.registered f.is_registered g.is_registered in
     let started = started_alike messages f.registered g.registered f.started g.started registered f.is_started g.is_started in

@@ -1,16 +1,13 @@
 //! All transforms, in order.
-ghost use Rattle.std.specs.Prelude.{◌≡◌, ◌≤◌, ◌++◌, ℕ, map, IfOk, List, true};
+ghost use Rattle.std.specs.Prelude.{◌≡◌, ◌≤◌, ◌++◌, map, IfOk, List, true};
 ghost use Rattle.rst_settings.specs.Profile.{profile_of};
-ghost use Rattle.rst_tree_index.specs.Kinds.{kinds_of, HasNoNewKinds, HasNoNewLinkKinds};
-ghost use Rattle.rst_transform_names.specs.Registering.{IsRegistered};
-ghost use Rattle.rst_tree.specs.declared.node.Node.{Node};
+ghost use Rattle.rst_tree_index.specs.Kinds.{HasNoNewKinds, HasNoNewLinkKinds};
 ghost use Rattle.rst_tree.specs.Faults.{Gives};
-ghost use Rattle.rst_tree.specs.Walk.{node_items};
 ghost use Rattle.rst_transform_work.specs.States.{document_node, elements_of, state, IsDocument};
 ghost use Rattle.rst_transform_docinfo.specs.Docinfo.{HasDocinfo};
 ghost use Rattle.rst_transform_messages.specs.Filtered.{with_filtered};
 ghost use Rattle.rst_transform.specs.Finishing.{AreOfKinds, Finishes, IsStarted, IsTransformed, ResolvesLinks, Where};
-ghost use Rattle.rst_transform_messages.specs.Listed.{report_said, Lists};
+ghost use Rattle.rst_transform_messages.specs.Listed.{report_said, CameOf, Lists};
 ghost use Rattle.rst_transform_messages.specs.Messages.{highest_level, is_number_shown, EndsAtHalt, Numbered};
 ghost use Rattle.rst_transform_messages.specs.MessagesIn.{messages_in};
 ghost use Rattle.rst_transform_messages.specs.Shown.{is_shown_in};
@@ -88,7 +85,7 @@ fn listed(
 ) -> Result<Messages, TreeFault>
     ensures halt { Gives (λ list. list.halt ≡ settings.now.halt) result }
     ensures report { Gives (λ list. list.report ≡ settings.now.report) result }
-    ensures lists { Gives (λ list. (messages : ℕ) (document : Node) → IsRegistered messages document registered.now → kinds ≡ kinds_of (node_items document) → Lists (messages_in registered.now.root) list) result }
+    ensures lists { Gives (λ list. CameOf kinds registered.now → Lists (messages_in registered.now.root) list) result }
 {
     let mut list = Messages::with_room(alloc, room, settings.halt, settings.report)?;
     list.add_registered(alloc, registered, kinds)?;

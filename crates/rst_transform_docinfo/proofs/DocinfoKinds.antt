@@ -5,25 +5,22 @@ use Rattle.std.specs.List.{list_any, prefix_len, remove}
 use Rattle.std.specs.Option.{option_to_list}
 use Rattle.std.proofs.lemmas.Bool.{or_from, or_parts}
 use Rattle.rst_tree.specs.declared.attrs.Attr.{Attr}
-use Rattle.rst_tree.specs.declared.attrs.Value.TheVariants.{List as Listed}
-use Rattle.rst_tree.specs.declared.key.Key.{Key}
-use Rattle.rst_tree.specs.declared.key.Key.TheVariants.{Anonymous, Dupnames, Ids, Inline, Names, Refname, Refuri}
+use Rattle.rst_tree.specs.declared.key.Key.TheVariants.{Anonymous, Inline, Refname, Refuri}
 use Rattle.rst_tree.specs.declared.node.Node.{Node}
 use Rattle.rst_tree.specs.declared.node.Node.TheVariants.{Element, Text}
 use Rattle.rst_tree.specs.declared.tag.Tag.{Tag}
 use Rattle.rst_tree.specs.declared.tag.Tag.TheVariants.{Docinfo, Document as IsDocument}
-use Rattle.rst_tree.specs.Attributes.{value_of, without_key}
-use Rattle.rst_tree.specs.KeyNames.{is_same}
 use Rattle.rst_tree.specs.Nodes.{forest_of, nodes_of}
 use Rattle.rst_tree.specs.Walk.{item, items, Item}
 use Rattle.rst_tree.proofs.Changes.{forest_of-nodes_of}
 use Rattle.rst_tree_index.specs.Kinds.{HasNoNewKinds}
-use Rattle.rst_tree_index.proofs.ElementKinds.{lacks-append, no_new_kinds, said_with, said_without, KeepsKind, Lacks, TellsKind}
+use Rattle.rst_tree_index.proofs.ElementKinds.{lacks-append, no_new_kinds, KeepsKind, Lacks, TellsKind}
 use Rattle.rst_transform_work.specs.declared.report.Report.{Report}
 use Rattle.rst_transform_work.specs.declared.document.Document.{Document}
 use Rattle.rst_transform_work.specs.States.{State, elements_of}
-use Rattle.rst_transform_work.specs.Lists.{listed, named, with_list_of, with_listed, with_names}
+use Rattle.rst_transform_work.specs.Lists.{named, with_names}
 use Rattle.rst_transform_work.specs.Reading.{is_title}
+use Rattle.rst_transform_work.proofs.Additions.{names_left}
 use Rattle.rst_transform_docinfo.specs.declared.bibliography.Row.{Row}
 use Rattle.rst_transform_docinfo.specs.declared.bibliography.Row.TheVariants.{Simple, Address, Authors, Topic, Generic}
 use Rattle.rst_transform_docinfo.specs.declared.bibliography.TopicKind.TheVariants.{Dedication, Abstract}
@@ -35,16 +32,6 @@ use Rattle.rst_transform_docinfo.specs.Gathered.{by_form, docinfo_nodes, gathere
 use Rattle.rst_transform_docinfo.proofs.FieldKinds.{cons-lacks, fault_node-lacks, field_in-lacks, lacks-cons, made-lacks, plain-lacks, plain_row, within_lacks, FieldLacks, NodeLacks, OptionLacks}
 
 -- ---- ids and names tell no kind
-
-said_listed : (j k : Key) (texts : List (List ℕ)) (a : List Attr) → is_same k j ≡ false → value_of j (with_listed k texts a) ≡ value_of j a
-said_listed j k [] a other = refl
-said_listed j k (text ∷ more) a other = said_with j k (Listed (listed k a ++ text ∷ more)) (without_key k a) other ∙ said_without j k a other
-
-names_left : (j : Key) → is_same Ids j ≡ false → is_same Names j ≡ false → is_same Dupnames j ≡ false → (from a : List Attr) → value_of j (with_names from a) ≡ value_of j a
-names_left j ids names lost from a =
-    said_listed j Dupnames (listed Dupnames from) (with_list_of Names from (with_list_of Ids from a)) lost
-    ∙ said_listed j Names (listed Names from) (with_list_of Ids from a) names
-    ∙ said_listed j Ids (listed Ids from) a ids
 
 names_keep : (from : List Attr) (t : Tag) (a : List Attr) (l : ℕ) → KeepsKind (item t a l) (item t (with_names from a) l)
 names_keep from t a l = record {

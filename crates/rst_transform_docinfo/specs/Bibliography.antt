@@ -17,6 +17,7 @@ use Rattle.rst_transform_docinfo.specs.declared.bibliography.Row.TheVariants.{Si
 use Rattle.rst_transform_docinfo.specs.declared.bibliography.TopicKind.{TopicKind}
 use Rattle.rst_transform_docinfo.specs.declared.bibliography.TopicKind.TheVariants.{Dedication, Abstract}
 use Rattle.rst_transform_docinfo.specs.declared.field.Field.{Field}
+use Rattle.rst_transform_work.specs.declared.context.Context.{Context}
 use Rattle.rst_transform_work.specs.declared.report.Report.{Report}
 use Rattle.rst_transform_docinfo.specs.Authors.{authors_node}
 use Rattle.rst_transform_docinfo.specs.Fields.{field, field_node, nodes_in, paragraph_in}
@@ -89,6 +90,10 @@ made Generic name f = Some (field_node (generic name f))
 abbrev pub fault_report : ℕ → List Report → List ℕ → ℕ → Report
 fault_report first reports name line =
     next_report first reports Warning line (codes "Bibliographic field \"" ++ (name ++ codes "\" is not in its form.")) false
+
+-- the same behind those that are known
+abbrev pub fault_in : Context → List ℕ → ℕ → Report
+fault_in context name line = fault_report context.first_number context.reports.items name line
 
 -- such a field: it stays, like any other, and the message is the last node in its body
 abbrev pub fault_node : List ℕ → Report → Field → Node

@@ -1,9 +1,10 @@
 //! The authors of a document.
-ghost use Rattle.std.specs.Prelude.{◌≡◌, ◌<◌, ◌==◌, ◌++◌, MatchOption, MatchResult, None, Some};
+ghost use Rattle.std.specs.Prelude.{◌≡◌, ◌<◌, ◌==◌, ◌++◌, MatchOption, None, Some};
 ghost use Rattle.std.specs.List.{list_any};
 ghost use Rattle.std.specs.Str.{chars};
 ghost use Rattle.rst_tree.specs.Faults.{Gives};
 ghost use Rattle.rst_tree.specs.Nodes.{nodes_of};
+ghost use Rattle.rst_transform_work.specs.Made.{IsMadeOf};
 ghost use Rattle.rst_transform_docinfo.specs.Authors.{all_paragraphs, author, author_named, authors_in, authors_node, by_paragraph, lone_text, names_in, parted};
 
 use crate::field::{Field, lone, one_list, one_paragraph, paragraph_in};
@@ -14,7 +15,7 @@ use std::alloc::Global;
 /// `authors`: an element with the authors that the body names (Markup Specification, 'Bibliographic Fields'), or the field back
 /// where it isn't in its form.
 pub fn authors(alloc: Global, field: Field) -> Result<Result<Node, Field>, TreeFault>
-    ensures { Gives (λ became. MatchResult became (λ node. authors_node field ≡ Some node) (λ back. (back ≡ field) × (authors_node field ≡ None))) result }
+    ensures { Gives (IsMadeOf field (authors_node field)) result }
 {
     match authors_in(alloc, &field.body, field.line)? {
         Some(nodes) => {
@@ -32,7 +33,7 @@ pub fn authors(alloc: Global, field: Field) -> Result<Result<Node, Field>, TreeF
 
 /// The authors that a body names, if it is in its form: one paragraph, or one bullet list.
 fn authors_in(alloc: Global, body: &Node, line: usize) -> Result<Option<Vec<Node>>, TreeFault>
-    ensures { Gives (λ found. MatchOption found (authors_in line body.now ≡ None) (λ nodes. authors_in line body.now ≡ Some nodes.items)) result }
+    ensures { let wanted = authors_in line body.now in Gives (λ found. MatchOption found (wanted ≡ None) (λ nodes. wanted ≡ Some nodes.items)) result }
 {
     let Node::Element { children, .. } = body else {
         return Ok(None);
@@ -52,7 +53,7 @@ fn by_paragraph(
     paragraph: &Children,
     line: usize,
 ) -> Result<Option<Vec<Node>>, TreeFault>
-    ensures { Gives (λ found. MatchOption found (by_paragraph line paragraph.now ≡ None) (λ nodes. by_paragraph line paragraph.now ≡ Some nodes.items)) result }
+    ensures { let wanted = by_paragraph line paragraph.now in Gives (λ found. MatchOption found (wanted ≡ None) (λ nodes. wanted ≡ Some nodes.items)) result }
 {
     let mut nodes = Vec::new(alloc);
     match lone_text(paragraph) {
@@ -86,7 +87,7 @@ fn all_paragraphs(
     items: &Children,
     line: usize,
 ) -> Result<Option<Vec<Node>>, TreeFault>
-    ensures { Gives (λ found. MatchOption found (all_paragraphs line (nodes_of items.now) ≡ None) (λ nodes. all_paragraphs line (nodes_of items.now) ≡ Some nodes.items)) result }
+    ensures { let wanted = all_paragraphs line (nodes_of items.now) in Gives (λ found. MatchOption found (wanted ≡ None) (λ nodes. wanted ≡ Some nodes.items)) result }
 {
     let mut nodes = Vec::new(alloc);
     for item in items.as_slice() {

@@ -1,14 +1,15 @@
 //! What the fields of a document's bibliography become.
-ghost use Rattle.std.specs.Prelude.{◌≡◌, ◌++◌, ◌∷◌, [], List, None, Some, MatchResult};
+ghost use Rattle.std.specs.Prelude.{◌≡◌, ◌++◌, List};
 ghost use Rattle.std.specs.Option.{option_to_list};
 ghost use Rattle.rst_tree.specs.Faults.{Gives};
 ghost use Rattle.rst_tree.specs.Paths.{with_child};
 ghost use Rattle.rst_tree.specs.declared.node.Node.TheVariants.{Element};
 ghost use Rattle.rst_transform_work.specs.declared.report.Report.{Report};
-ghost use Rattle.rst_transform_docinfo.specs.Bibliography.{address_node, fault_node, fault_report, generic, made, row_of, simple_node, title_node, topic_class, topic_node, topic_title, with_class};
+ghost use Rattle.rst_transform_docinfo.specs.Bibliography.{address_node, fault_in, fault_node, generic, made, row_of, simple_node, title_node, topic_class, topic_node, topic_title, with_class};
 ghost use Rattle.rst_transform_docinfo.specs.Gathered.{docinfo_nodes, info_nodes, is_further, none_yet, so_far, with_element, with_fault, with_field, with_node, with_seen};
 ghost use Rattle.rst_transform_docinfo.specs.Fields.{last_in, nodes_in};
-ghost use Rattle.rst_transform_work.specs.Reports.{report_node, KeepsRest};
+ghost use Rattle.rst_transform_work.specs.Made.{IsMadeOf};
+ghost use Rattle.rst_transform_work.specs.Reports.{report_node, IsReported, KeepsRest};
 
 use crate::authors::authors;
 use crate::field::{Field, into_children, into_last};
@@ -62,7 +63,7 @@ fn row_of(name: &str) -> Row
 
 /// What a field of a row with this name becomes, or the field back where it isn't in its form.
 fn made(alloc: Global, row: Row, name: &str, field: Field) -> Result<Result<Node, Field>, TreeFault>
-    ensures { Gives (λ became. MatchResult became (λ node. made row name.now field ≡ Some node) (λ back. (back ≡ field) × (made row name.now field ≡ None))) result }
+    ensures { Gives (IsMadeOf field (made row name.now field)) result }
 {
     match row {
         Row::Simple(tag) => Ok(simple(alloc, tag, field)),
@@ -76,7 +77,7 @@ fn made(alloc: Global, row: Row, name: &str, field: Field) -> Result<Result<Node
 /// A simple field: an element of this kind with the nodes of the one paragraph.
 #[tactic(auto, using(crate::proofs::Gathering::in_paragraph))]
 fn simple(alloc: Global, tag: Tag, field: Field) -> Result<Node, Field>
-    ensures { MatchResult result (λ node. simple_node tag field ≡ Some node) (λ back. (back ≡ field) × (simple_node tag field ≡ None)) }
+    ensures { IsMadeOf field (simple_node tag field) result }
 {
     if !field.has_paragraph() {
         return Err(field);
@@ -93,7 +94,7 @@ fn simple(alloc: Global, tag: Tag, field: Field) -> Result<Node, Field>
 /// `address`: a simple field whose lines stay as they are.
 #[tactic(auto, using(crate::proofs::Gathering::in_paragraph))]
 fn address(alloc: Global, field: Field) -> Result<Result<Node, Field>, TreeFault>
-    ensures { Gives (λ became. MatchResult became (λ node. address_node field ≡ Some node) (λ back. (back ≡ field) × (address_node field ≡ None))) result }
+    ensures { Gives (IsMadeOf field (address_node field)) result }
 {
     if !field.has_paragraph() {
         return Ok(Err(field));
@@ -123,7 +124,7 @@ fn element(alloc: Global, tag: Tag, attrs: Attrs, body: Node, line: usize) -> No
 
 /// `dedication` and `abstract`: a topic with a title and the nodes of the body, which isn't empty.
 fn topic(alloc: Global, kind: TopicKind, field: Field) -> Result<Result<Node, Field>, TreeFault>
-    ensures { Gives (λ became. MatchResult became (λ node. topic_node kind field ≡ Some node) (λ back. (back ≡ field) × (topic_node kind field ≡ None))) result }
+    ensures { Gives (IsMadeOf field (topic_node kind field)) result }
 {
     if field.is_empty() {
         return Ok(Err(field));
@@ -217,8 +218,8 @@ fn out_of_form(
     field: Field,
     context: &mut Context,
 ) -> Result<Node, TreeFault>
-    ensures node { let next = fault_report context.old.first_number context.old.reports.items name.now field.line in Gives (λ node. node ≡ fault_node name.now next field) result }
-    ensures reports { let next = fault_report context.old.first_number context.old.reports.items name.now field.line in Gives (λ _. context.new.reports.items ≡ context.old.reports.items ++ next ∷ []) result }
+    ensures node { Gives (λ node. node ≡ fault_node name.now (fault_in context.old name.now field.line) field) result }
+    ensures reports { Gives (λ _. IsReported (fault_in context.old name.now field.line) context.old context.new) result }
     ensures rest { Gives (λ _. KeepsRest context.old context.new) result }
 {
     let message = message(alloc, field.line, name, context)?;
@@ -240,8 +241,8 @@ fn out_of_form(
 
 /// The WARNING on a field of this name that isn't in its form. It is in the list of messages, too.
 fn message(alloc: Global, line: usize, name: &str, context: &mut Context) -> Result<Node, TreeFault>
-    ensures node { let next = fault_report context.old.first_number context.old.reports.items name.now line in Gives (λ node. node ≡ report_node next) result }
-    ensures reports { let next = fault_report context.old.first_number context.old.reports.items name.now line in Gives (λ _. context.new.reports.items ≡ context.old.reports.items ++ next ∷ []) result }
+    ensures node { Gives (λ node. node ≡ report_node (fault_in context.old name.now line)) result }
+    ensures reports { Gives (λ _. IsReported (fault_in context.old name.now line) context.old context.new) result }
     ensures rest { Gives (λ _. KeepsRest context.old context.new) result }
 {
     let text = Text::of_three(

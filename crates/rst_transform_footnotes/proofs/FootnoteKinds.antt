@@ -8,10 +8,10 @@ use Rattle.rst_tree_index.specs.Kinds.{HasNoNewLinkKinds}
 use Rattle.rst_transform_links.specs.declared.links.Outcome.{Outcome}
 use Rattle.rst_transform_links.specs.declared.links.Outcome.TheVariants.{Stays}
 use Rattle.rst_transform_links.specs.FootnoteOrders.{found_by_order, reference_order}
-use Rattle.rst_transform_links.specs.Holders.{lead_to_id}
 use Rattle.rst_transform_links.specs.Linkings.{Held}
 use Rattle.rst_transform_links.specs.Outcomes.{adds}
 use Rattle.rst_transform_links.proofs.LinkKinds.{is_nameless, is_no_name, links_kinds}
+use Rattle.rst_transform_links.proofs.NamelessLeads.{id_nameless}
 use Rattle.rst_transform_work.specs.declared.context.Context.{Context}
 use Rattle.rst_transform_work.specs.States.{elements_of, State}
 use Rattle.rst_transform_work.specs.Lists.{at_place}
@@ -19,13 +19,9 @@ use Rattle.rst_transform_work.specs.Reading.{list_said}
 use Rattle.rst_transform_footnotes.specs.FootnoteLabels.{labels}
 use Rattle.rst_transform_footnotes.specs.Footnotes.{is_label, label_in, lead_to_footnote, outcome_at, outcome_by, own_number, report_of, with_number, DecidesFootnotes, NumbersFootnotes}
 
-to_id : (id : Option (List ℕ)) → is_no_name (lead_to_id id) ≡ true
-to_id None = refl
-to_id (Some id) = refl
-
 to_footnote : (footnote : Option Held) → is_no_name (lead_to_footnote footnote) ≡ true
 to_footnote None = refl
-to_footnote (Some one) = to_id (slice_get (list_said Ids one.0) 0)
+to_footnote (Some one) = id_nameless (slice_get (list_said Ids one.0) 0)
 
 labelled_nameless : (b : Bool) (shown : Option (List ℕ)) (node : Node) (number : Option (List ℕ)) → is_nameless (if b then Stays (record { attr = None; shown = shown }) else adds (with_number node number)) ≡ true
 labelled_nameless true shown node number = refl

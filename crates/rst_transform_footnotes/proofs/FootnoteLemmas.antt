@@ -1,5 +1,5 @@
 -- What becomes of footnotes and their references, put together.
-use Rattle.std.proofs.Common.{◌≡◌, ℕ, List, [], ◌∷◌, ◌++◌, length, sym, ap, true}
+use Rattle.std.proofs.Common.{◌≡◌, ℕ, List, length, sym, ap, true}
 use Rattle.std.specs.Prelude.{Option, Some, None, unwrap_or}
 use Rattle.rst_transform_names.specs.declared.names.Names.{Names}
 use Rattle.rst_tree.specs.declared.note.Level.TheVariants.{Error}
@@ -11,11 +11,11 @@ use Rattle.rst_transform_footnotes.specs.Footnotes.{first_left_over, outcomes_by
 use Rattle.rst_transform_links.specs.Linkings.{Held}
 use Rattle.rst_transform_footnotes.specs.FootnoteLabels.{labels}
 use Rattle.rst_transform_links.specs.FootnoteOrders.{found_by_order, in_order}
-use Rattle.rst_transform_work.specs.Reports.{next_report, KeepsRest}
+use Rattle.rst_transform_work.specs.Reports.{report_in, IsReported, KeepsRest}
 
 -- the references left over that there are
 pub left_over_of : (first : Option ℕ) (order : Order) (line footnotes counted place : ℕ) (text : List ℕ) (before after : Context) → first ≡ Some line → counted ≡ footnotes → text ≡ too_many order counted
-    → place ≡ length before.reports.items → after.reports.items ≡ before.reports.items ++ next_report before.first_number before.reports.items Error line text true ∷ [] → KeepsRest before after
+    → place ≡ length before.reports.items → IsReported (report_in before Error line text true) before after → KeepsRest before after
     → TellsLeftOver first order footnotes before after (Some place)
 left_over_of None order line footnotes counted place text before after is count says at reports rest = absurd (cc)
 left_over_of (Some first) order line footnotes counted place text before after is count says at reports rest =

@@ -1,5 +1,5 @@
 -- Numbering footnotes has one answer.
-use Rattle.std.proofs.Common.{◌≡◌, ◌∙◌, ℕ, List, [], ◌∷◌, ◌++◌, length, true, refl, sym, ap, ap₂}
+use Rattle.std.proofs.Common.{◌≡◌, ◌∙◌, ℕ, List, length, true, refl, sym, ap, ap₂}
 use Rattle.std.specs.Prelude.{Option, Some, None}
 use Rattle.std.specs.List.{enumerate_from}
 use Rattle.std.specs.Option.{option_or}
@@ -9,8 +9,7 @@ use Rattle.rst_transform_names.specs.declared.names.Names.{Names}
 use Rattle.rst_transform_names.specs.Names.{KnowsTheSame}
 use Rattle.rst_transform_work.specs.declared.context.Context.{Context}
 use Rattle.rst_transform_work.specs.Alike.{AreContextsAlike, HasOneAnswer}
-use Rattle.rst_transform_work.specs.Reports.{next_report}
-use Rattle.rst_transform_work.proofs.OneAnswer.{contexts_by, contexts_with_names, contexts_with_reports}
+use Rattle.rst_transform_work.proofs.OneAnswer.{contexts_by, contexts_with_names, contexts_with_reports, reports_alike}
 use Rattle.rst_transform_links.specs.declared.footnote_orders.Order.{Order}
 use Rattle.rst_transform_links.specs.declared.footnote_orders.Order.TheVariants.{Numbers, Symbols}
 use Rattle.rst_transform_links.specs.FootnoteOrders.{found_by_order, in_order}
@@ -28,9 +27,7 @@ known_alike said m n o p same f g name = g name ∙ ap (λ known. option_or know
 left_over : (line : Option ℕ) (order : Order) (footnotes : ℕ) (a b c d : Context) (report other : Option ℕ) → AreContextsAlike a b → TellsLeftOver line order footnotes a c report → TellsLeftOver line order footnotes b d other → AreContextsAlike c d × (report ≡ other)
 left_over None order footnotes a b c d report other same f g = (contexts_by same f.0 g.0, f.1 ∙ sym g.1)
 left_over (Some line) order footnotes a b c d report other same f g = (
-  contexts_with_reports a b c d same f.2 g.2
-      (f.1 ∙ ap (λ first. a.reports.items ++ next_report first a.reports.items Error line (too_many order footnotes) true ∷ []) same.first_number
-      ∙ ap (λ rs. rs ++ next_report b.first_number rs Error line (too_many order footnotes) true ∷ []) same.reports ∙ sym g.1),
+  contexts_with_reports a b c d same f.2 g.2 (reports_alike Error line (too_many order footnotes) true a b c d same f.1 g.1),
   f.0 ∙ ap (λ rs. Some (length rs)) same.reports ∙ sym g.0,
 )
 

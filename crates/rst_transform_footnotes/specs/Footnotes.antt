@@ -29,7 +29,7 @@ use Rattle.rst_transform_footnotes.specs.FootnoteLabels.{labels}
 use Rattle.rst_transform_links.specs.FootnoteOrders.{footnote_order, found_by_order, in_order, is_order, order_name, reference_order}
 use Rattle.rst_transform_links.specs.Outcomes.{adds}
 use Rattle.rst_transform_work.specs.Reading.{line_of, list_said, number_said}
-use Rattle.rst_transform_work.specs.Reports.{next_report, KeepsRest}
+use Rattle.rst_transform_work.specs.Reports.{report_in, IsReported, KeepsRest}
 use Rattle.rst_transform_work.specs.Lists.{at_place}
 
 -- ---- the numbers as names
@@ -86,9 +86,9 @@ too_many order footnotes = codes "Too many " ++ (order_name order ++ (codes " fo
 abbrev pub TellsLeftOver : Option ℕ → Order → ℕ → Context → Context → Option ℕ → Type 0
 TellsLeftOver None order footnotes before after report = (after ≡ before) × (report ≡ None)
 TellsLeftOver (Some line) order footnotes before after report =
-    (report ≡ Some (length before.reports.items)) ×
-    (after.reports.items ≡ before.reports.items ++ next_report before.first_number before.reports.items Error line (too_many order footnotes) true ∷ []) ×
-    KeepsRest before after
+    (report ≡ Some (length before.reports.items))
+    × IsReported (report_in before Error line (too_many order footnotes) true) before after
+    × KeepsRest before after
 
 -- the message on the references of an order, by those on the two
 abbrev pub report_of : Option Order → Option ℕ → Option ℕ → Option ℕ

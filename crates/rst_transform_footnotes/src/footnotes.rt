@@ -69,10 +69,7 @@ pub fn footnotes(
     ensures footnotes { Gives (λ after. NumbersFootnotes (state document context.old) (state after context.new)) result }
     ensures kinds { Gives (λ after. HasNoNewLinkKinds (elements_of document) (elements_of after)) result }
 {
-    if !has {
-        return Ok(document);
-    }
-    let document = change_links::<Numbering>(alloc, document, context)?;
+    let document = change_links::<Numbering>(alloc, document, context, has)?;
     Ok(document)
 }
 
@@ -118,7 +115,7 @@ fn label_at<'l>(labels: &'l [Option<Text>], place: usize) -> Option<&'l str>
 
 /// The number that the element at a place gets as a name: its label, if it is a footnote that was written with `#` alone.
 fn own_number<'l>(node: &Node, labels: &'l [Option<Text>], place: usize) -> Option<&'l str>
-    ensures { MatchOption result (own_number node.now (at_place labels.now place) ≡ None) (λ number. own_number node.now (at_place labels.now place) ≡ Some number.now) }
+    ensures { let own = own_number node.now (at_place labels.now place) in MatchOption result (own ≡ None) (λ number. own ≡ Some number.now) }
 {
     if !Order::Numbers.is(footnote_order(node)) {
         return None;

@@ -1,9 +1,9 @@
 -- Anonymous references and indirect targets bring no new kinds of elements: what they are given is where they lead, and no name.
 use Rattle.std.proofs.Common.{◌≡◌, ℕ, zero, suc, ◌+◌, List, [], ◌∷◌, drop, length, map, refl, ap, Bool, true, false}
-use Rattle.std.specs.Prelude.{if◌then◌else◌, is_some, slice_get, unwrap_or, Option, Some, None}
+use Rattle.std.specs.Prelude.{if◌then◌else◌, is_some, slice_get, Option, Some, None}
 use Rattle.std.specs.List.{list_all}
 use Rattle.rst_tree.specs.declared.attrs.Attr.{Attr}
-use Rattle.rst_tree.specs.declared.key.Key.TheVariants.{Anonymous, Ids, Refid, Refname, Refuri}
+use Rattle.rst_tree.specs.declared.key.Key.TheVariants.{Anonymous, Ids, Refname}
 use Rattle.rst_tree.specs.declared.node.Node.{Node}
 use Rattle.rst_tree.specs.Paths.{node_value}
 use Rattle.rst_tree_index.specs.Kinds.{HasNoNewLinkKinds}
@@ -11,29 +11,19 @@ use Rattle.rst_transform_names.specs.declared.names.Holder.{Holder}
 use Rattle.rst_transform_names.specs.declared.names.NameEntry.{NameEntry}
 use Rattle.rst_transform_names.specs.Names.{held_by}
 use Rattle.rst_transform_links.specs.declared.links.Outcome.{Outcome}
-use Rattle.rst_transform_links.specs.Holders.{holder_place, is_target_node, kept_lead, lead_by, lead_of, lead_to_id, name_lead, target_lead}
+use Rattle.rst_transform_links.specs.Holders.{holder_place, lead_of, lead_to_id}
 use Rattle.rst_transform_links.specs.Linkings.{Held}
 use Rattle.rst_transform_links.specs.Outcomes.{adds}
 use Rattle.rst_transform_links.proofs.LinkKinds.{links_kinds, is_nameless, is_no_name}
+use Rattle.rst_transform_links.proofs.NamelessLeads.{id_nameless, lead_nameless, name_nameless}
 use Rattle.rst_transform_work.specs.declared.context.Context.{Context}
 use Rattle.rst_transform_work.specs.Lists.{at_place}
-use Rattle.rst_transform_work.specs.Reading.{list_said, text_said}
+use Rattle.rst_transform_work.specs.Reading.{list_said}
 use Rattle.rst_transform_work.specs.States.{elements_of, State}
 use Rattle.rst_transform_hyperlinks.specs.declared.chains.Answer.{Answer}
 use Rattle.rst_transform_hyperlinks.specs.declared.chains.Answer.TheVariants.{Leads, Missing, Circular}
 use Rattle.rst_transform_hyperlinks.specs.Anonymous.{agree, anonymous_targets, failing, first_lead, is_anonymous_reference, lead_or, lead_to_itself, paired, IsAnonymous, DecidesAnonymous, DecidesIf}
 use Rattle.rst_transform_hyperlinks.specs.Indirect.{breaks, follows, holding_element, indirect_name, leads, led, outcome_by, outcome_or, outcome_through, outcomes_from, reports_from, targets_of, AreAnswers, ComesTo, HasAnswer, IsIndirect, DecidesIndirect, Reaches}
-
--- ---- leads
-
-lead_nameless : (uri id : Option (List ℕ)) → is_no_name (lead_by uri id) ≡ true
-lead_nameless (Some uri) id = refl
-lead_nameless None (Some id) = refl
-lead_nameless None None = refl
-
-id_nameless : (id : Option (List ℕ)) → is_no_name (lead_to_id id) ≡ true
-id_nameless (Some id) = refl
-id_nameless None = refl
 
 -- ---- anonymous references
 
@@ -48,7 +38,7 @@ unless_nameless false id = id_nameless id
 first_nameless : (targets : List Held) → is_no_name (first_lead targets) ≡ true
 first_nameless [] = refl
 first_nameless (target ∷ more) =
-    or_nameless (lead_of target.0) (lead_to_itself target.0) (lead_nameless (text_said Refuri target.0) (text_said Refid target.0))
+    or_nameless (lead_of target.0) (lead_to_itself target.0) (lead_nameless target.0)
     (unless_nameless (is_some (node_value Refname target.0)) (slice_get (list_said Ids target.0) 0))
 
 pair_nameless : (takes : Bool) (lead : Option Attr) (ones others : List Outcome) → is_no_name lead ≡ true → list_all is_nameless ones ≡ true → list_all is_nameless others ≡ true
@@ -88,25 +78,6 @@ answer_nameless Circular = true
 abbrev answered_nameless : Option Answer → Bool
 answered_nameless None = true
 answered_nameless (Some answer) = answer_nameless answer
-
-kept_nameless : (uri : Option (List ℕ)) (id : List ℕ) → is_no_name (Some (kept_lead uri id)) ≡ true
-kept_nameless (Some uri) id = refl
-kept_nameless None id = refl
-
-if_nameless : (is_target : Bool) (lead : Option Attr) → is_no_name lead ≡ true → is_no_name (if is_target then lead else None) ≡ true
-if_nameless true lead h = h
-if_nameless false lead h = refl
-
-target_nameless : (holder : Option Node) → is_no_name (target_lead holder) ≡ true
-target_nameless None = refl
-target_nameless (Some node) = if_nameless (is_target_node node) (lead_of node) (lead_nameless (text_said Refuri node) (text_said Refid node))
-
-else_nameless : (lead : Option Attr) (other : Attr) → is_no_name lead ≡ true → is_no_name (Some other) ≡ true → is_no_name (Some (unwrap_or lead other)) ≡ true
-else_nameless None other h k = k
-else_nameless (Some lead) other h k = h
-
-name_nameless : (holder : Option Node) (uri : Option (List ℕ)) (id : List ℕ) → is_no_name (Some (name_lead holder uri id)) ≡ true
-name_nameless holder uri id = else_nameless (target_lead holder) (kept_lead uri id) (target_nameless holder) (kept_nameless uri id)
 
 module _ (known : List ℕ → Option NameEntry) (element : Holder → Option Node) where
   reached_nameless : (name : List ℕ) (a : Answer) → Reaches known element name a → answer_nameless a ≡ true

@@ -1,5 +1,5 @@
 -- The transforms of anonymous references and of indirect targets have one answer.
-use Rattle.std.proofs.Common.{◌≡◌, ◌∙◌, ℕ, ◌++◌, Bool, true, false, List, [], ◌∷◌, drop, length, map, refl, sym, ap, ap₂, subst, if◌then◌else◌}
+use Rattle.std.proofs.Common.{◌≡◌, ◌∙◌, ℕ, Bool, true, false, List, [], ◌∷◌, drop, length, map, refl, sym, ap, ap₂, subst, if◌then◌else◌}
 use Rattle.std.specs.Prelude.{Option, Some, None, slice_get}
 use mathlib.Core.Path.{fun_ext}
 use Rattle.rst_tree.specs.declared.key.Key.TheVariants.{Refname}
@@ -14,8 +14,7 @@ use Rattle.rst_transform_work.specs.declared.report.Report.{Report}
 use Rattle.rst_transform_work.specs.Alike.{AreContextsAlike, HasOneAnswer}
 use Rattle.rst_transform_work.specs.Lists.{at_place}
 use Rattle.rst_transform_work.specs.Reading.{text_said}
-use Rattle.rst_transform_work.specs.Reports.{next_report}
-use Rattle.rst_transform_work.proofs.OneAnswer.{both, contexts_by, contexts_with_reports}
+use Rattle.rst_transform_work.proofs.OneAnswer.{both, contexts_by, contexts_with_reports, reports_alike}
 use Rattle.rst_transform_links.specs.declared.links.Outcome.{Outcome}
 use Rattle.rst_transform_links.specs.Holders.{holder_place, name_lead}
 use Rattle.rst_transform_links.specs.Linkings.{Held}
@@ -34,8 +33,7 @@ pairs_once true linked one other then_one then_other outcomes others same f g = 
 pairs_once false linked one other then_one then_other outcomes others same f g =
     let line : ℕ = first_line (anonymous_references linked) (anonymous_targets linked) in
     let words : List ℕ = mismatch (length (anonymous_references linked)) (length (anonymous_targets linked)) in
-    let reports : then_one.reports.items ≡ then_other.reports.items =
-    both (ap₂ (λ (first : ℕ) (rs : List Report). rs ++ next_report first rs Error line words true ∷ []) same.first_number same.reports) f.0.0 g.0.0 in (
+    let reports = reports_alike Error line words true one other then_one then_other same f.0.0 g.0.0 in (
       contexts_with_reports one other then_one then_other same f.0.1 g.0.1 reports,
       both (ap (λ (rs : List Report). map (λ (held : Held). failing (length rs) held.0) linked) same.reports) f.1 g.1,
     )

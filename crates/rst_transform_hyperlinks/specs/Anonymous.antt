@@ -17,7 +17,7 @@ use Rattle.rst_transform_links.specs.Linkings.{Held}
 use Rattle.rst_transform_links.specs.LinkTransforms.{ChangesLinks}
 use Rattle.rst_transform_links.specs.Outcomes.{adds}
 use Rattle.rst_transform_work.specs.Reading.{line_of, list_said}
-use Rattle.rst_transform_work.specs.Reports.{next_report, KeepsRest}
+use Rattle.rst_transform_work.specs.Reports.{report_in, IsReported, KeepsRest}
 use Rattle.rst_transform_work.specs.States.{State}
 use Rattle.rst_transform_links.specs.Holders.{lead_of, lead_to_id}
 
@@ -83,7 +83,7 @@ mismatch references targets = codes "Anonymous hyperlink mismatch: " ++ (decimal
 abbrev pub ReportsMismatch : List Held → List Held → Context → Context → Type 0
 ReportsMismatch references targets before after =
     let text : List ℕ = mismatch (length references) (length targets) in
-    (after.reports.items ≡ before.reports.items ++ next_report before.first_number before.reports.items Error (first_line references targets) text true ∷ []) × KeepsRest before after
+    IsReported (report_in before Error (first_line references targets) text true) before after × KeepsRest before after
 
 -- each anonymous reference fails for a message
 abbrev pub failing : ℕ → Node → Outcome

@@ -43,10 +43,7 @@ pub fn anonymous(
     ensures anonymous { Gives (λ after. IsAnonymous (state document context.old) (state after context.new)) result }
     ensures kinds { Gives (λ after. HasNoNewLinkKinds (elements_of document) (elements_of after)) result }
 {
-    if !has {
-        return Ok(document);
-    }
-    let document = change_links::<Pairing>(alloc, document, context)?;
+    let document = change_links::<Pairing>(alloc, document, context, has)?;
     Ok(document)
 }
 

@@ -62,10 +62,7 @@ pub fn indirect(
     ensures indirect { Gives (λ after. IsIndirect (state document context.old) (state after context.new)) result }
     ensures kinds { Gives (λ after. HasNoNewLinkKinds (elements_of document) (elements_of after)) result }
 {
-    if !has {
-        return Ok(document);
-    }
-    let document = change_links::<Following>(alloc, document, context)?;
+    let document = change_links::<Following>(alloc, document, context, has)?;
     Ok(document)
 }
 

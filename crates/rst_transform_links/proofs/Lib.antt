@@ -2,6 +2,7 @@ pub mod Holding
 pub mod Idle
 pub mod LinkKinds
 pub mod Linking
+pub mod NamelessLeads
 pub mod OneAnswer
 pub mod OneAnswerTurns
 pub mod SettlingLemmas

@@ -8,7 +8,7 @@ use Rattle.std.proofs.lemmas.List.Folds.{list_all-append}
 use Rattle.rst_tree.specs.declared.attrs.Attr.{Attr}
 use Rattle.rst_tree.specs.declared.key.Key.TheVariants.{Refname}
 use Rattle.rst_tree.specs.declared.node.Node.{Node}
-use Rattle.rst_tree.specs.declared.node.Node.TheVariants.{Element, Text}
+use Rattle.rst_tree.specs.declared.node.Node.TheVariants.{Element}
 use Rattle.rst_tree.specs.declared.rewriting.Rewrite.{Rewrite}
 use Rattle.rst_tree.specs.declared.rewriting.Rewrite.TheVariants.{Keep, Replace}
 use Rattle.rst_tree.specs.declared.tag.Tag.{Tag}
@@ -16,7 +16,6 @@ use Rattle.rst_tree.specs.declared.tag.Tag.TheVariants.{Document as DocumentTag,
 use Rattle.rst_tree.specs.Attributes.{value_of}
 use Rattle.rst_tree.specs.Forest.{Forest, bare, element, words}
 use Rattle.rst_tree.specs.KeyNames.{is_same}
-use Rattle.rst_tree.specs.Nodes.{join_node}
 use Rattle.rst_tree.specs.Rewritten.{go_on, rewritten}
 use Rattle.rst_tree.specs.Walk.{Item, item, items, node_items}
 use Rattle.rst_tree_index.specs.Kinds.{is_of_footnotes, is_target, is_transition, tells, HasNoNewLinkKinds}
@@ -31,6 +30,7 @@ use Rattle.rst_transform_links.specs.Settling.{at_places, Settles, TakesTurns}
 use Rattle.rst_transform_work.specs.declared.context.Context.{Context}
 use Rattle.rst_transform_work.specs.declared.document.Document.{Document}
 use Rattle.rst_transform_work.specs.States.{elements_of, State}
+use Rattle.rst_transform_work.proofs.Additions.{none_joined}
 
 -- an attribute by which an element refers to no name
 abbrev pub is_no_name : Option Attr → Bool
@@ -86,13 +86,9 @@ element_spared : (q : Item → Bool) (linked : Bool) (s : List Outcome) (t : Tag
 element_spared q true s t a l spared h none = first_spared q s t a l spared h none
 element_spared q false s t a l spared h none = (none, h)
 
-joined : (q : Item → Bool) (n : Node) (r : Forest) → list_any q (node_items n) ≡ false → list_any q (items r) ≡ false → list_any q (items (join_node n r)) ≡ false
-joined q (Element t a c l) r h k = let own = or_parts (q (item t a l)) (list_any q (items c)) h in rw (own.0) (none_of_both q (items c) (items r) own.1 k)
-joined q (Text t) r h k = k
-
 went_on : (q : Item → Bool) (w : Rewrite) (s : List Outcome) (inside behind : List Outcome → Forest × List Outcome) → brings q w ≡ false → list_all is_nameless s ≡ true
     → ((u : List Outcome) → list_all is_nameless u ≡ true → Fine q (inside u)) → ((u : List Outcome) → list_all is_nameless u ≡ true → Fine q (behind u)) → Fine q (go_on w s inside behind)
-went_on q (Replace n) s inside behind own h within after = let rest = after s h in (joined q n (behind s).0 own rest.0, rest.1)
+went_on q (Replace n) s inside behind own h within after = let rest = after s h in (none_joined q n (behind s).0 own rest.0, rest.1)
 went_on q (Keep t a l) s inside behind own h within after =
     let inner = within s h in
     let rest = after (inside s).1 inner.1 in

@@ -6,6 +6,7 @@ use Rattle.rst_transform_work.specs.Alike.{AreContextsAlike, HasOneAnswer}
 use Rattle.rst_transform_work.proofs.OneAnswer.{both, contexts_by, one_problematic}
 use Rattle.rst_transform_links.specs.declared.links.Outcome.{Outcome}
 use Rattle.rst_transform_links.specs.declared.links.Outcome.TheVariants.{Failed}
+use Rattle.rst_transform_links.specs.Law.{SettlesInOneWay}
 use Rattle.rst_transform_links.specs.Linkings.{Held, linked_of}
 use Rattle.rst_transform_links.specs.Links.{changed_document}
 use Rattle.rst_transform_links.specs.LinkTransforms.{ChangesLinks}
@@ -20,7 +21,7 @@ turns_end (turn ∷ more) a b c d outcomes settled others same f g =
     turns_end more f.0 g.0 c d (slice_set outcomes turn.1 (Failed f.1)) settled others made.1 f.3 rest
 
 -- what fails comes to one end
-pub settled_alike : (linked : List Held) (outcomes : List Outcome) (a b c d : Context) (changes others : List Outcome) → AreContextsAlike a b → Settles linked outcomes a c changes → Settles linked outcomes b d others → AreContextsAlike c d × (changes ≡ others)
+pub settled_alike : SettlesInOneWay
 settled_alike linked outcomes a b c d changes others same f g =
     let turns : f.turns ≡ g.turns =
     turns_alike linked outcomes (length a.reports.items) f.turns g.turns f.are_turns (subst (λ rs. AreTurns linked outcomes (length rs) g.turns) (sym same.reports) g.are_turns) in

@@ -1,11 +1,11 @@
 -- Where no element fails, nothing else comes of settling.
 use Rattle.std.proofs.Common.{◌≡◌, ◌∙◌, ℕ, ◌+◌, arith, List, [], ◌∷◌, length, refl, ap, subst, true, false}
 use Rattle.std.specs.List.{list_all}
-use Rattle.rst_transform_work.specs.declared.context.Context.{Context}
 use Rattle.rst_transform_links.specs.declared.links.Outcome.{Outcome}
+use Rattle.rst_transform_links.specs.Law.{SettlesNothing}
 use Rattle.rst_transform_links.specs.Linkings.{Held}
 use Rattle.rst_transform_links.specs.Outcomes.{stays}
-use Rattle.rst_transform_links.specs.Settling.{at_places, AreTurns, FailsFor, Settles, TakesTurns}
+use Rattle.rst_transform_links.specs.Settling.{at_places, AreTurns, FailsFor, TakesTurns}
 use Rattle.rst_transform_links.proofs.OneAnswerTurns.{places_alike}
 use Rattle.rst_transform_links.proofs.SettlingLemmas.{stays_at}
 
@@ -25,7 +25,7 @@ all_at_places : (place : ℕ) (outcomes : List Outcome) → at_places (λ p. tru
 all_at_places place [] = refl
 all_at_places place (one ∷ more) = ap (λ rest. one ∷ rest) (all_at_places (place + 1) more)
 
-pub settled_stay : (linked : List Held) (outcomes : List Outcome) (before after : Context) (changes : List Outcome) → Settles linked outcomes before after changes → list_all stays outcomes ≡ true → (after ≡ before) × (changes ≡ outcomes)
+pub settled_stay : SettlesNothing
 settled_stay linked outcomes before after changes s h =
     let none : s.turns ≡ [] = no_turn linked outcomes (length before.reports.items) s.turns s.are_turns h in
     let takes : TakesTurns [] before outcomes after s.settled = subst (λ turns. TakesTurns turns before outcomes after s.settled) none s.takes in

@@ -1,4 +1,5 @@
 pub mod Holders
+pub mod Law
 pub mod Linkings
 pub mod Links
 pub mod LinkTransforms

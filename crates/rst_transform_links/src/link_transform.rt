@@ -1,5 +1,5 @@
 //! The frame of the transforms of links.
-ghost use Rattle.std.specs.Prelude.{◌≡◌, map};
+ghost use Rattle.std.specs.Prelude.{◌≡◌, false, map};
 ghost use Rattle.rst_tree.specs.Faults.{Gives};
 ghost use Rattle.rst_transform_work.specs.States.{state};
 ghost use Rattle.rst_transform_links.specs.Linkings.{held};
@@ -30,14 +30,20 @@ pub trait LinkTransform {
         ensures { Gives (λ outcomes. decides (map held linked.now) context.old context.new outcomes.items) result };
 }
 
-/// Changes the linked elements of a document as a transform decides.
+/// Changes the linked elements of a document as a transform decides. `has` says whether the document may have an element that the
+/// transform changes; without one it stays as it is.
 pub fn change_links<T: LinkTransform>(
     alloc: Global,
     document: Document,
     context: &mut Context,
+    has: bool,
 ) -> Result<Document, TreeFault>
+    requires { let before = state document context.old in has ≡ false → ChangesLinks T.decides before before }
     ensures { Gives (λ after. ChangesLinks T.decides (state document context.old) (state after context.new)) result }
 {
+    if !has {
+        return Ok(document);
+    }
     let linked = linked_in(alloc, &document)?;
     let outcomes = T::outcomes(alloc, context, linked.as_slice())?;
     let changes = settle(alloc, context, linked.as_slice(), outcomes)?;

@@ -1,4 +1,5 @@
 pub mod Filtered
+pub mod Law
 pub mod Listed
 pub mod Messages
 pub mod MessagesIn

@@ -47,13 +47,9 @@ pub struct Messages {
 
 impl Messages {
     ghost use Rattle.std.specs.Prelude.{[], ◌∷◌, List, map};
-    ghost use Rattle.rst_tree.specs.declared.node.Node.{Node};
-    ghost use Rattle.rst_tree.specs.Walk.{node_items};
-    ghost use Rattle.rst_tree_index.specs.Kinds.{kinds_of};
-    ghost use Rattle.rst_transform_names.specs.Registering.{IsRegistered};
     ghost use Rattle.rst_transform_messages.specs.Messages.{until_halt, notes_of, is_number_shown, Numbered};
     ghost use Rattle.rst_transform_messages.specs.MessagesIn.{message_said, messages_among, messages_in};
-    ghost use Rattle.rst_transform_messages.specs.Listed.{report_said, Adds, Lists, KeepsLevels};
+    ghost use Rattle.rst_transform_messages.specs.Listed.{report_said, Adds, CameOf, Lists, KeepsLevels};
 
     /// No message, in a list with room for so many, of a run that halts at a threshold and shows messages from another one on.
     pub fn with_room(
@@ -115,7 +111,7 @@ impl Messages {
         kinds: Kinds,
     ) -> Result<(), TreeFault>
         ensures levels { KeepsLevels self.old self.new }
-        ensures adds { Gives (λ _. (numbers : ℕ) (document : Node) → IsRegistered numbers document registered.now → kinds ≡ kinds_of (node_items document) → Adds (messages_in registered.now.root) self.old self.new) result }
+        ensures adds { Gives (λ _. CameOf kinds registered.now → Adds (messages_in registered.now.root) self.old self.new) result }
     {
         if !kinds.messages && !registered.has_name_messages {
             return Ok(());

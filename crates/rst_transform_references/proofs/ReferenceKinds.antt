@@ -1,24 +1,23 @@
 -- References that lead somewhere bring no new kinds of elements.
 use Rattle.std.proofs.Common.{◌≡◌, ℕ, ◌+◌, List, [], ◌∷◌, ◌++◌, length, map, refl, Bool, true, false}
-use Rattle.std.specs.Prelude.{◌||◌, if◌then◌else◌, is_some, not, ◌&&◌, unwrap_or, Option, Some, None}
+use Rattle.std.specs.Prelude.{◌||◌, if◌then◌else◌, is_some, not, ◌&&◌, Option, Some, None}
 use Rattle.std.specs.List.{enumerate_from, list_all}
 use Rattle.rst_tree.specs.declared.attrs.Attr.{Attr}
 use Rattle.rst_tree.specs.declared.node.Node.{Node}
-use Rattle.rst_tree.specs.declared.key.Key.TheVariants.{Refid, Refuri}
 use Rattle.rst_tree_index.specs.Kinds.{HasNoNewLinkKinds}
 use Rattle.rst_transform_names.specs.declared.names.Holder.{Holder}
 use Rattle.rst_transform_names.specs.declared.names.NameEntry.{NameEntry}
 use Rattle.rst_transform_names.specs.declared.names.Names.{Names}
 use Rattle.rst_transform_names.specs.Names.{held_by}
 use Rattle.rst_transform_links.specs.declared.links.Outcome.{Outcome}
-use Rattle.rst_transform_links.specs.Holders.{is_target_node, kept_lead, lead_by, lead_of, name_lead}
+use Rattle.rst_transform_links.specs.Holders.{name_lead}
 use Rattle.rst_transform_links.specs.Linkings.{Held}
 use Rattle.rst_transform_links.specs.Outcomes.{fails}
 use Rattle.rst_transform_links.proofs.LinkKinds.{is_nameless, is_no_name, links_kinds}
+use Rattle.rst_transform_links.proofs.NamelessLeads.{name_nameless}
 use Rattle.rst_transform_work.specs.declared.report.Report.{Report}
 use Rattle.rst_transform_work.specs.declared.context.Context.{Context}
 use Rattle.rst_transform_work.specs.States.{elements_of, State}
-use Rattle.rst_transform_work.specs.Reading.{text_said}
 use Rattle.rst_transform_references.specs.declared.meanings.Meaning.{Meaning}
 use Rattle.rst_transform_references.specs.declared.meanings.Meaning.TheVariants.{Leads, Unknown, Duplicate}
 use Rattle.rst_transform_references.specs.Backrefs.{ids_of_references, referents_of, referred_at, referred_to}
@@ -27,23 +26,6 @@ use Rattle.rst_transform_references.specs.Resolved.{places_among, resolved_among
 use Rattle.rst_transform_references.specs.Resolving.{is_gone, reports_behind, resolved_from, what_becomes}
 
 -- ---- what a name means
-
-by_lead : (uri id : Option (List ℕ)) (kept : Attr) → is_no_name (Some kept) ≡ true → is_no_name (Some (unwrap_or (lead_by uri id) kept)) ≡ true
-by_lead (Some uri) id kept h = refl
-by_lead None (Some id) kept h = refl
-by_lead None None kept h = h
-
-by_target : (b : Bool) (node : Node) (kept : Attr) → is_no_name (Some kept) ≡ true → is_no_name (Some (unwrap_or (if b then lead_of node else None) kept)) ≡ true
-by_target true node kept h = by_lead (text_said Refuri node) (text_said Refid node) kept h
-by_target false node kept h = h
-
-by_kept : (uri : Option (List ℕ)) (id : List ℕ) → is_no_name (Some (kept_lead uri id)) ≡ true
-by_kept (Some uri) id = refl
-by_kept None id = refl
-
-by_name : (holder : Option Node) (uri : Option (List ℕ)) (id : List ℕ) → is_no_name (Some (name_lead holder uri id)) ≡ true
-by_name None uri id = by_kept uri id
-by_name (Some node) uri id = by_target (is_target_node node) node (kept_lead uri id) (by_kept uri id)
 
 -- where it leads, if it leads somewhere, is no name
 abbrev is_lead : Option Meaning → Bool
@@ -63,7 +45,7 @@ known_lead places linked names needs (Some held) =
     let place : Option ℕ = places held.holder in
     let element : Option Node = element_at linked place in
     let referent : Option ℕ = referent_place element place in
-    one_of_three (is_nobody held.holder) (needs && not (is_some referent)) (name_lead element held.uri held.id) referent (by_name element held.uri held.id)
+    one_of_three (is_nobody held.holder) (needs && not (is_some referent)) (name_lead element held.uri held.id) referent (name_nameless element held.uri held.id)
 
 named_lead : (places : Holder → Option ℕ) (linked : List Held) (names : Names) (node : Node) (name : Option (List ℕ)) → is_lead (meaning_of places linked names node name) ≡ true
 named_lead places linked names node None = refl

@@ -1,5 +1,5 @@
 -- What names mean to the references by name (Markup Specification, 'Hyperlink References', 'Footnotes', 'Citations').
-use Rattle.std.specs.Prelude.{ℕ, ◌&&◌, Bool, true, false, not, List, if◌then◌else◌, is_some, slice_get, Option, Some, None}
+use Rattle.std.specs.Prelude.{ℕ, ◌&&◌, Bool, true, false, not, List, map, if◌then◌else◌, is_some, slice_get, Option, Some, None}
 use Rattle.std.specs.Option.{option_map}
 use Rattle.rst_transform_names.specs.declared.names.NameEntry.{NameEntry}
 use Rattle.rst_transform_names.specs.declared.names.Holder.{Holder}
@@ -12,10 +12,11 @@ use Rattle.rst_tree.specs.declared.node.Node.TheVariants.{Element, Text}
 use Rattle.rst_tree.specs.declared.tag.Tag.{Tag}
 use Rattle.rst_tree.specs.declared.tag.Tag.TheVariants.{Citation, CitationReference, Footnote, FootnoteReference, Reference}
 use Rattle.rst_tree.specs.Attributes.{said_text, value_of}
+use Rattle.rst_transform_references.specs.declared.meanings.Lookup.{Lookup}
 use Rattle.rst_transform_references.specs.declared.meanings.Meaning.{Meaning}
 use Rattle.rst_transform_references.specs.declared.meanings.Meaning.TheVariants.{Leads, Unknown, Duplicate}
-use Rattle.rst_transform_links.specs.Holders.{name_lead}
-use Rattle.rst_transform_links.specs.Linkings.{Held}
+use Rattle.rst_transform_links.specs.Holders.{name_lead, place_at}
+use Rattle.rst_transform_links.specs.Linkings.{held, Held}
 
 -- a footnote or a citation
 abbrev pub is_footnote_or_citation_tag : Tag → Bool
@@ -60,6 +61,10 @@ referent_place None place = None
 abbrev pub element_at : List Held → Option ℕ → Option Node
 element_at linked None = None
 element_at linked (Some place) = option_map (λ one. one.0) (slice_get linked place)
+
+-- what is asked of the places of holders, of linked elements and of names, by what these are looked up in
+abbrev pub looked_up : {A : Type 0} → ((Holder → Option ℕ) → List Held → Names → A) → Lookup → A
+looked_up asked lookup = asked (place_at lookup.holders.places.items) (map held lookup.linked.now) lookup.names.now
 
 -- the places of holders among the linked elements of a document, these, and its names
 module _ (places : Holder → Option ℕ) (linked : List Held) (names : Names) where

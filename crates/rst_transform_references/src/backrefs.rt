@@ -3,9 +3,8 @@ ghost use Rattle.std.specs.Prelude.{◌≡◌, [], map, replicate};
 ghost use Rattle.std.specs.List.{list_any};
 ghost use Rattle.rst_tree.specs.Faults.{Gives};
 ghost use Rattle.rst_transform_references.specs.Backrefs.{reference_ids, referent_meant, referent_of, referents_of, referred_to, with_backref_lists, with_backrefs, with_reference};
-ghost use Rattle.rst_transform_links.specs.Holders.{place_at};
 ghost use Rattle.rst_transform_links.specs.Linkings.{held};
-ghost use Rattle.rst_transform_references.specs.Meanings.{refers_to_footnote_or_citation};
+ghost use Rattle.rst_transform_references.specs.Meanings.{looked_up, refers_to_footnote_or_citation};
 
 use crate::meanings::{Lookup, Meaning, refers_to_footnote_or_citation};
 use rst_transform_links::{Linked, Outcome, found_by_order};
@@ -30,7 +29,7 @@ fn referent_of(
     element: &Node,
     found: Option<usize>,
 ) -> Result<Option<usize>, TreeFault>
-    ensures { Gives (λ referent. referent ≡ referent_of (place_at lookup.now.holders.places.items) (map held lookup.now.linked.now) lookup.now.names.now element.now found) result }
+    ensures { Gives (λ referent. referent ≡ looked_up referent_of lookup.now element.now found) result }
 {
     if !refers_to_footnote_or_citation(element) {
         return Ok(None);
@@ -41,7 +40,7 @@ fn referent_of(
 
 /// For each linked element the place of the footnote or citation that it refers to.
 fn referents_of(alloc: Global, lookup: &Lookup<'_>) -> Result<Vec<Option<usize>>, TreeFault>
-    ensures { Gives (λ referents. referents.items ≡ referents_of (place_at lookup.now.holders.places.items) (map held lookup.now.linked.now) lookup.now.names.now) result }
+    ensures { Gives (λ referents. referents.items ≡ looked_up referents_of lookup.now) result }
 {
     let linked = lookup.linked;
     let found = found_by_order(alloc, linked)?;
@@ -150,7 +149,7 @@ pub fn with_backrefs(
     lookup: &Lookup<'_>,
     outcomes: Vec<Outcome>,
 ) -> Result<Vec<Outcome>, TreeFault>
-    ensures { let referents = referents_of (place_at lookup.now.holders.places.items) (map held lookup.now.linked.now) lookup.now.names.now in Gives (λ changed. changed.items ≡ with_backrefs referents (map held lookup.now.linked.now) outcomes.items) result }
+    ensures { let referents = looked_up referents_of lookup.now in Gives (λ changed. changed.items ≡ with_backrefs referents (map held lookup.now.linked.now) outcomes.items) result }
 {
     if !any_refers_to_footnote_or_citation(lookup.linked) {
         return Ok(outcomes);

@@ -2,9 +2,9 @@
 ghost use Rattle.std.specs.Prelude.{◌≡◌, map, slice_get, MatchOption, None, Some};
 ghost use Rattle.rst_tree.specs.Faults.{Gives};
 ghost use Rattle.rst_transform_names.specs.declared.names.Holder.{Holder};
-ghost use Rattle.rst_transform_links.specs.Holders.{holding, holder_place, place_at};
+ghost use Rattle.rst_transform_links.specs.Holders.{holding};
 ghost use Rattle.rst_transform_links.specs.Linkings.{held};
-ghost use Rattle.rst_transform_references.specs.Meanings.{element_at, held_meaning, is_footnote_or_citation, is_nobody, meaning_to, reference_name, referent_place, refers_to_footnote_or_citation};
+ghost use Rattle.rst_transform_references.specs.Meanings.{element_at, held_meaning, is_footnote_or_citation, is_nobody, looked_up, meaning_to, reference_name, referent_place, refers_to_footnote_or_citation};
 
 use rst_transform_links::{Holders, Linked, lead_by_name};
 use rst_transform_names::{Holder, NameEntry, Names};
@@ -102,7 +102,7 @@ pub fn element_at<'a>(linked: &[Linked<'a>], place: Option<usize>) -> Option<&'a
 impl<'a> Lookup<'a> {
     /// What its name means to a reference by name; there is nothing for another element.
     pub fn meaning_to(&self, alloc: Global, element: &Node) -> Result<Option<Meaning>, TreeFault>
-        ensures { Gives (λ meaning. meaning ≡ meaning_to (place_at self.now.holders.places.items) (map held self.now.linked.now) self.now.names.now element.now) result }
+        ensures { Gives (λ meaning. meaning ≡ looked_up meaning_to self.now element.now) result }
     {
         let Some(name) = reference_name(element) else {
             return Ok(None);
@@ -122,7 +122,7 @@ impl<'a> Lookup<'a> {
         needs_referent: bool,
         known: &NameEntry,
     ) -> Result<Meaning, TreeFault>
-        ensures { Gives (λ meaning. meaning ≡ held_meaning (place_at self.now.holders.places.items) (map held self.now.linked.now) self.now.names.now needs_referent known.now) result }
+        ensures { Gives (λ meaning. meaning ≡ looked_up held_meaning self.now needs_referent known.now) result }
     {
         if is_nobody(known.holder) {
             return Ok(Meaning::Duplicate);

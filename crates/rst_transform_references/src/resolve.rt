@@ -3,9 +3,8 @@ ghost use Rattle.std.specs.Prelude.{◌≡◌, ◌||◌, false, length, map};
 ghost use Rattle.rst_tree.specs.Faults.{Gives};
 ghost use Rattle.rst_tree_index.specs.Kinds.{kinds_of, HasNoNewLinkKinds};
 ghost use Rattle.rst_transform_links.specs.declared.links.Outcome.TheVariants.{Fails};
-ghost use Rattle.rst_transform_links.specs.Holders.{place_at};
 ghost use Rattle.rst_transform_links.specs.Linkings.{held};
-ghost use Rattle.rst_transform_references.specs.Meanings.{meaning_to};
+ghost use Rattle.rst_transform_references.specs.Meanings.{looked_up, meaning_to};
 ghost use Rattle.rst_transform_links.specs.Outcomes.{fails};
 ghost use Rattle.rst_transform_work.specs.Reports.{KeepsRest};
 ghost use Rattle.rst_transform_work.specs.States.{elements_of, state};
@@ -64,10 +63,7 @@ pub fn resolve(
     ensures resolved { Gives (λ after. IsResolved (state document context.old) (state after context.new)) result }
     ensures kinds { Gives (λ after. HasNoNewLinkKinds (elements_of document) (elements_of after)) result }
 {
-    if !has {
-        return Ok(document);
-    }
-    let document = change_links::<Resolving>(alloc, document, context)?;
+    let document = change_links::<Resolving>(alloc, document, context, has)?;
     Ok(document)
 }
 
@@ -241,8 +237,8 @@ fn what_becomes(
     element: &Node,
     gone: bool,
 ) -> Result<Outcome, TreeFault>
-    ensures outcome { let meaning = meaning_to (place_at lookup.now.holders.places.items) (map held lookup.now.linked.now) lookup.now.names.now element.now in Gives (λ outcome. outcome ≡ what_becomes (map held lookup.now.linked.now) gone (length context.old.reports.items) element.now meaning) result }
-    ensures reports { let meaning = meaning_to (place_at lookup.now.holders.places.items) (map held lookup.now.linked.now) lookup.now.names.now element.now in Gives (λ _. context.new.reports.items ≡ reports_behind gone context.old.first_number context.old.reports.items element.now meaning) result }
+    ensures outcome { let meaning = looked_up meaning_to lookup.now element.now in Gives (λ outcome. outcome ≡ what_becomes (map held lookup.now.linked.now) gone (length context.old.reports.items) element.now meaning) result }
+    ensures reports { let meaning = looked_up meaning_to lookup.now element.now in Gives (λ _. context.new.reports.items ≡ reports_behind gone context.old.first_number context.old.reports.items element.now meaning) result }
     ensures rest { Gives (λ _. KeepsRest context.old context.new) result }
 {
     if gone {
@@ -267,8 +263,8 @@ fn resolved(
     context: &mut Context,
     lookup: &Lookup<'_>,
 ) -> Result<Vec<Outcome>, TreeFault>
-    ensures outcomes { let all = resolved (place_at lookup.now.holders.places.items) (map held lookup.now.linked.now) lookup.now.names.now context.old.first_number context.old.reports.items in Gives (λ outcomes. outcomes.items ≡ all.0) result }
-    ensures reports { let all = resolved (place_at lookup.now.holders.places.items) (map held lookup.now.linked.now) lookup.now.names.now context.old.first_number context.old.reports.items in Gives (λ _. context.new.reports.items ≡ all.1) result }
+    ensures outcomes { let all = looked_up resolved lookup.now context.old.first_number context.old.reports.items in Gives (λ outcomes. outcomes.items ≡ all.0) result }
+    ensures reports { let all = looked_up resolved lookup.now context.old.first_number context.old.reports.items in Gives (λ _. context.new.reports.items ≡ all.1) result }
     ensures rest { Gives (λ _. KeepsRest context.old context.new) result }
 {
     let linked = lookup.linked;

@@ -1,22 +1,10 @@
--- Elements that keep their kinds, one and all, and lists among their attributes.
-use Rattle.std.proofs.Common.{◌≡◌, ◌∙◌, ℕ, List, [], ◌∷◌, ◌++◌, Bool, false, refl, ap}
+-- Elements that keep their kinds, one and all.
+use Rattle.std.proofs.Common.{◌≡◌, ◌∙◌, List, [], ◌∷◌, Bool, refl, ap}
 use Rattle.std.specs.Prelude.{◌||◌}
 use Rattle.std.specs.List.{list_any}
-use Rattle.rst_tree.specs.declared.attrs.Attr.{Attr}
-use Rattle.rst_tree.specs.declared.attrs.Value.TheVariants.{List as Listed}
-use Rattle.rst_tree.specs.declared.key.Key.{Key}
-use Rattle.rst_tree.specs.Attributes.{value_of, without_key}
-use Rattle.rst_tree.specs.KeyNames.{is_same}
 use Rattle.rst_tree.specs.Walk.{Item}
 use Rattle.rst_tree_index.specs.Kinds.{HasNoNewKinds}
-use Rattle.rst_tree_index.proofs.ElementKinds.{no_new_kinds, said_with, said_without, AsksForKind, KeepsKind}
-use Rattle.rst_transform_work.specs.Lists.{listed, with_listed}
-
--- what an attribute says is the same where one of another name lists more
-pub said_listed : (j k : Key) (texts : List (List ℕ)) (attrs : List Attr) → is_same k j ≡ false → value_of j (with_listed k texts attrs) ≡ value_of j attrs
-said_listed j k [] attrs other = refl
-said_listed j k (text ∷ more) attrs other =
-    said_with j k (Listed (listed k attrs ++ text ∷ more)) (without_key k attrs) other ∙ said_without j k attrs other
+use Rattle.rst_tree_index.proofs.ElementKinds.{no_new_kinds, AsksForKind, KeepsKind}
 
 -- each of some elements that became others keeps its kind
 abbrev pub KeepKinds : List Item → List Item → Type 0

@@ -12,9 +12,10 @@ use Rattle.rst_tree.specs.Nodes.{forest_of}
 use Rattle.rst_tree.specs.Walk.{Item, item, items}
 use Rattle.rst_transform_work.specs.declared.report.Report.{Report}
 use Rattle.rst_transform_work.specs.declared.document.Document.{Document}
-use Rattle.rst_transform_work.specs.States.{State, elements_of}
+use Rattle.rst_transform_work.specs.States.{elements_of}
 use Rattle.rst_transform_work.specs.Reports.{report_node}
-use Rattle.rst_transform_structure.specs.Transitions.{and_then, at_end, before_next, ending, faults_after, faults_at, faults_before, faults_in, is_last, is_transition, message_nodes, messages, moved, next_number, others, titles, transition, transitions_in, with_messages, with_places, Before, HasTransitions}
+use Rattle.rst_transform_structure.specs.Law.{KeepsTransitions}
+use Rattle.rst_transform_structure.specs.Transitions.{and_then, at_end, before_next, ending, faults_after, faults_at, faults_before, faults_in, is_last, is_transition, message_nodes, messages, moved, next_number, others, titles, transition, transitions_in, with_messages, with_places, Before}
 use Rattle.rst_transform_structure.proofs.Messages.{element_ending, element_moved, element_noted, ending_messages, noted_last, transition_moved, transition_noted}
 
 in_both : (xs ys : List Item) → transitions_in (xs ++ ys) ≡ transitions_in xs ++ transitions_in ys
@@ -205,5 +206,5 @@ none_lost first reports d =
     ∙ in_all noted
     ∙ with_noted (next_number first reports) true titles d.children
 
-pub transitions_stay : (before after : State) → HasTransitions before after → transitions_in (elements_of after.document) ≡ transitions_in (elements_of before.document)
+pub transitions_stay : KeepsTransitions
 transitions_stay before after h = ap (λ d. transitions_in (elements_of d)) h.document ∙ none_lost before.context.first_number before.context.reports.items before.document

@@ -23,7 +23,8 @@ use Rattle.rst_transform_work.specs.declared.document.Document.{Document}
 use Rattle.rst_transform_work.specs.States.{state, State, elements_of}
 use Rattle.rst_transform_structure.specs.Passing.{passed}
 use Rattle.rst_transform_structure.specs.Targets.{given, handed, handed_by, handed_to, hands_on, holder_of, known_after, number_of, referring, retargeted, takes_ids, with_refid, Handed, IsRetargeted}
-use Rattle.rst_transform_structure.proofs.KeptKinds.{KeepKinds, none_new, said_listed}
+use Rattle.rst_transform_work.proofs.Additions.{said_listed}
+use Rattle.rst_transform_structure.proofs.KeptKinds.{KeepKinds, none_new}
 
 -- where no element is an internal target, none gets anything
 nothing_handed : (before : List Item) (x : Item) → list_any is_internal before ≡ false → handed_to before x ≡ handed [] []

@@ -1,5 +1,5 @@
 -- A document that got its title: none of its elements is of a new kind.
-use Rattle.std.proofs.Common.{◌≡◌, ◌∙◌, ℕ, List, [], ◌∷◌, ◌++◌, Bool, true, false, Option, Some, None, refl, ap, sym, subst}
+use Rattle.std.proofs.Common.{◌≡◌, ◌∙◌, ℕ, List, [], ◌∷◌, Bool, true, false, Option, Some, None, refl, ap, sym, subst}
 use Rattle.std.specs.Prelude.{◌&&◌, ◌||◌, if◌then◌else◌, option_map}
 use Rattle.std.specs.List.{list_any}
 use Rattle.std.proofs.lemmas.Bool.{or_parts as or_none}
@@ -14,19 +14,18 @@ use Rattle.rst_tree.specs.declared.tag.Tag.TheVariants.{Document as IsDocument, 
 use Rattle.rst_tree.specs.Attributes.{value_of, with_attr}
 use Rattle.rst_tree.specs.Forest.{Forest, bare, element, words}
 use Rattle.rst_tree.specs.KeyNames.{is_same}
-use Rattle.rst_tree.specs.Nodes.{join_node}
 use Rattle.rst_tree.specs.Tree.{text_in}
 use Rattle.rst_tree.specs.Walk.{Item, item, items, node_items}
 use Rattle.rst_tree_index.specs.Kinds.{HasNoNewKinds, is_internal, is_of_footnotes, is_substitution, is_target, is_transition, tells}
 use Rattle.rst_tree_index.specs.LinkedTags.{is_linked_tag}
-use Rattle.rst_tree_index.proofs.ElementKinds.{asks_anonymous, asks_footnote, asks_indirect, asks_link, asks_substitution, asks_target, asks_transition, none_in, none_of_both, said_with, AsksForKind, KeepsKind}
+use Rattle.rst_tree_index.proofs.ElementKinds.{asks_anonymous, asks_footnote, asks_indirect, asks_link, asks_substitution, asks_target, asks_transition, none_in, said_with, AsksForKind, KeepsKind}
 use Rattle.rst_transform_structure.specs.declared.title.Section.{Section}
 use Rattle.rst_transform_structure.specs.Title.{behind, lone_section, section_in, section_of, subtitle, subtitled_by, title_attrs, titled, titled_by}
-use Rattle.rst_transform_structure.proofs.KeptKinds.{said_listed}
 use Rattle.rst_transform_work.specs.declared.document.Document.{Document}
 use Rattle.rst_transform_work.specs.States.{elements_of}
-use Rattle.rst_transform_work.specs.Lists.{listed, with_list_of, with_names}
+use Rattle.rst_transform_work.specs.Lists.{with_names}
 use Rattle.rst_transform_work.specs.Reading.{may_precede}
+use Rattle.rst_transform_work.proofs.Additions.{names_left, none_joined}
 
 -- no element of a section's title and its body passes a test, if there is a section
 abbrev NoneOf : (Item → Bool) → Option Section → Type 0
@@ -41,13 +40,6 @@ none_of_section p a (words t body) none = (refl, none)
 none_of_node : (p : Item → Bool) (t : Tag) (a : List Attr) (c : Forest) (l : ℕ) → list_any p (items c) ≡ false → NoneOf p (section_in (Element t a c l))
 none_of_node p IsSection a c l none = none_of_section p a c none
 none_of_node p _ a c l none = tt
-
-joined : (n : Node) (r : Forest) → items (join_node n r) ≡ node_items n ++ items r
-joined (Element t a c l) r = refl
-joined (Text t) r = refl
-
-none_joined : (p : Item → Bool) (n : Node) (r : Forest) → list_any p (node_items n) ≡ false → list_any p (items r) ≡ false → list_any p (items (join_node n r)) ≡ false
-none_joined p n r e f = ap (list_any p) (joined n r) ∙ none_of_both p (node_items n) (items r) e f
 
 none_behind : (p : Item → Bool) (n : Node) (s : Option Section) → list_any p (node_items n) ≡ false → NoneOf p s → NoneOf p (option_map (behind n) s)
 none_behind p n None e h = tt
@@ -92,18 +84,11 @@ none_titled p kind (Some s) nodes h none =
     none_joined p s.title (subtitled_by (lone_section s.body) s.body) h.0 (none_subtitled p kind (lone_section s.body) s.body (none_of_lone p s.body h.1) h.1)
 
 -- the document keeps its kind
-listed_more : (j k : Key) (from attrs : List Attr) → is_same k j ≡ false → value_of j (with_list_of k from attrs) ≡ value_of j attrs
-listed_more j k from attrs other = said_listed j k (listed k from) attrs other
-
 still_said : (j : Key) (s : Option Section) (a : List Attr) → is_same Ids j ≡ false → is_same OfNames j ≡ false → is_same Dupnames j ≡ false → is_same Title j ≡ false
     → value_of j (title_attrs s a) ≡ value_of j a
 still_said j None a ids names lost title = refl
 still_said j (Some s) a ids names lost title =
-    let t : List Attr = with_attr Title (Says (text_in s.title)) a in
-    listed_more j Dupnames s.attrs (with_list_of OfNames s.attrs (with_list_of Ids s.attrs t)) lost
-    ∙ listed_more j OfNames s.attrs (with_list_of Ids s.attrs t) names
-    ∙ listed_more j Ids s.attrs t ids
-    ∙ said_with j Title (Says (text_in s.title)) a title
+    names_left j ids names lost s.attrs (with_attr Title (Says (text_in s.title)) a) ∙ said_with j Title (Says (text_in s.title)) a title
 
 document_keeps : (s : Option Section) (a : List Attr) (l : ℕ) → KeepsKind (item IsDocument a l) (item IsDocument (title_attrs s a) l)
 document_keeps s a l =

@@ -1,4 +1,5 @@
 pub mod LastSection
+pub mod Law
 pub mod Passing
 pub mod Siblings
 pub mod Handing

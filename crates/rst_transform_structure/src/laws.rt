@@ -1,12 +1,11 @@
 //! Laws on the definitions, each by a function that does nothing and whose contract is the law.
-ghost use Rattle.std.specs.Prelude.{◌≡◌};
 ghost use Rattle.rst_settings.specs.declared.Threshold.{Threshold};
 ghost use Rattle.rst_transform_work.specs.Alike.{HasOneAnswer};
-ghost use Rattle.rst_transform_work.specs.States.{State, elements_of};
 ghost use Rattle.rst_transform_structure.specs.LastSection.{HasLastSection};
+ghost use Rattle.rst_transform_structure.specs.Law.{KeepsTransitions};
 ghost use Rattle.rst_transform_structure.specs.Targets.{IsRetargeted};
 ghost use Rattle.rst_transform_structure.specs.Title.{IsTitled};
-ghost use Rattle.rst_transform_structure.specs.Transitions.{transitions_in, HasTransitions};
+ghost use Rattle.rst_transform_structure.specs.Transitions.{HasTransitions};
 
 /// Targets hand on their ids and names in one way.
 pub fn retargeted_alike()
@@ -25,7 +24,7 @@ pub fn transitions_alike()
 
 /// No transition is lost or comes up, and their order in the document stays.
 pub fn transitions_stay()
-    ensures { (before after : State) → HasTransitions before after → transitions_in (elements_of after.document) ≡ transitions_in (elements_of before.document) }
+    ensures { KeepsTransitions }
 {}
 
 /// A document gets its last section in one way, for each report level.

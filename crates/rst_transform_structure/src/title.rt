@@ -1,11 +1,12 @@
 //! The title and the subtitle of a document.
-ghost use Rattle.std.specs.Prelude.{◌≡◌, ◌++◌, Some, None, MatchResult};
+ghost use Rattle.std.specs.Prelude.{◌≡◌, ◌++◌};
 ghost use Rattle.std.specs.List.{list_all};
 ghost use Rattle.rst_tree.specs.declared.key.Key.TheVariants.{Names as OfNames};
 ghost use Rattle.rst_tree.specs.Faults.{Gives};
 ghost use Rattle.rst_tree.specs.Nodes.{forest_of, join_node, nodes_of};
 ghost use Rattle.rst_tree_index.specs.Kinds.{HasNoNewKinds};
 ghost use Rattle.rst_transform_work.specs.Lists.{with_names, listed};
+ghost use Rattle.rst_transform_work.specs.Made.{IsMadeOf};
 ghost use Rattle.rst_transform_work.specs.States.{elements_of, state};
 ghost use Rattle.rst_transform_structure.specs.Title.{lone_section, section_in, subtitle, subtitle_names, subtitled_by, title_attrs, title_names, titled, titled_by, Moves, IsTitled};
 ghost use Rattle.rst_transform_work.specs.Reading.{may_precede};
@@ -113,7 +114,7 @@ struct Section {
 impl Section {
     /// A section with a title, in its parts, or the node back where it is none.
     fn of(node: Node) -> Result<Section, Node>
-        ensures { MatchResult result (λ section. section_in node ≡ Some section) (λ back. (back ≡ node) × (section_in node ≡ None)) }
+        ensures { IsMadeOf node (section_in node) result }
     {
         match node {
             Node::Element {
@@ -166,7 +167,7 @@ fn all_may_precede(nodes: &[Node]) -> bool
 
 /// The lone section of some nodes, or the nodes back where they have none: the last node, if all before may precede it.
 fn lone_section(nodes: Children) -> Result<Result<Section, Children>, TreeFault>
-    ensures { Gives (λ found. MatchResult found (λ section. lone_section nodes ≡ Some section) (λ back. (back ≡ nodes) × (lone_section nodes ≡ None))) result }
+    ensures { Gives (IsMadeOf nodes (lone_section nodes)) result }
 {
     let mut before = nodes.into_list();
     let Some(last) = before.pop() else {

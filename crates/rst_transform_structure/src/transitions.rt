@@ -5,9 +5,10 @@ ghost use Rattle.rst_tree.specs.Faults.{Gives};
 ghost use Rattle.rst_tree.specs.Nodes.{forest_of};
 ghost use Rattle.rst_tree.specs.declared.node.Node.TheVariants.{Element};
 ghost use Rattle.rst_tree_index.specs.Kinds.{kinds_of};
-ghost use Rattle.rst_transform_work.specs.Reports.{KeepsRest, report_node};
+ghost use Rattle.rst_tree.specs.declared.note.Level.TheVariants.{Error};
+ghost use Rattle.rst_transform_work.specs.Reports.{report_in, report_node, IsReported, KeepsRest};
 ghost use Rattle.rst_transform_work.specs.States.{elements_of, state};
-ghost use Rattle.rst_transform_structure.specs.Siblings.{all_placed, ends_in_transition, fault_before, further, put_after, put_last, put_transition, so_far, transition_report, with_fault, with_message};
+ghost use Rattle.rst_transform_structure.specs.Siblings.{all_placed, ends_in_transition, fault_before, further, put_after, put_last, put_transition, so_far, with_fault, with_message};
 ghost use Rattle.rst_transform_structure.specs.Transitions.{is_transition, HasTransitions};
 ghost use Rattle.rst_transform_work.specs.Reading.{is_title};
 
@@ -296,8 +297,8 @@ fn message(
     words: &str,
     context: &mut Context,
 ) -> Result<Node, TreeFault>
-    ensures node { let next = transition_report context.old.first_number context.old.reports.items line words.now in Gives (λ node. node ≡ report_node next) result }
-    ensures reports { let next = transition_report context.old.first_number context.old.reports.items line words.now in Gives (λ _. context.new.reports.items ≡ context.old.reports.items ++ next ∷ []) result }
+    ensures node { Gives (λ node. node ≡ report_node (report_in context.old Error line words.now false)) result }
+    ensures reports { Gives (λ _. IsReported (report_in context.old Error line words.now false) context.old context.new) result }
     ensures rest { Gives (λ _. KeepsRest context.old context.new) result }
 {
     let text = Text::from_str(alloc, words)?;

@@ -11,9 +11,8 @@ use Rattle.rst_transform_work.specs.declared.context.Context.{Context}
 use Rattle.rst_transform_work.specs.declared.document.Document.{Document}
 use Rattle.rst_transform_work.specs.Alike.{AreAlike, AreContextsAlike}
 use Rattle.rst_transform_work.specs.Reading.{source_said}
-use Rattle.rst_transform_work.specs.Reports.{next_report}
 use Rattle.rst_transform_work.specs.States.{State}
-use Rattle.rst_transform_work.proofs.OneAnswer.{both, contexts_by, contexts_with_reports, one_problematic}
+use Rattle.rst_transform_work.proofs.OneAnswer.{both, contexts_by, contexts_with_reports, one_problematic, reports_alike}
 use Rattle.rst_transform_substitutions.specs.declared.expansion.ExpansionFault.{ExpansionFault}
 use Rattle.rst_transform_substitutions.specs.Definitions.{definitions_among, found_among, place_of_name, Definition}
 use Rattle.rst_transform_substitutions.specs.Expanded.{within_element, ExpandsIn, GivesWay, IsExpanded, ReportsFault, Whether}
@@ -25,11 +24,7 @@ fault_alike : (attrs : List Attr) (l : ℕ) (fault : ExpansionFault) (a b c d : 
     → ReportsFault attrs l fault a c x → ReportsFault attrs l fault b d y
     → (x ≡ y) × AreContextsAlike c d
 fault_alike attrs l fault a b c d x y s f g =
-    let told : f.between.reports.items ≡ g.between.reports.items =
-    both
-    (ap (λ n. a.reports.items ++ next_report n a.reports.items Error l (fault_text (name_said attrs) fault) true ∷ []) s.first_number
-    ∙ ap (λ rs. rs ++ next_report b.first_number rs Error l (fault_text (name_said attrs) fault) true ∷ []) s.reports)
-    f.reports g.reports in
+    let told = reports_alike Error l (fault_text (name_said attrs) fault) true a b f.between g.between s f.reports g.reports in
     let place : length a.reports.items ≡ length b.reports.items = ap length s.reports in
     let made : (f.attrs ≡ g.attrs) × AreContextsAlike c d =
     one_problematic (slice_get f.between.reports.items (length a.reports.items)) (slice_get g.between.reports.items (length b.reports.items))

@@ -85,7 +85,7 @@ impl Definitions {
 
     /// The nodes that stand for a reference to the definition at a place, if there is one.
     pub fn content(&self, place: usize) -> Option<&Children>
-        ensures { MatchOption result (slice_get self.now.contents.items place ≡ None) (λ content. slice_get self.now.contents.items place ≡ Some content.now) }
+        ensures { let there = slice_get self.now.contents.items place in MatchOption result (there ≡ None) (λ content. there ≡ Some content.now) }
     {
         self.contents.get(place)
     }

@@ -1,13 +1,10 @@
 //! Substitution references give way to the contents of their definitions.
-ghost use Rattle.std.specs.Prelude.{◌≡◌, ◌++◌, false, List, OnOk};
-ghost use Rattle.rst_tree.specs.declared.node.Node.{Node as AnyNode};
+ghost use Rattle.std.specs.Prelude.{◌≡◌, false, OnOk};
 ghost use Rattle.rst_tree.specs.Faults.{Gives};
-ghost use Rattle.rst_tree.specs.Nodes.{forest_of};
 ghost use Rattle.rst_tree_index.specs.Kinds.{kinds_of, HasNoNewKinds};
 ghost use Rattle.rst_transform_work.specs.States.{elements_of, state};
 ghost use Rattle.rst_transform_substitutions.specs.Definitions.{found_by, known_place};
-ghost use Rattle.rst_transform_substitutions.specs.Expanded.{within_element, ExpandsIn, GivesWay, IsExpanded, ReportsFault};
-ghost use Rattle.rst_transform_substitutions.specs.Expansion.{name_said, nodes_for};
+ghost use Rattle.rst_transform_substitutions.specs.Expanded.{within_element, ExpandsBy, IsExpanded, IsReplaced, ReportsFault};
 ghost use Rattle.rst_transform_substitutions.specs.Outcomes.{Remembers};
 
 use crate::definitions::Definitions;
@@ -80,7 +77,7 @@ fn expanded_in(
     context: &mut Context,
 ) -> Result<Children, TreeFault>
     requires { Remembers definitions.now outcomes.old }
-    ensures expanded { Gives (λ done. (list : List AnyNode) × ExpandsIn (found_by definitions.now) (known_place definitions.now) within nodes context.old context.new list × (done ≡ forest_of list)) result }
+    ensures expanded { Gives (ExpandsBy definitions.now within nodes context.old context.new) result }
     ensures remembers { OnOk result (Remembers definitions.now outcomes.new) }
 {
     let mut done = Vec::with_capacity(alloc, nodes.len())?;
@@ -97,31 +94,24 @@ fn expanded_in(
                 line,
             } => {
                 if is_reference(tag) {
-                    done = with_replaced(
+                    let mut here = replaced(
                         alloc,
                         definitions,
-                        done,
                         attrs,
                         line,
                         within,
                         outcomes,
                         context,
                     )?;
+                    done.append(&mut here)?;
                     continue;
                 }
                 let within = within_element(definitions, tag, &attrs, within);
-                let children = expanded_in(
-                    alloc,
-                    definitions,
-                    children,
-                    within,
-                    outcomes,
-                    context,
-                )?;
+                let inner = expanded_in(alloc, definitions, children, within, outcomes, context)?;
                 done.push(Node::Element {
                     tag,
                     attrs,
-                    children,
+                    children: inner,
                     line,
                 })?;
                 continue;
@@ -146,11 +136,10 @@ fn within_element(
     within
 }
 
-/// Puts what becomes of a reference behind the nodes before it: the nodes for it, or a problematic.
-fn with_replaced(
+/// What becomes of a reference: the nodes for it, or a problematic.
+fn replaced(
     alloc: Global,
     definitions: &Definitions,
-    mut nodes: Vec<Node>,
     attrs: Attrs,
     line: usize,
     within: Option<usize>,
@@ -158,18 +147,15 @@ fn with_replaced(
     context: &mut Context,
 ) -> Result<Vec<Node>, TreeFault>
     requires { Remembers definitions.now outcomes.old }
-    ensures gives_way { let wanted = nodes_for (found_by definitions.now) within (name_said attrs) in Gives (λ all. (here : List AnyNode) × GivesWay attrs line wanted context.old context.new here × (all.items ≡ nodes.items ++ here)) result }
+    ensures replaced { Gives (λ nodes. IsReplaced (found_by definitions.now) within attrs line context.old context.new nodes.items) result }
     ensures remembers { OnOk result (Remembers definitions.now outcomes.new) }
 {
     let name = said(&attrs, Key::Refname);
     match reference_outcome(alloc, definitions, name, within, outcomes)? {
-        Outcome::Nodes(expanded) => {
-            let mut expanded = expanded.into_list();
-            nodes.append(&mut expanded)?;
-            Ok(nodes)
-        }
+        Outcome::Nodes(nodes) => Ok(nodes.into_list()),
         Outcome::Fault(fault) => {
             let problematic = problematic(alloc, attrs, line, fault, context)?;
+            let mut nodes = Vec::with_capacity(alloc, 1)?;
             nodes.push(problematic)?;
             Ok(nodes)
         }

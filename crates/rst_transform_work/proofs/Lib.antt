@@ -1,3 +1,4 @@
+pub mod Additions
 pub mod Listing
 pub mod OneAnswer
 pub mod Spelling

@@ -1,7 +1,8 @@
 -- States that are alike stay alike: of the problematics and messages that transforms make there is one answer.
-use Rattle.std.proofs.Common.{◌≡◌, ◌∙◌, ℕ, List, Option, Some, None, slice_set, sym, ap, ap₂, subst₂}
+use Rattle.std.proofs.Common.{◌≡◌, ◌∙◌, ℕ, Bool, List, [], ◌∷◌, ◌++◌, Option, Some, None, slice_set, sym, ap, ap₂, subst₂}
 use Rattle.rst_tree.specs.TagNames.{hyphenated, tag_name}
 use Rattle.rst_tree.specs.declared.attrs.Attr.{Attr}
+use Rattle.rst_tree.specs.declared.note.Level.{Level}
 use Rattle.rst_tree.specs.declared.tag.Tag.{Tag}
 use Rattle.rst_tree.specs.declared.tag.Tag.TheVariants.{Problematic, SystemMessage}
 use Rattle.rst_transform_names.specs.declared.ids.Ids.{Ids}
@@ -14,7 +15,7 @@ use Rattle.rst_transform_work.specs.declared.document.Document.{Document}
 use Rattle.rst_transform_work.specs.declared.report.Report.{Report}
 use Rattle.rst_transform_work.specs.Alike.{AreAlike, AreContextsAlike}
 use Rattle.rst_transform_work.specs.Problematics.{problematic_attrs, referring, IsAlone, IsNext, MakesProblematic, NewId, OwnId}
-use Rattle.rst_transform_work.specs.Reports.{KeepsRest}
+use Rattle.rst_transform_work.specs.Reports.{next_report, report_in, IsReported, KeepsRest}
 use Rattle.rst_transform_work.specs.States.{State}
 
 -- ---- the states themselves
@@ -41,6 +42,12 @@ contexts_with_reports a b c d s f g e =
     let back : AreContextsAlike (record a { reports = c.reports }) (record b { reports = d.reports }) =
     record { ids = s.ids; names = s.names; reports = e; first_number = s.first_number; serials = s.serials } in
     contexts_by back f g
+
+-- one more message, which is the same
+pub reports_alike : (level : Level) (line : ℕ) (text : List ℕ) (own : Bool) (a b c d : Context) → AreContextsAlike a b → IsReported (report_in a level line text own) a c
+    → IsReported (report_in b level line text own) b d → c.reports.items ≡ d.reports.items
+reports_alike level line text own a b c d s f g =
+    both (ap₂ (λ (first : ℕ) (rs : List Report). rs ++ next_report first rs level line text own ∷ []) s.first_number s.reports) f g
 
 -- the names alone
 pub contexts_with_names : (a b c d : Context) → AreContextsAlike a b → c ≡ record a { names = c.names } → d ≡ record b { names = d.names }

@@ -1,4 +1,5 @@
 pub mod Lists
+pub mod Made
 pub mod Problematics
 pub mod Reading
 pub mod Reports

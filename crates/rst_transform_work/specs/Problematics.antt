@@ -1,11 +1,14 @@
 -- Problematics and the messages that they belong to (Document Tree, 'problematic', 'system_message').
-use Rattle.std.specs.Prelude.{◌≡◌, ℕ, List, [], ◌∷◌, ◌++◌, slice_set, Option, Some, None}
+use Rattle.std.specs.Prelude.{◌≡◌, ℕ, List, [], ◌∷◌, ◌++◌, slice_get, slice_set, Option, Some, None}
 use Rattle.rst_tree.specs.declared.attrs.Attr.{Attr}
 use Rattle.rst_tree.specs.declared.attrs.Value.TheVariants.{Text as Words, Number, List as Listed}
 use Rattle.rst_tree.specs.declared.key.Key.TheVariants.{Ids as IdsKey, Message, Refid}
+use Rattle.rst_tree.specs.declared.node.Node.{Node}
+use Rattle.rst_tree.specs.declared.node.Node.TheVariants.{Element}
 use Rattle.rst_tree.specs.declared.tag.Tag.{Tag}
 use Rattle.rst_tree.specs.declared.tag.Tag.TheVariants.{Problematic, SystemMessage}
 use Rattle.rst_tree.specs.Attributes.{attr}
+use Rattle.rst_tree.specs.Forest.{bare, words}
 use Rattle.rst_tree.specs.TagNames.{hyphenated, tag_name}
 use Rattle.rst_transform_names.specs.declared.ids.Ids.{Ids}
 use Rattle.rst_transform_names.specs.Ids.{is_taken, IsNumbered, Takes}
@@ -56,3 +59,10 @@ pub record IsAlone (before after : Context) (attrs : List Attr) : Type 0 where
 abbrev pub MakesProblematic : Option Report → ℕ → Context → Context → List Attr → Type 0
 MakesProblematic (Some r) place before after attrs = IsNext r place before after attrs
 MakesProblematic None place before after attrs = IsAlone before after attrs
+
+-- the same as a node, with a source text, on a line
+abbrev pub MakesProblematicNode : ℕ → List ℕ → ℕ → Context → Context → Node → Type 0
+MakesProblematicNode place source line before after node =
+    (attrs : List Attr)
+    × MakesProblematic (slice_get before.reports.items place) place before after attrs
+    × (node ≡ Element Problematic attrs (words source bare) line)

@@ -38,6 +38,14 @@ abbrev pub next_report : ℕ → List Report → Level → ℕ → List ℕ → 
 next_report first reports level line text own =
     record { level = level; line = line; text = text; number = min (first + length reports) (2 ^ 64 - 1); id = None; backrefs = []; own = own }
 
+-- the same behind those that are known
+abbrev pub report_in : Context → Level → ℕ → List ℕ → Bool → Report
+report_in context level line text own = next_report context.first_number context.reports.items level line text own
+
+-- one more message is known, behind the others
+abbrev pub IsReported : Report → Context → Context → Type 0
+IsReported next before after = after.reports.items ≡ before.reports.items ++ next ∷ []
+
 -- all but the messages is as it was
 abbrev pub KeepsRest : Context → Context → Type 0
 KeepsRest old new = new ≡ record old { reports = new.reports }

@@ -1,8 +1,8 @@
 //! What is known beside the document between two transforms.
-ghost use Rattle.std.specs.Prelude.{◌≡◌, ◌+◌, ◌∷◌, ◌++◌, [], false, vec_len, List, slice_get};
+ghost use Rattle.std.specs.Prelude.{◌≡◌, ◌+◌, false, slice_get, vec_len};
 ghost use Rattle.rst_tree.specs.Faults.{Gives};
-ghost use Rattle.rst_transform_work.specs.Problematics.{MakesProblematic};
-ghost use Rattle.rst_transform_work.specs.Reports.{report_node, next_report, KeepsRest};
+ghost use Rattle.rst_transform_work.specs.Problematics.{MakesProblematic, MakesProblematicNode};
+ghost use Rattle.rst_transform_work.specs.Reports.{report_in, report_node, IsReported, KeepsRest};
 
 use crate::problematics::ProblematicAttrs;
 use crate::report::Report;
@@ -26,14 +26,9 @@ pub struct Context {
 }
 
 impl Context {
-    ghost use Rattle.rst_tree.specs.declared.attrs.Attr.{Attr};
-    ghost use Rattle.rst_tree.specs.declared.node.Node.TheVariants.{Element};
-    ghost use Rattle.rst_tree.specs.declared.tag.Tag.TheVariants.{Problematic};
-    ghost use Rattle.rst_tree.specs.Forest.{bare, words};
-
     /// The next message, which has no problematics yet.
     fn next_report(&self, alloc: Global, level: Level, line: usize, text: Text, own: bool) -> Report
-        ensures { result ≡ next_report self.now.first_number self.now.reports.items level line text own }
+        ensures { result ≡ report_in self.now level line text own }
     {
         Report {
             level,
@@ -58,7 +53,7 @@ impl Context {
         own: bool,
     ) -> Result<usize, TreeFault>
         ensures place { Gives (λ place. (place ≡ vec_len self.old.reports) × (vec_len self.new.reports ≡ place + 1)) result }
-        ensures reports { let next = next_report self.old.first_number self.old.reports.items level line text own in Gives (λ _. self.new.reports.items ≡ self.old.reports.items ++ next ∷ []) result }
+        ensures reports { Gives (λ _. IsReported (report_in self.old level line text own) self.old self.new) result }
         ensures rest { Gives (λ _. KeepsRest self.old self.new) result }
     {
         let place = self.reports.len();
@@ -75,8 +70,8 @@ impl Context {
         line: usize,
         text: Text,
     ) -> Result<Node, TreeFault>
-        ensures node { let next = next_report self.old.first_number self.old.reports.items level line text false in Gives (λ node. node ≡ report_node next) result }
-        ensures reports { let next = next_report self.old.first_number self.old.reports.items level line text false in Gives (λ _. self.new.reports.items ≡ self.old.reports.items ++ next ∷ []) result }
+        ensures node { Gives (λ node. node ≡ report_node (report_in self.old level line text false)) result }
+        ensures reports { Gives (λ _. IsReported (report_in self.old level line text false) self.old self.new) result }
         ensures rest { Gives (λ _. KeepsRest self.old self.new) result }
     {
         let mut report = self.next_report(alloc, level, line, text, false);
@@ -94,7 +89,7 @@ impl Context {
         source: Text,
         line: usize,
     ) -> Result<Node, TreeFault>
-        ensures { Gives (λ node. (attrs : List Attr) × MakesProblematic (slice_get self.old.reports.items report) report self.old self.new attrs × (node ≡ Element Problematic attrs (words source bare) line)) result }
+        ensures { Gives (MakesProblematicNode report source line self.old self.new) result }
     {
         let mut attrs = Attrs::new(alloc);
         self.next_problematic(alloc, report)?

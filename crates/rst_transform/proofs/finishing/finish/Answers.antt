@@ -26,7 +26,7 @@ transformed-requires c = record {
 pub returns-clause-finishes : goal.returns-clause-finishes
 returns-clause-finishes c =
     let first : Lists (messages_in c.in_ok-registered.registered.root) c.in_ok-list.list =
-    c.in_ok-list.ensures.lists c.args.messages c.args.document c.in_ok-registered.ensures.registered c.kinds-kinds.ensures in
+    c.in_ok-list.ensures.lists (c.args.messages, c.args.document, c.in_ok-registered.ensures.registered, c.kinds-kinds.ensures) in
     let all : List Numbered = all_messages c.in_ok-registered.registered c.last_section.new.context.reports.items in
     record {
       registered = c.in_ok-registered.registered;

@@ -24,21 +24,21 @@ pub loop-node-preserved-then-is_reference : goal.loop-node-preserved-then-is_ref
 loop-node-preserved-then-is_reference t c =
     let items = c.in-Some.ensures.steps.0 ∙ ap (λ (n : Node). n ∷ c.next.new.self.rest.items) c.in-Element.is in
     record {
-      continues = more_reference (found_by c.args.definitions.now) (known_place c.args.definitions.now) c.args.within c.args.nodes c.args.context.now c.loop-node.context c.with_replaced.new.context c.loop-node.done.items c.in_ok-done-in-Element.done.items c.in_ok-done-in-Element.ensures.gives_way.0 c.loop-node.node-iterator.rest.items c.next.new.self.rest.items
-          c.in-Element.tag c.in-Element.attrs c.in-Element.children c.in-Element.line c.loop-node.invariant.continues items (sym c.is_reference.ensures ∙ c.if-is_reference.true) c.in_ok-done-in-Element.ensures.gives_way.1 c.in_ok-done-in-Element.ensures.gives_way.2;
-      remembers = c.in_ok-done-in-Element.ensures.remembers;
+      continues = more_reference (found_by c.args.definitions.now) (known_place c.args.definitions.now) c.args.within c.args.nodes c.args.context.now c.loop-node.context c.replaced.new.context c.loop-node.done.items c.append.new.self.items c.in_ok-here-in-Element.here.items c.loop-node.node-iterator.rest.items c.next.new.self.rest.items
+          c.in-Element.tag c.in-Element.attrs c.in-Element.children c.in-Element.line c.loop-node.invariant.continues items (sym c.is_reference.ensures ∙ c.if-is_reference.true) c.in_ok-here-in-Element.ensures.replaced c.in_ok-append-in-Element.ensures.items;
+      remembers = c.in_ok-here-in-Element.ensures.remembers;
     }
 
 pub loop-node-preserved : goal.loop-node-preserved
 loop-node-preserved t c =
     let items = c.in-Some.ensures.steps.0 ∙ ap (λ (n : Node). n ∷ c.next.new.self.rest.items) c.in-Element.is in
-    let nodes : List Node = c.in_ok-children-in-Element.ensures.expanded.0 in
+    let nodes : List Node = c.in_ok-inner-in-Element.ensures.expanded.0 in
     let push : c.push-in-Element.new.self.items ≡ c.loop-node.done.items ++ Element c.in-Element.tag c.in-Element.attrs (forest_of nodes) c.in-Element.line ∷ [] =
-    rw (c.in_ok-children-in-Element.ensures.expanded.2) at c.in_ok-push-in-Element.ensures.items in
+    rw (c.in_ok-inner-in-Element.ensures.expanded.2) at c.in_ok-push-in-Element.ensures.items in
     record {
       continues = more_element (found_by c.args.definitions.now) (known_place c.args.definitions.now) c.args.within c.args.nodes c.args.context.now c.loop-node.context c.expanded_in.new.context c.loop-node.done.items c.push-in-Element.new.self.items nodes c.loop-node.node-iterator.rest.items c.next.new.self.rest.items
-          c.in-Element.tag c.in-Element.attrs c.in-Element.children c.in-Element.line c.loop-node.invariant.continues items (sym c.is_reference.ensures ∙ c.if-is_reference.false) (rw (c.within_element-within.ensures) at c.in_ok-children-in-Element.ensures.expanded.1) push;
-      remembers = c.in_ok-children-in-Element.ensures.remembers;
+          c.in-Element.tag c.in-Element.attrs c.in-Element.children c.in-Element.line c.loop-node.invariant.continues items (sym c.is_reference.ensures ∙ c.if-is_reference.false) (rw (c.within_element-within.ensures) at c.in_ok-inner-in-Element.ensures.expanded.1) push;
+      remembers = c.in_ok-inner-in-Element.ensures.remembers;
     }
 
 pub returns-clause-expanded : goal.returns-clause-expanded
