@@ -1,5 +1,5 @@
 -- The first line of a text that is too long, found character by character.
-use Rattle.std.proofs.Common.{◌≡◌, ℕ, zero, suc, ◌+◌, ◌-◌, ◌*◌, ◌/◌, ◌%◌, ◌<◌, ◌≤◌, ◌==◌, nat_lt, Bool, true, false, cond, if◌then◌else◌, ◌&&◌, ◌||◌, not, List, [], ◌∷◌, ◌++◌, length, length-append, get_or, take, drop, map, replicate, refl, sym, ap, ◌∙◌, subst, arith, append-nil, Option, option_map, None, Some}
+use Rattle.std.proofs.Common.{◌≡◌, ℕ, zero, suc, ◌+◌, ◌-◌, ◌*◌, ◌/◌, ◌%◌, ◌<◌, ◌≤◌, ◌==◌, nat_lt, Bool, true, false, cond, if◌then◌else◌, ◌&&◌, ◌||◌, not, List, [], ◌∷◌, ◌++◌, length, length-append, length-take, get_or, take, drop, map, replicate, refl, sym, ap, add-one, ◌∙◌, subst, arith, append-nil, Option, option_map, None, Some}
 use Rattle.std.specs.Char.{is_whitespace}
 use Rattle.std.specs.List.{find, onto_first}
 use Rattle.std.specs.Bool.{MatchBool}
@@ -8,9 +8,11 @@ use Rattle.std.specs.Str.Pattern.{FindsCharPrefix}
 use Rattle.std.proofs.Math.Utf8.{encode, encodes}
 use Rattle.std.proofs.lemmas.Bool.{eqb-true, le-ltb}
 use Rattle.std.proofs.Math.Nat.{div-mul-le_self, suc-mul, zero-mul}
-use Rattle.std.proofs.Math.Seq.{take-append_seam, drop-append-add, get_or-append_seam}
+use Rattle.std.proofs.Math.Seq.{split_at, take-append_seam, drop-append-add, get_or-append_seam}
+use Rattle.std.proofs.lemmas.List.{get_or-take, take_rest}
 use Rattle.std.proofs.lemmas.Nat.{mul-le}
 use Rattle.std.proofs.lemmas.Str.{chars-append, chars_past_char, encodes-chars, IsUtf8-take, IsUtf8-drop, IsCharBoundary-before_ascii, IsCharBoundary-after_ascii}
+use Rattle.memchr.specs.Find.{IsLastByte, is_byte}
 use Rattle.rst_text.specs.Block.{Line}
 use Rattle.rst_text.specs.Lines.{begins_with, first_longer, is_line_end, lines_of, numbered_from, pieces, shown, tidied}
 use Rattle.rst_text.proofs.LinesLemmas.{length-chars}
@@ -263,6 +265,17 @@ left-line limit tab text rest front after left split wide small =
       utf8 = parts.1;
       shorter = omega (arith, left.shorter, ap length split ∙ length-append front (10 ∷ after));
     }
+
+-- past the last line feed of a window that is no longer than a short line with its line feed
+pub left-window : (limit tab size at : ℕ) (text rest : List ℕ) → IsLeft limit tab text rest → IsLastByte (is_byte 10) (take size rest) (Some at) → 0 < tab
+    → size ≤ limit / tab + 1 → IsLeft limit tab text (take (length rest - (at + 1)) (drop (at + 1) rest))
+left-window limit tab size at text rest left found wide small =
+    let high : at < length (take size rest) = found.0.high in
+    let within : at < size = omega (arith, length-take size rest) in
+    let inside : at < length rest = omega (arith, length-take size rest) in
+    let feed : get_or rest at 0 ≡ 10 = sym (get_or-take size rest at 0 within) ∙ eqb-true (get_or (take size rest) at 0) 10 found.1 in
+    let split : rest ≡ take at rest ++ 10 ∷ drop (at + 1) rest = rw add-one (split_at rest at 0 inside ∙ ap (λ b. take at rest ++ b ∷ drop (suc at) rest) feed) in
+    subst (IsLeft limit tab text) (sym (take_rest rest (at + 1))) (left-line limit tab text rest (take at rest) (drop (at + 1) rest) left split wide (omega (arith, length-take at rest)))
 
 -- nothing but a short line is left
 pub left-end : (limit tab : ℕ) (text rest : List ℕ) → IsLeft limit tab text rest → 0 < tab → length rest ≤ limit / tab → first_longer limit (lines_of tab (chars text)) ≡ None

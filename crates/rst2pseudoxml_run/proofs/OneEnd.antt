@@ -45,7 +45,7 @@ module _ (profile : Profile) (settings : Settings) (source text : List ℕ) wher
 
   shown : (input out err : Stream) (bytes : List ℕ) (end : End) → input.before ≡ Some text → Consumes input.before input.after bytes → is_own end ≡ true → Ends (Answers profile settings source bytes) input out err end → Shown out err end
   shown input out err bytes (Done status) e h own ends =
-      (Ok ends.1, of_all bytes (Ok ends.1) (all_handed input.before input.after text bytes e h ends.0.0) ends.2, (ap Done ends.3, ends.5.0, ends.4.0))
+      (Ok ends.1, of_all bytes (Ok ends.1) (all_handed input.before input.after text bytes e h ends.0.0) ends.2, (ap Done ends.3.0, ends.3.2.0, ends.3.1.0))
   shown input out err bytes (NotUtf8 at) e h own ends =
       (Err (NotUtf8 at), of_all bytes (Err (NotUtf8 at)) (all_handed input.before input.after text bytes e h ends.0.0) ends.1, (refl, gains_nothing out.before out.after ends.2, gains_nothing err.before err.after ends.3))
   shown input out err bytes (TooDeep line) e h own ends =

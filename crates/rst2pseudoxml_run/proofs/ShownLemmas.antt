@@ -13,9 +13,9 @@ use Rattle.rst2pseudoxml_run.specs.Shown.{Parts, Answers, parts_of}
 -- the end of a run over bytes to which some parts are the answer
 ends_shown : (Answer : Result Parts End → Type 0) (parts : Parts) (input out err : Stream) (end : End)
     → IsReadOut input → Answer (Ok parts) → Shows parts out err end → Ends Answer input out err end
-ends_shown Answer parts input out err (Done status) read answer (e, x, y) = (read, parts, answer, e, x, y)
-ends_shown Answer parts input out err (WriteErr done) read answer (x, y) = (read, parts, answer, x, y)
-ends_shown Answer parts input out err (WriteOut done) read answer (x, y) = (read, parts, answer, x, y)
+ends_shown Answer parts input out err (Done status) read answer shows = (read, parts, answer, shows)
+ends_shown Answer parts input out err (WriteErr done) read answer shows = (read, parts, answer, shows)
+ends_shown Answer parts input out err (WriteOut done) read answer shows = (read, parts, answer, shows)
 ends_shown Answer parts input out err NoMemory read answer shows = shows
 ends_shown Answer parts input out err Read read answer shows = absurd shows
 ends_shown Answer parts input out err TooLong read answer shows = absurd shows

@@ -1,5 +1,5 @@
--- Lines in which program code may be called: by `code` or `code-block` directly before two colons, or before a space and two colons. Each of the
--- names of the directive ends in one of the two (Directives, 'Code').
+-- Lines in which program code may be called: by `code` or `code-block` directly before two colons, or before a space and two colons. Each
+-- of the names of the directive ends in one of the two (Directives, 'Code').
 use Rattle.std.specs.Prelude.{◌≡◌, ℕ, Bool, false, ◌&&◌, ◌||◌, ◌==◌, List, [], ◌∷◌, drop, codes}
 use Rattle.std.specs.Char.{to_ascii_lowercase}
 use Rattle.std.specs.List.{AllByRecursion}

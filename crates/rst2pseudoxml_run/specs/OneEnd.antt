@@ -34,5 +34,8 @@ pub record EndAlike (out err also_out also_err : Stream) (end also : End) : Type
 
 abbrev pub HasOneEnd : Type 0
 HasOneEnd =
-    (profile : Profile) (settings : Settings) (source text : List ℕ) (input out err also_input also_out also_err : Stream) (end also : End)
-    → Comes profile settings source text input out err end → Comes profile settings source text also_input also_out also_err also → EndAlike out err also_out also_err end also
+    (profile : Profile) (settings : Settings) (source text : List ℕ)
+    (input out err also_input also_out also_err : Stream) (end also : End)
+    → Comes profile settings source text input out err end
+    → Comes profile settings source text also_input also_out also_err also
+    → EndAlike out err also_out also_err end also

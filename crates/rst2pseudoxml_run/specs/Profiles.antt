@@ -1,5 +1,5 @@
--- The profile that the program ran under at first, and the documents that are the same under the present one. No rule of markup: it is what the law
--- that says so speaks of.
+-- The profile that the program ran under at first, and the documents that are the same under the present one. No rule of markup: it is
+-- what the law that says so speaks of.
 use Rattle.std.specs.Prelude.{◌≡◌, ◌⊎◌, ◌↔◌, ℕ, false, List, Option, None, Some, Result, Ok, Err}
 use Rattle.rst_settings.specs.Profile.{Profile, profile_of}
 use Rattle.rst_settings.specs.declared.Settings.{Settings}
@@ -50,7 +50,8 @@ list_of document = leading_list (nodes_of document.children)
 -- there is none in the document that is read of a text, after its title
 abbrev pub HasNoList : Profile → Settings → Option (List ℕ) → Type 0
 HasNoList profile settings text =
-    (document : Node) (messages : ℕ) (titled : State) → IsReadOf profile settings text (Ok (document, messages)) → IsTitledOf messages settings document titled
+    (document : Node) (messages : ℕ) (titled : State)
+    → IsReadOf profile settings text (Ok (document, messages)) → IsTitledOf messages settings document titled
     → list_of titled.document ≡ None
 
 -- no block is nested too deeply: that isn't the answer under a profile
@@ -59,11 +60,16 @@ NestsWithin profile settings source bytes = (line : ℕ) → Answers profile set
 
 -- two profiles have the same answer
 abbrev pub AnswerAlike : Profile → Profile → Settings → List ℕ → List ℕ → Type 0
-AnswerAlike first later settings source bytes = (answer : Result Parts End) → Answers first settings source bytes answer ↔ Answers later settings source bytes answer
+AnswerAlike first later settings source bytes =
+    (answer : Result Parts End) → Answers first settings source bytes answer ↔ Answers later settings source bytes answer
 
--- The first profile and the present one have the same answer where lines may have 10,000 characters, no line calls program code, no block is nested too
--- deeply for the first one, and bibliographic fields aren't looked for or no field list leads the document.
+-- The first profile and the present one have the same answer where lines may have 10,000 characters, no line calls program code, no block
+-- is nested too deeply for the first one, and bibliographic fields aren't looked for or no field list leads the document.
 abbrev pub ProfilesAgree : Type 0
 ProfilesAgree =
-    (settings : Settings) (source bytes : List ℕ) → settings.limit ≡ 10000 → CallsNoCode settings (text_of bytes) → NestsWithin first_profile settings source bytes
-    → (settings.info ≡ false) ⊎ HasNoList first_profile settings (text_of bytes) → AnswerAlike first_profile (profile_of settings) settings source bytes
+    (settings : Settings) (source bytes : List ℕ)
+    → settings.limit ≡ 10000
+    → CallsNoCode settings (text_of bytes)
+    → NestsWithin first_profile settings source bytes
+    → (settings.info ≡ false) ⊎ HasNoList first_profile settings (text_of bytes)
+    → AnswerAlike first_profile (profile_of settings) settings source bytes

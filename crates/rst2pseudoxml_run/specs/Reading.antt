@@ -34,8 +34,9 @@ long_message line = note_node (record { level = Error; line = line; text = long_
 abbrev pub long_document : ℕ → Node
 long_document line = Element Document [] (forest_of (long_message line ∷ [])) 0
 
--- What is read of the lines of a text where this one of them is too long, if one is: a document that says so and nothing else, or the document of the
--- lines; with it how many numbers the messages on its texts have. Or the number of the line at which blocks are nested too deeply.
+-- What is read of the lines of a text where this one of them is too long, if one is: a document that says so and nothing else, or the
+-- document of the lines; with it how many numbers the messages on its texts have. Or the number of the line at which blocks are nested
+-- too deeply.
 abbrev pub read_by : Option ℕ → Profile → Block → Result (Node × ℕ) ℕ
 read_by None profile lines = document profile lines 0
 read_by (Some line) profile lines = Ok (long_document line, 0)
@@ -64,11 +65,18 @@ abbrev pub Parses : Profile → Settings → List ℕ → Result Parsed End → 
 Parses profile settings bytes (Ok parsed) = IsReadOf profile settings (text_of bytes) (Ok (parsed.document, parsed.messages))
 Parses profile settings bytes (Err end) = Refuses profile settings bytes end
 
+-- a document and messages are left of the document that is read of a text
+abbrev pub IsLeftOf : Profile → Settings → Option (List ℕ) → Node → List Note → Type 0
+IsLeftOf profile settings text document notes =
+    (root : Node) × (messages : ℕ) × IsReadOf profile settings text (Ok (root, messages))
+    × Leaves messages profile settings root document notes
+
 -- the finished document of a text, and its messages with their highest level
 abbrev pub IsMade : Profile → Settings → Option (List ℕ) → Finished → Type 0
 IsMade profile settings text finished =
-    ((root : Node) × (messages : ℕ) × IsReadOf profile settings text (Ok (root, messages)) × Leaves messages profile settings root finished.document finished.notes.items)
-    × IsFinished settings finished.document finished.notes.items × (finished.highest ≡ highest_level finished.notes.items) × (finished.highest ≤ 4)
+    let notes = finished.notes.items in
+    IsLeftOf profile settings text finished.document notes × IsFinished settings finished.document notes
+    × (finished.highest ≡ highest_level notes) × (finished.highest ≤ 4)
 
 -- a document was made of the bytes, or they were refused, or memory ran out
 abbrev pub Reads : Profile → Settings → List ℕ → Result Finished End → Type 0

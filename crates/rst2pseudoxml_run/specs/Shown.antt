@@ -48,7 +48,8 @@ halting settings notes = if_reached settings (last_level notes)
 -- that a message halts the run
 abbrev pub exit_line : Option Level → List ℕ
 exit_line None = []
-exit_line (Some level) = codes "Exiting due to level-" ++ decimal (level_number level) ++ codes " (" ++ level_name level ++ codes ") system message.\n"
+exit_line (Some level) =
+    codes "Exiting due to level-" ++ decimal (level_number level) ++ codes " (" ++ level_name level ++ codes ") system message.\n"
 
 abbrev pub error_text : Settings → List ℕ → List Note → List ℕ
 error_text settings source notes = flat_map (message_of source) (filter (is_reported settings) notes) ++ exit_line (halting settings notes)
@@ -69,16 +70,26 @@ ended_by settings notes (Some level) = 1
 -- what is shown of a document and its messages, or of its messages alone where one halts the run
 abbrev pub parts_of : Settings → List ℕ → Node → List Note → Parts
 parts_of settings source document notes =
-    record { out = shown_by source document (halting settings notes); err = error_text settings source notes; status = ended_by settings notes (halting settings notes) }
+    let halts = halting settings notes in
+    record { out = shown_by source document halts; err = error_text settings source notes; status = ended_by settings notes halts }
 
 -- The answer to some bytes: what is shown of the finished document that was made of their text, and of its messages; or the
 -- refusal of what is too long, no UTF-8 or nested too deeply.
 abbrev pub Answers : Profile → Settings → List ℕ → List ℕ → Result Parts End → Type 0
-Answers profile settings source bytes (Ok parts) = (length bytes ≤ 16777216) × (finished : Finished) × IsMade profile settings (text_of bytes) finished × (parts ≡ parts_of settings source finished.document finished.notes.items)
+Answers profile settings source bytes (Ok parts) =
+    (length bytes ≤ 16777216) × (finished : Finished) × IsMade profile settings (text_of bytes) finished
+    × (parts ≡ parts_of settings source finished.document finished.notes.items)
 Answers profile settings source bytes (Err TooLong) = 16777216 < length bytes
 Answers profile settings source bytes (Err (NotUtf8 at)) = (length bytes ≤ 16777216) × (text_of bytes ≡ None) × (at ≡ utf8_valid_len bytes)
-Answers profile settings source bytes (Err (TooDeep line)) = (length bytes ≤ 16777216) × IsReadOf profile settings (text_of bytes) (Err line)
+Answers profile settings source bytes (Err (TooDeep line)) =
+    (length bytes ≤ 16777216) × IsReadOf profile settings (text_of bytes) (Err line)
 Answers profile settings source bytes (Err _) = ⊥
+
+-- that answer is one
+abbrev pub HasOneAnswer : Type 0
+HasOneAnswer =
+    (profile : Profile) (settings : Settings) (source bytes : List ℕ) (one other : Result Parts End)
+    → Answers profile settings source bytes one → Answers profile settings source bytes other → one ≡ other
 
 -- the text of the messages was made, or memory ran out
 abbrev pub MakesErrorText : {A : Type 0} → Settings → List ℕ → List Note → Result (Counted (Vec ℕ A)) End → Type 0

@@ -1,15 +1,11 @@
 //! Laws on the definitions, each by a function that does nothing and whose contract is the law.
-ghost use Rattle.std.specs.Prelude.{◌≡◌, ℕ, List, Result};
-ghost use Rattle.rst_settings.specs.Profile.{Profile};
-ghost use Rattle.rst_settings.specs.declared.Settings.{Settings};
-ghost use Rattle.rst2pseudoxml_run.specs.declared.end.End.{End};
 ghost use Rattle.rst2pseudoxml_run.specs.OneEnd.{HasOneEnd};
 ghost use Rattle.rst2pseudoxml_run.specs.Profiles.{ProfilesAgree};
-ghost use Rattle.rst2pseudoxml_run.specs.Shown.{Answers, Parts};
+ghost use Rattle.rst2pseudoxml_run.specs.Shown.{HasOneAnswer};
 
 /// The answer to some bytes is one: what is shown of them and the exit status, or why they are refused.
 pub fn one_answer()
-    ensures { (profile : Profile) (settings : Settings) (source bytes : List ℕ) (one other : Result Parts End) → Answers profile settings source bytes one → Answers profile settings source bytes other → one ≡ other }
+    ensures { HasOneAnswer }
 {}
 
 /// Runs whose readers hold the same bytes have one end, want of memory and failed reads and writes aside: they end alike, and their

@@ -3,6 +3,7 @@ ghost use Rattle.std.specs.Prelude.{◌≡◌, ◌≤◌, ◌==◌, ◌&&◌, No
 ghost use Rattle.std.specs.Str.{chars};
 ghost use Rattle.rst_text.specs.Lines.{begins_with, first_longer, lines_of};
 
+use memchr::memrchr;
 use rst_text::{is_line_end, is_white};
 
 /// The number of the first line of a text that has more than `limit` characters, its tabs expanded and the white ones at its end
@@ -21,20 +22,22 @@ pub fn first_longer(text: &str, tab: u8, limit: usize) -> Option<usize>
     }
 }
 
-/// Whether so few bytes stand between line feeds that no line is longer, though each were a tab. Most texts need no more.
+/// Whether so few bytes stand between line feeds that no line is longer, though each were a tab. Most texts need no more, and of those
+/// only what follows the last line feed of each window is looked at.
 fn has_short_lines(text: &str, tab: usize, limit: usize) -> bool
     requires { 1 ≤ tab }
     ensures { IsTrue result → first_longer limit (lines_of tab (chars text.now)) ≡ None }
 {
     let most = limit / tab;
-    let mut rest = text;
-    while let Some((front, after)) = rest.split_once('\n') {
-        if front.len() > most {
+    let mut rest = text.as_bytes();
+    while rest.len() > most {
+        // Lines that end in this window are short, so its last line feed is all that is asked for.
+        let Some(feed) = memrchr(b'\n', &rest[..most + 1]) else {
             return false;
-        }
-        rest = after;
+        };
+        rest = &rest[feed + 1..];
     }
-    rest.len() <= most
+    true
 }
 
 /// The number of the first longer line, found character by character.
