@@ -3,7 +3,7 @@
 # taken of `Lines` itself where blocks are read, only of a view with the count.
 set -euo pipefail
 cd -- "$(dirname -- "$0")/.."
-below=(rst_markup_lines rst_markup_blocks rst_markup_directives rst_markup_tables rst_block_nodes rst_block_sections)
+below=(rst_markup_lines rst_markup_blocks rst_markup_directives rst_markup_tables rst_block_nodes rst_block_sections rst_block_state rst_block_body rst_block_markup)
 
 sources() { # CRATE..: their code, without comments and tests
   local crate

@@ -72,13 +72,17 @@ class Edit:
     def __init__(self, path, crate):
         self.name = path.stem
         self.changes = [(file.relative_to(crate), old, new) for file, old, new in pairs(path)]
-        places = {self.place(crate, file, old) for file, old, _ in self.changes}
-        self.function = places.pop() if len(places) == 1 else None
+        functions = self.functions(crate)
+        self.function = functions.pop() if len(functions) == 1 else None
 
-    @staticmethod
-    def place(crate, file, old):
-        text = (crate / file).read_text(encoding="utf-8")
-        return function_at(text, text.find(old)) if file.suffix == ".rt" else None
+    def functions(self, crate):
+        """The names of the functions that the changes are in, each made in what those before it left; None for no function."""
+        texts, names = {}, set()
+        for file, old, new in self.changes:
+            text = texts.get(file) or (crate / file).read_text(encoding="utf-8")
+            names.add(function_at(text, text.find(old)) if file.suffix == ".rt" else None)
+            texts[file] = text.replace(old, new)
+        return names
 
     def make(self, folder):
         """Makes the edit in a copy, if each of its texts stands there once."""

@@ -2,16 +2,13 @@
 use Rattle.std.proofs.Common.{◌≡◌, ℕ, zero, suc, Bool, true, false, ◌&&◌, ◌||◌, ◌==◌, eqb, List, [], ◌∷◌, ◌++◌, map, take, drop, codes, refl, sym, ap, ◌∙◌, ◌-◌, ◌≤◌, arith, true≢false, bytes_eq, cond, find, option_map, take-append-drop, Some, if◌then◌else◌}
 use Rattle.std.proofs.lemmas.List.{drop-drop}
 use Rattle.std.specs.Char.{to_ascii_lowercase}
-use Rattle.std.specs.Result.{result_map_both}
 use Rattle.rst_text.specs.Block.{Block, front_text}
 use Rattle.rst_markup_lines.specs.Front.{begins_with}
 use Rattle.rst_markup_blocks.specs.declared.forms.Invocation.{Invocation}
 use Rattle.rst_markup_directives.specs.Call.{name_text}
 use Rattle.rst_markup_directives.specs.Characters.{Text, is_word, lookup}
-use Rattle.rst_markup_directives.specs.Directive.{directive_at, judged, lines_at, outcome_at, read_at}
-use Rattle.rst_markup_directives.specs.Judgement.{permitted}
+use Rattle.rst_markup_directives.specs.Directive.{directive_at, directive_of}
 use Rattle.rst_markup_directives.specs.Name.{admonition_of, admonitions, code_directives, directive_named, directives, is_code}
-use Rattle.rst_markup_directives.specs.Wrong.{and_then, fault_in}
 use Rattle.rst_markup_directives.specs.declared.found.Place.{Place}
 use Rattle.rst_markup_directives.specs.declared.name.Name.TheVariants.{Code}
 use Rattle.rst_markup_directives.proofs.Tables.{code_or_admonition}
@@ -212,10 +209,8 @@ other_name B at call called free = by (is_code (name_text B at call)) refl
 
 with_and_without : (B : Block) (at : ℕ) (call : Invocation) (place : Place) (paragraph : Bool) → IsCalledIn (front_text (drop at B)) call
     → holds_code (front_text (drop at B)) ≡ false → directive_at true B at call place paragraph ≡ directive_at false B at call place paragraph
-unfolding directive_at
 with_and_without B at call place paragraph called free =
-    ap (λ name. outcome_at (lines_at at call.block) (and_then (judged place paragraph) (and_then (read_at B at call.block) (result_map_both (λ name. name) fault_in (permitted name place)))))
-    (named_alike (name_text B at call) (other_name B at call called free))
+    ap (λ name. directive_of name B at call.block place paragraph) (named_alike (name_text B at call) (other_name B at call called free))
 
 -- where no call of program code is in the line, a directive is the same whether there is one for program code
 pub directive_alike : (a b : Bool) (B : Block) (at : ℕ) (call : Invocation) (place : Place) (paragraph : Bool) → IsCalledIn (front_text (drop at B)) call

@@ -15,12 +15,12 @@ use Rattle.rst_markup_directives.specs.declared.found.Content.{Content}
 use Rattle.rst_markup_directives.specs.declared.found.Place.TheVariants.{Top, Body, Substitution as InDefinition}
 use Rattle.rst_markup_directives.specs.declared.name.Name.{Name}
 use Rattle.rst_markup_directives.specs.declared.name.Name.TheVariants.{Figure, Code}
-use Rattle.rst_block.specs.Constructs.{Construct, block_quote, item_of_list, grid, simple, explicit_markup}
-use Rattle.rst_block.specs.Directives.{called}
-use Rattle.rst_block.specs.Inside.{cells_by, content_blocks, definition_blocks, definition_content, directive_blocks, directive_content, markup_blocks, opened_by, part_of_item, quoted, quoted_by}
-use Rattle.rst_block.specs.Quotes.{first_attribution, quote_after}
-use Rattle.rst_block.specs.Texts.{lines_in}
-use Rattle.rst_block.specs.Within.{Within, indented_part}
+use Rattle.rst_block_state.specs.Constructs.{Construct, block_quote, item_of_list, grid, simple, explicit_markup}
+use Rattle.rst_block_state.specs.Directives.{called}
+use Rattle.rst_block_state.specs.Inside.{cells_by, content_blocks, definition_blocks, definition_content, directive_blocks, directive_content, markup_blocks, opened_by, part_of_item, quoted, quoted_by}
+use Rattle.rst_block_state.specs.Quotes.{first_attribution, quote_after}
+use Rattle.rst_block_state.specs.Texts.{lines_in}
+use Rattle.rst_block_state.specs.Within.{Within, indented_part}
 use Rattle.rst2pseudoxml_run.specs.CodeCalls.{IsWithoutCode}
 use Rattle.rst2pseudoxml_run.proofs.ProfilesCells.{IsLineFree, grid_cells_free, simple_cells_free}
 use Rattle.rst2pseudoxml_run.proofs.ProfilesCode.{drop_free}

@@ -8,15 +8,15 @@ use Rattle.rst_tree.specs.declared.node.Node.{Node}
 use Rattle.rst_markup_blocks.specs.Partition.{Span, spans_from, construct_size}
 use Rattle.rst_block_nodes.specs.LineBlocks.{IndentedLine, LinePart, level_line, deeper_lines, least_indent, parts_of, part_node, line_block}
 use Rattle.rst_block_sections.specs.Sections.{document_of}
-use Rattle.rst_block.specs.Constructs.{Construct, nothing, block_quote, item_of_list, doctest_block, bar_line, grid, simple, explicit_markup, transition, overlined_title, misplaced_lines, underlined_title, paragraph, Found, found_at}
+use Rattle.rst_block_state.specs.Constructs.{Construct, nothing, block_quote, item_of_list, doctest_block, bar_line, grid, simple, explicit_markup, transition, overlined_title, misplaced_lines, underlined_title, paragraph, Found, found_at}
 use Rattle.rst_block.specs.Documents.{document}
-use Rattle.rst_block.specs.Joins.{runs_of, joining_of, joining_after}
-use Rattle.rst_block.specs.LineRuns.{indented_lines}
-use Rattle.rst_block.specs.Nodes.{nodes_among, piece_of, whole_by, ended, run_items, block_items, below_last_level, inner_nodes}
-use Rattle.rst_block.specs.Numbered.{Numbered, then_read, just, each, flat_each}
-use Rattle.rst_block.specs.Runs.{Run, members, runs}
-use Rattle.rst_block.specs.Titles.{Item}
-use Rattle.rst_block.specs.Within.{Within}
+use Rattle.rst_block_state.specs.Joins.{runs_of, joining_of, joining_after}
+use Rattle.rst_block_state.specs.LineRuns.{indented_lines}
+use Rattle.rst_block_state.specs.Nodes.{nodes_among, piece_of, whole_by, ended, run_items, block_items, below_last_level, inner_nodes}
+use Rattle.rst_block_state.specs.Numbered.{Numbered, then_read, just, each, flat_each}
+use Rattle.rst_block_state.specs.Runs.{Run, members, runs}
+use Rattle.rst_block_state.specs.Titles.{Item}
+use Rattle.rst_block_state.specs.Within.{Within}
 use Rattle.rst2pseudoxml_run.proofs.ProfilesNeeds.{CallsAgreeUnder, OpenedKeep, CellsKeep}
 use Rattle.rst2pseudoxml_run.proofs.ProfilesReads.{Again, again, then_again, same_again, each_again, flat_again, ReadAgain, piece_again}
 use Rattle.std.specs.List.{AllByRecursion}

@@ -9,9 +9,9 @@ use Rattle.rst_markup_blocks.specs.declared.forms.Explicit.TheVariants.{Substitu
 use Rattle.rst_markup_blocks.specs.declared.forms.Invocation.{Invocation}
 use Rattle.rst_markup_directives.specs.Directive.{directive_at}
 use Rattle.rst_markup_directives.specs.declared.found.Place.{Place}
-use Rattle.rst_block.specs.Constructs.{Found}
-use Rattle.rst_block.specs.Inside.{opened_of, cells_with}
-use Rattle.rst_block.specs.Within.{Within}
+use Rattle.rst_block_state.specs.Constructs.{Found}
+use Rattle.rst_block_state.specs.Inside.{opened_of, cells_with}
+use Rattle.rst_block_state.specs.Within.{Within}
 
 -- a directive means the same whether `code` is one
 abbrev pub AgreesAt : Block → ℕ → Invocation → Type 0

@@ -28,19 +28,19 @@ use Rattle.rst_markup_tables.specs.declared.results.TableResult.{TableResult}
 use Rattle.rst_markup_tables.specs.declared.results.TableResult.TheVariants.{Table, Malformed}
 use Rattle.rst_block_nodes.specs.Options.{directive_element}
 use Rattle.rst_block_sections.specs.Sections.{filled}
-use Rattle.rst_block.specs.Constructs.{ItemMark, bullet_item, enumerated_item, definition_item, field_item, option_item, Construct, nothing, block_quote, item_of_list, doctest_block, bar_line, grid, simple, explicit_markup, transition, overlined_title, misplaced_lines, underlined_title, paragraph, Found}
-use Rattle.rst_block.specs.Directives.{content_nodes, called, titled_element, right_by, directive_by, definition_by, holding}
-use Rattle.rst_block.specs.Inside.{quoted_by, quoted, part_of_item, content_blocks, directive_content, directive_blocks, definition_content, definition_blocks, markup_blocks, opened_by, opened_of, cell_blocks, cells_by, cells_with}
-use Rattle.rst_block.specs.LineRuns.{number_or}
-use Rattle.rst_block.specs.Lists.{item_by, item_with}
-use Rattle.rst_block.specs.Markup.{markup_by}
-use Rattle.rst_block.specs.Nodes.{piece_by, piece_of, plainly}
-use Rattle.rst_block.specs.Numbered.{Numbered, then_read, ◌>>=◌, just, each, flat_each}
-use Rattle.rst_block.specs.Paragraphs.{is_single_paragraph}
-use Rattle.rst_block.specs.Quotes.{first_attribution, quote_after, quote_node, quotes_by, quotes}
-use Rattle.rst_block.specs.Tables.{entry_of, row_of, table_nodes}
-use Rattle.rst_block.specs.Texts.{joined, lines_in, texted, termed}
-use Rattle.rst_block.specs.Within.{Within, hanging, indented_part}
+use Rattle.rst_block_state.specs.Constructs.{ItemMark, bullet_item, enumerated_item, definition_item, field_item, option_item, Construct, nothing, block_quote, item_of_list, doctest_block, bar_line, grid, simple, explicit_markup, transition, overlined_title, misplaced_lines, underlined_title, paragraph, Found}
+use Rattle.rst_block_state.specs.Directives.{content_nodes, called, titled_element, right_by, directive_by, definition_by, holding}
+use Rattle.rst_block_state.specs.Inside.{quoted_by, quoted, part_of_item, content_blocks, directive_content, directive_blocks, definition_content, definition_blocks, markup_blocks, opened_by, opened_of, cell_blocks, cells_by, cells_with}
+use Rattle.rst_block_state.specs.LineRuns.{number_or}
+use Rattle.rst_block_state.specs.Lists.{item_by, item_with}
+use Rattle.rst_block_state.specs.Markup.{markup_by}
+use Rattle.rst_block_state.specs.Nodes.{piece_by, piece_of, plainly}
+use Rattle.rst_block_state.specs.Numbered.{Numbered, then_read, ◌>>=◌, just, each, flat_each}
+use Rattle.rst_block_state.specs.Paragraphs.{is_single_paragraph}
+use Rattle.rst_block_state.specs.Quotes.{first_attribution, quote_after, quote_node, quotes_by, quotes}
+use Rattle.rst_block_state.specs.Tables.{entry_of, row_of, table_nodes}
+use Rattle.rst_block_state.specs.Texts.{joined, lines_in, texted, termed}
+use Rattle.rst_block_state.specs.Within.{Within, hanging, indented_part}
 use Rattle.rst2pseudoxml_run.proofs.ProfilesNeeds.{AgreesAt, CallsAgree}
 
 -- what was read is read again; of what was refused nothing is said

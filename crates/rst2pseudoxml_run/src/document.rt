@@ -13,7 +13,6 @@ use rst_settings::Settings;
 use rst_text::{Lines, TextFault, text_in};
 use rst_transform::{Finished, finish};
 use rst_tree::{Attrs, Children, Level, Node, Tag, TreeFault};
-use rst_tree_index::Marked;
 use std::alloc::{AllocError, Global};
 
 /// The finished document of the bytes, or why they are refused.
@@ -83,9 +82,5 @@ fn long_line(alloc: Global, line: usize) -> Result<Parsed, TreeFault>
         children,
         line: 0,
     };
-    Ok(Parsed {
-        document: Marked::of(alloc, root)?,
-        messages: 0,
-        looks: 0,
-    })
+    Parsed::of(alloc, root)
 }

@@ -3,10 +3,10 @@ use Rattle.std.proofs.Common.{◌≡◌, ℕ, zero, suc, ◌+◌, ◌*◌, ◌�
 use Rattle.std.specs.List.{AllByRecursion}
 use Rattle.std.proofs.lemmas.Bool.{and_parts}
 use Rattle.rst_text.specs.Block.{Block, is_blank}
-use Rattle.rst_block.specs.Budget.{unread, is_bare, sum_of, filled_sum, deepest_of, depth, cells_budget, budget, floor, total}
-use Rattle.rst_block.specs.BudgetLaws.{is_trimmed, IsFronted, BlocksAreInside, CellsAreTrimmed}
-use Rattle.rst_block.specs.Inside.{inside, cells}
-use Rattle.rst_block.specs.Within.{Within}
+use Rattle.rst_block_state.specs.Budget.{unread, is_bare, sum_of, filled_sum, deepest_of, depth, cells_budget, budget, floor, total}
+use Rattle.rst_block_state.specs.BudgetLaws.{is_trimmed, IsFronted, BlocksAreInside, CellsAreTrimmed}
+use Rattle.rst_block_state.specs.Inside.{inside, cells}
+use Rattle.rst_block_state.specs.Within.{Within}
 
 mul_le : (n m d e : ℕ) → n ≤ m → d ≤ e → n * d ≤ m * e
 mul_le n m d e h k = grind arith

@@ -14,12 +14,12 @@ use Rattle.rst_markup_tables.specs.SimpleTable.{simple_rows, row_spans, lines_of
 use Rattle.rst_markup_tables.specs.Tiling.{tiling_of, grid_by, grid_table}
 use Rattle.rst_markup_tables.specs.declared.results.Cell.{Cell}
 use Rattle.rst_markup_tables.specs.declared.results.TableDetail.{TableDetail}
-use Rattle.rst_block.specs.BudgetLaws.{is_trimmed}
-use Rattle.rst_block.specs.Constructs.{Construct, grid, simple, Found}
-use Rattle.rst_block.specs.Inside.{cell_blocks, cells_by, cells_with, cells}
-use Rattle.rst_block.specs.Rest.{found_from}
-use Rattle.rst_block.specs.Within.{Within}
-use Rattle.rst_block.proofs.PartFacts.{trimmed_shorten}
+use Rattle.rst_block_state.specs.BudgetLaws.{is_trimmed}
+use Rattle.rst_block_state.specs.Constructs.{Construct, grid, simple, Found}
+use Rattle.rst_block_state.specs.Inside.{cell_blocks, cells_by, cells_with, cells}
+use Rattle.rst_block_state.specs.Rest.{found_from}
+use Rattle.rst_block_state.specs.Within.{Within}
+use Rattle.rst_block_state.proofs.PartFacts.{trimmed_shorten}
 
 abbrev pub AreTrimmed : List Block → Type 0
 AreTrimmed Cs = AllByRecursion (λ C. is_trimmed C ≡ true) Cs

@@ -8,23 +8,23 @@ use Rattle.rst_markup_tables.specs.declared.results.TableResult.{TableResult}
 use Rattle.rst_markup_tables.specs.declared.results.TableResult.TheVariants.{Table}
 use Rattle.rst_block_nodes.specs.Elements.{element_of, entry_node}
 use Rattle.rst_block_sections.specs.Sections.{filled}
-use Rattle.rst_block.specs.Constructs.{grid}
-use Rattle.rst_block.specs.Joins.{alone_ending}
-use Rattle.rst_block.specs.Meanings.{Keeps, comes, deepest, done_of, reads, reads_from, text_items, text_with, within_at}
-use Rattle.rst_block.specs.Nodes.{below_last_level, block_items, ending_notes, inner_nodes, nodes_among}
-use Rattle.rst_block.specs.Numbered.{Numbered, then_read, ◌>>=◌, just, each}
-use Rattle.rst_block.specs.OpenBlocks.{IsMoved, HasMore, IsPlaced}
-use Rattle.rst_block.specs.Tables.{entry_of, row_of, table_node}
-use Rattle.rst_block.specs.Titles.{Item, plain}
-use Rattle.rst_block.specs.declared.fault.BlockFault.{BlockFault}
-use Rattle.rst_block.specs.declared.fault.BlockFault.TheVariants.{TooDeep, NoMemory}
-use Rattle.rst_block.specs.declared.open_block.OpenBlock.{OpenBlock}
-use Rattle.rst_block.specs.declared.step.Step.TheVariants.{Cells}
-use Rattle.rst_block.proofs.Changes.{more_more, moved_more, more_is_read}
+use Rattle.rst_block_state.specs.Constructs.{grid}
+use Rattle.rst_block_state.specs.Joins.{alone_ending}
+use Rattle.rst_block_state.specs.Meanings.{Keeps, comes, deepest, done_of, reads, reads_from, text_items, text_with, within_at}
+use Rattle.rst_block_state.specs.Nodes.{below_last_level, block_items, ending_notes, inner_nodes, nodes_among}
+use Rattle.rst_block_state.specs.Numbered.{Numbered, then_read, ◌>>=◌, just, each}
+use Rattle.rst_block_state.specs.OpenBlocks.{IsMoved, HasMore, IsPlaced}
+use Rattle.rst_block_state.specs.Tables.{entry_of, row_of, table_node}
+use Rattle.rst_block_state.specs.Titles.{Item, plain}
+use Rattle.rst_block_state.specs.declared.fault.BlockFault.{BlockFault}
+use Rattle.rst_block_state.specs.declared.fault.BlockFault.TheVariants.{TooDeep, NoMemory}
+use Rattle.rst_block_state.specs.declared.open_block.OpenBlock.{OpenBlock}
+use Rattle.rst_block_state.specs.declared.step.Step.TheVariants.{Cells}
+use Rattle.rst_block_state.proofs.Changes.{more_more, moved_more, more_is_read}
 use Rattle.rst_block.proofs.LastLevel.{last_level}
-use Rattle.rst_block.proofs.MeaningLemmas.{within_is, inner_is}
-use Rattle.rst_block.proofs.NumberedLemmas.{same_after, after_after, then_just, at_number}
-use Rattle.rst_block.proofs.RestLemmas.{nodes_among_plain}
+use Rattle.rst_block_state.proofs.MeaningLemmas.{within_is, inner_is}
+use Rattle.rst_block_state.proofs.NumberedLemmas.{same_after, after_after, then_just, at_number}
+use Rattle.rst_block_state.proofs.RestLemmas.{nodes_among_plain}
 use Rattle.rst_block.proofs.Waiting.{among_done}
 
 -- ---- one thing after the other

@@ -9,19 +9,19 @@ use Rattle.rst_markup_blocks.specs.Lines.{lines_while}
 use Rattle.rst_markup_blocks.specs.Partition.{spans_from}
 use Rattle.rst_markup_blocks.specs.declared.lines.LineTest.TheVariants.{Blank}
 use Rattle.rst_markup_blocks.specs.declared.part.Part.{Part}
-use Rattle.rst_block.specs.MeaningLaws.{IsRefusedBelow, IsBlankPart, IsRefused}
-use Rattle.rst_block.specs.Meanings.{IsNew, Keeps, TellsBlank, after, comes, deepest, done_of, resumed, text_items, text_with, within_at}
-use Rattle.rst_block.specs.Nodes.{below_last_level, block_items, inner_nodes, plainly}
-use Rattle.rst_block.specs.Numbered.{then_read, just}
-use Rattle.rst_block.specs.Texts.{lines_in}
-use Rattle.rst_block.specs.Titles.{Item, plain}
-use Rattle.rst_block.specs.declared.fault.BlockFault.{BlockFault}
-use Rattle.rst_block.specs.declared.fault.BlockFault.TheVariants.{TooDeep, NoMemory}
-use Rattle.rst_block.specs.declared.open_block.OpenBlock.{OpenBlock}
-use Rattle.rst_block.specs.declared.resume.Waits.{Waits}
-use Rattle.rst_block.specs.declared.step.Step.{Step}
-use Rattle.rst_block.specs.declared.step.Step.TheVariants.{Open}
-use Rattle.rst_block.proofs.NumberedLemmas.{at_number}
+use Rattle.rst_block_state.specs.MeaningLaws.{IsRefusedBelow, IsBlankPart, IsRefused}
+use Rattle.rst_block_state.specs.Meanings.{IsNew, Keeps, TellsBlank, after, comes, deepest, done_of, resumed, text_items, text_with, within_at}
+use Rattle.rst_block_state.specs.Nodes.{below_last_level, block_items, inner_nodes, plainly}
+use Rattle.rst_block_state.specs.Numbered.{then_read, just}
+use Rattle.rst_block_state.specs.Texts.{lines_in}
+use Rattle.rst_block_state.specs.Titles.{Item, plain}
+use Rattle.rst_block_state.specs.declared.fault.BlockFault.{BlockFault}
+use Rattle.rst_block_state.specs.declared.fault.BlockFault.TheVariants.{TooDeep, NoMemory}
+use Rattle.rst_block_state.specs.declared.open_block.OpenBlock.{OpenBlock}
+use Rattle.rst_block_state.specs.declared.waits.Waits.{Waits}
+use Rattle.rst_block_state.specs.declared.step.Step.{Step}
+use Rattle.rst_block_state.specs.declared.step.Step.TheVariants.{Open}
+use Rattle.rst_block_state.proofs.NumberedLemmas.{at_number}
 
 blank_or_refused : (b : Bool) (l : Line) (ls : Block) (n : ℕ) → IsRefusedBelow (lines_while Blank ls) ls (below_last_level ls n) n
     → IsRefusedBelow (if b then suc (lines_while Blank ls) else 0) (l ∷ ls) ((if b then below_last_level ls else (λ number. Err l.number)) n) n

@@ -13,23 +13,23 @@ use Rattle.rst_markup_tables.specs.declared.results.Cell.{Cell}
 use Rattle.rst_markup_tables.specs.declared.results.TableResult.{TableResult}
 use Rattle.rst_markup_tables.specs.declared.results.TableResult.TheVariants.{Table}
 use Rattle.rst_tree.specs.declared.node.Node.{Node}
-use Rattle.rst_block.specs.Budget.{sum_of, total, IsWithinBounds}
-use Rattle.rst_block.specs.Inside.{cell_blocks}
-use Rattle.rst_block.specs.Ledger.{total_at, totals, most_from, least_from, run_looks, most_after, least_after, most_in, least_in, most_left, least_left, Takes, TakesFor}
-use Rattle.rst_block.specs.Meanings.{IsNew, deepest, open_of}
-use Rattle.rst_block.specs.OpenBlocks.{IsMoved, HasMore}
-use Rattle.rst_block.specs.Rest.{no_run}
-use Rattle.rst_block.specs.Texts.{lines_in}
-use Rattle.rst_block.specs.declared.frame.Frame.{Frame}
-use Rattle.rst_block.specs.declared.open_block.OpenBlock.{OpenBlock}
-use Rattle.rst_block.specs.declared.resume.Waits.{Waits}
-use Rattle.rst_block.specs.declared.run.Run.{Run}
-use Rattle.rst_block.specs.declared.run.Run.TheVariants.{None as NoRun, List as ListRun, Lines, Explicit}
-use Rattle.rst_block.specs.declared.step.Step.{Step}
-use Rattle.rst_block.specs.declared.step.Step.TheVariants.{Next, Open, Cells, Done}
+use Rattle.rst_block_state.specs.Budget.{sum_of, total, IsWithinBounds}
+use Rattle.rst_block_state.specs.Inside.{cell_blocks}
+use Rattle.rst_block_state.specs.Ledger.{total_at, totals, most_from, least_from, run_looks, most_after, least_after, most_in, least_in, most_left, least_left, Takes, TakesFor}
+use Rattle.rst_block_state.specs.Meanings.{IsNew, deepest, open_of}
+use Rattle.rst_block_state.specs.OpenBlocks.{IsMoved, HasMore}
+use Rattle.rst_block_state.specs.Rest.{no_run}
+use Rattle.rst_block_state.specs.Texts.{lines_in}
+use Rattle.rst_block_state.specs.declared.frame.Frame.{Frame}
+use Rattle.rst_block_state.specs.declared.open_block.OpenBlock.{OpenBlock}
+use Rattle.rst_block_state.specs.declared.waits.Waits.{Waits}
+use Rattle.rst_block_state.specs.declared.run.Run.{Run}
+use Rattle.rst_block_state.specs.declared.run.Run.TheVariants.{None as NoRun, List as ListRun, Lines, Explicit}
+use Rattle.rst_block_state.specs.declared.step.Step.{Step}
+use Rattle.rst_block_state.specs.declared.step.Step.TheVariants.{Next, Open, Cells, Done}
 use Rattle.rst_block.proofs.DocumentLooks.{empty_text, last_text, bounded}
-use Rattle.rst_block.proofs.LedgerLemmas.{begun, counted, opened, second_opened}
-use Rattle.rst_block.proofs.WaitingLooks.{cell_text, rows_cells, table_read}
+use Rattle.rst_block_state.proofs.LedgerLemmas.{begun, counted, opened, second_opened}
+use Rattle.rst_block_state.proofs.WaitingLooks.{cell_text, rows_cells, table_read}
 
 -- ---- some lines, one after another
 

@@ -28,14 +28,14 @@ use Rattle.rst_markup_blocks.specs.declared.forms.Invocation.{Invocation}
 use Rattle.rst_markup_blocks.specs.declared.part.Part.{Part}
 use Rattle.rst_markup_blocks.proofs.ExplicitLemmas.{explicit_ends, hanging_block}
 use Rattle.rst_markup_directives.specs.declared.found.Place.TheVariants.{Top, Body, Substitution as InDefinition}
-use Rattle.rst_block.specs.Budget.{sum_of}
-use Rattle.rst_block.specs.BudgetLaws.{is_trimmed, IsFronted, AreWithin}
-use Rattle.rst_block.specs.Inside.{substitution_blocks, markup_blocks}
-use Rattle.rst_block.specs.Texts.{lines_in}
-use Rattle.rst_block.specs.Within.{Within}
-use Rattle.rst_block.proofs.ContentFacts.{none_within, more_within, directive_within, held_within}
-use Rattle.rst_block.proofs.MarkFacts.{Tells, label_tells, directive_tells}
-use Rattle.rst_block.proofs.PartFacts.{hanging_fronted, hanging_from, hanging_le}
+use Rattle.rst_block_state.specs.Budget.{sum_of}
+use Rattle.rst_block_state.specs.BudgetLaws.{is_trimmed, IsFronted, AreWithin}
+use Rattle.rst_block_state.specs.Inside.{substitution_blocks, markup_blocks}
+use Rattle.rst_block_state.specs.Texts.{lines_in}
+use Rattle.rst_block_state.specs.Within.{Within}
+use Rattle.rst_block_markup.proofs.ContentFacts.{none_within, more_within, directive_within, held_within}
+use Rattle.rst_block_state.proofs.MarkFacts.{Tells, label_tells, directive_tells}
+use Rattle.rst_block_state.proofs.PartFacts.{hanging_fronted, hanging_from, hanging_le}
 
 -- ---- marks of forms
 

@@ -38,21 +38,21 @@ use Rattle.rst_markup_blocks.proofs.EndLemmas.{bullet_is, enumerator_is, size_de
 use Rattle.rst_markup_blocks.proofs.PartLemmas.{hanging_is}
 use Rattle.rst_markup_blocks.proofs.PartitionLemmas.{end_inside}
 use Rattle.rst_markup_blocks.proofs.RowLemmas.{row_of_kind}
-use Rattle.rst_block.specs.Budget.{sum_of}
-use Rattle.rst_block.specs.BudgetLaws.{is_trimmed, IsFronted, AreWithin}
-use Rattle.rst_block.specs.Constructs.{item_of_list, enumerated_item, field_item, option_item, bar_line, plain_text, text_after, text_by, adorned, adorned_by, construct_by}
-use Rattle.rst_block.specs.Inside.{quoted_by, quoted, quoted_blocks, opened_by, opened_of, inside_from, inside}
-use Rattle.rst_block.specs.Quotes.{first_attribution, quote_after}
-use Rattle.rst_block.specs.Rest.{found_in}
-use Rattle.rst_block.specs.Texts.{lines_in}
-use Rattle.rst_block.specs.Within.{Within, hanging, indented_part, item_part}
-use Rattle.rst_block.proofs.ContentFacts.{none_within, more_within}
-use Rattle.rst_block.proofs.MarkFacts.{Tells, bullet_tells, enumerator_tells, field_tells, option_tells}
-use Rattle.rst_block.proofs.MarkupReads.{no_dots}
+use Rattle.rst_block_state.specs.Budget.{sum_of}
+use Rattle.rst_block_state.specs.BudgetLaws.{is_trimmed, IsFronted, AreWithin}
+use Rattle.rst_block_state.specs.Constructs.{item_of_list, enumerated_item, field_item, option_item, bar_line, plain_text, text_after, text_by, adorned, adorned_by, construct_by}
+use Rattle.rst_block_state.specs.Inside.{quoted_by, quoted, quoted_blocks, opened_by, opened_of, inside_from, inside}
+use Rattle.rst_block_state.specs.Quotes.{first_attribution, quote_after}
+use Rattle.rst_block_state.specs.Rest.{found_in}
+use Rattle.rst_block_state.specs.Texts.{lines_in}
+use Rattle.rst_block_state.specs.Within.{Within, hanging, indented_part, item_part}
+use Rattle.rst_block_markup.proofs.ContentFacts.{none_within, more_within}
+use Rattle.rst_block_state.proofs.MarkFacts.{Tells, bullet_tells, enumerator_tells, field_tells, option_tells}
+use Rattle.rst_block_markup.proofs.MarkupReads.{no_dots}
 use Rattle.rst_block.proofs.MarkupFacts.{markup_within, anonymous_within}
-use Rattle.rst_block.proofs.PartFacts.{trimmed_drop, take_le, part_le, indented_fronted, take_fronted, blanks_fronted, hanging_fronted, hanging_le, item_fronted, item_le}
-use Rattle.rst_block.proofs.QuoteCounts.{attribution_within}
-use Rattle.rst_block.proofs.RestLemmas.{found_over, found_blank, found_text}
+use Rattle.rst_block_state.proofs.PartFacts.{trimmed_drop, take_le, part_le, indented_fronted, take_fronted, blanks_fronted, hanging_fronted, hanging_le, item_fronted, item_le}
+use Rattle.rst_block_state.proofs.QuoteCounts.{attribution_within}
+use Rattle.rst_block_state.proofs.RestLemmas.{found_over, found_blank, found_text}
 
 -- ---- some blocks
 

@@ -41,20 +41,20 @@ use Rattle.rst_markup_directives.specs.declared.name.Name.TheVariants.{Figure, C
 use Rattle.rst_markup_tables.specs.Laws.{GridCellsFit, SimpleCellsFit}
 use Rattle.rst_markup_tables.specs.Room.{widest, room_for, room, rooms}
 use Rattle.rst_markup_tables.proofs.Room.{wide_drop, widest_take, widest_drop, widest_shorten, rooms_append}
-use Rattle.rst_block.specs.Budget.{sum_of, total, unread}
-use Rattle.rst_block.specs.BudgetLaws.{is_trimmed}
-use Rattle.rst_block.specs.Constructs.{Construct, block_quote, item_of_list, enumerated_item, field_item, option_item, explicit_markup, bar_line, text_by, text_after, plain_text, adorned_by, adorned, bullet_with, construct_by}
-use Rattle.rst_block.specs.Directives.{called}
-use Rattle.rst_block.specs.Inside.{quoted_by, quoted, part_of_item, content_blocks, directive_content, directive_blocks, definition_content, definition_blocks, substitution_blocks, markup_blocks, opened_by, opened_of, cells_by, cells_with, inside_from, cells_from, inside, cells}
-use Rattle.rst_block.specs.Quotes.{first_attribution, quote_after}
-use Rattle.rst_block.specs.Rest.{found_in}
+use Rattle.rst_block_state.specs.Budget.{sum_of, total, unread}
+use Rattle.rst_block_state.specs.BudgetLaws.{is_trimmed}
+use Rattle.rst_block_state.specs.Constructs.{Construct, block_quote, item_of_list, enumerated_item, field_item, option_item, explicit_markup, bar_line, text_by, text_after, plain_text, adorned_by, adorned, bullet_with, construct_by}
+use Rattle.rst_block_state.specs.Directives.{called}
+use Rattle.rst_block_state.specs.Inside.{quoted_by, quoted, part_of_item, content_blocks, directive_content, directive_blocks, definition_content, definition_blocks, substitution_blocks, markup_blocks, opened_by, opened_of, cells_by, cells_with, inside_from, cells_from, inside, cells}
+use Rattle.rst_block_state.specs.Quotes.{first_attribution, quote_after}
+use Rattle.rst_block_state.specs.Rest.{found_in}
 use Rattle.rst_block.specs.RoomLaws.{BlocksFit, TotalFits}
-use Rattle.rst_block.specs.Texts.{lines_in}
-use Rattle.rst_block.specs.Within.{Within, indented_part}
+use Rattle.rst_block_state.specs.Texts.{lines_in}
+use Rattle.rst_block_state.specs.Within.{Within, indented_part}
 use Rattle.rst_block.proofs.BudgetLemmas.{trimmed}
 use Rattle.rst_block.proofs.CellFacts.{AreTrimmed, cells_trimmed}
 use Rattle.rst_block.proofs.OpenedFacts.{opened_within, blocks_inside}
-use Rattle.rst_block.proofs.RestLemmas.{found_over, found_blank, found_text}
+use Rattle.rst_block_state.proofs.RestLemmas.{found_over, found_blank, found_text}
 
 -- ---- how wide a part of a block is
 

@@ -4,11 +4,11 @@ use Rattle.std.proofs.lemmas.List.{drop-append-le, take-append-le, map-append, l
 use Rattle.rst_text.specs.Block.{Block}
 use Rattle.rst_text.specs.Shown.{placement_block}
 use Rattle.rst_markup_blocks.specs.declared.part.Part.{Part}
-use Rattle.rst_block.specs.Frames.{IsFrame, AreFrames, AreNested, IsNow, HasSecond}
-use Rattle.rst_block.specs.Steps.{IsTable, IsStep, IsNext, IsResumed}
-use Rattle.rst_block.specs.declared.frame.Frame.{Frame}
-use Rattle.rst_block.specs.declared.step.Step.{Step}
-use Rattle.rst_block.specs.declared.step.Step.TheVariants.{Next, Open, Cells, Done}
+use Rattle.rst_block_state.specs.Frames.{IsFrame, AreFrames, AreNested, IsNow, HasSecond}
+use Rattle.rst_block_state.specs.Steps.{IsTable, IsStep, IsNext, IsResumed}
+use Rattle.rst_block_state.specs.declared.frame.Frame.{Frame}
+use Rattle.rst_block_state.specs.declared.step.Step.{Step}
+use Rattle.rst_block_state.specs.declared.step.Step.TheVariants.{Next, Open, Cells, Done}
 use Rattle.rst_block.proofs.Work.{work, less, more, last}
 
 -- what is left in a block of n lines that goes on at a place, by what comes next

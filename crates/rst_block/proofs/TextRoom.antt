@@ -9,7 +9,7 @@ use Rattle.std.proofs.lemmas.Nat.{mul-le}
 use Rattle.rst_text.specs.Lines.{is_line_end, begins_with, pieces, shown, is_tab, padded, with_tabs, expanded, tidied, numbered_from, lines_of}
 use Rattle.rst_text.proofs.LineTexts.{are_lines-lines_of}
 use Rattle.rst_markup_tables.specs.Places.{places_of, is_double}
-use Rattle.rst_block.specs.Ledger.{total_at}
+use Rattle.rst_block_state.specs.Ledger.{total_at}
 use Rattle.rst_markup_tables.specs.Room.{widest, room}
 use Rattle.rst_markup_tables.proofs.GridRoom.{grid_cells_fit}
 use Rattle.rst_markup_tables.proofs.SimpleRoom.{simple_cells_fit}

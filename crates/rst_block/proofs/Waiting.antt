@@ -9,25 +9,25 @@ use Rattle.rst_tree.specs.declared.node.Node.{Node}
 use Rattle.rst_markup_blocks.specs.declared.part.Part.{Part}
 use Rattle.rst_block_sections.specs.declared.heading.Heading.{Heading}
 use Rattle.rst_block_sections.specs.Sections.{items_from, title_of}
-use Rattle.rst_block.specs.Frames.{ended_as}
-use Rattle.rst_block.specs.Meanings.{IsNew, Keeps, after, comes, deepest, done_of, open_of, plug, reads, reads_from, resumed, with_item, within_at}
-use Rattle.rst_block.specs.Nodes.{block_items, node_if, nodes_among}
-use Rattle.rst_block.specs.Numbered.{Numbered, ◌>>=◌, just}
-use Rattle.rst_block.specs.OpenBlocks.{HasMore, HasItem, IsPlaced}
-use Rattle.rst_block.specs.Texts.{lines_in}
-use Rattle.rst_block.specs.Titles.{Item, plain, titled}
-use Rattle.rst_block.specs.declared.fault.BlockFault.{BlockFault}
-use Rattle.rst_block.specs.declared.fault.BlockFault.TheVariants.{TooDeep, NoMemory}
-use Rattle.rst_block.specs.declared.frame.Ended.TheVariants.{Waiting, GoesOn}
-use Rattle.rst_block.specs.declared.frame.Frame.{Frame}
-use Rattle.rst_block.specs.declared.open_block.OpenBlock.{OpenBlock}
-use Rattle.rst_block.specs.declared.resume.Waits.{Waits}
-use Rattle.rst_block.specs.declared.step.Step.{Step}
-use Rattle.rst_block.specs.declared.step.Step.TheVariants.{Open}
-use Rattle.rst_block.proofs.Changes.{more_is_read, item_is_read}
-use Rattle.rst_block.proofs.MeaningLemmas.{part_means, done_means, plug_none, plug_same, plug_refused, reads_all}
-use Rattle.rst_block.proofs.NumberedLemmas.{at_number}
-use Rattle.rst_block.proofs.RestLemmas.{nodes_among_plain}
+use Rattle.rst_block_state.specs.Frames.{ended_as}
+use Rattle.rst_block_state.specs.Meanings.{IsNew, Keeps, after, comes, deepest, done_of, open_of, plug, reads, reads_from, resumed, with_item, within_at}
+use Rattle.rst_block_state.specs.Nodes.{block_items, node_if, nodes_among}
+use Rattle.rst_block_state.specs.Numbered.{Numbered, ◌>>=◌, just}
+use Rattle.rst_block_state.specs.OpenBlocks.{HasMore, HasItem, IsPlaced}
+use Rattle.rst_block_state.specs.Texts.{lines_in}
+use Rattle.rst_block_state.specs.Titles.{Item, plain, titled}
+use Rattle.rst_block_state.specs.declared.fault.BlockFault.{BlockFault}
+use Rattle.rst_block_state.specs.declared.fault.BlockFault.TheVariants.{TooDeep, NoMemory}
+use Rattle.rst_block_state.specs.declared.frame.Ended.TheVariants.{Waiting, GoesOn}
+use Rattle.rst_block_state.specs.declared.frame.Frame.{Frame}
+use Rattle.rst_block_state.specs.declared.open_block.OpenBlock.{OpenBlock}
+use Rattle.rst_block_state.specs.declared.waits.Waits.{Waits}
+use Rattle.rst_block_state.specs.declared.step.Step.{Step}
+use Rattle.rst_block_state.specs.declared.step.Step.TheVariants.{Open}
+use Rattle.rst_block_state.proofs.Changes.{more_is_read, item_is_read}
+use Rattle.rst_block_state.proofs.MeaningLemmas.{part_means, done_means, plug_none, plug_same, plug_refused, reads_all}
+use Rattle.rst_block_state.proofs.NumberedLemmas.{at_number}
+use Rattle.rst_block_state.proofs.RestLemmas.{nodes_among_plain}
 
 -- ---- the nodes of the one inside
 

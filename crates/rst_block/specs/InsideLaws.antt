@@ -3,11 +3,11 @@ use Rattle.std.specs.Prelude.{◌≡◌, ℕ, List}
 use Rattle.std.specs.List.{AllByRecursion}
 use Rattle.rst_text.specs.Block.{Block}
 use Rattle.rst_tree.specs.declared.node.Node.{Node}
-use Rattle.rst_block.specs.Constructs.{Found}
-use Rattle.rst_block.specs.Inside.{opened_of, cells_with}
-use Rattle.rst_block.specs.Nodes.{piece_of}
-use Rattle.rst_block.specs.Numbered.{Numbered}
-use Rattle.rst_block.specs.Within.{Within}
+use Rattle.rst_block_state.specs.Constructs.{Found}
+use Rattle.rst_block_state.specs.Inside.{opened_of, cells_with}
+use Rattle.rst_block_state.specs.Nodes.{piece_of}
+use Rattle.rst_block_state.specs.Numbered.{Numbered}
+use Rattle.rst_block_state.specs.Within.{Within}
 
 -- two readings give the same for each of some blocks
 abbrev pub AgreeOn : (Block → Numbered (List Node)) → (Block → Numbered (List Node)) → List Block → Type 0
@@ -19,5 +19,6 @@ reading c g = record { titles = c.titles; code = c.code; levels = c.levels; inne
 
 -- what a construct gives depends on no other block than those that it opens and its cells
 abbrev pub InsideIsRead : Type 0
-InsideIsRead = (c : Within) (g : Block → Numbered (List Node)) (B : Block) (f : Found) (number : ℕ) → AgreeOn c.inner g (opened_of c B f) → AgreeOn c.inner g (cells_with B f)
+InsideIsRead = (c : Within) (g : Block → Numbered (List Node)) (B : Block) (f : Found) (number : ℕ) → AgreeOn c.inner g (opened_of c B f)
+    → AgreeOn c.inner g (cells_with B f)
     → piece_of c B f number ≡ piece_of (reading c g) B f number

@@ -4,11 +4,11 @@ use Rattle.rst_settings.specs.declared.Settings.{Settings}
 use Rattle.rst_text.specs.Block.{Block}
 use Rattle.rst_text.specs.Lines.{lines_of}
 use Rattle.rst_markup_tables.specs.Room.{room, rooms}
-use Rattle.rst_block.specs.Budget.{total}
-use Rattle.rst_block.specs.BudgetLaws.{is_trimmed}
-use Rattle.rst_block.specs.Inside.{inside, cells}
-use Rattle.rst_block.specs.Ledger.{total_at}
-use Rattle.rst_block.specs.Within.{Within}
+use Rattle.rst_block_state.specs.Budget.{total}
+use Rattle.rst_block_state.specs.BudgetLaws.{is_trimmed}
+use Rattle.rst_block_state.specs.Inside.{inside, cells}
+use Rattle.rst_block_state.specs.Ledger.{total_at}
+use Rattle.rst_block_state.specs.Within.{Within}
 
 -- the blocks that are opened in a block, and the cells of its tables, have no more room than the block
 abbrev pub BlocksFit : Type 0

@@ -1,32 +1,13 @@
-//! Blocks: the lines of a document, or of a part of it, as nodes and sections (Markup Specification, 'Syntax Details').
-#![tactic(auto, using(crate::proofs::Views::few_lines))]
+//! Blocks: the lines of a document, or of a part of it, as nodes and sections (Markup Specification, 'Syntax Details'). Here is the
+//! machine that goes from construct to construct; these, and the state that it keeps, stand in the crates below.
+#![tactic(auto, using(rst_block_state::proofs::Views::few_lines))]
 
-mod adornment;
-mod definition;
-mod directive;
-mod explicit;
-mod fault;
-mod field;
-mod figure;
-mod frame;
-mod heading;
+mod ended;
 pub mod laws;
-mod line;
-mod list;
 mod machine;
-mod open_block;
-mod option;
-mod paragraph;
 mod parsing;
-mod part;
-mod quote;
 mod resume;
-mod run;
 mod step;
-mod substitution;
-mod table;
-mod text;
-mod texts;
 
-pub use fault::BlockFault;
 pub use parsing::{Parsed, parse};
+pub use rst_block_state::BlockFault;

@@ -3,27 +3,25 @@ ghost use Rattle.std.specs.Prelude.{◌≡◌, Ok, suc, ◌+◌, ◌-◌, ◌*�
 ghost use Rattle.rst_text.specs.Lines.{are_lines};
 ghost use Rattle.rst_text.specs.Shown.{block_of};
 ghost use Rattle.rst_markup_blocks.specs.Parts.{IsBlock, IsCall};
-ghost use Rattle.rst_block.specs.Meanings.{Keeps, TellsBlank, comes, deepest, done_of, reads, text_items, within_at};
-ghost use Rattle.rst_block.specs.Steps as spec;
-ghost use Rattle.rst_block.specs.declared.step.Step.TheVariants.{Next, Open, Cells};
-ghost use Rattle.rst_block.specs.OpenBlocks.{IsKept, IsPlaced};
-ghost use Rattle.rst_block.specs.Nodes.{block_items};
-ghost use Rattle.rst_block.specs.Numbered.{each, just};
-ghost use Rattle.rst_block.specs.Tables as tables;
-ghost use Rattle.rst_block.specs.Ledger.{Takes, TakesFor, least_left, most_left, total_at, totals};
-ghost use Rattle.rst_block.specs.Inside.{cell_blocks};
+ghost use Rattle.rst_block_state.specs.Meanings.{Keeps, TellsBlank, comes, deepest, done_of, reads, text_items, within_at};
+ghost use Rattle.rst_block_state.specs.Steps as spec;
+ghost use Rattle.rst_block_state.specs.declared.step.Step.TheVariants.{Next, Open, Cells};
+ghost use Rattle.rst_block_state.specs.OpenBlocks.{IsKept, IsPlaced};
+ghost use Rattle.rst_block_state.specs.Nodes.{block_items};
+ghost use Rattle.rst_block_state.specs.Numbered.{each, just};
+ghost use Rattle.rst_block_state.specs.Tables as tables;
+ghost use Rattle.rst_block_state.specs.Ledger.{Takes, TakesFor, least_left, most_left, total_at, totals};
+ghost use Rattle.rst_block_state.specs.Inside.{cell_blocks};
 ghost use Rattle.rst_markup_tables.specs.declared.results.TableResult.TheVariants.{Table};
 
-use super::fault::BlockFault;
-use super::frame::{Ended, Frame, closed, opened};
-use super::open_block::OpenBlock;
-use super::part::inside;
-use super::resume::{Waits, resume};
-use super::run::DEEPEST;
-use super::step::{Step, step_at};
-use super::table::{after_table, entry_of, table_of};
-use super::texts::Pass;
+use super::ended::closed;
+use super::resume::resume;
+use super::step::step_at;
 use arrayvec::ArrayVec;
+use rst_block_body::table::{after_table, entry_of, table_of};
+use rst_block_state::{
+    BlockFault, DEEPEST, Ended, Frame, OpenBlock, Pass, Step, Waits, inside, opened,
+};
 use rst_markup_blocks::{LineTest, Part, lines_end};
 use rst_markup_tables::{Cell, Rows, TableResult};
 use rst_text::{Lines, View};
@@ -75,7 +73,8 @@ fn read_blocks(
     requires few { pass.old.looks + 128 * total_at depth (block_of whole) < 2 ^ 119 }
     ensures frames { IfOk result (λ _. frames.new.items ≡ frames.old.items) }
     ensures placed { IfOk result IsPlaced }
-    ensures read { Keeps result (λ level. just (done_of level) pass.new.numbers) (block_items (within_at depth) (block_of whole.entry) pass.old.numbers) }
+    ensures read { Keeps result (λ level. just (done_of level) pass.new.numbers)
+        (block_items (within_at depth) (block_of whole.entry) pass.old.numbers) }
     ensures paid { IfOk result (λ _. TakesFor (total_at depth (block_of whole.entry)) pass.old.looks pass.new.looks) }
 {
     let base = frames.len();
@@ -119,7 +118,7 @@ fn read_blocks(
 }
 
 /// What comes in a block behind the constructs that are read at once: one that waits for a block inside, or the block's end.
-#[tactic(auto, using(crate::proofs::Views::few_lines, crate::proofs::Stack::next_of_step))]
+#[tactic(auto, using(rst_block_state::proofs::Views::few_lines, crate::proofs::Stack::next_of_step))]
 fn next(
     alloc: Global,
     view: &View<'_>,
@@ -130,8 +129,12 @@ fn next(
     requires placed { IsPlaced level.old }
     ensures next { IfOk result (λ s. spec.IsNext (block_of view.now) level.old.at level.new.at s) }
     ensures kept { IfOk result (λ _. IsKept level.old level.new) }
-    ensures read { Keeps result (λ s. comes level.new (block_of view.now) s pass.new.numbers) (reads level.old (block_of view.now) pass.old.numbers) }
-    ensures paid { IfOk result (λ s. Takes (most_left level.old (block_of view.now) Next) (least_left level.old (block_of view.now) Next) pass.old.looks (most_left level.new (block_of view.now) s) (least_left level.new (block_of view.now) s) pass.new.looks) }
+    ensures read { Keeps result (λ s. comes level.new (block_of view.now) s pass.new.numbers)
+        (reads level.old (block_of view.now) pass.old.numbers) }
+    ensures paid { let B = block_of view.now in
+        let most = most_left level.old B Next in
+        let least = least_left level.old B Next in
+        IfOk result (λ s. Takes most least pass.old.looks (most_left level.new B s) (least_left level.new B s) pass.new.looks) }
 {
     while level.at < view.len() {
         match step_at(alloc, view, level, pass)? {
@@ -192,8 +195,12 @@ fn flat(
     requires deepest { level.old.depth ≡ deepest }
     ensures step { IfOk result (λ s. spec.IsResumed (block_of view.now) level.old.at level.new.at s) }
     ensures kept { IfOk result (λ _. IsKept level.old level.new) }
-    ensures read { Keeps result (λ s. comes level.new (block_of view.now) s pass.new.numbers) (comes level.old (block_of view.now) (Open waits first second) pass.old.numbers) }
-    ensures paid { IfOk result (λ s. Takes (most_left level.old (block_of view.now) (Open waits first second)) (least_left level.old (block_of view.now) (Open waits first second)) pass.old.looks (most_left level.new (block_of view.now) s) (least_left level.new (block_of view.now) s) pass.new.looks) }
+    ensures read { Keeps result (λ s. comes level.new (block_of view.now) s pass.new.numbers)
+        (comes level.old (block_of view.now) (Open waits first second) pass.old.numbers) }
+    ensures paid { let B = block_of view.now in
+        let most = most_left level.old B (Open waits first second) in
+        let least = least_left level.old B (Open waits first second) in
+        IfOk result (λ s. Takes most least pass.old.looks (most_left level.new B s) (least_left level.new B s) pass.new.looks) }
 {
     not_blank(&inside(view, first), pass)?;
     if let Some(second) = second {
@@ -224,8 +231,12 @@ fn cells(
     ensures next { IfOk result (λ s. s ≡ Next) }
     ensures later { IfOk result (λ _. level.old.at < level.new.at) }
     ensures kept { IfOk result (λ _. IsKept level.old level.new) }
-    ensures read { Keeps result (λ s. comes level.new (block_of view.now) s pass.new.numbers) (comes level.old (block_of view.now) (Cells found) pass.old.numbers) }
-    ensures paid { IfOk result (λ s. Takes (most_left level.old (block_of view.now) (Cells found)) (least_left level.old (block_of view.now) (Cells found)) pass.old.looks (most_left level.new (block_of view.now) s) (least_left level.new (block_of view.now) s) pass.new.looks) }
+    ensures read { Keeps result (λ s. comes level.new (block_of view.now) s pass.new.numbers)
+        (comes level.old (block_of view.now) (Cells found) pass.old.numbers) }
+    ensures paid { let B = block_of view.now in
+        let most = most_left level.old B (Cells found) in
+        let least = least_left level.old B (Cells found) in
+        IfOk result (λ s. Takes most least pass.old.looks (most_left level.new B s) (least_left level.new B s) pass.new.looks) }
 {
     let TableResult::Table {
         cols,
@@ -259,7 +270,8 @@ fn rows_of(
     requires few { pass.old.looks + 128 * totals (depth - 1) (cell_blocks (Table [] 0 rows 0)) < 2 ^ 119 }
     requires inner { 1 ≤ depth }
     ensures frames { IfOk result (λ _. frames.new.items ≡ frames.old.items) }
-    ensures rows { Keeps result (λ made. Ok (made.items, pass.new.numbers)) (each (tables.row_of (within_at (depth - 1))) rows pass.old.numbers) }
+    ensures rows { Keeps result (λ made. Ok (made.items, pass.new.numbers))
+        (each (tables.row_of (within_at (depth - 1))) rows pass.old.numbers) }
     ensures paid { IfOk result (λ _. TakesFor (totals (depth - 1) (cell_blocks (Table [] 0 rows 0))) pass.old.looks pass.new.looks) }
 {
     let mut made = Vec::new(alloc);
@@ -285,7 +297,8 @@ fn row_of(
     requires inner { 1 ≤ depth }
     ensures frames { IfOk result (λ _. frames.new.items ≡ frames.old.items) }
     ensures row { Keeps result (λ node. Ok (node, pass.new.numbers)) (tables.row_of (within_at (depth - 1)) cells.items pass.old.numbers) }
-    ensures paid { IfOk result (λ _. TakesFor (totals (depth - 1) (cell_blocks (Table [] 0 (cells.items ∷ []) 0))) pass.old.looks pass.new.looks) }
+    ensures paid { let inner = cell_blocks (Table [] 0 (cells.items ∷ []) 0) in
+        IfOk result (λ _. TakesFor (totals (depth - 1) inner) pass.old.looks pass.new.looks) }
 {
     let mut entries = Vec::new(alloc);
     for cell in cells {

@@ -1,18 +1,19 @@
 //! A document's tree.
 ghost use Rattle.rst_settings.specs.Profile.{profile_of};
 ghost use Rattle.rst_settings.specs.declared.Settings.{Settings};
-ghost use Rattle.rst_block.specs.Budget.{IsWithinBounds};
+ghost use Rattle.rst_block_state.specs.Budget.{IsWithinBounds};
 ghost use Rattle.rst_block.specs.Documents as spec;
-ghost use Rattle.rst_block.specs.Ledger.{total_at};
-ghost use Rattle.std.specs.Prelude.{◌*◌, ◌^◌, ◌<◌, IfOk};
+ghost use Rattle.rst_block_state.specs.Ledger.{total_at};
+ghost use Rattle.rst_tree.specs.Faults.{Gives};
+ghost use Rattle.std.specs.Prelude.{◌≡◌, ◌*◌, ◌^◌, ◌<◌, IfOk};
 
-use super::fault::BlockFault;
 use super::machine::{Frames, read};
-use super::texts::Pass;
 use arrayvec::ArrayVec;
 use rst_block_nodes::Numbers;
 use rst_block_sections::document;
+use rst_block_state::{BlockFault, Pass};
 use rst_text::{Lines, Looks};
+use rst_tree::{Node, TreeFault};
 use rst_tree_index::Marked;
 use std::alloc::Global;
 
@@ -25,6 +26,21 @@ pub struct Parsed {
     pub messages: u64,
     /// How many looks at lines were taken.
     pub looks: u128,
+}
+
+impl Parsed {
+    /// A document that was made, and not read from lines: no message in it has a number, and no look at a line was taken.
+    pub fn of(alloc: Global, root: Node) -> Result<Parsed, TreeFault>
+        ensures document { Gives (λ parsed. parsed.document ≡ root) result }
+        ensures messages { Gives (λ parsed. parsed.messages ≡ 0) result }
+        ensures looks { Gives (λ parsed. parsed.looks ≡ 0) result }
+    {
+        Ok(Parsed {
+            document: Marked::of(alloc, root)?,
+            messages: 0,
+            looks: 0,
+        })
+    }
 }
 
 /// Reads a document (Markup Specification, 'Syntax Details').

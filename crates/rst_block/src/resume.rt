@@ -1,61 +1,26 @@
 //! What is done with the nodes of a block inside once it is read.
-ghost use Rattle.std.specs.Prelude.{◌≡◌, ◌+◌, ◌-◌, ◌*◌, ◌^◌, ◌<◌, ◌≤◌, [], ◌∷◌, ◌++◌, length, drop, IfOk, IfSome, option_map, box_value, ℕ, Box, Option, None, Some};
+ghost use Rattle.std.specs.Prelude.{◌≡◌, ◌+◌, ◌-◌, ◌^◌, ◌<◌, [], ◌∷◌, ◌++◌, IfOk, option_map, box_value, ℕ, Box, Option, None, Some};
 ghost use Rattle.rst_text.specs.Shown.{block_of};
 ghost use Rattle.rst_tree.specs.Faults as faults;
 ghost use Rattle.rst_block_nodes.specs.Elements.{element_of};
-ghost use Rattle.rst_markup_blocks.specs.Parts.{IsBlock, IsCall};
-ghost use Rattle.rst_block.specs.Steps as spec;
-ghost use Rattle.rst_block.specs.Meanings.{Keeps, after_quote, comes, quote_by, resumed};
-ghost use Rattle.rst_block.specs.OpenBlocks.{Gives, HasMore, IsKept, IsPlaced};
-ghost use Rattle.rst_block.specs.Ledger.{Takes, least_after, least_left, most_after, most_left};
+ghost use Rattle.rst_block_state.specs.Steps as spec;
+ghost use Rattle.rst_block_state.specs.Meanings.{Keeps, after_quote, comes, quote_by, resumed};
+ghost use Rattle.rst_block_state.specs.OpenBlocks.{Gives, HasMore, IsKept, IsPlaced};
+ghost use Rattle.rst_block_state.specs.Ledger.{Takes, least_after, least_left, most_after, most_left};
 ghost use Rattle.std.specs.declared.alloc.Global.{Global};
 ghost use Rattle.rst_block_nodes.specs.declared.texted.Texted.{Texted};
-ghost use Rattle.rst_block.specs.declared.resume.Waits.TheVariants.{Quote};
+ghost use Rattle.rst_block_state.specs.declared.waits.Waits.TheVariants.{Quote};
 
-use super::fault::BlockFault;
-use super::figure::{OpenFigure, finished_figure};
-use super::open_block::OpenBlock;
-use super::quote::quote_part;
-use super::step::Step;
-use super::substitution::{OpenReplacement, finished_replacement};
-use super::texts::{Pass, push};
+use rst_block_body::quote::quote_part;
+use rst_block_markup::{finished_figure, finished_replacement};
 use rst_block_nodes::Texted;
 use rst_block_sections::{append, completed};
+use rst_block_state::{BlockFault, OpenBlock, Pass, Step, Waits, push};
 use rst_markup_blocks::Part;
 use rst_text::View;
 use rst_tree::{Attrs, Node, Tag, TreeFault};
 use rst_tree_index::Marked;
 use std::alloc::Global;
-
-/// What a block waits for: the nodes of a block inside, and what becomes of them.
-#[derive(Drop)]
-pub(crate) enum Waits {
-    /// They are an item of the open list.
-    ListItem {
-        line: usize,
-    },
-    /// They stand behind the messages in the body of an item of the open list, which has heads before its body.
-    ListedBody {
-        line: usize,
-        item: Tag,
-        body: Tag,
-        heads: Vec<Node>,
-        notes: Vec<Node>,
-    },
-    /// They are a block quote, of which the rest comes next; it ends at `end`.
-    Quote {
-        line: usize,
-        attribution: Option<Box<Texted>>,
-        rest: Option<Part>,
-        end: usize,
-    },
-    /// They stand in an element, behind what stands there already.
-    Element(Node),
-    /// They are the caption and the legend of a figure.
-    Figure(Box<OpenFigure>),
-    /// They are the content of a substitution definition.
-    Replacement(Box<OpenReplacement>),
-}
 
 /// Goes on with a block, the block inside having these nodes.
 pub(crate) fn resume(
@@ -71,8 +36,12 @@ pub(crate) fn resume(
     requires placed { IsPlaced level.old }
     ensures step { IfOk result (λ s. spec.IsResumed (block_of view.now) level.old.at level.new.at s) }
     ensures kept { IfOk result (λ _. IsKept level.old level.new) }
-    ensures read { Keeps result (λ s. comes level.new (block_of view.now) s pass.new.numbers) (resumed level.old (block_of view.now) waits nodes.items pass.old.numbers) }
-    ensures paid { IfOk result (λ s. Takes (most_after level.old (block_of view.now) waits None) (least_after level.old (block_of view.now) waits None) pass.old.looks (most_left level.new (block_of view.now) s) (least_left level.new (block_of view.now) s) pass.new.looks) }
+    ensures read { Keeps result (λ s. comes level.new (block_of view.now) s pass.new.numbers)
+        (resumed level.old (block_of view.now) waits nodes.items pass.old.numbers) }
+    ensures paid { let B = block_of view.now in
+        let most = most_after level.old B waits None in
+        let least = least_after level.old B waits None in
+        IfOk result (λ s. Takes most least pass.old.looks (most_left level.new B s) (least_left level.new B s) pass.new.looks) }
 {
     match waits {
         Waits::ListItem { line } => {
@@ -120,7 +89,8 @@ fn listed_item(
     notes: Vec<Node>,
     nodes: Vec<Marked>,
 ) -> Result<Marked, TreeFault>
-    ensures { faults.Gives (λ node. node ≡ element_of item [] (heads.items ++ element_of body [] (notes.items ++ nodes.items) line ∷ []) line) result }
+    ensures { faults.Gives (λ node. node
+        ≡ element_of item [] (heads.items ++ element_of body [] (notes.items ++ nodes.items) line ∷ []) line) result }
 {
     let mut content = Marked::each(alloc, notes)?;
     append(&mut content, nodes)?;
@@ -169,8 +139,13 @@ fn after_quote(
     requires placed { IsPlaced level.old }
     ensures step { IfOk result (λ s. spec.IsResumed (block_of view.now) level.old.at level.new.at s) }
     ensures kept { IfOk result (λ _. IsKept level.old level.new) }
-    ensures read { Keeps result (λ s. comes level.new (block_of view.now) s pass.new.numbers) (after_quote level.old (block_of view.now) [] rest end pass.old.numbers) }
-    ensures paid { (line : ℕ) (made : Option (Box Texted Global)) → IfOk result (λ s. Takes (most_after level.old (block_of view.now) (Quote line made rest end) None) (least_after level.old (block_of view.now) (Quote line made rest end) None) pass.old.looks (most_left level.new (block_of view.now) s) (least_left level.new (block_of view.now) s) pass.new.looks) }
+    ensures read { Keeps result (λ s. comes level.new (block_of view.now) s pass.new.numbers)
+        (after_quote level.old (block_of view.now) [] rest end pass.old.numbers) }
+    ensures paid { (line : ℕ) (made : Option (Box Texted Global))
+        → let B = block_of view.now in
+        let most = most_after level.old B (Quote line made rest end) None in
+        let least = least_after level.old B (Quote line made rest end) None in
+        IfOk result (λ s. Takes most least pass.old.looks (most_left level.new B s) (least_left level.new B s) pass.new.looks) }
 {
     match rest {
         Some(rest) => quote_part(alloc, view, level, rest, pass),

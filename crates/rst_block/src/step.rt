@@ -1,51 +1,30 @@
 //! One step: the construct at the next line of a block.
-ghost use Rattle.std.specs.Prelude.{◌≡◌, ◌+◌, ◌-◌, ◌*◌, ◌^◌, ◌<◌, ◌≤◌, length, drop, IfOk, IfSome};
+ghost use Rattle.std.specs.Prelude.{◌+◌, ◌-◌, ◌^◌, ◌<◌, length, IfOk};
 ghost use Rattle.rst_text.specs.Shown.{block_of};
-ghost use Rattle.rst_markup_blocks.specs.Parts.{IsBlock, IsCall};
-ghost use Rattle.rst_block.specs.Steps as spec;
-ghost use Rattle.rst_block.specs.Meanings.{Keeps, comes, reads};
-ghost use Rattle.rst_block.specs.OpenBlocks.{IsKept, IsPlaced};
-ghost use Rattle.rst_block.specs.Ledger.{Takes, least_left, most_left};
-ghost use Rattle.rst_block.specs.declared.step.Step.TheVariants.{Next};
+ghost use Rattle.rst_block_state.specs.Steps as spec;
+ghost use Rattle.rst_block_state.specs.Meanings.{Keeps, comes, reads};
+ghost use Rattle.rst_block_state.specs.OpenBlocks.{IsKept, IsPlaced};
+ghost use Rattle.rst_block_state.specs.Ledger.{Takes, least_left, most_left};
+ghost use Rattle.rst_block_state.specs.declared.step.Step.TheVariants.{Next};
 
-use super::adornment::adornment;
-use super::explicit::explicit_markup;
-use super::fault::BlockFault;
-use super::field::field;
-use super::line::bar_line;
-use super::list::{bullet_item, enumerated_item};
-use super::open_block::OpenBlock;
-use super::option::option_item;
-use super::paragraph::doctest_block;
-use super::quote::block_quote;
-use super::resume::Waits;
-use super::table::table;
-use super::text::text_line;
-use super::texts::Pass;
-use rst_markup_blocks::{Begun, Part, begun_at};
-use rst_markup_tables::{TableResult, grid, simple};
+use rst_block_body::adornment::adornment;
+use rst_block_body::field::field;
+use rst_block_body::line::bar_line;
+use rst_block_body::list::{bullet_item, enumerated_item};
+use rst_block_body::option::option_item;
+use rst_block_body::paragraph::doctest_block;
+use rst_block_body::quote::block_quote;
+use rst_block_body::table::table;
+use rst_block_body::text::text_line;
+use rst_block_markup::explicit_markup;
+use rst_block_state::{BlockFault, OpenBlock, Pass, Step};
+use rst_markup_blocks::{Begun, begun_at};
+use rst_markup_tables::{grid, simple};
 use rst_text::View;
 use std::alloc::Global;
 
-/// What a step leads to.
-#[derive(Drop)]
-pub(crate) enum Step {
-    /// The block goes on.
-    Next,
-    /// A block inside is read first: these two parts of the view, one after the other.
-    Open {
-        waits: Waits,
-        first: Part,
-        second: Option<Part>,
-    },
-    /// The cells of a table are read first.
-    Cells(TableResult),
-    /// The block is read.
-    Done,
-}
-
 /// Reads the construct at the next line.
-#[tactic(auto, using(crate::proofs::Views::few_lines, crate::proofs::Looked::grid_looks, crate::proofs::Looked::simple_looks))]
+#[tactic(auto, using(rst_block_state::proofs::Views::few_lines, rst_block_state::proofs::Looked::grid_looks, rst_block_state::proofs::Looked::simple_looks))]
 pub(crate) fn step_at(
     alloc: Global,
     view: &View<'_>,
@@ -57,8 +36,12 @@ pub(crate) fn step_at(
     requires placed { IsPlaced level.old }
     ensures step { IfOk result (λ s. spec.IsStep (block_of view.now) level.old.at level.new.at s) }
     ensures kept { IfOk result (λ _. IsKept level.old level.new) }
-    ensures read { Keeps result (λ s. comes level.new (block_of view.now) s pass.new.numbers) (reads level.old (block_of view.now) pass.old.numbers) }
-    ensures paid { IfOk result (λ s. Takes (most_left level.old (block_of view.now) Next) (least_left level.old (block_of view.now) Next) pass.old.looks (most_left level.new (block_of view.now) s) (least_left level.new (block_of view.now) s) pass.new.looks) }
+    ensures read { Keeps result (λ s. comes level.new (block_of view.now) s pass.new.numbers)
+        (reads level.old (block_of view.now) pass.old.numbers) }
+    ensures paid { let B = block_of view.now in
+        let most = most_left level.old B Next in
+        let least = least_left level.old B Next in
+        IfOk result (λ s. Takes most least pass.old.looks (most_left level.new B s) (least_left level.new B s) pass.new.looks) }
 {
     let at = level.at;
     match begun_at(view, at, &mut pass.looks) {

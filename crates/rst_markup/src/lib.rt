@@ -9,7 +9,9 @@ pub use rst_markup_blocks::{
     Construct, DoctestBlock, EnumeratedItem, Explicit, ExplicitMarkup, FieldItem, GridTable,
     Invocation, Kind, OptionListItem, Part, SimpleTable, TextLine, end_of, explicit, kind_of,
 };
-pub use rst_markup_directives::{Directive, DirectiveFault, MarkupFault, Place, directive};
+pub use rst_markup_directives::{
+    Directive, DirectiveFault, MarkupFault, Name, Place, called, directive,
+};
 pub use rst_markup_tables::{
     Cell, CellLines, TableFault, TableResult, grid, no_grid_behind, no_simple_behind, one_tiling,
     simple,

@@ -1,6 +1,6 @@
 -- What a directive is: its name, argument, options and content, or what is wrong with it (Markup Specification,
 -- 'Directives'; the sections of Directives stand in Name, Judgement and Value).
-use Rattle.std.specs.Prelude.{ℕ, ◌-◌, Bool, true, false, ◌&&◌, nat_lt, List, [], take, drop, length, option_map, Result, Ok, Err, ok_or, if◌then◌else◌}
+use Rattle.std.specs.Prelude.{ℕ, ◌-◌, Bool, true, false, ◌&&◌, nat_lt, List, [], take, drop, length, option_map, Option, Result, Ok, Err, ok_or, if◌then◌else◌}
 use Rattle.std.specs.Result.{result_map_both}
 use Rattle.rst_text.specs.Block.{Block, cut}
 use Rattle.rst_markup_directives.specs.Argument.{Given, given_in, argument_of}
@@ -95,16 +95,18 @@ read_at B at block name = of_block (read_block name (is_late at block) block (cu
 abbrev pub judged : Place → Bool → Read → Result Read Fault
 judged place paragraph read = unless (option_map fault_in (content_fault read.name (is_empty read.content) place paragraph)) (Ok read)
 
--- the name of a directive that may stand there, or the fault of the name
-abbrev pub named_at : Bool → Block → ℕ → Invocation → Place → Result Name Fault
-named_at code B at call place = result_map_both (λ name. name) fault_in (permitted (called_at code B at call) place)
+-- a name, if it is that of a directive that may stand there, or the fault of the name
+abbrev pub named : Option Name → Place → Result Name Fault
+named name place = result_map_both (λ name. name) fault_in (permitted name place)
 
--- What the directive is that is called in the line at a place of a block; `code` tells whether those for program code are
--- directives, and `paragraph` whether its own block is a single paragraph. The faults are looked for in this order: of its
--- name, of its options, of its argument, of its content.
-unfoldable pub directive_at : Bool → Block → ℕ → Invocation → Place → Bool → Outcome
-directive_at code B at call place paragraph =
-    outcome_at (lines_at at call.block) (and_then (judged place paragraph) (and_then (read_at B at call.block) (named_at code B at call place)))
+-- What the directive of a name is that is called in the line at a place of a block, with this block of its own; `paragraph` tells whether
+-- that is a single paragraph. The faults are looked for in this order: of its name, of its options, of its argument, of its content.
+unfoldable pub directive_of : Option Name → Block → ℕ → Part → Place → Bool → Outcome
+directive_of name B at block place paragraph = outcome_at (lines_at at block) (and_then (judged place paragraph) (and_then (read_at B at block) (named name place)))
+
+-- what the directive is that is called there; `code` tells whether those for program code are directives
+abbrev pub directive_at : Bool → Block → ℕ → Invocation → Place → Bool → Outcome
+directive_at code B at call place paragraph = directive_of (called_at code B at call) B at call.block place paragraph
 
 -- ---- as it is kept
 

@@ -43,29 +43,29 @@ pub fn called(
     Ok(Name::of(&name, true))
 }
 
-/// What the directive is that is called at line `at` of a view, or what is wrong with it. `paragraph` tells whether its
-/// block is a single paragraph, which counts for `replace` alone. It makes at most two looks more than the block has lines.
+/// What the directive of a name is that is called at line `at` of a view with this block, or what is wrong with it. `paragraph`
+/// tells whether the block is a single paragraph, which counts for `replace` alone. It makes at most one look more than the
+/// block has lines.
 ///
 /// The only refusal is [`MarkupFault::NoMemory`].
-#[tactic(auto, unfolding(crate::specs::Directive::directive_at))]
+#[tactic(auto, unfolding(crate::specs::Directive::directive_of))]
 pub fn directive(
     alloc: Global,
+    name: Option<Name>,
     view: &View<'_>,
     at: usize,
-    invocation: &Invocation,
+    block: Part,
     place: Place,
     paragraph: bool,
     looks: &mut Looks,
 ) -> Result<Directive, MarkupFault>
-    requires call { IsCall (block_of view.now) at invocation.now }
-    requires few { looks.old < 2 ^ 120 }
-    ensures outcome { Gives (λ found. directives.outcome_of found ≡ directives.directive_at true (block_of view.now) at invocation.now place paragraph) result }
+    requires block { IsBlock (block_of view.now) block }
+    requires few { looks.old < 2 ^ 120 + 1 }
+    ensures outcome { Gives (λ found. directives.outcome_of found ≡ directives.directive_of name (block_of view.now) at block place paragraph) result }
     ensures parts { Gives (λ found. spec.IsDirectiveIn (block_of view.now) found) result }
-    ensures looks { looks.new ≤ looks.old + 2 + (invocation.now.block.to - invocation.now.block.from) }
-    ensures low { looks.old + 1 ≤ looks.new }
+    ensures looks { looks.new ≤ looks.old + 1 + (block.to - block.from) }
+    ensures low { looks.old ≤ looks.new }
 {
-    let block = invocation.block;
-    let name = called(alloc, view, at, invocation, looks)?;
     match permitted(name, place) {
         Ok(name) => {
             let reading = read(alloc, name, is_late(at, block), view, block, looks)?;

@@ -1,6 +1,6 @@
 //! Lines that are few enough to be read.
 ghost use Rattle.std.specs.Prelude.{◌*◌, ◌^◌, ◌<◌, IfOk};
-ghost use Rattle.rst_block.specs.Ledger.{total_at};
+ghost use Rattle.rst_block_state.specs.Ledger.{total_at};
 
 use rst_settings::Settings;
 use rst_text::{Lines, TextFault};

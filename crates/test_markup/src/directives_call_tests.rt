@@ -1,11 +1,11 @@
 //! Directives as they are called, on examples from outside.
 use super::directives_call_cases::{DIRECTIVES, MORE_DIRECTIVES};
 use super::directives_tests::push_target;
-use super::parts::{line, push_characters, push_part};
+use super::parts::{first_directive, line, push_characters, push_part};
 use rst_markup::{Characters, Explicit, Invocation, explicit, kind_of};
 use rst_markup_directives::{
     Alignment, Argument, Directive, DirectiveFault, Name, OptionName, OptionValue, Place, Setting,
-    directive, message,
+    message,
 };
 use rst_text::{Lines, Looks, View};
 use std::alloc::Global;
@@ -164,8 +164,7 @@ fn told(alloc: Global, text: &str, place: Place, paragraph: bool) -> Result<Stri
     let mut looks = Looks::none();
     match explicit(&view, 0, &mut looks) {
         Explicit::Directive(call) => {
-            let mut looks = Looks::none();
-            let found = directive(alloc, &view, 0, &call, place, paragraph, &mut looks)?;
+            let found = first_directive(alloc, &view, &call, place, paragraph)?;
             directive_told(alloc, &view, &call, call.name, &found)
         }
         Explicit::Substitution {
@@ -173,8 +172,7 @@ fn told(alloc: Global, text: &str, place: Place, paragraph: bool) -> Result<Stri
             held: Some(call),
             ..
         } => {
-            let mut looks = Looks::none();
-            let found = directive(alloc, &view, 0, &call, place, paragraph, &mut looks)?;
+            let found = first_directive(alloc, &view, &call, place, paragraph)?;
             directive_told(alloc, &view, &call, name, &found)
         }
         _ => Ok(String::new(alloc)),

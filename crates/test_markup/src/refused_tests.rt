@@ -1,10 +1,10 @@
 //! Tables and directives, of which one growth may be refused. `rt ci` refuses none; `scripts/refusing.py` runs each test again and again,
 //! and refuses the first growth, the second, and so on. Each test takes two answers, one after the other, so at most one of them may be that
 //! memory ran out; the lines that were lent are then as before. A growth that is refused to the test itself ends it.
-use super::parts::line;
+use super::parts::{first_directive, line};
 use super::tables_tests::show;
 use rst_markup::{Explicit, TableResult, explicit, grid, kind_of, simple};
-use rst_markup_directives::{Argument, Directive, MarkupFault, Name, Place, directive};
+use rst_markup_directives::{Argument, Directive, MarkupFault, Name, Place};
 use rst_text::{Lines, Looks, View};
 use std::alloc::{AllocError, Global};
 use std::process::Abort;
@@ -122,8 +122,7 @@ fn directives(rt: HostRuntime) {
     };
     let mut refusals = 0u8;
     for _ in 0..2 {
-        let mut looks = Looks::none();
-        match directive(alloc, &view, 0, &call, Place::Top, false, &mut looks) {
+        match first_directive(alloc, &view, &call, Place::Top, false) {
             Ok(found) => judge_note(&rt, &found),
             Err(fault) => {
                 assert_eq!(rt; fault, MarkupFault::NoMemory);

@@ -1,4 +1,4 @@
-use Rattle.rst_block.proofs.Changes.{done_title, kept_more, kept_title, more_is_read, item_is_read}
+use Rattle.rst_block_state.proofs.Changes.{done_title, kept_more, kept_title, more_is_read, item_is_read}
 use Rattle.rst_block.proofs.laws.changes_are_read.Goals as goal
 
 pub returns : goal.returns

@@ -1,5 +1,5 @@
-use Rattle.rst_block.proofs.OpenRuns.{rest_is_all}
-use Rattle.rst_block.proofs.RestLemmas.{rest_over, rest_blank, rest_text}
+use Rattle.rst_block_state.proofs.OpenRuns.{rest_is_all}
+use Rattle.rst_block_state.proofs.RestLemmas.{rest_over, rest_blank, rest_text}
 use Rattle.rst_block.proofs.laws.constructs_follow.Goals as goal
 
 pub returns : goal.returns

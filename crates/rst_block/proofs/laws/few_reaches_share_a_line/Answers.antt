@@ -1,4 +1,4 @@
-use Rattle.rst_block.proofs.UnpaidLemmas.{paid, passed, begin}
+use Rattle.rst_block_state.proofs.UnpaidLemmas.{paid, passed, begin}
 use Rattle.rst_block.proofs.laws.few_reaches_share_a_line.Goals as goal
 
 pub returns : goal.returns

@@ -1,4 +1,4 @@
-use Rattle.rst_block.proofs.LedgerLemmas.{begun, ended, blank_line, construct, counted, opened, second_opened}
+use Rattle.rst_block_state.proofs.LedgerLemmas.{begun, ended, blank_line, construct, counted, opened, second_opened}
 use Rattle.rst_block.proofs.laws.looks_are_paid.Goals as goal
 
 pub returns : goal.returns

@@ -1,4 +1,4 @@
-use Rattle.rst_block.proofs.WaitingLooks.{one_quote, split_quotes, resumed, quotes_go_on, last_block, cell_text, rows_cells, table_read}
+use Rattle.rst_block_state.proofs.WaitingLooks.{one_quote, split_quotes, resumed, quotes_go_on, last_block, cell_text, rows_cells, table_read}
 use Rattle.rst_block.proofs.laws.waiting_blocks_are_paid.Goals as goal
 
 pub returns : goal.returns

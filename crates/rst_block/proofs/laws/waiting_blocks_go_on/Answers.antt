@@ -1,4 +1,4 @@
-use Rattle.rst_block.proofs.MeaningLemmas.{reads_all, part_means, done_means, item_means}
+use Rattle.rst_block_state.proofs.MeaningLemmas.{reads_all, part_means, done_means, item_means}
 use Rattle.rst_block.proofs.laws.waiting_blocks_go_on.Goals as goal
 
 pub returns : goal.returns

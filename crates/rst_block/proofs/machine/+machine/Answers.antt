@@ -11,23 +11,23 @@ use Rattle.rst_tree.specs.declared.tag.Tag.TheVariants.{Row}
 use Rattle.rst_markup_tables.specs.Results.{cells_of}
 use Rattle.rst_markup_tables.specs.declared.results.TableResult.TheVariants.{Table}
 use Rattle.rst_block_nodes.specs.Elements.{element_of}
-use Rattle.rst_block.specs.Inside.{cell_blocks}
-use Rattle.rst_block.specs.Ledger.{total_at, totals}
-use Rattle.rst_block.specs.Meanings.{comes, deepest, done_of, reads, within_at}
-use Rattle.rst_block.specs.Nodes.{block_items}
-use Rattle.rst_block.specs.Numbered.{just, then_read}
-use Rattle.rst_block.specs.Tables.{entry_of, row_of, table_node}
-use Rattle.rst_block.specs.declared.frame.Frame.{Frame}
-use Rattle.rst_block.specs.declared.open_block.OpenBlock.{OpenBlock}
-use Rattle.rst_block.specs.declared.step.Step.{Step}
-use Rattle.rst_block.specs.declared.step.Step.TheVariants.{Next, Open, Cells}
-use Rattle.rst_block.proofs.Calls.{refuses}
+use Rattle.rst_block_state.specs.Inside.{cell_blocks}
+use Rattle.rst_block_state.specs.Ledger.{total_at, totals}
+use Rattle.rst_block_state.specs.Meanings.{comes, deepest, done_of, reads, within_at}
+use Rattle.rst_block_state.specs.Nodes.{block_items}
+use Rattle.rst_block_state.specs.Numbered.{just, then_read}
+use Rattle.rst_block_state.specs.Tables.{entry_of, row_of, table_node}
+use Rattle.rst_block_state.specs.declared.frame.Frame.{Frame}
+use Rattle.rst_block_state.specs.declared.open_block.OpenBlock.{OpenBlock}
+use Rattle.rst_block_state.specs.declared.step.Step.{Step}
+use Rattle.rst_block_state.specs.declared.step.Step.TheVariants.{Next, Open, Cells}
+use Rattle.rst_block_state.proofs.Calls.{refuses}
 use Rattle.rst_block.proofs.CellsRead.{each_begins, each_ends, each_goes_on, each_keeps, entry_next, row_keeps, table_keeps, table_reads}
-use Rattle.rst_block.proofs.Changes.{moved_more, more_more, kept_more}
+use Rattle.rst_block_state.proofs.Changes.{moved_more, more_more, kept_more}
 use Rattle.rst_block.proofs.LastLevel.{flat_text, flat_text_fails}
 use Rattle.rst_block.proofs.MachinePaid.{none_read, some_read, next_cell, one_row, row_paid, next_row, rows_paid, table_left, table_paid, text_begins, block_goes_on, block_opens, block_ends, block_waits, text_ends, flat_paid}
 use Rattle.rst_block.proofs.Stack.{left, parts_left, now_of_next, now_of_resumed, cost_of_resumed, goes_on, stepped, opens, resumes, waits_again, second_left, parts_at_most, parts_at_least, taken, placed, nested_push, nested_pop}
-use Rattle.rst_block.proofs.Views.{few_lines}
+use Rattle.rst_block_state.proofs.Views.{few_lines}
 use Rattle.rst_block.proofs.Waiting.{plug_begins, plug_end_fails, plug_ends, plug_fails, plug_goes_on, plug_opens, plug_over, plug_waits}
 use Rattle.rst_block.proofs.machine.+machine.Goals.{read-else-len-gt0-via-then-len-gt0+else-depth-le-DEEPEST, read-else-len-gt0-via-else-len-gt0}
 use Rattle.rst_block.proofs.machine.+machine.Goals as goal

@@ -2,15 +2,15 @@ use Rattle.std.proofs.Common.{◌≡◌, ◌+◌, ◌-◌, ◌*◌, ◌^◌, ◌
 use Rattle.std.specs.Vec.Iter.{into_iter_items}
 use Rattle.rst_text.specs.Shown.{block_of, source_of}
 use Rattle.rst_markup_tables.specs.Results.{cells_of}
-use Rattle.rst_block.specs.Frames.{AreFrames, AreNested, IsNow}
+use Rattle.rst_block_state.specs.Frames.{AreFrames, AreNested, IsNow}
 use Rattle.rst_markup_tables.specs.declared.results.TableResult.TheVariants.{Table}
-use Rattle.rst_block.specs.Inside.{cell_blocks}
-use Rattle.rst_block.specs.Ledger.{total_at, totals}
-use Rattle.rst_block.specs.Meanings.{comes, plug, within_at}
-use Rattle.rst_block.specs.Nodes.{block_items}
-use Rattle.rst_block.specs.Numbered.{each}
-use Rattle.rst_block.specs.OpenBlocks.{IsPlaced}
-use Rattle.rst_block.specs.Tables.{entry_of, row_of}
+use Rattle.rst_block_state.specs.Inside.{cell_blocks}
+use Rattle.rst_block_state.specs.Ledger.{total_at, totals}
+use Rattle.rst_block_state.specs.Meanings.{comes, plug, within_at}
+use Rattle.rst_block_state.specs.Nodes.{block_items}
+use Rattle.rst_block_state.specs.Numbered.{each}
+use Rattle.rst_block_state.specs.OpenBlocks.{IsPlaced}
+use Rattle.rst_block_state.specs.Tables.{entry_of, row_of}
 use Rattle.rst_block.proofs.CellsRead.{each_after}
 use Rattle.rst_block.proofs.MachinePaid.{AreLeft, cell_lines, row_lines, IsPaidFor}
 use Rattle.rst_block.proofs.Stack.{all_left}

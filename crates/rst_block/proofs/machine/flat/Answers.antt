@@ -2,14 +2,14 @@ use Rattle.std.proofs.Common.{◌≡◌, ℕ, [], None, length, arith, rules, ap
 use Rattle.std.proofs.lemmas.Result.{IfOk-weaker}
 use Rattle.rst_text.specs.Block.{Block}
 use Rattle.rst_text.specs.Shown.{block_of}
-use Rattle.rst_block.specs.Ledger.{most_after, least_after, most_left, least_left, Takes}
-use Rattle.rst_block.specs.MeaningLaws.{IsBlankPart}
-use Rattle.rst_block.specs.Meanings.{resumed}
-use Rattle.rst_block.specs.Texts.{lines_in}
-use Rattle.rst_block.specs.declared.step.Step.TheVariants.{Open}
-use Rattle.rst_block.proofs.Calls.{keeps_as, refuses}
+use Rattle.rst_block_state.specs.Ledger.{most_after, least_after, most_left, least_left, Takes}
+use Rattle.rst_block_state.specs.MeaningLaws.{IsBlankPart}
+use Rattle.rst_block_state.specs.Meanings.{resumed}
+use Rattle.rst_block_state.specs.Texts.{lines_in}
+use Rattle.rst_block_state.specs.declared.step.Step.TheVariants.{Open}
+use Rattle.rst_block_state.proofs.Calls.{keeps_as, refuses}
 use Rattle.rst_block.proofs.LastLevel.{blank_part, no_part, first_refused, second_refused, flat_goes_on}
-use Rattle.rst_block.proofs.StepsPaid.{takes_then, first_taken, both_taken}
+use Rattle.rst_block_body.proofs.StepsPaid.{takes_then, first_taken, both_taken}
 use Rattle.rst_block.proofs.machine.flat.Goals.{in-Some+in_ok-not_blank-2, in_default}
 use Rattle.rst_block.proofs.machine.flat.Goals as goal
 

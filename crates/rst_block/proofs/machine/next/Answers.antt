@@ -1,16 +1,16 @@
 use Rattle.std.proofs.Common.{◌≡◌, ◌<◌, arith, rules, refl, sym, subst, ◌∙◌}
 use Rattle.rst_text.specs.Block.{Block}
 use Rattle.rst_text.specs.Shown.{block_of}
-use Rattle.rst_block.specs.Ledger.{most_left, least_left, Takes}
-use Rattle.rst_block.specs.Meanings.{comes, reads}
-use Rattle.rst_block.specs.Steps.{IsStep}
-use Rattle.rst_block.specs.declared.step.Step.TheVariants.{Next}
-use Rattle.rst_block.proofs.Calls.{close_refuses}
-use Rattle.rst_block.proofs.Changes.{kept_closed}
-use Rattle.rst_block.proofs.LedgerLemmas.{ended}
-use Rattle.rst_block.proofs.NextConstructs.{has_ended, over_reads, over_refused}
+use Rattle.rst_block_state.specs.Ledger.{most_left, least_left, Takes}
+use Rattle.rst_block_state.specs.Meanings.{comes, reads}
+use Rattle.rst_block_state.specs.Steps.{IsStep}
+use Rattle.rst_block_state.specs.declared.step.Step.TheVariants.{Next}
+use Rattle.rst_block_state.proofs.Calls.{close_refuses}
+use Rattle.rst_block_state.proofs.Changes.{kept_closed}
+use Rattle.rst_block_state.proofs.LedgerLemmas.{ended}
+use Rattle.rst_block_state.proofs.NextConstructs.{has_ended, over_reads, over_refused}
 use Rattle.rst_block.proofs.Stack.{next_of_step}
-use Rattle.rst_block.proofs.StepsPaid.{takes_then, takes_none}
+use Rattle.rst_block_body.proofs.StepsPaid.{takes_then, takes_none}
 use Rattle.rst_block.proofs.machine.next.Goals as goal
 
 pub step_at-requires-clause-few : goal.step_at-requires-clause-few

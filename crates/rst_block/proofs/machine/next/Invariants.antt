@@ -1,9 +1,9 @@
 use Rattle.std.proofs.Common.{◌≡◌, ◌-◌, ◌≤◌, length}
 use Rattle.rst_text.specs.Shown.{block_of}
-use Rattle.rst_block.specs.Ledger.{most_left, least_left, Takes}
-use Rattle.rst_block.specs.Meanings.{reads}
-use Rattle.rst_block.specs.OpenBlocks.{IsPlaced}
-use Rattle.rst_block.specs.declared.step.Step.TheVariants.{Next}
+use Rattle.rst_block_state.specs.Ledger.{most_left, least_left, Takes}
+use Rattle.rst_block_state.specs.Meanings.{reads}
+use Rattle.rst_block_state.specs.OpenBlocks.{IsPlaced}
+use Rattle.rst_block_state.specs.declared.step.Step.TheVariants.{Next}
 use Rattle.rst_block.proofs.machine.next.Given as goal
 
 -- what is left of the block gives the same, and what it may take of looks is so much less

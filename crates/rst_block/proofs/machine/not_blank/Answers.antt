@@ -5,7 +5,7 @@ use Rattle.rst_markup_blocks.specs.Lines.{lines_while}
 use Rattle.rst_markup_blocks.specs.RowLaws.{while_le}
 use Rattle.rst_markup_blocks.specs.declared.lines.LineTest.TheVariants.{Blank}
 use Rattle.rst_block.proofs.LastLevel.{blank_up_to, text_at_place}
-use Rattle.rst_block.proofs.Looked.{reach_le}
+use Rattle.rst_block_state.proofs.Looked.{reach_le}
 use Rattle.rst_block.proofs.machine.not_blank.Goals as goal
 
 pub returns-then-first-len-clause-blank : goal.returns-then-first-len-clause-blank

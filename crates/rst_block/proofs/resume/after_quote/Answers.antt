@@ -1,8 +1,8 @@
 use Rattle.std.proofs.lemmas.Result.{IfOk-weaker}
 use Rattle.rst_text.specs.Shown.{block_of}
-use Rattle.rst_block.proofs.Changes.{kept_more}
-use Rattle.rst_block.proofs.QuoteSteps.{quote_ends}
-use Rattle.rst_block.proofs.QuotesPaid.{further_paid, last_paid}
+use Rattle.rst_block_state.proofs.Changes.{kept_more}
+use Rattle.rst_block_body.proofs.QuoteSteps.{quote_ends}
+use Rattle.rst_block_body.proofs.QuotesPaid.{further_paid, last_paid}
 use Rattle.rst_block.proofs.resume.after_quote.Goals as goal
 
 pub returns-in_ok-warn-in-None-clause-kept : goal.returns-in_ok-warn-in-None-clause-kept

@@ -1,7 +1,7 @@
 use Rattle.std.proofs.Common.{refl}
-use Rattle.rst_block.proofs.Calls.{gives_map}
-use Rattle.rst_block.proofs.Changes.{more_as, more_more}
-use Rattle.rst_block.proofs.QuoteSteps.{quote_made}
+use Rattle.rst_block_state.proofs.Calls.{gives_map}
+use Rattle.rst_block_state.proofs.Changes.{more_as, more_more}
+use Rattle.rst_block_body.proofs.QuoteSteps.{quote_made}
 use Rattle.rst_block.proofs.resume.put_quote.Goals as goal
 
 pub returns-in_ok-push_marked-in-Some-clause-more : goal.returns-in_ok-push_marked-in-Some-clause-more

@@ -5,16 +5,16 @@ use Rattle.rst_text.specs.Shown.{block_of}
 use Rattle.rst_tree.specs.declared.node.Node.{Node}
 use Rattle.rst_tree.specs.declared.tag.Tag.TheVariants.{ListItem}
 use Rattle.rst_block_nodes.specs.Elements.{element_of}
-use Rattle.rst_block.specs.Directives.{first_paragraph, replacement}
-use Rattle.rst_block.specs.Figures.{caption_error, figure_nodes}
-use Rattle.rst_block.specs.Ledger.{WaitsForOne}
-use Rattle.rst_block.specs.Meanings.{after_quote, quote_by, resumed}
-use Rattle.rst_block.specs.declared.figure.OpenFigure.{OpenFigure}
-use Rattle.rst_block.specs.declared.substitution.OpenReplacement.{OpenReplacement}
-use Rattle.rst_block.proofs.Calls.{keeps_as}
-use Rattle.rst_block.proofs.Changes.{kept_more, kept_item}
-use Rattle.rst_block.proofs.QuoteSteps.{after_more}
-use Rattle.rst_block.proofs.QuotesPaid.{more_paid, nodes_paid, item_paid}
+use Rattle.rst_block_state.specs.Directives.{first_paragraph, replacement}
+use Rattle.rst_block_state.specs.Figures.{caption_error, figure_nodes}
+use Rattle.rst_block_state.specs.Ledger.{WaitsForOne}
+use Rattle.rst_block_state.specs.Meanings.{after_quote, quote_by, resumed}
+use Rattle.rst_block_state.specs.declared.waits.OpenFigure.{OpenFigure}
+use Rattle.rst_block_state.specs.declared.waits.OpenReplacement.{OpenReplacement}
+use Rattle.rst_block_state.proofs.Calls.{keeps_as}
+use Rattle.rst_block_state.proofs.Changes.{kept_more, kept_item}
+use Rattle.rst_block_body.proofs.QuoteSteps.{after_more}
+use Rattle.rst_block_body.proofs.QuotesPaid.{more_paid, nodes_paid, item_paid}
 use Rattle.rst_block.proofs.Waiting.{nodes_given, item_given}
 use Rattle.rst_block.proofs.resume.resume.Goals.{in-ListItem+in_ok-item-in-ListItem+in_ok-push_item-in-ListItem, in-ListedBody+in_ok-listed_item-in-ListedBody+in_ok-push_item-in-ListedBody, in-Element+in_ok-completed-in-Element+in_ok-push_marked-in-Element, in-Figure+in_ok-finished_figure-in-Figure+in_ok-append_marked-in-Figure, in-Replacement+in_ok-finished_replacement-in-Replacement+in_ok-push-in-Replacement}
 use Rattle.rst_block.proofs.resume.resume.Goals as goal

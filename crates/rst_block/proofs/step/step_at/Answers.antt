@@ -3,9 +3,9 @@ use Rattle.std.specs.Prelude.{◌==◌, drop}
 use Rattle.rst_text.specs.Block.{Block}
 use Rattle.rst_text.specs.Shown.{block_of}
 use Rattle.rst_markup_blocks.specs.declared.begun.Begun.TheVariants.{Quote, Bullet, Enumerator, Field, OptionItem, Doctest, Line, Grid, Simple, Adornment, Text}
-use Rattle.rst_block.proofs.NextConstructs.{blank_reads, next_of}
-use Rattle.rst_block.proofs.StepsPaid.{blank_taken, construct_taken, step_taken, text_taken, markup_filled, grid_found, simple_found}
-use Rattle.rst_block.proofs.TableSteps.{grid_there}
+use Rattle.rst_block_state.proofs.NextConstructs.{blank_reads, next_of}
+use Rattle.rst_block_body.proofs.StepsPaid.{blank_taken, construct_taken, step_taken, text_taken, markup_filled, grid_found, simple_found}
+use Rattle.rst_block_body.proofs.TableSteps.{grid_there}
 use Rattle.rst_block.proofs.step.step_at.Goals as goal
 
 pub table-requires-clause-table : goal.table-requires-clause-table

@@ -1,6 +1,0 @@
-use Rattle.std.proofs.Common.{refl}
-use Rattle.rst_block.proofs.Changes.{begun_is}
-use Rattle.rst_block.proofs.open_block.OpenBlock.new.Goals as goal
-
-pub returns-clause-begun : goal.returns-clause-begun
-returns-clause-begun c = record { done = begun_is c.new.result.items c.new-2.result.items c.new.ensures.items c.new-2.ensures.items; run = refl; at = refl }

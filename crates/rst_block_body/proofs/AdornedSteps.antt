@@ -1,0 +1,75 @@
+-- A line of one punctuation character at the next line of a block: its form says the construct.
+use Rattle.std.proofs.Common.{◌≡◌, ℕ, Bool, true, List, Result, codes, drop, Option, Some, unwrap_or, sym, ◌∙◌, ap}
+use Rattle.std.specs.Prelude.{◌==◌}
+use Rattle.std.specs.Option.{option_map_or}
+use Rattle.rst_text.specs.Block.{Block, first_number}
+use Rattle.rst_tree.specs.declared.node.Node.{Node}
+use Rattle.rst_tree.specs.declared.note.Level.{Level}
+use Rattle.rst_markup_lines.specs.Front.{unindented}
+use Rattle.rst_markup_lines.specs.declared.adornment.Adornment.{Adornment}
+use Rattle.rst_markup_blocks.specs.Begun.{IsBegun}
+use Rattle.rst_markup_blocks.specs.Conditions.{next_text}
+use Rattle.rst_markup_blocks.specs.Forms.{adorned_form}
+use Rattle.rst_markup_blocks.specs.Sizes.{adornment_size, adorned_size, fixed_size, text_size, third_text}
+use Rattle.rst_markup_blocks.specs.declared.begun.Begun.TheVariants as begun
+use Rattle.rst_markup_blocks.specs.declared.form.Adorned.{Adorned}
+use Rattle.rst_block_sections.specs.declared.heading.Style.{Style}
+use Rattle.rst_block_state.specs.Constructs.{adorned_by, misplaced_lines}
+use Rattle.rst_block_state.specs.NextLine.{IsNextConstruct, IsMessageOn}
+use Rattle.rst_block_state.specs.Texts.{source_of}
+use Rattle.rst_block_state.specs.Titles.{Item, short_warning, title_item, overlined_nodes}
+use Rattle.rst_block_state.specs.declared.open_block.OpenBlock.{OpenBlock}
+use Rattle.rst_block_state.proofs.NextConstructs.{next_of, span_to}
+
+-- the form of a line of one punctuation character at the next line
+abbrev pub form_at : OpenBlock → Block → Adornment → Adorned
+form_at l B mark = adorned_form (l.depth == 0) mark (next_text (drop l.at B)) (third_text (drop l.at B))
+
+-- it is the form that is found
+pub form_is : (l : OpenBlock) (B : Block) (mark : Adornment) {form found : Adorned} {titles : Bool} → found ≡ form
+    → found ≡ adorned_form titles mark (next_text (drop l.at B)) (third_text (drop l.at B)) → titles ≡ (l.depth == 0) → form ≡ form_at l B mark
+form_is l B mark e f t = sym e ∙ f ∙ ap (λ b. adorned_form b mark (next_text (drop l.at B)) (third_text (drop l.at B))) t
+
+size_by : (l : OpenBlock) (B : Block) (mark : Adornment) → IsBegun (drop l.at B) (begun.Adornment mark) → adornment_size (l.depth == 0) (drop l.at B) ≡ adorned_size (form_at l B mark) (drop l.at B)
+unfolding adornment_size
+size_by l B mark h =
+    ap (λ o. option_map_or (λ (m : Adornment). adorned_size (adorned_form (l.depth == 0) m (next_text (drop l.at B)) (third_text (drop l.at B))) (drop l.at B)) o (text_size (drop l.at B))) h.mark
+
+-- the construct of the form, and its lines
+pub adorned_next : (l : OpenBlock) (B : Block) {mark : Adornment} {form : Adorned} → IsBegun (drop l.at B) (begun.Adornment mark) → form ≡ form_at l B mark
+    → IsNextConstruct l B (adorned_by form (l.depth == 0) mark (drop l.at B)) (adorned_size form (drop l.at B))
+adorned_next l B {mark} h e =
+    let next = next_of (begun.Adornment mark) l B h tt in
+    record {
+      filled = next.filled;
+      construct = next.construct ∙ ap (λ g. adorned_by g (l.depth == 0) mark (drop l.at B)) (sym e);
+      size = next.size ∙ size_by l B mark h ∙ ap (λ g. adorned_size g (drop l.at B)) (sym e);
+    }
+
+-- lines of a form that is wrong
+pub wrong_next : (l : OpenBlock) (B : Block) {mark : Adornment} {form : Adorned} (level : Level) (text : List ℕ) {lines : ℕ} → IsBegun (drop l.at B) (begun.Adornment mark) → form ≡ form_at l B mark
+    → IsMessageOn form level text → fixed_size form ≡ Some lines → IsNextConstruct l B (misplaced_lines level text) lines
+wrong_next l B {mark} level text h e m s =
+    let next = adorned_next l B h e in
+    record {
+      filled = next.filled;
+      construct = next.construct ∙ m (l.depth == 0) mark (drop l.at B);
+      size = next.size ∙ ap (λ o. unwrap_or o (text_size (drop l.at B))) s;
+    }
+
+-- ---- titles with an overline
+
+-- the title that is made is that of the lines
+pub overlined_reads : (mark : Adornment) (short : Bool) (B : Block) (at stop line m : ℕ) (text bytes : List ℕ) (warning : Option Node) (read : Result (List Item × ℕ) ℕ)
+    → text ≡ unindented (next_text (drop at B)) → line ≡ first_number (drop 1 (drop at B)) → warning ≡ short_warning short (first_number (drop at B)) (codes "Title overline too short.") bytes
+    → bytes ≡ source_of B (span_to at stop) → title_item (record { character = mark.character; overlined = true }) text line warning bytes m ≡ read
+    → overlined_nodes mark short (source_of B (span_to at stop)) (drop at B) m ≡ read
+overlined_reads mark short B at stop line m text bytes warning read t n w b h =
+    let X : Block = drop at B in
+    let style : Style = record { character = mark.character; overlined = true } in
+    sym (
+    ap (λ u. title_item style u line warning bytes m) t
+    ∙ ap (λ i. title_item style (unindented (next_text X)) i warning bytes m) n
+    ∙ ap (λ o. title_item style (unindented (next_text X)) (first_number (drop 1 X)) o bytes m) w
+    ∙ ap (λ x. title_item style (unindented (next_text X)) (first_number (drop 1 X)) (short_warning short (first_number X) (codes "Title overline too short.") x) x m) b)
+    ∙ h

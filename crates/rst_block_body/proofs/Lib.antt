@@ -1,0 +1,16 @@
+pub mod AdornedSteps
+pub mod AnnouncedLemmas
+pub mod AttributionsFound
+pub mod ListItems
+pub mod ListsPaid
+pub mod LiteralLemmas
+pub mod LineSteps
+pub mod LinesPaid
+pub mod ParagraphLemmas
+pub mod ParagraphsPaid
+pub mod QuoteSteps
+pub mod QuotesPaid
+pub mod StepsPaid
+pub mod TableSteps
+pub mod TextLines
+pub mod TextsPaid

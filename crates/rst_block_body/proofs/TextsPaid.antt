@@ -1,0 +1,131 @@
+-- Texts and lines of one punctuation character are paid for. But for an item of a definition list they open no block, and their reach goes no further
+-- than through the first line after them that isn't blank.
+use Rattle.std.proofs.Common.{◌≡◌, ℕ, ◌+◌, ◌-◌, ◌*◌, ◌<◌, ◌≤◌, Bool, List, [], Result, length, length-drop, length-take, drop, slice_range, min, arith, refl, sym, ap, ◌∙◌, subst}
+use Rattle.std.specs.Prelude.{◌==◌}
+use Rattle.rst_text.specs.Block.{Block}
+use Rattle.rst_text.specs.Reach.{reach}
+use Rattle.rst_markup_blocks.specs.Ends.{row_size, row_reach}
+use Rattle.rst_markup_blocks.specs.Kinds.{kind_at}
+use Rattle.rst_markup_blocks.specs.Partition.{construct_size}
+use Rattle.rst_markup_blocks.specs.Sizes.{overline_looks, paragraph_size}
+use Rattle.rst_markup_blocks.specs.declared.kind.Kind.{Kind}
+use Rattle.rst_markup_blocks.specs.declared.kind.Kind.TheVariants.{Blank, Quote, Bullet, Enumerator, Field, OptionItem, Doctest, Line, Grid, Simple, Explicit, Anonymous, Adornment, Text}
+use Rattle.rst_markup_blocks.proofs.PartitionLemmas.{end_inside}
+use Rattle.rst_block_state.specs.Constructs.{Construct, transition, overlined_title, misplaced_lines, underlined_title, paragraph, construct_by}
+use Rattle.rst_block_state.specs.Inside.{opened_by, cells_by}
+use Rattle.rst_block_state.specs.Ledger.{unread_at, totals, run_looks, IsPaid}
+use Rattle.rst_block_state.specs.NextLine.{IsNextConstruct}
+use Rattle.rst_block_state.specs.OpenBlocks.{IsClosed}
+use Rattle.rst_block_state.specs.Reaches.{reach_at}
+use Rattle.rst_block_state.specs.Rest.{no_run}
+use Rattle.rst_block_state.specs.Titles.{Item}
+use Rattle.rst_block_state.specs.Within.{Within}
+use Rattle.rst_block_state.specs.declared.open_block.OpenBlock.{OpenBlock}
+use Rattle.rst_block_state.specs.declared.step.Step.{Step}
+use Rattle.rst_block_state.specs.declared.step.Step.TheVariants.{Next}
+use Rattle.rst_block_state.proofs.LedgerLemmas.{size_reached}
+use Rattle.rst_block_state.proofs.PaidSteps.{ended_looks, paid_next}
+
+-- ---- texts and lines of one punctuation character
+
+-- one of these constructs, but for an item of a definition list, which opens a block
+abbrev pub IsFlat : Construct → Type 0
+IsFlat transition = Unit {0}
+IsFlat (overlined_title mark short) = Unit {0}
+IsFlat (misplaced_lines level text) = Unit {0}
+IsFlat (underlined_title infos short) = Unit {0}
+IsFlat (paragraph infos) = Unit {0}
+IsFlat _ = ⊥
+
+-- it opens no block
+opens_none : (what : Construct) (c : Within) (B : Block) (i : ℕ) (X : Block) → IsFlat what → opened_by what c B i X ≡ []
+opens_none transition c B i X h = refl
+opens_none (overlined_title mark short) c B i X h = refl
+opens_none (misplaced_lines level text) c B i X h = refl
+opens_none (underlined_title infos short) c B i X h = refl
+opens_none (paragraph infos) c B i X h = refl
+opens_none _ c B i X h = absurd h
+
+-- it has no cells
+no_cells : (what : Construct) (B : Block) (i : ℕ) → IsFlat what → cells_by what B i ≡ []
+no_cells transition B i h = refl
+no_cells (overlined_title mark short) B i h = refl
+no_cells (misplaced_lines level text) B i h = refl
+no_cells (underlined_title infos short) B i h = refl
+no_cells (paragraph infos) B i h = refl
+no_cells _ B i h = absurd h
+
+-- it is no table
+own_row : (k : Kind) (titles : Bool) (X : Block) → IsFlat (construct_by k titles X) → row_reach k titles X ≡ reach (row_size k titles X) X
+own_row Grid titles X h = absurd h
+own_row Simple titles X h = absurd h
+own_row Blank titles X h = refl
+own_row Quote titles X h = refl
+own_row Bullet titles X h = refl
+own_row Enumerator titles X h = refl
+own_row Field titles X h = refl
+own_row OptionItem titles X h = refl
+own_row Doctest titles X h = refl
+own_row Line titles X h = refl
+own_row Explicit titles X h = refl
+own_row Anonymous titles X h = refl
+own_row Adornment titles X h = refl
+own_row Text titles X h = refl
+
+-- its reach
+flat_reach : {l : OpenBlock} {B : Block} {what : Construct} {lines : ℕ} → IsNextConstruct l B what lines → IsFlat what → reach_at (l.depth == 0) (drop l.at B) ≡ reach lines (drop l.at B)
+unfolding construct_size
+flat_reach {l} {B} h flat =
+    let X : Block = drop l.at B in
+    own_row (kind_at X) (l.depth == 0) X (subst IsFlat (sym h.construct) flat) ∙ ap (λ n. reach n X) h.size
+
+-- it is paid for, where it came after the end of the open run
+pub paid_flat : (each : ℕ) {l closed : OpenBlock} (new : OpenBlock) {B : Block} {what : Construct} {lines m : ℕ} {read : Result (List Item × ℕ) ℕ} (before after : ℕ) → IsNextConstruct l B what lines → IsFlat what
+    → IsClosed read l closed m no_run → new.depth ≡ closed.depth → new.run ≡ closed.run → new.at ≡ l.at + lines
+    → after ≤ before + run_looks l.run + each * reach lines (drop l.at B) → before + lines ≤ after + 1 → IsPaid each l new B Next before after
+paid_flat each {l} {closed} new {B} {what} {lines} before after h flat cl depth run at most least =
+    let X : Block = drop l.at B in
+    let ended : run_looks new.run ≡ 0 = ap run_looks run ∙ ended_looks closed.run cl.run in
+    let few : after + run_looks new.run ≤ before + run_looks l.run + each * reach lines X = omega (arith, ended, most) in
+    paid_next each l new B what lines Next before after h tt (depth ∙ cl.depth) at (sym (ap (totals l.depth) (opens_none what (unread_at l.depth) B l.at X flat)))
+    (sym (ap (totals l.depth) (no_cells what B l.at flat))) (subst (λ n. after + run_looks new.run ≤ before + run_looks l.run + each * n) (sym (flat_reach h flat)) few) least
+
+-- ---- looks
+
+-- up to two looks before a construct are paid for with it
+paid_later : (each : ℕ) {l new : OpenBlock} {B : Block} {s : Step} {before mid after : ℕ} → l.at < length B → before ≤ mid → mid ≤ before + 2 → IsPaid each l new B s mid after → IsPaid (each + 2) l new B s before after
+paid_later each {l} {new} {B} {s} {before} {mid} {after} inside low high h =
+    let far : 1 ≤ reach_at (l.depth == 0) (drop l.at B) = omega (arith, size_reached (l.depth == 0) (drop l.at B), (end_inside (l.depth == 0) B l.at inside).0) in
+    record {
+      goes = h.goes;
+      depth = h.depth;
+      place = h.place;
+      blocks = h.blocks;
+      cells = h.cells;
+      most = omega (arith, h.most, high, far);
+      least = omega (arith, h.least, low);
+    }
+
+-- so are the looks at the line of a text and at the one below it
+pub paid_text : {l new : OpenBlock} {B : Block} {s : Step} {before line mid after : ℕ} → l.at < length B → line ≡ before + 1 → line ≤ mid → mid ≤ line + 1 → IsPaid 25 l new B s mid after → IsPaid 27 l new B s before after
+paid_text inside first low high h = paid_later 25 inside (omega (arith, first, low)) (omega (arith, first, high)) h
+
+-- and those at the two lines below a line of one punctuation character
+pub paid_adorned : {l new : OpenBlock} {B : Block} {s : Step} {before next mid after : ℕ} (t : List ℕ) → l.at < length B → before ≤ next → next ≤ before + 1 → next ≤ mid → mid ≤ next + overline_looks t
+    → IsPaid 27 l new B s mid after → IsPaid 29 l new B s before after
+paid_adorned t inside low high least most h = paid_later 27 inside (omega (arith, low, least)) (omega (arith, high, most)) h
+
+-- how many lines there are between two places of a block
+pub lines_looked : (B : Block) (i stop : ℕ) {at lines : ℕ} → i ≡ at → stop ≡ at + lines → at + lines ≤ length B → length (slice_range B i stop) ≡ lines
+lines_looked B i stop e s within =
+    let taken : length (slice_range B i stop) ≡ min (stop - i) (length (drop i B)) = length-take (stop - i) (drop i B) in
+    omega (arith, taken, length-drop i B, e, s, within)
+
+-- the looks at a paragraph, and those before it at the end of the open run
+pub paragraph_looks : (B : Block) (i run : ℕ) {at before closed after : ℕ} → i ≡ at → before ≤ closed → closed ≤ before + run
+    → after ≤ closed + 20 * reach (paragraph_size (drop i B)) (drop i B) → closed + paragraph_size (drop i B) ≤ after
+    → (after ≤ before + run + 25 * reach (paragraph_size (drop at B)) (drop at B)) × (before + paragraph_size (drop at B) ≤ after + 1)
+paragraph_looks B i run {at} e low high most least =
+    let size : paragraph_size (drop i B) ≡ paragraph_size (drop at B) = ap (λ k. paragraph_size (drop k B)) e in
+    let far : reach (paragraph_size (drop i B)) (drop i B) ≡ reach (paragraph_size (drop at B)) (drop at B) = ap (λ k. reach (paragraph_size (drop k B)) (drop k B)) e in
+    (omega (arith, high, most, far), omega (arith, low, least, size))

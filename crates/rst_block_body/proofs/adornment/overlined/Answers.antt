@@ -1,0 +1,72 @@
+use Rattle.std.proofs.Common.{◌≡◌, ◌+◌, ◌≤◌, length, drop, slice_range, arith, rules, refl, sym, ◌∙◌, ap}
+use Rattle.rst_text.specs.Block.{Block, first_number}
+use Rattle.rst_text.specs.Shown.{block_of}
+use Rattle.std.specs.Prelude.{string_bytes}
+use Rattle.std.specs.Str.{chars}
+use Rattle.rst_text.specs.Block.{front_text}
+use Rattle.rst_markup_lines.specs.Front.{unindented}
+use Rattle.rst_markup_blocks.specs.Conditions.{next_text}
+use Rattle.rst_block_state.specs.Texts.{source_of}
+use Rattle.rst_block_state.specs.Titles.{short_warning}
+use Rattle.rst_block_body.proofs.AdornedSteps.{overlined_reads}
+use Rattle.rst_block_state.proofs.Calls.{close_refuses, gives_keeps, gives_kept}
+use Rattle.rst_block_state.proofs.Changes.{kept_closed, kept_moved, kept_title, kept_then}
+use Rattle.rst_block_state.proofs.NextConstructs.{next_some, next_within, lines_after, end_behind, goes_behind, span_to, has_ended, next_refused, next_title}
+use Rattle.rst_block_body.proofs.TextsPaid.{paid_flat, lines_looked}
+use Rattle.rst_block_state.proofs.Views.{few_lines}
+use Rattle.rst_block_body.proofs.adornment.overlined.Goals as goal
+
+pub returns-in_err-close-clause-read : goal.returns-in_err-close-clause-read
+returns-in_err-close-clause-read c =
+    close_refuses c.from_residual.result c.in_err-close.field-0.0 _ _ _ c.args.level.now (search rules) c.in_err-close.ensures.closed (λ line h. next_refused _ c.requires.found tt h)
+
+pub returns-clause-kept : goal.returns-clause-kept
+returns-clause-kept c =
+    gives_kept _ _ c.push_heading.result c.push_heading.ensures.title
+    (λ _ h. kept_then (kept_closed c.in_ok-close.ensures.closed c.requires.placed) (λ w. kept_then (kept_moved c.go_to.ensures.moved w) (kept_title h)))
+
+pub returns-clause-read : goal.returns-clause-read
+returns-clause-read c =
+    let B : Block = block_of c.args.view.now in
+    let l = c.args.level.now in
+    let found = c.requires.found in
+    let within : l.at + 3 ≤ length B = next_within found c.requires.inside in
+    let stop : c.saturating_add-end.result ≡ l.at + 3 = end_behind l.at c.close.new.self.at c.saturating_add-end.result 3 (length B) c.close.ensures.at c.saturating_add-end.ensures within (few_lines c.args.view.now) in
+    let bytes : string_bytes c.in_ok-lines.lines ≡ source_of B (span_to l.at (l.at + 3)) =
+    c.in_ok-lines.ensures.bytes ∙ ap (λ i. source_of B (span_to i c.saturating_add-end.result)) c.close.ensures.at ∙ ap (λ i. source_of B (span_to l.at i)) stop in
+    let second : c.saturating_add.result ≡ l.at + 1 = omega (arith, c.saturating_add.ensures, c.close.ensures.at, within, few_lines c.args.view.now) in
+    let third : c.saturating_add-2.result ≡ l.at + 1 = omega (arith, c.saturating_add-2.ensures, c.close.ensures.at, within, few_lines c.args.view.now) in
+    let line : c.number_at-line.result ≡ first_number (drop 1 (drop l.at B)) = c.number_at-line.ensures ∙ ap first_number (sym (lines_after B l.at 1 c.saturating_add.result second)) in
+    let text : chars c.skip-text.result.now ≡ unindented (next_text (drop l.at B)) =
+    c.skip-text.ensures.chars
+    ∙ ap (λ i. drop i (chars c.text_at-text.result.now)) c.indentation.ensures.value
+    ∙ ap unindented (c.text_at-text.ensures.text ∙ ap front_text (sym (lines_after B l.at 1 c.saturating_add-2.result third))) in
+    let warning : c.in_ok-warning.warning ≡ short_warning c.args.short (first_number (drop l.at B)) _ (string_bytes c.in_ok-lines.lines) =
+    c.in_ok-warning.ensures
+    ∙ ap (λ i. short_warning c.args.short i _ c.as_str.result.now) (c.number_at.ensures ∙ ap (λ i. first_number (drop i B)) c.close.ensures.at)
+    ∙ ap (short_warning c.args.short (first_number (drop l.at B)) _) c.as_str.ensures.value in
+    let at : c.go_to.new.self.at ≡ l.at + 3 =
+    goes_behind l.at c.close.new.self.at c.go_to.new.self.at c.saturating_add-end.result 3 (length B) c.close.ensures.at c.saturating_add-end.ensures (next_some found c.requires.inside)
+    within (few_lines c.args.view.now) c.go_to.ensures.there in
+    gives_keeps _ c.push_heading.result _ _ c.push_heading.ensures.title
+    (λ _ h. next_title found tt (has_ended B _ c.in_ok-close.ensures.closed c.requires.placed)
+    (overlined_reads c.args.mark c.args.short B l.at (l.at + 3) c.number_at-line.result c.close.new.pass.numbers (chars c.skip-text.result.now) (string_bytes c.in_ok-lines.lines) c.in_ok-warning.warning _
+    text line warning bytes c.in_ok-heading.ensures.title)
+    refl c.go_to.ensures.moved at h)
+
+pub returns-clause-paid : goal.returns-clause-paid
+returns-clause-paid c =
+    let B : Block = block_of c.args.view.now in
+    let l = c.args.level.now in
+    let found = c.requires.found in
+    let within : l.at + 3 ≤ length B = next_within found c.requires.inside in
+    let stop : c.saturating_add-end.result ≡ l.at + 3 = end_behind l.at c.close.new.self.at c.saturating_add-end.result 3 (length B) c.close.ensures.at c.saturating_add-end.ensures within (few_lines c.args.view.now) in
+    let looked : length (slice_range B c.close.new.self.at c.saturating_add-end.result) ≡ 3 = lines_looked B c.close.new.self.at c.saturating_add-end.result c.close.ensures.at stop within in
+    let at : c.go_to.new.self.at ≡ l.at + 3 =
+    goes_behind l.at c.close.new.self.at c.go_to.new.self.at c.saturating_add-end.result 3 (length B) c.close.ensures.at c.saturating_add-end.ensures (next_some found c.requires.inside)
+    within (few_lines c.args.view.now) c.go_to.ensures.there in
+    let moved = c.go_to.ensures.moved in
+    gives_kept _ _ c.push_heading.result c.push_heading.ensures.title
+    (λ _ h. paid_flat 27 c.push_heading.new.self c.args.pass.now.looks c.heading_of.new.pass.looks found tt c.in_ok-close.ensures.closed (h.depth ∙ moved.depth) (h.run ∙ moved.run) (h.at ∙ at)
+    (omega (arith, c.close.ensures.run, c.in_ok-lines.ensures.each, looked, c.text_at-text.ensures.few, c.heading_of.ensures.looks))
+    (omega (arith, c.close.ensures.low, c.in_ok-lines.ensures.each, looked, c.text_at-text.ensures.low, c.heading_of.ensures.looks)))

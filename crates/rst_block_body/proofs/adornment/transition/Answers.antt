@@ -1,0 +1,45 @@
+use Rattle.std.proofs.Common.{◌≡◌, ◌+◌, ◌∷◌, [], length, drop, Ok, arith, rules, refl, sym, ◌∙◌, ap}
+use Rattle.rst_text.specs.Block.{Block, first_number}
+use Rattle.rst_text.specs.Shown.{block_of}
+use Rattle.rst_tree.specs.declared.node.Node.{Node}
+use Rattle.rst_block_state.specs.Titles.{plain, transition_node}
+use Rattle.rst_block_state.proofs.Calls.{close_refuses, gives_keeps, gives_kept}
+use Rattle.rst_block_state.proofs.Changes.{moved_more, kept_closed, kept_more, kept_then}
+use Rattle.rst_block_state.proofs.NextConstructs.{next_some, next_within, goes_behind, has_ended, next_refused, next_nodes}
+use Rattle.rst_block_body.proofs.TextsPaid.{paid_flat}
+use Rattle.rst_block_state.proofs.Views.{few_lines}
+use Rattle.rst_block_body.proofs.adornment.transition.Goals as goal
+
+pub returns-in_err-close-clause-read : goal.returns-in_err-close-clause-read
+returns-in_err-close-clause-read c =
+    close_refuses c.from_residual.result c.in_err-close.field-0.0 _ _ _ c.args.level.now (search rules) c.in_err-close.ensures.closed (λ line h. next_refused _ c.requires.found tt h)
+
+pub returns-clause-kept : goal.returns-clause-kept
+returns-clause-kept c =
+    gives_kept _ _ c.push.result c.push.ensures.more (λ _ h. kept_then (kept_closed c.in_ok-close.ensures.closed c.requires.placed) (kept_more (moved_more c.go_to.ensures.moved refl h)))
+
+pub returns-clause-read : goal.returns-clause-read
+returns-clause-read c =
+    let B : Block = block_of c.args.view.now in
+    let l = c.args.level.now in
+    let found = c.requires.found in
+    let node : c.element-node.result ≡ transition_node (first_number (drop l.at B)) =
+    c.element-node.ensures ∙ ap transition_node (c.number_at.ensures ∙ ap (λ i. first_number (drop i B)) c.close.ensures.at) in
+    let at : c.go_to.new.self.at ≡ l.at + 1 =
+    goes_behind l.at c.close.new.self.at c.go_to.new.self.at c.saturating_add.result 1 (length B) c.close.ensures.at c.saturating_add.ensures (next_some found c.requires.inside)
+    (next_within found c.requires.inside) (few_lines c.args.view.now) c.go_to.ensures.there in
+    gives_keeps _ c.push.result _ _ c.push.ensures.more
+    (λ _ h. next_nodes (c.element-node.result ∷ []) found tt (has_ended B _ c.in_ok-close.ensures.closed c.requires.placed)
+    (ap (λ (n : Node). Ok (plain n ∷ [], c.close.new.pass.numbers)) (sym node)) (moved_more c.go_to.ensures.moved at h))
+
+pub returns-clause-paid : goal.returns-clause-paid
+returns-clause-paid c =
+    let l = c.args.level.now in
+    let found = c.requires.found in
+    let at : c.go_to.new.self.at ≡ l.at + 1 =
+    goes_behind l.at c.close.new.self.at c.go_to.new.self.at c.saturating_add.result 1 (length (block_of c.args.view.now)) c.close.ensures.at c.saturating_add.ensures (next_some found c.requires.inside)
+    (next_within found c.requires.inside) (few_lines c.args.view.now) c.go_to.ensures.there in
+    let moved = c.go_to.ensures.moved in
+    gives_kept _ _ c.push.result c.push.ensures.more
+    (λ _ h. paid_flat 27 c.push.new.self c.args.pass.now.looks c.close.new.pass.looks found tt c.in_ok-close.ensures.closed (h.depth ∙ moved.depth) (h.run ∙ moved.run) (h.at ∙ at)
+    (omega (arith, c.close.ensures.run)) (omega (arith, c.close.ensures.low)))

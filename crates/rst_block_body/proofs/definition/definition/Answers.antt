@@ -1,0 +1,66 @@
+use Rattle.std.proofs.Common.{drop, arith, refl, rules}
+use Rattle.std.specs.Prelude.{None}
+use Rattle.rst_text.specs.Shown.{block_of}
+use Rattle.rst_tree.specs.declared.tag.Tag.TheVariants.{DefinitionListItem, Definition as DefinitionTag}
+use Rattle.rst_block_state.specs.Constructs.{definition_item}
+use Rattle.rst_block_state.specs.Lists.{empty_list, item_with}
+use Rattle.rst_block_state.specs.Meanings.{within_at}
+use Rattle.rst_block_state.specs.declared.waits.Waits.TheVariants.{ListedBody}
+use Rattle.rst_block_state.specs.declared.run.ListKind.TheVariants.{Definition}
+use Rattle.rst_block_state.specs.declared.step.Step.TheVariants.{Open}
+use Rattle.rst_block_state.proofs.Changes.{kept_run, kept_moved, kept_then}
+use Rattle.rst_block_body.proofs.ListItems.{item_behind, next_definition, IsOpened, plain_item, kept_opened, plain_refused, definition_made}
+use Rattle.rst_block_body.proofs.ListsPaid.{found_below, definition_is, paid_item}
+use Rattle.rst_block_state.proofs.MeaningLemmas.{body_means}
+use Rattle.rst_block_body.proofs.definition.definition.Goals as goal
+
+pub returns-in_err-join_list-clause-read : goal.returns-in_err-join_list-clause-read
+returns-in_err-join_list-clause-read c =
+    let B = block_of c.args.view.now in
+    let l = c.args.level.now in
+    plain_refused c.from_residual.result c.in_err-join_list.field-0.0 _ Definition _ (search rules) refl
+    (next_definition l B c.args.infos.items c.requires.text c.requires.form c.indented-body.ensures.part) c.in_err-join_list.ensures.joins c.in_err-join_list.ensures.begins
+
+pub returns-clause-kept : goal.returns-clause-kept
+returns-clause-kept c =
+    let B = block_of c.args.view.now in
+    let l = c.args.level.now in
+    let mark = definition_item c.args.infos.items in
+    let opened : IsOpened l c.join_list.new.level B Definition (empty_list mark (drop l.at B)) c.indented-body.result.to c.args.pass.now.numbers c.join_list.new.pass.numbers =
+    record { joins = c.in_ok-join_list.ensures.joins; numbers = c.in_ok-join_list.ensures.numbers; begins = c.in_ok-join_list.ensures.begins } in
+    kept_then (kept_then (kept_opened mark refl opened c.requires.placed) (kept_run c.in_ok-put_before.ensures.run)) (kept_moved c.go_to.ensures.moved)
+
+pub returns-clause-read : goal.returns-clause-read
+returns-clause-read c =
+    let B = block_of c.args.view.now in
+    let l = c.args.level.now in
+    let mark = definition_item c.args.infos.items in
+    let part = c.indented-body.result in
+    let line = c.number_at-line.result in
+    let heads = c.in_ok-heads.heads.heads in
+    let notes = c.in_ok-heads.heads.notes in
+    let waits = ListedBody line DefinitionListItem DefinitionTag heads notes in
+    let k = c.join_list.new.pass.numbers in
+    let m = c.term_and_classifiers.new.numbers in
+    let opened : IsOpened l c.join_list.new.level B Definition (empty_list mark (drop l.at B)) part.to c.args.pass.now.numbers k =
+    record { joins = c.in_ok-join_list.ensures.joins; numbers = c.in_ok-join_list.ensures.numbers; begins = c.in_ok-join_list.ensures.begins } in
+    let next = next_definition l B c.args.infos.items c.requires.text c.requires.form c.indented-body.ensures.part in
+    plain_item l c.join_list.new.level c.put_before.new.level c.go_to.new.self B mark Definition (Open waits part None) (λ w. item_with w B DefinitionListItem DefinitionTag line part heads.items notes.items) part.to
+    c.args.pass.now.numbers k m refl next opened c.in_ok-put_before.ensures.run c.go_to.ensures.moved
+    (c.go_to.ensures.there (rw (c.put_before.ensures.at, c.in_ok-join_list.ensures.at) (item_behind next c.requires.inside))) c.requires.placed
+    (λ r h. body_means c.go_to.new.self B line DefinitionListItem DefinitionTag heads.items notes.items waits part r m h (λ ns. refl))
+    (definition_made (within_at l.depth) B l.at c.args.infos.items (drop l.at B) k refl c.number_at-line.ensures c.line-term.ensures.text c.indented-body.ensures.part c.in_ok-heads.ensures.read)
+
+pub returns-clause-paid : goal.returns-clause-paid
+returns-clause-paid c =
+    let B = block_of c.args.view.now in
+    let l = c.args.level.now in
+    let infos = c.args.infos.items in
+    let part = c.indented-body.ensures.part in
+    let start = c.args.pass.now.looks in
+    let mid = c.indented-body.new.looks in
+    let next = next_definition l B infos c.requires.text c.requires.form part in
+    paid_item 25 (ListedBody c.number_at-line.result DefinitionListItem DefinitionTag c.in_ok-heads.heads.heads c.in_ok-heads.heads.notes) c.indented-body.result start start mid c.line-term.new.looks (omega arith)
+    next (definition_is B l.at infos part) (found_below B l.at start mid part c.indented-body.ensures.reach) refl tt refl (returns-clause-kept c).depth
+    (c.go_to.ensures.there (rw (c.put_before.ensures.at, c.in_ok-join_list.ensures.at) (item_behind next c.requires.inside))) (omega arith)
+    (omega (arith, c.in_ok-join_list.ensures.low, c.line-term.ensures.looks)) (omega (arith, c.in_ok-join_list.ensures.looks, c.line-term.ensures.looks))

@@ -1,0 +1,86 @@
+use Rattle.std.proofs.Common.{◌≡◌, ℕ, ◌+◌, ◌<◌, [], drop, unwrap_or, arith, rules, refl, sym, subst, ◌∙◌, ap}
+use Rattle.rst_text.specs.Shown.{block_of}
+use Rattle.rst_markup_blocks.specs.declared.begun.Begun.TheVariants.{Line}
+use Rattle.rst_markup_blocks.specs.Sizes.{indented_size}
+use Rattle.rst_block_nodes.specs.LineBlocks.{indented_by, indented}
+use Rattle.rst_block_state.specs.LineRuns.{indentation_of, indented_line}
+use Rattle.rst_block_state.specs.Meanings.{open_of, reads}
+use Rattle.rst_block_state.specs.OpenBlocks.{HasRun, HasLine, line_added}
+use Rattle.rst_block_state.specs.Rest.{open_lines}
+use Rattle.rst_block_state.specs.declared.open_block.OpenBlock.{OpenBlock}
+use Rattle.rst_block_state.specs.declared.run.Run.TheVariants.{Lines}
+use Rattle.rst_block_state.proofs.Calls.{close_refuses, gives_keeps, gives_kept}
+use Rattle.rst_block_state.proofs.Changes.{kept_run, kept_closed, kept_then}
+use Rattle.rst_block_body.proofs.LineSteps.{line_refused, line_joined, line_begun, kept_line}
+use Rattle.rst_block_body.proofs.LinesPaid.{line_paid}
+use Rattle.rst_block_state.proofs.NextConstructs.{next_of, next_some, span_to, has_ended}
+use Rattle.rst_block_body.proofs.line.bar_line.Goals as goal
+
+pub returns-in_err-close-clause-read : goal.returns-in_err-close-clause-read
+returns-in_err-close-clause-read c =
+    let B = block_of c.args.view.now in
+    let l = c.args.level.now in
+    close_refuses c.from_residual-in_err-close.result c.in_err-close.field-0.0 _ _ _ l (search rules) c.in_err-close.ensures.closed
+    (λ line h. sym (ap (reads l B) c.in_ok-text.ensures.numbers) ∙ line_refused _ (sym c.lines_end_at.ensures ∙ c.if-lines_end_at.false) (next_of (Line c.args.marker) l B c.requires.begun tt) h)
+
+pub returns-then-lines_end_at-clause-kept : goal.returns-then-lines_end_at-clause-kept
+returns-then-lines_end_at-clause-kept c = gives_kept _ _ c.add_line.result c.add_line.ensures.line (λ _ h. kept_line h.0 c.requires.placed)
+
+pub returns-then-lines_end_at-clause-read : goal.returns-then-lines_end_at-clause-read
+returns-then-lines_end_at-clause-read c =
+    let B = block_of c.args.view.now in
+    let l = c.args.level.now in
+    let m = c.args.marker in
+    let new = c.add_line.new.level in
+    let bar = c.in_ok-text.text in
+    let lines : ℕ = indented_size (drop l.at B) in
+    let stop : c.indented_end-end.result ≡ l.at + lines = c.indented_end-end.ensures.end in
+    let next = next_of (Line m) l B c.requires.begun tt in
+    let some : l.at < l.at + lines = next_some next c.requires.inside in
+    let line : (last : ℕ) → indented_by (unwrap_or bar.indent last) bar ≡ indented_line (indentation_of last m) B m (span_to l.at (l.at + lines)) =
+    λ last. c.in_ok-text.ensures.line last ∙ ap (λ i. indented_line (indentation_of last m) B m (span_to l.at i)) stop in
+    gives_keeps _ c.add_line.result _ _ c.add_line.ensures.line
+    (λ _ h. ap (reads new B) c.in_ok-text.ensures.numbers
+    ∙ line_joined bar c.args.pass.now.numbers (sym c.lines_end_at.ensures ∙ c.if-lines_end_at.true) next line
+    (subst (λ i. HasLine l new (line_added bar i (open_of l.run))) stop h.0) (h.1 (omega (arith, stop, some)) ∙ stop))
+
+pub returns-clause-kept : goal.returns-clause-kept
+returns-clause-kept c =
+    let mid = c.close.new.self in
+    let opened : OpenBlock = record { depth = mid.depth; at = mid.at; nodes = mid.nodes; run = Lines c.new.result c.args.level.now.at; headings = mid.headings } in
+    let run : HasRun mid opened (open_of opened.run) = record { depth = refl; at = refl; nodes = refl; headings = refl; run = refl } in
+    gives_kept _ _ c.add_line-2.result c.add_line-2.ensures.line (λ _ h. kept_then (kept_then (kept_closed c.in_ok-close.ensures.closed c.requires.placed) (kept_run run)) (kept_line h.0))
+
+pub returns-clause-read : goal.returns-clause-read
+returns-clause-read c =
+    let B = block_of c.args.view.now in
+    let l = c.args.level.now in
+    let m = c.args.marker in
+    let mid = c.close.new.self in
+    let new = c.add_line-2.new.level in
+    let opened : OpenBlock = record { depth = mid.depth; at = mid.at; nodes = mid.nodes; run = Lines c.new.result l.at; headings = mid.headings } in
+    let run : HasRun mid opened (open_lines l.at []) = record { depth = refl; at = refl; nodes = refl; headings = refl; run = ap (λ bars. open_lines l.at (indented bars)) c.new.ensures.items } in
+    let bar = c.in_ok-text.text in
+    let lines : ℕ = indented_size (drop l.at B) in
+    let stop : c.indented_end-end.result ≡ l.at + lines = c.indented_end-end.ensures.end in
+    let next = next_of (Line m) l B c.requires.begun tt in
+    let some : l.at < l.at + lines = next_some next c.requires.inside in
+    let line : (last : ℕ) → indented_by (unwrap_or bar.indent last) bar ≡ indented_line (indentation_of last m) B m (span_to l.at (l.at + lines)) =
+    λ last. c.in_ok-text.ensures.line last ∙ ap (λ i. indented_line (indentation_of last m) B m (span_to l.at i)) stop in
+    gives_keeps _ c.add_line-2.result _ _ c.add_line-2.ensures.line
+    (λ _ h. line_begun opened bar l.at (sym c.lines_end_at.ensures ∙ c.if-lines_end_at.false) next line (has_ended B _ c.in_ok-close.ensures.closed c.requires.placed) run
+    (subst (λ i. HasLine opened new (line_added bar i (open_of opened.run))) stop h.0) (h.1 (omega (arith, stop, some, c.close.ensures.at)) ∙ stop)
+    ∙ ap (reads l B) c.in_ok-text.ensures.numbers)
+
+pub returns-then-lines_end_at-clause-paid : goal.returns-then-lines_end_at-clause-paid
+returns-then-lines_end_at-clause-paid c =
+    gives_kept _ _ c.add_line.result c.add_line.ensures.line
+    (λ _ h. line_paid c.indented_end-end.result _ _ _ _ c.requires.inside c.requires.begun c.indented_end-end.ensures.end h.0.depth h.1 c.indented_end-end.ensures.few c.indented_end-end.ensures.low
+    c.in_ok-text.ensures.most c.in_ok-text.ensures.low (omega arith) (omega arith))
+
+pub returns-clause-paid : goal.returns-clause-paid
+returns-clause-paid c =
+    let at : c.close.new.self.at ≡ c.args.level.now.at = c.close.ensures.at in
+    gives_kept _ _ c.add_line-2.result c.add_line-2.ensures.line
+    (λ _ h. line_paid c.indented_end-end.result _ _ _ _ c.requires.inside c.requires.begun c.indented_end-end.ensures.end (h.0.depth ∙ c.in_ok-close.ensures.closed.depth) (λ gone. h.1 (omega (arith, at, gone)))
+    c.indented_end-end.ensures.few c.indented_end-end.ensures.low c.in_ok-text.ensures.most c.in_ok-text.ensures.low c.close.ensures.run c.close.ensures.low)

@@ -1,0 +1,43 @@
+use Rattle.std.proofs.Common.{◌≡◌, drop, ◌∙◌, ap, arith}
+use Rattle.rst_text.specs.Block.{Block}
+use Rattle.rst_text.specs.Extent.{extent}
+use Rattle.rst_text.specs.Shown.{block_of}
+use Rattle.std.specs.Prelude.{string_bytes}
+use Rattle.std.specs.Str.{chars}
+use Rattle.rst_markup_blocks.specs.RowLaws.{extent_le}
+use Rattle.rst_block_state.specs.LineRuns.{below_bar}
+use Rattle.rst_block_body.specs.TextSteps.{text_over}
+use Rattle.rst_block_state.specs.Texts.{lines_in}
+use Rattle.rst_block_state.specs.Within.{indented_part}
+use Rattle.rst_block_body.proofs.LineSteps.{full_line, bare_line}
+use Rattle.rst_block_state.proofs.Looked.{reach_le}
+use Rattle.rst_block_state.proofs.NextConstructs.{span_to}
+use Rattle.rst_block_body.proofs.line.bar_text.Goals as goal
+
+pub returns-then-marker-clause-line : goal.returns-then-marker-clause-line
+returns-then-marker-clause-line c =
+    let B : Block = block_of c.args.view.now in
+    let below : block_of c.inside-below.result ≡ below_bar B (span_to c.args.at c.args.end) =
+    c.inside-below.ensures.block ∙ ap (lines_in (block_of c.lines_between-below.result)) c.indented.ensures.part ∙ ap (λ Y. lines_in Y (indented_part 0 Y)) c.lines_between-below.ensures.lines in
+    λ last. bare_line B c.args.marker (span_to c.args.at c.args.end) c.number_at-line.result c.first_line_or-text_line.result last (chars (string_bytes c.in_ok-further.further)) (block_of c.inside-below.result)
+    c.if-marker.true c.number_at-line.ensures below c.first_line_or-text_line.ensures c.in_ok-further.ensures.text
+
+pub returns-clause-line : goal.returns-clause-line
+returns-clause-line c =
+    let B : Block = block_of c.args.view.now in
+    let Y : Block = block_of c.inside-below.result in
+    let below : Y ≡ below_bar B (span_to c.args.at c.args.end) =
+    c.inside-below.ensures.block ∙ ap (lines_in (block_of c.lines_between-below.result)) c.indented.ensures.part ∙ ap (λ Y. lines_in Y (indented_part 0 Y)) c.lines_between-below.ensures.lines in
+    λ last. full_line B c.args.marker (span_to c.args.at c.args.end) c.saturating_sub.result c.number_at-line.result last (chars (string_bytes c.in_ok-text.text)) Y c.if-marker.false c.requires.inside
+    c.saturating_sub.ensures c.number_at-line.ensures below
+    (c.in_ok-text.ensures ∙ ap (λ t. text_over t Y) (c.skip-first.ensures.chars ∙ ap (drop c.args.marker.cut) c.line.ensures.text))
+
+pub returns-then-marker-clause-most : goal.returns-then-marker-clause-most
+returns-then-marker-clause-most c =
+    let Y : Block = block_of c.lines_between-below.result in
+    omega (arith, reach_le (extent 1 Y) Y (extent_le 1 Y), c.lines_between-below.ensures.few, c.indented.ensures.reach, c.inside-below.ensures.fewer, c.in_ok-further.ensures.each)
+
+pub returns-clause-most : goal.returns-clause-most
+returns-clause-most c =
+    let Y : Block = block_of c.lines_between-below.result in
+    omega (arith, reach_le (extent 1 Y) Y (extent_le 1 Y), c.lines_between-below.ensures.few, c.indented.ensures.reach, c.inside-below.ensures.fewer, c.in_ok-further.ensures.each, c.line.ensures.looks)

@@ -1,0 +1,55 @@
+use Rattle.std.proofs.Common.{◌≡◌, ◌+◌, drop, length-drop, arith, ap}
+use Rattle.std.proofs.lemmas.List.{drop-drop}
+use Rattle.rst_text.specs.Block.{Block}
+use Rattle.rst_text.specs.Shown.{block_of}
+use Rattle.rst_markup_blocks.specs.Lines.{lines_while}
+use Rattle.rst_markup_blocks.specs.RowLaws.{while_le}
+use Rattle.rst_markup_blocks.specs.declared.lines.LineTest.TheVariants.{Filled}
+use Rattle.rst_block_body.proofs.AttributionsFound.{Unfound-start, Unfound-step, Unfound-found, Unfound-blank, Unfound-end, attribution_end}
+use Rattle.rst_block_state.proofs.Views.{few_lines}
+use Rattle.rst_block_body.proofs.quote.first_attribution.Goals as goal
+
+pub loop-end-init : goal.loop-end-init
+loop-end-init c = record {
+  within = c.lines_end-end.ensures.within;
+  looks = omega (arith, c.lines_end-end.ensures.few, c.lines_end-end.ensures.end);
+  low = omega (arith, c.lines_end-end.ensures.low);
+  unfound = Unfound-start (block_of c.args.lines.now) c.lines_end-end.result c.lines_end-end.ensures.end;
+}
+
+pub returns-in-Some-clause-first : goal.returns-in-Some-clause-first
+returns-in-Some-clause-first c =
+    Unfound-found (block_of c.args.lines.now) c.loop-end.end c.lines_end-place.result c.in-Some.found c.loop-end.invariant.unfound c.lines_end-place.ensures.end (omega arith) c.in-Some.ensures.attribution
+
+pub returns-in-Some-clause-looks : goal.returns-in-Some-clause-looks
+returns-in-Some-clause-looks c =
+    let B : Block = block_of c.args.lines.now in
+    omega (arith, few_lines c.args.lines.now, c.lines_end-place.ensures.end, c.lines_end-place.ensures.few, c.lines_end-place.ensures.within, c.attribution_at.ensures.looks, c.loop-end.invariant.within, c.loop-end.invariant.looks, while_le Filled (drop 1 (drop c.lines_end-place.result B)), length-drop 1 (drop c.lines_end-place.result B), length-drop c.lines_end-place.result B)
+
+pub returns-then-place-len-clause-first : goal.returns-then-place-len-clause-first
+returns-then-place-len-clause-first c =
+    Unfound-blank (block_of c.args.lines.now) c.loop-end.end c.lines_end-place.result c.loop-end.invariant.unfound c.lines_end-place.ensures.end (omega arith)
+
+pub returns-clause-first : goal.returns-clause-first
+returns-clause-first c = Unfound-end (block_of c.args.lines.now) c.loop-end.end c.loop-end.invariant.unfound (omega arith)
+
+pub loop-end-preserved : goal.loop-end-preserved
+loop-end-preserved c =
+    let B : Block = block_of c.args.lines.now in
+    let below : lines_while Filled (drop 1 (drop c.lines_end-place.result B)) ≡ lines_while Filled (drop (c.lines_end-place.result + 1) B) = ap (lines_while Filled) (drop-drop 1 c.lines_end-place.result B) in
+    record {
+      within = c.lines_end-end-in-None.ensures.within;
+      looks = omega (arith, below, c.lines_end-place.ensures.end, c.lines_end-place.ensures.few, c.attribution_at.ensures.looks, c.lines_end-end-in-None.ensures.end, c.lines_end-end-in-None.ensures.few, c.loop-end.invariant.looks);
+      low = omega (arith, c.lines_end-place.ensures.low, c.attribution_at.ensures.low, c.lines_end-end-in-None.ensures.low, c.loop-end.invariant.low);
+      unfound = Unfound-step B c.loop-end.end c.lines_end-place.result c.lines_end-end-in-None.result c.loop-end.invariant.unfound c.lines_end-place.ensures.end (omega arith) (length-drop (c.loop-end.end + 1) B)
+          c.in-None.ensures.attribution c.lines_end-end-in-None.ensures.end;
+    }
+
+pub lines_end-end-requires-in-None-clause-few : goal.lines_end-end-requires-in-None-clause-few
+lines_end-end-requires-in-None-clause-few c =
+    let B : Block = block_of c.args.lines.now in
+    omega (arith, few_lines c.args.lines.now, c.requires.few, c.lines_end-place.ensures.end, c.lines_end-place.ensures.few, c.lines_end-place.ensures.within, c.attribution_at.ensures.looks, c.loop-end.invariant.within, c.loop-end.invariant.looks, while_le Filled (drop 1 (drop c.lines_end-place.result B)), length-drop 1 (drop c.lines_end-place.result B), length-drop c.lines_end-place.result B)
+
+pub returns-in-Some-clause-through : goal.returns-in-Some-clause-through
+returns-in-Some-clause-through c =
+    omega (arith, c.lines_end-place.ensures.end, c.lines_end-place.ensures.few, c.attribution_at.ensures.looks, c.loop-end.invariant.looks, attribution_end c.lines_end-place.result (drop c.lines_end-place.result (block_of c.args.lines.now)) c.in-Some.found c.in-Some.ensures.attribution)

@@ -1,0 +1,137 @@
+use Rattle.std.proofs.Common.{◌≡◌, ◌+◌, drop, ap, ◌∙◌, arith, rules}
+use Rattle.std.proofs.lemmas.Result.{IfOk-weaker}
+use Rattle.rst_text.specs.Block.{front_text}
+use Rattle.rst_text.specs.Shown.{block_of}
+use Rattle.rst_markup_lines.specs.Front.{is_loose}
+use Rattle.rst_markup_blocks.specs.Sizes.{paragraph_size}
+use Rattle.rst_block_state.specs.Ledger.{run_looks}
+use Rattle.rst_block_state.proofs.Calls.{close_refuses}
+use Rattle.rst_block_state.proofs.Changes.{kept_closed, kept_more, kept_then}
+use Rattle.rst_block_state.proofs.NextConstructs.{next_of_form, next_within, has_ended, next_refused}
+use Rattle.rst_block_body.proofs.TextLines.{text_plain, form_here, paragraph_goes, short_more, underlined_goes, kept_items}
+use Rattle.rst_block_body.proofs.TextsPaid.{paid_flat, paid_text, paragraph_looks}
+use Rattle.rst_block_body.proofs.text.text_line.Goals as goal
+
+pub returns-in_err-close-in-Paragraph-clause-read : goal.returns-in_err-close-in-Paragraph-clause-read
+returns-in_err-close-in-Paragraph-clause-read c =
+    let l = c.args.level.now in
+    let form = form_here (block_of c.args.view.now) l.at c.line-text.ensures.text c.below_text-next.ensures.text c.text_form.ensures c.in-Paragraph.is in
+    close_refuses c.from_residual.result c.in_err-close-in-Paragraph.field-0.0 _ _ _ l (search rules) c.in_err-close-in-Paragraph.ensures.closed
+    (λ line h. next_refused _ (next_of_form c.args.infos.items c.requires.text form) tt h)
+
+pub returns-in_err-close-in-ShortUnderline-clause-read : goal.returns-in_err-close-in-ShortUnderline-clause-read
+returns-in_err-close-in-ShortUnderline-clause-read c =
+    let l = c.args.level.now in
+    let form = form_here (block_of c.args.view.now) l.at c.line-text.ensures.text c.below_text-next.ensures.text c.text_form.ensures c.in-ShortUnderline.is in
+    close_refuses c.from_residual-in_err-close-in-ShortUnderline.result c.in_err-close-in-ShortUnderline.field-0.0 _ _ _ l (search rules) c.in_err-close-in-ShortUnderline.ensures.closed
+    (λ line h. next_refused _ (next_of_form c.args.infos.items c.requires.text form) tt h)
+
+pub returns-in_err-close-in-Title-clause-read : goal.returns-in_err-close-in-Title-clause-read
+returns-in_err-close-in-Title-clause-read c =
+    let l = c.args.level.now in
+    let form = form_here (block_of c.args.view.now) l.at c.line-text.ensures.text c.below_text-next.ensures.text c.text_form.ensures c.in-Title.is in
+    close_refuses c.from_residual-in_err-close-in-Title.result c.in_err-close-in-Title.field-0.0 _ _ _ l (search rules) c.in_err-close-in-Title.ensures.closed
+    (λ line h. next_refused _ (next_of_form c.args.infos.items c.requires.text form) tt h)
+
+pub paragraph-requires-clause-plain : goal.paragraph-requires-clause-plain
+paragraph-requires-clause-plain c =
+    let B = block_of c.args.view.now in
+    ap (λ i. is_loose (front_text (drop i B))) (c.append.ensures.at ∙ c.close.ensures.at) ∙ text_plain c.args.level.now B c.args.infos.items c.requires.text
+
+pub paragraph-requires-in-ShortUnderline-clause-plain : goal.paragraph-requires-in-ShortUnderline-clause-plain
+paragraph-requires-in-ShortUnderline-clause-plain c =
+    let B = block_of c.args.view.now in
+    ap (λ i. is_loose (front_text (drop i B))) (c.put_short_underline.ensures.at ∙ c.append-in-ShortUnderline.ensures.at ∙ c.close-in-ShortUnderline.ensures.at)
+    ∙ text_plain c.args.level.now B c.args.infos.items c.requires.text
+
+pub underlined-requires-clause-inside : goal.underlined-requires-clause-inside
+underlined-requires-clause-inside c =
+    let form = form_here (block_of c.args.view.now) c.args.level.now.at c.line-text.ensures.text c.below_text-next.ensures.text c.text_form.ensures c.in-Title.is in
+    omega (arith, next_within (next_of_form c.args.infos.items c.requires.text form) c.requires.inside, c.append-in-Title.ensures.at, c.close-in-Title.ensures.at)
+
+pub underlined-requires-clause-placed : goal.underlined-requires-clause-placed
+underlined-requires-clause-placed c = (kept_then (kept_closed c.in_ok-close-in-Title.ensures.closed c.requires.placed) (kept_more c.in_ok-append-in-Title.ensures.more)).placed
+
+pub returns-in_ok-paragraph-in-Paragraph-clause-kept : goal.returns-in_ok-paragraph-in-Paragraph-clause-kept
+returns-in_ok-paragraph-in-Paragraph-clause-kept c =
+    kept_then (kept_then (kept_closed c.in_ok-close-in-Paragraph.ensures.closed c.requires.placed) (kept_more c.in_ok-append-in-Paragraph.ensures.more)) (kept_more c.in_ok-paragraph-in-Paragraph.ensures.read.gone)
+
+pub returns-in_ok-paragraph-in-Paragraph-clause-read : goal.returns-in_ok-paragraph-in-Paragraph-clause-read
+returns-in_ok-paragraph-in-Paragraph-clause-read c =
+    let B = block_of c.args.view.now in
+    let form = form_here B c.args.level.now.at c.line-text.ensures.text c.below_text-next.ensures.text c.text_form.ensures c.in-Paragraph.is in
+    paragraph_goes (next_of_form c.args.infos.items c.requires.text form) (has_ended B _ c.in_ok-close-in-Paragraph.ensures.closed c.requires.placed) c.in_ok-append-in-Paragraph.ensures.more
+    c.in_ok-paragraph-in-Paragraph.ensures.read
+
+pub returns-in_ok-paragraph-in-ShortUnderline-clause-kept : goal.returns-in_ok-paragraph-in-ShortUnderline-clause-kept
+returns-in_ok-paragraph-in-ShortUnderline-clause-kept c =
+    let first = kept_then (kept_closed c.in_ok-close-in-ShortUnderline.ensures.closed c.requires.placed) (kept_more c.in_ok-append-in-ShortUnderline.ensures.more) in
+    kept_then (kept_then first (kept_more c.in_ok-put_short_underline-in-ShortUnderline.ensures.more)) (kept_more c.in_ok-paragraph-in-ShortUnderline.ensures.read.gone)
+
+pub returns-in_ok-paragraph-in-ShortUnderline-clause-read : goal.returns-in_ok-paragraph-in-ShortUnderline-clause-read
+returns-in_ok-paragraph-in-ShortUnderline-clause-read c =
+    let B = block_of c.args.view.now in
+    let form = form_here B c.args.level.now.at c.line-text.ensures.text c.below_text-next.ensures.text c.text_form.ensures c.in-ShortUnderline.is in
+    let ended = has_ended B c.args.pass.now.numbers c.in_ok-close-in-ShortUnderline.ensures.closed c.requires.placed in
+    paragraph_goes (next_of_form c.args.infos.items c.requires.text form) ended (short_more ended c.in_ok-append-in-ShortUnderline.ensures.more c.in_ok-put_short_underline-in-ShortUnderline.ensures.more)
+    c.in_ok-paragraph-in-ShortUnderline.ensures.read
+
+pub returns-in_ok-underlined-in-Title-clause-read : goal.returns-in_ok-underlined-in-Title-clause-read
+returns-in_ok-underlined-in-Title-clause-read c =
+    let B = block_of c.args.view.now in
+    let form = form_here B c.args.level.now.at c.line-text.ensures.text c.below_text-next.ensures.text c.text_form.ensures c.in-Title.is in
+    underlined_goes (next_of_form c.args.infos.items c.requires.text form) (has_ended B _ c.in_ok-close-in-Title.ensures.closed c.requires.placed) c.in_ok-append-in-Title.ensures.more
+    c.in_ok-underlined-in-Title.ensures.read
+
+pub returns-in_ok-underlined-in-Title-clause-kept : goal.returns-in_ok-underlined-in-Title-clause-kept
+returns-in_ok-underlined-in-Title-clause-kept c =
+    kept_then (kept_then (kept_closed c.in_ok-close-in-Title.ensures.closed c.requires.placed) (kept_more c.in_ok-append-in-Title.ensures.more)) (λ w. kept_items c.in_ok-underlined-in-Title.ensures.read)
+
+pub returns-in-Definition-clause-paid : goal.returns-in-Definition-clause-paid
+returns-in-Definition-clause-paid c =
+    let next = c.below_text-next.ensures in
+    IfOk-weaker c.definition.result _ _ (λ _ h. paid_text c.requires.inside c.line-text.ensures.looks next.low next.looks h) c.definition.ensures.paid
+
+pub returns-in_ok-paragraph-in-Paragraph-clause-paid : goal.returns-in_ok-paragraph-in-Paragraph-clause-paid
+returns-in_ok-paragraph-in-Paragraph-clause-paid c =
+    let B = block_of c.args.view.now in
+    let l = c.args.level.now in
+    let form = form_here B l.at c.line-text.ensures.text c.below_text-next.ensures.text c.text_form.ensures c.in-Paragraph.is in
+    let next = c.below_text-next.ensures in
+    let some = c.in_ok-append-in-Paragraph.ensures.more in
+    let gone = c.in_ok-paragraph-in-Paragraph.ensures.read.gone in
+    let at : c.append.new.self.at ≡ l.at = c.append.ensures.at ∙ c.close.ensures.at in
+    let looks = paragraph_looks B c.append.new.self.at (run_looks l.run) at c.close.ensures.low c.close.ensures.run c.in_ok-paragraph-in-Paragraph.ensures.most c.in_ok-paragraph-in-Paragraph.ensures.low in
+    paid_text c.requires.inside c.line-text.ensures.looks next.low next.looks
+    (paid_flat 25 c.paragraph.new.level _ _ (next_of_form c.args.infos.items c.requires.text form) tt c.in_ok-close-in-Paragraph.ensures.closed (gone.depth ∙ some.depth) (gone.run ∙ some.run)
+    (gone.at ∙ ap (λ i. i + paragraph_size (drop i B)) at) looks.0 looks.1)
+
+pub returns-in_ok-paragraph-in-ShortUnderline-clause-paid : goal.returns-in_ok-paragraph-in-ShortUnderline-clause-paid
+returns-in_ok-paragraph-in-ShortUnderline-clause-paid c =
+    let B = block_of c.args.view.now in
+    let l = c.args.level.now in
+    let form = form_here B l.at c.line-text.ensures.text c.below_text-next.ensures.text c.text_form.ensures c.in-ShortUnderline.is in
+    let next = c.below_text-next.ensures in
+    let some = c.in_ok-append-in-ShortUnderline.ensures.more in
+    let info = c.in_ok-put_short_underline-in-ShortUnderline.ensures.more in
+    let gone = c.in_ok-paragraph-in-ShortUnderline.ensures.read.gone in
+    let at : c.put_short_underline.new.level.at ≡ l.at = c.put_short_underline.ensures.at ∙ c.append-in-ShortUnderline.ensures.at ∙ c.close-in-ShortUnderline.ensures.at in
+    let looks = paragraph_looks B c.put_short_underline.new.level.at (run_looks l.run) at c.close-in-ShortUnderline.ensures.low c.close-in-ShortUnderline.ensures.run c.in_ok-paragraph-in-ShortUnderline.ensures.most
+    c.in_ok-paragraph-in-ShortUnderline.ensures.low in
+    paid_text c.requires.inside c.line-text.ensures.looks next.low next.looks
+    (paid_flat 25 c.paragraph-in-ShortUnderline.new.level _ _ (next_of_form c.args.infos.items c.requires.text form) tt c.in_ok-close-in-ShortUnderline.ensures.closed (gone.depth ∙ info.depth ∙ some.depth)
+    (gone.run ∙ info.run ∙ some.run) (gone.at ∙ ap (λ i. i + paragraph_size (drop i B)) at) looks.0 looks.1)
+
+pub returns-in_ok-underlined-in-Title-clause-paid : goal.returns-in_ok-underlined-in-Title-clause-paid
+returns-in_ok-underlined-in-Title-clause-paid c =
+    let B = block_of c.args.view.now in
+    let l = c.args.level.now in
+    let form = form_here B l.at c.line-text.ensures.text c.below_text-next.ensures.text c.text_form.ensures c.in-Title.is in
+    let next = c.below_text-next.ensures in
+    let some = c.in_ok-append-in-Title.ensures.more in
+    let read = c.in_ok-underlined-in-Title.ensures.read in
+    let at : c.append-in-Title.new.self.at ≡ l.at = c.append-in-Title.ensures.at ∙ c.close-in-Title.ensures.at in
+    paid_text c.requires.inside c.line-text.ensures.looks next.low next.looks
+    (paid_flat 25 c.underlined.new.level c.below_text-next.new.looks c.underlined.new.pass.looks (next_of_form c.args.infos.items c.requires.text form) tt c.in_ok-close-in-Title.ensures.closed
+    (read.depth ∙ some.depth) (read.run ∙ some.run) (read.at ∙ ap (λ i. i + 2) at)
+    (omega (arith, c.close-in-Title.ensures.run, c.underlined.ensures.most)) (omega (arith, c.close-in-Title.ensures.low, c.in_ok-underlined-in-Title.ensures.low)))

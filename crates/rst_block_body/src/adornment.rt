@@ -1,0 +1,227 @@
+//! Lines of one punctuation character: transitions, titles with an overline, and what is neither (Markup
+//! Specification, 'Sections', 'Transitions').
+ghost use Rattle.std.specs.Prelude.{◌≡◌, ◌+◌, ◌-◌, ◌*◌, ◌^◌, ◌<◌, ◌≤◌, ◌∷◌, [], length, drop, Some, IfOk, IfSome};
+ghost use Rattle.rst_text.specs.Block.{first_number};
+ghost use Rattle.rst_text.specs.Shown.{block_of};
+ghost use Rattle.rst_tree.specs.declared.note.Level.TheVariants.{Info};
+ghost use Rattle.rst_markup_blocks.specs.Parts.{IsBlock, IsCall};
+ghost use Rattle.rst_markup_blocks.specs.Sizes.{fixed_size};
+ghost use Rattle.rst_block_state.specs.Steps as spec;
+ghost use Rattle.rst_markup_blocks.specs.Begun.{IsBegun};
+ghost use Rattle.rst_markup_blocks.specs.declared.begun.Begun.TheVariants as marks;
+ghost use Rattle.rst_block_state.specs.Constructs.{transition, overlined_title, misplaced_lines};
+ghost use Rattle.rst_block_state.specs.Meanings.{Keeps, comes, reads};
+ghost use Rattle.rst_block_state.specs.NextLine.{IsText, IsNextConstruct, IsWrong, IsMessageOn};
+ghost use Rattle.rst_block_state.specs.OpenBlocks.{IsKept, IsPlaced};
+ghost use Rattle.rst_block_state.specs.Texts.{said};
+ghost use Rattle.rst_block_state.specs.Ledger.{IsPaid};
+ghost use Rattle.rst_block_state.specs.declared.step.Step.TheVariants.{Next};
+
+use super::text::text_line;
+use rst_block_nodes::message;
+use rst_block_sections::Style;
+use rst_block_state::{
+    BlockFault, OpenBlock, Pass, Step, alone, heading_of, number_at, short_warning, source,
+};
+use rst_markup_blocks::{Adorned, adorned_at, below_text, text_at};
+use rst_markup_lines::Adornment;
+use rst_text::{View, indentation, skip};
+use rst_tree::{Level, Node, Tag};
+use std::alloc::Global;
+
+/// A line of one punctuation character.
+pub fn adornment(
+    alloc: Global,
+    view: &View<'_>,
+    level: &mut OpenBlock,
+    mark: Adornment,
+    pass: &mut Pass,
+) -> Result<Step, BlockFault>
+    requires inside { level.old.at < length (block_of view.now) }
+    requires few { pass.old.looks < 2 ^ 119 + 2 ^ 111 }
+    requires begun { IsBegun (drop level.old.at (block_of view.now)) (marks.Adornment mark) }
+    requires placed { IsPlaced level.old }
+    ensures step { IfOk result (λ s. spec.IsStep (block_of view.now) level.old.at level.new.at s) }
+    ensures kept { IfOk result (λ _. IsKept level.old level.new) }
+    ensures read { Keeps result (λ s. comes level.new (block_of view.now) s pass.new.numbers)
+        (reads level.old (block_of view.now) pass.old.numbers) }
+    ensures paid { IfOk result (λ s. IsPaid 29 level.old level.new (block_of view.now) s pass.old.looks pass.new.looks) }
+{
+    let at = level.at;
+    let next = below_text(view, at, 1, &mut pass.looks);
+    match adorned_at(view, at, level.titles(), mark, next, &mut pass.looks) {
+        Adorned::Text => text_line(alloc, view, level, Vec::new(alloc), pass),
+        Adorned::ShortOverline => short(alloc, view, level, SHORT_OVERLINE, pass),
+        Adorned::ShortAdornment => short(alloc, view, level, SHORT_ADORNMENT, pass),
+        Adorned::Transition => {
+            transition(alloc, view, level, pass)?;
+            Ok(Step::Next)
+        }
+        Adorned::Title { short } => {
+            overlined(alloc, view, level, mark, short, pass)?;
+            Ok(Step::Next)
+        }
+        form => {
+            wrong(alloc, view, level, wrong_form(form), pass)?;
+            Ok(Step::Next)
+        }
+    }
+}
+
+const SHORT_OVERLINE: &str =
+    "Possible incomplete section title.\nTreating the overline as ordinary text because it's so short.";
+
+const SHORT_ADORNMENT: &str =
+    "Unexpected possible title overline or transition.\nTreating it as ordinary text because it's so short.";
+
+/// What is said of lines that are neither a title nor a transition: how grave it is, the text, and how many lines they are.
+#[derive(Clone, Copy)]
+struct WrongForm {
+    gravity: Level,
+    text: &'static str,
+    lines: usize,
+}
+
+/// What is said of a form that is wrong.
+fn wrong_form(form: Adorned) -> WrongForm
+    requires { IsWrong form }
+    ensures message { IsMessageOn form result.gravity result.text.now }
+    ensures lines { fixed_size form ≡ Some result.lines }
+{
+    let (gravity, text, lines) = match form {
+        Adorned::InvalidMarker => (
+            Level::Error,
+            "Invalid section title or transition marker.",
+            2,
+        ),
+        Adorned::Incomplete => (Level::Severe, "Incomplete section title.", 2),
+        Adorned::MissingUnderline { blank } => (
+            Level::Severe,
+            "Missing matching underline for section title overline.",
+            if blank { 2 } else { 3 },
+        ),
+        Adorned::Mismatch => (Level::Severe, "Title overline & underline mismatch.", 3),
+        _ => (Level::Severe, "Unexpected section title or transition.", 1),
+    };
+    WrongForm {
+        gravity,
+        text,
+        lines,
+    }
+}
+
+/// A transition.
+fn transition(
+    alloc: Global,
+    view: &View<'_>,
+    level: &mut OpenBlock,
+    pass: &mut Pass,
+) -> Result<(), BlockFault>
+    requires inside { level.old.at < length (block_of view.now) }
+    requires few { pass.old.looks < 2 ^ 119 + 2 ^ 112 }
+    requires placed { IsPlaced level.old }
+    requires found { IsNextConstruct level.old (block_of view.now) transition 1 }
+    ensures later { IfOk result (λ _. level.old.at < level.new.at) }
+    ensures kept { IfOk result (λ _. IsKept level.old level.new) }
+    ensures read { Keeps result (λ _. reads level.new (block_of view.now) pass.new.numbers)
+        (reads level.old (block_of view.now) pass.old.numbers) }
+    ensures paid { IfOk result (λ _. IsPaid 27 level.old level.new (block_of view.now) Next pass.old.looks pass.new.looks) }
+{
+    level.close(alloc, view, pass)?;
+    let at = level.at;
+    let node = Node::element(alloc, Tag::Transition, number_at(view, at));
+    level.go_to(at.saturating_add(1));
+    level.push(node)
+}
+
+/// A short line that is taken as text, behind a message that says so.
+fn short(
+    alloc: Global,
+    view: &View<'_>,
+    level: &mut OpenBlock,
+    text: &str,
+    pass: &mut Pass,
+) -> Result<Step, BlockFault>
+    requires inside { level.old.at < length (block_of view.now) }
+    requires few { pass.old.looks < 2 ^ 119 + 2 ^ 112 }
+    requires placed { IsPlaced level.old }
+    requires text { IsText level.old (block_of view.now) (said Info (first_number (drop level.old.at (block_of view.now))) text.now ∷ []) }
+    ensures step { IfOk result (λ s. spec.IsStep (block_of view.now) level.old.at level.new.at s) }
+    ensures kept { IfOk result (λ _. IsKept level.old level.new) }
+    ensures read { Keeps result (λ s. comes level.new (block_of view.now) s pass.new.numbers)
+        (reads level.old (block_of view.now) pass.old.numbers) }
+    ensures paid { IfOk result (λ s. IsPaid 27 level.old level.new (block_of view.now) s pass.old.looks pass.new.looks) }
+{
+    let info = message(alloc, Level::Info, number_at(view, level.at), text, None)?;
+    text_line(alloc, view, level, alone(alloc, info)?, pass)
+}
+
+/// The message on some lines that are neither a title nor a transition.
+fn wrong(
+    alloc: Global,
+    view: &View<'_>,
+    level: &mut OpenBlock,
+    form: WrongForm,
+    pass: &mut Pass,
+) -> Result<(), BlockFault>
+    requires inside { level.old.at < length (block_of view.now) }
+    requires few { pass.old.looks < 2 ^ 119 + 2 ^ 112 }
+    requires placed { IsPlaced level.old }
+    requires found { IsNextConstruct level.old (block_of view.now) (misplaced_lines form.gravity form.text.now) form.lines }
+    ensures later { IfOk result (λ _. level.old.at < level.new.at) }
+    ensures kept { IfOk result (λ _. IsKept level.old level.new) }
+    ensures read { Keeps result (λ _. reads level.new (block_of view.now) pass.new.numbers)
+        (reads level.old (block_of view.now) pass.old.numbers) }
+    ensures paid { IfOk result (λ _. IsPaid 27 level.old level.new (block_of view.now) Next pass.old.looks pass.new.looks) }
+{
+    level.close(alloc, view, pass)?;
+    let at = level.at;
+    let end = at.saturating_add(form.lines);
+    let block = source(alloc, view, at, end, &mut pass.looks)?;
+    let line = number_at(view, at);
+    let node = message(alloc, form.gravity, line, form.text, Some(block.as_str()))?;
+    level.go_to(end);
+    level.push(node)
+}
+
+/// A title between its overline and its underline.
+fn overlined(
+    alloc: Global,
+    view: &View<'_>,
+    level: &mut OpenBlock,
+    mark: Adornment,
+    short: bool,
+    pass: &mut Pass,
+) -> Result<(), BlockFault>
+    requires inside { level.old.at < length (block_of view.now) }
+    requires few { pass.old.looks < 2 ^ 119 + 2 ^ 112 }
+    requires placed { IsPlaced level.old }
+    requires found { IsNextConstruct level.old (block_of view.now) (overlined_title mark short) 3 }
+    ensures later { IfOk result (λ _. level.old.at < level.new.at) }
+    ensures kept { IfOk result (λ _. IsKept level.old level.new) }
+    ensures read { Keeps result (λ _. reads level.new (block_of view.now) pass.new.numbers)
+        (reads level.old (block_of view.now) pass.old.numbers) }
+    ensures paid { IfOk result (λ _. IsPaid 27 level.old level.new (block_of view.now) Next pass.old.looks pass.new.looks) }
+{
+    level.close(alloc, view, pass)?;
+    let at = level.at;
+    let end = at.saturating_add(3);
+    let lines = source(alloc, view, at, end, &mut pass.looks)?;
+    let warning = short_warning(
+        alloc,
+        short,
+        number_at(view, at),
+        "Title overline too short.",
+        lines.as_str(),
+    )?;
+    let line = number_at(view, at.saturating_add(1));
+    let text = text_at(view, at.saturating_add(1), &mut pass.looks);
+    let style = Style {
+        character: mark.character,
+        overlined: true,
+    };
+    let text = skip(text, indentation(text));
+    let heading = heading_of(alloc, style, text, line, warning, lines, pass)?;
+    level.go_to(end);
+    level.push_heading(heading)
+}

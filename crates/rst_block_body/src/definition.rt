@@ -1,0 +1,75 @@
+//! Items of definition lists (Markup Specification, 'Definition Lists').
+ghost use Rattle.std.specs.Prelude.{◌≡◌, ◌+◌, ◌-◌, ◌*◌, ◌^◌, ◌<◌, ◌≤◌, length, drop, IfOk, IfSome};
+ghost use Rattle.rst_text.specs.Shown.{block_of};
+ghost use Rattle.rst_markup_blocks.specs.Parts.{IsBlock, IsCall};
+ghost use Rattle.rst_block_state.specs.Steps as spec;
+ghost use Rattle.rst_text.specs.Block.{front_text};
+ghost use Rattle.rst_markup_blocks.specs.Conditions.{next_text};
+ghost use Rattle.rst_markup_blocks.specs.Forms.{text_form};
+ghost use Rattle.rst_markup_blocks.specs.declared.form.TextForm.TheVariants.{Definition};
+ghost use Rattle.rst_block_state.specs.Meanings.{Keeps, comes, open_of, reads};
+ghost use Rattle.rst_block_state.specs.NextLine.{IsText};
+ghost use Rattle.rst_block_state.specs.OpenBlocks.{Gives, HasRun, IsKept, IsPlaced, with_infos};
+ghost use Rattle.rst_block_state.specs.Ledger.{IsPaid};
+
+use super::field::join_list;
+use rst_block_nodes::term_and_classifiers;
+use rst_block_sections::append;
+use rst_block_state::{
+    BlockFault, ListKind, OpenBlock, Pass, Run, Step, Waits, indented, number_at,
+};
+use rst_text::View;
+use rst_tree::{Node, Tag};
+use std::alloc::Global;
+
+/// An item of a definition list. The messages that say why its term is a text stand before the whole list.
+pub(crate) fn definition(
+    alloc: Global,
+    view: &View<'_>,
+    level: &mut OpenBlock,
+    infos: Vec<Node>,
+    pass: &mut Pass,
+) -> Result<Step, BlockFault>
+    requires inside { level.old.at < length (block_of view.now) }
+    requires few { pass.old.looks < 2 ^ 119 + 2 ^ 114 }
+    requires text { IsText level.old (block_of view.now) infos.items }
+    requires form { let X = drop level.old.at (block_of view.now) in text_form (front_text X) (next_text X) ≡ Definition }
+    requires placed { IsPlaced level.old }
+    ensures step { IfOk result (λ s. spec.IsStep (block_of view.now) level.old.at level.new.at s) }
+    ensures kept { IfOk result (λ _. IsKept level.old level.new) }
+    ensures read { Keeps result (λ s. comes level.new (block_of view.now) s pass.new.numbers)
+        (reads level.old (block_of view.now) pass.old.numbers) }
+    ensures paid { IfOk result (λ s. IsPaid 25 level.old level.new (block_of view.now) s pass.old.looks pass.new.looks) }
+{
+    let at = level.at;
+    let line = number_at(view, at);
+    let body = indented(view, at + 1, &mut pass.looks);
+    let kind = ListKind::Definition;
+    join_list(alloc, view, level, kind, Tag::DefinitionList, body.to, pass)?;
+    put_before(level, infos)?;
+    let term = view.line(at, &mut pass.looks);
+    let heads = term_and_classifiers(alloc, term, line, &mut pass.numbers)?;
+    level.go_to(body.to);
+    Ok(Step::Open {
+        waits: Waits::ListedBody {
+            line,
+            item: Tag::DefinitionListItem,
+            body: Tag::Definition,
+            heads: heads.heads,
+            notes: heads.notes,
+        },
+        first: body,
+        second: None,
+    })
+}
+
+/// Puts messages before the list that is open.
+fn put_before(level: &mut OpenBlock, infos: Vec<Node>) -> Result<(), BlockFault>
+    ensures at { level.new.at ≡ level.old.at }
+    ensures run { Gives (λ _. HasRun level.old level.new (with_infos infos.items (open_of level.old.run))) result }
+{
+    match &mut level.run {
+        Run::List(open) => Ok(append(&mut open.before, infos)?),
+        _ => Ok(()),
+    }
+}

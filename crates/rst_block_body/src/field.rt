@@ -1,0 +1,109 @@
+//! Fields (Markup Specification, 'Field Lists').
+ghost use Rattle.std.specs.Prelude.{◌≡◌, suc, ◌+◌, ◌-◌, ◌^◌, ◌<◌, ◌≤◌, [], length, drop, IfOk, Some};
+ghost use Rattle.rst_text.specs.Block.{first_number};
+ghost use Rattle.rst_text.specs.Shown.{block_of};
+ghost use Rattle.rst_tree.specs.Forest.{bare};
+ghost use Rattle.rst_tree.specs.declared.node.Node.TheVariants.{Element};
+ghost use Rattle.rst_block_state.specs.Meanings.{Keeps, comes, deepest, joining_in, list_kind_in, open_of, reads};
+ghost use Rattle.rst_block_state.specs.OpenBlocks.{Closes, Gives, HasRun, IsKept, IsPlaced, begun_at, joined_at};
+ghost use Rattle.rst_block_state.specs.Rest.{closed_run};
+ghost use Rattle.rst_block_state.specs.Steps as spec;
+ghost use Rattle.rst_markup_blocks.specs.Begun.{IsBegun};
+ghost use Rattle.rst_markup_blocks.specs.declared.begun.Begun.TheVariants.{Field};
+ghost use Rattle.rst_block_state.specs.Ledger.{IsPaid};
+
+use rst_block_nodes::with_text;
+use rst_block_state::{
+    BlockFault, ListKind, OpenBlock, Pass, Step, Waits, excerpt, hanging, number_at,
+};
+use rst_markup_lines::FieldMark;
+use rst_text::View;
+use rst_tree::{Node, Tag};
+use std::alloc::Global;
+
+/// A field.
+pub fn field(
+    alloc: Global,
+    view: &View<'_>,
+    level: &mut OpenBlock,
+    mark: FieldMark,
+    pass: &mut Pass,
+) -> Result<Step, BlockFault>
+    requires inside { level.old.at < length (block_of view.now) }
+    requires few { pass.old.looks < 2 ^ 119 + 2 ^ 111 }
+    requires begun { IsBegun (drop level.old.at (block_of view.now)) (Field mark) }
+    requires placed { IsPlaced level.old }
+    ensures step { IfOk result (λ s. spec.IsStep (block_of view.now) level.old.at level.new.at s) }
+    ensures kept { IfOk result (λ _. IsKept level.old level.new) }
+    ensures read { Keeps result (λ s. comes level.new (block_of view.now) s pass.new.numbers)
+        (reads level.old (block_of view.now) pass.old.numbers) }
+    ensures paid { IfOk result (λ s. IsPaid 29 level.old level.new (block_of view.now) s pass.old.looks pass.new.looks) }
+{
+    let at = level.at;
+    let line = number_at(view, at);
+    let body = hanging(view, at, mark.marker, &mut pass.looks);
+    join_list(
+        alloc,
+        view,
+        level,
+        ListKind::Field,
+        Tag::FieldList,
+        body.to,
+        pass,
+    )?;
+    let name = excerpt(alloc, view.line(at, &mut pass.looks), mark.name)?;
+    let name = with_text(
+        alloc,
+        Tag::FieldName,
+        line,
+        name.as_str(),
+        line,
+        &mut pass.numbers,
+    )?;
+    let mut heads = Vec::with_capacity(alloc, 2)?;
+    heads.push(name.element)?;
+    level.go_to(body.to);
+    Ok(Step::Open {
+        waits: Waits::ListedBody {
+            line,
+            item: Tag::Field,
+            body: Tag::FieldBody,
+            heads,
+            notes: name.notes,
+        },
+        first: body,
+        second: None,
+    })
+}
+
+/// Has a list of this kind open: that before the next line, or a new one, whose element has this tag. The item that joins it
+/// ends at `end`.
+pub(crate) fn join_list(
+    alloc: Global,
+    view: &View<'_>,
+    level: &mut OpenBlock,
+    kind: ListKind,
+    tag: Tag,
+    end: usize,
+    pass: &mut Pass,
+) -> Result<(), BlockFault>
+    requires few { pass.old.looks < 2 ^ 120 }
+    ensures at { level.new.at ≡ level.old.at }
+    ensures joins { list_kind_in level.old.run ≡ Some kind
+        → Gives (λ _. HasRun level.old level.new (joined_at (joining_in kind) end (open_of level.old.run))) result }
+    ensures numbers { list_kind_in level.old.run ≡ Some kind → pass.new.numbers ≡ pass.old.numbers }
+    ensures begins { let B = block_of view.now in
+        let closed = closed_run (suc deepest - level.old.depth) B (open_of level.old.run) pass.old.numbers in
+        let run = begun_at (joining_in kind) end (Element tag [] bare (first_number (drop level.old.at B))) in
+        (list_kind_in level.old.run ≡ Some kind → ⊥) → Closes closed level.old level.new pass.new.numbers run result }
+    ensures looks { pass.new.looks ≤ pass.old.looks + 1 }
+    ensures low { pass.old.looks ≤ pass.new.looks }
+{
+    if level.run.list_kind() == Some(kind) {
+        level.join(kind, end);
+        return Ok(());
+    }
+    let line = number_at(view, level.at);
+    level.close(alloc, view, pass)?;
+    level.begin(alloc, kind, Node::element(alloc, tag, line), end)
+}

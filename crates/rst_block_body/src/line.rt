@@ -1,0 +1,141 @@
+//! Lines of line blocks (Markup Specification, 'Line Blocks').
+ghost use Rattle.std.specs.Prelude.{◌≡◌, ℕ, ◌+◌, ◌-◌, ◌*◌, ◌^◌, ◌<◌, ◌≤◌, length, drop, unwrap_or, IfOk, IfSome};
+ghost use Rattle.std.specs.Str.{chars};
+ghost use Rattle.rst_text.specs.Shown.{block_of};
+ghost use Rattle.rst_text.specs.Text.{chars_of};
+ghost use Rattle.rst_markup_blocks.specs.Parts.{IsBlock, IsCall};
+ghost use Rattle.rst_block_nodes.specs.LineBlocks.{indented_by};
+ghost use Rattle.rst_block_state.specs.Steps as spec;
+ghost use Rattle.rst_markup_blocks.specs.Begun.{IsBegun};
+ghost use Rattle.rst_markup_blocks.specs.declared.begun.Begun.TheVariants.{Line};
+ghost use Rattle.rst_block_state.specs.LineRuns.{indented_line, indentation_of};
+ghost use Rattle.rst_block_body.specs.TextSteps.{text_over};
+ghost use Rattle.rst_block_state.specs.Meanings.{Keeps, reads, open_of};
+ghost use Rattle.rst_block_state.specs.OpenBlocks.{Gives, IsKept, IsPlaced, HasLine, line_added, lines_end_at};
+ghost use Rattle.rst_block_state.specs.Texts.{joined};
+ghost use Rattle.rst_block_state.specs.Ledger.{IsPaid};
+ghost use Rattle.rst_block_state.specs.declared.step.Step.TheVariants.{Next};
+
+use rst_block_nodes::BarText;
+use rst_block_state::{
+    BlockFault, OpenBlock, Pass, Run, first_line_or, indented, inside, joined, lines_between,
+    number_at,
+};
+use rst_markup_blocks::indented_end;
+use rst_markup_lines::Marker;
+use rst_text::{View, skip};
+use std::alloc::{AllocError, Global};
+
+/// A line of a line block. It joins the lines before it where no blank one stands between.
+pub fn bar_line(
+    alloc: Global,
+    view: &View<'_>,
+    level: &mut OpenBlock,
+    marker: Marker,
+    pass: &mut Pass,
+) -> Result<(), BlockFault>
+    requires inside { level.old.at < length (block_of view.now) }
+    requires few { pass.old.looks < 2 ^ 119 + 2 ^ 111 }
+    requires begun { IsBegun (drop level.old.at (block_of view.now)) (Line marker) }
+    requires placed { IsPlaced level.old }
+    ensures later { IfOk result (λ _. level.old.at < level.new.at) }
+    ensures kept { IfOk result (λ _. IsKept level.old level.new) }
+    ensures read { Keeps result (λ _. reads level.new (block_of view.now) pass.new.numbers)
+        (reads level.old (block_of view.now) pass.old.numbers) }
+    ensures paid { IfOk result (λ _. IsPaid 29 level.old level.new (block_of view.now) Next pass.old.looks pass.new.looks) }
+{
+    let at = level.at;
+    let end = indented_end(view, at, &mut pass.looks);
+    let text = bar_text(alloc, view, at, end, marker, pass)?;
+    if lines_end_at(&level.run, at) {
+        return add_line(level, text, end);
+    }
+    level.close(alloc, view, pass)?;
+    level.run = Run::Lines {
+        lines: Vec::new(alloc),
+        end: at,
+    };
+    add_line(level, text, end)
+}
+
+/// Whether the open run is a line block that ends at this place.
+fn lines_end_at(run: &Run, at: usize) -> bool
+    ensures { result ≡ lines_end_at at (open_of run.now) }
+{
+    matches!(run, Run::Lines { end, .. } if at == *end)
+}
+
+/// Puts a line behind the last of the open line block, and goes on where the line ends.
+fn add_line(level: &mut OpenBlock, text: BarText, end: usize) -> Result<(), BlockFault>
+    requires { level.old.at < 2 ^ 64 - 1 }
+    ensures later { IfOk result (λ _. level.old.at < level.new.at) }
+    ensures line { Gives (λ _. HasLine level.old level.new (line_added text end (open_of level.old.run))
+        × (level.old.at < end → level.new.at ≡ end)) result }
+{
+    if let Run::Lines { lines, end: last } = &mut level.run {
+        lines.push(text)?;
+        *last = end;
+    }
+    level.go_to(end);
+    Ok(())
+}
+
+/// The text behind a bar and in the indented lines below it. A bar that stands alone has no indentation of its own, and
+/// its text begins in the next line.
+fn bar_text(
+    alloc: Global,
+    view: &View<'_>,
+    at: usize,
+    end: usize,
+    marker: Marker,
+    pass: &mut Pass,
+) -> Result<BarText, AllocError>
+    requires inside { at < length (block_of view.now) }
+    requires few { pass.old.looks < 2 ^ 119 + 2 ^ 112 }
+    ensures line { IfOk result (λ text. (last : ℕ) → indented_by (unwrap_or text.indent last) text
+        ≡ indented_line (indentation_of last marker) (block_of view.now) marker (record { start = at; stop = end })) }
+    ensures numbers { pass.new.numbers ≡ pass.old.numbers }
+    ensures looks { IfOk result (λ _. pass.new.looks ≤ pass.old.looks + 2 ^ 66) }
+    ensures most { IfOk result (λ _. pass.new.looks ≤ pass.old.looks + 1 + 2 * (end - (at + 1))) }
+    ensures low { IfOk result (λ _. pass.old.looks ≤ pass.new.looks) }
+{
+    let line = number_at(view, at);
+    let below = lines_between(view, at + 1, end);
+    let below = inside(&below, indented(&below, 0, &mut pass.looks));
+    let further = joined(alloc, &below, &mut pass.looks)?;
+    if marker.bare {
+        let text_line = first_line_or(&below, line);
+        return Ok(BarText {
+            indent: None,
+            line,
+            text_line,
+            text: further,
+        });
+    }
+    let first = skip(view.line(at, &mut pass.looks), marker.cut);
+    let text = below_first(alloc, first, &below, further)?;
+    Ok(BarText {
+        indent: Some(marker.cut.saturating_sub(2)),
+        line,
+        text_line: line,
+        text,
+    })
+}
+
+/// The text of a line and, if there are lines below it, their text behind a line feed.
+fn below_first(
+    alloc: Global,
+    first: &str,
+    below: &View<'_>,
+    further: String,
+) -> Result<String, AllocError>
+    requires { chars_of further ≡ joined (block_of below.now) }
+    ensures { IfOk result (λ text. chars_of text ≡ text_over (chars first.now) (block_of below.now)) }
+{
+    let mut text = String::from_str(alloc, first)?;
+    if 0 < below.len() {
+        text.push('\n')?;
+        text.push_str(further.as_str())?;
+    }
+    Ok(text)
+}

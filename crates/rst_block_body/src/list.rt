@@ -1,0 +1,206 @@
+//! Items of bullet lists and of enumerated lists (Markup Specification, 'Bullet Lists', 'Enumerated Lists').
+ghost use Rattle.std.specs.Prelude.{◌≡◌, ◌+◌, ◌-◌, ◌*◌, ◌^◌, ◌<◌, ◌≤◌, length, drop, string_bytes, IfOk, IfSome, [], ◌∷◌, None, option_map};
+ghost use Rattle.std.specs.Option.{option_and_then, option_to_list};
+ghost use Rattle.std.specs.Str.{chars};
+ghost use Rattle.rst_text.specs.Block.{Block};
+ghost use Rattle.rst_text.specs.Shown.{block_of};
+ghost use Rattle.rst_tree.specs.Faults.{Gives};
+ghost use Rattle.rst_markup_lines.specs.Enumerator.{first_reading};
+ghost use Rattle.rst_markup_blocks.specs.Parts.{IsBlock, IsCall};
+ghost use Rattle.rst_block_state.specs.Lists as lists;
+ghost use Rattle.rst_block_state.specs.Steps as spec;
+ghost use Rattle.rst_block_state.specs.Texts.{excerpt};
+ghost use Rattle.rst_markup_blocks.specs.Begun.{IsBegun};
+ghost use Rattle.rst_markup_blocks.specs.declared.begun.Begun.TheVariants.{Bullet, Enumerator as ItemEnumerator};
+ghost use Rattle.rst_block_state.specs.Constructs.{enumerated_item, item_of_list};
+ghost use Rattle.rst_block_state.specs.Joins.{list_joining_after};
+ghost use Rattle.rst_block_state.specs.Meanings.{Keeps, comes, joining_in, list_kind_in, open_of, reads};
+ghost use Rattle.rst_block_state.specs.OpenBlocks as blocks;
+ghost use Rattle.rst_block_state.specs.OpenBlocks.{HasRun, IsKept, IsMoved, IsPlaced, with_notes};
+ghost use Rattle.rst_block_state.specs.Rest.{begun_run};
+ghost use Rattle.rst_block_state.specs.declared.waits.Waits.TheVariants.{ListItem};
+ghost use Rattle.rst_block_state.specs.declared.step.Step.TheVariants.{Open};
+ghost use Rattle.rst_block_state.specs.Ledger.{IsPaid};
+
+use rst_block_nodes::{bullet_list, enumerated_list, start_message};
+use rst_block_state::{
+    BlockFault, ListKind, OpenBlock, Pass, Run, Sequel, Step, Waits, characters, item_part,
+    number_at, push,
+};
+use rst_markup_blocks::Part;
+use rst_markup_lines::{Enumerator, Format, Marker, first_reading};
+use rst_text::{Looks, View};
+use rst_tree::{Node, TreeFault};
+use std::alloc::{AllocError, Global};
+
+/// Opens the block of an item.
+fn opened(level: &mut OpenBlock, line: usize, body: Part) -> Step
+    requires { level.old.at < 2 ^ 64 - 1 }
+    ensures step { (B : Block) → IsBlock B body → spec.IsStep B level.old.at level.new.at result }
+    ensures waits { result ≡ Open (ListItem line) body None }
+    ensures moved { IsMoved level.old level.new }
+    ensures there { level.old.at < body.to → level.new.at ≡ body.to }
+{
+    level.go_to(body.to);
+    Step::Open {
+        waits: Waits::ListItem { line },
+        first: body,
+        second: None,
+    }
+}
+
+/// An item of a bullet list.
+pub fn bullet_item(
+    alloc: Global,
+    view: &View<'_>,
+    level: &mut OpenBlock,
+    mark: char,
+    marker: Marker,
+    pass: &mut Pass,
+) -> Result<Step, BlockFault>
+    requires inside { level.old.at < length (block_of view.now) }
+    requires few { pass.old.looks < 2 ^ 119 + 2 ^ 111 }
+    requires begun { IsBegun (drop level.old.at (block_of view.now)) (Bullet mark marker) }
+    requires placed { IsPlaced level.old }
+    ensures step { IfOk result (λ s. spec.IsStep (block_of view.now) level.old.at level.new.at s) }
+    ensures kept { IfOk result (λ _. IsKept level.old level.new) }
+    ensures read { Keeps result (λ s. comes level.new (block_of view.now) s pass.new.numbers)
+        (reads level.old (block_of view.now) pass.old.numbers) }
+    ensures paid { IfOk result (λ s. IsPaid 29 level.old level.new (block_of view.now) s pass.old.looks pass.new.looks) }
+{
+    let at = level.at;
+    let line = number_at(view, at);
+    let body = item_part(view, at, marker, &mut pass.looks);
+    let kind = ListKind::Bullet(mark);
+    if level.run.list_kind() == Some(kind) {
+        level.join(kind, body.to);
+        return Ok(opened(level, line, body));
+    }
+    level.close(alloc, view, pass)?;
+    level.begin(alloc, kind, bullet_list(alloc, mark, line)?, body.to)?;
+    Ok(opened(level, line, body))
+}
+
+/// An item of an enumerated list.
+pub fn enumerated_item(
+    alloc: Global,
+    view: &View<'_>,
+    level: &mut OpenBlock,
+    enumerator: Enumerator,
+    pass: &mut Pass,
+) -> Result<Step, BlockFault>
+    requires inside { level.old.at < length (block_of view.now) }
+    requires few { pass.old.looks < 2 ^ 119 + 2 ^ 111 }
+    requires begun { IsBegun (drop level.old.at (block_of view.now)) (ItemEnumerator enumerator) }
+    requires placed { IsPlaced level.old }
+    ensures step { IfOk result (λ s. spec.IsStep (block_of view.now) level.old.at level.new.at s) }
+    ensures kept { IfOk result (λ _. IsKept level.old level.new) }
+    ensures read { Keeps result (λ s. comes level.new (block_of view.now) s pass.new.numbers)
+        (reads level.old (block_of view.now) pass.old.numbers) }
+    ensures paid { IfOk result (λ s. IsPaid 29 level.old level.new (block_of view.now) s pass.old.looks pass.new.looks) }
+{
+    let at = level.at;
+    let line = number_at(view, at);
+    let body = item_part(view, at, enumerator.marker, &mut pass.looks);
+    if let Some(kind) = going_on(&level.run, enumerator) {
+        level.join(kind, body.to);
+        return Ok(opened(level, line, body));
+    }
+    level.close(alloc, view, pass)?;
+    begin_enumerated_list(alloc, view, level, enumerator, body.to, pass)?;
+    Ok(opened(level, line, body))
+}
+
+/// The kind with which the open list goes on after an enumerator, if that joins it.
+fn going_on(run: &Run, enumerator: Enumerator) -> Option<ListKind>
+    ensures { option_map (λ kind. joining_in kind) result
+        ≡ option_and_then (λ kind. list_joining_after (joining_in kind) (enumerated_item enumerator)) (list_kind_in run.now) }
+{
+    let ListKind::Enumerated(sequel) = run.list_kind()? else {
+        return None;
+    };
+    Some(ListKind::Enumerated(sequel.after(enumerator)?))
+}
+
+/// Begins an enumerated list, with the message on one that doesn't begin with the first ordinal.
+fn begin_enumerated_list(
+    alloc: Global,
+    view: &View<'_>,
+    level: &mut OpenBlock,
+    enumerator: Enumerator,
+    end: usize,
+    pass: &mut Pass,
+) -> Result<(), BlockFault>
+    requires inside { level.old.at < length (block_of view.now) }
+    requires few { pass.old.looks < 2 ^ 120 }
+    ensures at { level.new.at ≡ level.old.at }
+    ensures run { let B = block_of view.now in
+        let X = drop level.old.at B in
+        let run = begun_run (item_of_list (enumerated_item enumerator)) B (record { start = level.old.at; stop = end }) X in
+        blocks.Gives (λ _. HasRun level.old level.new run) result }
+    ensures numbers { pass.new.numbers ≡ pass.old.numbers }
+    ensures looks { pass.new.looks ≤ pass.old.looks + 1 }
+    ensures low { pass.old.looks ≤ pass.new.looks }
+{
+    let at = level.at;
+    let kind = ListKind::Enumerated(Sequel::of(enumerator));
+    let list = enumerated_list(alloc, enumerator, number_at(view, at))?;
+    level.begin(alloc, kind, list, end)?;
+    match start_note(alloc, view, at, enumerator, &mut pass.looks)? {
+        Some(note) => put_behind(level, note),
+        None => Ok(()),
+    }
+}
+
+/// Puts a message behind the list that is open.
+fn put_behind(level: &mut OpenBlock, note: Node) -> Result<(), BlockFault>
+    ensures at { level.new.at ≡ level.old.at }
+    ensures run { blocks.Gives (λ _. HasRun level.old level.new (with_notes (note ∷ []) (open_of level.old.run))) result }
+{
+    match &mut level.run {
+        Run::List(open) => Ok(push(&mut open.behind, note)?),
+        _ => Ok(()),
+    }
+}
+
+/// The message on an enumerated list that doesn't begin with the first ordinal, at the line of its first item.
+fn start_note(
+    alloc: Global,
+    view: &View<'_>,
+    at: usize,
+    enumerator: Enumerator,
+    looks: &mut Looks,
+) -> Result<Option<Node>, TreeFault>
+    requires inside { at < length (block_of view.now) }
+    requires few { looks.old < 2 ^ 120 }
+    ensures note { Gives (λ note. option_to_list note
+        ≡ lists.start_note enumerator (first_reading enumerator.written.ordinals) (drop at (block_of view.now))) result }
+    ensures looks { looks.new ≤ looks.old + 1 }
+    ensures low { looks.old ≤ looks.new }
+{
+    let ordinal = first_reading(enumerator.written.ordinals).ordinal;
+    if ordinal == 1 {
+        return Ok(None);
+    }
+    let written = written_ordinal(alloc, view.line(at, looks), enumerator)?;
+    let note = start_message(alloc, written.as_str(), ordinal, number_at(view, at))?;
+    Ok(Some(note))
+}
+
+/// An enumerator's ordinal as it is written in its line.
+fn written_ordinal(alloc: Global, text: &str, enumerator: Enumerator) -> Result<String, AllocError>
+    ensures { IfOk result (λ written. string_bytes written ≡ excerpt (chars text.now) (lists.ordinal_place enumerator)) }
+{
+    let from = ordinal_from(enumerator.format);
+    characters(alloc, text, from, enumerator.written.len)
+}
+
+/// How many characters come before an ordinal.
+fn ordinal_from(format: Format) -> usize
+    ensures { result ≡ lists.ordinal_from format }
+{
+    match format {
+        Format::Parentheses => 1,
+        _ => 0,
+    }
+}

@@ -1,0 +1,107 @@
+//! Items of option lists (Markup Specification, 'Option Lists').
+ghost use Rattle.std.specs.Prelude.{◌≡◌, ◌+◌, ◌-◌, ◌*◌, ◌^◌, ◌<◌, ◌≤◌, length, drop, IfOk, IfSome};
+ghost use Rattle.std.specs.Str.{chars};
+ghost use Rattle.rst_text.specs.Shown.{block_of};
+ghost use Rattle.rst_tree.specs.Faults.{Gives};
+ghost use Rattle.rst_markup_blocks.specs.Parts.{IsBlock, IsCall};
+ghost use Rattle.rst_block_state.specs.Lists as lists;
+ghost use Rattle.rst_block_state.specs.Steps as spec;
+ghost use Rattle.rst_markup_blocks.specs.Begun.{IsBegun};
+ghost use Rattle.rst_markup_blocks.specs.declared.begun.Begun.TheVariants.{OptionItem};
+ghost use Rattle.rst_block_state.specs.Meanings.{Keeps, comes, reads};
+ghost use Rattle.rst_block_state.specs.OpenBlocks.{IsKept, IsPlaced};
+ghost use Rattle.rst_block_state.specs.Ledger.{IsPaid};
+
+use super::field::join_list;
+use rst_block_nodes::{element_of, option};
+use rst_block_state::{
+    BlockFault, ListKind, OpenBlock, Pass, Step, Waits, excerpt_after, hanging, number_at,
+};
+use rst_markup_lines::{ListedOption, Marker, listed_options};
+use rst_text::{View, skip};
+use rst_tree::{Attrs, Node, Tag, TreeFault};
+use std::alloc::Global;
+
+/// An item of an option list.
+pub fn option_item(
+    alloc: Global,
+    view: &View<'_>,
+    level: &mut OpenBlock,
+    marker: Marker,
+    pass: &mut Pass,
+) -> Result<Step, BlockFault>
+    requires inside { level.old.at < length (block_of view.now) }
+    requires few { pass.old.looks < 2 ^ 119 + 2 ^ 111 }
+    requires begun { IsBegun (drop level.old.at (block_of view.now)) (OptionItem marker) }
+    requires placed { IsPlaced level.old }
+    ensures step { IfOk result (λ s. spec.IsStep (block_of view.now) level.old.at level.new.at s) }
+    ensures kept { IfOk result (λ _. IsKept level.old level.new) }
+    ensures read { Keeps result (λ s. comes level.new (block_of view.now) s pass.new.numbers)
+        (reads level.old (block_of view.now) pass.old.numbers) }
+    ensures paid { IfOk result (λ s. IsPaid 29 level.old level.new (block_of view.now) s pass.old.looks pass.new.looks) }
+{
+    let at = level.at;
+    let line = number_at(view, at);
+    let group = option_group(alloc, view.line(at, &mut pass.looks), line)?;
+    let body = hanging(view, at, marker, &mut pass.looks);
+    join_list(
+        alloc,
+        view,
+        level,
+        ListKind::OptionItem,
+        Tag::OptionList,
+        body.to,
+        pass,
+    )?;
+    let mut heads = Vec::with_capacity(alloc, 2)?;
+    heads.push(group)?;
+    level.go_to(body.to);
+    Ok(Step::Open {
+        waits: Waits::ListedBody {
+            line,
+            item: Tag::OptionListItem,
+            body: Tag::Description,
+            heads,
+            notes: Vec::new(alloc),
+        },
+        first: body,
+        second: None,
+    })
+}
+
+/// The options at the front of a line.
+fn option_group(alloc: Global, text: &str, line: usize) -> Result<Node, TreeFault>
+    ensures { Gives (λ node. node ≡ lists.option_group (chars text.now) line) result }
+{
+    let mut options = Vec::new(alloc);
+    let mut rest = text;
+    let mut passed = 0;
+    for listed in listed_options(alloc, text)? {
+        let from = listed.string.from;
+        rest = skip(rest, from.saturating_sub(passed));
+        passed = passed.max(from);
+        options.push(option_of(alloc, text, rest, passed, listed, line)?)?;
+    }
+    Ok(element_of(Tag::OptionGroup, Attrs::new(alloc), options, line))
+}
+
+/// An option of a line, of which what follows its first characters is at hand.
+fn option_of(
+    alloc: Global,
+    text: &str,
+    rest: &str,
+    passed: usize,
+    listed: ListedOption,
+    line: usize,
+) -> Result<Node, TreeFault>
+    requires { chars rest.now ≡ drop passed (chars text.now) }
+    ensures { Gives (λ node. node ≡ lists.option_in (chars text.now) line listed) result }
+{
+    let string = excerpt_after(alloc, text, rest, passed, listed.string)?;
+    let Some(argument) = listed.argument else {
+        return option(alloc, string.as_str(), None, line);
+    };
+    let written = excerpt_after(alloc, text, rest, passed, argument.text)?;
+    let argument = Some((argument.delimiter, written.as_str()));
+    option(alloc, string.as_str(), argument, line)
+}

@@ -1,0 +1,311 @@
+//! Paragraphs, literal blocks and doctest blocks (Markup Specification, 'Paragraphs', 'Literal Blocks', 'Doctest
+//! Blocks').
+ghost use Rattle.std.specs.Prelude.{◌≡◌, [], ◌+◌, ◌-◌, ◌*◌, ◌^◌, ◌<◌, ◌≤◌, length, drop, true, false, IfOk};
+ghost use Rattle.std.specs.Str.{chars};
+ghost use Rattle.rst_text.specs.Shown.{block_of};
+ghost use Rattle.rst_markup_blocks.specs.Begun.{IsBegun};
+ghost use Rattle.rst_markup_blocks.specs.declared.begun.Begun.TheVariants.{Doctest};
+ghost use Rattle.rst_block_state.specs.Ledger.{IsPaid};
+ghost use Rattle.rst_block_state.specs.Meanings.{Keeps, reads};
+ghost use Rattle.rst_block_state.specs.declared.step.Step.TheVariants.{Next};
+ghost use Rattle.rst_block_state.specs.OpenBlocks.{IsKept, IsPlaced, Gives, ReadsNodes, HasMoreAt};
+ghost use Rattle.rst_block_state.specs.Literals as literals;
+ghost use Rattle.rst_block_body.specs.TextSteps as parts;
+ghost use Rattle.rst_markup_blocks.specs.Lines.{lines_while};
+ghost use Rattle.rst_markup_blocks.specs.Sizes.{paragraph_size, literal_size};
+ghost use Rattle.rst_markup_blocks.specs.declared.lines.LineTest.TheVariants.{Begins};
+ghost use Rattle.rst_markup_lines.specs.Closing as closing;
+ghost use Rattle.rst_markup_lines.specs.Front.{begins_with, is_loose};
+ghost use Rattle.rst_text.specs.Block.{first_number, front_text};
+ghost use Rattle.rst_text.specs.Extent.{extent};
+ghost use Rattle.rst_text.specs.Text.{chars_of};
+ghost use Rattle.rst_text.specs.Reach.{reach};
+
+use rst_block_nodes::{message, preserved, with_text};
+use rst_block_state::{BlockFault, OpenBlock, Pass, indented, inside, joined, number_at, source};
+use rst_markup_blocks::{LineTest, lines_end, text_at};
+use rst_markup_lines::{begins_with, ends_in_colons, front, is_blank, is_punctuation};
+use rst_text::View;
+use rst_tree::{Level, Tag};
+use std::alloc::{AllocError, Global};
+
+/// A doctest block: the lines up to a blank one.
+pub fn doctest_block(
+    alloc: Global,
+    view: &View<'_>,
+    level: &mut OpenBlock,
+    pass: &mut Pass,
+) -> Result<(), BlockFault>
+    requires inside { level.old.at < length (block_of view.now) }
+    requires few { pass.old.looks < 2 ^ 119 + 2 ^ 111 }
+    requires begun { IsBegun (drop level.old.at (block_of view.now)) Doctest }
+    requires placed { IsPlaced level.old }
+    ensures later { IfOk result (λ _. level.old.at < level.new.at) }
+    ensures kept { IfOk result (λ _. IsKept level.old level.new) }
+    ensures read { Keeps result (λ _. reads level.new (block_of view.now) pass.new.numbers)
+        (reads level.old (block_of view.now) pass.old.numbers) }
+    ensures paid { IfOk result (λ _. IsPaid 29 level.old level.new (block_of view.now) Next pass.old.looks pass.new.looks) }
+{
+    level.close(alloc, view, pass)?;
+    let at = level.at;
+    let end = lines_end(view, at, LineTest::Filled, &mut pass.looks);
+    let text = source(alloc, view, at, end, &mut pass.looks)?;
+    let node = preserved(alloc, Tag::DoctestBlock, number_at(view, at), text.as_str())?;
+    level.go_to(end);
+    level.push(node)
+}
+
+/// The text of a paragraph that announces a literal block: without both colons and the white before them, where white or
+/// nothing stands before them, else without one.
+fn announcing(alloc: Global, text: &str) -> Result<String, AllocError>
+    requires colons { closing.ends_in_colons (chars text.now) ≡ true }
+    ensures { IfOk result (λ shown. chars_of shown ≡ literals.announced (chars text.now)) }
+{
+    let before = text.strip_suffix("::").unwrap_or(text);
+    let bare = before.trim_end();
+    if bare.len() < before.len() || is_blank(bare) {
+        return String::from_str(alloc, bare);
+    }
+    let mut text = String::from_str(alloc, before)?;
+    text.push(':')?;
+    Ok(text)
+}
+
+/// A paragraph, with the literal block that it announces. Of the level the open run has ended.
+pub(crate) fn paragraph(
+    alloc: Global,
+    view: &View<'_>,
+    level: &mut OpenBlock,
+    pass: &mut Pass,
+) -> Result<(), BlockFault>
+    requires inside { level.old.at < length (block_of view.now) }
+    requires few { pass.old.looks < 2 ^ 119 + 2 ^ 114 }
+    requires plain { is_loose (front_text (drop level.old.at (block_of view.now))) ≡ false }
+    ensures later { IfOk result (λ _. level.old.at < level.new.at) }
+    ensures read { let X = drop level.old.at (block_of view.now) in
+        let nodes = literals.paragraph_nodes [] X pass.old.numbers in
+        Gives (λ _. ReadsNodes nodes level.old level.new (level.old.at + paragraph_size X) pass.new.numbers) result }
+    ensures most { let X = drop level.old.at (block_of view.now) in
+        IfOk result (λ _. pass.new.looks ≤ pass.old.looks + 20 * reach (paragraph_size X) X) }
+    ensures low { IfOk result (λ _. pass.old.looks + paragraph_size (drop level.old.at (block_of view.now)) ≤ pass.new.looks) }
+{
+    let at = level.at;
+    let end = lines_end(view, at, LineTest::Plain, &mut pass.looks);
+    if end == at + 1 {
+        let text = view.line(at, &mut pass.looks);
+        return paragraph_of(alloc, view, level, text, end, pass);
+    }
+    let text = source(alloc, view, at, end, &mut pass.looks)?;
+    paragraph_of(alloc, view, level, text.as_str(), end, pass)
+}
+
+/// A paragraph of a text that ends at `end`, with the literal block that it announces.
+fn paragraph_of(
+    alloc: Global,
+    view: &View<'_>,
+    level: &mut OpenBlock,
+    text: &str,
+    end: usize,
+    pass: &mut Pass,
+) -> Result<(), BlockFault>
+    requires end { end ≤ length (block_of view.now) }
+    requires inside { level.old.at < length (block_of view.now) }
+    requires few { pass.old.looks < 2 ^ 119 + 2 ^ 114 + 2 ^ 70 }
+    requires behind { level.old.at < end }
+    ensures later { IfOk result (λ _. level.old.at < level.new.at) }
+    ensures read { let B = block_of view.now in
+        let nodes = parts.paragraph_between (chars text.now) level.old.at end B pass.old.numbers in
+        Gives (λ _. ReadsNodes nodes level.old level.new (parts.paragraph_end (chars text.now) end B) pass.new.numbers) result }
+    ensures most { let B = block_of view.now in
+        let size = parts.paragraph_end (chars text.now) end B - end in
+        IfOk result (λ _. pass.new.looks ≤ pass.old.looks + 1 + 8 * reach size (drop end B)) }
+    ensures low { let size = parts.paragraph_end (chars text.now) end (block_of view.now) - end in
+        IfOk result (λ _. pass.old.looks + size ≤ pass.new.looks) }
+{
+    if !ends_in_colons(text) {
+        put_paragraph(alloc, view, level, text, end, pass)?;
+        level.go_to(end);
+        return Ok(());
+    }
+    let shown = announcing(alloc, text)?;
+    put_paragraph(alloc, view, level, shown.as_str(), end, pass)?;
+    literal(alloc, view, level, end, pass)
+}
+
+/// Puts a paragraph that ends at `end` behind the last node, unless it is empty, and the message on an indented line behind it.
+fn put_paragraph(
+    alloc: Global,
+    view: &View<'_>,
+    level: &mut OpenBlock,
+    text: &str,
+    end: usize,
+    pass: &mut Pass,
+) -> Result<(), BlockFault>
+    requires few { pass.old.looks < 2 ^ 120 }
+    ensures at { level.new.at ≡ level.old.at }
+    ensures read { let nodes = parts.shown_paragraph (chars text.now) level.old.at end (block_of view.now) pass.old.numbers in
+        Gives (λ _. ReadsNodes nodes level.old level.new level.old.at pass.new.numbers) result }
+    ensures looks { IfOk result (λ _. pass.new.looks ≤ pass.old.looks + 1) }
+    ensures low { IfOk result (λ _. pass.old.looks ≤ pass.new.looks) }
+{
+    put_shown(alloc, view, level, text, pass)?;
+    if is_blank(text_at(view, end, &mut pass.looks)) {
+        return Ok(());
+    }
+    let error = message(
+        alloc,
+        Level::Error,
+        number_at(view, end),
+        "Unexpected indentation.",
+        None,
+    )?;
+    level.push(error)
+}
+
+/// Puts a paragraph behind the last node, unless it is empty.
+fn put_shown(
+    alloc: Global,
+    view: &View<'_>,
+    level: &mut OpenBlock,
+    text: &str,
+    pass: &mut Pass,
+) -> Result<(), BlockFault>
+    ensures at { level.new.at ≡ level.old.at }
+    ensures read { let line = first_number (drop level.old.at (block_of view.now)) in
+        let nodes = literals.text_paragraph line (chars text.now) pass.old.numbers in
+        Gives (λ _. ReadsNodes nodes level.old level.new level.old.at pass.new.numbers) result }
+    ensures looks { pass.new.looks ≡ pass.old.looks }
+{
+    if is_blank(text) {
+        return Ok(());
+    }
+    let line = number_at(view, level.at);
+    let made = with_text(alloc, Tag::Paragraph, line, text, line, &mut pass.numbers)?;
+    level.push(made.element)?;
+    level.append(made.notes)
+}
+
+/// The literal block that a paragraph announces that ends at `end`.
+fn literal(
+    alloc: Global,
+    view: &View<'_>,
+    level: &mut OpenBlock,
+    end: usize,
+    pass: &mut Pass,
+) -> Result<(), BlockFault>
+    requires end { end ≤ length (block_of view.now) }
+    requires inside { level.old.at < length (block_of view.now) }
+    requires few { pass.old.looks < 2 ^ 119 + 2 ^ 115 }
+    requires behind { level.old.at < end }
+    ensures later { IfOk result (λ _. level.old.at < level.new.at) }
+    ensures gone { let B = block_of view.now in
+        let Z = drop end B in
+        let nodes = literals.literal_nodes (first_number (drop (end - 1) B)) Z in
+        Gives (λ _. HasMoreAt level.old level.new nodes (end + literal_size Z)) result }
+    ensures numbers { pass.new.numbers ≡ pass.old.numbers }
+    ensures most { let Z = drop end (block_of view.now) in
+        IfOk result (λ _. pass.new.looks ≤ pass.old.looks + 8 * reach (literal_size Z) Z) }
+    ensures low { IfOk result (λ _. pass.old.looks + literal_size (drop end (block_of view.now)) ≤ pass.new.looks) }
+{
+    let start = lines_end(view, end, LineTest::Blank, &mut pass.looks);
+    let text = text_at(view, start, &mut pass.looks);
+    if begins_with(' ', text) {
+        return indented_literal(alloc, view, level, start, pass);
+    }
+    match front(text) {
+        Some(quote) if is_punctuation(quote) => quoted_literal(
+            alloc, view, level, start, quote, pass,
+        ),
+        _ => {
+            let place = if start < view.len() {
+                start
+            } else {
+                end.saturating_sub(1)
+            };
+            let text = "Literal block expected; none found.";
+            let warning = message(alloc, Level::Warning, number_at(view, place), text, None)?;
+            level.go_to(end);
+            level.push(warning)
+        }
+    }
+}
+
+/// An indented literal block.
+fn indented_literal(
+    alloc: Global,
+    view: &View<'_>,
+    level: &mut OpenBlock,
+    start: usize,
+    pass: &mut Pass,
+) -> Result<(), BlockFault>
+    requires start { start ≤ length (block_of view.now) }
+    requires inside { level.old.at < length (block_of view.now) }
+    requires few { pass.old.looks < 2 ^ 119 + 2 ^ 116 }
+    requires behind { level.old.at < start }
+    ensures later { IfOk result (λ _. level.old.at < level.new.at) }
+    ensures gone { let Z = drop start (block_of view.now) in
+        Gives (λ _. HasMoreAt level.old level.new (literals.indented_literal Z) (start + extent 1 Z)) result }
+    ensures numbers { pass.new.numbers ≡ pass.old.numbers }
+    ensures most { let Z = drop start (block_of view.now) in
+        IfOk result (λ _. pass.new.looks ≤ pass.old.looks + 1 + 2 * reach (extent 1 Z) Z) }
+    ensures low { IfOk result (λ _. pass.old.looks + extent 1 (drop start (block_of view.now)) ≤ pass.new.looks) }
+{
+    let lines = indented(view, start, &mut pass.looks);
+    let text = joined(alloc, &inside(view, lines), &mut pass.looks)?;
+    let node = preserved(
+        alloc,
+        Tag::LiteralBlock,
+        number_at(view, start),
+        text.as_str(),
+    )?;
+    let warning = "Literal block ends without a blank line; unexpected unindent.";
+    level.go_to(lines.to);
+    level.push(node)?;
+    level.warn(alloc, view, lines.to, warning, pass)
+}
+
+/// A quoted literal block: lines that begin with one punctuation character.
+fn quoted_literal(
+    alloc: Global,
+    view: &View<'_>,
+    level: &mut OpenBlock,
+    start: usize,
+    quote: char,
+    pass: &mut Pass,
+) -> Result<(), BlockFault>
+    requires start { start ≤ length (block_of view.now) }
+    requires inside { level.old.at < length (block_of view.now) }
+    requires few { pass.old.looks < 2 ^ 119 + 2 ^ 116 }
+    requires behind { level.old.at < start }
+    requires quoted { begins_with quote (front_text (drop start (block_of view.now))) ≡ true }
+    ensures later { IfOk result (λ _. level.old.at < level.new.at) }
+    ensures gone { let Z = drop start (block_of view.now) in
+        let size = lines_while (Begins quote) Z in
+        Gives (λ _. HasMoreAt level.old level.new (literals.quoted_literal size Z) (start + size)) result }
+    ensures numbers { pass.new.numbers ≡ pass.old.numbers }
+    ensures most { IfOk result (λ _.
+        pass.new.looks ≤ pass.old.looks + 2 + 2 * lines_while (Begins quote) (drop start (block_of view.now))) }
+    ensures low { IfOk result (λ _. pass.old.looks + lines_while (Begins quote) (drop start (block_of view.now)) ≤ pass.new.looks) }
+{
+    let end = lines_end(view, start, LineTest::Begins(quote), &mut pass.looks);
+    let text = source(alloc, view, start, end, &mut pass.looks)?;
+    let node = preserved(
+        alloc,
+        Tag::LiteralBlock,
+        number_at(view, start),
+        text.as_str(),
+    )?;
+    level.go_to(end);
+    level.push(node)?;
+    let next = text_at(view, end, &mut pass.looks);
+    if is_blank(next) {
+        return Ok(());
+    }
+    let text = if begins_with(' ', next) {
+        "Unexpected indentation."
+    } else {
+        "Inconsistent literal block quoting."
+    };
+    let error = message(alloc, Level::Error, number_at(view, end), text, None)?;
+    level.push(error)
+}

@@ -1,0 +1,188 @@
+//! Block quotes with their attributions (Markup Specification, 'Block Quotes').
+ghost use Rattle.std.specs.Prelude.{◌≡◌, [], ◌+◌, ◌-◌, ◌*◌, ◌^◌, ◌<◌, ◌≤◌, length, drop, Ok, IfOk, IfSome, IfNone, ℕ};
+ghost use Rattle.rst_text.specs.Block.{first_number};
+ghost use Rattle.rst_text.specs.Shown.{block_of};
+ghost use Rattle.rst_tree.specs.Faults.{Gives};
+ghost use Rattle.rst_tree.specs.declared.tag.Tag.TheVariants.{Attribution as AttributionTag};
+ghost use Rattle.rst_markup_blocks.specs.Parts.{IsBlock};
+ghost use Rattle.rst_markup_blocks.specs.Attributions.{attribution_part};
+ghost use Rattle.rst_block_state.specs.Quotes as quotes;
+ghost use Rattle.rst_block_state.specs.Steps as spec;
+ghost use Rattle.rst_block_state.specs.Texts.{joined, lines_in, texted};
+ghost use Rattle.rst_markup_blocks.specs.Begun.{IsBegun};
+ghost use Rattle.rst_markup_blocks.specs.declared.begun.Begun.TheVariants.{Quote};
+ghost use Rattle.rst_block_state.specs.Meanings.{Keeps, comes, quotes_from, reads};
+ghost use Rattle.rst_block_state.specs.OpenBlocks.{IsKept, IsPlaced};
+ghost use Rattle.rst_block_state.specs.Ledger.{AreQuotesPaid, IsPaid};
+
+use rst_block_nodes::{Texted, with_text};
+use rst_block_state::{
+    BlockFault, OpenBlock, Pass, Step, Waits, indented, inside, joined, number_at,
+};
+use rst_markup_blocks::{Attribution, LineTest, Part, attribution_at, lines_end};
+use rst_text::{Looks, View};
+use rst_tree::{Tag, TreeFault};
+use std::alloc::Global;
+
+/// A block quote.
+pub fn block_quote(
+    alloc: Global,
+    view: &View<'_>,
+    level: &mut OpenBlock,
+    pass: &mut Pass,
+) -> Result<Step, BlockFault>
+    requires inside { level.old.at < length (block_of view.now) }
+    requires few { pass.old.looks < 2 ^ 119 + 2 ^ 111 }
+    requires begun { IsBegun (drop level.old.at (block_of view.now)) Quote }
+    requires placed { IsPlaced level.old }
+    ensures step { IfOk result (λ s. spec.IsStep (block_of view.now) level.old.at level.new.at s) }
+    ensures kept { IfOk result (λ _. IsKept level.old level.new) }
+    ensures read { Keeps result (λ s. comes level.new (block_of view.now) s pass.new.numbers)
+        (reads level.old (block_of view.now) pass.old.numbers) }
+    ensures paid { IfOk result (λ s. IsPaid 29 level.old level.new (block_of view.now) s pass.old.looks pass.new.looks) }
+{
+    level.close(alloc, view, pass)?;
+    let quote = indented(view, level.at, &mut pass.looks);
+    quote_part(alloc, view, level, quote, pass)
+}
+
+/// The lines of a block quote up to and with its first attribution, which ends it; what follows is another. The first
+/// line isn't blank.
+pub fn quote_part(
+    alloc: Global,
+    view: &View<'_>,
+    level: &mut OpenBlock,
+    quote: Part,
+    pass: &mut Pass,
+) -> Result<Step, BlockFault>
+    requires block { IsBlock (block_of view.now) quote }
+    requires at { level.old.at ≤ quote.from }
+    requires inside { level.old.at < length (block_of view.now) }
+    requires few { pass.old.looks < 2 ^ 119 + 2 ^ 112 }
+    requires placed { IsPlaced level.old }
+    requires filled { quote.from < quote.to }
+    ensures step { IfOk result (λ s. spec.IsStep (block_of view.now) level.old.at level.new.at s) }
+    ensures resumed { IfOk result (λ s. spec.IsResumed (block_of view.now) level.old.at level.new.at s) }
+    ensures kept { IfOk result (λ _. IsKept level.old level.new) }
+    ensures read { Keeps result (λ s. comes level.new (block_of view.now) s pass.new.numbers)
+        (quotes_from level.old (block_of view.now) [] quote pass.old.numbers) }
+    ensures paid { IfOk result (λ s. AreQuotesPaid level.old level.new (block_of view.now) quote quote.to s pass.old.looks pass.new.looks) }
+{
+    let line = number_at(view, quote.from);
+    let lines = inside(view, quote);
+    match first_attribution(&lines, &mut pass.looks) {
+        None => {
+            level.go_to(quote.to);
+            Ok(Step::Open {
+                waits: Waits::Quote {
+                    line,
+                    attribution: None,
+                    rest: None,
+                    end: quote.to,
+                },
+                first: quote,
+                second: None,
+            })
+        }
+        Some((place, found)) => {
+            let made = attribution_text(alloc, &lines, place, found, pass)?;
+            let attribution = Box::new(alloc, made)?;
+            let next = lines_end(&lines, found.end, LineTest::Blank, &mut pass.looks);
+            level.go_to(quote.from + next);
+            Ok(Step::Open {
+                waits: Waits::Quote {
+                    line,
+                    attribution: Some(attribution),
+                    rest: rest_of(quote, next),
+                    end: quote.to,
+                },
+                first: Part {
+                    to: quote.from + place,
+                    ..quote
+                },
+                second: None,
+            })
+        }
+    }
+}
+
+/// What is left of a quote behind its first `next` lines, if there is something.
+fn rest_of(quote: Part, next: usize) -> Option<Part>
+    requires { quote.from + next ≤ quote.to }
+    ensures { result ≡ spec.rest_of quote next }
+{
+    if quote.from + next < quote.to {
+        return Some(Part {
+            from: quote.from + next,
+            first_cut: quote.rest_cut,
+            ..quote
+        });
+    }
+    None
+}
+
+/// The first attribution in a quote, with its place: behind a blank line. It makes at most five looks for each line through its
+/// end, or for each line of the quote where there is none.
+fn first_attribution(lines: &View<'_>, looks: &mut Looks) -> Option<(usize, Attribution)>
+    requires few { looks.old < 2 ^ 119 + 2 ^ 113 }
+    ensures first { result ≡ quotes.first_attribution (block_of lines.now) }
+    ensures place { IfSome result (λ found. (0 < found.0) × (found.0 ≤ found.1.end)) }
+    ensures within { IfSome result (λ found. IsBlock (block_of lines.now) (attribution_part found.0 found.1)) }
+    ensures looks { looks.new ≤ looks.old + 2 ^ 68 }
+    ensures through { IfSome result (λ found. looks.new ≤ looks.old + 5 * found.1.end) }
+    ensures all { IfNone result (looks.new ≤ looks.old + 5 * length (block_of lines.now) + 1) }
+    ensures low { looks.old ≤ looks.new }
+{
+    let mut end = lines_end(lines, 0, LineTest::Filled, looks);
+    while end < lines.len() {
+        let place = lines_end(lines, end + 1, LineTest::Blank, looks);
+        if place >= lines.len() {
+            return None;
+        }
+        match attribution_at(lines, place, looks) {
+            Some(found) => return Some((place, found)),
+            None => end = lines_end(lines, place + 1, LineTest::Filled, looks),
+        }
+    }
+    None
+}
+
+/// The element of an attribution, with its messages.
+fn attribution_text(
+    alloc: Global,
+    lines: &View<'_>,
+    place: usize,
+    found: Attribution,
+    pass: &mut Pass,
+) -> Result<Texted, TreeFault>
+    requires inside { IsBlock (block_of lines.now) (attribution_part place found) }
+    requires few { pass.old.looks < 2 ^ 120 }
+    ensures text { let Q = block_of lines.now in
+        let line = first_number (drop place Q) in
+        let read = texted AttributionTag line (joined (lines_in Q (attribution_part place found))) line pass.old.numbers in
+        Gives (λ made. read ≡ Ok ((made.element, made.notes.items), pass.new.numbers)) result }
+    ensures looks { pass.new.looks ≤ pass.old.looks + 2 ^ 64 }
+    ensures most { pass.new.looks ≤ pass.old.looks + (found.end - place) }
+    ensures each { IfOk result (λ _. pass.new.looks ≡ pass.old.looks + (found.end - place)) }
+{
+    let line = number_at(lines, place);
+    let text = inside(
+        lines,
+        Part {
+            from: place,
+            to: found.end,
+            first_cut: found.marker,
+            rest_cut: found.indent,
+        },
+    );
+    let text = joined(alloc, &text, &mut pass.looks)?;
+    let made = with_text(
+        alloc,
+        Tag::Attribution,
+        line,
+        text.as_str(),
+        line,
+        &mut pass.numbers,
+    )?;
+    Ok(made)
+}

@@ -1,0 +1,199 @@
+//! Lines of text: titles, items of definition lists and paragraphs.
+ghost use Rattle.std.specs.Prelude.{◌≡◌, ◌+◌, ◌-◌, ◌*◌, ◌^◌, ◌<◌, ◌≤◌, ◌==◌, length, drop, string_bytes, IfOk, IfSome};
+ghost use Rattle.rst_text.specs.Shown.{block_of};
+ghost use Rattle.rst_markup_blocks.specs.Parts.{IsBlock, IsCall};
+ghost use Rattle.rst_block_state.specs.Steps as spec;
+ghost use Rattle.rst_block_state.specs.Meanings.{Keeps, comes, reads};
+ghost use Rattle.rst_block_state.specs.NextLine.{IsText};
+ghost use Rattle.rst_block_state.specs.OpenBlocks.{IsKept, IsPlaced, Gives, ReadsItems, HasMoreAt, HasMore};
+ghost use Rattle.rst_block_state.specs.Constructs as constructs;
+ghost use Rattle.rst_block_state.specs.Texts.{source_of};
+ghost use Rattle.rst_block_state.specs.Titles as titles;
+ghost use Rattle.rst_block_body.specs.TextSteps.{under_style, unexpected_notes};
+ghost use Rattle.rst_text.specs.Block.{front_text, first_number};
+ghost use Rattle.std.specs.Option.{option_to_list};
+ghost use Rattle.rst_block_state.specs.Ledger.{IsPaid};
+
+use super::definition::definition;
+use super::paragraph::paragraph;
+use rst_block_nodes::message;
+use rst_block_sections::Style;
+use rst_block_state::{
+    BlockFault, OpenBlock, Pass, Step, heading_of, number_at, short_warning, source,
+};
+use rst_markup_blocks::{TextForm, below_text, text_at, text_form};
+use rst_markup_lines::front;
+use rst_text::View;
+use rst_tree::{Level, Node};
+use std::alloc::Global;
+
+/// A line of text, behind messages that say why it is one.
+pub fn text_line(
+    alloc: Global,
+    view: &View<'_>,
+    level: &mut OpenBlock,
+    infos: Vec<Node>,
+    pass: &mut Pass,
+) -> Result<Step, BlockFault>
+    requires inside { level.old.at < length (block_of view.now) }
+    requires few { pass.old.looks < 2 ^ 119 + 2 ^ 113 }
+    requires text { IsText level.old (block_of view.now) infos.items }
+    requires placed { IsPlaced level.old }
+    ensures step { IfOk result (λ s. spec.IsStep (block_of view.now) level.old.at level.new.at s) }
+    ensures kept { IfOk result (λ _. IsKept level.old level.new) }
+    ensures read { Keeps result (λ s. comes level.new (block_of view.now) s pass.new.numbers)
+        (reads level.old (block_of view.now) pass.old.numbers) }
+    ensures paid { IfOk result (λ s. IsPaid 27 level.old level.new (block_of view.now) s pass.old.looks pass.new.looks) }
+{
+    let at = level.at;
+    let text = view.line(at, &mut pass.looks);
+    let next = below_text(view, at, 1, &mut pass.looks);
+    match text_form(text, next) {
+        TextForm::Definition => definition(alloc, view, level, infos, pass),
+        TextForm::Paragraph => {
+            level.close(alloc, view, pass)?;
+            level.append(infos)?;
+            paragraph(alloc, view, level, pass)?;
+            Ok(Step::Next)
+        }
+        TextForm::ShortUnderline => {
+            level.close(alloc, view, pass)?;
+            level.append(infos)?;
+            put_short_underline(alloc, view, level)?;
+            paragraph(alloc, view, level, pass)?;
+            Ok(Step::Next)
+        }
+        TextForm::Title { short } => {
+            level.close(alloc, view, pass)?;
+            level.append(infos)?;
+            underlined(alloc, view, level, short, pass)?;
+            Ok(Step::Next)
+        }
+    }
+}
+
+/// Puts the message on a possible underline behind the last node, where titles may stand.
+fn put_short_underline(
+    alloc: Global,
+    view: &View<'_>,
+    level: &mut OpenBlock,
+) -> Result<(), BlockFault>
+    requires inside { level.old.at < length (block_of view.now) }
+    ensures at { level.new.at ≡ level.old.at }
+    ensures more { let notes = constructs.short_underline (level.old.depth == 0) (drop level.old.at (block_of view.now)) in
+        Gives (λ _. HasMore level.old level.new notes) result }
+{
+    if !level.titles() {
+        return Ok(());
+    }
+    let text =
+        "Possible title underline, too short for the title.\nTreating it as ordinary text because it's so short.";
+    let info = message(
+        alloc,
+        Level::Info,
+        number_at(view, level.at.saturating_add(1)),
+        text,
+        None,
+    )?;
+    level.push(info)
+}
+
+/// A title over its underline, or the messages on one where none may stand.
+fn underlined(
+    alloc: Global,
+    view: &View<'_>,
+    level: &mut OpenBlock,
+    short: bool,
+    pass: &mut Pass,
+) -> Result<(), BlockFault>
+    requires inside { level.old.at + 1 < length (block_of view.now) }
+    requires few { pass.old.looks < 2 ^ 119 + 2 ^ 114 }
+    requires placed { IsPlaced level.old }
+    ensures later { IfOk result (λ _. level.old.at < level.new.at) }
+    ensures read { let B = block_of view.now in
+        let lines = source_of B (record { start = level.old.at; stop = level.old.at + 2 }) in
+        let item = titles.underline_item (level.old.depth == 0) short lines (drop level.old.at B) pass.old.numbers in
+        Gives (λ _. ReadsItems item level.old level.new (level.old.at + 2) pass.new.numbers) result }
+    ensures most { pass.new.looks ≤ pass.old.looks + 4 }
+    ensures low { IfOk result (λ _. pass.old.looks + 2 ≤ pass.new.looks) }
+{
+    let at = level.at;
+    let end = at.saturating_add(2);
+    let lines = source(alloc, view, at, end, &mut pass.looks)?;
+    let under = number_at(view, at.saturating_add(1));
+    let warning = short_warning(
+        alloc,
+        short,
+        under,
+        "Title underline too short.",
+        lines.as_str(),
+    )?;
+    if level.titles() {
+        return put_title(alloc, view, level, warning, lines, pass);
+    }
+    put_unexpected(alloc, view, level, warning, lines.as_str())
+}
+
+/// Puts a title over its underline behind the last node.
+fn put_title(
+    alloc: Global,
+    view: &View<'_>,
+    level: &mut OpenBlock,
+    warning: Option<Node>,
+    lines: String,
+    pass: &mut Pass,
+) -> Result<(), BlockFault>
+    requires inside { level.old.at + 1 < length (block_of view.now) }
+    requires few { pass.old.looks < 2 ^ 120 }
+    requires placed { IsPlaced level.old }
+    ensures later { IfOk result (λ _. level.old.at < level.new.at) }
+    ensures read { let X = drop level.old.at (block_of view.now) in
+        let item = titles.title_item (under_style X) (front_text X) (first_number X) warning (string_bytes lines) pass.old.numbers in
+        Gives (λ _. ReadsItems item level.old level.new (level.old.at + 2) pass.new.numbers) result }
+    ensures looks { pass.new.looks ≤ pass.old.looks + 2 }
+    ensures low { pass.old.looks ≤ pass.new.looks }
+{
+    let at = level.at;
+    let under = text_at(view, at.saturating_add(1), &mut pass.looks);
+    let style = Style {
+        character: front(under).unwrap_or(' '),
+        overlined: false,
+    };
+    let text = view.line(at, &mut pass.looks);
+    let line = number_at(view, at);
+    let heading = heading_of(alloc, style, text, line, warning, lines, pass)?;
+    level.go_to(at.saturating_add(2));
+    level.push_heading(heading)
+}
+
+/// Puts the messages on a title over its underline where none may stand.
+fn put_unexpected(
+    alloc: Global,
+    view: &View<'_>,
+    level: &mut OpenBlock,
+    warning: Option<Node>,
+    lines: &str,
+) -> Result<(), BlockFault>
+    requires inside { level.old.at + 1 < length (block_of view.now) }
+    ensures later { IfOk result (λ _. level.old.at < level.new.at) }
+    ensures gone { let notes = unexpected_notes warning lines.now (drop level.old.at (block_of view.now)) in
+        Gives (λ _. HasMoreAt level.old level.new notes (level.old.at + 2)) result }
+{
+    let under = number_at(view, level.at.saturating_add(1));
+    push_if_any(level, warning)?;
+    let text = "Unexpected section title.";
+    let severe = message(alloc, Level::Severe, under, text, Some(lines))?;
+    level.go_to(level.at.saturating_add(2));
+    level.push(severe)
+}
+
+/// Puts a node behind the last, if there is one.
+fn push_if_any(level: &mut OpenBlock, node: Option<Node>) -> Result<(), BlockFault>
+    ensures at { level.new.at ≡ level.old.at }
+    ensures more { Gives (λ _. HasMore level.old level.new (option_to_list node)) result }
+{
+    match node {
+        Some(node) => level.push(node),
+        None => Ok(()),
+    }
+}

@@ -1,0 +1,197 @@
+-- What directives and substitution definitions take of looks: the blocks that they open, and how many lines their parts have.
+use Rattle.std.proofs.Common.{◌≡◌, ℕ, ◌+◌, ◌-◌, ◌≤◌, Bool, true, false, not, cond, List, [], ◌∷◌, length, take, drop, Option, None, Some, option_map, Result, Ok, Err, IfOk, arith, refl, sym, ap, ◌∙◌, subst}
+use Rattle.std.proofs.lemmas.List.Sums.{prefix_len-le-length}
+use Rattle.rst_text.specs.Block.{Block}
+use Rattle.rst_text.specs.Names.{normalized_white}
+use Rattle.rst_inline_scan.specs.Characters.{is_among}
+use Rattle.rst_markup_blocks.specs.declared.forms.Invocation.{Invocation}
+use Rattle.rst_markup_blocks.specs.declared.part.Part.{Part}
+use Rattle.rst_markup_directives.specs.Argument.{Given, nothing, title, uri, language, joined_lines, title_of, uri_of, word_of, language_of, argument_of}
+use Rattle.rst_markup_directives.specs.Call.{called_at, part_of, content_of, is_empty}
+use Rattle.rst_markup_directives.specs.Characters.{Text}
+use Rattle.rst_markup_directives.specs.Directive.{Read, Outcome, found, wrong, run_in, is_code_name, options_of, outcome_of, read_parts, read_by, read_block, read_at, outcome_at, of_block, judged, named, lines_at, is_late, directive_of}
+use Rattle.rst_markup_directives.specs.Judgement.{content_fault}
+use Rattle.rst_markup_directives.specs.Layout.{begins_field, before_field, layout_at, layout_of}
+use Rattle.rst_markup_directives.specs.Lines.{behind_blank}
+use Rattle.rst_markup_directives.specs.Options.{Choice}
+use Rattle.rst_markup_directives.specs.Wrong.{Wrong, Fault, many_arguments, and_then, unless, fault_in}
+use Rattle.rst_markup_directives.specs.declared.argument.Argument.TheVariants.{Absent, Title, Uri, Language}
+use Rattle.rst_markup_directives.specs.declared.fault.DirectiveFault.{DirectiveFault}
+use Rattle.rst_markup_directives.specs.declared.found.Content.{Content}
+use Rattle.rst_markup_directives.specs.declared.found.Directive.{Directive}
+use Rattle.rst_markup_directives.specs.declared.found.Directive.TheVariants.{Found as FoundDirective, Wrong as WrongDirective}
+use Rattle.rst_markup_directives.specs.declared.found.Place.{Place}
+use Rattle.rst_markup_directives.specs.declared.name.Name.{Name}
+use Rattle.rst_markup_directives.specs.declared.name.Name.TheVariants.{Admonition, Topic, Image, Figure, Code}
+use Rattle.rst_block_state.specs.Directives.{called}
+use Rattle.rst_block_state.specs.Inside.{content_blocks, directive_content}
+use Rattle.rst_block_state.specs.Ledger.{Opens, argument_lines, goes_on_at, quote_looks, quotes_left, run_looks, totals}
+use Rattle.rst_block_markup.specs.MarkupSteps.{is_figure}
+use Rattle.rst_block_state.specs.OpenBlocks.{IsMoved}
+use Rattle.rst_block_state.specs.Paragraphs.{is_single_paragraph}
+use Rattle.rst_block_state.specs.Texts.{lines_in}
+use Rattle.rst_block_state.specs.Within.{Within}
+use Rattle.rst_block_state.specs.declared.fault.BlockFault.{BlockFault}
+use Rattle.rst_block_state.specs.declared.open_block.OpenBlock.{OpenBlock}
+use Rattle.rst_block_state.specs.declared.waits.Waits.{Waits}
+use Rattle.rst_block_state.specs.declared.waits.Waits.TheVariants.{Quote}
+use Rattle.rst_block_state.specs.declared.step.Step.{Step}
+use Rattle.rst_block_state.specs.declared.step.Step.TheVariants.{Open}
+use Rattle.rst_block_markup.proofs.ContentFacts.{run_in-le}
+use Rattle.rst_block_state.proofs.PaidSteps.{opened_after}
+use Rattle.rst_block_state.proofs.PartFacts.{part_le}
+
+-- ---- what a call opens
+
+-- what is opened at the price of all looks before it is opened in no more looks than these
+pub opened_within : (more : ℕ) (old new : OpenBlock) (B : Block) (Cs Ds : List Block) (end before after : ℕ) (result : Result Step BlockFault) → before ≤ after → after ≤ before + more → Cs ≡ Ds
+    → (before ≤ after → IfOk result (λ s. Opens (after - before) old new B Cs end s before after)) → IfOk result (λ s. Opens more old new B Ds end s before after)
+opened_within more old new B Cs Ds end before after result low high same h = opened_after (after - before) more old new B Cs Ds end before before after result (omega arith) (omega (arith, low, high)) same (h low)
+
+-- a block that takes no looks for quotes waits for none
+no_quotes : (l : OpenBlock) (B : Block) (w : Waits) → quote_looks w ≡ 0 → (quotes_left B w ≡ []) × (goes_on_at l w ≡ l.at)
+no_quotes l B (Quote line made None end) h = absurd (omega (arith, h))
+no_quotes l B (Quote line made (Some p) end) h = absurd (omega (arith, h))
+no_quotes l B _ h = (refl, refl)
+
+-- the content of a directive is opened after some looks
+pub content_opened : (old new : OpenBlock) (B : Block) (w : Waits) (content : Content) (end before after : ℕ) → quote_looks w ≡ 0 → IsMoved old new → new.at ≡ end → before ≤ after
+    → Opens (after - before) old new B (content_blocks B content) end (Open w content.first (Some content.second)) before after
+content_opened old new B w content end before after h moved at le =
+    let none = no_quotes new B w h in
+    record {
+      goes = tt;
+      depth = moved.depth;
+      run = ap run_looks moved.run;
+      place = none.1 ∙ at;
+      blocks = ap (λ (Cs : List Block). totals old.depth (lines_in B content.first ∷ lines_in B content.second ∷ Cs)) none.0;
+      cells = refl;
+      most = omega (arith, h, ap run_looks moved.run, le);
+      least = le;
+    }
+
+-- ---- the content of a directive, by its argument and its name
+
+pub code_content : (name : Name) (code : Bool) (B : Block) (content : Content) → code ≡ is_code_name name → code ≡ true → [] ≡ directive_content nothing name B content
+code_content Code code B content e h = refl
+code_content _ code B content e h = let no : true ≡ false = sym h ∙ e in cc
+
+pub plain_content : (name : Name) (code : Bool) (B : Block) (content : Content) → code ≡ is_code_name name → code ≡ false → content_blocks B content ≡ directive_content nothing name B content
+plain_content Code code B content e h = let no : false ≡ true = sym h ∙ e in cc
+plain_content _ code B content e h = refl
+
+pub figure_content : (name : Name) (figure : Bool) (address : Text) (B : Block) (content : Content) → figure ≡ is_figure name → figure ≡ true → content_blocks B content ≡ directive_content (uri address) name B content
+figure_content Figure figure address B content e h = refl
+figure_content _ figure address B content e h = let no : true ≡ false = sym h ∙ e in cc
+
+pub image_content : (name : Name) (figure : Bool) (address : Text) (B : Block) (content : Content) → figure ≡ is_figure name → figure ≡ false → [] ≡ directive_content (uri address) name B content
+image_content Figure figure address B content e h = let no : false ≡ true = sym h ∙ e in cc
+image_content _ figure address B content e h = refl
+
+-- ---- the lines of a directive's parts
+
+-- a title has no more lines than this
+abbrev IsShort : ℕ → Given → Type 0
+IsShort n (title part) = part.to - part.from ≤ n
+IsShort n given = Unit {0}
+
+abbrev MayBeShort : ℕ → Result Given Wrong → Type 0
+MayBeShort n (Ok given) = IsShort n given
+MayBeShort n (Err w) = Unit {0}
+
+-- nor has the content after the options
+abbrev AreShort : ℕ → Read → Type 0
+AreShort n read = IsShort n read.argument × (read.content.second.to - read.content.second.from ≤ n)
+
+abbrev MayBeReadShort : ℕ → Result Read Wrong → Type 0
+MayBeReadShort n (Ok read) = AreShort n read
+MayBeReadShort n (Err w) = Unit {0}
+
+abbrev AreOutcomeShort : ℕ → Outcome → Type 0
+AreOutcomeShort n (found read) = AreShort n read
+AreOutcomeShort n (wrong fault source) = Unit {0}
+
+title_short : (n : ℕ) (ts : List Text) (part : Part) → part.to - part.from ≤ n → MayBeShort n (title_of ts part)
+title_short n [] part h = tt
+title_short n (t ∷ ts) part h = h
+
+uri_short : (n : ℕ) (ts : List Text) → MayBeShort n (uri_of ts)
+uri_short n [] = tt
+uri_short n (t ∷ ts) = tt
+
+language_short : (n : ℕ) (ts : List Text) → MayBeShort n (language_of ts)
+unfolding word_of
+language_short n [] = tt
+language_short n (t ∷ ts) = by (is_among words 32)
+  where
+    words : Text
+    words = normalized_white (joined_lines (t ∷ ts))
+
+    by : (b : Bool) → MayBeShort n (cond b (Err many_arguments) (Ok (language words)))
+    by true = tt
+    by false = tt
+
+-- a title ends before the first option, within the run of lines that the block begins with
+run_title : (n : ℕ) (block : Part) (run : List Text) → length run ≤ n → MayBeShort n (title_of (take (before_field run) run) (part_of block 0 (before_field run)))
+run_title n block run h = title_short n (take (before_field run) run) (part_of block 0 (before_field run)) (omega (arith, h, prefix_len-le-length (λ (t : Text). not (begins_field t)) run))
+
+argument_short : (n : ℕ) (name : Name) (block : Part) (run : List Text) (all rest : ℕ) → length run ≤ n
+    → let layout = layout_at name run all rest in MayBeShort n (argument_of name (take layout.argument run) (part_of block 0 layout.argument))
+unfolding layout_at
+argument_short n Admonition block run all rest h = run_title n block run h
+argument_short n Topic block run all rest h = run_title n block run h
+argument_short n Image block run all rest h = uri_short n (take (before_field run) run)
+argument_short n Figure block run all rest h = uri_short n (take (before_field run) run)
+argument_short n Code block run all rest h = language_short n (take (before_field run) run)
+argument_short n _ block run all rest h = tt
+
+parts_short : (n : ℕ) (name : Name) (content : Content) (given : Result Given Wrong) (choices : Result (List Choice) Wrong) → MayBeShort n given → content.second.to - content.second.from ≤ n
+    → MayBeReadShort n (read_parts name content given choices)
+parts_short n name content given (Err w) h k = tt
+parts_short n name content (Err w) (Ok choices) h k = tt
+parts_short n name content (Ok value) (Ok choices) h k = (h, k)
+
+block_short : (n : ℕ) (name : Name) (late : Bool) (block : Part) (H : Block) → length H ≤ n → MayBeReadShort n (read_block name late block H)
+unfolding read_block read_by
+block_short n name late block H few =
+    let run : List Text = run_in name late H in
+    let layout = layout_of name run H in
+    parts_short n name (content_of block layout (length H)) (argument_of name (take layout.argument run) (part_of block 0 layout.argument)) (options_of name (drop layout.options run))
+    (argument_short n name block run (length H) (behind_blank H (length run)) (omega (arith, few, run_in-le name late H))) (omega (arith, few))
+
+judged_short : (n : ℕ) (place : Place) (paragraph : Bool) (source : Part) (read : Result Read Wrong) → MayBeReadShort n read → AreOutcomeShort n (outcome_at source (and_then (judged place paragraph) (of_block read)))
+judged_short n place paragraph source (Err w) h = tt
+judged_short n place paragraph source (Ok read) h = by (content_fault read.name (is_empty read.content) place paragraph)
+  where
+    by : (fault : Option DirectiveFault) → AreOutcomeShort n (outcome_at source (unless (option_map fault_in fault) (Ok read)))
+    by (Some fault) = tt
+    by None = h
+
+outcome_short : (n : ℕ) (c : Within) (B : Block) (i : ℕ) (call : Invocation) (place : Place) → length (lines_in B call.block) ≤ n → AreOutcomeShort n (called c B i call place)
+unfolding directive_of
+outcome_short n c B i call place few = by (named (called_at c.code B i call) place)
+  where
+    paragraph : Bool
+    paragraph = is_single_paragraph (lines_in B call.block)
+
+    by : (r : Result Name Fault) → AreOutcomeShort n (outcome_at (lines_at i call.block) (and_then (judged place paragraph) (and_then (read_at B i call.block) r)))
+    by (Err w) = tt
+    by (Ok name) = judged_short n place paragraph (lines_at i call.block) (read_block name (is_late i call.block) call.block (lines_in B call.block)) (block_short n name (is_late i call.block) call.block (lines_in B call.block) few)
+
+-- a directive's title, and its content after the options, have no more lines than this
+abbrev pub AreFew : ℕ → Directive → Type 0
+AreFew n (FoundDirective name argument options content) = (argument_lines argument ≤ n) × (content.second.to - content.second.from ≤ n)
+AreFew n (WrongDirective fault source) = Unit {0}
+
+kept_few : (n : ℕ) (d : Directive) → AreOutcomeShort n (outcome_of d) → AreFew n d
+kept_few n (FoundDirective name Absent options content) h = (omega arith, h.1)
+kept_few n (FoundDirective name (Title part) options content) h = h
+kept_few n (FoundDirective name (Uri text) options content) h = (omega arith, h.1)
+kept_few n (FoundDirective name (Language text) options content) h = (omega arith, h.1)
+kept_few n (WrongDirective fault source) h = tt
+
+-- they have no more lines than its block
+pub directive_few : (c : Within) (B : Block) (i : ℕ) (call : Invocation) (place : Place) (d : Directive) → outcome_of d ≡ called c B i call place → AreFew (call.block.to - call.block.from) d
+directive_few c B i call place d e =
+    let n : ℕ = call.block.to - call.block.from in
+    kept_few n d (subst (AreOutcomeShort n) (sym e) (outcome_short n c B i call place (part_le B call.block).0))

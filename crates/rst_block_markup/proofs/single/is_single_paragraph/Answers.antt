@@ -1,0 +1,19 @@
+use Rattle.std.proofs.Common.{◌≤◌, length, arith}
+use Rattle.rst_text.specs.Block.{Block}
+use Rattle.rst_text.specs.Shown.{block_of}
+use Rattle.rst_markup_blocks.specs.Lines.{lines_while}
+use Rattle.rst_markup_blocks.specs.declared.lines.LineTest.TheVariants.{Plain}
+use Rattle.rst_markup_blocks.specs.RowLaws.{while_le}
+use Rattle.rst_block_state.proofs.Looked.{no_next, reach_le}
+use Rattle.rst_block_markup.proofs.single.is_single_paragraph.Goals as goal
+
+pub returns-then-end-gt1-clause-most : goal.returns-then-end-gt1-clause-most
+returns-then-end-gt1-clause-most c =
+    let B : Block = block_of c.args.view.now in
+    omega (arith, c.begins_paragraph.ensures.looks, c.lines_end-end.ensures.looks, reach_le (lines_while Plain B) B (while_le Plain B))
+
+pub returns-else-end-gt1-clause-most : goal.returns-else-end-gt1-clause-most
+returns-else-end-gt1-clause-most c =
+    let B : Block = block_of c.args.view.now in
+    let few : length B ≤ 1 = omega arith in
+    omega (arith, c.begins_paragraph.ensures.looks, c.lines_end-end.ensures.looks, reach_le (lines_while Plain B) B (while_le Plain B), no_next B few)

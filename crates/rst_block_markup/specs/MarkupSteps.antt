@@ -1,0 +1,73 @@
+-- Explicit markup, step by step: what a block gives where it stands at its next line, and directives as they are kept. No rule of markup.
+use Rattle.std.specs.Prelude.{ℕ, Bool, true, false, List, Option, Some, if◌then◌else◌}
+use Rattle.rst_text.specs.Block.{Block}
+use Rattle.rst_tree.specs.declared.node.Node.{Node}
+use Rattle.rst_markup_directives.specs.Argument.{given_in}
+use Rattle.rst_markup_directives.specs.Directive.{Read}
+use Rattle.rst_markup_directives.specs.Options.{choices_in}
+use Rattle.rst_markup_directives.specs.declared.found.Content.{Content}
+use Rattle.rst_markup_directives.specs.declared.found.Place.{Place}
+use Rattle.rst_markup_directives.specs.declared.found.Place.TheVariants.{Top, Body}
+use Rattle.rst_markup_directives.specs.declared.name.Name.{Name}
+use Rattle.rst_markup_directives.specs.declared.name.Name.TheVariants.{Figure, Replace}
+use Rattle.rst_block_state.specs.Constructs.{explicit_markup}
+use Rattle.rst_block_state.specs.Directives.{content_nodes}
+use Rattle.rst_block_state.specs.Figures.{Beginning, caption, no_caption, neither}
+use Rattle.rst_block_state.specs.Meanings.{open_of, within_at, done_of, reads_from}
+use Rattle.rst_block_state.specs.Numbered.{Numbered, ◌>>=◌, just, before}
+use Rattle.rst_block_state.specs.Rest.{OpenRun, open_markup, rest_with}
+use Rattle.rst_block_state.specs.RestLaws.{found_as}
+use Rattle.rst_block_state.specs.Titles.{Item}
+use Rattle.rst_block_state.specs.Within.{Within}
+use Rattle.rst_block_markup.specs.declared.directive.Found.{Found}
+use Rattle.rst_block_markup.specs.declared.figure.Front.{Front}
+use Rattle.rst_block_markup.specs.declared.figure.Front.TheVariants.{Caption, Missing, Wrong}
+use Rattle.rst_block_state.specs.declared.open_block.OpenBlock.{OpenBlock}
+
+-- the open run is explicit markup
+abbrev pub is_markup : OpenRun → Bool
+is_markup (open_markup end) = true
+is_markup _ = false
+
+-- what a block gives that has explicit markup at its next line, which ends at this place
+abbrev pub markup_reads : OpenBlock → Block → ℕ → Numbered (List Item)
+markup_reads l B end =
+    before (done_of l) (rest_with (within_at l.depth) B (open_of l.run) (found_as explicit_markup (record { start = l.at; stop = end })))
+
+-- what a block gives in which these nodes are read next, and which goes on at this line
+abbrev pub reads_with : OpenBlock → Block → Numbered (List Node) → ℕ → Numbered (List Item)
+reads_with l B read at = do
+  ns ← read
+  reads_from l B ns at
+
+-- what is made of the nodes of a content
+abbrev pub made_of : Within → Block → Content → (List Node → List Node) → Numbered (List Node)
+made_of c B content make = do
+  nodes ← content_nodes c B content
+  just (make nodes)
+
+-- ---- directives
+
+-- a directive of this name is a replacement text
+abbrev pub is_replacement : Option Name → Bool
+is_replacement (Some Replace) = true
+is_replacement _ = false
+
+-- a directive of this name is a figure
+abbrev pub is_figure : Name → Bool
+is_figure Figure = true
+is_figure _ = false
+
+-- where a directive stands: in the document itself where titles are recognized, else in a body
+abbrev pub place_in : Bool → Place
+place_in titles = if titles then Top else Body
+
+-- a right directive, as it is kept
+abbrev pub read_of : Found → Read
+read_of f = record { name = f.name; argument = given_in f.argument; options = choices_in f.options.items; content = f.content }
+
+-- what the content of a figure begins with, as it is kept
+abbrev pub beginning_in : Front → Beginning
+beginning_in (Caption node count) = caption node count
+beginning_in Missing = no_caption
+beginning_in Wrong = neither

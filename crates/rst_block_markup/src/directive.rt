@@ -1,0 +1,495 @@
+//! Directives as blocks (Markup Specification, 'Directives').
+ghost use Rattle.std.specs.Prelude.{◌≡◌, ℕ, ◌+◌, ◌-◌, ◌*◌, ◌^◌, ◌<◌, ◌≤◌, ◌==◌, [], ◌∷◌, true, length, drop, slice_range, option_map, Some, Ok, IfOk};
+ghost use Rattle.std.specs.Str.{chars};
+ghost use Rattle.rst_text.specs.Block.{Block, first_number};
+ghost use Rattle.rst_text.specs.Shown.{block_of};
+ghost use Rattle.rst_tree.specs.Faults as faults;
+ghost use Rattle.rst_tree.specs.declared.note.Level.TheVariants.{Error};
+ghost use Rattle.rst_tree.specs.declared.tag.Tag.TheVariants.{Title as TitleTag};
+ghost use Rattle.rst_markup_directives.specs.Argument as given;
+ghost use Rattle.rst_markup_directives.specs.Directive as directives;
+ghost use Rattle.rst_markup_directives.specs.Message.{fault_text};
+ghost use Rattle.rst_markup_directives.specs.Options.{choices_in};
+ghost use Rattle.rst_markup_directives.specs.Wrong.{fault_in};
+ghost use Rattle.rst_block_nodes.specs.Options.{directive_element};
+ghost use Rattle.rst_block_sections.specs.Sections.{filled};
+ghost use Rattle.rst_block_state.specs.Directives as meaning;
+ghost use Rattle.rst_block_state.specs.Directives.{titled_element};
+ghost use Rattle.rst_block_state.specs.LineRuns.{number_or};
+ghost use Rattle.rst_block_markup.specs.MarkupSteps.{is_figure, is_replacement, place_in, read_of, reads_with};
+ghost use Rattle.rst_block_state.specs.Meanings.{Keeps, comes, within_at};
+ghost use Rattle.rst_block_state.specs.Numbered.{then_read, just};
+ghost use Rattle.rst_markup_directives.specs.Call.{IsArgumentIn, IsContentIn, IsDirectiveIn};
+ghost use Rattle.rst_markup_directives.specs.declared.found.Place.{Place};
+ghost use Rattle.rst_markup_blocks.specs.Parts.{IsBlock, IsCall};
+ghost use Rattle.rst_block_state.specs.OpenBlocks.{Gives, IsKept, IsMoved, IsPlaced};
+ghost use Rattle.rst_block_state.specs.Paragraphs.{is_single_paragraph};
+ghost use Rattle.rst_block_state.specs.Steps as spec;
+ghost use Rattle.rst_block_state.specs.Texts.{joined, lines_in, shown, source_of, texted};
+ghost use Rattle.rst_block_state.specs.declared.step.Step.TheVariants.{Open};
+ghost use Rattle.rst_block_state.specs.Ledger.{Opens, argument_lines, quote_looks, unread_at};
+ghost use Rattle.rst_block_state.specs.Inside.{content_blocks, directive_blocks, directive_content};
+
+use super::explicit::put;
+use super::single::is_single_paragraph;
+use rst_block_nodes::{
+    code_block, directive_element, figure, image, message, with_text, with_title_class,
+};
+use rst_block_sections::{append, filled};
+use rst_block_state::{
+    BlockFault, OpenBlock, OpenFigure, Pass, Step, Waits, alone, excerpt, first_line_or, inside,
+    joined, number_at, source,
+};
+use rst_markup_blocks::{Invocation, Part};
+use rst_markup_directives::{
+    Argument, Content, Directive, DirectiveFault, Name, Place, Setting, called, directive,
+    message as fault_text,
+};
+use rst_text::{Looks, View};
+use rst_tree::{Level, Node, Tag, TreeFault};
+use std::alloc::Global;
+
+/// What a directive is, where `place` is where it stands.
+pub(crate) fn directive_at(
+    alloc: Global,
+    view: &View<'_>,
+    at: usize,
+    invocation: &Invocation,
+    place: Place,
+    pass: &mut Pass,
+) -> Result<Directive, BlockFault>
+    requires call { IsCall (block_of view.now) at invocation.now }
+    requires few { pass.old.looks < 2 ^ 119 + 2 ^ 115 }
+    ensures outcome { Gives (λ found. directives.outcome_of found
+        ≡ meaning.called (within_at 0) (block_of view.now) at invocation.now place) result }
+    ensures parts { IfOk result (IsDirectiveIn (block_of view.now)) }
+    ensures numbers { pass.new.numbers ≡ pass.old.numbers }
+    ensures looks { IfOk result (λ _. pass.new.looks ≤ pass.old.looks + 2 ^ 72) }
+    ensures most { IfOk result (λ _. pass.new.looks ≤ pass.old.looks + 8 + 2 * (invocation.now.block.to - invocation.now.block.from)) }
+    ensures low { IfOk result (λ _. pass.old.looks + 1 ≤ pass.new.looks) }
+{
+    let name = called(alloc, view, at, invocation, &mut pass.looks)?;
+    let block = invocation.block;
+    let paragraph = is_paragraph(name, view, block, &mut pass.looks);
+    Ok(directive(
+        alloc,
+        name,
+        view,
+        at,
+        block,
+        place,
+        paragraph,
+        &mut pass.looks,
+    )?)
+}
+
+/// Whether a directive of this name is a replacement text.
+fn is_replacement(name: Option<Name>) -> bool
+    ensures { result ≡ is_replacement name }
+{
+    matches!(name, Some(Name::Replace))
+}
+
+/// Whether the block of a replacement text is a single paragraph, which counts for no other directive.
+fn is_paragraph(name: Option<Name>, view: &View<'_>, block: Part, looks: &mut Looks) -> bool
+    requires block { IsBlock (block_of view.now) block }
+    requires few { looks.old < 2 ^ 119 + 2 ^ 116 }
+    ensures flag { (B : Block) (at : ℕ) (place : Place) → directives.directive_of name B at block place result
+        ≡ directives.directive_of name B at block place (is_single_paragraph (lines_in (block_of view.now) block)) }
+    ensures looks { looks.new ≤ looks.old + 2 ^ 66 }
+    ensures most { looks.new ≤ looks.old + (block.to - block.from) + 6 }
+    ensures low { looks.old ≤ looks.new }
+{
+    if is_replacement(name) {
+        return is_single_paragraph(&inside(view, block), looks);
+    }
+    false
+}
+
+/// A directive.
+pub(crate) fn directive_block(
+    alloc: Global,
+    view: &View<'_>,
+    level: &mut OpenBlock,
+    invocation: &Invocation,
+    pass: &mut Pass,
+) -> Result<Step, BlockFault>
+    requires call { IsCall (block_of view.now) level.old.at invocation.now }
+    requires inside { level.old.at < length (block_of view.now) }
+    requires few { pass.old.looks < 2 ^ 119 + 2 ^ 113 }
+    requires later { level.old.at < invocation.now.block.to }
+    requires placed { IsPlaced level.old }
+    requires begins { level.old.at ≤ invocation.now.block.from }
+    ensures step { IfOk result (λ s. spec.IsStep (block_of view.now) level.old.at level.new.at s) }
+    ensures kept { IfOk result (λ _. IsKept level.old level.new) }
+    ensures read { let B = block_of view.now in
+        let end = invocation.now.block.to in
+        let nodes = meaning.directive_nodes (within_at level.old.depth) B (record { start = level.old.at; stop = end }) invocation.now in
+        Keeps result (λ s. comes level.new B s pass.new.numbers) (reads_with level.old B nodes end pass.old.numbers) }
+    ensures paid { let B = block_of view.now in
+        let end = invocation.now.block.to in
+        let outcome = meaning.called (unread_at level.old.depth) B level.old.at invocation.now (place_in (level.old.depth == 0)) in
+        let inner = directive_blocks outcome B in
+        IfOk result (λ s. Opens (18 * (end - level.old.at)) level.old level.new B inner end s pass.old.looks pass.new.looks) }
+{
+    let at = level.at;
+    let end = invocation.block.to;
+    match directive_at(alloc, view, at, invocation, place_in(level.titles()), pass)? {
+        Directive::Wrong { fault, .. } => {
+            let name = excerpt(alloc, view.line(at, &mut pass.looks), invocation.name)?;
+            let name = name.as_str();
+            let error = wrong_directive(alloc, view, at, end, &fault, name, &mut pass.looks)?;
+            put(level, error, end)
+        }
+        Directive::Found {
+            name,
+            argument,
+            options,
+            content,
+        } => {
+            let found = Found {
+                name,
+                argument,
+                options,
+                content,
+                end,
+            };
+            directive_nodes(alloc, view, level, &found, pass)
+        }
+    }
+}
+
+/// Where a directive stands in a block, by whether titles may stand there.
+fn place_in(titles: bool) -> Place
+    ensures { result ≡ place_in titles }
+{
+    if titles { Place::Top } else { Place::Body }
+}
+
+/// A right directive, which ends at `end`.
+#[derive(Drop)]
+struct Found {
+    name: Name,
+    argument: Argument,
+    options: Vec<Setting>,
+    content: Content,
+    end: usize,
+}
+
+/// The message on a wrong directive, with its lines. `name` is the name that the message tells.
+pub(crate) fn wrong_directive(
+    alloc: Global,
+    view: &View<'_>,
+    at: usize,
+    end: usize,
+    fault: &DirectiveFault,
+    name: &str,
+    looks: &mut Looks,
+) -> Result<Node, BlockFault>
+    requires few { looks.old < 2 ^ 120 }
+    ensures error { let B = block_of view.now in
+        let text = fault_text (fault_in fault.now) name.now in
+        Gives (λ node. node ≡ shown Error (first_number (drop at B)) text (source_of B (record { start = at; stop = end }))) result }
+    ensures looks { looks.new ≤ looks.old + 2 ^ 64 }
+    ensures most { looks.new ≤ looks.old + (end - at) }
+    ensures each { IfOk result (λ _. looks.new ≡ looks.old + length (slice_range (block_of view.now) at end)) }
+{
+    let text = fault_text(alloc, fault, name)?;
+    let lines = source(alloc, view, at, end, looks)?;
+    Ok(message(
+        alloc,
+        Level::Error,
+        number_at(view, at),
+        text.as_str(),
+        Some(lines.as_str()),
+    )?)
+}
+
+/// Whether a directive of this name holds program code.
+fn is_code(name: Name) -> bool
+    ensures { result ≡ directives.is_code_name name }
+{
+    matches!(name, Name::Code)
+}
+
+/// Whether a directive of this name is a figure.
+fn is_figure(name: Name) -> bool
+    ensures { result ≡ is_figure name }
+{
+    matches!(name, Name::Figure)
+}
+
+/// What a right directive leaves, or the block that is read for it.
+fn directive_nodes(
+    alloc: Global,
+    view: &View<'_>,
+    level: &mut OpenBlock,
+    found: &Found,
+    pass: &mut Pass,
+) -> Result<Step, BlockFault>
+    requires content { IsContentIn (block_of view.now) found.now.content }
+    requires argument { IsArgumentIn (block_of view.now) found.now.argument }
+    requires inside { level.old.at < length (block_of view.now) }
+    requires few { pass.old.looks < 2 ^ 119 + 2 ^ 114 }
+    requires later { level.old.at < found.now.end }
+    requires placed { IsPlaced level.old }
+    ensures step { IfOk result (λ s. spec.IsStep (block_of view.now) level.old.at level.new.at s) }
+    ensures kept { IfOk result (λ _. IsKept level.old level.new) }
+    ensures read { let B = block_of view.now in
+        let line = first_number (drop level.old.at B) in
+        let source = source_of B (record { start = level.old.at; stop = found.now.end }) in
+        let argument = given.given_in found.now.argument in
+        let nodes = meaning.right_by argument found.now.name (within_at level.old.depth) B line (read_of found.now) source in
+        Keeps result (λ s. comes level.new B s pass.new.numbers) (reads_with level.old B nodes found.now.end pass.old.numbers) }
+    ensures paid { let B = block_of view.now in
+        let content = found.now.content in
+        let few = argument_lines found.now.argument + (content.second.to - content.second.from) + (found.now.end - level.old.at) in
+        let inner = directive_content (given.given_in found.now.argument) found.now.name B content in
+        IfOk result (λ s. Opens few level.old level.new B inner found.now.end s pass.old.looks pass.new.looks) }
+{
+    match &found.argument {
+        Argument::Title(title) => titled_block(alloc, view, level, found, *title, pass),
+        Argument::Uri(uri) => image_block(alloc, view, level, found, uri.as_str(), pass),
+        Argument::Language(language) => {
+            let language = Some(language.as_str());
+            code_nodes(alloc, view, level, found, language, pass)
+        }
+        Argument::Absent => plain_block(alloc, view, level, found, pass),
+    }
+}
+
+/// An admonition or a topic.
+fn titled_block(
+    alloc: Global,
+    view: &View<'_>,
+    level: &mut OpenBlock,
+    found: &Found,
+    title: Part,
+    pass: &mut Pass,
+) -> Result<Step, BlockFault>
+    requires content { IsContentIn (block_of view.now) found.now.content }
+    requires title { IsBlock (block_of view.now) title }
+    requires inside { level.old.at < length (block_of view.now) }
+    requires few { pass.old.looks < 2 ^ 119 + 2 ^ 115 }
+    requires later { level.old.at < found.now.end }
+    requires placed { IsPlaced level.old }
+    ensures step { IfOk result (λ s. spec.IsStep (block_of view.now) level.old.at level.new.at s) }
+    ensures kept { IfOk result (λ _. IsKept level.old level.new) }
+    ensures read { let B = block_of view.now in
+        let line = first_number (drop level.old.at B) in
+        let nodes = meaning.titled_nodes (within_at level.old.depth) B line (read_of found.now) (lines_in B title) in
+        Keeps result (λ s. comes level.new B s pass.new.numbers) (reads_with level.old B nodes found.now.end pass.old.numbers) }
+    ensures paid { let B = block_of view.now in
+        let inner = content_blocks B found.now.content in
+        IfOk result (λ s. Opens (title.to - title.from) level.old level.new B inner found.now.end s pass.old.looks pass.new.looks) }
+{
+    let line = number_at(view, level.at);
+    let node = titled(alloc, view, found, title, line, pass)?;
+    Ok(opened(level, Waits::Element(node), found))
+}
+
+/// A directive without an argument.
+fn plain_block(
+    alloc: Global,
+    view: &View<'_>,
+    level: &mut OpenBlock,
+    found: &Found,
+    pass: &mut Pass,
+) -> Result<Step, BlockFault>
+    requires content { IsContentIn (block_of view.now) found.now.content }
+    requires inside { level.old.at < length (block_of view.now) }
+    requires few { pass.old.looks < 2 ^ 119 + 2 ^ 115 }
+    requires later { level.old.at < found.now.end }
+    requires placed { IsPlaced level.old }
+    ensures step { IfOk result (λ s. spec.IsStep (block_of view.now) level.old.at level.new.at s) }
+    ensures kept { IfOk result (λ _. IsKept level.old level.new) }
+    ensures read { let B = block_of view.now in
+        let line = first_number (drop level.old.at B) in
+        let source = source_of B (record { start = level.old.at; stop = found.now.end }) in
+        let nodes = meaning.right_by given.nothing found.now.name (within_at level.old.depth) B line (read_of found.now) source in
+        Keeps result (λ s. comes level.new B s pass.new.numbers) (reads_with level.old B nodes found.now.end pass.old.numbers) }
+    ensures paid { let B = block_of view.now in
+        let content = found.now.content in
+        let few = content.second.to - content.second.from in
+        let inner = directive_content given.nothing found.now.name B content in
+        IfOk result (λ s. Opens few level.old level.new B inner found.now.end s pass.old.looks pass.new.looks) }
+{
+    if is_code(found.name) {
+        return code_nodes(alloc, view, level, found, None, pass);
+    }
+    let line = number_at(view, level.at);
+    let node = directive_element(alloc, found.name, found.options.as_slice(), line)?;
+    Ok(opened(level, Waits::Element(node), found))
+}
+
+/// An image, or a figure with this image.
+fn image_block(
+    alloc: Global,
+    view: &View<'_>,
+    level: &mut OpenBlock,
+    found: &Found,
+    uri: &str,
+    pass: &mut Pass,
+) -> Result<Step, BlockFault>
+    requires content { IsContentIn (block_of view.now) found.now.content }
+    requires inside { level.old.at < length (block_of view.now) }
+    requires few { pass.old.looks < 2 ^ 119 + 2 ^ 115 }
+    requires later { level.old.at < found.now.end }
+    requires placed { IsPlaced level.old }
+    ensures step { IfOk result (λ s. spec.IsStep (block_of view.now) level.old.at level.new.at s) }
+    ensures kept { IfOk result (λ _. IsKept level.old level.new) }
+    ensures read { let B = block_of view.now in
+        let line = first_number (drop level.old.at B) in
+        let source = source_of B (record { start = level.old.at; stop = found.now.end }) in
+        let read = read_of found.now in
+        let nodes = meaning.right_by (given.uri (chars uri.now)) found.now.name (within_at level.old.depth) B line read source in
+        Keeps result (λ s. comes level.new B s pass.new.numbers) (reads_with level.old B nodes found.now.end pass.old.numbers) }
+    ensures paid { let B = block_of view.now in
+        let inner = directive_content (given.uri (chars uri.now)) found.now.name B found.now.content in
+        IfOk result (λ s. Opens (found.now.end - level.old.at) level.old level.new B inner found.now.end s pass.old.looks pass.new.looks) }
+{
+    if is_figure(found.name) {
+        return figure_block(alloc, view, level, found, uri, pass);
+    }
+    let line = number_at(view, level.at);
+    let node = image(alloc, uri, found.options.as_slice(), line, false, None)?;
+    put(level, node, found.end)
+}
+
+/// Opens the content of a directive, for whose nodes its block waits.
+fn opened(level: &mut OpenBlock, waits: Waits, found: &Found) -> Step
+    requires later { level.old.at < found.now.end }
+    requires waits { quote_looks waits ≡ 0 }
+    ensures opened { result ≡ Open waits found.now.content.first (Some found.now.content.second) }
+    ensures at { level.new.at ≡ found.now.end }
+    ensures moved { IsMoved level.old level.new }
+    ensures paid { (B : Block) (before after : ℕ) → before ≤ after
+        → Opens (after - before) level.old level.new B (content_blocks B found.now.content) found.now.end result before after }
+{
+    level.go_to(found.end);
+    Step::Open {
+        waits,
+        first: found.content.first,
+        second: Some(found.content.second),
+    }
+}
+
+/// Opens the content of a figure with this image.
+fn figure_block(
+    alloc: Global,
+    view: &View<'_>,
+    level: &mut OpenBlock,
+    found: &Found,
+    uri: &str,
+    pass: &mut Pass,
+) -> Result<Step, BlockFault>
+    requires content { IsContentIn (block_of view.now) found.now.content }
+    requires inside { level.old.at < length (block_of view.now) }
+    requires few { pass.old.looks < 2 ^ 119 + 2 ^ 116 }
+    requires later { level.old.at < found.now.end }
+    requires placed { IsPlaced level.old }
+    ensures step { IfOk result (λ s. spec.IsStep (block_of view.now) level.old.at level.new.at s) }
+    ensures kept { IfOk result (λ _. IsKept level.old level.new) }
+    ensures read { let B = block_of view.now in
+        let line = first_number (drop level.old.at B) in
+        let source = source_of B (record { start = level.old.at; stop = found.now.end }) in
+        let nodes = meaning.figure_of (within_at level.old.depth) B line (read_of found.now) uri.now source in
+        Keeps result (λ s. comes level.new B s pass.new.numbers) (reads_with level.old B nodes found.now.end pass.old.numbers) }
+    ensures paid { let B = block_of view.now in
+        let inner = content_blocks B found.now.content in
+        IfOk result (λ s. Opens (found.now.end - level.old.at) level.old level.new B inner found.now.end s pass.old.looks pass.new.looks) }
+{
+    let at = level.at;
+    let line = number_at(view, at);
+    let options = found.options.as_slice();
+    let shown = image(alloc, uri, options, line, true, None)?;
+    let figure = filled(figure(alloc, options, line)?, alone(alloc, shown)?)?;
+    let source = source(alloc, view, at, found.end, &mut pass.looks)?;
+    let waiting = OpenFigure {
+        figure,
+        line,
+        source,
+    };
+    let waits = Waits::Figure(Box::new(alloc, waiting)?);
+    Ok(opened(level, waits, found))
+}
+
+/// Program code in a language or in none.
+fn code_nodes(
+    alloc: Global,
+    view: &View<'_>,
+    level: &mut OpenBlock,
+    found: &Found,
+    language: Option<&str>,
+    pass: &mut Pass,
+) -> Result<Step, BlockFault>
+    requires content { IsContentIn (block_of view.now) found.now.content }
+    requires inside { level.old.at < length (block_of view.now) }
+    requires few { pass.old.looks < 2 ^ 119 + 2 ^ 116 }
+    requires later { level.old.at < found.now.end }
+    requires placed { IsPlaced level.old }
+    ensures step { IfOk result (λ s. spec.IsStep (block_of view.now) level.old.at level.new.at s) }
+    ensures kept { IfOk result (λ _. IsKept level.old level.new) }
+    ensures read { let B = block_of view.now in
+        let line = first_number (drop level.old.at B) in
+        let nodes = just (meaning.code_nodes B line (read_of found.now) (option_map (λ word. word.now) language.entry)) in
+        Keeps result (λ s. comes level.new B s pass.new.numbers) (reads_with level.old B nodes found.now.end pass.old.numbers) }
+    ensures paid { let content = found.now.content in
+        let few = content.second.to - content.second.from in
+        IfOk result (λ s. Opens few level.old level.new (block_of view.now) [] found.now.end s pass.old.looks pass.new.looks) }
+{
+    let line = number_at(view, level.at);
+    let text = joined(alloc, &inside(view, found.content.second), &mut pass.looks)?;
+    let options = found.options.as_slice();
+    let node = code_block(alloc, language, options, text.as_str(), line)?;
+    put(level, node, found.end)
+}
+
+/// An admonition or a topic with its title and the messages of that.
+fn titled(
+    alloc: Global,
+    view: &View<'_>,
+    found: &Found,
+    title: Part,
+    line: usize,
+    pass: &mut Pass,
+) -> Result<Node, TreeFault>
+    requires title { IsBlock (block_of view.now) title }
+    requires few { pass.old.looks < 2 ^ 120 }
+    ensures node { let lines = lines_in (block_of view.now) title in
+        let element = directive_element found.now.name (choices_in found.now.options.items) line in
+        let read = texted TitleTag (number_or line lines) (joined lines) (number_or line lines) pass.old.numbers in
+        faults.Gives (λ node. then_read (λ made. just (filled (titled_element found.now.name element made.0) (made.0 ∷ made.1))) read
+        ≡ Ok (node, pass.new.numbers)) result }
+    ensures looks { pass.new.looks ≤ pass.old.looks + 2 ^ 64 }
+    ensures most { pass.new.looks ≤ pass.old.looks + (title.to - title.from) }
+    ensures each { IfOk result (λ _. pass.new.looks ≡ pass.old.looks + (title.to - title.from)) }
+{
+    let lines = inside(view, title);
+    let title_line = first_line_or(&lines, line);
+    let text = joined(alloc, &lines, &mut pass.looks)?;
+    let title = with_text(
+        alloc,
+        Tag::Title,
+        title_line,
+        text.as_str(),
+        title_line,
+        &mut pass.numbers,
+    )?;
+    let node = directive_element(alloc, found.name, found.options.as_slice(), line)?;
+    let node = titled_element(alloc, found.name, node, &title.element)?;
+    let mut nodes = alone(alloc, title.element)?;
+    append(&mut nodes, title.notes)?;
+    let node = filled(node, nodes)?;
+    Ok(node)
+}
+
+/// The element of a directive with a title: the title of an admonition gives its class, unless the options do.
+fn titled_element(alloc: Global, name: Name, element: Node, title: &Node) -> Result<Node, TreeFault>
+    ensures { faults.Gives (λ node. node ≡ titled_element name element title.now) result }
+{
+    match name {
+        Name::Admonition => with_title_class(alloc, element, title),
+        _ => Ok(element),
+    }
+}

@@ -1,0 +1,382 @@
+//! Explicit markup blocks (Markup Specification, 'Explicit Markup Blocks').
+ghost use Rattle.std.specs.Prelude.{◌≡◌, ℕ, ◌+◌, ◌-◌, ◌*◌, ◌^◌, ◌<◌, ◌≤◌, [], ◌∷◌, length, drop, string_bytes, option_map, None, IfOk, IfSome, IsTrue};
+ghost use Rattle.rst_text.specs.Block.{Block, first_number, front_text};
+ghost use Rattle.rst_text.specs.Shown.{block_of};
+ghost use Rattle.rst_markup_blocks.specs.Parts.{IsBlock, IsCall};
+ghost use Rattle.rst_tree.specs.Faults as faults;
+ghost use Rattle.rst_tree.specs.declared.note.Level.TheVariants.{Warning};
+ghost use Rattle.rst_tree.specs.declared.tag.Tag.TheVariants.{Comment as CommentTag};
+ghost use Rattle.rst_markup_blocks.specs.Explicit.{IsExplicitIn, explicit_end, explicit_of, is_explicit_kind};
+ghost use Rattle.rst_markup_blocks.specs.Kinds.{kind_of};
+ghost use Rattle.rst_block_nodes.specs.Elements.{preserved_node};
+ghost use Rattle.rst_block_nodes.specs.Targets.{target_node};
+ghost use Rattle.rst_block_state.specs.Markup as markup;
+ghost use Rattle.rst_block_markup.specs.MarkupSteps.{is_markup, markup_reads, reads_with};
+ghost use Rattle.rst_block_state.specs.Meanings.{Keeps, comes, open_of, reads, within_at};
+ghost use Rattle.rst_block_state.specs.Numbered.{just};
+ghost use Rattle.rst_block_state.specs.OpenBlocks as blocks;
+ghost use Rattle.rst_block_state.specs.OpenBlocks.{IsKept, IsPlaced};
+ghost use Rattle.rst_block_state.specs.Steps as spec;
+ghost use Rattle.rst_block_state.specs.Texts.{excerpt, lines_in, said, spelled};
+ghost use Rattle.rst_block_state.specs.declared.waits.Waits.TheVariants.{Element};
+ghost use Rattle.rst_block_state.specs.declared.step.Step.TheVariants.{Open};
+ghost use Rattle.rst_block_state.specs.Ledger.{IsPaid, Opens, run_looks, unread_at};
+ghost use Rattle.rst_block_state.specs.Inside.{markup_blocks};
+
+use super::directive::directive_block;
+use super::substitution::substitution_definition;
+use rst_block_nodes::{citation, footnote, message, preserved, target};
+use rst_block_state::{
+    BlockFault, OpenBlock, Pass, Run, Step, Waits, excerpt, inside, joined, number_at,
+};
+use rst_markup_blocks::{CommentCause, Explicit, Part, explicit};
+use rst_markup_lines::{Characters, LabelKind};
+use rst_text::{Looks, View};
+use rst_tree::{Level, Node, Tag, TreeFault};
+use std::alloc::{AllocError, Global};
+
+/// Explicit markup, which joins other explicit markup before it.
+#[tactic(auto, using(rst_block_state::proofs::Views::few_lines, rst_block_state::proofs::Looked::explicit_looks))]
+pub fn explicit_markup(
+    alloc: Global,
+    view: &View<'_>,
+    level: &mut OpenBlock,
+    pass: &mut Pass,
+) -> Result<Step, BlockFault>
+    requires inside { level.old.at < length (block_of view.now) }
+    requires kind { IsTrue (is_explicit_kind (kind_of (block_of view.now) level.old.at)) }
+    requires few { pass.old.looks < 2 ^ 119 + 2 ^ 111 }
+    requires placed { IsPlaced level.old }
+    ensures step { IfOk result (λ s. spec.IsStep (block_of view.now) level.old.at level.new.at s) }
+    ensures kept { IfOk result (λ _. IsKept level.old level.new) }
+    ensures read { Keeps result (λ s. comes level.new (block_of view.now) s pass.new.numbers)
+        (reads level.old (block_of view.now) pass.old.numbers) }
+    ensures paid { IfOk result (λ s. IsPaid 29 level.old level.new (block_of view.now) s pass.old.looks pass.new.looks) }
+{
+    let at = level.at;
+    let found = explicit(view, at, &mut pass.looks);
+    let end = found.end(at);
+    begin_markup(alloc, view, level, end, pass)?;
+    markup_of(alloc, view, level, found, end, pass)
+}
+
+/// Whether explicit markup is open.
+fn is_markup(run: &Run) -> bool
+    ensures { result ≡ is_markup (open_of run.now) }
+{
+    matches!(run, Run::Explicit { .. })
+}
+
+/// Opens explicit markup up to `end`, before which any other open run ends.
+fn begin_markup(
+    alloc: Global,
+    view: &View<'_>,
+    level: &mut OpenBlock,
+    end: usize,
+    pass: &mut Pass,
+) -> Result<(), BlockFault>
+    requires few { pass.old.looks < 2 ^ 120 }
+    requires placed { IsPlaced level.old }
+    ensures at { level.new.at ≡ level.old.at }
+    ensures kept { IfOk result (λ _. IsKept level.old level.new) }
+    ensures read { let B = block_of view.now in
+        let nodes = markup.markup_nodes (within_at level.new.depth) B (record { start = level.old.at; stop = end }) in
+        Keeps result (λ _. reads_with level.new B nodes end pass.new.numbers) (markup_reads level.old B end pass.old.numbers) }
+    ensures run { IfOk result (λ _. pass.new.looks + run_looks level.new.run ≤ pass.old.looks + run_looks level.old.run + 1) }
+    ensures looks { pass.new.looks ≤ pass.old.looks + 1 }
+    ensures low { pass.old.looks ≤ pass.new.looks }
+{
+    if is_markup(&level.run) {
+        level.run = Run::Explicit { end };
+        return Ok(());
+    }
+    level.close(alloc, view, pass)?;
+    level.run = Run::Explicit { end };
+    Ok(())
+}
+
+/// What explicit markup that ends at `end` is.
+fn markup_of(
+    alloc: Global,
+    view: &View<'_>,
+    level: &mut OpenBlock,
+    found: Explicit,
+    end: usize,
+    pass: &mut Pass,
+) -> Result<Step, BlockFault>
+    requires markup { IsExplicitIn (block_of view.now) level.old.at found }
+    requires end { end ≡ explicit_end level.old.at found }
+    requires inside { level.old.at < length (block_of view.now) }
+    requires few { pass.old.looks < 2 ^ 119 + 2 ^ 112 }
+    requires later { level.old.at < end }
+    requires placed { IsPlaced level.old }
+    requires explicit { found ≡ explicit_of level.old.at (drop level.old.at (block_of view.now)) }
+    ensures step { IfOk result (λ s. spec.IsStep (block_of view.now) level.old.at level.new.at s) }
+    ensures kept { IfOk result (λ _. IsKept level.old level.new) }
+    ensures read { let B = block_of view.now in
+        let X = drop level.old.at B in
+        let nodes = markup.markup_by found (within_at level.old.depth) B (record { start = level.old.at; stop = end }) X in
+        Keeps result (λ s. comes level.new B s pass.new.numbers) (reads_with level.old B nodes end pass.old.numbers) }
+    ensures paid { let B = block_of view.now in
+        let inner = markup_blocks found (unread_at level.old.depth) B level.old.at in
+        IfOk result (λ s. Opens (20 * (end - level.old.at)) level.old level.new B inner end s pass.old.looks pass.new.looks) }
+{
+    match found {
+        Explicit::Footnote { label, body } => {
+            let kind = LabelKind::Footnote;
+            labelled_block(alloc, view, level, kind, label, body, pass)
+        }
+        Explicit::Citation { label, body } => {
+            let kind = LabelKind::Citation;
+            labelled_block(alloc, view, level, kind, label, body, pass)
+        }
+        Explicit::Target { name, text } => target_block(alloc, view, level, Some(name), text, pass),
+        Explicit::Anonymous { text } => target_block(alloc, view, level, None, text, pass),
+        Explicit::Comment { text, cause } => comment(alloc, view, level, text, cause, pass),
+        Explicit::EmptyComment => empty_comment(alloc, view, level, end, pass),
+        Explicit::Directive(invocation) => directive_block(alloc, view, level, &invocation, pass),
+        Explicit::Substitution { name, held, .. } => {
+            let name = label_text(alloc, view, level.at, name, &mut pass.looks)?;
+            substitution_definition(alloc, view, level, name.as_str(), held, end, pass)
+        }
+    }
+}
+
+/// A footnote or a citation, whose block is opened.
+fn labelled_block(
+    alloc: Global,
+    view: &View<'_>,
+    level: &mut OpenBlock,
+    kind: LabelKind,
+    label: Characters,
+    body: Part,
+    pass: &mut Pass,
+) -> Result<Step, BlockFault>
+    requires body { IsBlock (block_of view.now) body }
+    requires inside { level.old.at < length (block_of view.now) }
+    requires few { pass.old.looks < 2 ^ 119 + 2 ^ 113 }
+    requires later { level.old.at < body.to }
+    requires placed { IsPlaced level.old }
+    ensures step { IfOk result (λ s. spec.IsStep (block_of view.now) level.old.at level.new.at s) }
+    ensures kept { IfOk result (λ _. IsKept level.old level.new) }
+    ensures read { let B = block_of view.now in
+        let X = drop level.old.at B in
+        let element = markup.labelled_node kind (excerpt (front_text X) label) (first_number X) in
+        let nodes = markup.noted (within_at level.old.depth) B element body in
+        Keeps result (λ s. comes level.new B s pass.new.numbers) (reads_with level.old B nodes body.to pass.old.numbers) }
+    ensures paid { let B = block_of view.now in
+        IfOk result (λ s. Opens 1 level.old level.new B (lines_in B body ∷ []) body.to s pass.old.looks pass.new.looks) }
+{
+    let line = number_at(view, level.at);
+    let label = label_text(alloc, view, level.at, label, &mut pass.looks)?;
+    let element = labelled(alloc, kind, label.as_str(), line)?;
+    Ok(noted(level, element, body))
+}
+
+/// The element of a footnote or of a citation, which holds its label so far.
+fn labelled(alloc: Global, kind: LabelKind, label: &str, line: usize) -> Result<Node, TreeFault>
+    ensures { faults.Gives (λ node. node ≡ markup.labelled_node kind label.now line) result }
+{
+    match kind {
+        LabelKind::Footnote => footnote(alloc, label, line),
+        LabelKind::Citation => citation(alloc, label, line),
+    }
+}
+
+/// A target, with a name or anonymous.
+fn target_block(
+    alloc: Global,
+    view: &View<'_>,
+    level: &mut OpenBlock,
+    name: Option<Characters>,
+    text: Part,
+    pass: &mut Pass,
+) -> Result<Step, BlockFault>
+    requires text { IsBlock (block_of view.now) text }
+    requires inside { level.old.at < length (block_of view.now) }
+    requires few { pass.old.looks < 2 ^ 119 + 2 ^ 113 }
+    requires later { level.old.at < text.to }
+    requires placed { IsPlaced level.old }
+    ensures step { IfOk result (λ s. spec.IsStep (block_of view.now) level.old.at level.new.at s) }
+    ensures kept { IfOk result (λ _. IsKept level.old level.new) }
+    ensures read { let B = block_of view.now in
+        let X = drop level.old.at B in
+        let node = target_node (option_map (excerpt (front_text X)) name) (spelled (lines_in B text)) (first_number X) in
+        Keeps result (λ s. comes level.new B s pass.new.numbers) (reads_with level.old B (just (node ∷ [])) text.to pass.old.numbers) }
+    ensures paid { IfOk result (λ s.
+        Opens (1 + (text.to - text.from)) level.old level.new (block_of view.now) [] text.to s pass.old.looks pass.new.looks) }
+{
+    let lines = joined(alloc, &inside(view, text), &mut pass.looks)?;
+    let element = target_of(alloc, view, level.at, name, lines.as_str(), &mut pass.looks)?;
+    put(level, element, text.to)
+}
+
+/// The target in the line at place `at`, which leads to a text.
+fn target_of(
+    alloc: Global,
+    view: &View<'_>,
+    at: usize,
+    name: Option<Characters>,
+    text: &str,
+    looks: &mut Looks,
+) -> Result<Node, BlockFault>
+    requires inside { at < length (block_of view.now) }
+    requires few { looks.old < 2 ^ 120 }
+    ensures node { let X = drop at (block_of view.now) in
+        blocks.Gives (λ node. node ≡ target_node (option_map (excerpt (front_text X)) name) text.now (first_number X)) result }
+    ensures looks { looks.new ≤ looks.old + 1 }
+    ensures low { looks.old ≤ looks.new }
+{
+    let line = number_at(view, at);
+    match name {
+        Some(name) => {
+            let name = label_text(alloc, view, at, name, looks)?;
+            Ok(target(alloc, Some(name.as_str()), text, line)?)
+        }
+        None => Ok(target(alloc, None, text, line)?),
+    }
+}
+
+/// A comment, with the message on one that isn't meant as such.
+fn comment(
+    alloc: Global,
+    view: &View<'_>,
+    level: &mut OpenBlock,
+    text: Part,
+    cause: CommentCause,
+    pass: &mut Pass,
+) -> Result<Step, BlockFault>
+    requires text { IsBlock (block_of view.now) text }
+    requires inside { level.old.at < length (block_of view.now) }
+    requires few { pass.old.looks < 2 ^ 119 + 2 ^ 113 }
+    requires later { level.old.at < text.to }
+    requires placed { IsPlaced level.old }
+    ensures step { IfOk result (λ s. spec.IsStep (block_of view.now) level.old.at level.new.at s) }
+    ensures kept { IfOk result (λ _. IsKept level.old level.new) }
+    ensures read { let B = block_of view.now in
+        let line = first_number (drop level.old.at B) in
+        let node = preserved_node CommentTag line (spelled (lines_in B text)) in
+        let notes = markup.cause_notes cause line in
+        Keeps result (λ s. comes level.new B s pass.new.numbers) (reads_with level.old B (just (node ∷ notes)) text.to pass.old.numbers) }
+    ensures paid { IfOk result (λ s.
+        Opens (text.to - text.from) level.old level.new (block_of view.now) [] text.to s pass.old.looks pass.new.looks) }
+{
+    let line = number_at(view, level.at);
+    let lines = joined(alloc, &inside(view, text), &mut pass.looks)?;
+    let node = preserved(alloc, Tag::Comment, line, lines.as_str())?;
+    level.go_to(text.to);
+    level.push(node)?;
+    put_cause(alloc, level, cause, line)?;
+    Ok(Step::Next)
+}
+
+/// An empty comment.
+fn empty_comment(
+    alloc: Global,
+    view: &View<'_>,
+    level: &mut OpenBlock,
+    end: usize,
+    pass: &mut Pass,
+) -> Result<Step, BlockFault>
+    requires later { level.old.at < end }
+    requires placed { IsPlaced level.old }
+    ensures step { IfOk result (λ s. spec.IsStep (block_of view.now) level.old.at level.new.at s) }
+    ensures kept { IfOk result (λ _. IsKept level.old level.new) }
+    ensures read { let B = block_of view.now in
+        let node = preserved_node CommentTag (first_number (drop level.old.at B)) [] in
+        Keeps result (λ s. comes level.new B s pass.new.numbers) (reads_with level.old B (just (node ∷ [])) end pass.old.numbers) }
+    ensures paid { IfOk result (λ s. Opens (0) level.old level.new (block_of view.now) ([]) end s pass.old.looks pass.new.looks) }
+    ensures looks { pass.new.looks ≡ pass.old.looks }
+{
+    let node = preserved(alloc, Tag::Comment, number_at(view, level.at), "")?;
+    put(level, node, end)
+}
+
+/// The characters of a label or name in the first line of explicit markup.
+fn label_text(
+    alloc: Global,
+    view: &View<'_>,
+    at: usize,
+    place: Characters,
+    looks: &mut Looks,
+) -> Result<String, AllocError>
+    requires inside { at < length (block_of view.now) }
+    requires few { looks.old < 2 ^ 120 }
+    ensures text { IfOk result (λ label. string_bytes label ≡ excerpt (front_text (drop at (block_of view.now))) place) }
+    ensures looks { looks.new ≡ looks.old + 1 }
+{
+    excerpt(alloc, view.line(at, looks), place)
+}
+
+/// Opens the block of a footnote or citation.
+fn noted(level: &mut OpenBlock, element: Node, body: Part) -> Step
+    requires later { level.old.at < body.to }
+    ensures step { (B : Block) → IsBlock B body → spec.IsStep B level.old.at level.new.at result }
+    ensures opened { result ≡ Open (Element element) body None }
+    ensures at { level.new.at ≡ body.to }
+    ensures moved { blocks.IsMoved level.old level.new }
+    ensures paid { (B : Block) (looks : ℕ) → Opens 0 level.old level.new B (lines_in B body ∷ []) body.to result looks looks }
+{
+    level.go_to(body.to);
+    Step::Open {
+        waits: Waits::Element(element),
+        first: body,
+        second: None,
+    }
+}
+
+/// Puts a node behind the last, in a block that goes on at place `end`.
+pub(crate) fn put(level: &mut OpenBlock, node: Node, end: usize) -> Result<Step, BlockFault>
+    requires later { level.old.at < end }
+    requires placed { IsPlaced level.old }
+    ensures step { (B : Block) → IfOk result (λ s. spec.IsStep B level.old.at level.new.at s) }
+    ensures kept { IfOk result (λ _. IsKept level.old level.new) }
+    ensures read { (B : Block) (number : ℕ)
+        → Keeps result (λ s. comes level.new B s number) (reads_with level.old B (just (node ∷ [])) end number) }
+    ensures paid { (B : Block) (before after : ℕ) → before ≤ after
+        → IfOk result (λ s. Opens (after - before) level.old level.new B [] end s before after) }
+{
+    level.go_to(end);
+    level.push(node)?;
+    Ok(Step::Next)
+}
+
+/// Puts the message on a comment that isn't meant as one behind the last node.
+fn put_cause(
+    alloc: Global,
+    level: &mut OpenBlock,
+    cause: CommentCause,
+    line: usize,
+) -> Result<(), BlockFault>
+    ensures at { level.new.at ≡ level.old.at }
+    ensures more { blocks.Gives (λ _. blocks.HasMore level.old level.new (markup.cause_notes cause line)) result }
+{
+    match cause {
+        CommentCause::Plain => Ok(()),
+        CommentCause::MalformedTarget => put_warning(
+            alloc,
+            level,
+            line,
+            "malformed hyperlink target.",
+        ),
+        CommentCause::MalformedSubstitution => put_warning(
+            alloc,
+            level,
+            line,
+            "malformed substitution definition.",
+        ),
+    }
+}
+
+/// Puts a warning behind the last node.
+fn put_warning(
+    alloc: Global,
+    level: &mut OpenBlock,
+    line: usize,
+    text: &str,
+) -> Result<(), BlockFault>
+    ensures at { level.new.at ≡ level.old.at }
+    ensures more { blocks.Gives (λ _. blocks.HasMore level.old level.new (said Warning line text.now ∷ [])) result }
+{
+    level.push(message(alloc, Level::Warning, line, text, None)?)
+}

@@ -1,0 +1,138 @@
+//! Figures (Directives, 'Figure').
+ghost use Rattle.std.specs.Prelude.{◌≡◌, ◌∷◌, ◌++◌, take, drop, string_bytes};
+ghost use Rattle.std.specs.Vec.Iter.{into_iter_items};
+ghost use Rattle.rst_tree.specs.Faults.{Gives};
+ghost use Rattle.rst_block_sections.specs.Sections.{filled};
+ghost use Rattle.rst_block_state.specs.Figures as spec;
+ghost use Rattle.rst_block_markup.specs.MarkupSteps.{beginning_in};
+
+use rst_block_nodes::message;
+use rst_block_sections::{append, completed};
+use rst_block_state::{OpenFigure, alone, parted, push};
+use rst_tree::{Attrs, Children, Key, Level, Node, Tag, TreeFault};
+use rst_tree_index::Marked;
+use std::alloc::Global;
+use std::vec::IntoIter;
+
+/// What the content of a figure begins with.
+enum Front {
+    /// A caption, and how many messages on its text follow it.
+    Caption(Node, u64),
+    /// An empty comment, in a caption's place.
+    Missing,
+    /// Something else.
+    Wrong,
+}
+
+/// A figure with the nodes of its content as caption and legend, and the messages of the caption behind it.
+pub fn finished_figure(
+    alloc: Global,
+    open: OpenFigure,
+    nodes: Vec<Marked>,
+) -> Result<Vec<Marked>, TreeFault>
+    ensures { Gives (λ made. made.items
+        ≡ spec.figure_nodes open.figure (spec.caption_error open.line (string_bytes open.source)) nodes.items) result }
+{
+    let OpenFigure {
+        figure,
+        line,
+        source,
+    } = open;
+    let mut rest = nodes.into_iter();
+    let Some(first) = rest.next() else {
+        return Ok(alone(alloc, Marked::of(alloc, figure)?)?);
+    };
+    match front_of(first.into_root()) {
+        // The caption is marked as a new node. Its text was marked in its paragraph, but no caption stands in another: so nothing
+        // is marked more than twice.
+        Front::Caption(caption, count) => {
+            let caption = alone(alloc, Marked::of(alloc, caption)?)?;
+            captioned(alloc, figure, caption, rest, count)
+        }
+        Front::Missing => captioned(alloc, figure, Vec::new(alloc), rest, 0),
+        Front::Wrong => {
+            let text = "Figure caption must be a paragraph or empty comment.";
+            let error = message(alloc, Level::Error, line, text, Some(source.as_str()))?;
+            let mut nodes = alone(alloc, Marked::of(alloc, figure)?)?;
+            push(&mut nodes, Marked::of(alloc, error)?)?;
+            Ok(nodes)
+        }
+    }
+}
+
+/// A figure with its caption, if it has one, and the nodes behind that: the first ones, as many as `count`, are the messages of
+/// the caption and stand behind the figure, the others are its legend.
+fn captioned(
+    alloc: Global,
+    figure: Node,
+    mut held: Vec<Marked>,
+    rest: IntoIter<Marked, Global>,
+    count: u64,
+) -> Result<Vec<Marked>, TreeFault>
+    ensures { let nodes = into_iter_items rest in
+        Gives (λ made. made.items ≡ filled figure (held.items ++ spec.legend_nodes (drop count nodes)) ∷ take count nodes) result }
+{
+    let (notes, legend) = parted(alloc, rest, count)?;
+    append(&mut held, legend_nodes(alloc, legend)?)?;
+    let mut nodes = alone(alloc, completed(alloc, figure, held)?)?;
+    append(&mut nodes, notes)?;
+    Ok(nodes)
+}
+
+/// What the first node of a figure's content is.
+fn front_of(node: Node) -> Front
+    ensures { beginning_in result ≡ spec.beginning_of node }
+{
+    match node {
+        Node::Element {
+            tag: Tag::Paragraph,
+            attrs,
+            children,
+            line,
+        } => {
+            let count = text_messages(&attrs);
+            let caption = Node::Element {
+                tag: Tag::Caption,
+                attrs,
+                children,
+                line,
+            };
+            Front::Caption(caption, count)
+        }
+        Node::Element {
+            tag: Tag::Comment,
+            children,
+            ..
+        } => comment_front(&children),
+        _ => Front::Wrong,
+    }
+}
+
+/// The same of a comment that holds these nodes.
+fn comment_front(children: &Children) -> Front
+    ensures { beginning_in result ≡ spec.comment_beginning children.now }
+{
+    if children.len() == 0 {
+        Front::Missing
+    } else {
+        Front::Wrong
+    }
+}
+
+/// How many messages of its text follow a paragraph.
+fn text_messages(attrs: &Attrs) -> u64
+    ensures { result ≡ spec.message_count attrs.now }
+{
+    attrs.number(Key::TextMessages).unwrap_or(0)
+}
+
+/// The legend of some nodes, if there are some.
+fn legend_nodes(alloc: Global, nodes: Vec<Marked>) -> Result<Vec<Marked>, TreeFault>
+    ensures { Gives (λ made. made.items ≡ spec.legend_nodes nodes.items) result }
+{
+    if nodes.is_empty() {
+        return Ok(nodes);
+    }
+    let legend = Marked::element(alloc, Tag::Legend, Attrs::new(alloc), nodes, 0)?;
+    Ok(alone(alloc, legend)?)
+}

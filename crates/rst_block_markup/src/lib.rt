@@ -1,0 +1,12 @@
+//! Explicit markup: footnotes, citations, targets, comments, substitution definitions, and directives with their figures.
+#![tactic(auto, using(rst_block_state::proofs::Views::few_lines))]
+
+mod directive;
+mod explicit;
+mod figure;
+mod single;
+mod substitution;
+
+pub use explicit::explicit_markup;
+pub use figure::finished_figure;
+pub use substitution::finished_replacement;

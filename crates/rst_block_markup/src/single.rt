@@ -1,0 +1,76 @@
+//! Blocks in blocks that are one paragraph (Directives, 'Replacement Text').
+ghost use Rattle.std.specs.Prelude.{◌≡◌, ◌+◌, ◌-◌, ◌^◌, ◌<◌, ◌≤◌, length, true, false};
+ghost use Rattle.std.specs.Str.{chars};
+ghost use Rattle.rst_text.specs.Shown.{block_of};
+ghost use Rattle.rst_markup_blocks.specs.Conditions.{next_text};
+ghost use Rattle.rst_block_state.specs.Paragraphs as paragraphs;
+ghost use Rattle.rst_markup_blocks.specs.Sizes.{overline_looks};
+
+use rst_block_state::inside;
+use rst_markup_blocks::{
+    Adorned, Begun, LineTest, TextForm, adorned_at, begun_at, below_text, lines_end, text_form,
+};
+use rst_markup_lines::{ends_in_colons, is_blank};
+use rst_text::{Looks, View, skip};
+
+/// Whether the lines of a block in a block are one paragraph that doesn't vanish, and nothing else. It makes at most six looks more
+/// than there are lines.
+pub(crate) fn is_single_paragraph(view: &View<'_>, looks: &mut Looks) -> bool
+    requires few { looks.old < 2 ^ 119 + 2 ^ 116 }
+    ensures paragraph { result ≡ paragraphs.is_single_paragraph (block_of view.now) }
+    ensures looks { looks.new ≤ looks.old + 2 ^ 66 }
+    ensures most { looks.new ≤ looks.old + length (block_of view.now) + 6 }
+    ensures low { looks.old ≤ looks.new }
+{
+    if view.len() == 0 || !begins_paragraph(view, looks) {
+        return false;
+    }
+    let end = lines_end(view, 0, LineTest::Plain, looks);
+    if end < view.len() {
+        return false;
+    }
+    1 < end || !is_colons(view.line(0, looks))
+}
+
+/// Whether a text is nothing but the two colons that announce a literal block.
+fn is_colons(text: &str) -> bool
+    ensures { result ≡ paragraphs.is_colons (chars text.now) }
+{
+    ends_in_colons(text) && is_blank(skip(text, 2))
+}
+
+/// Whether the first line of a block in a block begins a paragraph.
+fn begins_paragraph(view: &View<'_>, looks: &mut Looks) -> bool
+    requires inside { 0 < length (block_of view.now) }
+    requires few { looks.old < 2 ^ 119 + 2 ^ 117 }
+    ensures paragraph { result ≡ paragraphs.begins_paragraph (block_of view.now) }
+    ensures looks { looks.new ≤ looks.old + 5 + overline_looks (next_text (block_of view.now)) }
+    ensures low { looks.old ≤ looks.new }
+{
+    let text = view.line(0, looks);
+    let next = below_text(view, 0, 1, looks);
+    begins_text(view, next, looks)
+        && matches!(
+            text_form(text, next),
+            TextForm::Paragraph | TextForm::ShortUnderline
+        )
+}
+
+/// Whether the first line of a block in a block, before the next, begins text.
+fn begins_text(view: &View<'_>, next: &str, looks: &mut Looks) -> bool
+    requires inside { 0 < length (block_of view.now) }
+    requires next { chars next.now ≡ next_text (block_of view.now) }
+    requires few { looks.old < 2 ^ 119 + 2 ^ 118 }
+    ensures text { result ≡ paragraphs.begins_text (block_of view.now) }
+    ensures looks { looks.new ≤ looks.old + 3 + overline_looks (next_text (block_of view.now)) }
+    ensures low { looks.old ≤ looks.new }
+{
+    match begun_at(view, 0, looks) {
+        Begun::Text => true,
+        Begun::Adornment(mark) => matches!(
+            adorned_at(view, 0, false, mark, next, looks),
+            Adorned::Text | Adorned::ShortAdornment
+        ),
+        _ => false,
+    }
+}

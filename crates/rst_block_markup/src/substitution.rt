@@ -1,0 +1,317 @@
+//! Substitution definitions (Markup Specification, 'Substitution Definitions').
+ghost use Rattle.std.specs.Prelude.{◌≡◌, ◌+◌, ◌-◌, ◌*◌, ◌^◌, ◌<◌, ◌≤◌, List, ◌∷◌, [], false, Some, length, drop, slice_range, string_bytes, IfOk, IfSome};
+ghost use Rattle.std.specs.Option.{option_map_or};
+ghost use Rattle.rst_text.specs.Block.{first_number, front_text};
+ghost use Rattle.rst_text.specs.Shown.{block_of};
+ghost use Rattle.rst_tree.specs.Faults.{Gives};
+ghost use Rattle.rst_tree.specs.Nodes.{nodes_of};
+ghost use Rattle.rst_tree.specs.declared.note.Level.TheVariants.{Error};
+ghost use Rattle.rst_markup_directives.specs.Message.{fault_text};
+ghost use Rattle.rst_markup_directives.specs.Options.{choices_in};
+ghost use Rattle.rst_markup_directives.specs.Wrong.{fault_in};
+ghost use Rattle.rst_markup_directives.specs.declared.found.Place.TheVariants.{Substitution};
+ghost use Rattle.rst_block_nodes.specs.Elements.{substitution_definition_node};
+ghost use Rattle.rst_block_nodes.specs.Options.{image_element};
+ghost use Rattle.rst_markup_directives.specs.Call.{IsContentIn};
+ghost use Rattle.rst_markup_blocks.specs.Parts.{IsCall};
+ghost use Rattle.rst_block_sections.specs.Sections.{filled};
+ghost use Rattle.rst_block_state.specs.Directives as directives;
+ghost use Rattle.rst_block_markup.specs.MarkupSteps.{made_of, reads_with};
+ghost use Rattle.rst_block_state.specs.Meanings.{Keeps, comes, within_at};
+ghost use Rattle.rst_block_state.specs.OpenBlocks as blocks;
+ghost use Rattle.rst_block_state.specs.OpenBlocks.{IsKept, IsPlaced};
+ghost use Rattle.rst_block_state.specs.Steps as spec;
+ghost use Rattle.rst_block_state.specs.Texts as texts;
+ghost use Rattle.rst_block_state.specs.Ledger.{Opens, unread_at};
+ghost use Rattle.rst_block_state.specs.Inside.{content_blocks, definition_blocks, substitution_blocks};
+
+use super::directive::{directive_at, wrong_directive};
+use super::explicit::put;
+use rst_block_nodes::{
+    image, may_replace, message, substitution_definition as definition, substitution_name,
+};
+use rst_block_sections::filled;
+use rst_block_state::{
+    BlockFault, OpenBlock, OpenReplacement, Pass, Step, Waits, alone, excerpt, number_at, source,
+};
+use rst_markup_blocks::Invocation;
+use rst_markup_directives::{Argument, Content, Directive, DirectiveFault, Place, Setting};
+use rst_text::{Looks, View};
+use rst_tree::{Children, Level, Node, Tag, TreeFault};
+use rst_tree_index::Marked;
+use std::alloc::{AllocError, Global};
+
+/// A substitution definition that ends at `end`. `written` is its name as it stands between the bars, `held` the directive
+/// that it holds.
+pub(crate) fn substitution_definition(
+    alloc: Global,
+    view: &View<'_>,
+    level: &mut OpenBlock,
+    written: &str,
+    held: Option<Invocation>,
+    end: usize,
+    pass: &mut Pass,
+) -> Result<Step, BlockFault>
+    requires call { IfSome held (IsCall (block_of view.now) level.old.at) }
+    requires inside { level.old.at < length (block_of view.now) }
+    requires few { pass.old.looks < 2 ^ 119 + 2 ^ 113 }
+    requires later { level.old.at < end }
+    requires placed { IsPlaced level.old }
+    requires begins { IfSome held (λ call. (level.old.at ≤ call.block.from) × (call.block.to ≤ end)) }
+    ensures step { IfOk result (λ s. spec.IsStep (block_of view.now) level.old.at level.new.at s) }
+    ensures kept { IfOk result (λ _. IsKept level.old level.new) }
+    ensures read { let B = block_of view.now in
+        let within = within_at level.old.depth in
+        let nodes = directives.substitution_nodes within B (record { start = level.old.at; stop = end }) written.now held in
+        Keeps result (λ s. comes level.new B s pass.new.numbers) (reads_with level.old B nodes end pass.old.numbers) }
+    ensures paid { let B = block_of view.now in
+        let inner = substitution_blocks held (unread_at level.old.depth) B level.old.at in
+        IfOk result (λ s. Opens (18 * (end - level.old.at)) level.old level.new B inner end s pass.old.looks pass.new.looks) }
+{
+    let name = substitution_name(alloc, written)?;
+    let Some(invocation) = held else {
+        let text = about(alloc, name.as_str(), " empty or invalid.")?;
+        let lines = source(alloc, view, level.at, end, &mut pass.looks)?;
+        let line = number_at(view, level.at);
+        let warning = message(
+            alloc,
+            Level::Warning,
+            line,
+            text.as_str(),
+            Some(lines.as_str()),
+        )?;
+        return put(level, warning, end);
+    };
+    holding(alloc, view, level, name, &invocation, end, pass)
+}
+
+/// A text on a substitution definition.
+fn about(alloc: Global, name: &str, what: &str) -> Result<String, AllocError>
+    ensures { IfOk result (λ text. string_bytes text ≡ directives.about name.now what.now) }
+{
+    let mut text = String::from_str(alloc, "Substitution definition \"")?;
+    text.push_str(name)?;
+    text.push_str("\"")?;
+    text.push_str(what)?;
+    Ok(text)
+}
+
+/// A substitution definition that holds a directive.
+fn holding(
+    alloc: Global,
+    view: &View<'_>,
+    level: &mut OpenBlock,
+    name: String,
+    invocation: &Invocation,
+    end: usize,
+    pass: &mut Pass,
+) -> Result<Step, BlockFault>
+    requires call { IsCall (block_of view.now) level.old.at invocation.now }
+    requires inside { level.old.at < length (block_of view.now) }
+    requires few { pass.old.looks < 2 ^ 119 + 2 ^ 114 }
+    requires later { level.old.at < end }
+    requires placed { IsPlaced level.old }
+    requires begins { (level.old.at ≤ invocation.now.block.from) × (invocation.now.block.to ≤ end) }
+    ensures step { IfOk result (λ s. spec.IsStep (block_of view.now) level.old.at level.new.at s) }
+    ensures kept { IfOk result (λ _. IsKept level.old level.new) }
+    ensures read { let B = block_of view.now in
+        let within = within_at level.old.depth in
+        let outcome = directives.called within B level.old.at invocation.now Substitution in
+        let written = texts.excerpt (front_text (drop level.old.at B)) invocation.now.name in
+        let nodes = directives.holding outcome within B (record { start = level.old.at; stop = end }) (string_bytes name) written in
+        Keeps result (λ s. comes level.new B s pass.new.numbers) (reads_with level.old B nodes end pass.old.numbers) }
+    ensures paid { let B = block_of view.now in
+        let inner = definition_blocks (directives.called (unread_at level.old.depth) B level.old.at invocation.now Substitution) B in
+        IfOk result (λ s. Opens (18 * (end - level.old.at)) level.old level.new B inner end s pass.old.looks pass.new.looks) }
+{
+    let at = level.at;
+    let line = number_at(view, at);
+    match directive_at(alloc, view, at, invocation, Place::Substitution, pass)? {
+        Directive::Wrong { fault, .. } => {
+            let error = wrong_definition(
+                alloc,
+                view,
+                at,
+                end,
+                &fault,
+                name.as_str(),
+                invocation,
+                &mut pass.looks,
+            )?;
+            put(level, error, end)
+        }
+        Directive::Found {
+            argument,
+            options,
+            content,
+            ..
+        } => match argument {
+            Argument::Uri(uri) => {
+                let shown = image_named(alloc, uri.as_str(), &options, name.as_str(), line)?;
+                put(level, shown, end)
+            }
+            _ => replacement(alloc, view, level, name, content, end, pass),
+        },
+    }
+}
+
+/// A substitution definition that holds an image, which it names unless the image has a text of its own.
+fn image_named(
+    alloc: Global,
+    uri: &str,
+    options: &Vec<Setting>,
+    name: &str,
+    line: usize,
+) -> Result<Node, TreeFault>
+    ensures { let shown = image_element uri.now (choices_in options.now.items) line false (Some name.now) in
+        Gives (λ node. node ≡ filled (substitution_definition_node name.now line) (shown ∷ [])) result }
+{
+    let shown = image(alloc, uri, options.as_slice(), line, false, Some(name))?;
+    let definition = definition(alloc, name, line)?;
+    filled(definition, alone(alloc, shown)?)
+}
+
+/// Opens a replacement text.
+fn replacement(
+    alloc: Global,
+    view: &View<'_>,
+    level: &mut OpenBlock,
+    name: String,
+    content: Content,
+    end: usize,
+    pass: &mut Pass,
+) -> Result<Step, BlockFault>
+    requires content { IsContentIn (block_of view.now) content }
+    requires inside { level.old.at < length (block_of view.now) }
+    requires few { pass.old.looks < 2 ^ 119 + 2 ^ 115 }
+    requires later { level.old.at < end }
+    requires placed { IsPlaced level.old }
+    ensures step { IfOk result (λ s. spec.IsStep (block_of view.now) level.old.at level.new.at s) }
+    ensures kept { IfOk result (λ _. IsKept level.old level.new) }
+    ensures read { let B = block_of view.now in
+        let line = first_number (drop level.old.at B) in
+        let source = texts.source_of B (record { start = level.old.at; stop = end }) in
+        let read = made_of (within_at level.old.depth) B content
+        (λ nodes. directives.replacement (string_bytes name) line source (directives.first_paragraph nodes) ∷ []) in
+        Keeps result (λ s. comes level.new B s pass.new.numbers) (reads_with level.old B read end pass.old.numbers) }
+    ensures paid { let B = block_of view.now in
+        let inner = content_blocks B content in
+        IfOk result (λ s. Opens (end - level.old.at) level.old level.new B inner end s pass.old.looks pass.new.looks) }
+{
+    let at = level.at;
+    let replacement = OpenReplacement {
+        name,
+        line: number_at(view, at),
+        source: source(alloc, view, at, end, &mut pass.looks)?,
+    };
+    let waits = Waits::Replacement(Box::new(alloc, replacement)?);
+    level.go_to(end);
+    Ok(Step::Open {
+        waits,
+        first: content.first,
+        second: Some(content.second),
+    })
+}
+
+/// The message on a substitution definition that holds a wrong directive. One that may not stand here is told by the
+/// definition's name, else the directive's name is told.
+fn wrong_definition(
+    alloc: Global,
+    view: &View<'_>,
+    at: usize,
+    end: usize,
+    fault: &DirectiveFault,
+    name: &str,
+    invocation: &Invocation,
+    looks: &mut Looks,
+) -> Result<Node, BlockFault>
+    requires inside { at < length (block_of view.now) }
+    requires few { looks.old < 2 ^ 119 + 2 ^ 115 }
+    ensures error { let B = block_of view.now in
+        let X = drop at B in
+        let told = directives.faulty_name (fault_in fault.now) name.now (texts.excerpt (front_text X) invocation.now.name) in
+        let text = fault_text (fault_in fault.now) told in
+        let source = texts.source_of B (record { start = at; stop = end }) in
+        blocks.Gives (λ node. node ≡ texts.shown Error (first_number X) text source) result }
+    ensures looks { looks.new ≤ looks.old + 2 ^ 65 }
+    ensures most { looks.new ≤ looks.old + 1 + (end - at) }
+    ensures each { IfOk result (λ _. looks.new ≡ looks.old + 1 + length (slice_range (block_of view.now) at end)) }
+{
+    let written = excerpt(alloc, view.line(at, looks), invocation.name)?;
+    let name = faulty_name(fault, name, written.as_str());
+    wrong_directive(alloc, view, at, end, fault, name, looks)
+}
+
+/// The name that the message on a wrong directive in a definition tells: the definition's, where that may not hold the directive.
+fn faulty_name<'a>(fault: &DirectiveFault, name: &'a str, written: &'a str) -> &'a str
+    ensures { result.now ≡ directives.faulty_name (fault_in fault.now) name.now written.now }
+{
+    match fault {
+        DirectiveFault::NotInSubstitution => name,
+        _ => written,
+    }
+}
+
+/// A substitution definition with its replacement text, or the message on one that may not stand there. The definition is marked
+/// as a new node. Its text was marked in its paragraph, but no replacement text stands in another: so nothing is marked more than
+/// twice.
+pub fn finished_replacement(
+    alloc: Global,
+    open: OpenReplacement,
+    nodes: Vec<Marked>,
+) -> Result<Node, TreeFault>
+    ensures { Gives (λ node. node
+        ≡ directives.replacement (string_bytes open.name) open.line (string_bytes open.source)
+        (directives.first_paragraph nodes.items)) result }
+{
+    let OpenReplacement { name, line, source } = open;
+    let children = first_paragraph(alloc, nodes);
+    if may_replace(children.as_slice()) {
+        let definition = definition(alloc, name.as_str(), line)?;
+        let node = filled(definition, children.into_list())?;
+        return Ok(node);
+    }
+    let text = about(alloc, name.as_str(), " contains an illegal element.")?;
+    let error = message(
+        alloc,
+        Level::Error,
+        line,
+        text.as_str(),
+        Some(source.as_str()),
+    )?;
+    Ok(error)
+}
+
+/// The nodes of the first paragraph.
+fn first_paragraph(alloc: Global, nodes: Vec<Marked>) -> Children
+    ensures { nodes_of result ≡ directives.first_paragraph nodes.items }
+{
+    for node in nodes {
+        if let Some(children) = paragraph_children(node.into_root()) {
+            return children;
+        }
+    }
+    Children::new(alloc)
+}
+
+/// The nodes of a paragraph; another node gives none.
+fn paragraph_children(node: Node) -> Option<Children>
+    ensures { (others : List Node)
+        → option_map_or nodes_of result (directives.first_paragraph others) ≡ directives.first_paragraph (node ∷ others) }
+{
+    match node {
+        Node::Element { tag, children, .. } => children_if(tag, children),
+        Node::Text(_) => None,
+    }
+}
+
+/// The nodes of an element with this tag, if it is a paragraph.
+fn children_if(tag: Tag, children: Children) -> Option<Children>
+    ensures { (others : List Node)
+        → option_map_or nodes_of result others ≡ directives.children_of tag children others }
+{
+    match tag {
+        Tag::Paragraph => Some(children),
+        _ => None,
+    }
+}

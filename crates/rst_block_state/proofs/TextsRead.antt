@@ -1,0 +1,39 @@
+-- Texts that were read are those of the definition.
+use Rattle.std.proofs.Common.{◌≡◌, ℕ, List, [], ◌∷◌, length, Option, Ok, sym, ap, ◌∙◌}
+use Rattle.rst_tree.specs.declared.node.Node.{Node}
+use Rattle.rst_tree.specs.declared.tag.Tag.{Tag}
+use Rattle.rst_tree.specs.declared.tag.Tag.TheVariants.{Title as TitleTag}
+use Rattle.rst_block_nodes.specs.Results.{HoldsText}
+use Rattle.rst_block_nodes.specs.Texts.{counted_on}
+use Rattle.rst_block_nodes.specs.declared.texted.Texted.{Texted}
+use Rattle.rst_block_nodes.proofs.ReadingBridges.{texted_read}
+use Rattle.rst_block_sections.specs.declared.heading.Style.{Style}
+use Rattle.rst_block_sections.specs.Sections.{filled}
+use Rattle.rst_markup_directives.specs.declared.name.Name.{Name}
+use Rattle.rst_block_state.specs.Directives.{titled_element}
+use Rattle.rst_block_state.specs.Numbered.{then_read, just}
+use Rattle.rst_block_state.specs.Texts.{texted}
+use Rattle.rst_block_state.specs.Titles.{titled, title_item}
+
+-- an element that holds a text that begins in its own line, with the messages on the text and the number after theirs
+pub texted_reads_as : (tag : Tag) (line at : ℕ) (t u : List ℕ) (number next : ℕ) (made : Texted) → line ≡ at → t ≡ u → HoldsText tag line t line number made
+    → next ≡ counted_on number (length made.notes.items) → texted tag at u at number ≡ Ok ((made.element, made.notes.items), next)
+texted_reads_as tag line at t u number next made l e h n =
+    sym (ap (λ x. texted tag line x line number) e ∙ ap (λ x. texted tag x u x number) l) ∙ texted_read tag line t line number next made h n
+
+-- a title with that element
+pub title_reads : (style : Style) (t : List ℕ) (line : ℕ) (warning : Option Node) (lines : List ℕ) (number next : ℕ) (element : Node) (notes : List Node)
+    → texted TitleTag line t line number ≡ Ok ((element, notes), next)
+    → title_item style t line warning lines number
+    ≡ Ok (titled (record { style = style; element = element; notes = notes; warning = warning; line = line; source = lines }) ∷ [], next)
+title_reads style t line warning lines number next element notes e =
+    ap (then_read (λ (made : Node × List Node). just (titled (record { style = style; element = made.0; notes = made.1; warning = warning; line = line; source = lines }) ∷ []))) e
+
+-- a directive's element with a title and the messages on its text, where that begins in the title's own line
+pub titled_reads : (name : Name) (element : Node) (line at : ℕ) (t u : List ℕ) (number next : ℕ) (title : Node) (notes held : List Node) (made whole : Node) → line ≡ at → t ≡ u
+    → texted TitleTag line t line number ≡ Ok ((title, notes), next) → made ≡ titled_element name element title → held ≡ title ∷ notes → whole ≡ filled made held
+    → then_read (λ (read : Node × List Node). just (filled (titled_element name element read.0) (read.0 ∷ read.1))) (texted TitleTag at u at number) ≡ Ok (whole, next)
+titled_reads name element line at t u number next title notes held made whole l e r m h w =
+    let read : texted TitleTag at u at number ≡ Ok ((title, notes), next) = sym (ap (λ x. texted TitleTag line x line number) e ∙ ap (λ x. texted TitleTag x u x number) l) ∙ r in
+    let node : whole ≡ filled (titled_element name element title) (title ∷ notes) = w ∙ ap (filled made) h ∙ ap (λ (n : Node). filled n (title ∷ notes)) m in
+    ap (then_read (λ (read : Node × List Node). just (filled (titled_element name element read.0) (read.0 ∷ read.1)))) read ∙ ap (λ (n : Node). Ok (n, next)) (sym node)

@@ -1,0 +1,152 @@
+-- Directives, and substitution definitions, which hold directives (Markup Specification, 'Directives', 'Substitution Definitions'; Directives,
+-- 'Admonitions', 'Images', 'Topic', 'Code', 'Replacement Text').
+use Rattle.std.specs.Prelude.{ℕ, true, false, List, [], ◌∷◌, ◌++◌, drop, codes, Option, Some, None, encode_utf8_all, if◌then◌else◌}
+use Rattle.rst_text.specs.Block.{Block, front_text, first_number}
+use Rattle.rst_tree.specs.Forest.{Forest}
+use Rattle.rst_tree.specs.Nodes.{nodes_of}
+use Rattle.rst_tree.specs.declared.node.Node.{Node}
+use Rattle.rst_tree.specs.declared.node.Node.TheVariants.{Element, Text}
+use Rattle.rst_tree.specs.declared.note.Level.TheVariants.{Warning, Error}
+use Rattle.rst_tree.specs.declared.tag.Tag.{Tag}
+use Rattle.rst_tree.specs.declared.tag.Tag.TheVariants.{Paragraph, Title as TitleTag}
+use Rattle.rst_markup_blocks.specs.Partition.{Span}
+use Rattle.rst_markup_blocks.specs.declared.forms.Invocation.{Invocation}
+use Rattle.rst_markup_directives.specs.Argument.{Given, nothing, title, uri, language}
+use Rattle.rst_markup_directives.specs.Directive.{Read, Outcome, found, wrong, directive_at}
+use Rattle.rst_markup_directives.specs.Message.{fault_text}
+use Rattle.rst_markup_directives.specs.Wrong.{Fault, not_in_substitution}
+use Rattle.rst_markup_directives.specs.declared.found.Content.{Content}
+use Rattle.rst_markup_directives.specs.declared.found.Place.{Place}
+use Rattle.rst_markup_directives.specs.declared.found.Place.TheVariants.{Top, Body, Substitution}
+use Rattle.rst_markup_directives.specs.declared.name.Name.{Name}
+use Rattle.rst_markup_directives.specs.declared.name.Name.TheVariants.{Admonition, Figure, Code}
+use Rattle.rst_block_nodes.specs.Admonitions.{with_title_class}
+use Rattle.rst_block_nodes.specs.Elements.{substitution_definition_node}
+use Rattle.rst_block_nodes.specs.Targets.{may_replace}
+use Rattle.rst_block_nodes.specs.Values.{normalized, unescaped}
+use Rattle.rst_block_sections.specs.Sections.{filled}
+use Rattle.rst_block_nodes.specs.Options.{code_element, directive_element, figure_element, image_element}
+use Rattle.rst_block_state.specs.Figures.{caption_error, figure_nodes}
+use Rattle.rst_block_state.specs.LineRuns.{number_or}
+use Rattle.rst_block_state.specs.Numbered.{Numbered, ◌>>=◌, just}
+use Rattle.rst_block_state.specs.Paragraphs.{is_single_paragraph}
+use Rattle.rst_block_state.specs.Texts.{excerpt, joined, lines_in, shown, source_of, spelled, texted}
+use Rattle.rst_block_state.specs.Within.{Within}
+
+-- The nodes of a content, which may be two blocks of one level: the lines before the options, and those after them. The content of a figure or of a
+-- replacement text is a block as well, whatever becomes of its nodes.
+abbrev pub content_nodes : Within → Block → Content → Numbered (List Node)
+content_nodes c B content = do
+  some ← c.inner (lines_in B content.first)
+  more ← c.inner (lines_in B content.second)
+  just (some ++ more)
+
+-- the directive that is called in line i of a block, or what is wrong with it, in this place: the document itself, a body, or a definition
+abbrev pub called : Within → Block → ℕ → Invocation → Place → Outcome
+called c B i call place = directive_at c.code B i call place (is_single_paragraph (lines_in B call.block))
+
+-- ---- directives
+
+-- the element of a directive with a title: the title of an admonition gives its class, unless the options do
+abbrev pub titled_element : Name → Node → Node → Node
+titled_element Admonition element heading = with_title_class element heading
+titled_element _ element heading = element
+
+-- a directive with a title, whose first line may be the one after the directive's, the messages on the title's text, and the content
+abbrev pub titled_nodes : Within → Block → ℕ → Read → Block → Numbered (List Node)
+titled_nodes c B line read lines = do
+  made ← texted TitleTag (number_or line lines) (joined lines) (number_or line lines)
+  nodes ← content_nodes c B read.content
+  just (filled (titled_element read.name (directive_element read.name read.options line) made.0) (made.0 ∷ made.1 ++ nodes) ∷ [])
+
+-- a directive without an argument, and its content
+abbrev pub plain_nodes : Within → Block → ℕ → Read → Numbered (List Node)
+plain_nodes c B line read = do
+  nodes ← content_nodes c B read.content
+  just (filled (directive_element read.name read.options line) nodes ∷ [])
+
+-- a figure: its image, and its content as caption and legend; an ERROR on it shows these lines
+abbrev pub figure_of : Within → Block → ℕ → Read → List ℕ → List ℕ → Numbered (List Node)
+figure_of c B line read address lines = do
+  nodes ← content_nodes c B read.content
+  just (figure_nodes (filled (figure_element read.options line) (image_element address read.options line true None ∷ []))
+      (caption_error line lines) nodes)
+
+-- program code in a language or in none; its content is no block
+abbrev pub code_nodes : Block → ℕ → Read → Option (List ℕ) → List Node
+code_nodes B line read word = code_element word read.options (spelled (lines_in B read.content.second)) line ∷ []
+
+-- a directive by its argument and its name: images and figures have a URI, program code may have a language
+abbrev pub right_by : Given → Name → Within → Block → ℕ → Read → List ℕ → Numbered (List Node)
+right_by nothing Code c B line read lines = just (code_nodes B line read None)
+right_by nothing name c B line read lines = plain_nodes c B line read
+right_by (title part) name c B line read lines = titled_nodes c B line read (lines_in B part)
+right_by (uri address) Figure c B line read lines = figure_of c B line read (encode_utf8_all address) lines
+right_by (uri address) name c B line read lines = just (image_element (encode_utf8_all address) read.options line false None ∷ [])
+right_by (language word) name c B line read lines = just (code_nodes B line read (Some (encode_utf8_all word)))
+
+-- a directive, or the ERROR on one that is wrong, which shows its lines; no block of a wrong directive is read
+abbrev pub directive_by : Outcome → Within → Block → Span → List ℕ → Numbered (List Node)
+directive_by (found read) c B s name = right_by read.argument read.name c B (first_number (drop s.start B)) read (source_of B s)
+directive_by (wrong fault part) c B s name = just (shown Error (first_number (drop s.start B)) (fault_text fault name) (source_of B s) ∷ [])
+
+-- the directive that is called in the first of some lines; its place is the document itself where titles are recognized, else a body
+abbrev pub directive_nodes : Within → Block → Span → Invocation → Numbered (List Node)
+directive_nodes c B s call =
+    directive_by (called c B s.start call (if c.titles then Top else Body)) c B s (excerpt (front_text (drop s.start B)) call.name)
+
+-- ---- substitution definitions
+
+-- a text about the substitution definition of this name
+abbrev pub about : List ℕ → List ℕ → List ℕ
+about name text = codes "Substitution definition \"" ++ name ++ codes "\"" ++ text
+
+-- the children of a paragraph; of another element those that are given
+abbrev pub children_of : Tag → Forest → List Node → List Node
+children_of Paragraph content others = nodes_of content
+children_of _ content others = others
+
+-- the children of the first paragraph among some nodes, or none where there is no paragraph
+abbrev pub first_paragraph : List Node → List Node
+first_paragraph [] = []
+first_paragraph (Element t a content line ∷ ns) = children_of t content (first_paragraph ns)
+first_paragraph (Text t ∷ ns) = first_paragraph ns
+
+-- a substitution definition with the children of its replacement text, or the ERROR where one of them may not replace a reference
+abbrev pub replacement : List ℕ → ℕ → List ℕ → List Node → Node
+replacement name line lines children =
+    if may_replace children then filled (substitution_definition_node name line) children
+    else shown Error line (about name (codes " contains an illegal element.")) lines
+
+-- the name in the message on a wrong directive in a definition: the definition's where it may not hold the directive, else that of the directive
+abbrev pub faulty_name : Fault → List ℕ → List ℕ → List ℕ
+faulty_name not_in_substitution name written = name
+faulty_name _ name written = written
+
+-- A substitution definition by the argument of its directive: an image has a URI, and the definition's name in place of a missing `alt`. A
+-- replacement text has no argument: the children of its one paragraph replace a reference, and the messages that its block gives beside the
+-- paragraph are dropped.
+abbrev pub definition_by : Given → Within → Block → ℕ → List ℕ → Read → List ℕ → Numbered (List Node)
+definition_by (uri address) c B line name read lines =
+    just (filled (substitution_definition_node name line)
+    (image_element (encode_utf8_all address) read.options line false (Some name) ∷ []) ∷ [])
+definition_by _ c B line name read lines = do
+  nodes ← content_nodes c B read.content
+  just (replacement name line lines (first_paragraph nodes) ∷ [])
+
+-- a substitution definition with its directive, or the ERROR on a wrong one, which shows the definition's lines and leaves no definition
+abbrev pub holding : Outcome → Within → Block → Span → List ℕ → List ℕ → Numbered (List Node)
+holding (found read) c B s name written = definition_by read.argument c B (first_number (drop s.start B)) name read (source_of B s)
+holding (wrong fault part) c B s name written =
+    just (shown Error (first_number (drop s.start B)) (fault_text fault (faulty_name fault name written)) (source_of B s) ∷ [])
+
+-- a substitution definition by the directive that it holds, or the WARNING where it holds none, which leaves no definition
+abbrev pub substitution_by : Option Invocation → Within → Block → Span → List ℕ → Numbered (List Node)
+substitution_by None c B s name =
+    just (shown Warning (first_number (drop s.start B)) (about name (codes " empty or invalid.")) (source_of B s) ∷ [])
+substitution_by (Some call) c B s name =
+    holding (called c B s.start call Substitution) c B s name (excerpt (front_text (drop s.start B)) call.name)
+
+-- a substitution definition, by its name as it is written: without escapes, each run of whitespace is one space
+abbrev pub substitution_nodes : Within → Block → Span → List ℕ → Option Invocation → Numbered (List Node)
+substitution_nodes c B s written held = substitution_by held c B s (normalized (unescaped written))

@@ -1,0 +1,53 @@
+//! Titles of sections, as they are read.
+ghost use Rattle.std.specs.Prelude.{◌≡◌, ◌∷◌, [], Ok, string_bytes};
+ghost use Rattle.std.specs.Str.{chars};
+ghost use Rattle.rst_tree.specs.Faults.{Gives};
+ghost use Rattle.rst_block_sections.specs.Sections.{title_of};
+ghost use Rattle.rst_block_state.specs.Titles.{short_warning, title_item, titled};
+
+use super::texts::Pass;
+use rst_block_nodes::{message, with_text};
+use rst_block_sections::{Heading, Style};
+use rst_tree::{Level, Node, Tag, TreeFault};
+use std::alloc::Global;
+
+/// A title with this text.
+pub fn heading_of(
+    alloc: Global,
+    style: Style,
+    text: &str,
+    line: usize,
+    warning: Option<Node>,
+    source: String,
+    pass: &mut Pass,
+) -> Result<Heading, TreeFault>
+    ensures title { Gives (λ heading. title_item style (chars text.now) line warning (string_bytes source) pass.old.numbers
+        ≡ Ok (titled (title_of heading) ∷ [], pass.new.numbers)) result }
+    ensures looks { pass.new.looks ≡ pass.old.looks }
+{
+    let title = with_text(alloc, Tag::Title, line, text, line, &mut pass.numbers)?;
+    Ok(Heading {
+        before: 0,
+        style,
+        title,
+        warning,
+        line,
+        source,
+    })
+}
+
+/// The message on an overline or underline that is shorter than its title, if it is; its line has this number.
+pub fn short_warning(
+    alloc: Global,
+    short: bool,
+    line: usize,
+    text: &str,
+    lines: &str,
+) -> Result<Option<Node>, TreeFault>
+    ensures { Gives (λ warning. warning ≡ short_warning short line text.now lines.now) result }
+{
+    if !short {
+        return Ok(None);
+    }
+    Ok(Some(message(alloc, Level::Warning, line, text, Some(lines))?))
+}

@@ -1,0 +1,207 @@
+//! A block that is being read.
+ghost use Rattle.std.specs.Prelude.{◌≡◌, ℕ, suc, ◌+◌, ◌-◌, ◌^◌, ◌<◌, ◌≤◌, ◌==◌, [], ◌∷◌, length, drop};
+ghost use Rattle.rst_text.specs.Shown.{block_of};
+ghost use Rattle.rst_block_state.specs.Meanings.{IsNew, deepest, joining_in, open_of};
+ghost use Rattle.rst_block_state.specs.Ledger.{run_looks};
+ghost use Rattle.rst_block_state.specs.OpenBlocks as spec;
+ghost use Rattle.rst_block_state.specs.Rest.{closed_run, no_run};
+ghost use Rattle.rst_block_state.specs.Texts.{warned};
+
+use super::fault::BlockFault;
+use super::run::{ListKind, OpenList, Run};
+use super::texts::{Pass, number_at, push, unindent};
+use rst_block_sections::{Heading, append};
+use rst_markup_blocks::text_at;
+use rst_markup_lines::is_blank;
+use rst_text::View;
+use rst_tree::Node;
+use rst_tree_index::Marked;
+use std::alloc::Global;
+use std::mem;
+
+/// What was read of a block so far.
+#[derive(Drop)]
+pub struct OpenBlock {
+    /// How many blocks it stands in; 0 for the document.
+    pub depth: usize,
+    /// The place of the next line.
+    pub at: usize,
+    /// The nodes and messages so far, but for those of the open run.
+    pub nodes: Vec<Marked>,
+    /// The constructs before the next line that it may join.
+    pub run: Run,
+    /// The titles so far. Only the document has some.
+    pub headings: Vec<Heading>,
+}
+
+impl OpenBlock {
+    /// A block of which nothing was read.
+    pub fn new(alloc: Global, depth: usize) -> OpenBlock
+        ensures at { result.at ≡ 0 }
+        ensures depth { result.depth ≡ depth }
+        ensures begun { IsNew result }
+        ensures placed { spec.IsPlaced result }
+    {
+        OpenBlock {
+            depth,
+            at: 0,
+            nodes: Vec::new(alloc),
+            run: Run::None,
+            headings: Vec::new(alloc),
+        }
+    }
+
+    /// Whether titles may stand in it.
+    pub fn titles(&self) -> bool
+        ensures { result ≡ self.now.depth == 0 }
+    {
+        self.depth == 0
+    }
+
+    /// Goes to a later line: behind the next one at least.
+    pub fn go_to(&mut self, end: usize)
+        requires { self.old.at < 2 ^ 64 - 1 }
+        ensures later { self.old.at < self.new.at }
+        ensures within { (n : ℕ) → self.old.at < n → end ≤ n → self.new.at ≤ n }
+        ensures there { self.old.at < end → self.new.at ≡ end }
+        ensures moved { spec.IsMoved self.old self.new }
+    {
+        self.at = end.max(self.at + 1);
+    }
+
+    /// Puts a node that was just made behind the last. It is marked by a pass over it, the only one.
+    pub fn push(&mut self, node: Node) -> Result<(), BlockFault>
+        ensures at { self.new.at ≡ self.old.at }
+        ensures more { spec.Gives (λ _. spec.HasMore self.old self.new (node ∷ [])) result }
+    {
+        let alloc = *self.nodes.allocator();
+        self.push_marked(Marked::of(alloc, node)?)
+    }
+
+    /// Puts a node behind the last.
+    pub fn push_marked(&mut self, node: Marked) -> Result<(), BlockFault>
+        ensures at { self.new.at ≡ self.old.at }
+        ensures more { spec.Gives (λ _. spec.HasMore self.old self.new (node ∷ [])) result }
+    {
+        Ok(push(&mut self.nodes, node)?)
+    }
+
+    /// Puts more nodes that were just made behind the last.
+    pub fn append(&mut self, more: Vec<Node>) -> Result<(), BlockFault>
+        ensures at { self.new.at ≡ self.old.at }
+        ensures more { spec.Gives (λ _. spec.HasMore self.old self.new more.items) result }
+    {
+        let alloc = *self.nodes.allocator();
+        self.append_marked(Marked::each(alloc, more)?)
+    }
+
+    /// Puts more nodes behind the last.
+    pub fn append_marked(&mut self, more: Vec<Marked>) -> Result<(), BlockFault>
+        ensures at { self.new.at ≡ self.old.at }
+        ensures more { spec.Gives (λ _. spec.HasMore self.old self.new more.items) result }
+    {
+        Ok(append(&mut self.nodes, more)?)
+    }
+
+    /// Puts a title behind the last node.
+    pub fn push_heading(&mut self, mut heading: Heading) -> Result<(), BlockFault>
+        ensures at { self.new.at ≡ self.old.at }
+        ensures title { spec.Gives (λ _. spec.HasTitle self.old self.new heading) result }
+    {
+        heading.before = self.nodes.len();
+        self.headings.push(heading)?;
+        Ok(())
+    }
+
+    /// Ends the open run before the next line, with the message on an end without a blank line.
+    pub fn close(
+        &mut self,
+        alloc: Global,
+        view: &View<'_>,
+        pass: &mut Pass,
+    ) -> Result<(), BlockFault>
+        requires few { pass.old.looks < 2 ^ 120 }
+        ensures at { self.new.at ≡ self.old.at }
+        ensures low { pass.old.looks ≤ pass.new.looks }
+        ensures run { pass.new.looks ≤ pass.old.looks + run_looks self.old.run }
+        ensures closed { let levels = suc deepest - self.old.depth in
+            let closed = closed_run levels (block_of view.now) (open_of self.old.run) pass.old.numbers in
+            spec.Closes closed self.old self.new pass.new.numbers no_run result }
+        ensures looks { pass.new.looks ≤ pass.old.looks + 1 }
+    {
+        let run = mem::replace(&mut self.run, Run::None);
+        let ending = run.ending();
+        run.put(alloc, &mut self.nodes, self.depth, pass)?;
+        match ending {
+            Some((end, text)) => self.warn(alloc, view, end, text, pass),
+            None => Ok(()),
+        }
+    }
+
+    /// Announces an item that ends at `end`: it joins the list that is open, which goes on as `kind`.
+    pub fn join(&mut self, kind: ListKind, end: usize)
+        ensures at { self.new.at ≡ self.old.at }
+        ensures run { spec.HasRun self.old self.new (spec.joined_at (joining_in kind) end (open_of self.old.run)) }
+    {
+        if let Run::List(open) = &mut self.run {
+            open.kind = kind;
+            open.end = end;
+        }
+    }
+
+    /// Begins a list.
+    pub fn begin(
+        &mut self,
+        alloc: Global,
+        kind: ListKind,
+        list: Node,
+        end: usize,
+    ) -> Result<(), BlockFault>
+        ensures at { self.new.at ≡ self.old.at }
+        ensures run { spec.Gives (λ _. spec.HasRun self.old self.new (spec.begun_at (joining_in kind) end list)) result }
+    {
+        let open = OpenList {
+            kind,
+            end,
+            before: Vec::new(alloc),
+            list,
+            items: Vec::new(alloc),
+            behind: Vec::new(alloc),
+        };
+        self.run = Run::List(Box::new(alloc, open)?);
+        Ok(())
+    }
+
+    /// Puts an item into the open list; without one it is a node of its own.
+    pub fn push_item(&mut self, item: Marked) -> Result<(), BlockFault>
+        ensures at { self.new.at ≡ self.old.at }
+        ensures item { spec.Gives (λ _. spec.HasItem self.old self.new item) result }
+    {
+        match &mut self.run {
+            Run::List(open) => Ok(push(&mut open.items, item)?),
+            _ => Ok(push(&mut self.nodes, item)?),
+        }
+    }
+
+    /// Puts a warning behind the last node where the line at place `end`, after a construct, isn't blank.
+    pub fn warn(
+        &mut self,
+        alloc: Global,
+        view: &View<'_>,
+        end: usize,
+        text: &str,
+        pass: &mut Pass,
+    ) -> Result<(), BlockFault>
+        requires few { pass.old.looks < 2 ^ 120 }
+        ensures at { self.new.at ≡ self.old.at }
+        ensures more { spec.Gives (λ _. spec.HasMore self.old self.new (warned text.now (drop end (block_of view.now)))) result }
+        ensures numbers { pass.new.numbers ≡ pass.old.numbers }
+        ensures low { pass.old.looks ≤ pass.new.looks }
+        ensures looks { pass.new.looks ≤ pass.old.looks + 1 }
+    {
+        if is_blank(text_at(view, end, &mut pass.looks)) {
+            return Ok(());
+        }
+        self.push(unindent(alloc, number_at(view, end), text)?)
+    }
+}

@@ -1,0 +1,57 @@
+//! What a block waits for while one inside it is read.
+
+use rst_block_nodes::Texted;
+use rst_markup_blocks::Part;
+use rst_tree::{Node, Tag};
+
+/// What a block waits for: the nodes of a block inside, and what becomes of them.
+#[derive(Drop)]
+pub enum Waits {
+    /// They are an item of the open list.
+    ListItem {
+        line: usize,
+    },
+    /// They stand behind the messages in the body of an item of the open list, which has heads before its body.
+    ListedBody {
+        line: usize,
+        item: Tag,
+        body: Tag,
+        heads: Vec<Node>,
+        notes: Vec<Node>,
+    },
+    /// They are a block quote, of which the rest comes next; it ends at `end`.
+    Quote {
+        line: usize,
+        attribution: Option<Box<Texted>>,
+        rest: Option<Part>,
+        end: usize,
+    },
+    /// They stand in an element, behind what stands there already.
+    Element(Node),
+    /// They are the caption and the legend of a figure.
+    Figure(Box<OpenFigure>),
+    /// They are the content of a substitution definition.
+    Replacement(Box<OpenReplacement>),
+}
+
+/// A figure whose content is read.
+#[derive(Drop)]
+pub struct OpenFigure {
+    /// The figure with its image.
+    pub figure: Node,
+    /// The number of its first line.
+    pub line: usize,
+    /// Its lines.
+    pub source: String,
+}
+
+/// A substitution definition whose replacement text is read.
+#[derive(Drop)]
+pub struct OpenReplacement {
+    /// The name, white runs being one space.
+    pub name: String,
+    /// The number of its first line.
+    pub line: usize,
+    /// Its lines.
+    pub source: String,
+}
