@@ -1,5 +1,5 @@
 //! The end of a block inside another.
-ghost use Rattle.std.specs.Prelude.{◌≡◌, suc, ◌-◌, ◌<◌, IfOk};
+ghost use Rattle.std.specs.Prelude.{◌≡◌, suc, ◌-◌, ◌^◌, ◌<◌, IfOk};
 ghost use Rattle.rst_text.specs.Shown.{source_of, placement_block};
 ghost use Rattle.rst_block_state.specs.Frames as frames;
 ghost use Rattle.rst_block_state.specs.Meanings.{Keeps, after, deepest, done_of};
@@ -24,6 +24,7 @@ pub(crate) fn closed<'a>(
     pass: &mut Pass,
 ) -> Result<Ended<'a>, BlockFault>
     requires frame { frames.IsFrame (source_of whole.now) frame }
+    requires few { pass.old.looks < 2 ^ 119 }
     requires depth { depth ≡ suc frame.level.depth }
     requires deepest { frame.level.depth < deepest }
     ensures ended { IfOk result (frames.IsEnded (source_of whole.now) frame level.new.at) }

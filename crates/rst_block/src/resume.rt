@@ -1,5 +1,5 @@
 //! What is done with the nodes of a block inside once it is read.
-ghost use Rattle.std.specs.Prelude.{◌≡◌, ◌+◌, ◌-◌, [], ◌∷◌, ◌++◌, IfOk, option_map, box_value, ℕ, Box, Option, None, Some};
+ghost use Rattle.std.specs.Prelude.{◌≡◌, ◌+◌, ◌-◌, ◌^◌, ◌<◌, [], ◌∷◌, ◌++◌, IfOk, option_map, box_value, ℕ, Box, Option, None, Some};
 ghost use Rattle.rst_text.specs.Shown.{block_of};
 ghost use Rattle.rst_tree.specs.Faults as faults;
 ghost use Rattle.rst_block_nodes.specs.Elements.{element_of};
@@ -32,6 +32,7 @@ pub(crate) fn resume(
     pass: &mut Pass,
 ) -> Result<Step, BlockFault>
     requires waits { spec.IsWaiting (block_of view.now) level.old.at waits }
+    requires few { pass.old.looks < 2 ^ 119 + 2 ^ 109 }
     requires placed { IsPlaced level.old }
     ensures step { IfOk result (λ s. spec.IsResumed (block_of view.now) level.old.at level.new.at s) }
     ensures kept { IfOk result (λ _. IsKept level.old level.new) }
@@ -134,6 +135,7 @@ fn after_quote(
     pass: &mut Pass,
 ) -> Result<Step, BlockFault>
     requires rest { spec.IsRest (block_of view.now) level.old.at rest }
+    requires few { pass.old.looks < 2 ^ 119 + 2 ^ 109 }
     requires placed { IsPlaced level.old }
     ensures step { IfOk result (λ s. spec.IsResumed (block_of view.now) level.old.at level.new.at s) }
     ensures kept { IfOk result (λ _. IsKept level.old level.new) }

@@ -5,7 +5,6 @@ use Rattle.std.proofs.lemmas.Bool.{eqb-true}
 use Rattle.std.proofs.lemmas.List.{drop_all}
 use Rattle.rst_text.specs.Block.{Block, front_text, first_number, indentation, is_blank}
 use Rattle.rst_text.specs.Extent.{extent, past_blank}
-use Rattle.rst_text.specs.Looked.{capped}
 use Rattle.rst_text.specs.Reach.{reach}
 use Rattle.rst_tree.specs.declared.node.Node.{Node}
 use Rattle.rst_tree.specs.declared.tag.Tag.TheVariants.{LiteralBlock, DoctestBlock}
@@ -363,7 +362,7 @@ doctest_is B i at stop line text node e n l t = rw (n, l, t, e) refl
 -- the looks at a doctest block: at each of its lines, and at the line after it, and then at its lines again
 pub doctest_looks : (B : Block) (i at stop before closed end after run : ℕ) → i ≡ at → stop ≡ i + lines_while Filled (drop i B) → before ≤ closed → closed ≤ before + run
     → end ≤ closed + reach (lines_while Filled (drop i B)) (drop i B) → closed + lines_while Filled (drop i B) ≤ end → after ≡ end + length (slice_range B i stop)
-    → (after ≤ before + run + 29 * reach (doctest_size (drop at B)) (drop at B)) × (capped (before + doctest_size (drop at B)) ≤ after)
+    → (after ≤ before + run + 29 * reach (doctest_size (drop at B)) (drop at B)) × (before + doctest_size (drop at B) ≤ after)
 unfolding doctest_size
 doctest_looks B i at stop before closed end after run e s low high most least again =
     let few = (take_le (stop - i) (drop i B)).0 in

@@ -3,7 +3,6 @@ use Rattle.std.proofs.Common.{◌≡◌, ℕ, ◌+◌, ◌-◌, ◌*◌, ◌<◌
 use Rattle.std.proofs.lemmas.Bool.{cases_lt}
 use Rattle.rst_text.specs.Block.{Block}
 use Rattle.rst_text.specs.Extent.{extent}
-use Rattle.rst_text.specs.Looked.{capped}
 use Rattle.rst_text.specs.Reach.{reach}
 use Rattle.rst_tree.specs.declared.node.Node.{Node}
 use Rattle.rst_markup_blocks.specs.Begun.{IsBegun}
@@ -41,7 +40,7 @@ use Rattle.rst_block_state.proofs.WaitingLooks.{one_quote, split_quotes, resumed
 
 -- A part without an attribution is one quote. L are its lines: five looks are taken at each of them at most, and one more.
 pub plain_paid : (old new : OpenBlock) (B : Block) (p : Part) (line before after : ℕ) (L : Block) → L ≡ lines_in B p → None ≡ first_attribution L → length L ≡ p.to - p.from → p.from < p.to
-    → IsMoved old new → new.at ≡ p.to → after ≤ before + 5 * length L + 1 → capped before ≤ after
+    → IsMoved old new → new.at ≡ p.to → after ≤ before + 5 * length L + 1 → before ≤ after
     → AreQuotesPaid old new B p p.to (Open (Quote line None None p.to) p None) before after
 plain_paid old new B p line before after L is none size filled moved at few low =
     let run : run_looks new.run ≡ run_looks old.run = ap run_looks moved.run in
@@ -105,7 +104,7 @@ attributed_paid old new B p k next line before found read after a box left L res
 
 -- A block quote, after the end of the open run: its lines are those of the extent, which is looked at once, and then it is read as quotes.
 pub block_quote_paid : (l closed new : OpenBlock) (B : Block) (p : Part) (s : Step) (done : Result (List Item × ℕ) ℕ) (n before mid found after : ℕ) → l.at < length B → IsBegun (drop l.at B) Begins.Quote
-    → IsClosed done l closed n no_run → capped before ≤ mid → mid ≤ before + run_looks l.run
+    → IsClosed done l closed n no_run → before ≤ mid → mid ≤ before + run_looks l.run
     → p ≡ indented_part closed.at (drop closed.at B) → found ≡ mid + reach (extent 1 (drop closed.at B)) (drop closed.at B)
     → AreQuotesPaid closed new B p p.to s found after → IsPaid 29 l new B s before after
 block_quote_paid l closed new B p s done n before mid found after inside begun cl low run is look h =
@@ -132,7 +131,7 @@ further_paid old new B left line end made p s before after is h = rw is (quotes_
 
 -- the last quote was read, and a look at most is taken at the line after it
 pub last_paid : {old new : OpenBlock} {more : List Node} (B : Block) (left : Option Part) (line end : ℕ) (made : Option (Box Texted Global)) (before after : ℕ)
-    → left ≡ None → HasMore old new more → after ≤ before + 1 → capped before ≤ after
+    → left ≡ None → HasMore old new more → after ≤ before + 1 → before ≤ after
     → Takes (most_after old B (Quote line made left end) None) (least_after old B (Quote line made left end) None) before (most_left new B Next) (least_left new B Next) after
 last_paid {old} {new} B left line end made before after none m few low =
     let run : run_looks new.run ≡ run_looks old.run = ap run_looks m.run in

@@ -3,7 +3,6 @@
 use Rattle.std.proofs.Common.{◌≡◌, ℕ, ◌+◌, ◌-◌, ◌*◌, ◌<◌, ◌≤◌, Bool, List, [], Result, length, length-drop, length-take, drop, slice_range, min, arith, refl, sym, ap, ◌∙◌, subst}
 use Rattle.std.specs.Prelude.{◌==◌}
 use Rattle.rst_text.specs.Block.{Block}
-use Rattle.rst_text.specs.Looked.{capped}
 use Rattle.rst_text.specs.Reach.{reach}
 use Rattle.rst_markup_blocks.specs.Ends.{row_size, row_reach}
 use Rattle.rst_markup_blocks.specs.Kinds.{kind_at}
@@ -83,7 +82,7 @@ flat_reach {l} {B} h flat =
 -- it is paid for, where it came after the end of the open run
 pub paid_flat : (each : ℕ) {l closed : OpenBlock} (new : OpenBlock) {B : Block} {what : Construct} {lines m : ℕ} {read : Result (List Item × ℕ) ℕ} (before after : ℕ) → IsNextConstruct l B what lines → IsFlat what
     → IsClosed read l closed m no_run → new.depth ≡ closed.depth → new.run ≡ closed.run → new.at ≡ l.at + lines
-    → after ≤ before + run_looks l.run + each * reach lines (drop l.at B) → capped (before + (lines - 1)) ≤ after → IsPaid each l new B Next before after
+    → after ≤ before + run_looks l.run + each * reach lines (drop l.at B) → before + lines ≤ after + 1 → IsPaid each l new B Next before after
 paid_flat each {l} {closed} new {B} {what} {lines} before after h flat cl depth run at most least =
     let X : Block = drop l.at B in
     let ended : run_looks new.run ≡ 0 = ap run_looks run ∙ ended_looks closed.run cl.run in
@@ -94,7 +93,7 @@ paid_flat each {l} {closed} new {B} {what} {lines} before after h flat cl depth 
 -- ---- looks
 
 -- up to two looks before a construct are paid for with it
-paid_later : (each : ℕ) {l new : OpenBlock} {B : Block} {s : Step} {before mid after : ℕ} → l.at < length B → capped before ≤ mid → mid ≤ before + 2 → IsPaid each l new B s mid after → IsPaid (each + 2) l new B s before after
+paid_later : (each : ℕ) {l new : OpenBlock} {B : Block} {s : Step} {before mid after : ℕ} → l.at < length B → before ≤ mid → mid ≤ before + 2 → IsPaid each l new B s mid after → IsPaid (each + 2) l new B s before after
 paid_later each {l} {new} {B} {s} {before} {mid} {after} inside low high h =
     let far : 1 ≤ reach_at (l.depth == 0) (drop l.at B) = omega (arith, size_reached (l.depth == 0) (drop l.at B), (end_inside (l.depth == 0) B l.at inside).0) in
     record {
@@ -125,7 +124,7 @@ lines_looked B i stop e s within =
 -- the looks at a paragraph, and those before it at the end of the open run
 pub paragraph_looks : (B : Block) (i run : ℕ) {at before closed after : ℕ} → i ≡ at → before ≤ closed → closed ≤ before + run
     → after ≤ closed + 20 * reach (paragraph_size (drop i B)) (drop i B) → closed + paragraph_size (drop i B) ≤ after
-    → (after ≤ before + run + 25 * reach (paragraph_size (drop at B)) (drop at B)) × (capped (before + (paragraph_size (drop at B) - 1)) ≤ after)
+    → (after ≤ before + run + 25 * reach (paragraph_size (drop at B)) (drop at B)) × (before + paragraph_size (drop at B) ≤ after + 1)
 paragraph_looks B i run {at} e low high most least =
     let size : paragraph_size (drop i B) ≡ paragraph_size (drop at B) = ap (λ k. paragraph_size (drop k B)) e in
     let far : reach (paragraph_size (drop i B)) (drop i B) ≡ reach (paragraph_size (drop at B)) (drop at B) = ap (λ k. reach (paragraph_size (drop k B)) (drop k B)) e in

@@ -1,7 +1,6 @@
 //! Tables (Markup Specification, 'Tables').
-ghost use Rattle.std.specs.Prelude.{◌≡◌, ◌+◌, ◌-◌, ◌<◌, ◌≤◌, ◌==◌, [], ◌∷◌, codes, length, drop, slice_range, nat_lt, if◌then◌else◌, IfOk, ℕ, ◌*◌};
+ghost use Rattle.std.specs.Prelude.{◌≡◌, ◌+◌, ◌-◌, ◌^◌, ◌<◌, ◌≤◌, ◌==◌, [], ◌∷◌, codes, length, drop, slice_range, nat_lt, if◌then◌else◌, IfOk, ℕ, ◌*◌};
 ghost use Rattle.rst_text.specs.Block.{first_number};
-ghost use Rattle.rst_text.specs.Looked.{capped};
 ghost use Rattle.rst_text.specs.Shown.{block_of};
 ghost use Rattle.rst_tree.specs.Faults.{Gives};
 ghost use Rattle.rst_tree.specs.declared.note.Level.TheVariants.{Error};
@@ -38,6 +37,7 @@ pub fn table(
     pass: &mut Pass,
 ) -> Result<Step, BlockFault>
     requires inside { level.old.at < length (block_of view.now) }
+    requires few { pass.old.looks < 2 ^ 119 + 2 ^ 111 }
     requires table { IsTableAt (block_of view.now) level.old.at found }
     requires placed { IsPlaced level.old }
     ensures step { IfOk result (λ s. spec.IsStep (block_of view.now) level.old.at level.new.at s) }
@@ -72,11 +72,13 @@ fn malformed(
     fault: TableFault,
     looks: &mut Looks,
 ) -> Result<Node, TreeFault>
+    requires few { looks.old < 2 ^ 120 }
     ensures error { let B = block_of view.now in
         let source = source_of B (record { start = at; stop = end }) in
         Gives (λ node. node ≡ shown Error (first_number (drop at B)) (malformed_text fault.detail) source) result }
+    ensures looks { looks.new ≤ looks.old + 2 ^ 64 }
     ensures most { looks.new ≤ looks.old + (end - at) }
-    ensures each { IfOk result (λ _. capped (looks.old + length (slice_range (block_of view.now) at end)) ≤ looks.new) }
+    ensures each { IfOk result (λ _. looks.new ≡ looks.old + length (slice_range (block_of view.now) at end)) }
 {
     let text = malformed_text(alloc, fault.detail)?;
     let lines = source(alloc, view, at, end, looks)?;
@@ -96,12 +98,13 @@ pub fn after_table(
     level: &mut OpenBlock,
     pass: &mut Pass,
 ) -> Result<(), BlockFault>
+    requires few { pass.old.looks < 2 ^ 120 }
     ensures at { level.new.at ≡ level.old.at }
     ensures more { let notes = warned (codes "Blank line required after table.") (drop level.old.at (block_of view.now)) in
         blocks.Gives (λ _. blocks.HasMore level.old level.new notes) result }
     ensures numbers { pass.new.numbers ≡ pass.old.numbers }
     ensures looks { pass.new.looks ≤ pass.old.looks + 1 }
-    ensures low { capped pass.old.looks ≤ pass.new.looks }
+    ensures low { pass.old.looks ≤ pass.new.looks }
 {
     let end = level.at;
     level.warn(alloc, view, end, "Blank line required after table.", pass)

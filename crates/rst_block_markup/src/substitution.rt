@@ -1,8 +1,7 @@
 //! Substitution definitions (Markup Specification, 'Substitution Definitions').
-ghost use Rattle.std.specs.Prelude.{◌≡◌, ◌+◌, ◌-◌, ◌*◌, ◌<◌, ◌≤◌, List, ◌∷◌, [], false, Some, length, drop, slice_range, string_bytes, IfOk, IfSome};
+ghost use Rattle.std.specs.Prelude.{◌≡◌, ◌+◌, ◌-◌, ◌*◌, ◌^◌, ◌<◌, ◌≤◌, List, ◌∷◌, [], false, Some, length, drop, slice_range, string_bytes, IfOk, IfSome};
 ghost use Rattle.std.specs.Option.{option_map_or};
 ghost use Rattle.rst_text.specs.Block.{first_number, front_text};
-ghost use Rattle.rst_text.specs.Looked.{capped};
 ghost use Rattle.rst_text.specs.Shown.{block_of};
 ghost use Rattle.rst_tree.specs.Faults.{Gives};
 ghost use Rattle.rst_tree.specs.Nodes.{nodes_of};
@@ -55,6 +54,7 @@ pub(crate) fn substitution_definition(
 ) -> Result<Step, BlockFault>
     requires call { IfSome held (IsCall (block_of view.now) level.old.at) }
     requires inside { level.old.at < length (block_of view.now) }
+    requires few { pass.old.looks < 2 ^ 119 + 2 ^ 113 }
     requires later { level.old.at < end }
     requires placed { IsPlaced level.old }
     requires begins { IfSome held (λ call. (level.old.at ≤ call.block.from) × (call.block.to ≤ end)) }
@@ -108,6 +108,7 @@ fn holding(
 ) -> Result<Step, BlockFault>
     requires call { IsCall (block_of view.now) level.old.at invocation.now }
     requires inside { level.old.at < length (block_of view.now) }
+    requires few { pass.old.looks < 2 ^ 119 + 2 ^ 114 }
     requires later { level.old.at < end }
     requires placed { IsPlaced level.old }
     requires begins { (level.old.at ≤ invocation.now.block.from) × (invocation.now.block.to ≤ end) }
@@ -182,6 +183,7 @@ fn replacement(
 ) -> Result<Step, BlockFault>
     requires content { IsContentIn (block_of view.now) content }
     requires inside { level.old.at < length (block_of view.now) }
+    requires few { pass.old.looks < 2 ^ 119 + 2 ^ 115 }
     requires later { level.old.at < end }
     requires placed { IsPlaced level.old }
     ensures step { IfOk result (λ s. spec.IsStep (block_of view.now) level.old.at level.new.at s) }
@@ -224,14 +226,16 @@ fn wrong_definition(
     looks: &mut Looks,
 ) -> Result<Node, BlockFault>
     requires inside { at < length (block_of view.now) }
+    requires few { looks.old < 2 ^ 119 + 2 ^ 115 }
     ensures error { let B = block_of view.now in
         let X = drop at B in
         let told = directives.faulty_name (fault_in fault.now) name.now (texts.excerpt (front_text X) invocation.now.name) in
         let text = fault_text (fault_in fault.now) told in
         let source = texts.source_of B (record { start = at; stop = end }) in
         blocks.Gives (λ node. node ≡ texts.shown Error (first_number X) text source) result }
+    ensures looks { looks.new ≤ looks.old + 2 ^ 65 }
     ensures most { looks.new ≤ looks.old + 1 + (end - at) }
-    ensures each { IfOk result (λ _. capped (looks.old + 1 + length (slice_range (block_of view.now) at end)) ≤ looks.new) }
+    ensures each { IfOk result (λ _. looks.new ≡ looks.old + 1 + length (slice_range (block_of view.now) at end)) }
 {
     let written = excerpt(alloc, view.line(at, looks), invocation.name)?;
     let name = faulty_name(fault, name, written.as_str());

@@ -1,6 +1,5 @@
 //! A block that is being read.
 ghost use Rattle.std.specs.Prelude.{◌≡◌, ℕ, suc, ◌+◌, ◌-◌, ◌^◌, ◌<◌, ◌≤◌, ◌==◌, [], ◌∷◌, length, drop};
-ghost use Rattle.rst_text.specs.Looked.{capped};
 ghost use Rattle.rst_text.specs.Shown.{block_of};
 ghost use Rattle.rst_block_state.specs.Meanings.{IsNew, deepest, joining_in, open_of};
 ghost use Rattle.rst_block_state.specs.Ledger.{run_looks};
@@ -121,8 +120,9 @@ impl OpenBlock {
         view: &View<'_>,
         pass: &mut Pass,
     ) -> Result<(), BlockFault>
+        requires few { pass.old.looks < 2 ^ 120 }
         ensures at { self.new.at ≡ self.old.at }
-        ensures low { capped pass.old.looks ≤ pass.new.looks }
+        ensures low { pass.old.looks ≤ pass.new.looks }
         ensures run { pass.new.looks ≤ pass.old.looks + run_looks self.old.run }
         ensures closed { let levels = suc deepest - self.old.depth in
             let closed = closed_run levels (block_of view.now) (open_of self.old.run) pass.old.numbers in
@@ -192,10 +192,11 @@ impl OpenBlock {
         text: &str,
         pass: &mut Pass,
     ) -> Result<(), BlockFault>
+        requires few { pass.old.looks < 2 ^ 120 }
         ensures at { self.new.at ≡ self.old.at }
         ensures more { spec.Gives (λ _. spec.HasMore self.old self.new (warned text.now (drop end (block_of view.now)))) result }
         ensures numbers { pass.new.numbers ≡ pass.old.numbers }
-        ensures low { capped pass.old.looks ≤ pass.new.looks }
+        ensures low { pass.old.looks ≤ pass.new.looks }
         ensures looks { pass.new.looks ≤ pass.old.looks + 1 }
     {
         if is_blank(text_at(view, end, &mut pass.looks)) {

@@ -1,9 +1,8 @@
 //! Texts of lines, and what a pass over a document counts.
-ghost use Rattle.std.specs.Prelude.{◌≡◌, ◌+◌, ◌-◌, ◌<◌, ◌≤◌, [], ◌∷◌, ◌++◌, length, take, drop, slice_range, string_bytes, encode_utf8_all, IfOk};
+ghost use Rattle.std.specs.Prelude.{◌≡◌, ◌+◌, ◌-◌, ◌^◌, ◌<◌, ◌≤◌, [], ◌∷◌, ◌++◌, length, take, drop, slice_range, string_bytes, encode_utf8_all, IfOk};
 ghost use Rattle.std.specs.Str.{chars};
 ghost use Rattle.std.specs.Vec.Iter.{into_iter_items};
 ghost use Rattle.rst_text.specs.Block.{first_number};
-ghost use Rattle.rst_text.specs.Looked.{capped};
 ghost use Rattle.rst_text.specs.Shown.{block_of};
 ghost use Rattle.rst_text.specs.Text.{chars_of};
 ghost use Rattle.rst_tree.specs.Faults.{Gives};
@@ -78,9 +77,11 @@ fn usual_size(lines: usize) -> usize {
 
 /// The lines of a view, joined by line feeds, at the price of one look at each.
 pub fn joined(alloc: Global, view: &View<'_>, looks: &mut Looks) -> Result<String, AllocError>
+    requires few { looks.old < 2 ^ 120 }
     ensures bytes { IfOk result (λ text. string_bytes text ≡ spec.spelled (block_of view.now)) }
     ensures text { IfOk result (λ text. chars_of text ≡ spec.joined (block_of view.now)) }
-    ensures each { IfOk result (λ _. capped (looks.old + length (block_of view.now)) ≤ looks.new) }
+    ensures each { IfOk result (λ _. looks.new ≡ looks.old + length (block_of view.now)) }
+    ensures looks { looks.new ≤ looks.old + 2 ^ 64 }
     ensures most { looks.new ≤ looks.old + length (block_of view.now) }
 {
     let mut text = String::with_capacity(alloc, usual_size(view.len()))?;
@@ -102,9 +103,11 @@ pub fn source(
     to: usize,
     looks: &mut Looks,
 ) -> Result<String, AllocError>
+    requires few { looks.old < 2 ^ 120 }
     ensures bytes { IfOk result (λ text. string_bytes text ≡ spec.source_of (block_of view.now) (record { start = from; stop = to })) }
     ensures text { IfOk result (λ text. chars_of text ≡ spec.joined (slice_range (block_of view.now) from to)) }
-    ensures each { IfOk result (λ _. capped (looks.old + length (slice_range (block_of view.now) from to)) ≤ looks.new) }
+    ensures each { IfOk result (λ _. looks.new ≡ looks.old + length (slice_range (block_of view.now) from to)) }
+    ensures looks { looks.new ≤ looks.old + 2 ^ 64 }
     ensures most { looks.new ≤ looks.old + (to - from) }
 {
     joined(alloc, &lines_between(view, from, to), looks)

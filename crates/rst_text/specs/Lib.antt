@@ -7,7 +7,6 @@ pub mod Shown
 pub mod MayCut
 pub mod Extent
 pub mod Reach
-pub mod Looked
 pub mod Laws
 pub mod Places
 pub mod Characters

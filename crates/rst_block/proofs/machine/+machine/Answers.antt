@@ -32,6 +32,20 @@ use Rattle.rst_block.proofs.Waiting.{plug_begins, plug_end_fails, plug_ends, plu
 use Rattle.rst_block.proofs.machine.+machine.Goals.{read-else-len-gt0-via-then-len-gt0+else-depth-le-DEEPEST, read-else-len-gt0-via-else-len-gt0}
 use Rattle.rst_block.proofs.machine.+machine.Goals as goal
 
+-- a call in the block that is read takes no more looks than are left
+pub read_blocks-next-requires-clause-few : goal.read_blocks-next-requires-clause-few
+read_blocks-next-requires-clause-few t c =
+    let paid = rw c.in-Next.is at c.loop-now.invariant.paid in
+    omega (arith, paid.no_more, c.requires.few)
+
+pub read_blocks-flat-requires-clause-few : goal.read_blocks-flat-requires-clause-few
+read_blocks-flat-requires-clause-few t c =
+    let paid = rw c.in-Open.is at c.loop-now.invariant.paid in
+    omega (arith, paid.no_more, c.requires.few)
+
+pub read_blocks-closed-requires-clause-few : goal.read_blocks-closed-requires-clause-few
+read_blocks-closed-requires-clause-few t c = omega (arith, c.loop-now.invariant.paid.no_more, c.requires.few)
+
 pub read_blocks-closed-requires-clause-frame : goal.read_blocks-closed-requires-clause-frame
 read_blocks-closed-requires-clause-frame t c =
     let off = taken (source_of c.args.whole) c.len-base.result c.loop-now.frames.items c.last_of.new.frames.items c.in-Some.frame c.in-Some.ensures.some.0 c.in-Some.ensures.some.1 c.loop-now.invariant.waiting in
@@ -358,8 +372,15 @@ read-returns-clause-lines t c = ap are_lines (sym c.whole-whole.ensures) ∙ are
 
 pub cells-rows_of-requires : goal.cells-rows_of-requires
 cells-rows_of-requires t c =
+    let left = table_left c.args.level.now (block_of c.args.view.now) c.args.depth c.args.found c.in-Table.cols c.in-Table.head c.in-Table.end c.in-Table.rows c.in-Table.is c.requires.level in
+    let few : c.args.pass.now.looks + 128 * totals (c.args.depth - 1) (cell_blocks (Table [] 0 c.in-Table.rows 0)) < 2 ^ 119 = omega (arith, left, c.requires.few) in
     let inner : 1 ≤ c.args.depth = omega (arith, c.requires.level) in
-    search (rules, inner)
+    search (rules, few, inner)
+
+pub cells-after_table-requires : goal.cells-after_table-requires
+cells-after_table-requires t c =
+    let left = table_left c.args.level.now (block_of c.args.view.now) c.args.depth c.args.found c.in-Table.cols c.in-Table.head c.in-Table.end c.in-Table.rows c.in-Table.is c.requires.level in
+    omega (arith, left, c.in_ok-made.ensures.paid.no_more, c.requires.few)
 
 pub cells-returns-in_err-made-clause-read : goal.cells-returns-in_err-made-clause-read
 cells-returns-in_err-made-clause-read t c =
@@ -398,6 +419,12 @@ rows_of-loop-cells-init t c =
       paid = none_read _ _ _ (ap (λ rows. totals (c.args.depth - 1) (cell_blocks (Table [] 0 rows 0))) start);
     }
 
+pub rows_of-row_of-requires : goal.rows_of-row_of-requires
+rows_of-row_of-requires t c =
+    let next = next_row (c.args.depth - 1) (into_iter_items c.loop-cells.cells-iterator) _ c.in-Some.cells c.in-Some.ensures.steps.0 in
+    let few : c.loop-cells.pass.looks + 128 * totals (c.args.depth - 1) (cell_blocks (Table [] 0 (c.in-Some.cells.items ∷ []) 0)) < 2 ^ 119 = omega (arith, c.loop-cells.invariant.paid.no_more, next, c.requires.few) in
+    search (rules, few)
+
 pub rows_of-returns-in_err-row_of-clause-rows : goal.rows_of-returns-in_err-row_of-clause-rows
 rows_of-returns-in_err-row_of-clause-rows t c =
     refuses c.from_residual.result c.in_err-row_of.field-0.0 _ _ (search rules)
@@ -421,6 +448,13 @@ pub rows_of-returns-clause-paid : goal.rows_of-returns-clause-paid
 rows_of-returns-clause-paid t c =
     let none : into_iter_items c.loop-cells.cells-iterator ≡ [] = nil_from_length _ (sym c.loop-cells.cells-iterator.rest.ok.0 ∙ c.in-None.ensures.steps.0) in
     rows_paid (c.args.depth - 1) c.args.rows (into_iter_items c.loop-cells.cells-iterator) _ _ none c.loop-cells.invariant.paid
+
+pub row_of-read-requires : goal.row_of-read-requires
+row_of-read-requires t c =
+    let next = next_cell c.args.depth (into_iter_items c.loop-cell.cell-iterator) _ c.in-Some.cell c.in_ok-lines.lines c.requires.inner c.in-Some.ensures.steps.0 c.in_ok-lines.ensures in
+    let few : c.loop-cell.pass.looks + 128 * total_at c.args.depth c.in_ok-lines.lines < 2 ^ 119 =
+    omega (arith, c.loop-cell.invariant.paid.no_more, one_row (c.args.depth - 1) c.args.cells.items, next, c.requires.few) in
+    search (rules, few)
 
 pub row_of-returns-in_err-nodes-clause-row : goal.row_of-returns-in_err-nodes-clause-row
 row_of-returns-in_err-nodes-clause-row t c =
