@@ -7,6 +7,7 @@ ghost use Rattle.rst_block_state.specs.Nodes.{nodes_among};
 ghost use Rattle.rst_block_state.specs.Ledger.{Takes, ended_least, ended_most, least_after, most_after};
 
 use super::resume::resume;
+use rst_block_sections::append;
 use rst_block_state::{BlockFault, Ended, Frame, OpenBlock, Pass, inside};
 use rst_text::View;
 use std::alloc::Global;
@@ -29,7 +30,7 @@ pub(crate) fn closed<'a>(
     ensures ended { IfOk result (frames.IsEnded (source_of whole.now) frame level.new.at) }
     ensures kept { IfOk result (frames.KeepsFrame frame depth level.new) }
     ensures read { let S = source_of whole.now in
-        let waiting = after frame.level (placement_block S frame.placement) frame.waits frame.second frame.nodes in
+        let waiting = after frame.level (placement_block S frame.placement) frame.waits frame.second frame.nodes.items in
         Keeps result (λ e. frames.ended_as S level.new e pass.new.numbers) (waiting (nodes_among (done_of level.old)) pass.old.numbers) }
     ensures paid { let S = source_of whole.now in
         let B = placement_block S frame.placement in
@@ -46,7 +47,7 @@ pub(crate) fn closed<'a>(
     } = frame;
     let view = whole.at(placement);
     let done = mem::replace(level, outer);
-    nodes.append(done.nodes)?;
+    append(&mut nodes, done.nodes)?;
     match second {
         Some(second) => {
             let part = inside(&view, second);

@@ -26,7 +26,7 @@ use rst_markup_blocks::{LineTest, Part, lines_end};
 use rst_markup_tables::{Cell, Rows, TableResult};
 use rst_text::{Lines, View};
 use rst_tree::{Attrs, Tag};
-use rst_tree_index::{Marked, MarkedNodes};
+use rst_tree_index::Marked;
 use std::alloc::Global;
 
 /// The blocks that wait for one inside them, the outermost first.
@@ -264,17 +264,17 @@ fn rows_of(
     depth: usize,
     frames: &mut Frames,
     pass: &mut Pass,
-) -> Result<MarkedNodes, BlockFault>
+) -> Result<Vec<Marked>, BlockFault>
     requires depth { depth ≤ 251 }
     requires room { length frames.old.items ≤ depth }
     requires few { pass.old.looks + 128 * totals (depth - 1) (cell_blocks (Table [] 0 rows 0)) < 2 ^ 119 }
     requires inner { 1 ≤ depth }
     ensures frames { IfOk result (λ _. frames.new.items ≡ frames.old.items) }
-    ensures rows { Keeps result (λ made. Ok (made, pass.new.numbers))
+    ensures rows { Keeps result (λ made. Ok (made.items, pass.new.numbers))
         (each (tables.row_of (within_at (depth - 1))) rows pass.old.numbers) }
     ensures paid { IfOk result (λ _. TakesFor (totals (depth - 1) (cell_blocks (Table [] 0 rows 0))) pass.old.looks pass.new.looks) }
 {
-    let mut made = MarkedNodes::none(alloc);
+    let mut made = Vec::new(alloc);
     for cells in rows.into_rows() {
         made.push(row_of(alloc, cells, depth, frames, pass)?)?;
     }
@@ -300,7 +300,7 @@ fn row_of(
     ensures paid { let inner = cell_blocks (Table [] 0 (cells.items ∷ []) 0) in
         IfOk result (λ _. TakesFor (totals (depth - 1) inner) pass.old.looks pass.new.looks) }
 {
-    let mut entries = MarkedNodes::none(alloc);
+    let mut entries = Vec::new(alloc);
     for cell in cells {
         let Cell {
             morerows,
@@ -311,6 +311,6 @@ fn row_of(
         let nodes = read(alloc, &lines, depth, frames, pass)?.nodes;
         entries.push(entry_of(alloc, morerows, morecols, nodes)?)?;
     }
-    let row = entries.into_element(Tag::Row, Attrs::new(alloc), 0)?;
+    let row = Marked::element(alloc, Tag::Row, Attrs::new(alloc), entries, 0)?;
     Ok(row)
 }

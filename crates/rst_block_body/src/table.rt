@@ -21,11 +21,11 @@ ghost use Rattle.rst_markup_blocks.specs.Partition.{construct_size};
 
 use rst_block_nodes::{entry, message, tgroup};
 use rst_block_sections::completed;
-use rst_block_state::{BlockFault, OpenBlock, Pass, Step, number_at, parted, source};
+use rst_block_state::{BlockFault, OpenBlock, Pass, Step, alone, number_at, parted, push, source};
 use rst_markup_tables::{TableFault, TableResult, malformed_text};
 use rst_text::{Looks, View};
 use rst_tree::{Attrs, Level, Node, Tag, TreeFault};
-use rst_tree_index::{Marked, MarkedNodes};
+use rst_tree_index::Marked;
 use std::alloc::Global;
 
 /// A table, or the message on one that is malformed.
@@ -116,26 +116,30 @@ pub fn table_of(
     line: usize,
     widths: &[usize],
     head: usize,
-    rows: MarkedNodes,
+    rows: Vec<Marked>,
 ) -> Result<Marked, TreeFault>
-    ensures { Gives (λ node. node ≡ table_node widths.now head rows line) result }
+    ensures { Gives (λ node. node ≡ table_node widths.now head rows.items line) result }
 {
-    let (heads, bodies) = parted(alloc, rows.into_marked(), head as u64)?;
+    let (heads, bodies) = parted(alloc, rows.into_iter(), head as u64)?;
     let mut parts = head_nodes(alloc, head, heads)?;
-    parts.push(bodies.into_element(Tag::Tbody, Attrs::new(alloc), 0)?)?;
+    push(
+        &mut parts,
+        Marked::element(alloc, Tag::Tbody, Attrs::new(alloc), bodies, 0)?,
+    )?;
     let group = completed(alloc, tgroup(alloc, widths, line)?, parts)?;
-    MarkedNodes::alone(alloc, group)?.into_element(Tag::Table, Attrs::new(alloc), line)
+    let group = alone(alloc, group)?;
+    Marked::element(alloc, Tag::Table, Attrs::new(alloc), group, line)
 }
 
 /// The head of a table of so many rows, if it has some.
-fn head_nodes(alloc: Global, head: usize, rows: MarkedNodes) -> Result<MarkedNodes, TreeFault>
-    ensures { Gives (λ nodes. nodes ≡ (if nat_lt 0 head then element_of Thead [] rows 0 ∷ [] else [])) result }
+fn head_nodes(alloc: Global, head: usize, rows: Vec<Marked>) -> Result<Vec<Marked>, TreeFault>
+    ensures { Gives (λ nodes. nodes.items ≡ (if nat_lt 0 head then element_of Thead [] rows.items 0 ∷ [] else [])) result }
 {
     if 0 < head {
-        let head = rows.into_element(Tag::Thead, Attrs::new(alloc), 0)?;
-        return MarkedNodes::alone(alloc, head);
+        let head = Marked::element(alloc, Tag::Thead, Attrs::new(alloc), rows, 0)?;
+        return Ok(alone(alloc, head)?);
     }
-    Ok(MarkedNodes::none(alloc))
+    Ok(Vec::new(alloc))
 }
 
 /// The entry of a cell with its nodes, which takes this many rows and columns beside its first.
@@ -143,9 +147,9 @@ pub fn entry_of(
     alloc: Global,
     morerows: usize,
     morecols: usize,
-    nodes: MarkedNodes,
+    nodes: Vec<Marked>,
 ) -> Result<Marked, TreeFault>
-    ensures { Gives (λ node. node ≡ filled (entry_node morerows morecols 0) nodes) result }
+    ensures { Gives (λ node. node ≡ filled (entry_node morerows morecols 0) nodes.items) result }
 {
     completed(alloc, entry(alloc, morerows, morecols, 0)?, nodes)
 }

@@ -38,7 +38,7 @@ use rst_markup_blocks::Invocation;
 use rst_markup_directives::{Argument, Content, Directive, DirectiveFault, Place, Setting};
 use rst_text::{Looks, View};
 use rst_tree::{Children, Level, Node, Tag, TreeFault};
-use rst_tree_index::MarkedNodes;
+use rst_tree_index::Marked;
 use std::alloc::{AllocError, Global};
 
 /// A substitution definition that ends at `end`. `written` is its name as it stands between the bars, `held` the directive
@@ -258,11 +258,11 @@ fn faulty_name<'a>(fault: &DirectiveFault, name: &'a str, written: &'a str) -> &
 pub fn finished_replacement(
     alloc: Global,
     open: OpenReplacement,
-    nodes: MarkedNodes,
+    nodes: Vec<Marked>,
 ) -> Result<Node, TreeFault>
     ensures { Gives (λ node. node
         ≡ directives.replacement (string_bytes open.name) open.line (string_bytes open.source)
-        (directives.first_paragraph nodes)) result }
+        (directives.first_paragraph nodes.items)) result }
 {
     let OpenReplacement { name, line, source } = open;
     let children = first_paragraph(alloc, nodes);
@@ -283,11 +283,10 @@ pub fn finished_replacement(
 }
 
 /// The nodes of the first paragraph.
-fn first_paragraph(alloc: Global, nodes: MarkedNodes) -> Children
-    ensures { nodes_of result ≡ directives.first_paragraph nodes }
+fn first_paragraph(alloc: Global, nodes: Vec<Marked>) -> Children
+    ensures { nodes_of result ≡ directives.first_paragraph nodes.items }
 {
-    let mut rest = nodes.into_marked();
-    while let Some(node) = rest.next(alloc) {
+    for node in nodes {
         if let Some(children) = paragraph_children(node.into_root()) {
             return children;
         }

@@ -9,13 +9,13 @@ ghost use Rattle.rst_block_state.specs.Texts.{warned};
 
 use super::fault::BlockFault;
 use super::run::{ListKind, OpenList, Run};
-use super::texts::{Pass, number_at, unindent};
-use rst_block_sections::Heading;
+use super::texts::{Pass, number_at, push, unindent};
+use rst_block_sections::{Heading, append};
 use rst_markup_blocks::text_at;
 use rst_markup_lines::is_blank;
 use rst_text::View;
 use rst_tree::Node;
-use rst_tree_index::{Marked, MarkedNodes};
+use rst_tree_index::Marked;
 use std::alloc::Global;
 use std::mem;
 
@@ -27,7 +27,7 @@ pub struct OpenBlock {
     /// The place of the next line.
     pub at: usize,
     /// The nodes and messages so far, but for those of the open run.
-    pub nodes: MarkedNodes,
+    pub nodes: Vec<Marked>,
     /// The constructs before the next line that it may join.
     pub run: Run,
     /// The titles so far. Only the document has some.
@@ -45,7 +45,7 @@ impl OpenBlock {
         OpenBlock {
             depth,
             at: 0,
-            nodes: MarkedNodes::none(alloc),
+            nodes: Vec::new(alloc),
             run: Run::None,
             headings: Vec::new(alloc),
         }
@@ -74,7 +74,8 @@ impl OpenBlock {
         ensures at { self.new.at ≡ self.old.at }
         ensures more { spec.Gives (λ _. spec.HasMore self.old self.new (node ∷ [])) result }
     {
-        Ok(self.nodes.push_new(node)?)
+        let alloc = *self.nodes.allocator();
+        self.push_marked(Marked::of(alloc, node)?)
     }
 
     /// Puts a node behind the last.
@@ -82,7 +83,7 @@ impl OpenBlock {
         ensures at { self.new.at ≡ self.old.at }
         ensures more { spec.Gives (λ _. spec.HasMore self.old self.new (node ∷ [])) result }
     {
-        Ok(self.nodes.push(node)?)
+        Ok(push(&mut self.nodes, node)?)
     }
 
     /// Puts more nodes that were just made behind the last.
@@ -90,15 +91,16 @@ impl OpenBlock {
         ensures at { self.new.at ≡ self.old.at }
         ensures more { spec.Gives (λ _. spec.HasMore self.old self.new more.items) result }
     {
-        Ok(self.nodes.append_new(more)?)
+        let alloc = *self.nodes.allocator();
+        self.append_marked(Marked::each(alloc, more)?)
     }
 
     /// Puts more nodes behind the last.
-    pub fn append_marked(&mut self, more: MarkedNodes) -> Result<(), BlockFault>
+    pub fn append_marked(&mut self, more: Vec<Marked>) -> Result<(), BlockFault>
         ensures at { self.new.at ≡ self.old.at }
-        ensures more { spec.Gives (λ _. spec.HasMore self.old self.new more) result }
+        ensures more { spec.Gives (λ _. spec.HasMore self.old self.new more.items) result }
     {
-        Ok(self.nodes.append(more)?)
+        Ok(append(&mut self.nodes, more)?)
     }
 
     /// Puts a title behind the last node.
@@ -163,7 +165,7 @@ impl OpenBlock {
             end,
             before: Vec::new(alloc),
             list,
-            items: MarkedNodes::none(alloc),
+            items: Vec::new(alloc),
             behind: Vec::new(alloc),
         };
         self.run = Run::List(Box::new(alloc, open)?);
@@ -176,8 +178,8 @@ impl OpenBlock {
         ensures item { spec.Gives (λ _. spec.HasItem self.old self.new item) result }
     {
         match &mut self.run {
-            Run::List(open) => Ok(open.items.push(item)?),
-            _ => Ok(self.nodes.push(item)?),
+            Run::List(open) => Ok(push(&mut open.items, item)?),
+            _ => Ok(push(&mut self.nodes, item)?),
         }
     }
 

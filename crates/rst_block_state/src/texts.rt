@@ -1,6 +1,7 @@
 //! Texts of lines, and what a pass over a document counts.
 ghost use Rattle.std.specs.Prelude.{◌≡◌, ◌+◌, ◌-◌, ◌^◌, ◌<◌, ◌≤◌, [], ◌∷◌, ◌++◌, length, take, drop, slice_range, string_bytes, encode_utf8_all, IfOk};
 ghost use Rattle.std.specs.Str.{chars};
+ghost use Rattle.std.specs.Vec.Iter.{into_iter_items};
 ghost use Rattle.rst_text.specs.Block.{first_number};
 ghost use Rattle.rst_text.specs.Shown.{block_of};
 ghost use Rattle.rst_text.specs.Text.{chars_of};
@@ -13,8 +14,9 @@ use rst_block_nodes::{Numbers, message};
 use rst_markup_lines::Characters;
 use rst_text::{Looks, View, skip};
 use rst_tree::{Level, Node, TreeFault};
-use rst_tree_index::{MarkedIter, MarkedNodes};
+use rst_tree_index::Marked;
 use std::alloc::{AllocError, Global};
+use std::vec::IntoIter;
 
 /// What is counted while a document is read: looks at lines, and messages that have problematics.
 #[derive(Drop)]
@@ -162,15 +164,15 @@ pub fn alone<N: Drop>(alloc: Global, node: N) -> Result<Vec<N>, AllocError>
 /// Some nodes in two parts: the first ones, up to a number of them, and those after them.
 pub fn parted(
     alloc: Global,
-    mut nodes: MarkedIter,
+    nodes: IntoIter<Marked, Global>,
     count: u64,
-) -> Result<(MarkedNodes, MarkedNodes), TreeFault>
-    ensures first { Gives (λ parts. parts.0 ≡ take count nodes) result }
-    ensures second { Gives (λ parts. parts.1 ≡ drop count nodes) result }
+) -> Result<(Vec<Marked>, Vec<Marked>), AllocError>
+    ensures first { IfOk result (λ parts. parts.0.items ≡ take count (into_iter_items nodes)) }
+    ensures second { IfOk result (λ parts. parts.1.items ≡ drop count (into_iter_items nodes)) }
 {
-    let mut first = MarkedNodes::none(alloc);
-    let mut second = MarkedNodes::none(alloc);
-    while let Some(node) = nodes.next(alloc) {
+    let mut first = Vec::new(alloc);
+    let mut second = Vec::new(alloc);
+    for node in nodes {
         if (first.len() as u64) < count {
             first.push(node)?;
             continue;

@@ -2,4 +2,3 @@ pub mod Marking
 pub mod Holding
 pub mod ElementKinds
 pub mod Visiting
-pub mod Knowing

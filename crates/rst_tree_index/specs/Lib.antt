@@ -4,4 +4,3 @@ pub mod MarkPaths
 pub mod MarkLengths
 pub mod LinkedTags
 pub mod Kinds
-pub mod Known

@@ -143,11 +143,7 @@ fn add_marks(
 
 /// The marks of a node that was made elsewhere, by a pass over it: whether it is marked itself, and those in it. Its kinds are added.
 #[inline(always)]
-pub(crate) fn marks_of(
-    alloc: Global,
-    node: &Node,
-    kinds: &mut Kinds,
-) -> Result<(bool, Marks), TreeFault>
+fn marks_of(alloc: Global, node: &Node, kinds: &mut Kinds) -> Result<(bool, Marks), TreeFault>
     ensures marks { Gives (λ marks. node_paths marks.0 marks.1 ≡ marks_of is_registered node.now) result }
     ensures kinds { Gives (λ _. kinds.new ≡ either kinds.old (kinds_of (node_items node.now))) result }
 {
@@ -225,24 +221,11 @@ impl Model for Marked {
     ghost invariant = { λ m. (node_paths m.own m.inner ≡ marks_of is_registered m.root) × (m.kinds ≡ kinds_of (node_items m.root)) };
 }
 
-/// The nodes, each marked by a pass over it.
-#[inline(never)]
-fn each_marked(alloc: Global, nodes: Vec<Node>) -> Result<Vec<Marked>, TreeFault>
-    ensures { Gives (λ list. list.items ≡ nodes.items) result }
-{
-    let mut list = Vec::with_capacity(alloc, nodes.len())?;
-    for node in nodes {
-        list.push_reserved(Marked::of(alloc, node)?);
-    }
-    Ok(list)
-}
-
 impl Marked {
     ghost use Rattle.std.specs.Prelude.{◌≡◌};
     ghost use Rattle.rst_tree.specs.declared.node.Node.TheVariants.{Element as Tagged};
 
     /// A node that was made elsewhere.
-    #[inline(always)]
     pub fn of(alloc: Global, root: Node) -> Result<Marked, TreeFault>
         ensures { Gives (λ m. m ≡ root) result }
     {
@@ -257,15 +240,17 @@ impl Marked {
     }
 
     /// Each of some nodes that were made elsewhere.
-    #[inline(always)]
     pub fn each(alloc: Global, nodes: Vec<Node>) -> Result<Vec<Marked>, TreeFault>
         ensures { Gives (λ list. list.items ≡ nodes.items) result }
     {
-        // Most calls are for the messages of a block that has none.
         if nodes.is_empty() {
             return Ok(Vec::new(alloc));
         }
-        each_marked(alloc, nodes)
+        let mut list = Vec::with_capacity(alloc, nodes.len())?;
+        for node in nodes {
+            list.push_reserved(Marked::of(alloc, node)?);
+        }
+        Ok(list)
     }
 
     /// An element with these nodes in it. Their marks are known, so nobody goes through them.
@@ -294,37 +279,6 @@ impl Marked {
             inner,
             kinds,
         })
-    }
-
-    /// A node whose marks and kinds are known.
-    #[inline(always)]
-    pub(crate) fn from_parts(root: Node, own: bool, inner: Marks, kinds: Kinds) -> Marked
-        requires marks { node_paths own inner ≡ marks_of is_registered root }
-        requires kinds { kinds ≡ kinds_of (node_items root) }
-        ensures { result ≡ root }
-    {
-        Marked {
-            root,
-            own,
-            inner,
-            kinds,
-        }
-    }
-
-    /// The node, whether it is marked itself, the marks in it and its kinds.
-    #[inline(always)]
-    pub(crate) fn into_parts(self) -> (Node, bool, Marks, Kinds)
-        ensures root { result.0 ≡ self }
-        ensures marks { node_paths result.1 result.2 ≡ marks_of is_registered self }
-        ensures kinds { result.3 ≡ kinds_of (node_items self) }
-    {
-        let Marked {
-            root,
-            own,
-            inner,
-            kinds,
-        } = self;
-        (root, own, inner, kinds)
     }
 
     /// Which kinds of elements that transforms act on the node holds.
