@@ -1,29 +1,11 @@
 -- Lemmas on lists of messages.
-use Rattle.std.proofs.Common.{◌≡◌, ℕ, ◌+◌, ◌-◌, ◌<◌, suc, List, ◌++◌, ◌∷◌, [], length, take, get_or, None, Some, Option, ap, ◌∙◌, refl, Bool, true, false, append-nil, arith, slice_get, cond, filter}
-use Rattle.std.specs.List.{flat_map}
-use Rattle.std.proofs.lemmas.Grind.{flat_map-append}
-use Rattle.std.proofs.lemmas.List.Elements.{filter_more}
+use Rattle.std.proofs.Common.{◌≡◌, ◌-◌, suc, List, ◌∷◌, [], length, None, Some, Option, ap, ◌∙◌, refl, Bool, arith, slice_get}
 use Rattle.rst_tree.specs.declared.note.Note.{Note}
 use Rattle.std.specs.Prelude.{if◌then◌else◌}
 use Rattle.rst_settings.specs.declared.Settings.{Settings}
 use Rattle.rst_settings.specs.Threshold.{is_reached}
 use Rattle.rst_tree.specs.LevelNames.{level_number}
 use Rattle.rst2pseudoxml_run.specs.Shown.{last_level, if_reached, halting}
-
--- one item more, which passes
-pub reported_more : {X : Type 0} (p : X → Bool) (f : X → List ℕ) (xs : List X) (i : ℕ) (d : X) → i < length xs → p (get_or xs i d) ≡ true
-    → flat_map f (filter p (take (i + 1) xs)) ≡ flat_map f (filter p (take i xs)) ++ f (get_or xs i d)
-reported_more p f xs i d within e =
-    let x = get_or xs i d in
-    ap (flat_map f) (filter_more p xs i d within) ∙ flat_map-append f (filter p (take i xs)) (cond (p x) (x ∷ []) [])
-    ∙ ap (λ b. flat_map f (filter p (take i xs)) ++ flat_map f (cond b (x ∷ []) [])) e ∙ ap (λ l. flat_map f (filter p (take i xs)) ++ l) (append-nil (f x))
-
--- one item more, which doesn't
-pub unreported_more : {X : Type 0} (p : X → Bool) (f : X → List ℕ) (xs : List X) (i : ℕ) (d : X) → i < length xs → p (get_or xs i d) ≡ false
-    → flat_map f (filter p (take (i + 1) xs)) ≡ flat_map f (filter p (take i xs))
-unreported_more p f xs i d within e =
-    let x = get_or xs i d in
-    ap (flat_map f) (filter_more p xs i d within ∙ ap (λ b. filter p (take i xs) ++ cond b (x ∷ []) []) e ∙ append-nil (filter p (take i xs)))
 
 pub last_level_some : (notes : List Note) (note : Note) → slice_get notes (length notes - 1) ≡ Some note → last_level notes ≡ Some note.level
 last_level_some [] note e = cc
@@ -44,6 +26,3 @@ pub halting_last : (settings : Settings) (notes : List Note) (note : Note) (reac
     → is_reached settings.halt (level_number note.level) ≡ reached → halting settings notes ≡ (if reached then Some note.level else None)
 halting_last settings notes note reached e r =
     ap (if_reached settings) (last_level_some notes note e) ∙ ap (λ (b : Bool). if b then Some note.level else None) r
-
-pub halting_none : (settings : Settings) (notes : List Note) → slice_get notes (length notes - 1) ≡ None → halting settings notes ≡ None
-halting_none settings notes e = ap (if_reached settings) (last_level_none notes e)

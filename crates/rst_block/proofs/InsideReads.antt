@@ -40,10 +40,6 @@ use Rattle.rst_block_state.specs.Texts.{joined, lines_in, texted, termed}
 use Rattle.rst_block_state.specs.Within.{Within, hanging, indented_part}
 use Rattle.rst_block_state.proofs.NumberedLemmas.{same_after}
 
--- what follows is the same where what is read first is the same
-then_same : {A C : Type 0} (r s : Numbered A) (k : A → Numbered C) (n : ℕ) → r n ≡ s n → (r >>= k) n ≡ (s >>= k) n
-then_same r s k n h = ap (then_read k) h
-
 module _ (c : Within) (g : Block → Numbered (List Node)) where
   abbrev d : Within
   d = reading c g

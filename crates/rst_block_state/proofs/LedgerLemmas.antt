@@ -78,9 +78,6 @@ begun depth B h = record {
   least = omega (arith, total_is depth B h);
 }
 
-unpaid_over : (B : Block) (i : ℕ) → length B ≤ i → unpaid (drop i B) ≡ 0
-unpaid_over B i h = omega (arith, begin (drop i B), length-drop i B, h)
-
 pub ended : (l : OpenBlock) (B : Block) (before after : ℕ) → length B ≤ l.at → after ≤ before + run_looks l.run → before ≤ after
     → Takes (most_left l B Next) (least_left l B Next) before (most_left l B Done) (least_left l B Done) after
 unfolding sum_of

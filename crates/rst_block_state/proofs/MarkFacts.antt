@@ -6,7 +6,7 @@ use Rattle.std.specs.Option.{option_and_then}
 use Rattle.std.proofs.lemmas.List.{drop-drop}
 use Rattle.rst_text.specs.Block.{is_blank, indentation}
 use Rattle.rst_markup_lines.specs.Enumerator.{written_at, framed, between_parentheses, before_one, enumerator_of}
-use Rattle.rst_markup_lines.specs.ExplicitMarks.{dots, label_kind, labelled, label_by, label_of, colons, directive_by, directive_of}
+use Rattle.rst_markup_lines.specs.ExplicitMarks.{label_kind, labelled, label_by, label_of, colons, directive_by, directive_of}
 use Rattle.rst_markup_lines.specs.Field.{field_with, is_no_name, field_if, field_of}
 use Rattle.rst_markup_lines.specs.Front.{begins_with, first}
 use Rattle.rst_markup_lines.specs.Marker.{marker_of, is_bullet, bullet_by, bullet}
@@ -67,10 +67,6 @@ bullet_tells t = by (first t)
     by None = tt
     by (Some c) = if_some (Tells t) (is_bullet c) (marker_of 1 t) (marker_tells 1 t)
 
-pub dots_tell : (t : List ℕ) → IfSome (dots t) (Tells t)
-unfolding dots
-dots_tell t = if_some (Tells t) (begins_with 46 t && begins_with 46 (drop 1 t)) (marker_of 2 t) (marker_tells 2 t)
-
 abbrev InField : List ℕ → FieldMark → Type 0
 InField t f = Tells t f.marker
 
@@ -113,12 +109,6 @@ last_tells u None h f t e = tt
 last_tells u (Some m) h f t e =
     let swap : m.cut + f ≡ f + m.cut = omega arith in
     h ∙ sym (ap (λ v. is_blank (drop m.cut v)) e) ∙ ap is_blank (drop-drop m.cut f t)
-
-tail_tells : (n : ℕ) (u : List ℕ) (f : ℕ) (t : List ℕ) → drop f t ≡ u → IfSome (marker_by f (tail_at n u)) (Tells t)
-unfolding tail_at
-tail_tells n u f t e =
-    chosen (λ tail. IfSome (marker_by f tail) (Tells t)) (begins_with 44 (drop n u) && begins_with 32 (drop 1 (drop n u))) _ _ tt
-    (chosen (λ tail. IfSome (marker_by f tail) (Tells t)) (begins_with 32 (drop n u) && not (begins_with 32 (drop 1 (drop n u)))) _ _ tt (last_tells u (marker_of n u) (marker_tells n u) f t e))
 
 -- of some options each does
 abbrev TailsTell : List ℕ → List PlacedOption → Type 0

@@ -1,7 +1,7 @@
 -- What is remembered stays true.
 use Rattle.std.proofs.Common.{ℕ, ◌≤◌, length, arith}
 use Rattle.rst_inline_scan.specs.Characters.{Text}
-use Rattle.rst_inline_scan.specs.Missing.{unended_from, with_unended, IsUnended, IsMissing}
+use Rattle.rst_inline_scan.specs.Missing.{with_unended, IsUnended, IsMissing}
 use Rattle.rst_inline_scan.specs.declared.piece.Markup.{Markup}
 use Rattle.rst_inline_scan.specs.declared.piece.Markup.TheVariants.{Strong, Emphasis, Literal, Target, Substitution, Interpreted}
 use Rattle.rst_inline_scan.specs.declared.missing.Missing.{Missing}
@@ -15,14 +15,6 @@ none-past Literal t i q order past mark = absurd (let l = start-fits Literal t q
 none-past Target t i q order past mark = absurd (let l = start-fits Target t q mark in omega arith)
 none-past Substitution t i q order past mark = absurd (let l = start-fits Substitution t q mark in omega arith)
 none-past Interpreted t i q order past mark = absurd (let l = start-fits Interpreted t q mark in omega arith)
-
-pub IsMissing-markup : (markup : Markup) (t : Text) (missing : Missing) (place : ℕ) → IsMissing t missing place → IsUnended markup t (unended_from missing markup)
-IsMissing-markup Strong t missing place known = known.strong
-IsMissing-markup Emphasis t missing place known = known.emphasis
-IsMissing-markup Literal t missing place known = known.literal
-IsMissing-markup Target t missing place known = known.target
-IsMissing-markup Substitution t missing place known = known.substitution
-IsMissing-markup Interpreted t missing place known = known.interpreted
 
 pub IsMissing-with : (markup : Markup) (t : Text) (missing : Missing) (place q : ℕ) → IsMissing t missing place → IsUnended markup t q → IsMissing t (with_unended missing markup q) place
 IsMissing-with Strong t missing place q known h = record { strong = h; emphasis = known.emphasis; literal = known.literal; target = known.target; substitution = known.substitution; interpreted = known.interpreted; names = known.names; uris = known.uris }

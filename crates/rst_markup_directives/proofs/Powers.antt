@@ -1,12 +1,9 @@
 -- Powers of ten.
-use Rattle.std.proofs.Common.{◌≡◌, ℕ, zero, suc, ◌+◌, ◌*◌, ◌<◌, ◌≤◌, arith, add-one, ap}
+use Rattle.std.proofs.Common.{ℕ, zero, suc, ◌*◌, ◌<◌, ◌≤◌, arith}
 
 abbrev pub power_of_ten : ℕ → ℕ
 power_of_ten zero = 1
 power_of_ten (suc n) = 10 * power_of_ten n
-
-pub power_of_ten-more : (n : ℕ) → power_of_ten (n + 1) ≡ 10 * power_of_ten n
-power_of_ten-more n = ap power_of_ten (add-one n)
 
 power_of_ten-small : (m : ℕ) → m ≤ 8 → power_of_ten m ≤ 100000000
 power_of_ten-small zero h = omega arith

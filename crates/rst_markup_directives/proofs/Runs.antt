@@ -10,13 +10,6 @@ use Rattle.rst_text.specs.Block.{Line, Block, front_text, is_blank}
 use Rattle.rst_markup_blocks.specs.Lines.{lines_while}
 use Rattle.rst_markup_directives.specs.Lines.{first_run, blank_len}
 
-first_run-here : (X : Block) → is_blank (front_text X) ≡ true → first_run X ≡ []
-first_run-here [] h = refl
-first_run-here (l ∷ ls) h = rw h refl
-
-pub first_run-stop : (B : Block) (i : ℕ) → is_blank (front_text (drop i B)) ≡ true → first_run (drop i B) ≡ []
-first_run-stop B i h = first_run-here (drop i B) h
-
 pub first_run-more : (B : Block) (i : ℕ) → i < length B → is_blank (front_text (drop i B)) ≡ false → first_run (drop i B) ≡ front_text (drop i B) ∷ first_run (drop (i + 1) B)
 first_run-more [] i below h = absurd (omega arith)
 first_run-more (l ∷ ls) zero below h =

@@ -1,16 +1,13 @@
 -- Texts that are read from their front.
-use Rattle.std.proofs.Common.{◌≡◌, ℕ, suc, ◌+◌, ◌<◌, ◌≤◌, List, [], ◌∷◌, ◌++◌, length, drop, refl, sym, ap, ◌∙◌, arith, length-append, length-drop, IsSome, is_some, None, Bool, true, false, cond, ◌==◌}
+use Rattle.std.proofs.Common.{◌≡◌, ℕ, suc, ◌+◌, ◌≤◌, List, [], ◌∷◌, ◌++◌, length, drop, refl, sym, ap, ◌∙◌, arith, length-drop, IsSome, is_some, None, Bool, true, false, cond, ◌==◌}
 use Rattle.std.specs.Str.{chars, IsUtf8}
 use Rattle.std.proofs.Math.Utf8.{encode}
 use Rattle.rst_markup_lines.specs.Front.{first, begins_with}
-use Rattle.std.proofs.lemmas.Str.{chars_past_char, length-encode, len_utf8_bounds, chars-nil, length-le-encodes, encodes-chars}
+use Rattle.std.proofs.lemmas.Str.{chars_past_char, chars-nil, length-le-encodes, encodes-chars}
 use Rattle.rst_text.specs.Block.{indentation}
 
 pub behind_char : (text whole rest after : List ℕ) (c : ℕ) → IsUtf8 text → whole ≡ text → whole ≡ encode c ++ after → rest ≡ after → chars rest ≡ drop 1 (chars text)
 behind_char text whole rest after c good e s r = rw r (sym (ap (λ cs. drop 1 cs) (chars_past_char text after c good (sym e ∙ s))))
-
-pub shorter_behind : (text whole rest after : List ℕ) (c : ℕ) → whole ≡ text → whole ≡ encode c ++ after → rest ≡ after → length rest < length text
-shorter_behind text whole rest after c e s r = omega (arith, ap length r, ap length e, ap length s, length-append (encode c) after, length-encode c, len_utf8_bounds c)
 
 pub none_behind : (text : List ℕ) → length text ≡ 0 → chars text ≡ drop 1 (chars text)
 none_behind [] h = rw chars-nil refl

@@ -9,9 +9,6 @@ use Rattle.rst_markup_tables.specs.Drawn.{is_across, IsAcross}
 use Rattle.rst_markup_tables.specs.Search.{begin_at, Begins, next_begin, HasBegins}
 use Rattle.rst_markup_tables.proofs.Rectangles.{place_within}
 
-pub begins_start : (row : List Place) → Begins row 0 0
-begins_start row left = ((λ at j above below. absurd (omega arith)), (λ less run. absurd (omega arith)))
-
 pub begins_next : (row : List Place) (end begin : ℕ) → Begins row end begin → Begins row (end + 1) (next_begin (mark_at row end) begin end)
 unfolding next_begin
 begins_next row end begin b = ⊎_elim

@@ -1,9 +1,8 @@
 -- The search for the rectangle that is drawn from a place.
 use Rattle.std.proofs.Common.{⊎_elim, ◌≡◌, ℕ, ◌+◌, ◌<◌, ◌≤◌, length, Bool, true, false, refl, sym, subst, ◌∙◌, arith}
-use Rattle.std.proofs.lemmas.Bool.{and_parts, and_from, false≢true, cases_lt, cases_eq}
-use Rattle.rst_markup_tables.specs.declared.drawn.Rectangle.{Rectangle}
+use Rattle.std.proofs.lemmas.Bool.{and_parts, and_from, false≢true, cases_lt}
 use Rattle.rst_markup_tables.specs.Places.{Grid, place}
-use Rattle.rst_markup_tables.specs.Drawn.{is_across, is_upright, IsFrame, IsDrawn}
+use Rattle.rst_markup_tables.specs.Drawn.{is_across, is_upright}
 use Rattle.rst_markup_tables.specs.Search.{are_upright, IsBottom, IsClosed}
 use Rattle.rst_markup_tables.proofs.Rectangles.{place_within}
 
@@ -36,51 +35,6 @@ one_more P low n all here k above below = ⊎_elim
 
 pub closed_within : (G : Grid) (t l r b : ℕ) → IsClosed G t l r b → b < length G
 closed_within G t l r b c = (place_within G b l 43 c.side.0 (omega arith)).0
-
--- a frame is its top side and what closes it
-pub closed_of : (G : Grid) (q : Rectangle) (t l r : ℕ) → IsFrame G q → q.top ≡ t → q.left ≡ l → q.right ≡ r → IsClosed G t l r q.bottom
-closed_of G q t l r f et el er =
-    let here : IsClosed G q.top q.left q.right q.bottom = record {
-      high = f.high;
-      side = (f.bottom_left, f.bottom_right, f.bottom_side);
-      left_side = f.left_side;
-      right_side = f.right_side;
-    } in
-    subst (λ t. IsClosed G t l r q.bottom) et (subst (λ l. IsClosed G q.top l r q.bottom) el (subst (λ r. IsClosed G q.top q.left r q.bottom) er here))
-
-pub frame_of : (G : Grid) (t l r b : ℕ) → l < r → place G t l ≡ 43 → place G t r ≡ 43
-    → ((k : ℕ) → l ≤ k → k < r → is_across (place G t k) ≡ true) → IsClosed G t l r b → IsFrame G (record { top = t; left = l; bottom = b; right = r })
-frame_of G t l r b wide tl tr side c = record {
-  high = c.high;
-  wide = wide;
-  top_left = tl;
-  top_right = tr;
-  bottom_left = c.side.0;
-  bottom_right = c.side.1;
-  top_side = λ k above below. one_more (λ k. is_across (place G t k)) l r side (plus_across _ tr) k above (omega arith);
-  bottom_side = c.side.2;
-  left_side = c.left_side;
-  right_side = c.right_side;
-}
-
-pub drawn_of : (G : Grid) (t l r b : ℕ) → IsFrame G (record { top = t; left = l; bottom = b; right = r })
-    → ((q : Rectangle) → IsFrame G q → q.top ≡ t → q.left ≡ l → r ≤ q.right) → ((k : ℕ) → IsClosed G t l r k → b ≤ k)
-    → IsDrawn G (record { top = t; left = l; bottom = b; right = r })
-drawn_of G t l r b f right bottom = record {
-  frame = f;
-  least_right = right;
-  least_bottom = λ q g et el er. bottom q.bottom (closed_of G q t l r g et el er);
-}
-
--- a frame whose right edge isn't left of the place isn't there either, and so is behind it
-pub right_behind : (G : Grid) (t l r : ℕ) (q : Rectangle) → IsFrame G q → q.top ≡ t → q.left ≡ l → r ≤ q.right → ((b : ℕ) → place G t r ≡ 43 → IsClosed G t l r b → ⊥) → r + 1 ≤ q.right
-right_behind G t l r q f et el behind none = ⊎_elim
-    (λ here. absurd (none q.bottom (subst (λ i. place G i r ≡ 43) et (subst (λ j. place G q.top j ≡ 43) (sym here) f.top_right)) (closed_of G q t l r f et el (sym here))))
-    (λ other. omega (arith, other))
-    (cases_eq r q.right)
-
-pub across_at : (G : Grid) (t l r : ℕ) (q : Rectangle) → IsFrame G q → q.top ≡ t → q.left ≡ l → l ≤ r → r ≤ q.right → is_across (place G t r) ≡ true
-across_at G t l r q f et el above below = subst (λ i. is_across (place G i r) ≡ true) et (f.top_side r (omega arith) below)
 
 -- no row at or below one where a side ends closes it
 pub not_closed : (G : Grid) (t l r n : ℕ) → t ≤ n → ((k : ℕ) → k < n → IsClosed G t l r k → ⊥) → are_upright G n l r ≡ false → (k : ℕ) → IsClosed G t l r k → ⊥

@@ -1,5 +1,5 @@
 -- Lists that are read an item at a time.
-use Rattle.std.proofs.Common.{◌≡◌, ℕ, zero, suc, ◌+◌, ◌-◌, ◌<◌, ◌≤◌, Bool, true, false, cond, List, [], ◌∷◌, ◌++◌, get_or, length, drop, take, map, filter, count_by, refl, sym, ap, ap₂, ◌∙◌, arith, append_assoc, add-one, Some, None}
+use Rattle.std.proofs.Common.{◌≡◌, ℕ, zero, suc, ◌+◌, ◌-◌, ◌<◌, ◌≤◌, Bool, true, false, cond, List, [], ◌∷◌, ◌++◌, get_or, length, drop, take, map, filter, count_by, refl, sym, ap, ap₂, ◌∙◌, arith, append_assoc, add-one}
 use Rattle.std.proofs.lemmas.List.{drop_more}
 use Rattle.std.proofs.lemmas.List.Sums.{sum_by_push}
 use Rattle.std.proofs.Math.Seq.{take-append_seam}
@@ -25,14 +25,8 @@ dark_from t (c ∷ u) e h = refl
 left_more : (k high : ℕ) → k < high → high - k ≡ suc (high - (k + 1))
 left_more k high h = omega arith
 
-pub first_from-stop : (p : ℕ → Bool) (k high : ℕ) → k < high → p k ≡ true → first_from p k (high - k) ≡ Some k
-first_from-stop p k high h e = ap (first_from p k) (left_more k high h) ∙ rw e refl
-
 pub first_from-more : (p : ℕ → Bool) (k high : ℕ) → k < high → p k ≡ false → first_from p k (high - k) ≡ first_from p (k + 1) (high - (k + 1))
 first_from-more p k high h e = ap (first_from p k) (left_more k high h) ∙ rw e refl
-
-pub first_from-end : (p : ℕ → Bool) (k high : ℕ) → high ≤ k → first_from p k (high - k) ≡ None
-first_from-end p k high h = let e : high - k ≡ 0 = omega arith in ap (first_from p k) e
 
 pub all_from-take : (p : ℕ → Bool) (k high : ℕ) → k < high → p k ≡ true → filter p (range_with_len k (high - k)) ≡ k ∷ filter p (range_with_len (k + 1) (high - (k + 1)))
 all_from-take p k high h e = ap (λ n. filter p (range_with_len k n)) (left_more k high h) ∙ rw e refl

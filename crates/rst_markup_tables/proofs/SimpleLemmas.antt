@@ -1,6 +1,6 @@
 -- Simple tables.
 use Rattle.std.proofs.Common.{◌≡◌, ℕ, suc, ◌+◌, ◌-◌, ◌<◌, ◌≤◌, max, Bool, true, false, cond, ltb, List, [], ◌∷◌, ◌++◌, get_or, length, drop, take, append_assoc, option_map, map, filter, zero, fold, slice_range, drop_of_length-le, ⊎_elim, refl, sym, ap, ap₂, ◌∙◌, arith, Option, Some, None}
-use Rattle.std.proofs.lemmas.Bool.{eq-eqb, ne_eqb, lt-ltb, ltb-true}
+use Rattle.std.proofs.lemmas.Bool.{ne_eqb, lt-ltb, ltb-true}
 use Rattle.std.proofs.lemmas.Bool.{cases_lt}
 use Rattle.std.proofs.lemmas.List.{drop_more, map-append, get_or_past}
 use Rattle.std.proofs.lemmas.List.Sums.{position_or_len_is, fold-append}
@@ -8,7 +8,7 @@ use Rattle.std.specs.Prelude.{position, option_and_then, flat_map}
 use Rattle.std.specs.List.{position_or_len, range_with_len}
 use Rattle.rst_markup_tables.specs.Neighbours.{neighbours}
 use Rattle.rst_markup_tables.specs.declared.simple_rows.RowLines.{RowLines}
-use Rattle.rst_markup_tables.proofs.Lists.{all_from-take, all_from-more, all_from-end}
+use Rattle.rst_markup_tables.proofs.Lists.{all_from-take, all_from-more}
 use Rattle.rst_markup_tables.specs.Places.{Grid, Row, no_row, row_at}
 use Rattle.rst_markup_tables.specs.declared.places.Place.{Place}
 use Rattle.rst_markup_tables.specs.SimpleTable.{begins_row, row_lines, row_between, section, lines_of_row, longest, last_joined, joining, spread}
@@ -57,11 +57,6 @@ rows_left-take T from to rule h e =
 
 pub rows_left-more : (T : Grid) (from to rule : ℕ) → to < rule → begins_row T to ≡ false → rows_left T from to rule ≡ rows_left T from (to + 1) rule
 rows_left-more T from to rule h e = ap (λ l. map (row_between rule) (neighbours (from ∷ (l ++ rule ∷ [])))) (all_from-more (begins_row T) to rule h e)
-
-pub rows_left-end : (T : Grid) (from to rule : ℕ) → rule ≤ to → rows_left T from to rule ≡ row_lines from rule rule ∷ []
-rows_left-end T from to rule h =
-    ap (λ l. map (row_between rule) (neighbours (from ∷ (l ++ rule ∷ [])))) (all_from-end (begins_row T) to rule h)
-    ∙ ap (λ b. row_lines from rule (cond b rule 0) ∷ []) (eq-eqb rule rule refl)
 
 -- the rows of the lines from `low` on, cut at rules
 abbrev pub sections_left : Grid → ℕ → List ℕ → List RowLines

@@ -4,10 +4,10 @@ use Rattle.std.specs.Prelude.{option_and_then}
 use Rattle.std.proofs.lemmas.Bool.{cases_Bool}
 use Rattle.rst_markup_tables.specs.Places.{Grid}
 use Rattle.rst_markup_tables.specs.Drawn.{IsEven, IsTiling, Tiles}
-use Rattle.rst_markup_tables.specs.GridTable.{is_square, head_of, second_head, row_fault, with_dashes, tiled, tiled_table, malformed, IsOfRows}
+use Rattle.rst_markup_tables.specs.GridTable.{is_square, head_of, second_head, row_fault, with_dashes, tiled, tiled_table, IsOfRows}
 use Rattle.rst_markup_tables.specs.declared.drawn.Rectangle.{Rectangle}
 use Rattle.rst_markup_tables.specs.declared.results.TableDetail.{TableDetail}
-use Rattle.rst_markup_tables.specs.declared.results.TableDetail.TheVariants.{RightEdgeBroken, ParseIncomplete}
+use Rattle.rst_markup_tables.specs.declared.results.TableDetail.TheVariants.{RightEdgeBroken}
 use Rattle.rst_markup_tables.specs.declared.results.TableResult.{TableResult}
 use Rattle.rst_markup_tables.proofs.RowLemmas.{square_even, dashes_even, dashes-length}
 
@@ -24,9 +24,3 @@ with_tiling line i T G head rs table none is same t table_is =
     let whole : tiled_table head G rs (i + length T) ≡ tiled line i (head_of T) (with_dashes T (head_of T)) (Some rs) =
     ap (λ h. tiled_table h G rs (i + length T)) same ∙ ap₂ (λ (X : Grid) n. tiled_table (head_of T) X rs n) is end in
     subst (λ (f : Option TableDetail). IsOfRows line i T f table) (sym none) (Some rs, subst (λ (X : Grid). Tiles X (Some rs)) is t, table_is ∙ whole)
-
-pub without_tiling : (line i : ℕ) (T G : Grid) (table : TableResult) → row_fault T ≡ None → G ≡ with_dashes T (head_of T)
-    → Tiles G None → table ≡ malformed line i (length T) ParseIncomplete → IsOfRows line i T (row_fault T) table
-without_tiling line i T G table none is t table_is =
-    let whole : malformed line i (length T) ParseIncomplete ≡ tiled line i (head_of T) (with_dashes T (head_of T)) None = ap (λ n. malformed line i n ParseIncomplete) (sym (dashes-length T (head_of T))) in
-    subst (λ (f : Option TableDetail). IsOfRows line i T f table) (sym none) (None, subst (λ (X : Grid). Tiles X None) is t, table_is ∙ whole)

@@ -47,19 +47,6 @@ pub record Finds (B : Block) (from least i end : ℕ) (lowest : Option ℕ) : Ty
   pub in_order : end ≤ i
   pub blank : end < i → is_blank (front_text (drop end B)) ≡ true
 
-pub Finds-start : (B : Block) (from least : ℕ) → Finds B from least from from None
-Finds-start B from least = record {
-  place = start (extent least (drop from B));
-  least_is = refl;
-  looks = omega arith;
-  in_order = omega arith;
-  blank = λ h. absurd (omega arith);
-}
-  where
-    start : (n : ℕ) → reached from from n ≡ from + n
-    start zero = omega arith
-    start (suc n) = refl
-
 blank_lowest : (m : Option ℕ) (n : ℕ) (l : Line) (ls : Block) → is_blank l.text ≡ true → least_from m (take (past_blank n) (l ∷ ls)) ≡ least_from m (take n ls)
 unfolding least_from
 blank_lowest m zero l ls e = refl

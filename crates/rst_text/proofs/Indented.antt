@@ -2,18 +2,16 @@
 use Rattle.std.proofs.Common.{◌≡◌, ⊎_elim, ℕ, zero, suc, ◌+◌, ◌-◌, ◌<◌, ◌≤◌, ◌==◌, Bool, true, false, cond, ◌&&◌, ◌||◌, List, [], ◌∷◌, length, take, drop, map, refl, sym, ap, ◌∙◌, arith, leb}
 use Rattle.std.specs.Prelude.{unwrap_or}
 use Rattle.std.specs.Char.{is_whitespace}
-use Rattle.std.proofs.Common.{eqb, add-one, min, Some, None}
-use Rattle.std.proofs.Math.Dec.{eqb-suc-zero}
-use Rattle.std.proofs.lemmas.Bool.{eqb-true, le-leb, leb-true, cases_lt}
+use Rattle.std.proofs.Common.{min, Some, None}
+use Rattle.std.proofs.lemmas.Bool.{eqb-true, le-leb, leb-true}
 use Rattle.std.proofs.lemmas.List.{drop-drop}
-use Rattle.rst_text.specs.Block.{Block, is_blank, indentation, shorten, shorten_all, cut}
+use Rattle.rst_text.specs.Block.{Block, is_blank, indentation, shorten, cut}
 use Rattle.rst_text.specs.Lines.{is_line_text, are_lines, ends_white}
 use Rattle.rst_text.specs.MayCut.{is_indented}
 use Rattle.rst_text.specs.Extent.{extent, extent_of, least_indent}
 use Rattle.rst_text.proofs.Least.{least_from, least_from-all}
 use Rattle.rst_text.proofs.TextLemmas.{and_true}
-use Rattle.rst_text.proofs.LineTexts.{is_line_text-parts, are_lines-drop, are_lines-take}
-use Rattle.rst_text.proofs.CutLaws.{drop-cut, take-cut, take_of, shorten_all-same}
+use Rattle.rst_text.proofs.LineTexts.{is_line_text-parts}
 use Rattle.rst_text.proofs.PlacesLemmas.{cases_bool}
 
 indentation-space : (c : ℕ) (cs : List ℕ) → (c == 32) ≡ true → indentation (c ∷ cs) ≡ suc (indentation cs)
@@ -86,49 +84,7 @@ is_indented-take r (suc n) [] h = refl
 is_indented-take r (suc n) (l ∷ ls) h =
     let t = and_true (is_blank l.text || leb r (indentation l.text)) (is_indented r ls) h in rw (t.0, is_indented-take r n ls t.1) refl
 
--- The lines of a cut of a cut are indented for both cuts, the first one left out each time.
-pub is_indented-cut : (B : Block) (i j f r k m s : ℕ) → are_lines B ≡ true → k ≤ m → m ≤ j - i
-    → is_indented r (take (j - (i + 1)) (drop (i + 1) B)) ≡ true → is_indented s (take (m - (k + 1)) (drop (k + 1) (cut B i j f r))) ≡ true
-    → is_indented (r + s) (take ((i + m) - (i + k + 1)) (drop (i + k + 1) B)) ≡ true
-is_indented-cut B i j f r k m s lines in_order within outer inner = ⊎_elim inside empty (cases_lt k m)
-  where
-    X : Block
-    X = take (m - (k + 1)) (drop (i + k + 1) B)
-
-    same : k < m → take (m - (k + 1)) (drop (k + 1) (cut B i j f r)) ≡ map (shorten r) X
-    same less =
-        let e : i + (k + 1) ≡ i + k + 1 = omega arith in
-        let b : eqb (k + 1) 0 ≡ false = rw add-one (eqb-suc-zero k) in
-        let left : m - (k + 1) ≤ j - (i + (k + 1)) = omega arith in
-        let n : (i + (k + 1) + (m - (k + 1))) - (i + (k + 1)) ≡ m - (k + 1) = omega arith in
-        ap (λ (x : Block). take (m - (k + 1)) x) (drop-cut B i j f r (k + 1) (omega arith) ∙ ap (λ c. cut B (i + (k + 1)) j (cond c f r) r) b)
-        ∙ take-cut B (i + (k + 1)) j r r (m - (k + 1)) left
-        ∙ ap (shorten_all r r) (rw (n, e) refl) ∙ shorten_all-same r X
-
-    deep : k < m → is_indented r X ≡ true
-    deep less =
-        let e : i + 1 + k ≡ i + k + 1 = omega arith in
-        let part : take (m - (k + 1)) (drop k (take (j - (i + 1)) (drop (i + 1) B))) ≡ X =
-        take_of k (m - (k + 1)) (j - (i + 1)) (drop (i + 1) B) (omega arith) ∙ ap (λ (x : Block). take (m - (k + 1)) x) (drop-drop k (i + 1) B ∙ ap (λ n. drop n B) e) in
-        sym (ap (is_indented r) part) ∙ is_indented-take r (m - (k + 1)) (drop k (take (j - (i + 1)) (drop (i + 1) B))) (is_indented-drop r k (take (j - (i + 1)) (drop (i + 1) B)) outer)
-
-    inside : k < m → is_indented (r + s) (take ((i + m) - (i + k + 1)) (drop (i + k + 1) B)) ≡ true
-    inside less =
-        let n : (i + m) - (i + k + 1) ≡ m - (k + 1) = omega arith in
-        rw n (is_indented-both r s X (are_lines-take (m - (k + 1)) (drop (i + k + 1) B) (are_lines-drop (i + k + 1) B lines)) (deep less) (sym (ap (is_indented s) (same less)) ∙ inner))
-
-    empty : m ≤ k → is_indented (r + s) (take ((i + m) - (i + k + 1)) (drop (i + k + 1) B)) ≡ true
-    empty over = let n : (i + m) - (i + k + 1) ≡ 0 = omega arith in rw n refl
-
 -- ---- a text behind its spaces
-
--- a line that isn't blank holds more than spaces
-pub some_behind_spaces : (cs : List ℕ) → is_line_text cs ≡ true → 0 < length cs → 0 < length (drop (indentation cs) cs)
-some_behind_spaces cs text some = by (drop (indentation cs) cs) refl
-  where
-    by : (ds : List ℕ) → drop (indentation cs) cs ≡ ds → 0 < length ds
-    by [] e = absurd (let white = spaces-end_white (indentation cs) cs some (omega arith) e in let f : true ≡ false = sym white ∙ (is_line_text-parts cs text).1 in cc)
-    by (d ∷ ds) e = omega arith
 
 -- ---- the least indentation
 

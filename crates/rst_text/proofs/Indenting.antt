@@ -1,5 +1,5 @@
 -- The characters at the front of a text, counted or skipped one at a time.
-use Rattle.std.proofs.Common.{◌≡◌, ℕ, zero, suc, ◌+◌, ◌≤◌, ◌==◌, false, List, [], ◌∷◌, ◌++◌, append_assoc, length, drop, refl, sym, ap, ◌∙◌, subst, arith, length-append}
+use Rattle.std.proofs.Common.{◌≡◌, ℕ, suc, ◌+◌, ◌≤◌, ◌==◌, false, List, [], ◌∷◌, ◌++◌, append_assoc, length, drop, refl, sym, ap, ◌∙◌, subst, arith, length-append}
 use Rattle.std.specs.Str.{IsUtf8, chars}
 use Rattle.std.proofs.Math.Utf8.{encode, encodes}
 use Rattle.std.proofs.lemmas.Str.{encodes-chars, chars_past_char, length-encode, len_utf8_bounds}
@@ -49,23 +49,10 @@ pub record Skips (text rest : List ℕ) (left all : ℕ) : Type 0 where
   pub utf8 : IsUtf8 rest
   pub suffix : (front : List ℕ) × (text ≡ front ++ rest)
 
-pub Skips-start : (text rest : List ℕ) (n left : ℕ) → IsUtf8 text → rest ≡ text → left ≡ n → Skips text rest left n
-Skips-start text rest n left good e same = record { value = rw (e, same) refl; utf8 = subst IsUtf8 (sym e) good; suffix = ([], sym e) }
-
 pub Skips-step : (text rest after : List ℕ) (left next n c : ℕ) → Skips text rest left n → rest ≡ encode c ++ after → left ≡ suc next → Skips text after next n
 Skips-step text rest after left next n c s e more =
     let v : drop left (chars rest) ≡ drop next (chars after) = rw (chars_past_char rest after c s.utf8 e, more) refl in
     record { value = sym v ∙ s.value; utf8 = (past_char rest after c s.utf8 e).1; suffix = (s.suffix.0 ++ encode c, s.suffix.1 ∙ ap (λ l. s.suffix.0 ++ l) e ∙ sym (append_assoc s.suffix.0 (encode c) after)) }
-
-drop-nil : (n : ℕ) (xs : List ℕ) → xs ≡ [] → drop n xs ≡ xs
-drop-nil zero xs e = refl
-drop-nil (suc n) xs e = rw e refl
-
-pub Skips-over : (text rest : List ℕ) (left n : ℕ) → Skips text rest left n → length rest ≡ 0 → chars rest ≡ drop n (chars text)
-Skips-over text rest left n s none = sym (drop-nil left (chars rest) (no_chars rest none)) ∙ s.value
-
-pub Skips-end : (text rest : List ℕ) (left n : ℕ) → Skips text rest left n → left ≡ 0 → chars rest ≡ drop n (chars text)
-Skips-end text rest left n s none = sym (ap (λ k. drop k (chars rest)) none) ∙ s.value
 
 pub some_chars : (rest : List ℕ) → IsUtf8 rest → 1 ≤ length rest → 1 ≤ length (chars rest)
 some_chars rest good some = go (chars rest) (encodes-chars rest good)

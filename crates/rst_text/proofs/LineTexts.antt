@@ -5,7 +5,7 @@ use Rattle.std.specs.Char.{is_whitespace}
 use Rattle.std.specs.List.{list_any}
 use Rattle.std.specs.Str.{drop_trailing_whitespace}
 use Rattle.std.proofs.lemmas.List.Folds.{list_any-append}
-use Rattle.rst_text.specs.Block.{Block, front_text, is_blank, cut, shorten, shorten_all}
+use Rattle.rst_text.specs.Block.{Block, front_text, is_blank, shorten}
 use Rattle.std.specs.List.{onto_first}
 use Rattle.rst_text.proofs.Tabs.{expanded_from, expanded_from-start}
 use Rattle.rst_text.specs.Lines.{is_line_end, pieces, begins_with, shown, expanded, tidied, numbered_from, lines_of, ends_white, is_line_text, are_lines}
@@ -60,12 +60,6 @@ are_lines-shortened r (l ∷ ls) h =
     let t = and_true (is_line_text l.text) (are_lines ls) h in
     both (is_line_text (drop r l.text)) (are_lines (map (shorten r) ls)) (is_line_text-drop r l.text t.0) (are_lines-shortened r ls t.1)
 
-are_lines-shorten_all : (f r : ℕ) (B : Block) → are_lines B ≡ true → are_lines (shorten_all f r B) ≡ true
-are_lines-shorten_all f r [] h = refl
-are_lines-shorten_all f r (l ∷ ls) h =
-    let t = and_true (is_line_text l.text) (are_lines ls) h in
-    both (is_line_text (drop f l.text)) (are_lines (map (shorten r) ls)) (is_line_text-drop f l.text t.0) (are_lines-shortened r ls t.1)
-
 pub are_lines-drop : (n : ℕ) (B : Block) → are_lines B ≡ true → are_lines (drop n B) ≡ true
 are_lines-drop zero B h = h
 are_lines-drop (suc n) [] h = refl
@@ -76,10 +70,6 @@ are_lines-take zero B h = refl
 are_lines-take (suc n) [] h = refl
 are_lines-take (suc n) (l ∷ ls) h =
     let t = and_true (is_line_text l.text) (are_lines ls) h in both (is_line_text l.text) (are_lines (take n ls)) t.0 (are_lines-take n ls t.1)
-
--- a cut of lines is lines
-pub are_lines-cut : (B : Block) (i j f r : ℕ) → are_lines B ≡ true → are_lines (cut B i j f r) ≡ true
-are_lines-cut B i j f r h = are_lines-shorten_all f r (take (j - i) (drop i B)) (are_lines-take (j - i) (drop i B) (are_lines-drop i B h))
 
 -- ---- a part of a text without line ends
 

@@ -1,5 +1,5 @@
 -- Lemmas on lines.
-use Rattle.std.proofs.Common.{◌≡◌, ℕ, zero, suc, ◌+◌, ◌-◌, ◌%◌, ◌<◌, ◌≤◌, ◌==◌, nat_eq, Bool, true, false, cond, ◌&&◌, ◌||◌, List, [], ◌∷◌, ◌++◌, length, take, map, replicate, refl, sym, ap, ◌∙◌, subst, arith, append_assoc, append-nil, mod-lt, Option, None, Some, MatchOption, Bor, unwrap_or, Result, Ok, Err, IfOk, String}
+use Rattle.std.proofs.Common.{◌≡◌, ℕ, zero, suc, ◌+◌, ◌-◌, ◌%◌, ◌<◌, ◌≤◌, ◌==◌, nat_eq, Bool, true, false, cond, ◌&&◌, ◌||◌, List, [], ◌∷◌, ◌++◌, length, take, map, replicate, refl, sym, ap, ◌∙◌, subst, arith, append-nil, mod-lt, Option, None, Some, MatchOption, Bor, unwrap_or, Result, Ok, Err, IfOk, String}
 use Rattle.std.specs.Char.{is_whitespace}
 use Rattle.std.specs.Str.{IsUtf8, chars, NonePass, trim_end, drop_trailing_whitespace}
 use Rattle.std.specs.Str.Pattern.{FindsCharPrefix, StripsPrefix}
@@ -8,7 +8,6 @@ use Rattle.std.proofs.lemmas.Bool.{eqb-true}
 use Rattle.std.proofs.lemmas.Str.{chars_past_char, encodes-chars, chars-encodes, scalars-chars, length-le-encodes}
 use Rattle.rst_text.specs.Block.{Block}
 use Rattle.rst_text.specs.Text.{chars_of}
-use Rattle.rst_text.specs.Kept.{line_of}
 use Rattle.rst_text.specs.Lines.{is_line_end, begins_with, pieces, shown, expanded, tidied, numbered_from}
 use Rattle.std.specs.List.{onto_first}
 use Rattle.rst_text.proofs.Tabs.{expanded_from, expanded_from-start}
@@ -213,12 +212,6 @@ tidies tab piece trimmed (Ok line) good e wide h = h ∙ tidied-trim_end tab pie
 tidies tab piece trimmed (Err x) good e wide h = tt
 
 -- ---- the lines so far, and those to come
-
-pub numbered-push : (tab n : ℕ) (so_far made : Block) (text p : List ℕ) (ps : List (List ℕ)) (all : Block) → text ≡ tidied tab p → made ≡ so_far ++ line_of n text ∷ []
-    → so_far ++ numbered_from n (map (tidied tab) (p ∷ ps)) ≡ all → made ++ numbered_from (n + 1) (map (tidied tab) ps) ≡ all
-numbered-push tab n so_far made text p ps all same is before =
-    let next : Block = numbered_from (n + 1) (map (tidied tab) ps) in
-    ap (λ l. l ++ next) is ∙ append_assoc so_far (line_of n text ∷ []) next ∙ ap (λ t. so_far ++ line_of n t ∷ next) same ∙ before
 
 -- no text is left
 pub all_read : (tab n : ℕ) (so_far all : Block) (rest : List ℕ) → so_far ++ numbered_from n (map (tidied tab) (pieces (chars rest))) ≡ all → length rest ≡ 0 → so_far ≡ all

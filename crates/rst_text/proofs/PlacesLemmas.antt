@@ -1,5 +1,5 @@
 -- Laws on the least and the greatest place that passes a test.
-use Rattle.std.proofs.Common.{◌≡◌, ◌⊎◌, inl, inr, ⊎_elim, ℕ, zero, suc, ◌+◌, ◌-◌, ◌<◌, ◌≤◌, Bool, true, false, cond, Option, Some, None, IfSome, refl, sym, ap, ◌∙◌, subst, arith}
+use Rattle.std.proofs.Common.{◌≡◌, ◌⊎◌, inl, inr, ⊎_elim, ℕ, zero, suc, ◌+◌, ◌-◌, ◌<◌, ◌≤◌, Bool, true, false, cond, Option, Some, None, refl, sym, ap, ◌∙◌, subst, arith}
 use Rattle.std.proofs.Math.Nat.{eq-or-lt_of_le}
 use Rattle.std.proofs.lemmas.Bool.{and_parts, cases_lt}
 use Rattle.rst_text.specs.Places.{first_from, last_from, all_from, NoneFrom, IsFirst, IsLast}
@@ -77,29 +77,12 @@ first_from-is p low high r a = ⊎_elim
     (λ empty. let e : high - low ≡ 0 = omega arith in IsFirst-nothing p low high r empty a ∙ ap (first_from p low) (sym e))
     (cases_lt low high)
 
--- a later start, where none passes before it
-pub first_from-later : (p : ℕ → Bool) (low mid high : ℕ) → low ≤ mid → mid ≤ high → NoneFrom p low mid → first_from p low (high - low) ≡ first_from p mid (high - mid)
-first_from-later p low mid high above below none =
-    let go : (r : Option ℕ) → IsFirst p mid high r → IsFirst p low high r = after in
-    sym (first_from-is p low high (first_from p mid (high - mid)) (go (first_from p mid (high - mid)) (first_from-first p mid high below)))
-  where
-    after : (r : Option ℕ) → IsFirst p mid high r → IsFirst p low high r
-    after (Some i) h = (omega (arith, h.0), h.1, h.2, NoneFrom-join p low mid i none h.3)
-    after None h = NoneFrom-join p low mid high none h
-
 -- tests that agree there have the same least place
 pub first_from-same : (p q : ℕ → Bool) (low n : ℕ) → ((k : ℕ) → low ≤ k → k < low + n → p k ≡ q k) → first_from p low n ≡ first_from q low n
 first_from-same p q low zero h = refl
 first_from-same p q low (suc n) h =
     ap (λ b. cond b (Some low) (first_from p (low + 1) n)) (h low (omega arith) (omega arith))
     ∙ ap (λ r. cond (q low) (Some low) r) (first_from-same p q (low + 1) n (λ k above below. h k (omega arith) (omega arith)))
-
-pub first_from-within : (p : ℕ → Bool) (low high : ℕ) → low ≤ high → IfSome (first_from p low (high - low)) (λ i. (low ≤ i) × (i < high) × (p i ≡ true))
-first_from-within p low high h = found (first_from p low (high - low)) (first_from-first p low high h)
-  where
-    found : (r : Option ℕ) → IsFirst p low high r → IfSome r (λ i. (low ≤ i) × (i < high) × (p i ≡ true))
-    found (Some i) a = (a.0, a.1, a.2)
-    found None a = tt
 
 -- ---- the greatest place
 

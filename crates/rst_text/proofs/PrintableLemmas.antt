@@ -4,7 +4,7 @@ use Rattle.std.specs.Str.{IsUtf8, IsAscii, chars, NonePass, IsCharBoundary, trim
 use Rattle.std.proofs.Math.Utf8.{encode, encodes}
 use Rattle.std.proofs.lemmas.Bool.{cases_lt}
 use Rattle.std.proofs.lemmas.Bool.Decides.{nat_tests}
-use Rattle.std.proofs.lemmas.List.{take_more, drop_more, length-drop, length-take-le, get_or-take, get_or_past}
+use Rattle.std.proofs.lemmas.List.{take_more, drop_more, length-drop, get_or_past}
 use Rattle.std.proofs.lemmas.Str.{encode_ascii, chars-IsAscii}
 use Rattle.rst_text.specs.Lines.{is_line_end, is_tab, pieces, shown, with_tabs, expanded, tidied}
 use Rattle.std.specs.List.{onto_first, slice_split}
@@ -100,12 +100,6 @@ ascii-of text plain i = ⊎_elim
 
 all-printable : (text : List ℕ) → ArePrintable text → IsPrintableTo text (length text)
 all-printable text plain = record { above = omega arith; within = omega arith; pass = λ i low less. plain i less; stops = λ inside. absurd (omega arith) }
-
--- the front of a text is printable itself
-pub front-printable : (text : List ℕ) (n : ℕ) → IsPrintableTo text n → ArePrintable (take n text)
-front-printable text n p i inside =
-    let less : i < n = omega (arith, length-take-le n text p.within) in
-    ap is_printable (get_or-take n text i 0 less) ∙ front-of text n p i less
 
 -- a text of printable ASCII stays as it is
 expanded-line : (tab : ℕ) (text : List ℕ) (n : ℕ) → IsPrintableTo text n → n ≡ length text → expanded tab (chars text) ≡ chars text

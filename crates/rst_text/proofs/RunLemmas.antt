@@ -1,5 +1,5 @@
 -- Sixteen bytes that pass a test at once.
-use Rattle.std.proofs.Common.{◌≡◌, ⊎_elim, ℕ, ◌+◌, ◌<◌, ◌≤◌, Bool, true, false, not, List, length, get_or, true≢false, refl, sym, ◌∙◌, subst, arith, map}
+use Rattle.std.proofs.Common.{◌≡◌, ⊎_elim, ℕ, ◌+◌, ◌<◌, ◌≤◌, Bool, true, false, not, List, length, get_or, true≢false, refl, sym, ◌∙◌, arith, map}
 use Rattle.std.proofs.lemmas.Bool.{cases_lt}
 use Rattle.std.proofs.lemmas.Simd.{none_from_empty_mask}
 use lib.Count.{count_trailing_zeros}
@@ -34,6 +34,3 @@ first-failing p t place at n mask room short order before is some =
       pass = pass-more p t place at (at + count_trailing_zeros 64 mask) before first.before;
       stops = λ less. false_of (p (get_or t (at + count_trailing_zeros 64 mask) 0)) first.passes;
     }
-
-pub pass-next : (p : ℕ → Bool) (t : List ℕ) (place at : ℕ) → PassBetween p t place at → p (get_or t at 0) ≡ true → PassBetween p t place (at + 1)
-pass-next p t place at before here k low less = ⊎_elim (before k low) (λ past. let same : k ≡ at = omega arith in subst (λ n. p (get_or t n 0) ≡ true) (sym same) here) (cases_lt k at)

@@ -1,14 +1,13 @@
 -- The fields of a bibliography, taken in one after another.
-use Rattle.std.proofs.Common.{◌≡◌, ◌∙◌, ℕ, suc, ◌<◌, ◌≤◌, List, [], ◌∷◌, ◌++◌, length, get_or, take, drop, Option, Some, None, Bor, refl, ap, sym, drop-cons, arith}
-use Rattle.std.specs.Prelude.{slice_index_or, is_some, nat_eq, slice_get, unwrap_or, Bool, true, false, if◌then◌else◌, map, option_map}
-use Rattle.std.specs.List.{flat_map, prefix_len, remove}
-use Rattle.std.specs.Str.{trim}
-use Rattle.std.proofs.lemmas.Grind.{common_steps, flat_map-append}
-use Rattle.std.proofs.lemmas.List.{append-nil, map-append}
+use Rattle.std.proofs.Common.{◌≡◌, ◌∙◌, ℕ, suc, ◌<◌, ◌≤◌, List, [], ◌∷◌, ◌++◌, length, get_or, take, drop, Option, Some, None, refl, ap, sym, drop-cons, arith}
+use Rattle.std.specs.Prelude.{slice_index_or, is_some, nat_eq, slice_get, unwrap_or, Bool, true, false, if◌then◌else◌, option_map}
+use Rattle.std.specs.List.{prefix_len, remove}
+use Rattle.std.proofs.lemmas.Grind.{common_steps}
+use Rattle.std.proofs.lemmas.List.{append-nil}
 use Rattle.rst_tree.proofs.Changes.{nodes_of-forest_of}
 use Rattle.rst_transform_docinfo.specs.declared.bibliography.Row.{Row}
 use Rattle.rst_transform_docinfo.specs.declared.field.Field.{Field}
-use Rattle.rst_transform_docinfo.specs.Authors.{all_paragraphs, and_author, author_named}
+use Rattle.rst_transform_docinfo.specs.Authors.{all_paragraphs, and_author}
 use Rattle.rst_transform_docinfo.specs.Bibliography.{made, row_of}
 use Rattle.rst_transform_docinfo.specs.Docinfo.{behind_titles, is_field_list, leading_list, list_in, list_place, nodes_with, replaced}
 use Rattle.rst_transform_docinfo.specs.Gathered.{Gathered, by_form, gathered, is_further, with_seen, with_fault, with_field, with_node, with_row}
@@ -89,15 +88,6 @@ in_paragraph (element t a c l (words u r)) = λ e. grind (arith, e)
 in_paragraph (element t a c l (element u b d m r)) = λ e. grind (arith, e)
 
 -- ---- the authors that a field names
-
--- one more text between semicolons or commas
-pub named_more : (line : ℕ) (xs : List (Bor (List ℕ))) (x : Bor (List ℕ)) (nodes new : List Node) (name : List ℕ) → nodes ≡ flat_map (λ piece. author_named line (trim piece)) (map (λ (y : Bor (List ℕ)). y.now) xs) → name ≡ trim x.now
-    → new ≡ nodes ++ author_named line name → new ≡ flat_map (λ piece. author_named line (trim piece)) (map (λ (y : Bor (List ℕ)). y.now) (xs ++ x ∷ []))
-named_more line xs x nodes new name so_far is more =
-    more ∙ ap (λ z. z ++ author_named line name) so_far ∙ ap (λ z. flat_map (λ piece. author_named line (trim piece)) (map (λ (y : Bor (List ℕ)). y.now) xs) ++ author_named line z) is
-    ∙ ap (λ z. flat_map (λ piece. author_named line (trim piece)) (map (λ (y : Bor (List ℕ)). y.now) xs) ++ z) (sym (append-nil (author_named line (trim x.now))))
-    ∙ sym (flat_map-append (λ piece. author_named line (trim piece)) (map (λ (y : Bor (List ℕ)). y.now) xs) (x.now ∷ []))
-    ∙ ap (flat_map (λ piece. author_named line (trim piece))) (sym (map-append (λ (y : Bor (List ℕ)). y.now) xs (x ∷ [])))
 
 -- each item of a list has been seen
 pub items_seen : (line : ℕ) (f : Forest) (xs nodes : List Node) (i : ℕ) → f ≡ forest_of xs → length xs ≤ i → option_map (λ more. nodes ++ more) (all_paragraphs line (drop i xs)) ≡ all_paragraphs line xs

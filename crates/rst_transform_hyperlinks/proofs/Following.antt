@@ -185,19 +185,6 @@ pub record Following (steps : List (Option Step)) (start : ℕ) (answers : List 
   pub onward : (a : Answer) → IsEnd steps place a → Each (λ p. IsEnd steps p a) chain
   pub begun : (is_some (at_place answers start) ≡ true) ⊎ (place ≡ start)
 
--- nothing is in the chain at first
-pub Following-init : (steps : List (Option Step)) (start : ℕ) (answers : List (Option Answer)) → KnownBelow steps start answers → Following steps start answers [] start
-Following-init steps start answers k = record {
-  all = k.all;
-  right = λ p a h. inr (k.right p a h);
-  only = k.only;
-  last = k.last;
-  below = k.below;
-  goes = tt;
-  onward = λ a h. tt;
-  begun = inr refl;
-}
-
 -- the place is set as circular, and the chain goes on to the next
 pub Following-more : (steps : List (Option Step)) (start : ℕ) (answers : List (Option Answer)) (chain : List ℕ) (place next : ℕ) → Following steps start answers chain place → next_on steps answers place ≡ Some next
     → Following steps start (slice_set answers place (Some Circular)) (chain ++ place ∷ []) next

@@ -1,8 +1,8 @@
 -- The list of messages, one message after another.
-use Rattle.std.proofs.Common.{◌≡◌, ℕ, ◌+◌, ◌<◌, ◌≤◌, List, [], ◌∷◌, ◌++◌, length, get_or, take, Bool, true, false, append_assoc, arith, refl, ap, sym, ◌∙◌}
+use Rattle.std.proofs.Common.{◌≡◌, ℕ, ◌+◌, ◌<◌, List, [], ◌∷◌, ◌++◌, length, get_or, take, Bool, true, false, append_assoc, arith, refl, ap, sym, ◌∙◌}
 use Rattle.std.specs.Prelude.{◌&&◌, ◌||◌, if◌then◌else◌, slice_get, Option, Some, Result}
 use Rattle.std.specs.List.{list_any}
-use Rattle.std.proofs.lemmas.List.{append-nil, map-append, take_all, take_more}
+use Rattle.std.proofs.lemmas.List.{append-nil, map-append, take_more}
 use Rattle.std.proofs.lemmas.List.Folds.{list_any-append}
 use Rattle.rst_settings.specs.declared.Threshold.{Threshold}
 use Rattle.rst_settings.specs.Threshold.{is_reached}
@@ -139,9 +139,6 @@ pub past_element : (ns : List Node) (i : ℕ) (n : Node) (t : Tag) (a : List Att
     → AddsUpTo ns i old now → Adds (messages_among c) now new → AddsUpTo ns (i + 1) old new
 past_element ns i n t a c l old now new within at is its before inside =
     up_to_more ns i n old now new within at before (rw (is, ← its, append-nil (messages_among c)) inside)
-
-pub up_to_end : (ns : List Node) (i : ℕ) (old now : Messages) → length ns ≤ i → AddsUpTo ns i old now → Adds (messages_among (forest_of ns)) old now
-up_to_end ns i old now past before = rw (take_all i ns past) at before
 
 -- a text alone in an element is what is said there
 pub lone_text : (c : Forest) (t : List ℕ) → length (nodes_of c) ≡ 1 → slice_get (nodes_of c) 0 ≡ Some (Text t) → t ≡ text_all c

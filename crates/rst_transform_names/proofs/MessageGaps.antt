@@ -32,9 +32,6 @@ gives_more P Q (Err NoMemory) more h = tt
 pub pairs-append : (xs ys : List PlacedMessage) → pairs (xs ++ ys) ≡ pairs xs ++ pairs ys
 pairs-append xs ys = map-append (λ (one : PlacedMessage). (one.place, one.message)) xs ys
 
-pub of_texts-append : (xs ys : List TextMessages) → of_texts (xs ++ ys) ≡ of_texts xs ++ of_texts ys
-of_texts-append xs ys = map-append (λ (one : TextMessages). (one.own, one.messages.items)) xs ys
-
 -- one more message in the list, at the same place as those that follow
 pub put_more : (all : Placed) (place : ℕ) (done next : List PlacedMessage) (rest left : List Node) (one : PlacedMessage) → pairs done ++ all_at place rest ≡ all → rest ≡ one.message ∷ left → one.place ≡ place → next ≡ done ++ one ∷ []
     → pairs next ++ all_at place left ≡ all
@@ -145,17 +142,3 @@ are_woven count placed ns all made is gap counted = rw (is, gap, counted) (gaps-
 pub woven-none : (k : ℕ) (ns : List Node) → woven k [] ns ≡ ns
 woven-none k [] = refl
 woven-none k (n ∷ ns) = ap (λ all. n ∷ all) (woven-none (k + 1) ns)
-
--- a gap and a node put after others
-pub gap_node : {Z : Type 0} (all done between next : List Node) (rest left : List (Vec Node Z)) (gap : Vec Node Z) (nodes more : List Node) (n : Node)
-    → done ++ with_gaps (gap_nodes rest) nodes ≡ all → rest ≡ gap ∷ left → nodes ≡ n ∷ more → between ≡ done ++ gap.items → next ≡ between ++ n ∷ []
-    → next ++ with_gaps (gap_nodes left) more ≡ all
-gap_node all done between next rest left gap nodes more n before items is_node put push =
-    next_made done next (gap.items ++ n ∷ []) (with_gaps (gap_nodes left) more) all (push ∙ ap (λ b. b ++ n ∷ []) put ∙ append_assoc done gap.items (n ∷ []))
-    (ap (λ t. done ++ t) (append_assoc gap.items (n ∷ []) (with_gaps (gap_nodes left) more)) ∙ rw (items, is_node) at before)
-
-pub gap_alone : {Z : Type 0} (all done next : List Node) (rest left : List (Vec Node Z)) (gap : Vec Node Z) (nodes more : List Node)
-    → done ++ with_gaps (gap_nodes rest) nodes ≡ all → rest ≡ gap ∷ left → nodes ≡ [] → more ≡ [] → next ≡ done ++ gap.items
-    → next ++ with_gaps (gap_nodes left) more ≡ all
-gap_alone all done next rest left gap nodes more before items none still put =
-    next_made done next gap.items (with_gaps (gap_nodes left) more) all put (rw still (rw (items, none) at before))

@@ -1,5 +1,5 @@
 -- Where the same ids are taken there is one next id, and the same are taken then; likewise of names.
-use Rattle.std.proofs.Common.{◌≡◌, ◌∙◌, ℕ, ◌<◌, Bool, true, false, if◌then◌else◌, List, [], ◌∷◌, Option, bytes_eq, refl, sym, ap, arith, true≢false}
+use Rattle.std.proofs.Common.{◌≡◌, ◌∙◌, ℕ, ◌<◌, Bool, true, false, if◌then◌else◌, List, [], ◌∷◌, Option, bytes_eq, sym, ap, arith, true≢false}
 use Rattle.rst_tree.specs.TagNames.{hyphenated, tag_name}
 use Rattle.rst_tree.specs.declared.tag.Tag.{Tag}
 use Rattle.rst_transform_names.specs.declared.ids.Ids.{Ids}
@@ -11,9 +11,6 @@ use Rattle.rst_transform_names.specs.Names.{held_by, Knows, KnowsTheSame}
 -- both sides of an equation become what two other equations say
 pub both : {A : Type 0} {x y z w : A} → x ≡ y → z ≡ x → w ≡ y → z ≡ w
 both e f g = f ∙ e ∙ sym g
-
-pub same_none : (i : Ids) → TakesNone i i
-same_none i id = refl
 
 -- no number that is free is below the least
 not_below : (t u : List ℕ → Bool) (base : List ℕ) (n m : ℕ) → ((id : List ℕ) → u id ≡ t id) → IsLeastFree t base n → IsLeastFree u base m

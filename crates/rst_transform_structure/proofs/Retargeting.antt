@@ -1,6 +1,6 @@
 -- Internal targets that hand on their ids and names, one element after another.
-use Rattle.std.proofs.Common.{◌≡◌, ◌∙◌, ℕ, suc, ◌<◌, List, [], ◌∷◌, ◌++◌, length, get_or, Bool, true, false, Option, Some, None, refl, ap, sym, subst, append_assoc, drop-cons, arith}
-use Rattle.std.specs.Prelude.{◌&&◌, ◌||◌, if◌then◌else◌, drop, map, reverse}
+use Rattle.std.proofs.Common.{◌≡◌, ◌∙◌, ℕ, List, [], ◌∷◌, ◌++◌, Bool, true, false, Option, Some, None, refl, ap, sym, subst, append_assoc, arith}
+use Rattle.std.specs.Prelude.{◌&&◌, ◌||◌, if◌then◌else◌, map, reverse}
 use Rattle.std.specs.List.{list_any}
 use Rattle.std.specs.Str.{bytes_eq}
 use Rattle.std.proofs.lemmas.Bool.Decides.{nat_tests}
@@ -203,14 +203,6 @@ Passes-more xs got y w a b c h is by k name =
 -- texts put behind others that stand the last first
 pub reversed_behind : (xs ys : List (List ℕ)) → reverse (xs ++ reverse ys) ≡ ys ++ reverse xs
 reversed_behind xs ys = reverse-append xs (reverse ys) ∙ ap (λ zs. zs ++ reverse xs) (reverse-reverse ys)
-
--- one more of them
-pub reverse_more : (xs ys zs : List (List ℕ)) (i j : ℕ) (y : List ℕ) → i ≡ suc j → j < length ys → y ≡ get_or ys j y → xs ≡ zs ++ reverse (drop i ys) → xs ++ y ∷ [] ≡ zs ++ reverse (drop j ys)
-reverse_more xs ys zs i j y one fits at h =
-    let k : xs ≡ zs ++ reverse (drop (suc j) ys) = subst (λ n. xs ≡ zs ++ reverse (drop n ys)) one h in
-    let d : drop j ys ≡ y ∷ drop (suc j) ys = drop-cons ys j y fits ∙ ap (λ m. m ∷ drop (suc j) ys) (sym at) in
-    ap (λ us. us ++ y ∷ []) k ∙ append_assoc zs (reverse (drop (suc j) ys)) (y ∷ [])
-    ∙ ap (λ us. zs ++ us) (sym (ap reverse d ∙ reverse-append (y ∷ []) (drop (suc j) ys)))
 
 -- the names that a target lists are those that it lists once its ids are taken
 differ : (k : Key) → is_same k Ids ≡ true → is_same k OfNames ≡ false

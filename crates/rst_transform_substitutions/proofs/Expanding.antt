@@ -5,7 +5,7 @@ use Rattle.std.specs.List.{list_any}
 use Rattle.std.proofs.lemmas.List.{append-nil}
 use Rattle.rst_tree.specs.declared.attrs.Attr.{Attr}
 use Rattle.rst_tree.specs.declared.node.Node.{Node}
-use Rattle.rst_tree.specs.declared.node.Node.TheVariants.{Element, Text}
+use Rattle.rst_tree.specs.declared.node.Node.TheVariants.{Element}
 use Rattle.rst_tree.specs.declared.tag.Tag.{Tag}
 use Rattle.rst_tree.specs.Forest.{Forest}
 use Rattle.rst_tree.specs.Nodes.{forest_of}
@@ -74,11 +74,6 @@ given-entered found path name left one is among within =
 abbrev pub Continues : (List ℕ → Option (ℕ × Forest)) → (List ℕ → Option ℕ) → Option ℕ → Forest → Context → Context → List Node → List Node → Type 0
 Continues found place within all first now done rest =
     (after : Context) (more : List Node) → ExpandsIn found place within (forest_of rest) now after more → ExpandsIn found place within all first after (done ++ more)
-
-pub more_text : (found : List ℕ → Option (ℕ × Forest)) (place : List ℕ → Option ℕ) (within : Option ℕ) (all : Forest) (first now : Context) (done next items left : List Node) (x : List ℕ)
-    → Continues found place within all first now done items → items ≡ Text x ∷ left → next ≡ done ++ Text x ∷ [] → Continues found place within all first now next left
-more_text found place within all first now done next items left x before is push = λ after more rest.
-    rw (push, append_assoc done (Text x ∷ []) more) (before after (Text x ∷ more) (rw is (more, rest, refl)))
 
 pub more_reference : (found : List ℕ → Option (ℕ × Forest)) (place : List ℕ → Option ℕ) (within : Option ℕ) (all : Forest) (first now between : Context) (done next here items left : List Node) (t : Tag) (a : List Attr) (c : Forest) (l : ℕ)
     → Continues found place within all first now done items → items ≡ Element t a c l ∷ left → is_reference t ≡ true → GivesWay a l (nodes_for found within (name_said a)) now between here → next ≡ done ++ here

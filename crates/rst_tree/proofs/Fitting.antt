@@ -3,7 +3,7 @@ use Rattle.std.proofs.Common.{◌≡◌, ℕ, ◌+◌, ◌-◌, ◌≤◌, ◌<�
 use Rattle.std.proofs.Common.{drop, get_or, add-one, take}
 use Rattle.std.specs.List.{flat_map}
 use Rattle.std.proofs.lemmas.List.{take_all}
-use Rattle.std.specs.Prelude.{◌&&◌, Option, Some, None, option_and_then, slice_get}
+use Rattle.std.specs.Prelude.{◌&&◌, Option, None, option_and_then, slice_get}
 use Rattle.rst_tree.specs.declared.attrs.Attr.{Attr}
 use Rattle.rst_tree.specs.declared.tag.Tag.{Tag}
 use Rattle.std.proofs.Math.Seq.{drop-cons}
@@ -16,7 +16,7 @@ use Rattle.rst_tree.specs.declared.key.Key.{Key}
 use Rattle.rst_tree.proofs.Attributes.{in_order-with_attr}
 use Rattle.rst_tree.proofs.Changes.{forest_of-nodes_of, nodes_of-forest_of, slice_get-some, slice_get-none}
 use Rattle.rst_tree.specs.Paths.{node_at, map_at, changed_at, with_child, with_value}
-use Rattle.rst_tree.specs.Tree.{is_sound, is_sound_node, in_order, is_tree, fits, is_element, most_levels, text_all, text_in, text_at, option_or_nothing}
+use Rattle.rst_tree.specs.Tree.{is_sound, is_sound_node, in_order, is_tree, fits, is_element, most_levels, text_all, text_in}
 
 pub both : (a b : Bool) → (a && b) ≡ true → (a ≡ true) × (b ≡ true)
 both true b h = (refl, h)
@@ -160,6 +160,3 @@ text-nodes (Text t ∷ ns) = ap (λ z. t ++ z) (text-nodes ns)
 pub text_whole : (node : Node) (t : Tag) (a : List Attr) (c : Forest) (l : ℕ) (ns : List Node) (i : ℕ) (old now : List ℕ) → node ≡ Element t a c l → c ≡ forest_of ns → length ns ≤ i
     → now ≡ old ++ flat_map text_in (take i ns) → now ≡ old ++ text_in node
 text_whole node t a c l ns i old now is nodes all h = h ∙ (rw (is, nodes, take_all i ns all) (ap (λ z. old ++ z) (sym (text-nodes ns))))
-
-pub text_found : (at : List ℕ) (root node : Node) (now : List ℕ) → node_at at root ≡ Some node → now ≡ text_in node → now ≡ text_at at root
-text_found at root node now h k = k ∙ ap option_or_nothing (sym h)

@@ -88,15 +88,6 @@ Owes-step contents whole x rest a d b e c f p q = record {
 pub Owes-all : {N : ℕ} {W : Type 0} (contents : W → Option (List ℕ)) (whole : List ℕ) (a : Counted W) (d : Page N) → Owes contents whole whole a d a d
 Owes-all contents whole a d = record { came = []; parts = refl; sends = Gets-none _ _ d }
 
--- where nothing is owed the whole came
-pub Owes-none : {N : ℕ} {W : Type 0} (contents : W → Option (List ℕ)) (whole : List ℕ) (a : Counted W) (d : Page N) (b : Counted W) (e : Page N)
-    → Owes contents whole [] a d b e → Sends contents whole a d b e
-Owes-none contents whole a d b e p = subst (λ t. Sends contents t a d b e) (sym (append-nil p.came) ∙ p.parts) p.sends
-
-pub Sends-append : {N : ℕ} {W : Type 0} (contents : W → Option (List ℕ)) (x y : List ℕ) (a : Counted W) (d : Page N) (b : Counted W) (e : Page N) (c : Counted W) (f : Page N)
-    → Sends contents x a d b e → Sends contents y b e c f → Sends contents (x ++ y) a d c f
-Sends-append contents x y a d b e c f p q = Gets-append x y _ _ _ _ _ _ _ _ _ p q
-
 -- two texts that are sent one after the other
 infixl 20 ◌▸◌
 pub ◌▸◌ : {N : ℕ} {x y : List ℕ} {h : Option (List ℕ)} {f : Bool} {d : Page N} {h' : Option (List ℕ)} {f' : Bool} {d' : Page N} {h'' : Option (List ℕ)} {f'' : Bool} {d'' : Page N}
