@@ -1,5 +1,5 @@
 -- Lemmas on the document of some bytes.
-use Rattle.std.proofs.Common.{◌≡◌, ℕ, suc, ◌*◌, ◌^◌, ◌<◌, ◌≤◌, ◌==◌, Bool, true, false, cond, List, [], ◌∷◌, length, None, Some, refl, sym, ap, ◌∙◌, subst, arith}
+use Rattle.std.proofs.Common.{◌≡◌, ℕ, suc, ◌≤◌, ◌==◌, Bool, true, false, cond, List, [], ◌∷◌, length, None, Some, refl, sym, ap, ◌∙◌, subst, arith}
 use Rattle.std.specs.Prelude.{Option, Result, Ok, Err}
 use Rattle.std.specs.Str.{is_utf8, chars}
 use Rattle.std.proofs.lemmas.Str.{IsUtf8-from_is_utf8}
@@ -12,13 +12,11 @@ use Rattle.rst_text.proofs.LinesLemmas.{length-chars}
 use Rattle.rst_tree.specs.declared.node.Node.{Node}
 use Rattle.rst_tree.specs.declared.tag.Tag.{Tag}
 use Rattle.rst_block.specs.Documents.{document}
-use Rattle.rst_block_state.specs.Ledger.{total_at}
 use Rattle.rst_block_state.specs.Nodes.{document_items}
 use Rattle.rst_block_state.specs.Numbered.{just, then_read}
 use Rattle.rst_block_sections.specs.Sections.{document_of, Item}
 use Rattle.rst_transform_work.specs.States.{node_tag, IsDocument}
 use Rattle.rst2pseudoxml_run.specs.Reading.{read_by, read_of, IsReadOf}
-use Rattle.rst_block.proofs.TextRoom.{few_looks}
 
 -- characters are no more without a mark
 unmarked_short : (cs : List ℕ) → length (without_mark cs) ≤ length cs
@@ -38,10 +36,6 @@ text_short bytes text is = by (is_utf8 bytes) refl is
         let same : without_mark (chars bytes) ≡ text = cc in
         omega (arith, ap length same, unmarked_short (chars bytes), length-chars bytes (IsUtf8-from_is_utf8 bytes good))
     by false good e = absurd cc
-
--- the looks at the text of an input can be counted
-pub input_few : (settings : Settings) (bytes text : List ℕ) → length bytes ≤ 16777216 → text_of bytes ≡ Some text → 128 * total_at 0 (lines_of settings.tab text) < 2 ^ 119
-input_few settings bytes text small is = few_looks settings text (omega (arith, small, text_short bytes text is))
 
 -- what is read of a text without a line that is too long is the document of its lines, or the line at which blocks are nested too deeply
 pub read_short : (settings : Settings) (bytes text : List ℕ) (lines : Block) (read : Result (Node × ℕ) ℕ) → text_of bytes ≡ Some text → lines ≡ lines_of settings.tab text

@@ -15,7 +15,7 @@ use Rattle.rst_markup_tables.specs.Cells.{cell_block, cell_line, characters, cut
 use Rattle.rst_markup_tables.specs.Counts.{below}
 use Rattle.rst_markup_tables.specs.GridTable.{cell_of, dash, dashed, grid_fault, head_of, is_column, is_head_rule, is_part, is_row, row_cells, tiled, with_dashes}
 use Rattle.rst_markup_tables.specs.Places.{is_double, no_row, places_of, row_at, row_of, rows_of, Grid, Row}
-use Rattle.rst_markup_tables.specs.Room.{cell_blocks}
+use Rattle.rst_markup_tables.specs.Results.{cell_blocks}
 use Rattle.rst_markup_tables.specs.SimpleTable.{entry, lines_of_row, right_of, row_entries, row_spans, simple_by, simple_fault, simple_rows, simple_table, span_of}
 use Rattle.rst_markup_tables.specs.Tiling.{grid_by, grid_table, tiling_of}
 use Rattle.rst_markup_tables.specs.declared.results.Cell.{Cell}

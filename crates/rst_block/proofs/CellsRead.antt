@@ -96,7 +96,7 @@ text_inside depth B n low high =
     ∙ text_as d (deepest - d) B n (omega (arith, high)) refl
 
 entry_reads : (depth : ℕ) (cell : Cell) (B : Block) (level : OpenBlock) (node : Node) (n m : ℕ) → 1 ≤ depth → depth ≤ 251 → B ≡ cell.lines
-    → just (done_of level) m ≡ text_items depth B n → node ≡ filled (entry_node cell.morerows cell.morecols 0) level.nodes.items
+    → just (done_of level) m ≡ text_items depth B n → node ≡ filled (entry_node cell.morerows cell.morecols 0) level.nodes
     → entry_of (within_at (depth - 1)) cell n ≡ Ok (node, m)
 entry_reads depth cell B level node n m low high b h e =
     let F : List Node → Node = λ ns. filled (entry_node cell.morerows cell.morecols 0) ns in
@@ -160,7 +160,7 @@ table_keeps old B depth found cols head end rows n NoMemory f g t d k = tt
 -- an entry more
 pub entry_next : (depth : ℕ) (cell : Cell) (B : Block) (left rest : List Cell) (level : OpenBlock) (made new : List Node) (node : Node) (n m : ℕ) (all : Result (List Node × ℕ) ℕ)
     → 1 ≤ depth → depth ≤ 251 → left ≡ cell ∷ rest → B ≡ cell.lines → just (done_of level) m ≡ text_items depth B n
-    → node ≡ filled (entry_node cell.morerows cell.morecols 0) level.nodes.items → new ≡ made ++ node ∷ []
+    → node ≡ filled (entry_node cell.morerows cell.morecols 0) level.nodes → new ≡ made ++ node ∷ []
     → each_after (entry_of (within_at (depth - 1))) made left n ≡ all → each_after (entry_of (within_at (depth - 1))) new rest m ≡ all
 entry_next depth cell B left rest level made new node n m all low high l b k e v inv =
     each_goes_on (entry_of (within_at (depth - 1))) cell left rest made new node n m all l (sym (entry_reads depth cell B level node n m low high b k e)) v inv

@@ -7,8 +7,6 @@ pub mod LastLevel
 pub mod MachinePaid
 pub mod MarkupFacts
 pub mod OpenedFacts
-pub mod RoomLemmas
 pub mod Stack
-pub mod TextRoom
 pub mod Waiting
 pub mod Work

@@ -6,6 +6,7 @@ use Rattle.rst_settings.specs.Profile.{profile_of}
 use Rattle.rst_settings.specs.declared.Settings.{Settings}
 use Rattle.rst_text.specs.Block.{Block}
 use Rattle.rst_text.specs.Lines.{are_lines}
+use Rattle.rst_text.specs.Looked.{capped}
 use Rattle.rst_text.specs.Shown.{placement_block}
 use Rattle.rst_markup_blocks.specs.declared.part.Part.{Part}
 use Rattle.rst_markup_tables.specs.Results.{cells_of}
@@ -72,7 +73,7 @@ next_cell depth left rest cell C low l e =
     omega (arith, ap (λ (cs : List Cell). totals (depth - 1) (cell_lines cs)) l, one)
 
 -- the lines of a row are those of its cells
-pub one_row : (depth : ℕ) (cells : List Cell) → totals depth (cell_blocks (Table [] 0 (cells ∷ []) 0)) ≡ totals depth (cell_lines cells)
+one_row : (depth : ℕ) (cells : List Cell) → totals depth (cell_blocks (Table [] 0 (cells ∷ []) 0)) ≡ totals depth (cell_lines cells)
 one_row depth cells = ap (λ (cs : List Cell). totals depth (cell_lines cs)) (append-nil cells)
 
 -- behind the last cell no line is left
@@ -107,16 +108,10 @@ table_rows old depth cols head end rows d =
     let c : depth - 1 ≡ old.depth = omega (arith, d) in
     ap (λ n. totals n (cell_blocks (Table cols head rows end))) c
 
--- the looks at its rows are among those that the table may take
-pub table_left : (old : OpenBlock) (B : Block) (depth : ℕ) (found : TableResult) (cols : List ℕ) (head end : ℕ) (rows : List (List Cell)) → found ≡ Table cols head rows end → depth ≡ suc old.depth
-    → 128 * totals (depth - 1) (cell_blocks (Table [] 0 rows 0)) ≤ most_left old B (Cells found)
-unfolding sum_of
-table_left old B depth found cols head end rows f d = rw f (omega (arith, table_rows old depth cols head end rows d))
-
 -- a table is read once its rows are, and the line after it was looked at
 pub table_paid : (old moved mid new : OpenBlock) (B : Block) (depth : ℕ) (found : TableResult) (cols : List ℕ) (head end : ℕ) (rows : List (List Cell)) (more last : List Node) (before now after : ℕ)
     → found ≡ Table cols head rows end → depth ≡ suc old.depth → TakesFor (totals (depth - 1) (cell_blocks (Table [] 0 rows 0))) before now
-    → IsMoved old moved → moved.at ≡ end → HasMore moved mid more → HasMore mid new last → now ≤ after → after ≤ now + 1
+    → IsMoved old moved → moved.at ≡ end → HasMore moved mid more → HasMore mid new last → capped now ≤ after → after ≤ now + 1
     → Takes (most_left old B (Cells found)) (least_left old B (Cells found)) before (most_left new B Next) (least_left new B Next) after
 unfolding sum_of
 table_paid old moved mid new B depth found cols head end rows more last before now after f d k moves at some rest low few =
@@ -240,7 +235,7 @@ flat_total : (depth : ℕ) (B : Block) → (length B ≡ 0) ⊎ (depth ≡ suc d
 flat_total depth B (inl e) = ap (total_at depth) (nil_from_length B e) ∙ empty_text depth ∙ sym e
 flat_total depth B (inr e) = ap (λ d. total_at d B) e ∙ last_text B
 
-pub flat_paid : (depth : ℕ) (X B : Block) (before after : ℕ) → (length B ≡ 0) ⊎ (depth ≡ suc deepest) → X ≡ B → after ≤ before + length X → before + length X ≤ after → TakesFor (total_at depth B) before after
+pub flat_paid : (depth : ℕ) (X B : Block) (before after : ℕ) → (length B ≡ 0) ⊎ (depth ≡ suc deepest) → X ≡ B → after ≤ before + length X → capped (before + length X) ≤ after → TakesFor (total_at depth B) before after
 flat_paid depth X B before after flat x few some =
     let t = flat_total depth B flat in
     record { no_more = omega (arith, few, t, ap length x); no_less = omega (arith, some, t, ap length x) }

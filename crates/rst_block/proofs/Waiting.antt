@@ -43,8 +43,8 @@ among_items done nodes (h ∷ hs) =
     ∙ take-append-drop k nodes
 
 -- the nodes of a block that was read
-pub among_done : (l : OpenBlock) → nodes_among (done_of l) ≡ l.nodes.items
-among_done l = among_items 0 l.nodes.items l.headings.items
+pub among_done : (l : OpenBlock) → nodes_among (done_of l) ≡ l.nodes
+among_done l = among_items 0 l.nodes l.headings.items
 
 -- what a block gives that waits for these lines
 abbrev pub waiting_for : OpenBlock → Block → Block → Waits → Option Part → List Node → Numbered (List Item)
@@ -54,26 +54,26 @@ waiting_for l B X w second earlier = do
 
 -- the second part is read behind the first one
 pub second_reads : (S : Block) (f : Frame) (old level : OpenBlock) (p : Part) (X : Block) (nodes : List Node) (n : ℕ) → f.second ≡ Some p → level ≡ f.level
-    → X ≡ lines_in (placement_block S f.placement) p → nodes ≡ f.nodes.items ++ old.nodes.items
+    → X ≡ lines_in (placement_block S f.placement) p → nodes ≡ f.nodes ++ old.nodes
     → waiting_for level (placement_block S f.placement) X f.waits None nodes n
-    ≡ after f.level (placement_block S f.placement) f.waits f.second f.nodes.items (nodes_among (done_of old)) n
+    ≡ after f.level (placement_block S f.placement) f.waits f.second f.nodes (nodes_among (done_of old)) n
 second_reads S f old level p X nodes n e l x m =
     let B : Block = placement_block S f.placement in
     ap (λ level. waiting_for level B X f.waits None nodes n) l
     ∙ ap (λ Y. waiting_for f.level B Y f.waits None nodes n) x
-    ∙ ap (λ (earlier : List Node). waiting_for f.level B (lines_in B p) f.waits None earlier n) (m ∙ ap (λ (ns : List Node). f.nodes.items ++ ns) (sym (among_done old)))
-    ∙ ap (λ second. after f.level B f.waits second f.nodes.items (nodes_among (done_of old)) n) (sym e)
+    ∙ ap (λ (earlier : List Node). waiting_for f.level B (lines_in B p) f.waits None earlier n) (m ∙ ap (λ (ns : List Node). f.nodes ++ ns) (sym (among_done old)))
+    ∙ ap (λ second. after f.level B f.waits second f.nodes (nodes_among (done_of old)) n) (sym e)
 
 -- the block goes on that waited
 pub last_reads : (S : Block) (f : Frame) (old level : OpenBlock) (X : Block) (nodes : List Node) (n : ℕ) → f.second ≡ None → level ≡ f.level
-    → X ≡ placement_block S f.placement → nodes ≡ f.nodes.items ++ old.nodes.items
-    → resumed level X f.waits nodes n ≡ after f.level (placement_block S f.placement) f.waits f.second f.nodes.items (nodes_among (done_of old)) n
+    → X ≡ placement_block S f.placement → nodes ≡ f.nodes ++ old.nodes
+    → resumed level X f.waits nodes n ≡ after f.level (placement_block S f.placement) f.waits f.second f.nodes (nodes_among (done_of old)) n
 last_reads S f old level X nodes n e l x m =
     let B : Block = placement_block S f.placement in
     ap (λ level. resumed level X f.waits nodes n) l
     ∙ ap (λ Y. resumed f.level Y f.waits nodes n) x
-    ∙ ap (λ (ns : List Node). resumed f.level B f.waits ns n) (m ∙ ap (λ (ns : List Node). f.nodes.items ++ ns) (sym (among_done old)))
-    ∙ ap (λ second. after f.level B f.waits second f.nodes.items (nodes_among (done_of old)) n) (sym e)
+    ∙ ap (λ (ns : List Node). resumed f.level B f.waits ns n) (m ∙ ap (λ (ns : List Node). f.nodes ++ ns) (sym (among_done old)))
+    ∙ ap (λ second. after f.level B f.waits second f.nodes (nodes_among (done_of old)) n) (sym e)
 
 -- ---- what all blocks give that wait
 
@@ -89,45 +89,45 @@ plug_fails S fs r n all NoMemory f g inv h = tt
 
 -- the block that is read waits for a part, which is read next
 pub plug_opens : (S : Block) (fs : List Frame) (f : Frame) (old l : OpenBlock) (B X : Block) (w : Waits) (first : Part) (second : Option Part) (n : ℕ)
-    → f.level ≡ old → placement_block S f.placement ≡ B → f.waits ≡ w → f.second ≡ second → f.nodes.items ≡ [] → X ≡ lines_in B first
+    → f.level ≡ old → placement_block S f.placement ≡ B → f.waits ≡ w → f.second ≡ second → f.nodes ≡ [] → X ≡ lines_in B first
     → l.depth ≡ suc old.depth → suc old.depth ≤ deepest → IsNew l
     → plug S (fs ++ f ∷ []) (reads l X) n ≡ plug S fs (comes old B (Open w first second)) n
 plug_opens S fs f old l B X w first second n a b c d e x i j k =
     let depth : f.level.depth ≡ old.depth = ap (λ (o : OpenBlock). o.depth) a in
     part_means S fs f l X n (i ∙ ap suc (sym depth)) (omega (arith, depth, j)) k
-    ∙ ap (λ Y. plug S fs (waiting_for f.level (placement_block S f.placement) Y f.waits f.second f.nodes.items) n) x
-    ∙ ap (λ o. plug S fs (waiting_for o (placement_block S f.placement) (lines_in B first) f.waits f.second f.nodes.items) n) a
-    ∙ ap (λ C. plug S fs (waiting_for old C (lines_in B first) f.waits f.second f.nodes.items) n) b
-    ∙ ap (λ w. plug S fs (waiting_for old B (lines_in B first) w f.second f.nodes.items) n) c
-    ∙ ap (λ second. plug S fs (waiting_for old B (lines_in B first) w second f.nodes.items) n) d
+    ∙ ap (λ Y. plug S fs (waiting_for f.level (placement_block S f.placement) Y f.waits f.second f.nodes) n) x
+    ∙ ap (λ o. plug S fs (waiting_for o (placement_block S f.placement) (lines_in B first) f.waits f.second f.nodes) n) a
+    ∙ ap (λ C. plug S fs (waiting_for old C (lines_in B first) f.waits f.second f.nodes) n) b
+    ∙ ap (λ w. plug S fs (waiting_for old B (lines_in B first) w f.second f.nodes) n) c
+    ∙ ap (λ second. plug S fs (waiting_for old B (lines_in B first) w second f.nodes) n) d
     ∙ ap (λ (earlier : List Node). plug S fs (waiting_for old B (lines_in B first) w second earlier) n) e
 
 -- a block was read, and the one that waits for it reads another part
 pub plug_waits : (S : Block) (fs : List Frame) (f g : Frame) (old l : OpenBlock) (part : View) (m n : ℕ) (all : Result (List Item × ℕ) ℕ)
-    → ended_as S l (Waiting g part) m ≡ after f.level (placement_block S f.placement) f.waits f.second f.nodes.items (nodes_among (done_of old)) n
+    → ended_as S l (Waiting g part) m ≡ after f.level (placement_block S f.placement) f.waits f.second f.nodes (nodes_among (done_of old)) n
     → l.depth ≡ suc g.level.depth → suc g.level.depth ≤ deepest → IsNew l → plug S (fs ++ f ∷ []) (just (done_of old)) n ≡ all
     → plug S (fs ++ g ∷ []) (reads l (block_of part)) m ≡ all
 plug_waits S fs f g old l part m n all h d i k inv =
     part_means S fs g l (block_of part) m d i k
-    ∙ plug_same S fs (ended_as S l (Waiting g part)) (after f.level (placement_block S f.placement) f.waits f.second f.nodes.items (nodes_among (done_of old))) m n h
+    ∙ plug_same S fs (ended_as S l (Waiting g part)) (after f.level (placement_block S f.placement) f.waits f.second f.nodes (nodes_among (done_of old))) m n h
     ∙ sym (done_means S fs f (done_of old) n)
     ∙ inv
 
 -- or it goes on
 pub plug_ends : (S : Block) (fs : List Frame) (f : Frame) (old l : OpenBlock) (view : View) (s : Step) (m n : ℕ) (all : Result (List Item × ℕ) ℕ)
-    → ended_as S l (GoesOn view s) m ≡ after f.level (placement_block S f.placement) f.waits f.second f.nodes.items (nodes_among (done_of old)) n
+    → ended_as S l (GoesOn view s) m ≡ after f.level (placement_block S f.placement) f.waits f.second f.nodes (nodes_among (done_of old)) n
     → plug S (fs ++ f ∷ []) (just (done_of old)) n ≡ all → plug S fs (comes l (block_of view) s) m ≡ all
 plug_ends S fs f old l view s m n all h inv =
-    plug_same S fs (comes l (block_of view) s) (after f.level (placement_block S f.placement) f.waits f.second f.nodes.items (nodes_among (done_of old))) m n h
+    plug_same S fs (comes l (block_of view) s) (after f.level (placement_block S f.placement) f.waits f.second f.nodes (nodes_among (done_of old))) m n h
     ∙ sym (done_means S fs f (done_of old) n)
     ∙ inv
 
 -- or it can't go on
 pub plug_end_fails : {A C : Type 0} (S : Block) (fs : List Frame) (f : Frame) (old : OpenBlock) (n : ℕ) (all : Result (List Item × ℕ) ℕ) (e : BlockFault)
     (g : A → Result (List Item × ℕ) ℕ) (k : C → Result (List Item × ℕ) ℕ) → plug S (fs ++ f ∷ []) (just (done_of old)) n ≡ all
-    → Keeps (Err e) g (after f.level (placement_block S f.placement) f.waits f.second f.nodes.items (nodes_among (done_of old)) n) → Keeps (Err e) k all
+    → Keeps (Err e) g (after f.level (placement_block S f.placement) f.waits f.second f.nodes (nodes_among (done_of old)) n) → Keeps (Err e) k all
 plug_end_fails S fs f old n all e g k inv h =
-    plug_fails S fs (after f.level (placement_block S f.placement) f.waits f.second f.nodes.items (nodes_among (done_of old))) n all e g k (sym (done_means S fs f (done_of old) n) ∙ inv) h
+    plug_fails S fs (after f.level (placement_block S f.placement) f.waits f.second f.nodes (nodes_among (done_of old))) n all e g k (sym (done_means S fs f (done_of old) n) ∙ inv) h
 
 -- ---- a text begins and ends
 

@@ -1,5 +1,5 @@
 //! The end of a block inside another.
-ghost use Rattle.std.specs.Prelude.{◌≡◌, suc, ◌-◌, ◌^◌, ◌<◌, IfOk};
+ghost use Rattle.std.specs.Prelude.{◌≡◌, suc, ◌-◌, ◌<◌, IfOk};
 ghost use Rattle.rst_text.specs.Shown.{source_of, placement_block};
 ghost use Rattle.rst_block_state.specs.Frames as frames;
 ghost use Rattle.rst_block_state.specs.Meanings.{Keeps, after, deepest, done_of};
@@ -7,7 +7,6 @@ ghost use Rattle.rst_block_state.specs.Nodes.{nodes_among};
 ghost use Rattle.rst_block_state.specs.Ledger.{Takes, ended_least, ended_most, least_after, most_after};
 
 use super::resume::resume;
-use rst_block_sections::append;
 use rst_block_state::{BlockFault, Ended, Frame, OpenBlock, Pass, inside};
 use rst_text::View;
 use std::alloc::Global;
@@ -24,13 +23,12 @@ pub(crate) fn closed<'a>(
     pass: &mut Pass,
 ) -> Result<Ended<'a>, BlockFault>
     requires frame { frames.IsFrame (source_of whole.now) frame }
-    requires few { pass.old.looks < 2 ^ 119 }
     requires depth { depth ≡ suc frame.level.depth }
     requires deepest { frame.level.depth < deepest }
     ensures ended { IfOk result (frames.IsEnded (source_of whole.now) frame level.new.at) }
     ensures kept { IfOk result (frames.KeepsFrame frame depth level.new) }
     ensures read { let S = source_of whole.now in
-        let waiting = after frame.level (placement_block S frame.placement) frame.waits frame.second frame.nodes.items in
+        let waiting = after frame.level (placement_block S frame.placement) frame.waits frame.second frame.nodes in
         Keeps result (λ e. frames.ended_as S level.new e pass.new.numbers) (waiting (nodes_among (done_of level.old)) pass.old.numbers) }
     ensures paid { let S = source_of whole.now in
         let B = placement_block S frame.placement in
@@ -47,7 +45,7 @@ pub(crate) fn closed<'a>(
     } = frame;
     let view = whole.at(placement);
     let done = mem::replace(level, outer);
-    append(&mut nodes, done.nodes)?;
+    nodes.append(done.nodes)?;
     match second {
         Some(second) => {
             let part = inside(&view, second);

@@ -6,7 +6,6 @@ ghost use Rattle.rst_block_state.specs.LedgerLaws as ledger;
 ghost use Rattle.rst_block_state.specs.MeaningLaws as meaning;
 ghost use Rattle.rst_block_state.specs.Reaches as reaches;
 ghost use Rattle.rst_block_state.specs.RestLaws as law;
-ghost use Rattle.rst_block.specs.RoomLaws as room;
 
 /// The construct at a line is the one with the mark that is found there.
 pub fn marks_tell_constructs()
@@ -132,13 +131,4 @@ pub fn documents_are_bounded()
     ensures empty { ledger.EmptyTextIsFree }
     ensures flat { ledger.LastTextIsFlat }
     ensures bounded { ledger.DocumentIsBounded }
-{}
-
-/// How much there is to read is bounded: the blocks and cells inside a block have no more room than the block itself, so that all
-/// levels together have no more lines than its room at each level. A text as long as an input may be takes fewer than 2^119 looks.
-pub fn looks_are_few()
-    ensures blocks { room.BlocksFit }
-    ensures total { room.TotalFits }
-    ensures texts { room.TextsFit }
-    ensures looks { room.LooksAreFew }
 {}

@@ -1,8 +1,9 @@
 //! The machine: the constructs of a block one after the other, and the blocks inside them.
-ghost use Rattle.std.specs.Prelude.{◌≡◌, Ok, suc, ◌+◌, ◌-◌, ◌*◌, ◌^◌, ◌<◌, ◌≤◌, ◌++◌, ◌∷◌, [], length, drop, IfOk, IfSome, IfNone, IsTrue};
+ghost use Rattle.std.specs.Prelude.{◌≡◌, Ok, suc, ◌+◌, ◌-◌, ◌<◌, ◌≤◌, ◌++◌, ◌∷◌, [], length, IfOk, IfSome, IfNone, IsTrue};
 ghost use Rattle.rst_text.specs.Lines.{are_lines};
+ghost use Rattle.rst_text.specs.Looked.{capped};
 ghost use Rattle.rst_text.specs.Shown.{block_of};
-ghost use Rattle.rst_markup_blocks.specs.Parts.{IsBlock, IsCall};
+ghost use Rattle.rst_markup_blocks.specs.Parts.{IsBlock};
 ghost use Rattle.rst_block_state.specs.Meanings.{Keeps, TellsBlank, comes, deepest, done_of, reads, text_items, within_at};
 ghost use Rattle.rst_block_state.specs.Steps as spec;
 ghost use Rattle.rst_block_state.specs.declared.step.Step.TheVariants.{Next, Open, Cells};
@@ -26,7 +27,7 @@ use rst_markup_blocks::{LineTest, Part, lines_end};
 use rst_markup_tables::{Cell, Rows, TableResult};
 use rst_text::{Lines, View};
 use rst_tree::{Attrs, Tag};
-use rst_tree_index::Marked;
+use rst_tree_index::{Marked, MarkedNodes};
 use std::alloc::Global;
 
 /// The blocks that wait for one inside them, the outermost first.
@@ -44,7 +45,6 @@ pub(crate) fn read(
 ) -> Result<OpenBlock, BlockFault>
     requires depth { depth ≤ 251 }
     requires room { length frames.old.items ≤ depth }
-    requires few { pass.old.looks + 128 * total_at depth lines.now < 2 ^ 119 }
     ensures frames { IfOk result (λ _. frames.new.items ≡ frames.old.items) }
     ensures placed { IfOk result IsPlaced }
     ensures read { Keeps result (λ level. just (done_of level) pass.new.numbers) (text_items depth lines.now pass.old.numbers) }
@@ -70,7 +70,6 @@ fn read_blocks(
 ) -> Result<OpenBlock, BlockFault>
     requires depth { depth ≤ 250 }
     requires room { length frames.old.items ≤ depth }
-    requires few { pass.old.looks + 128 * total_at depth (block_of whole) < 2 ^ 119 }
     ensures frames { IfOk result (λ _. frames.new.items ≡ frames.old.items) }
     ensures placed { IfOk result IsPlaced }
     ensures read { Keeps result (λ level. just (done_of level) pass.new.numbers)
@@ -125,7 +124,6 @@ fn next(
     level: &mut OpenBlock,
     pass: &mut Pass,
 ) -> Result<Step, BlockFault>
-    requires few { pass.old.looks + most_left level.old (block_of view.now) Next < 2 ^ 119 }
     requires placed { IsPlaced level.old }
     ensures next { IfOk result (λ s. spec.IsNext (block_of view.now) level.old.at level.new.at s) }
     ensures kept { IfOk result (λ _. IsKept level.old level.new) }
@@ -160,13 +158,11 @@ fn last_of(frames: &mut Frames, base: usize) -> Option<Frame>
 
 /// Refuses lines that are nested too deeply, unless they are blank.
 fn not_blank(view: &View<'_>, pass: &mut Pass) -> Result<(), BlockFault>
-    requires few { pass.old.looks < 2 ^ 120 }
     ensures blank { TellsBlank (block_of view.now) result }
     ensures numbers { pass.new.numbers ≡ pass.old.numbers }
-    ensures each { IfOk result (λ _. pass.old.looks + length (block_of view.now) ≤ pass.new.looks) }
-    ensures looks { pass.new.looks ≤ pass.old.looks + 2 ^ 65 }
+    ensures each { IfOk result (λ _. capped (pass.old.looks + length (block_of view.now)) ≤ pass.new.looks) }
     ensures most { pass.new.looks ≤ pass.old.looks + length (block_of view.now) }
-    ensures low { pass.old.looks ≤ pass.new.looks }
+    ensures low { capped pass.old.looks ≤ pass.new.looks }
 {
     let first = lines_end(view, 0, LineTest::Blank, &mut pass.looks);
     if first < view.len() {
@@ -190,7 +186,6 @@ fn flat(
     requires first { IsBlock (block_of view.now) first }
     requires second { spec.IsBlockIf (block_of view.now) second }
     requires waits { spec.IsWaiting (block_of view.now) level.old.at waits }
-    requires few { pass.old.looks + most_left level.old (block_of view.now) (Open waits first second) < 2 ^ 119 }
     requires placed { IsPlaced level.old }
     requires deepest { level.old.depth ≡ deepest }
     ensures step { IfOk result (λ s. spec.IsResumed (block_of view.now) level.old.at level.new.at s) }
@@ -206,7 +201,7 @@ fn flat(
     if let Some(second) = second {
         not_blank(&inside(view, second), pass)?;
     }
-    resume(alloc, view, level, waits, Vec::new(alloc), pass)
+    resume(alloc, view, level, waits, MarkedNodes::none(alloc), pass)
 }
 
 /// Puts a table behind the last node, whose cells stand in as many blocks as `depth` says, and goes on.
@@ -223,7 +218,6 @@ fn cells(
     requires inside { level.old.at < length (block_of view.now) }
     requires depth { depth ≤ 251 }
     requires room { length frames.old.items ≤ depth }
-    requires few { pass.old.looks + most_left level.old (block_of view.now) (Cells found) < 2 ^ 119 }
     requires placed { IsPlaced level.old }
     requires level { depth ≡ suc level.old.depth }
     requires table { spec.IsTable level.old.at found }
@@ -264,17 +258,16 @@ fn rows_of(
     depth: usize,
     frames: &mut Frames,
     pass: &mut Pass,
-) -> Result<Vec<Marked>, BlockFault>
+) -> Result<MarkedNodes, BlockFault>
     requires depth { depth ≤ 251 }
     requires room { length frames.old.items ≤ depth }
-    requires few { pass.old.looks + 128 * totals (depth - 1) (cell_blocks (Table [] 0 rows 0)) < 2 ^ 119 }
     requires inner { 1 ≤ depth }
     ensures frames { IfOk result (λ _. frames.new.items ≡ frames.old.items) }
-    ensures rows { Keeps result (λ made. Ok (made.items, pass.new.numbers))
+    ensures rows { Keeps result (λ made. Ok (made, pass.new.numbers))
         (each (tables.row_of (within_at (depth - 1))) rows pass.old.numbers) }
     ensures paid { IfOk result (λ _. TakesFor (totals (depth - 1) (cell_blocks (Table [] 0 rows 0))) pass.old.looks pass.new.looks) }
 {
-    let mut made = Vec::new(alloc);
+    let mut made = MarkedNodes::none(alloc);
     for cells in rows.into_rows() {
         made.push(row_of(alloc, cells, depth, frames, pass)?)?;
     }
@@ -293,14 +286,13 @@ fn row_of(
 ) -> Result<Marked, BlockFault>
     requires depth { depth ≤ 251 }
     requires room { length frames.old.items ≤ depth }
-    requires few { pass.old.looks + 128 * totals (depth - 1) (cell_blocks (Table [] 0 (cells.items ∷ []) 0)) < 2 ^ 119 }
     requires inner { 1 ≤ depth }
     ensures frames { IfOk result (λ _. frames.new.items ≡ frames.old.items) }
     ensures row { Keeps result (λ node. Ok (node, pass.new.numbers)) (tables.row_of (within_at (depth - 1)) cells.items pass.old.numbers) }
     ensures paid { let inner = cell_blocks (Table [] 0 (cells.items ∷ []) 0) in
         IfOk result (λ _. TakesFor (totals (depth - 1) inner) pass.old.looks pass.new.looks) }
 {
-    let mut entries = Vec::new(alloc);
+    let mut entries = MarkedNodes::none(alloc);
     for cell in cells {
         let Cell {
             morerows,
@@ -311,6 +303,6 @@ fn row_of(
         let nodes = read(alloc, &lines, depth, frames, pass)?.nodes;
         entries.push(entry_of(alloc, morerows, morecols, nodes)?)?;
     }
-    let row = Marked::element(alloc, Tag::Row, Attrs::new(alloc), entries, 0)?;
+    let row = entries.into_element(Tag::Row, Attrs::new(alloc), 0)?;
     Ok(row)
 }

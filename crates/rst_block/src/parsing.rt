@@ -3,9 +3,8 @@ ghost use Rattle.rst_settings.specs.Profile.{profile_of};
 ghost use Rattle.rst_settings.specs.declared.Settings.{Settings};
 ghost use Rattle.rst_block_state.specs.Budget.{IsWithinBounds};
 ghost use Rattle.rst_block.specs.Documents as spec;
-ghost use Rattle.rst_block_state.specs.Ledger.{total_at};
 ghost use Rattle.rst_tree.specs.Faults.{Gives};
-ghost use Rattle.std.specs.Prelude.{◌≡◌, ◌*◌, ◌^◌, ◌<◌, IfOk};
+ghost use Rattle.std.specs.Prelude.{◌≡◌, IfOk};
 
 use super::machine::{Frames, read};
 use arrayvec::ArrayVec;
@@ -47,11 +46,7 @@ impl Parsed {
 ///
 /// It is refused with [`BlockFault::TooDeep`] where a block that isn't blank stands in more than 250 blocks: at the first such
 /// block; and with [`BlockFault::NoMemory`].
-///
-/// The lines, with those of all blocks and cells inside, are fewer than 2^112. Those of a text of up to 2^25 characters are: the
-/// law `looks_are_few` says so.
 pub fn parse(alloc: Global, lines: &Lines) -> Result<Parsed, BlockFault>
-    requires few { 128 * total_at 0 lines.now < 2 ^ 119 }
     ensures document { (settings : Settings) → spec.Parses (spec.document (profile_of settings) lines.now 0) result }
     ensures looks { (settings : Settings) → IfOk result (λ parsed. IsWithinBounds (profile_of settings) lines.now parsed.looks) }
 {

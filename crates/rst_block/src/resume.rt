@@ -1,5 +1,5 @@
 //! What is done with the nodes of a block inside once it is read.
-ghost use Rattle.std.specs.Prelude.{◌≡◌, ◌+◌, ◌-◌, ◌^◌, ◌<◌, [], ◌∷◌, ◌++◌, IfOk, option_map, box_value, ℕ, Box, Option, None, Some};
+ghost use Rattle.std.specs.Prelude.{◌≡◌, ◌+◌, ◌-◌, [], ◌∷◌, ◌++◌, IfOk, option_map, box_value, ℕ, Box, Option, None, Some};
 ghost use Rattle.rst_text.specs.Shown.{block_of};
 ghost use Rattle.rst_tree.specs.Faults as faults;
 ghost use Rattle.rst_block_nodes.specs.Elements.{element_of};
@@ -14,12 +14,12 @@ ghost use Rattle.rst_block_state.specs.declared.waits.Waits.TheVariants.{Quote};
 use rst_block_body::quote::quote_part;
 use rst_block_markup::{finished_figure, finished_replacement};
 use rst_block_nodes::Texted;
-use rst_block_sections::{append, completed};
-use rst_block_state::{BlockFault, OpenBlock, Pass, Step, Waits, push};
+use rst_block_sections::completed;
+use rst_block_state::{BlockFault, OpenBlock, Pass, Step, Waits};
 use rst_markup_blocks::Part;
 use rst_text::View;
 use rst_tree::{Attrs, Node, Tag, TreeFault};
-use rst_tree_index::Marked;
+use rst_tree_index::{Marked, MarkedNodes};
 use std::alloc::Global;
 
 /// Goes on with a block, the block inside having these nodes.
@@ -28,16 +28,15 @@ pub(crate) fn resume(
     view: &View<'_>,
     level: &mut OpenBlock,
     waits: Waits,
-    nodes: Vec<Marked>,
+    nodes: MarkedNodes,
     pass: &mut Pass,
 ) -> Result<Step, BlockFault>
     requires waits { spec.IsWaiting (block_of view.now) level.old.at waits }
-    requires few { pass.old.looks < 2 ^ 119 + 2 ^ 109 }
     requires placed { IsPlaced level.old }
     ensures step { IfOk result (λ s. spec.IsResumed (block_of view.now) level.old.at level.new.at s) }
     ensures kept { IfOk result (λ _. IsKept level.old level.new) }
     ensures read { Keeps result (λ s. comes level.new (block_of view.now) s pass.new.numbers)
-        (resumed level.old (block_of view.now) waits nodes.items pass.old.numbers) }
+        (resumed level.old (block_of view.now) waits nodes pass.old.numbers) }
     ensures paid { let B = block_of view.now in
         let most = most_after level.old B waits None in
         let least = least_after level.old B waits None in
@@ -45,7 +44,7 @@ pub(crate) fn resume(
 {
     match waits {
         Waits::ListItem { line } => {
-            let item = Marked::element(alloc, Tag::ListItem, Attrs::new(alloc), nodes, line)?;
+            let item = nodes.into_element(Tag::ListItem, Attrs::new(alloc), line)?;
             level.push_item(item)?;
         }
         Waits::ListedBody {
@@ -87,19 +86,16 @@ fn listed_item(
     body: Tag,
     heads: Vec<Node>,
     notes: Vec<Node>,
-    nodes: Vec<Marked>,
+    nodes: MarkedNodes,
 ) -> Result<Marked, TreeFault>
     ensures { faults.Gives (λ node. node
-        ≡ element_of item [] (heads.items ++ element_of body [] (notes.items ++ nodes.items) line ∷ []) line) result }
+        ≡ element_of item [] (heads.items ++ element_of body [] (notes.items ++ nodes) line ∷ []) line) result }
 {
-    let mut content = Marked::each(alloc, notes)?;
-    append(&mut content, nodes)?;
-    let mut parts = Marked::each(alloc, heads)?;
-    push(
-        &mut parts,
-        Marked::element(alloc, body, Attrs::new(alloc), content, line)?,
-    )?;
-    Marked::element(alloc, item, Attrs::new(alloc), parts, line)
+    let mut content = MarkedNodes::of(alloc, notes)?;
+    content.append(nodes)?;
+    let mut parts = MarkedNodes::of(alloc, heads)?;
+    parts.push(content.into_element(body, Attrs::new(alloc), line)?)?;
+    parts.into_element(item, Attrs::new(alloc), line)
 }
 
 /// Puts a block quote behind the last node, with its attribution and the messages of that.
@@ -107,19 +103,19 @@ fn put_quote(
     alloc: Global,
     level: &mut OpenBlock,
     line: usize,
-    mut nodes: Vec<Marked>,
+    mut nodes: MarkedNodes,
     attribution: Option<Box<Texted>>,
 ) -> Result<(), BlockFault>
     ensures at { level.new.at ≡ level.old.at }
-    ensures more { Gives (λ _. HasMore level.old level.new (quote_by line (option_map box_value attribution) nodes.items)) result }
+    ensures more { Gives (λ _. HasMore level.old level.new (quote_by line (option_map box_value attribution) nodes)) result }
 {
     let attrs = Attrs::new(alloc);
     match attribution {
-        None => level.push_marked(Marked::element(alloc, Tag::BlockQuote, attrs, nodes, line)?),
+        None => level.push_marked(nodes.into_element(Tag::BlockQuote, attrs, line)?),
         Some(attribution) => {
             let Texted { element, notes } = Box::into_inner(attribution);
-            push(&mut nodes, Marked::of(alloc, element)?)?;
-            level.push_marked(Marked::element(alloc, Tag::BlockQuote, attrs, nodes, line)?)?;
+            nodes.push_new(element)?;
+            level.push_marked(nodes.into_element(Tag::BlockQuote, attrs, line)?)?;
             level.append(notes)
         }
     }
@@ -135,7 +131,6 @@ fn after_quote(
     pass: &mut Pass,
 ) -> Result<Step, BlockFault>
     requires rest { spec.IsRest (block_of view.now) level.old.at rest }
-    requires few { pass.old.looks < 2 ^ 119 + 2 ^ 109 }
     requires placed { IsPlaced level.old }
     ensures step { IfOk result (λ s. spec.IsResumed (block_of view.now) level.old.at level.new.at s) }
     ensures kept { IfOk result (λ _. IsKept level.old level.new) }

@@ -1,5 +1,5 @@
 //! One step: the construct at the next line of a block.
-ghost use Rattle.std.specs.Prelude.{◌+◌, ◌-◌, ◌^◌, ◌<◌, length, IfOk};
+ghost use Rattle.std.specs.Prelude.{◌+◌, ◌-◌, ◌<◌, length, IfOk};
 ghost use Rattle.rst_text.specs.Shown.{block_of};
 ghost use Rattle.rst_block_state.specs.Steps as spec;
 ghost use Rattle.rst_block_state.specs.Meanings.{Keeps, comes, reads};
@@ -24,7 +24,6 @@ use rst_text::View;
 use std::alloc::Global;
 
 /// Reads the construct at the next line.
-#[tactic(auto, using(rst_block_state::proofs::Views::few_lines, rst_block_state::proofs::Looked::grid_looks, rst_block_state::proofs::Looked::simple_looks))]
 pub(crate) fn step_at(
     alloc: Global,
     view: &View<'_>,
@@ -32,7 +31,6 @@ pub(crate) fn step_at(
     pass: &mut Pass,
 ) -> Result<Step, BlockFault>
     requires inside { level.old.at < length (block_of view.now) }
-    requires few { pass.old.looks < 2 ^ 119 }
     requires placed { IsPlaced level.old }
     ensures step { IfOk result (λ s. spec.IsStep (block_of view.now) level.old.at level.new.at s) }
     ensures kept { IfOk result (λ _. IsKept level.old level.new) }

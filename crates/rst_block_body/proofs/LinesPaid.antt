@@ -1,6 +1,7 @@
 -- A line of a line block is paid for.
 use Rattle.std.proofs.Common.{◌≡◌, ℕ, ◌+◌, ◌-◌, ◌*◌, ◌<◌, ◌≤◌, length, drop, arith, refl, ◌∙◌}
 use Rattle.rst_text.specs.Block.{Block}
+use Rattle.rst_text.specs.Looked.{capped}
 use Rattle.rst_text.specs.Reach.{reach}
 use Rattle.rst_markup_lines.specs.declared.marker.Marker.{Marker}
 use Rattle.rst_markup_blocks.specs.Begun.{IsBegun}
@@ -15,8 +16,8 @@ use Rattle.rst_block_state.proofs.PaidSteps.{one_look, paid_begun}
 -- The looks at a line of a line block: at it and each line below its bar to find its end, at these two times more for their text, at the bar's line once
 -- more, and at the end of the run before it.
 pub line_paid : {l new : OpenBlock} {B : Block} {m : Marker} (end before found text after : ℕ) → l.at < length B → IsBegun (drop l.at B) (Line m) → end ≡ l.at + indented_size (drop l.at B)
-    → new.depth ≡ l.depth → (l.at < end → new.at ≡ end) → found ≤ before + indented_size (drop l.at B) → before + indented_size (drop l.at B) ≤ found + 1
-    → text ≤ found + 1 + 2 * (end - (l.at + 1)) → found ≤ text → after ≤ text + run_looks l.run → text ≤ after → IsPaid 29 l new B Next before after
+    → new.depth ≡ l.depth → (l.at < end → new.at ≡ end) → found ≤ before + indented_size (drop l.at B) → capped (before + (indented_size (drop l.at B) - 1)) ≤ found
+    → text ≤ found + 1 + 2 * (end - (l.at + 1)) → capped found ≤ text → after ≤ text + run_looks l.run → capped text ≤ after → IsPaid 29 l new B Next before after
 line_paid {l} {new} {B} {m} end before found text after inside begun stop depth goes few some most low run closed =
     let X : Block = drop l.at B in
     let size : ℕ = indented_size X in

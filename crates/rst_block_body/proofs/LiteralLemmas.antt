@@ -5,6 +5,7 @@ use Rattle.std.proofs.lemmas.Bool.{eqb-true}
 use Rattle.std.proofs.lemmas.List.{drop_all}
 use Rattle.rst_text.specs.Block.{Block, front_text, first_number, indentation, is_blank}
 use Rattle.rst_text.specs.Extent.{extent, past_blank}
+use Rattle.rst_text.specs.Looked.{capped}
 use Rattle.rst_text.specs.Reach.{reach}
 use Rattle.rst_tree.specs.declared.node.Node.{Node}
 use Rattle.rst_tree.specs.declared.tag.Tag.TheVariants.{LiteralBlock, DoctestBlock}
@@ -20,7 +21,6 @@ use Rattle.rst_block_state.specs.Literals.{quoting_text, literal_node, indented_
 use Rattle.rst_block_state.specs.Texts.{joined, lines_in, said, source_of, spelled, unless_blank, warned}
 use Rattle.rst_tree.specs.declared.note.Level.TheVariants.{Warning, Error}
 use Rattle.rst_block_state.specs.Within.{indented_part}
-use Rattle.rst_block_state.proofs.PartFacts.{take_le}
 use Rattle.rst_block_state.proofs.RestLemmas.{lines_after, span_to}
 
 -- ---- how many lines a literal block has
@@ -360,12 +360,12 @@ pub doctest_is : (B : Block) (i at stop line : ℕ) (text : List ℕ) (node : No
 doctest_is B i at stop line text node e n l t = rw (n, l, t, e) refl
 
 -- the looks at a doctest block: at each of its lines, and at the line after it, and then at its lines again
-pub doctest_looks : (B : Block) (i at stop before closed end after run : ℕ) → i ≡ at → stop ≡ i + lines_while Filled (drop i B) → before ≤ closed → closed ≤ before + run
-    → end ≤ closed + reach (lines_while Filled (drop i B)) (drop i B) → closed + lines_while Filled (drop i B) ≤ end → after ≡ end + length (slice_range B i stop)
-    → (after ≤ before + run + 29 * reach (doctest_size (drop at B)) (drop at B)) × (before + doctest_size (drop at B) ≤ after)
+pub doctest_looks : (B : Block) (i at stop before closed end after run : ℕ) → i ≡ at → stop ≡ i + lines_while Filled (drop i B) → capped before ≤ closed → closed ≤ before + run
+    → end ≤ closed + reach (lines_while Filled (drop i B)) (drop i B) → capped (closed + lines_while Filled (drop i B)) ≤ end → after ≤ end + (stop - i)
+    → capped (end + length (slice_range B i stop)) ≤ after
+    → (after ≤ before + run + 29 * reach (doctest_size (drop at B)) (drop at B)) × (capped (before + doctest_size (drop at B)) ≤ after)
 unfolding doctest_size
-doctest_looks B i at stop before closed end after run e s low high most least again =
-    let few = (take_le (stop - i) (drop i B)).0 in
+doctest_looks B i at stop before closed end after run e s low high most least again each =
     let size : lines_while Filled (drop i B) ≡ lines_while Filled (drop at B) = ap (λ k. lines_while Filled (drop k B)) e in
     let far : reach (lines_while Filled (drop i B)) (drop i B) ≡ reach (lines_while Filled (drop at B)) (drop at B) = ap (λ k. reach (lines_while Filled (drop k B)) (drop k B)) e in
-    (omega (arith, high, most, again, few, s, size, far), omega (arith, low, least, again, size))
+    (omega (arith, high, most, again, s, size, far), omega (arith, low, least, each, size))

@@ -1,8 +1,8 @@
 -- The looks at a paragraph and at the literal block that it announces.
 use Rattle.std.proofs.Common.{◌≡◌, ℕ, zero, suc, ◌+◌, ◌-◌, ◌*◌, ◌<◌, ◌≤◌, true, false, Some, [], ◌∷◌, List, length, drop, ap, ◌∙◌, arith}
-use Rattle.std.specs.Prelude.{slice_range}
 use Rattle.rst_text.specs.Block.{Block, front_text}
 use Rattle.rst_text.specs.Extent.{extent}
+use Rattle.rst_text.specs.Looked.{capped}
 use Rattle.rst_text.specs.Reach.{reach, through_text}
 use Rattle.rst_markup_lines.specs.Adornment.{is_punctuation}
 use Rattle.rst_markup_lines.specs.Closing.{ends_in_colons}
@@ -14,7 +14,6 @@ use Rattle.rst_markup_blocks.proofs.LineLemmas.{begins_while, blanks_through, re
 use Rattle.rst_block_body.specs.TextSteps.{paragraph_end}
 use Rattle.rst_block_body.proofs.LiteralLemmas.{indented_here, quoted_here}
 use Rattle.rst_block_body.proofs.ParagraphLemmas.{IsParagraph, ends_later, end_all, end_colons}
-use Rattle.rst_block_state.proofs.PartFacts.{take_le}
 use Rattle.rst_block_state.proofs.RestLemmas.{lines_after}
 
 -- ---- literal blocks
@@ -45,7 +44,7 @@ indented_most B i j before start text after e space few one most =
     omega (arith, whole, reach_some n (drop j B) (spaced_some (drop j B) space), few, one, most)
 
 pub indented_least : (B : Block) (i j before start text after : ℕ) → j ≡ i + lines_while Blank (drop i B) → begins_with 32 (front_text (drop j B)) ≡ true
-    → before + lines_while Blank (drop i B) ≤ start → start ≤ text → text + extent 1 (drop j B) ≤ after → before + literal_size (drop i B) ≤ after
+    → capped (before + lines_while Blank (drop i B)) ≤ start → capped start ≤ text → capped (text + extent 1 (drop j B)) ≤ after → capped (before + literal_size (drop i B)) ≤ after
 indented_least B i j before start text after e space low one least = omega (arith, e, (indented_here B i j 0 e space).1, low, one, least)
 
 -- a quoted literal block
@@ -58,7 +57,7 @@ quoted_most B i j c before start text after e space front quote few one most =
     omega (arith, whole, begins_while (drop j B) c front, few, one, most)
 
 pub quoted_least : (B : Block) (i j c before start text after : ℕ) → j ≡ i + lines_while Blank (drop i B) → begins_with 32 (front_text (drop j B)) ≡ false → first (front_text (drop j B)) ≡ Some c
-    → is_punctuation c ≡ true → before + lines_while Blank (drop i B) ≤ start → start ≤ text → text + lines_while (Begins c) (drop j B) ≤ after → before + literal_size (drop i B) ≤ after
+    → is_punctuation c ≡ true → capped (before + lines_while Blank (drop i B)) ≤ start → capped start ≤ text → capped (text + lines_while (Begins c) (drop j B)) ≤ after → capped (before + literal_size (drop i B)) ≤ after
 quoted_least B i j c before start text after e space front quote low one least = omega (arith, e, (quoted_here B i j 0 c e space front quote).1, low, one, least)
 
 -- no literal block: its reach ends with the line behind the blank ones
@@ -79,19 +78,16 @@ announced_most t j B before put after h few most =
     let size : paragraph_end t j B - j ≡ literal_size (drop j B) = omega (arith, end_colons t j B h) in
     omega (arith, ap (λ n. reach n (drop j B)) size, few, most)
 
-pub announced_least : (t : List ℕ) (j : ℕ) (B : Block) (before put after : ℕ) → ends_in_colons t ≡ true → before ≤ put → put + literal_size (drop j B) ≤ after → before + (paragraph_end t j B - j) ≤ after
+pub announced_least : (t : List ℕ) (j : ℕ) (B : Block) (before put after : ℕ) → ends_in_colons t ≡ true → capped before ≤ put → capped (put + literal_size (drop j B)) ≤ after → capped (before + (paragraph_end t j B - j)) ≤ after
 announced_least t j B before put after h low least = omega (arith, end_colons t j B h, low, least)
 
 -- what comes after the own lines of a paragraph
 size_behind : (B : Block) (i j : ℕ) (t : List ℕ) → IsParagraph B i j t → paragraph_size (drop i B) ≡ j - i + (paragraph_end t j B - j)
 size_behind B i j t p = omega (arith, end_all B i j t p, ends_later B i j t p)
 
--- the lines that were found are looked at again: one of them, or each
-pub one_again : (i j end text : ℕ) → j ≡ i + 1 → text ≡ end + 1 → (text ≤ end + (j - i)) × (end ≤ text)
+-- where one line was found, it is looked at again
+pub one_again : (i j end text : ℕ) → j ≡ i + 1 → text ≡ capped (end + 1) → (text ≤ end + (j - i)) × (capped end ≤ text)
 one_again i j end text one again = (omega (arith, one, again), omega (arith, again))
-
-pub each_again : (B : Block) (i j end text : ℕ) → text ≡ end + length (slice_range B i j) → (text ≤ end + (j - i)) × (end ≤ text)
-each_again B i j end text again = (omega (arith, again, (take_le (j - i) (drop i B)).0), omega (arith, again))
 
 -- a paragraph, after the looks by which its end is found, and those at its lines again
 pub paragraph_most : (B : Block) (i j : ℕ) (t : List ℕ) (before end text after : ℕ) → IsParagraph B i j t → end ≤ before + lines_while Plain (drop i B) + 1 → text ≤ end + (j - i)
@@ -104,6 +100,6 @@ paragraph_most B i j t before end text after p few again most =
     ap (λ k. reach k (drop i B)) (size_behind B i j t p) ∙ reach_behind n m (drop i B) ∙ ap (λ X. n + reach m X) (lines_after B i n j (omega (arith, later))) in
     omega (arith, whole, later, p.end, few, again, most)
 
-pub paragraph_least : (B : Block) (i j : ℕ) (t : List ℕ) (before end text after : ℕ) → IsParagraph B i j t → before + lines_while Plain (drop i B) ≤ end → end ≤ text
-    → text + (paragraph_end t j B - j) ≤ after → before + paragraph_size (drop i B) ≤ after
+pub paragraph_least : (B : Block) (i j : ℕ) (t : List ℕ) (before end text after : ℕ) → IsParagraph B i j t → capped (before + lines_while Plain (drop i B)) ≤ end → capped end ≤ text
+    → capped (text + (paragraph_end t j B - j)) ≤ after → capped (before + paragraph_size (drop i B)) ≤ after
 paragraph_least B i j t before end text after p low again least = omega (arith, size_behind B i j t p, p.end, low, again, least)

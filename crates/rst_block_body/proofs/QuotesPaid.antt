@@ -3,6 +3,7 @@ use Rattle.std.proofs.Common.{◌≡◌, ℕ, ◌+◌, ◌-◌, ◌*◌, ◌<◌
 use Rattle.std.proofs.lemmas.Bool.{cases_lt}
 use Rattle.rst_text.specs.Block.{Block}
 use Rattle.rst_text.specs.Extent.{extent}
+use Rattle.rst_text.specs.Looked.{capped}
 use Rattle.rst_text.specs.Reach.{reach}
 use Rattle.rst_tree.specs.declared.node.Node.{Node}
 use Rattle.rst_markup_blocks.specs.Begun.{IsBegun}
@@ -40,7 +41,7 @@ use Rattle.rst_block_state.proofs.WaitingLooks.{one_quote, split_quotes, resumed
 
 -- A part without an attribution is one quote. L are its lines: five looks are taken at each of them at most, and one more.
 pub plain_paid : (old new : OpenBlock) (B : Block) (p : Part) (line before after : ℕ) (L : Block) → L ≡ lines_in B p → None ≡ first_attribution L → length L ≡ p.to - p.from → p.from < p.to
-    → IsMoved old new → new.at ≡ p.to → after ≤ before + 5 * length L + 1 → before ≤ after
+    → IsMoved old new → new.at ≡ p.to → after ≤ before + 5 * length L + 1 → capped before ≤ after
     → AreQuotesPaid old new B p p.to (Open (Quote line None None p.to) p None) before after
 plain_paid old new B p line before after L is none size filled moved at few low =
     let run : run_looks new.run ≡ run_looks old.run = ap run_looks moved.run in
@@ -74,10 +75,10 @@ left_looks p next line made = elim (cases_lt (p.from + next) p.to) [
 -- each of them through the attribution's end, one more at each line of the attribution, and one at each blank line behind it and at the line after these.
 pub attributed_paid : (old new : OpenBlock) (B : Block) (p : Part) (k next line before found read after : ℕ) (a : Attribution) (box : Box Texted Global) (left : Option Part) (L : Block)
     → left ≡ rest_of p next → L ≡ lines_in B p → Some (k, a) ≡ first_attribution L → next ≡ a.end + lines_while Blank (drop a.end L) → length L ≡ p.to - p.from → p.from < p.to → p.to ≤ length B → 0 < k
-    → IsMoved old new → new.at ≡ p.from + next → found ≤ before + 5 * a.end → before ≤ found → read ≡ found + (a.end - k)
-    → after ≤ read + lines_while Blank (drop a.end L) + 1 → read + lines_while Blank (drop a.end L) ≤ after
+    → IsMoved old new → new.at ≡ p.from + next → found ≤ before + 5 * a.end → capped before ≤ found → read ≤ found + (a.end - k) → capped (found + (a.end - k)) ≤ read
+    → after ≤ read + lines_while Blank (drop a.end L) + 1 → capped (read + lines_while Blank (drop a.end L)) ≤ after
     → AreQuotesPaid old new B p p.to (Open (Quote line (Some box) left p.to) (front_of p k) None) before after
-attributed_paid old new B p k next line before found read after a box left L rest is first behind size filled within behind_text moved at through from each few low = rw rest (record {
+attributed_paid old new B p k next line before found read after a box left L rest is first behind size filled within behind_text moved at through from each all few low = rw rest (record {
   goes = tt;
   depth = moved.depth;
   run = run;
@@ -85,7 +86,7 @@ attributed_paid old new B p k next line before found read after a box left L res
   blocks = sym (ap (totals old.depth) (split_quotes B p k next line a (Some box) attributed (behind ∙ ap (λ (Q : Block). a.end + lines_while Blank (drop a.end Q)) is) within));
   cells = refl;
   most = omega (arith, run, left_looks p next line (Some box), ends, behind, inside.0, behind_text, through, each, few, filled);
-  least = omega (arith, from, each, low);
+  least = omega (arith, from, all, low);
 })
   where
     run : run_looks new.run ≡ run_looks old.run
@@ -104,13 +105,15 @@ attributed_paid old new B p k next line before found read after a box left L res
 
 -- A block quote, after the end of the open run: its lines are those of the extent, which is looked at once, and then it is read as quotes.
 pub block_quote_paid : (l closed new : OpenBlock) (B : Block) (p : Part) (s : Step) (done : Result (List Item × ℕ) ℕ) (n before mid found after : ℕ) → l.at < length B → IsBegun (drop l.at B) Begins.Quote
-    → IsClosed done l closed n no_run → before ≤ mid → mid ≤ before + run_looks l.run
-    → p ≡ indented_part closed.at (drop closed.at B) → found ≡ mid + reach (extent 1 (drop closed.at B)) (drop closed.at B)
+    → IsClosed done l closed n no_run → capped before ≤ mid → mid ≤ before + run_looks l.run
+    → p ≡ indented_part closed.at (drop closed.at B) → found ≤ mid + reach (extent 1 (drop closed.at B)) (drop closed.at B)
+    → capped (mid + reach (extent 1 (drop closed.at B)) (drop closed.at B)) ≤ found
     → AreQuotesPaid closed new B p p.to s found after → IsPaid 29 l new B s before after
-block_quote_paid l closed new B p s done n before mid found after inside begun cl low run is look h =
+block_quote_paid l closed new B p s done n before mid found after inside begun cl low run is look each h =
     let X : Block = drop l.at B in
     let part : p ≡ indented_part l.at X = is ∙ ap (λ i. indented_part i (drop i B)) cl.at in
-    let looks : found ≡ mid + reach (extent 1 X) X = look ∙ ap (λ i. mid + reach (extent 1 (drop i B)) (drop i B)) cl.at in
+    let looks : found ≤ mid + reach (extent 1 X) X = subst (λ i. found ≤ mid + reach (extent 1 (drop i B)) (drop i B)) cl.at look in
+    let all : capped (mid + reach (extent 1 X) X) ≤ found = subst (λ i. capped (mid + reach (extent 1 (drop i B)) (drop i B)) ≤ found) cl.at each in
     let from : p.from ≡ l.at = ap (λ (q : Part). q.from) part in
     let to : p.to ≡ l.at + extent 1 X = ap (λ (q : Part). q.to) part in
     let some : l.at < l.at + extent 1 X = next_some (next_of Begins.Quote l B begun tt) inside in
@@ -119,7 +122,7 @@ block_quote_paid l closed new B p s done n before mid found after inside begun c
     subst (λ d. totals d (next_blocks B s) ≡ totals d (quoted_blocks (lines_in B p))) cl.depth h.blocks in
     paid_begun 29 Begins.Quote l new B s before after begun tt h.goes (h.depth ∙ cl.depth) (h.place ∙ to)
     (opened ∙ ap (λ (q : Part). totals l.depth (quoted_blocks (lines_in B q))) part) (ap (totals l.depth) h.cells)
-    (omega (arith, h.most, none, looks, from, to, some, run)) (omega (arith, h.least, looks, low))
+    (omega (arith, h.most, none, looks, from, to, some, run)) (omega (arith, h.least, all, low))
 
 -- ---- a block that waited for a quote
 
@@ -131,7 +134,7 @@ further_paid old new B left line end made p s before after is h = rw is (quotes_
 
 -- the last quote was read, and a look at most is taken at the line after it
 pub last_paid : {old new : OpenBlock} {more : List Node} (B : Block) (left : Option Part) (line end : ℕ) (made : Option (Box Texted Global)) (before after : ℕ)
-    → left ≡ None → HasMore old new more → after ≤ before + 1 → before ≤ after
+    → left ≡ None → HasMore old new more → after ≤ before + 1 → capped before ≤ after
     → Takes (most_after old B (Quote line made left end) None) (least_after old B (Quote line made left end) None) before (most_left new B Next) (least_left new B Next) after
 last_paid {old} {new} B left line end made before after none m few low =
     let run : run_looks new.run ≡ run_looks old.run = ap run_looks m.run in

@@ -2,6 +2,7 @@
 use Rattle.std.proofs.Common.{◌≡◌, ℕ, ◌+◌, ◌-◌, ◌*◌, ◌<◌, ◌≤◌, Bool, [], length, drop, Option, Some, None, Result, IfOk, arith, refl, ap, sym, subst, ◌∙◌, inl, inr}
 use Rattle.std.specs.Prelude.{◌==◌, ◌⊎◌}
 use Rattle.std.proofs.lemmas.Result.{IfOk-weaker}
+use Rattle.rst_text.specs.Looked.{capped}
 use Rattle.rst_text.specs.Block.{Block}
 use Rattle.rst_markup_blocks.specs.Begun.{IsBegun}
 use Rattle.rst_markup_blocks.specs.Ends.{row_size}
@@ -53,7 +54,7 @@ takes_none most least looks = record { no_more = omega arith; no_less = omega ar
 -- ---- a construct at the next line
 
 -- a blank line, at which one look is taken or more, and no more than three
-pub blank_taken : {old new : OpenBlock} {before after : ℕ} (B : Block) → old.at < length B → IsBegun (drop old.at B) begun.Blank → IsMoved old new → new.at ≡ old.at + 1 → before + 1 ≤ after → after ≤ before + 3
+pub blank_taken : {old new : OpenBlock} {before after : ℕ} (B : Block) → old.at < length B → IsBegun (drop old.at B) begun.Blank → IsMoved old new → new.at ≡ old.at + 1 → capped (before + 1) ≤ after → after ≤ before + 3
     → Takes (most_left old B Next) (least_left old B Next) before (most_left new B Next) (least_left new B Next) after
 blank_taken {old} {new} {before} {after} B inside h moved at some few =
     blank_line old new B before after inside (row_at kinds.Blank (drop old.at B) h.kind) moved.depth (omega (arith, at)) moved.run (omega (arith, few)) some
@@ -63,21 +64,21 @@ paid_within : (old new : OpenBlock) (B : Block) (s : Step) (before after : ℕ) 
 paid_within old new B s before after h = record { goes = h.goes; depth = h.depth; place = h.place; blocks = h.blocks; cells = h.cells; most = omega (arith, h.most); least = h.least }
 
 -- a construct, after the looks by which its mark was found
-pub construct_taken : (begun : Begun) {old new : OpenBlock} {B : Block} {s : Step} {before mid after : ℕ} → old.at < length B → IsBegun (drop old.at B) begun → IsFilled begun → before + 1 ≤ mid → mid ≤ before + 3
+pub construct_taken : (begun : Begun) {old new : OpenBlock} {B : Block} {s : Step} {before mid after : ℕ} → old.at < length B → IsBegun (drop old.at B) begun → IsFilled begun → capped (before + 1) ≤ mid → mid ≤ before + 3
     → IsPaid 29 old new B s mid after → Takes (most_left old B Next) (least_left old B Next) before (most_left new B s) (least_left new B s) after
 construct_taken begun {old} {new} {B} {s} {before} {mid} {after} inside h f some few paid =
     construct old new B s before mid after inside (next_of begun old B h f).filled some few paid
 
 -- the same of a call that reads the construct
 pub step_taken : (begun : Begun) (old new : OpenBlock) (B : Block) (before mid after : ℕ) (result : Result Step BlockFault) → old.at < length B → IsBegun (drop old.at B) begun → IsFilled begun
-    → before + 1 ≤ mid → mid ≤ before + 3 → IfOk result (λ s. IsPaid 29 old new B s mid after)
+    → capped (before + 1) ≤ mid → mid ≤ before + 3 → IfOk result (λ s. IsPaid 29 old new B s mid after)
     → IfOk result (λ s. Takes (most_left old B Next) (least_left old B Next) before (most_left new B s) (least_left new B s) after)
 step_taken begun old new B before mid after result inside h f some few paid =
     IfOk-weaker result _ _ (λ s p. construct_taken begun inside h f some few p) paid
 
 -- the same of a text, which takes fewer looks
 pub text_taken : (old new : OpenBlock) (B : Block) (before mid after : ℕ) (result : Result Step BlockFault) → old.at < length B → IsBegun (drop old.at B) begun.Text
-    → before + 1 ≤ mid → mid ≤ before + 3 → IfOk result (λ s. IsPaid 27 old new B s mid after)
+    → capped (before + 1) ≤ mid → mid ≤ before + 3 → IfOk result (λ s. IsPaid 27 old new B s mid after)
     → IfOk result (λ s. Takes (most_left old B Next) (least_left old B Next) before (most_left new B s) (least_left new B s) after)
 text_taken old new B before mid after result inside h some few paid =
     IfOk-weaker result _ _ (λ s p. construct_taken begun.Text inside h tt some few (paid_within old new B s mid after p)) paid
@@ -90,8 +91,8 @@ markup_filled mark (inr e) = subst IsFilled (sym e) tt
 -- ---- tables
 
 -- the looks by which a grid table was found
-pub grid_found : (titles : Bool) (X : Block) (before after : ℕ) → IsBegun X begun.Grid → after ≤ before + grid_scan X → before + grid_size X ≤ after
-    → (after ≤ before + 4 * reach_at titles X) × (before + construct_size titles X ≤ after + 1)
+pub grid_found : (titles : Bool) (X : Block) (before after : ℕ) → IsBegun X begun.Grid → after ≤ before + grid_scan X → capped (before + grid_size X) ≤ after
+    → (after ≤ before + 4 * reach_at titles X) × (capped (before + (construct_size titles X - 1)) ≤ after)
 unfolding construct_size
 grid_found titles X before after h few some =
     let far : reach_at titles X ≡ grid_reach X = reach_of begun.Grid titles X h in
@@ -99,8 +100,8 @@ grid_found titles X before after h few some =
     (omega (arith, few, far), omega (arith, some, size))
 
 -- the looks by which a simple table was found
-pub simple_found : (titles : Bool) (X : Block) (before after : ℕ) → IsBegun X begun.Simple → after ≤ before + 4 * simple_scan X → before + simple_size X ≤ after + 1
-    → (after ≤ before + 4 * reach_at titles X) × (before + construct_size titles X ≤ after + 1)
+pub simple_found : (titles : Bool) (X : Block) (before after : ℕ) → IsBegun X begun.Simple → after ≤ before + 4 * simple_scan X → capped (before + (simple_size X - 1)) ≤ after
+    → (after ≤ before + 4 * reach_at titles X) × (capped (before + (construct_size titles X - 1)) ≤ after)
 unfolding construct_size
 simple_found titles X before after h few some =
     let far : reach_at titles X ≡ simple_reach X = reach_of begun.Simple titles X h in
@@ -125,8 +126,8 @@ table_kind l B t (inr (h, e)) =
 -- A table, at which such looks were taken to find it. Then the run before it ended, and there are the looks at the message on a malformed one, a look at
 -- the line after the table, and one at the end of a run.
 table_paid : {l new : OpenBlock} {B : Block} {t : TableResult} {s : Step} {before found after : ℕ} → IsTableAt B l.at t → l.at < length B → GoesOn s → new.depth ≡ l.depth → place_after new s ≡ end_of t
-    → next_blocks B s ≡ [] → next_cells s ≡ cell_blocks t → found ≤ before + 4 * reach_at (l.depth == 0) (drop l.at B) → before + construct_size (l.depth == 0) (drop l.at B) ≤ found + 1
-    → after + end_looks new s ≤ found + run_looks l.run + (end_of t - l.at) + 2 → found ≤ after → IsPaid 29 l new B s before after
+    → next_blocks B s ≡ [] → next_cells s ≡ cell_blocks t → found ≤ before + 4 * reach_at (l.depth == 0) (drop l.at B) → capped (before + (construct_size (l.depth == 0) (drop l.at B) - 1)) ≤ found
+    → after + end_looks new s ≤ found + run_looks l.run + (end_of t - l.at) + 2 → capped found ≤ after → IsPaid 29 l new B s before after
 table_paid {l} {new} {B} {t} {s} {before} {found} {after} h inside goes depth place blocks cells few some most least =
     let X : Block = drop l.at B in
     let n : ℕ = construct_size (l.depth == 0) X in
@@ -139,14 +140,14 @@ table_paid {l} {new} {B} {t} {s} {before} {found} {after} h inside goes depth pl
 
 -- a malformed table, whose lines its message shows
 pub malformed_paid : {l new : OpenBlock} {B : Block} {end : ℕ} {fault : TableFault} (mid before found closed told after : ℕ) → IsTableAt B l.at (Malformed end fault) → l.at < length B → new.depth ≡ l.depth → new.at ≡ end
-    → found ≤ before + 4 * reach_at (l.depth == 0) (drop l.at B) → before + construct_size (l.depth == 0) (drop l.at B) ≤ found + 1 → mid ≡ l.at → closed ≤ found + run_looks l.run → found ≤ closed
-    → told ≤ closed + (end - mid) → closed ≤ told → after ≤ told + 1 → told ≤ after → IsPaid 29 l new B Next before after
+    → found ≤ before + 4 * reach_at (l.depth == 0) (drop l.at B) → capped (before + (construct_size (l.depth == 0) (drop l.at B) - 1)) ≤ found → mid ≡ l.at → closed ≤ found + run_looks l.run → capped found ≤ closed
+    → told ≤ closed + (end - mid) → capped closed ≤ told → after ≤ told + 1 → capped told ≤ after → IsPaid 29 l new B Next before after
 malformed_paid {l} {new} mid before found closed told after h inside depth at few some place run low most shown one more =
     table_paid h inside tt depth at refl refl few some (omega (arith, place, run, most, one, one_look new.run)) (omega (arith, low, shown, more))
 
 -- a table whose cells come next
 pub cells_paid : {l new : OpenBlock} {B : Block} (t : TableResult) (before found after : ℕ) → IsTableAt B l.at t → l.at < length B → new.depth ≡ l.depth
-    → found ≤ before + 4 * reach_at (l.depth == 0) (drop l.at B) → before + construct_size (l.depth == 0) (drop l.at B) ≤ found + 1 → after ≤ found + run_looks l.run → found ≤ after
+    → found ≤ before + 4 * reach_at (l.depth == 0) (drop l.at B) → capped (before + (construct_size (l.depth == 0) (drop l.at B) - 1)) ≤ found → after ≤ found + run_looks l.run → capped found ≤ after
     → IsPaid 29 l new B (Cells t) before after
 cells_paid {l} {new} t before found after h inside depth few some run low = table_paid h inside tt depth refl refl refl few some (omega (arith, run, one_look new.run)) low
 
@@ -154,7 +155,7 @@ cells_paid {l} {new} t before found after h inside depth few some run low = tabl
 
 -- a block inside was looked at that is blank
 pub first_taken : (l : OpenBlock) (B : Block) (w : Waits) (first : Part) (second : Option Part) (before after : ℕ) → second ≡ None → l.depth ≡ deepest
-    → before + length (lines_in B first) ≤ after → after ≤ before + length (lines_in B first)
+    → capped (before + length (lines_in B first)) ≤ after → after ≤ before + length (lines_in B first)
     → Takes (most_left l B (Open w first second)) (least_left l B (Open w first second)) before (most_after l B w None) (least_after l B w None) after
 unfolding sum_of
 first_taken l B w first second before after none deep some few =
@@ -163,7 +164,7 @@ first_taken l B w first second before after none deep some few =
 
 -- two of them
 pub both_taken : (l : OpenBlock) (B : Block) (w : Waits) (first p : Part) (second : Option Part) (before mid after : ℕ) → second ≡ Some p → l.depth ≡ deepest
-    → before + length (lines_in B first) ≤ mid → mid ≤ before + length (lines_in B first) → mid + length (lines_in B p) ≤ after → after ≤ mid + length (lines_in B p)
+    → capped (before + length (lines_in B first)) ≤ mid → mid ≤ before + length (lines_in B first) → capped (mid + length (lines_in B p)) ≤ after → after ≤ mid + length (lines_in B p)
     → Takes (most_left l B (Open w first second)) (least_left l B (Open w first second)) before (most_after l B w None) (least_after l B w None) after
 unfolding sum_of
 both_taken l B w first p second before mid after two deep some few more most =

@@ -3,6 +3,7 @@
 use Rattle.std.proofs.Common.{◌≡◌, ℕ, ◌+◌, ◌-◌, ◌*◌, ◌<◌, ◌≤◌, Bool, List, [], Result, length, length-drop, length-take, drop, slice_range, min, arith, refl, sym, ap, ◌∙◌, subst}
 use Rattle.std.specs.Prelude.{◌==◌}
 use Rattle.rst_text.specs.Block.{Block}
+use Rattle.rst_text.specs.Looked.{capped}
 use Rattle.rst_text.specs.Reach.{reach}
 use Rattle.rst_markup_blocks.specs.Ends.{row_size, row_reach}
 use Rattle.rst_markup_blocks.specs.Kinds.{kind_at}
@@ -82,7 +83,7 @@ flat_reach {l} {B} h flat =
 -- it is paid for, where it came after the end of the open run
 pub paid_flat : (each : ℕ) {l closed : OpenBlock} (new : OpenBlock) {B : Block} {what : Construct} {lines m : ℕ} {read : Result (List Item × ℕ) ℕ} (before after : ℕ) → IsNextConstruct l B what lines → IsFlat what
     → IsClosed read l closed m no_run → new.depth ≡ closed.depth → new.run ≡ closed.run → new.at ≡ l.at + lines
-    → after ≤ before + run_looks l.run + each * reach lines (drop l.at B) → before + lines ≤ after + 1 → IsPaid each l new B Next before after
+    → after ≤ before + run_looks l.run + each * reach lines (drop l.at B) → capped (before + (lines - 1)) ≤ after → IsPaid each l new B Next before after
 paid_flat each {l} {closed} new {B} {what} {lines} before after h flat cl depth run at most least =
     let X : Block = drop l.at B in
     let ended : run_looks new.run ≡ 0 = ap run_looks run ∙ ended_looks closed.run cl.run in
@@ -93,7 +94,7 @@ paid_flat each {l} {closed} new {B} {what} {lines} before after h flat cl depth 
 -- ---- looks
 
 -- up to two looks before a construct are paid for with it
-paid_later : (each : ℕ) {l new : OpenBlock} {B : Block} {s : Step} {before mid after : ℕ} → l.at < length B → before ≤ mid → mid ≤ before + 2 → IsPaid each l new B s mid after → IsPaid (each + 2) l new B s before after
+paid_later : (each : ℕ) {l new : OpenBlock} {B : Block} {s : Step} {before mid after : ℕ} → l.at < length B → capped before ≤ mid → mid ≤ before + 2 → IsPaid each l new B s mid after → IsPaid (each + 2) l new B s before after
 paid_later each {l} {new} {B} {s} {before} {mid} {after} inside low high h =
     let far : 1 ≤ reach_at (l.depth == 0) (drop l.at B) = omega (arith, size_reached (l.depth == 0) (drop l.at B), (end_inside (l.depth == 0) B l.at inside).0) in
     record {
@@ -107,11 +108,11 @@ paid_later each {l} {new} {B} {s} {before} {mid} {after} inside low high h =
     }
 
 -- so are the looks at the line of a text and at the one below it
-pub paid_text : {l new : OpenBlock} {B : Block} {s : Step} {before line mid after : ℕ} → l.at < length B → line ≡ before + 1 → line ≤ mid → mid ≤ line + 1 → IsPaid 25 l new B s mid after → IsPaid 27 l new B s before after
+pub paid_text : {l new : OpenBlock} {B : Block} {s : Step} {before line mid after : ℕ} → l.at < length B → line ≡ capped (before + 1) → capped line ≤ mid → mid ≤ line + 1 → IsPaid 25 l new B s mid after → IsPaid 27 l new B s before after
 paid_text inside first low high h = paid_later 25 inside (omega (arith, first, low)) (omega (arith, first, high)) h
 
 -- and those at the two lines below a line of one punctuation character
-pub paid_adorned : {l new : OpenBlock} {B : Block} {s : Step} {before next mid after : ℕ} (t : List ℕ) → l.at < length B → before ≤ next → next ≤ before + 1 → next ≤ mid → mid ≤ next + overline_looks t
+pub paid_adorned : {l new : OpenBlock} {B : Block} {s : Step} {before next mid after : ℕ} (t : List ℕ) → l.at < length B → capped before ≤ next → next ≤ before + 1 → capped next ≤ mid → mid ≤ next + overline_looks t
     → IsPaid 27 l new B s mid after → IsPaid 29 l new B s before after
 paid_adorned t inside low high least most h = paid_later 27 inside (omega (arith, low, least)) (omega (arith, high, most)) h
 
@@ -122,10 +123,10 @@ lines_looked B i stop e s within =
     omega (arith, taken, length-drop i B, e, s, within)
 
 -- the looks at a paragraph, and those before it at the end of the open run
-pub paragraph_looks : (B : Block) (i run : ℕ) {at before closed after : ℕ} → i ≡ at → before ≤ closed → closed ≤ before + run
-    → after ≤ closed + 20 * reach (paragraph_size (drop i B)) (drop i B) → closed + paragraph_size (drop i B) ≤ after
-    → (after ≤ before + run + 25 * reach (paragraph_size (drop at B)) (drop at B)) × (before + paragraph_size (drop at B) ≤ after + 1)
-paragraph_looks B i run {at} e low high most least =
+pub paragraph_looks : (B : Block) (i run before : ℕ) {at closed after : ℕ} → i ≡ at → capped before ≤ closed → closed ≤ before + run
+    → after ≤ closed + 20 * reach (paragraph_size (drop i B)) (drop i B) → capped (closed + paragraph_size (drop i B)) ≤ after
+    → (after ≤ before + run + 25 * reach (paragraph_size (drop at B)) (drop at B)) × (capped (before + (paragraph_size (drop at B) - 1)) ≤ after)
+paragraph_looks B i run before {at} e low high most least =
     let size : paragraph_size (drop i B) ≡ paragraph_size (drop at B) = ap (λ k. paragraph_size (drop k B)) e in
     let far : reach (paragraph_size (drop i B)) (drop i B) ≡ reach (paragraph_size (drop at B)) (drop at B) = ap (λ k. reach (paragraph_size (drop k B)) (drop k B)) e in
     (omega (arith, high, most, far), omega (arith, low, least, size))

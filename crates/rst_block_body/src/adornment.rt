@@ -1,10 +1,9 @@
 //! Lines of one punctuation character: transitions, titles with an overline, and what is neither (Markup
 //! Specification, 'Sections', 'Transitions').
-ghost use Rattle.std.specs.Prelude.{◌≡◌, ◌+◌, ◌-◌, ◌*◌, ◌^◌, ◌<◌, ◌≤◌, ◌∷◌, [], length, drop, Some, IfOk, IfSome};
+ghost use Rattle.std.specs.Prelude.{◌≡◌, ◌<◌, ◌∷◌, [], length, drop, Some, IfOk};
 ghost use Rattle.rst_text.specs.Block.{first_number};
 ghost use Rattle.rst_text.specs.Shown.{block_of};
 ghost use Rattle.rst_tree.specs.declared.note.Level.TheVariants.{Info};
-ghost use Rattle.rst_markup_blocks.specs.Parts.{IsBlock, IsCall};
 ghost use Rattle.rst_markup_blocks.specs.Sizes.{fixed_size};
 ghost use Rattle.rst_block_state.specs.Steps as spec;
 ghost use Rattle.rst_markup_blocks.specs.Begun.{IsBegun};
@@ -38,7 +37,6 @@ pub fn adornment(
     pass: &mut Pass,
 ) -> Result<Step, BlockFault>
     requires inside { level.old.at < length (block_of view.now) }
-    requires few { pass.old.looks < 2 ^ 119 + 2 ^ 111 }
     requires begun { IsBegun (drop level.old.at (block_of view.now)) (marks.Adornment mark) }
     requires placed { IsPlaced level.old }
     ensures step { IfOk result (λ s. spec.IsStep (block_of view.now) level.old.at level.new.at s) }
@@ -118,7 +116,6 @@ fn transition(
     pass: &mut Pass,
 ) -> Result<(), BlockFault>
     requires inside { level.old.at < length (block_of view.now) }
-    requires few { pass.old.looks < 2 ^ 119 + 2 ^ 112 }
     requires placed { IsPlaced level.old }
     requires found { IsNextConstruct level.old (block_of view.now) transition 1 }
     ensures later { IfOk result (λ _. level.old.at < level.new.at) }
@@ -143,7 +140,6 @@ fn short(
     pass: &mut Pass,
 ) -> Result<Step, BlockFault>
     requires inside { level.old.at < length (block_of view.now) }
-    requires few { pass.old.looks < 2 ^ 119 + 2 ^ 112 }
     requires placed { IsPlaced level.old }
     requires text { IsText level.old (block_of view.now) (said Info (first_number (drop level.old.at (block_of view.now))) text.now ∷ []) }
     ensures step { IfOk result (λ s. spec.IsStep (block_of view.now) level.old.at level.new.at s) }
@@ -165,7 +161,6 @@ fn wrong(
     pass: &mut Pass,
 ) -> Result<(), BlockFault>
     requires inside { level.old.at < length (block_of view.now) }
-    requires few { pass.old.looks < 2 ^ 119 + 2 ^ 112 }
     requires placed { IsPlaced level.old }
     requires found { IsNextConstruct level.old (block_of view.now) (misplaced_lines form.gravity form.text.now) form.lines }
     ensures later { IfOk result (λ _. level.old.at < level.new.at) }
@@ -194,7 +189,6 @@ fn overlined(
     pass: &mut Pass,
 ) -> Result<(), BlockFault>
     requires inside { level.old.at < length (block_of view.now) }
-    requires few { pass.old.looks < 2 ^ 119 + 2 ^ 112 }
     requires placed { IsPlaced level.old }
     requires found { IsNextConstruct level.old (block_of view.now) (overlined_title mark short) 3 }
     ensures later { IfOk result (λ _. level.old.at < level.new.at) }

@@ -1,7 +1,6 @@
 //! Items of definition lists (Markup Specification, 'Definition Lists').
-ghost use Rattle.std.specs.Prelude.{◌≡◌, ◌+◌, ◌-◌, ◌*◌, ◌^◌, ◌<◌, ◌≤◌, length, drop, IfOk, IfSome};
+ghost use Rattle.std.specs.Prelude.{◌≡◌, ◌<◌, length, drop, IfOk};
 ghost use Rattle.rst_text.specs.Shown.{block_of};
-ghost use Rattle.rst_markup_blocks.specs.Parts.{IsBlock, IsCall};
 ghost use Rattle.rst_block_state.specs.Steps as spec;
 ghost use Rattle.rst_text.specs.Block.{front_text};
 ghost use Rattle.rst_markup_blocks.specs.Conditions.{next_text};
@@ -31,7 +30,6 @@ pub(crate) fn definition(
     pass: &mut Pass,
 ) -> Result<Step, BlockFault>
     requires inside { level.old.at < length (block_of view.now) }
-    requires few { pass.old.looks < 2 ^ 119 + 2 ^ 114 }
     requires text { IsText level.old (block_of view.now) infos.items }
     requires form { let X = drop level.old.at (block_of view.now) in text_form (front_text X) (next_text X) ≡ Definition }
     requires placed { IsPlaced level.old }

@@ -1,6 +1,7 @@
 //! Fields (Markup Specification, 'Field Lists').
-ghost use Rattle.std.specs.Prelude.{◌≡◌, suc, ◌+◌, ◌-◌, ◌^◌, ◌<◌, ◌≤◌, [], length, drop, IfOk, Some};
+ghost use Rattle.std.specs.Prelude.{◌≡◌, suc, ◌+◌, ◌-◌, ◌<◌, ◌≤◌, [], length, drop, IfOk, Some};
 ghost use Rattle.rst_text.specs.Block.{first_number};
+ghost use Rattle.rst_text.specs.Looked.{capped};
 ghost use Rattle.rst_text.specs.Shown.{block_of};
 ghost use Rattle.rst_tree.specs.Forest.{bare};
 ghost use Rattle.rst_tree.specs.declared.node.Node.TheVariants.{Element};
@@ -30,7 +31,6 @@ pub fn field(
     pass: &mut Pass,
 ) -> Result<Step, BlockFault>
     requires inside { level.old.at < length (block_of view.now) }
-    requires few { pass.old.looks < 2 ^ 119 + 2 ^ 111 }
     requires begun { IsBegun (drop level.old.at (block_of view.now)) (Field mark) }
     requires placed { IsPlaced level.old }
     ensures step { IfOk result (λ s. spec.IsStep (block_of view.now) level.old.at level.new.at s) }
@@ -87,7 +87,6 @@ pub(crate) fn join_list(
     end: usize,
     pass: &mut Pass,
 ) -> Result<(), BlockFault>
-    requires few { pass.old.looks < 2 ^ 120 }
     ensures at { level.new.at ≡ level.old.at }
     ensures joins { list_kind_in level.old.run ≡ Some kind
         → Gives (λ _. HasRun level.old level.new (joined_at (joining_in kind) end (open_of level.old.run))) result }
@@ -97,7 +96,7 @@ pub(crate) fn join_list(
         let run = begun_at (joining_in kind) end (Element tag [] bare (first_number (drop level.old.at B))) in
         (list_kind_in level.old.run ≡ Some kind → ⊥) → Closes closed level.old level.new pass.new.numbers run result }
     ensures looks { pass.new.looks ≤ pass.old.looks + 1 }
-    ensures low { pass.old.looks ≤ pass.new.looks }
+    ensures low { capped pass.old.looks ≤ pass.new.looks }
 {
     if level.run.list_kind() == Some(kind) {
         level.join(kind, end);

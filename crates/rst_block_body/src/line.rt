@@ -1,11 +1,10 @@
 //! Lines of line blocks (Markup Specification, 'Line Blocks').
-ghost use Rattle.std.specs.Prelude.{◌≡◌, ℕ, ◌+◌, ◌-◌, ◌*◌, ◌^◌, ◌<◌, ◌≤◌, length, drop, unwrap_or, IfOk, IfSome};
+ghost use Rattle.std.specs.Prelude.{◌≡◌, ℕ, ◌+◌, ◌-◌, ◌*◌, ◌^◌, ◌<◌, ◌≤◌, length, drop, unwrap_or, IfOk};
 ghost use Rattle.std.specs.Str.{chars};
+ghost use Rattle.rst_text.specs.Looked.{capped};
 ghost use Rattle.rst_text.specs.Shown.{block_of};
 ghost use Rattle.rst_text.specs.Text.{chars_of};
-ghost use Rattle.rst_markup_blocks.specs.Parts.{IsBlock, IsCall};
 ghost use Rattle.rst_block_nodes.specs.LineBlocks.{indented_by};
-ghost use Rattle.rst_block_state.specs.Steps as spec;
 ghost use Rattle.rst_markup_blocks.specs.Begun.{IsBegun};
 ghost use Rattle.rst_markup_blocks.specs.declared.begun.Begun.TheVariants.{Line};
 ghost use Rattle.rst_block_state.specs.LineRuns.{indented_line, indentation_of};
@@ -35,7 +34,6 @@ pub fn bar_line(
     pass: &mut Pass,
 ) -> Result<(), BlockFault>
     requires inside { level.old.at < length (block_of view.now) }
-    requires few { pass.old.looks < 2 ^ 119 + 2 ^ 111 }
     requires begun { IsBegun (drop level.old.at (block_of view.now)) (Line marker) }
     requires placed { IsPlaced level.old }
     ensures later { IfOk result (λ _. level.old.at < level.new.at) }
@@ -91,13 +89,11 @@ fn bar_text(
     pass: &mut Pass,
 ) -> Result<BarText, AllocError>
     requires inside { at < length (block_of view.now) }
-    requires few { pass.old.looks < 2 ^ 119 + 2 ^ 112 }
     ensures line { IfOk result (λ text. (last : ℕ) → indented_by (unwrap_or text.indent last) text
         ≡ indented_line (indentation_of last marker) (block_of view.now) marker (record { start = at; stop = end })) }
     ensures numbers { pass.new.numbers ≡ pass.old.numbers }
-    ensures looks { IfOk result (λ _. pass.new.looks ≤ pass.old.looks + 2 ^ 66) }
     ensures most { IfOk result (λ _. pass.new.looks ≤ pass.old.looks + 1 + 2 * (end - (at + 1))) }
-    ensures low { IfOk result (λ _. pass.old.looks ≤ pass.new.looks) }
+    ensures low { IfOk result (λ _. capped pass.old.looks ≤ pass.new.looks) }
 {
     let line = number_at(view, at);
     let below = lines_between(view, at + 1, end);

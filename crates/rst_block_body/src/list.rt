@@ -1,12 +1,13 @@
 //! Items of bullet lists and of enumerated lists (Markup Specification, 'Bullet Lists', 'Enumerated Lists').
-ghost use Rattle.std.specs.Prelude.{◌≡◌, ◌+◌, ◌-◌, ◌*◌, ◌^◌, ◌<◌, ◌≤◌, length, drop, string_bytes, IfOk, IfSome, [], ◌∷◌, None, option_map};
+ghost use Rattle.std.specs.Prelude.{◌≡◌, ◌+◌, ◌-◌, ◌^◌, ◌<◌, ◌≤◌, length, drop, string_bytes, IfOk, [], ◌∷◌, None, option_map};
 ghost use Rattle.std.specs.Option.{option_and_then, option_to_list};
 ghost use Rattle.std.specs.Str.{chars};
 ghost use Rattle.rst_text.specs.Block.{Block};
+ghost use Rattle.rst_text.specs.Looked.{capped};
 ghost use Rattle.rst_text.specs.Shown.{block_of};
 ghost use Rattle.rst_tree.specs.Faults.{Gives};
 ghost use Rattle.rst_markup_lines.specs.Enumerator.{first_reading};
-ghost use Rattle.rst_markup_blocks.specs.Parts.{IsBlock, IsCall};
+ghost use Rattle.rst_markup_blocks.specs.Parts.{IsBlock};
 ghost use Rattle.rst_block_state.specs.Lists as lists;
 ghost use Rattle.rst_block_state.specs.Steps as spec;
 ghost use Rattle.rst_block_state.specs.Texts.{excerpt};
@@ -59,7 +60,6 @@ pub fn bullet_item(
     pass: &mut Pass,
 ) -> Result<Step, BlockFault>
     requires inside { level.old.at < length (block_of view.now) }
-    requires few { pass.old.looks < 2 ^ 119 + 2 ^ 111 }
     requires begun { IsBegun (drop level.old.at (block_of view.now)) (Bullet mark marker) }
     requires placed { IsPlaced level.old }
     ensures step { IfOk result (λ s. spec.IsStep (block_of view.now) level.old.at level.new.at s) }
@@ -90,7 +90,6 @@ pub fn enumerated_item(
     pass: &mut Pass,
 ) -> Result<Step, BlockFault>
     requires inside { level.old.at < length (block_of view.now) }
-    requires few { pass.old.looks < 2 ^ 119 + 2 ^ 111 }
     requires begun { IsBegun (drop level.old.at (block_of view.now)) (ItemEnumerator enumerator) }
     requires placed { IsPlaced level.old }
     ensures step { IfOk result (λ s. spec.IsStep (block_of view.now) level.old.at level.new.at s) }
@@ -132,7 +131,6 @@ fn begin_enumerated_list(
     pass: &mut Pass,
 ) -> Result<(), BlockFault>
     requires inside { level.old.at < length (block_of view.now) }
-    requires few { pass.old.looks < 2 ^ 120 }
     ensures at { level.new.at ≡ level.old.at }
     ensures run { let B = block_of view.now in
         let X = drop level.old.at B in
@@ -140,7 +138,7 @@ fn begin_enumerated_list(
         blocks.Gives (λ _. HasRun level.old level.new run) result }
     ensures numbers { pass.new.numbers ≡ pass.old.numbers }
     ensures looks { pass.new.looks ≤ pass.old.looks + 1 }
-    ensures low { pass.old.looks ≤ pass.new.looks }
+    ensures low { capped pass.old.looks ≤ pass.new.looks }
 {
     let at = level.at;
     let kind = ListKind::Enumerated(Sequel::of(enumerator));
@@ -172,11 +170,10 @@ fn start_note(
     looks: &mut Looks,
 ) -> Result<Option<Node>, TreeFault>
     requires inside { at < length (block_of view.now) }
-    requires few { looks.old < 2 ^ 120 }
     ensures note { Gives (λ note. option_to_list note
         ≡ lists.start_note enumerator (first_reading enumerator.written.ordinals) (drop at (block_of view.now))) result }
     ensures looks { looks.new ≤ looks.old + 1 }
-    ensures low { looks.old ≤ looks.new }
+    ensures low { capped looks.old ≤ looks.new }
 {
     let ordinal = first_reading(enumerator.written.ordinals).ordinal;
     if ordinal == 1 {

@@ -1,6 +1,6 @@
 //! Paragraphs, literal blocks and doctest blocks (Markup Specification, 'Paragraphs', 'Literal Blocks', 'Doctest
 //! Blocks').
-ghost use Rattle.std.specs.Prelude.{◌≡◌, [], ◌+◌, ◌-◌, ◌*◌, ◌^◌, ◌<◌, ◌≤◌, length, drop, true, false, IfOk};
+ghost use Rattle.std.specs.Prelude.{◌≡◌, [], ◌+◌, ◌-◌, ◌*◌, ◌<◌, ◌≤◌, length, drop, true, false, IfOk};
 ghost use Rattle.std.specs.Str.{chars};
 ghost use Rattle.rst_text.specs.Shown.{block_of};
 ghost use Rattle.rst_markup_blocks.specs.Begun.{IsBegun};
@@ -19,6 +19,7 @@ ghost use Rattle.rst_markup_lines.specs.Front.{begins_with, is_loose};
 ghost use Rattle.rst_text.specs.Block.{first_number, front_text};
 ghost use Rattle.rst_text.specs.Extent.{extent};
 ghost use Rattle.rst_text.specs.Text.{chars_of};
+ghost use Rattle.rst_text.specs.Looked.{capped};
 ghost use Rattle.rst_text.specs.Reach.{reach};
 
 use rst_block_nodes::{message, preserved, with_text};
@@ -37,7 +38,6 @@ pub fn doctest_block(
     pass: &mut Pass,
 ) -> Result<(), BlockFault>
     requires inside { level.old.at < length (block_of view.now) }
-    requires few { pass.old.looks < 2 ^ 119 + 2 ^ 111 }
     requires begun { IsBegun (drop level.old.at (block_of view.now)) Doctest }
     requires placed { IsPlaced level.old }
     ensures later { IfOk result (λ _. level.old.at < level.new.at) }
@@ -79,7 +79,6 @@ pub(crate) fn paragraph(
     pass: &mut Pass,
 ) -> Result<(), BlockFault>
     requires inside { level.old.at < length (block_of view.now) }
-    requires few { pass.old.looks < 2 ^ 119 + 2 ^ 114 }
     requires plain { is_loose (front_text (drop level.old.at (block_of view.now))) ≡ false }
     ensures later { IfOk result (λ _. level.old.at < level.new.at) }
     ensures read { let X = drop level.old.at (block_of view.now) in
@@ -87,7 +86,7 @@ pub(crate) fn paragraph(
         Gives (λ _. ReadsNodes nodes level.old level.new (level.old.at + paragraph_size X) pass.new.numbers) result }
     ensures most { let X = drop level.old.at (block_of view.now) in
         IfOk result (λ _. pass.new.looks ≤ pass.old.looks + 20 * reach (paragraph_size X) X) }
-    ensures low { IfOk result (λ _. pass.old.looks + paragraph_size (drop level.old.at (block_of view.now)) ≤ pass.new.looks) }
+    ensures low { IfOk result (λ _. capped (pass.old.looks + paragraph_size (drop level.old.at (block_of view.now))) ≤ pass.new.looks) }
 {
     let at = level.at;
     let end = lines_end(view, at, LineTest::Plain, &mut pass.looks);
@@ -110,7 +109,6 @@ fn paragraph_of(
 ) -> Result<(), BlockFault>
     requires end { end ≤ length (block_of view.now) }
     requires inside { level.old.at < length (block_of view.now) }
-    requires few { pass.old.looks < 2 ^ 119 + 2 ^ 114 + 2 ^ 70 }
     requires behind { level.old.at < end }
     ensures later { IfOk result (λ _. level.old.at < level.new.at) }
     ensures read { let B = block_of view.now in
@@ -120,7 +118,7 @@ fn paragraph_of(
         let size = parts.paragraph_end (chars text.now) end B - end in
         IfOk result (λ _. pass.new.looks ≤ pass.old.looks + 1 + 8 * reach size (drop end B)) }
     ensures low { let size = parts.paragraph_end (chars text.now) end (block_of view.now) - end in
-        IfOk result (λ _. pass.old.looks + size ≤ pass.new.looks) }
+        IfOk result (λ _. capped (pass.old.looks + size) ≤ pass.new.looks) }
 {
     if !ends_in_colons(text) {
         put_paragraph(alloc, view, level, text, end, pass)?;
@@ -141,12 +139,11 @@ fn put_paragraph(
     end: usize,
     pass: &mut Pass,
 ) -> Result<(), BlockFault>
-    requires few { pass.old.looks < 2 ^ 120 }
     ensures at { level.new.at ≡ level.old.at }
     ensures read { let nodes = parts.shown_paragraph (chars text.now) level.old.at end (block_of view.now) pass.old.numbers in
         Gives (λ _. ReadsNodes nodes level.old level.new level.old.at pass.new.numbers) result }
     ensures looks { IfOk result (λ _. pass.new.looks ≤ pass.old.looks + 1) }
-    ensures low { IfOk result (λ _. pass.old.looks ≤ pass.new.looks) }
+    ensures low { IfOk result (λ _. capped pass.old.looks ≤ pass.new.looks) }
 {
     put_shown(alloc, view, level, text, pass)?;
     if is_blank(text_at(view, end, &mut pass.looks)) {
@@ -195,7 +192,6 @@ fn literal(
 ) -> Result<(), BlockFault>
     requires end { end ≤ length (block_of view.now) }
     requires inside { level.old.at < length (block_of view.now) }
-    requires few { pass.old.looks < 2 ^ 119 + 2 ^ 115 }
     requires behind { level.old.at < end }
     ensures later { IfOk result (λ _. level.old.at < level.new.at) }
     ensures gone { let B = block_of view.now in
@@ -205,7 +201,7 @@ fn literal(
     ensures numbers { pass.new.numbers ≡ pass.old.numbers }
     ensures most { let Z = drop end (block_of view.now) in
         IfOk result (λ _. pass.new.looks ≤ pass.old.looks + 8 * reach (literal_size Z) Z) }
-    ensures low { IfOk result (λ _. pass.old.looks + literal_size (drop end (block_of view.now)) ≤ pass.new.looks) }
+    ensures low { IfOk result (λ _. capped (pass.old.looks + literal_size (drop end (block_of view.now))) ≤ pass.new.looks) }
 {
     let start = lines_end(view, end, LineTest::Blank, &mut pass.looks);
     let text = text_at(view, start, &mut pass.looks);
@@ -240,7 +236,6 @@ fn indented_literal(
 ) -> Result<(), BlockFault>
     requires start { start ≤ length (block_of view.now) }
     requires inside { level.old.at < length (block_of view.now) }
-    requires few { pass.old.looks < 2 ^ 119 + 2 ^ 116 }
     requires behind { level.old.at < start }
     ensures later { IfOk result (λ _. level.old.at < level.new.at) }
     ensures gone { let Z = drop start (block_of view.now) in
@@ -248,7 +243,7 @@ fn indented_literal(
     ensures numbers { pass.new.numbers ≡ pass.old.numbers }
     ensures most { let Z = drop start (block_of view.now) in
         IfOk result (λ _. pass.new.looks ≤ pass.old.looks + 1 + 2 * reach (extent 1 Z) Z) }
-    ensures low { IfOk result (λ _. pass.old.looks + extent 1 (drop start (block_of view.now)) ≤ pass.new.looks) }
+    ensures low { IfOk result (λ _. capped (pass.old.looks + extent 1 (drop start (block_of view.now))) ≤ pass.new.looks) }
 {
     let lines = indented(view, start, &mut pass.looks);
     let text = joined(alloc, &inside(view, lines), &mut pass.looks)?;
@@ -275,7 +270,6 @@ fn quoted_literal(
 ) -> Result<(), BlockFault>
     requires start { start ≤ length (block_of view.now) }
     requires inside { level.old.at < length (block_of view.now) }
-    requires few { pass.old.looks < 2 ^ 119 + 2 ^ 116 }
     requires behind { level.old.at < start }
     requires quoted { begins_with quote (front_text (drop start (block_of view.now))) ≡ true }
     ensures later { IfOk result (λ _. level.old.at < level.new.at) }
@@ -285,7 +279,8 @@ fn quoted_literal(
     ensures numbers { pass.new.numbers ≡ pass.old.numbers }
     ensures most { IfOk result (λ _.
         pass.new.looks ≤ pass.old.looks + 2 + 2 * lines_while (Begins quote) (drop start (block_of view.now))) }
-    ensures low { IfOk result (λ _. pass.old.looks + lines_while (Begins quote) (drop start (block_of view.now)) ≤ pass.new.looks) }
+    ensures low { IfOk result (λ _.
+        capped (pass.old.looks + lines_while (Begins quote) (drop start (block_of view.now))) ≤ pass.new.looks) }
 {
     let end = lines_end(view, start, LineTest::Begins(quote), &mut pass.looks);
     let text = source(alloc, view, start, end, &mut pass.looks)?;

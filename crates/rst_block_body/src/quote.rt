@@ -1,6 +1,7 @@
 //! Block quotes with their attributions (Markup Specification, 'Block Quotes').
-ghost use Rattle.std.specs.Prelude.{◌≡◌, [], ◌+◌, ◌-◌, ◌*◌, ◌^◌, ◌<◌, ◌≤◌, length, drop, Ok, IfOk, IfSome, IfNone, ℕ};
+ghost use Rattle.std.specs.Prelude.{◌≡◌, [], ◌+◌, ◌-◌, ◌*◌, ◌<◌, ◌≤◌, length, drop, Ok, IfOk, IfSome, IfNone};
 ghost use Rattle.rst_text.specs.Block.{first_number};
+ghost use Rattle.rst_text.specs.Looked.{capped};
 ghost use Rattle.rst_text.specs.Shown.{block_of};
 ghost use Rattle.rst_tree.specs.Faults.{Gives};
 ghost use Rattle.rst_tree.specs.declared.tag.Tag.TheVariants.{Attribution as AttributionTag};
@@ -32,7 +33,6 @@ pub fn block_quote(
     pass: &mut Pass,
 ) -> Result<Step, BlockFault>
     requires inside { level.old.at < length (block_of view.now) }
-    requires few { pass.old.looks < 2 ^ 119 + 2 ^ 111 }
     requires begun { IsBegun (drop level.old.at (block_of view.now)) Quote }
     requires placed { IsPlaced level.old }
     ensures step { IfOk result (λ s. spec.IsStep (block_of view.now) level.old.at level.new.at s) }
@@ -58,7 +58,6 @@ pub fn quote_part(
     requires block { IsBlock (block_of view.now) quote }
     requires at { level.old.at ≤ quote.from }
     requires inside { level.old.at < length (block_of view.now) }
-    requires few { pass.old.looks < 2 ^ 119 + 2 ^ 112 }
     requires placed { IsPlaced level.old }
     requires filled { quote.from < quote.to }
     ensures step { IfOk result (λ s. spec.IsStep (block_of view.now) level.old.at level.new.at s) }
@@ -124,14 +123,12 @@ fn rest_of(quote: Part, next: usize) -> Option<Part>
 /// The first attribution in a quote, with its place: behind a blank line. It makes at most five looks for each line through its
 /// end, or for each line of the quote where there is none.
 fn first_attribution(lines: &View<'_>, looks: &mut Looks) -> Option<(usize, Attribution)>
-    requires few { looks.old < 2 ^ 119 + 2 ^ 113 }
     ensures first { result ≡ quotes.first_attribution (block_of lines.now) }
     ensures place { IfSome result (λ found. (0 < found.0) × (found.0 ≤ found.1.end)) }
     ensures within { IfSome result (λ found. IsBlock (block_of lines.now) (attribution_part found.0 found.1)) }
-    ensures looks { looks.new ≤ looks.old + 2 ^ 68 }
     ensures through { IfSome result (λ found. looks.new ≤ looks.old + 5 * found.1.end) }
     ensures all { IfNone result (looks.new ≤ looks.old + 5 * length (block_of lines.now) + 1) }
-    ensures low { looks.old ≤ looks.new }
+    ensures low { capped looks.old ≤ looks.new }
 {
     let mut end = lines_end(lines, 0, LineTest::Filled, looks);
     while end < lines.len() {
@@ -156,14 +153,12 @@ fn attribution_text(
     pass: &mut Pass,
 ) -> Result<Texted, TreeFault>
     requires inside { IsBlock (block_of lines.now) (attribution_part place found) }
-    requires few { pass.old.looks < 2 ^ 120 }
     ensures text { let Q = block_of lines.now in
         let line = first_number (drop place Q) in
         let read = texted AttributionTag line (joined (lines_in Q (attribution_part place found))) line pass.old.numbers in
         Gives (λ made. read ≡ Ok ((made.element, made.notes.items), pass.new.numbers)) result }
-    ensures looks { pass.new.looks ≤ pass.old.looks + 2 ^ 64 }
     ensures most { pass.new.looks ≤ pass.old.looks + (found.end - place) }
-    ensures each { IfOk result (λ _. pass.new.looks ≡ pass.old.looks + (found.end - place)) }
+    ensures each { IfOk result (λ _. capped (pass.old.looks + (found.end - place)) ≤ pass.new.looks) }
 {
     let line = number_at(lines, place);
     let text = inside(

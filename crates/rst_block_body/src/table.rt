@@ -1,6 +1,7 @@
 //! Tables (Markup Specification, 'Tables').
-ghost use Rattle.std.specs.Prelude.{◌≡◌, ◌+◌, ◌-◌, ◌^◌, ◌<◌, ◌≤◌, ◌==◌, [], ◌∷◌, codes, length, drop, slice_range, nat_lt, if◌then◌else◌, IfOk, ℕ, ◌*◌};
+ghost use Rattle.std.specs.Prelude.{◌≡◌, ◌+◌, ◌-◌, ◌<◌, ◌≤◌, ◌==◌, [], ◌∷◌, codes, length, drop, slice_range, nat_lt, if◌then◌else◌, IfOk, ℕ, ◌*◌};
 ghost use Rattle.rst_text.specs.Block.{first_number};
+ghost use Rattle.rst_text.specs.Looked.{capped};
 ghost use Rattle.rst_text.specs.Shown.{block_of};
 ghost use Rattle.rst_tree.specs.Faults.{Gives};
 ghost use Rattle.rst_tree.specs.declared.note.Level.TheVariants.{Error};
@@ -21,11 +22,11 @@ ghost use Rattle.rst_markup_blocks.specs.Partition.{construct_size};
 
 use rst_block_nodes::{entry, message, tgroup};
 use rst_block_sections::completed;
-use rst_block_state::{BlockFault, OpenBlock, Pass, Step, alone, number_at, parted, push, source};
+use rst_block_state::{BlockFault, OpenBlock, Pass, Step, number_at, parted, source};
 use rst_markup_tables::{TableFault, TableResult, malformed_text};
 use rst_text::{Looks, View};
 use rst_tree::{Attrs, Level, Node, Tag, TreeFault};
-use rst_tree_index::Marked;
+use rst_tree_index::{Marked, MarkedNodes};
 use std::alloc::Global;
 
 /// A table, or the message on one that is malformed.
@@ -37,7 +38,6 @@ pub fn table(
     pass: &mut Pass,
 ) -> Result<Step, BlockFault>
     requires inside { level.old.at < length (block_of view.now) }
-    requires few { pass.old.looks < 2 ^ 119 + 2 ^ 111 }
     requires table { IsTableAt (block_of view.now) level.old.at found }
     requires placed { IsPlaced level.old }
     ensures step { IfOk result (λ s. spec.IsStep (block_of view.now) level.old.at level.new.at s) }
@@ -47,7 +47,7 @@ pub fn table(
     ensures paid { (before : ℕ) → let B = block_of view.now in
         let titles = level.old.depth == 0 in
         let X = drop level.old.at B in
-        pass.old.looks ≤ before + 4 * reach_at titles X → before + construct_size titles X ≤ pass.old.looks + 1
+        pass.old.looks ≤ before + 4 * reach_at titles X → capped (before + (construct_size titles X - 1)) ≤ pass.old.looks
         → IfOk result (λ s. IsPaid 29 level.old level.new B s before pass.new.looks) }
 {
     level.close(alloc, view, pass)?;
@@ -72,13 +72,11 @@ fn malformed(
     fault: TableFault,
     looks: &mut Looks,
 ) -> Result<Node, TreeFault>
-    requires few { looks.old < 2 ^ 120 }
     ensures error { let B = block_of view.now in
         let source = source_of B (record { start = at; stop = end }) in
         Gives (λ node. node ≡ shown Error (first_number (drop at B)) (malformed_text fault.detail) source) result }
-    ensures looks { looks.new ≤ looks.old + 2 ^ 64 }
     ensures most { looks.new ≤ looks.old + (end - at) }
-    ensures each { IfOk result (λ _. looks.new ≡ looks.old + length (slice_range (block_of view.now) at end)) }
+    ensures each { IfOk result (λ _. capped (looks.old + length (slice_range (block_of view.now) at end)) ≤ looks.new) }
 {
     let text = malformed_text(alloc, fault.detail)?;
     let lines = source(alloc, view, at, end, looks)?;
@@ -98,13 +96,12 @@ pub fn after_table(
     level: &mut OpenBlock,
     pass: &mut Pass,
 ) -> Result<(), BlockFault>
-    requires few { pass.old.looks < 2 ^ 120 }
     ensures at { level.new.at ≡ level.old.at }
     ensures more { let notes = warned (codes "Blank line required after table.") (drop level.old.at (block_of view.now)) in
         blocks.Gives (λ _. blocks.HasMore level.old level.new notes) result }
     ensures numbers { pass.new.numbers ≡ pass.old.numbers }
     ensures looks { pass.new.looks ≤ pass.old.looks + 1 }
-    ensures low { pass.old.looks ≤ pass.new.looks }
+    ensures low { capped pass.old.looks ≤ pass.new.looks }
 {
     let end = level.at;
     level.warn(alloc, view, end, "Blank line required after table.", pass)
@@ -116,30 +113,26 @@ pub fn table_of(
     line: usize,
     widths: &[usize],
     head: usize,
-    rows: Vec<Marked>,
+    rows: MarkedNodes,
 ) -> Result<Marked, TreeFault>
-    ensures { Gives (λ node. node ≡ table_node widths.now head rows.items line) result }
+    ensures { Gives (λ node. node ≡ table_node widths.now head rows line) result }
 {
-    let (heads, bodies) = parted(alloc, rows.into_iter(), head as u64)?;
+    let (heads, bodies) = parted(alloc, rows.into_marked(), head as u64)?;
     let mut parts = head_nodes(alloc, head, heads)?;
-    push(
-        &mut parts,
-        Marked::element(alloc, Tag::Tbody, Attrs::new(alloc), bodies, 0)?,
-    )?;
+    parts.push(bodies.into_element(Tag::Tbody, Attrs::new(alloc), 0)?)?;
     let group = completed(alloc, tgroup(alloc, widths, line)?, parts)?;
-    let group = alone(alloc, group)?;
-    Marked::element(alloc, Tag::Table, Attrs::new(alloc), group, line)
+    MarkedNodes::alone(alloc, group)?.into_element(Tag::Table, Attrs::new(alloc), line)
 }
 
 /// The head of a table of so many rows, if it has some.
-fn head_nodes(alloc: Global, head: usize, rows: Vec<Marked>) -> Result<Vec<Marked>, TreeFault>
-    ensures { Gives (λ nodes. nodes.items ≡ (if nat_lt 0 head then element_of Thead [] rows.items 0 ∷ [] else [])) result }
+fn head_nodes(alloc: Global, head: usize, rows: MarkedNodes) -> Result<MarkedNodes, TreeFault>
+    ensures { Gives (λ nodes. nodes ≡ (if nat_lt 0 head then element_of Thead [] rows 0 ∷ [] else [])) result }
 {
     if 0 < head {
-        let head = Marked::element(alloc, Tag::Thead, Attrs::new(alloc), rows, 0)?;
-        return Ok(alone(alloc, head)?);
+        let head = rows.into_element(Tag::Thead, Attrs::new(alloc), 0)?;
+        return MarkedNodes::alone(alloc, head);
     }
-    Ok(Vec::new(alloc))
+    Ok(MarkedNodes::none(alloc))
 }
 
 /// The entry of a cell with its nodes, which takes this many rows and columns beside its first.
@@ -147,9 +140,9 @@ pub fn entry_of(
     alloc: Global,
     morerows: usize,
     morecols: usize,
-    nodes: Vec<Marked>,
+    nodes: MarkedNodes,
 ) -> Result<Marked, TreeFault>
-    ensures { Gives (λ node. node ≡ filled (entry_node morerows morecols 0) nodes.items) result }
+    ensures { Gives (λ node. node ≡ filled (entry_node morerows morecols 0) nodes) result }
 {
     completed(alloc, entry(alloc, morerows, morecols, 0)?, nodes)
 }

@@ -1,7 +1,7 @@
 //! Lines of text: titles, items of definition lists and paragraphs.
-ghost use Rattle.std.specs.Prelude.{◌≡◌, ◌+◌, ◌-◌, ◌*◌, ◌^◌, ◌<◌, ◌≤◌, ◌==◌, length, drop, string_bytes, IfOk, IfSome};
+ghost use Rattle.std.specs.Prelude.{◌≡◌, ◌+◌, ◌<◌, ◌≤◌, ◌==◌, length, drop, string_bytes, IfOk};
+ghost use Rattle.rst_text.specs.Looked.{capped};
 ghost use Rattle.rst_text.specs.Shown.{block_of};
-ghost use Rattle.rst_markup_blocks.specs.Parts.{IsBlock, IsCall};
 ghost use Rattle.rst_block_state.specs.Steps as spec;
 ghost use Rattle.rst_block_state.specs.Meanings.{Keeps, comes, reads};
 ghost use Rattle.rst_block_state.specs.NextLine.{IsText};
@@ -36,7 +36,6 @@ pub fn text_line(
     pass: &mut Pass,
 ) -> Result<Step, BlockFault>
     requires inside { level.old.at < length (block_of view.now) }
-    requires few { pass.old.looks < 2 ^ 119 + 2 ^ 113 }
     requires text { IsText level.old (block_of view.now) infos.items }
     requires placed { IsPlaced level.old }
     ensures step { IfOk result (λ s. spec.IsStep (block_of view.now) level.old.at level.new.at s) }
@@ -107,7 +106,6 @@ fn underlined(
     pass: &mut Pass,
 ) -> Result<(), BlockFault>
     requires inside { level.old.at + 1 < length (block_of view.now) }
-    requires few { pass.old.looks < 2 ^ 119 + 2 ^ 114 }
     requires placed { IsPlaced level.old }
     ensures later { IfOk result (λ _. level.old.at < level.new.at) }
     ensures read { let B = block_of view.now in
@@ -115,7 +113,7 @@ fn underlined(
         let item = titles.underline_item (level.old.depth == 0) short lines (drop level.old.at B) pass.old.numbers in
         Gives (λ _. ReadsItems item level.old level.new (level.old.at + 2) pass.new.numbers) result }
     ensures most { pass.new.looks ≤ pass.old.looks + 4 }
-    ensures low { IfOk result (λ _. pass.old.looks + 2 ≤ pass.new.looks) }
+    ensures low { IfOk result (λ _. capped (pass.old.looks + 2) ≤ pass.new.looks) }
 {
     let at = level.at;
     let end = at.saturating_add(2);
@@ -144,14 +142,13 @@ fn put_title(
     pass: &mut Pass,
 ) -> Result<(), BlockFault>
     requires inside { level.old.at + 1 < length (block_of view.now) }
-    requires few { pass.old.looks < 2 ^ 120 }
     requires placed { IsPlaced level.old }
     ensures later { IfOk result (λ _. level.old.at < level.new.at) }
     ensures read { let X = drop level.old.at (block_of view.now) in
         let item = titles.title_item (under_style X) (front_text X) (first_number X) warning (string_bytes lines) pass.old.numbers in
         Gives (λ _. ReadsItems item level.old level.new (level.old.at + 2) pass.new.numbers) result }
     ensures looks { pass.new.looks ≤ pass.old.looks + 2 }
-    ensures low { pass.old.looks ≤ pass.new.looks }
+    ensures low { capped pass.old.looks ≤ pass.new.looks }
 {
     let at = level.at;
     let under = text_at(view, at.saturating_add(1), &mut pass.looks);

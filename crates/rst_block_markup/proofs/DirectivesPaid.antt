@@ -1,6 +1,7 @@
 -- What directives and substitution definitions take of looks: the blocks that they open, and how many lines their parts have.
 use Rattle.std.proofs.Common.{◌≡◌, ℕ, ◌+◌, ◌-◌, ◌≤◌, Bool, true, false, not, cond, List, [], ◌∷◌, length, take, drop, Option, None, Some, option_map, Result, Ok, Err, IfOk, arith, refl, sym, ap, ◌∙◌, subst}
 use Rattle.std.proofs.lemmas.List.Sums.{prefix_len-le-length}
+use Rattle.rst_text.specs.Looked.{capped}
 use Rattle.rst_text.specs.Block.{Block}
 use Rattle.rst_text.specs.Names.{normalized_white}
 use Rattle.rst_inline_scan.specs.Characters.{is_among}
@@ -44,8 +45,8 @@ use Rattle.rst_block_state.proofs.PartFacts.{part_le}
 -- ---- what a call opens
 
 -- what is opened at the price of all looks before it is opened in no more looks than these
-pub opened_within : (more : ℕ) (old new : OpenBlock) (B : Block) (Cs Ds : List Block) (end before after : ℕ) (result : Result Step BlockFault) → before ≤ after → after ≤ before + more → Cs ≡ Ds
-    → (before ≤ after → IfOk result (λ s. Opens (after - before) old new B Cs end s before after)) → IfOk result (λ s. Opens more old new B Ds end s before after)
+pub opened_within : (more : ℕ) (old new : OpenBlock) (B : Block) (Cs Ds : List Block) (end before after : ℕ) (result : Result Step BlockFault) → capped before ≤ after → after ≤ before + more → Cs ≡ Ds
+    → (capped before ≤ after → IfOk result (λ s. Opens (after - before) old new B Cs end s before after)) → IfOk result (λ s. Opens more old new B Ds end s before after)
 opened_within more old new B Cs Ds end before after result low high same h = opened_after (after - before) more old new B Cs Ds end before before after result (omega arith) (omega (arith, low, high)) same (h low)
 
 -- a block that takes no looks for quotes waits for none
@@ -55,7 +56,7 @@ no_quotes l B (Quote line made (Some p) end) h = absurd (omega (arith, h))
 no_quotes l B _ h = (refl, refl)
 
 -- the content of a directive is opened after some looks
-pub content_opened : (old new : OpenBlock) (B : Block) (w : Waits) (content : Content) (end before after : ℕ) → quote_looks w ≡ 0 → IsMoved old new → new.at ≡ end → before ≤ after
+pub content_opened : (old new : OpenBlock) (B : Block) (w : Waits) (content : Content) (end before after : ℕ) → quote_looks w ≡ 0 → IsMoved old new → new.at ≡ end → capped before ≤ after
     → Opens (after - before) old new B (content_blocks B content) end (Open w content.first (Some content.second)) before after
 content_opened old new B w content end before after h moved at le =
     let none = no_quotes new B w h in

@@ -3,6 +3,7 @@ use Rattle.std.proofs.Common.{◌≡◌, ℕ, ◌+◌, ◌-◌, ◌*◌, ◌≤�
 use Rattle.std.specs.Prelude.{◌==◌, IfSome}
 use Rattle.std.proofs.lemmas.Result.{IfOk-weaker}
 use Rattle.rst_text.specs.Block.{Block, front_text, is_blank}
+use Rattle.rst_text.specs.Looked.{capped}
 use Rattle.rst_text.specs.Reach.{reach}
 use Rattle.rst_tree.specs.declared.node.Node.{Node}
 use Rattle.rst_markup_lines.specs.ExplicitMarks.{dots, directive_of}
@@ -51,7 +52,7 @@ use Rattle.rst_block_state.proofs.PartFacts.{hanging_from}
 -- ---- what a part of a construct opens
 
 -- nodes came, and no block comes next
-pub opens_none : {old new : OpenBlock} {more : List Node} {end : ℕ} (few : ℕ) (B : Block) (before after : ℕ) → HasMoreAt old new more end → before ≤ after → after ≤ before + few
+pub opens_none : {old new : OpenBlock} {more : List Node} {end : ℕ} (few : ℕ) (B : Block) (before after : ℕ) → HasMoreAt old new more end → capped before ≤ after → after ≤ before + few
     → Opens few old new B [] end Next before after
 opens_none few B before after h some enough = record {
   goes = tt;
@@ -153,7 +154,7 @@ held_in i end stop X found name held e is ends =
 
 -- what its form opens, where this takes no more than 20 looks for each of its lines
 pub form_opens : (few : ℕ) (found form : Markup) (old new : OpenBlock) (B : Block) (place end : ℕ) (result : Result Step BlockFault) (before mid after : ℕ) → found ≡ form → place ≡ end
-    → IfOk result (λ s. Opens few old new B (markup_blocks form (unread_at old.depth) B old.at) place s mid after) → before ≤ mid → mid + few ≤ before + 20 * (end - old.at)
+    → IfOk result (λ s. Opens few old new B (markup_blocks form (unread_at old.depth) B old.at) place s mid after) → capped before ≤ mid → mid + few ≤ before + 20 * (end - old.at)
     → IfOk result (λ s. Opens (20 * (end - old.at)) old new B (markup_blocks found (unread_at old.depth) B old.at) end s before after)
 form_opens few found form old new B place end result before mid after is stop h start enough =
     let Of : Markup → ℕ → Type 0 = λ x e. IfOk result (λ s. Opens few old new B (markup_blocks x (unread_at old.depth) B old.at) e s mid after) in
@@ -164,8 +165,8 @@ form_opens few found form old new B place end result before mid after is stop h 
 -- it is paid for, once its lines were looked at and the run of it has begun
 step_paid : (old mid new : OpenBlock) (B : Block) (found : Markup) (end : ℕ) (s : Step) (before looked begun after : ℕ) → old.at < length B → is_explicit_kind (kind_at (drop old.at B)) ≡ true
     → end ≡ old.at + explicit_size (drop old.at B) → found ≡ explicit_of old.at (drop old.at B) → mid.at ≡ old.at → mid.depth ≡ old.depth
-    → looked ≤ before + 2 * reach (explicit_size (drop old.at B)) (drop old.at B) → before + explicit_size (drop old.at B) ≤ looked
-    → begun + run_looks mid.run ≤ looked + run_looks old.run + 1 → looked ≤ begun
+    → looked ≤ before + 2 * reach (explicit_size (drop old.at B)) (drop old.at B) → capped (before + explicit_size (drop old.at B)) ≤ looked
+    → begun + run_looks mid.run ≤ looked + run_looks old.run + 1 → capped looked ≤ begun
     → Opens (20 * (end - mid.at)) mid new B (markup_blocks found (unread_at mid.depth) B mid.at) end s begun after → IsPaid 29 old new B s before after
 step_paid old mid new B found end s before looked begun after inside kind stop is at depth high low run later h = by (kind_at X) refl kind
   where
@@ -205,8 +206,8 @@ step_paid old mid new B found end s before looked begun after inside kind stop i
 -- the same of the step that a call gives
 pub markup_paid : (old mid new : OpenBlock) (B : Block) (found : Markup) (end : ℕ) (result : Result Step BlockFault) (before looked begun after : ℕ) → old.at < length B
     → is_explicit_kind (kind_at (drop old.at B)) ≡ true → end ≡ old.at + explicit_size (drop old.at B) → found ≡ explicit_of old.at (drop old.at B) → mid.at ≡ old.at → mid.depth ≡ old.depth
-    → looked ≤ before + 2 * reach (explicit_size (drop old.at B)) (drop old.at B) → before + explicit_size (drop old.at B) ≤ looked
-    → begun + run_looks mid.run ≤ looked + run_looks old.run + 1 → looked ≤ begun
+    → looked ≤ before + 2 * reach (explicit_size (drop old.at B)) (drop old.at B) → capped (before + explicit_size (drop old.at B)) ≤ looked
+    → begun + run_looks mid.run ≤ looked + run_looks old.run + 1 → capped looked ≤ begun
     → IfOk result (λ s. Opens (20 * (end - mid.at)) mid new B (markup_blocks found (unread_at mid.depth) B mid.at) end s begun after) → IfOk result (λ s. IsPaid 29 old new B s before after)
 markup_paid old mid new B found end result before looked begun after inside kind stop is at depth high low run later =
     IfOk-weaker result (λ s. Opens (20 * (end - mid.at)) mid new B (markup_blocks found (unread_at mid.depth) B mid.at) end s begun after) (λ s. IsPaid 29 old new B s before after)

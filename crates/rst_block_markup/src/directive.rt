@@ -1,7 +1,8 @@
 //! Directives as blocks (Markup Specification, 'Directives').
-ghost use Rattle.std.specs.Prelude.{◌≡◌, ℕ, ◌+◌, ◌-◌, ◌*◌, ◌^◌, ◌<◌, ◌≤◌, ◌==◌, [], ◌∷◌, true, length, drop, slice_range, option_map, Some, Ok, IfOk};
+ghost use Rattle.std.specs.Prelude.{◌≡◌, ℕ, ◌+◌, ◌-◌, ◌*◌, ◌<◌, ◌≤◌, ◌==◌, [], ◌∷◌, true, length, drop, slice_range, option_map, Some, Ok, IfOk};
 ghost use Rattle.std.specs.Str.{chars};
 ghost use Rattle.rst_text.specs.Block.{Block, first_number};
+ghost use Rattle.rst_text.specs.Looked.{capped};
 ghost use Rattle.rst_text.specs.Shown.{block_of};
 ghost use Rattle.rst_tree.specs.Faults as faults;
 ghost use Rattle.rst_tree.specs.declared.note.Level.TheVariants.{Error};
@@ -59,14 +60,12 @@ pub(crate) fn directive_at(
     pass: &mut Pass,
 ) -> Result<Directive, BlockFault>
     requires call { IsCall (block_of view.now) at invocation.now }
-    requires few { pass.old.looks < 2 ^ 119 + 2 ^ 115 }
     ensures outcome { Gives (λ found. directives.outcome_of found
         ≡ meaning.called (within_at 0) (block_of view.now) at invocation.now place) result }
     ensures parts { IfOk result (IsDirectiveIn (block_of view.now)) }
     ensures numbers { pass.new.numbers ≡ pass.old.numbers }
-    ensures looks { IfOk result (λ _. pass.new.looks ≤ pass.old.looks + 2 ^ 72) }
     ensures most { IfOk result (λ _. pass.new.looks ≤ pass.old.looks + 8 + 2 * (invocation.now.block.to - invocation.now.block.from)) }
-    ensures low { IfOk result (λ _. pass.old.looks + 1 ≤ pass.new.looks) }
+    ensures low { IfOk result (λ _. capped (pass.old.looks + 1) ≤ pass.new.looks) }
 {
     let name = called(alloc, view, at, invocation, &mut pass.looks)?;
     let block = invocation.block;
@@ -93,12 +92,10 @@ fn is_replacement(name: Option<Name>) -> bool
 /// Whether the block of a replacement text is a single paragraph, which counts for no other directive.
 fn is_paragraph(name: Option<Name>, view: &View<'_>, block: Part, looks: &mut Looks) -> bool
     requires block { IsBlock (block_of view.now) block }
-    requires few { looks.old < 2 ^ 119 + 2 ^ 116 }
     ensures flag { (B : Block) (at : ℕ) (place : Place) → directives.directive_of name B at block place result
         ≡ directives.directive_of name B at block place (is_single_paragraph (lines_in (block_of view.now) block)) }
-    ensures looks { looks.new ≤ looks.old + 2 ^ 66 }
     ensures most { looks.new ≤ looks.old + (block.to - block.from) + 6 }
-    ensures low { looks.old ≤ looks.new }
+    ensures low { capped looks.old ≤ looks.new }
 {
     if is_replacement(name) {
         return is_single_paragraph(&inside(view, block), looks);
@@ -116,7 +113,6 @@ pub(crate) fn directive_block(
 ) -> Result<Step, BlockFault>
     requires call { IsCall (block_of view.now) level.old.at invocation.now }
     requires inside { level.old.at < length (block_of view.now) }
-    requires few { pass.old.looks < 2 ^ 119 + 2 ^ 113 }
     requires later { level.old.at < invocation.now.block.to }
     requires placed { IsPlaced level.old }
     requires begins { level.old.at ≤ invocation.now.block.from }
@@ -186,13 +182,11 @@ pub(crate) fn wrong_directive(
     name: &str,
     looks: &mut Looks,
 ) -> Result<Node, BlockFault>
-    requires few { looks.old < 2 ^ 120 }
     ensures error { let B = block_of view.now in
         let text = fault_text (fault_in fault.now) name.now in
         Gives (λ node. node ≡ shown Error (first_number (drop at B)) text (source_of B (record { start = at; stop = end }))) result }
-    ensures looks { looks.new ≤ looks.old + 2 ^ 64 }
     ensures most { looks.new ≤ looks.old + (end - at) }
-    ensures each { IfOk result (λ _. looks.new ≡ looks.old + length (slice_range (block_of view.now) at end)) }
+    ensures each { IfOk result (λ _. capped (looks.old + length (slice_range (block_of view.now) at end)) ≤ looks.new) }
 {
     let text = fault_text(alloc, fault, name)?;
     let lines = source(alloc, view, at, end, looks)?;
@@ -230,7 +224,6 @@ fn directive_nodes(
     requires content { IsContentIn (block_of view.now) found.now.content }
     requires argument { IsArgumentIn (block_of view.now) found.now.argument }
     requires inside { level.old.at < length (block_of view.now) }
-    requires few { pass.old.looks < 2 ^ 119 + 2 ^ 114 }
     requires later { level.old.at < found.now.end }
     requires placed { IsPlaced level.old }
     ensures step { IfOk result (λ s. spec.IsStep (block_of view.now) level.old.at level.new.at s) }
@@ -270,7 +263,6 @@ fn titled_block(
     requires content { IsContentIn (block_of view.now) found.now.content }
     requires title { IsBlock (block_of view.now) title }
     requires inside { level.old.at < length (block_of view.now) }
-    requires few { pass.old.looks < 2 ^ 119 + 2 ^ 115 }
     requires later { level.old.at < found.now.end }
     requires placed { IsPlaced level.old }
     ensures step { IfOk result (λ s. spec.IsStep (block_of view.now) level.old.at level.new.at s) }
@@ -298,7 +290,6 @@ fn plain_block(
 ) -> Result<Step, BlockFault>
     requires content { IsContentIn (block_of view.now) found.now.content }
     requires inside { level.old.at < length (block_of view.now) }
-    requires few { pass.old.looks < 2 ^ 119 + 2 ^ 115 }
     requires later { level.old.at < found.now.end }
     requires placed { IsPlaced level.old }
     ensures step { IfOk result (λ s. spec.IsStep (block_of view.now) level.old.at level.new.at s) }
@@ -333,7 +324,6 @@ fn image_block(
 ) -> Result<Step, BlockFault>
     requires content { IsContentIn (block_of view.now) found.now.content }
     requires inside { level.old.at < length (block_of view.now) }
-    requires few { pass.old.looks < 2 ^ 119 + 2 ^ 115 }
     requires later { level.old.at < found.now.end }
     requires placed { IsPlaced level.old }
     ensures step { IfOk result (λ s. spec.IsStep (block_of view.now) level.old.at level.new.at s) }
@@ -363,7 +353,7 @@ fn opened(level: &mut OpenBlock, waits: Waits, found: &Found) -> Step
     ensures opened { result ≡ Open waits found.now.content.first (Some found.now.content.second) }
     ensures at { level.new.at ≡ found.now.end }
     ensures moved { IsMoved level.old level.new }
-    ensures paid { (B : Block) (before after : ℕ) → before ≤ after
+    ensures paid { (B : Block) (before after : ℕ) → capped before ≤ after
         → Opens (after - before) level.old level.new B (content_blocks B found.now.content) found.now.end result before after }
 {
     level.go_to(found.end);
@@ -385,7 +375,6 @@ fn figure_block(
 ) -> Result<Step, BlockFault>
     requires content { IsContentIn (block_of view.now) found.now.content }
     requires inside { level.old.at < length (block_of view.now) }
-    requires few { pass.old.looks < 2 ^ 119 + 2 ^ 116 }
     requires later { level.old.at < found.now.end }
     requires placed { IsPlaced level.old }
     ensures step { IfOk result (λ s. spec.IsStep (block_of view.now) level.old.at level.new.at s) }
@@ -425,7 +414,6 @@ fn code_nodes(
 ) -> Result<Step, BlockFault>
     requires content { IsContentIn (block_of view.now) found.now.content }
     requires inside { level.old.at < length (block_of view.now) }
-    requires few { pass.old.looks < 2 ^ 119 + 2 ^ 116 }
     requires later { level.old.at < found.now.end }
     requires placed { IsPlaced level.old }
     ensures step { IfOk result (λ s. spec.IsStep (block_of view.now) level.old.at level.new.at s) }
@@ -455,15 +443,13 @@ fn titled(
     pass: &mut Pass,
 ) -> Result<Node, TreeFault>
     requires title { IsBlock (block_of view.now) title }
-    requires few { pass.old.looks < 2 ^ 120 }
     ensures node { let lines = lines_in (block_of view.now) title in
         let element = directive_element found.now.name (choices_in found.now.options.items) line in
         let read = texted TitleTag (number_or line lines) (joined lines) (number_or line lines) pass.old.numbers in
         faults.Gives (λ node. then_read (λ made. just (filled (titled_element found.now.name element made.0) (made.0 ∷ made.1))) read
         ≡ Ok (node, pass.new.numbers)) result }
-    ensures looks { pass.new.looks ≤ pass.old.looks + 2 ^ 64 }
     ensures most { pass.new.looks ≤ pass.old.looks + (title.to - title.from) }
-    ensures each { IfOk result (λ _. pass.new.looks ≡ pass.old.looks + (title.to - title.from)) }
+    ensures each { IfOk result (λ _. capped (pass.old.looks + (title.to - title.from)) ≤ pass.new.looks) }
 {
     let lines = inside(view, title);
     let title_line = first_line_or(&lines, line);

@@ -1,8 +1,9 @@
 //! Explicit markup blocks (Markup Specification, 'Explicit Markup Blocks').
-ghost use Rattle.std.specs.Prelude.{◌≡◌, ℕ, ◌+◌, ◌-◌, ◌*◌, ◌^◌, ◌<◌, ◌≤◌, [], ◌∷◌, length, drop, string_bytes, option_map, None, IfOk, IfSome, IsTrue};
+ghost use Rattle.std.specs.Prelude.{◌≡◌, ℕ, ◌+◌, ◌-◌, ◌*◌, ◌<◌, ◌≤◌, [], ◌∷◌, length, drop, string_bytes, option_map, None, IfOk, IsTrue};
 ghost use Rattle.rst_text.specs.Block.{Block, first_number, front_text};
+ghost use Rattle.rst_text.specs.Looked.{capped};
 ghost use Rattle.rst_text.specs.Shown.{block_of};
-ghost use Rattle.rst_markup_blocks.specs.Parts.{IsBlock, IsCall};
+ghost use Rattle.rst_markup_blocks.specs.Parts.{IsBlock};
 ghost use Rattle.rst_tree.specs.Faults as faults;
 ghost use Rattle.rst_tree.specs.declared.note.Level.TheVariants.{Warning};
 ghost use Rattle.rst_tree.specs.declared.tag.Tag.TheVariants.{Comment as CommentTag};
@@ -36,7 +37,7 @@ use rst_tree::{Level, Node, Tag, TreeFault};
 use std::alloc::{AllocError, Global};
 
 /// Explicit markup, which joins other explicit markup before it.
-#[tactic(auto, using(rst_block_state::proofs::Views::few_lines, rst_block_state::proofs::Looked::explicit_looks))]
+#[tactic(auto, using(rst_block_state::proofs::Views::few_lines))]
 pub fn explicit_markup(
     alloc: Global,
     view: &View<'_>,
@@ -45,7 +46,6 @@ pub fn explicit_markup(
 ) -> Result<Step, BlockFault>
     requires inside { level.old.at < length (block_of view.now) }
     requires kind { IsTrue (is_explicit_kind (kind_of (block_of view.now) level.old.at)) }
-    requires few { pass.old.looks < 2 ^ 119 + 2 ^ 111 }
     requires placed { IsPlaced level.old }
     ensures step { IfOk result (λ s. spec.IsStep (block_of view.now) level.old.at level.new.at s) }
     ensures kept { IfOk result (λ _. IsKept level.old level.new) }
@@ -75,7 +75,6 @@ fn begin_markup(
     end: usize,
     pass: &mut Pass,
 ) -> Result<(), BlockFault>
-    requires few { pass.old.looks < 2 ^ 120 }
     requires placed { IsPlaced level.old }
     ensures at { level.new.at ≡ level.old.at }
     ensures kept { IfOk result (λ _. IsKept level.old level.new) }
@@ -83,8 +82,7 @@ fn begin_markup(
         let nodes = markup.markup_nodes (within_at level.new.depth) B (record { start = level.old.at; stop = end }) in
         Keeps result (λ _. reads_with level.new B nodes end pass.new.numbers) (markup_reads level.old B end pass.old.numbers) }
     ensures run { IfOk result (λ _. pass.new.looks + run_looks level.new.run ≤ pass.old.looks + run_looks level.old.run + 1) }
-    ensures looks { pass.new.looks ≤ pass.old.looks + 1 }
-    ensures low { pass.old.looks ≤ pass.new.looks }
+    ensures low { capped pass.old.looks ≤ pass.new.looks }
 {
     if is_markup(&level.run) {
         level.run = Run::Explicit { end };
@@ -107,7 +105,6 @@ fn markup_of(
     requires markup { IsExplicitIn (block_of view.now) level.old.at found }
     requires end { end ≡ explicit_end level.old.at found }
     requires inside { level.old.at < length (block_of view.now) }
-    requires few { pass.old.looks < 2 ^ 119 + 2 ^ 112 }
     requires later { level.old.at < end }
     requires placed { IsPlaced level.old }
     requires explicit { found ≡ explicit_of level.old.at (drop level.old.at (block_of view.now)) }
@@ -154,7 +151,6 @@ fn labelled_block(
 ) -> Result<Step, BlockFault>
     requires body { IsBlock (block_of view.now) body }
     requires inside { level.old.at < length (block_of view.now) }
-    requires few { pass.old.looks < 2 ^ 119 + 2 ^ 113 }
     requires later { level.old.at < body.to }
     requires placed { IsPlaced level.old }
     ensures step { IfOk result (λ s. spec.IsStep (block_of view.now) level.old.at level.new.at s) }
@@ -194,7 +190,6 @@ fn target_block(
 ) -> Result<Step, BlockFault>
     requires text { IsBlock (block_of view.now) text }
     requires inside { level.old.at < length (block_of view.now) }
-    requires few { pass.old.looks < 2 ^ 119 + 2 ^ 113 }
     requires later { level.old.at < text.to }
     requires placed { IsPlaced level.old }
     ensures step { IfOk result (λ s. spec.IsStep (block_of view.now) level.old.at level.new.at s) }
@@ -221,11 +216,10 @@ fn target_of(
     looks: &mut Looks,
 ) -> Result<Node, BlockFault>
     requires inside { at < length (block_of view.now) }
-    requires few { looks.old < 2 ^ 120 }
     ensures node { let X = drop at (block_of view.now) in
         blocks.Gives (λ node. node ≡ target_node (option_map (excerpt (front_text X)) name) text.now (first_number X)) result }
     ensures looks { looks.new ≤ looks.old + 1 }
-    ensures low { looks.old ≤ looks.new }
+    ensures low { capped looks.old ≤ looks.new }
 {
     let line = number_at(view, at);
     match name {
@@ -248,7 +242,6 @@ fn comment(
 ) -> Result<Step, BlockFault>
     requires text { IsBlock (block_of view.now) text }
     requires inside { level.old.at < length (block_of view.now) }
-    requires few { pass.old.looks < 2 ^ 119 + 2 ^ 113 }
     requires later { level.old.at < text.to }
     requires placed { IsPlaced level.old }
     ensures step { IfOk result (λ s. spec.IsStep (block_of view.now) level.old.at level.new.at s) }
@@ -301,9 +294,8 @@ fn label_text(
     looks: &mut Looks,
 ) -> Result<String, AllocError>
     requires inside { at < length (block_of view.now) }
-    requires few { looks.old < 2 ^ 120 }
     ensures text { IfOk result (λ label. string_bytes label ≡ excerpt (front_text (drop at (block_of view.now))) place) }
-    ensures looks { looks.new ≡ looks.old + 1 }
+    ensures looks { looks.new ≡ capped (looks.old + 1) }
 {
     excerpt(alloc, view.line(at, looks), place)
 }
@@ -333,7 +325,7 @@ pub(crate) fn put(level: &mut OpenBlock, node: Node, end: usize) -> Result<Step,
     ensures kept { IfOk result (λ _. IsKept level.old level.new) }
     ensures read { (B : Block) (number : ℕ)
         → Keeps result (λ s. comes level.new B s number) (reads_with level.old B (just (node ∷ [])) end number) }
-    ensures paid { (B : Block) (before after : ℕ) → before ≤ after
+    ensures paid { (B : Block) (before after : ℕ) → capped before ≤ after
         → IfOk result (λ s. Opens (after - before) level.old level.new B [] end s before after) }
 {
     level.go_to(end);

@@ -1,18 +1,16 @@
 //! Figures (Directives, 'Figure').
 ghost use Rattle.std.specs.Prelude.{◌≡◌, ◌∷◌, ◌++◌, take, drop, string_bytes};
-ghost use Rattle.std.specs.Vec.Iter.{into_iter_items};
 ghost use Rattle.rst_tree.specs.Faults.{Gives};
 ghost use Rattle.rst_block_sections.specs.Sections.{filled};
 ghost use Rattle.rst_block_state.specs.Figures as spec;
 ghost use Rattle.rst_block_markup.specs.MarkupSteps.{beginning_in};
 
 use rst_block_nodes::message;
-use rst_block_sections::{append, completed};
-use rst_block_state::{OpenFigure, alone, parted, push};
+use rst_block_sections::completed;
+use rst_block_state::{OpenFigure, parted};
 use rst_tree::{Attrs, Children, Key, Level, Node, Tag, TreeFault};
-use rst_tree_index::Marked;
+use rst_tree_index::{Marked, MarkedIter, MarkedNodes};
 use std::alloc::Global;
-use std::vec::IntoIter;
 
 /// What the content of a figure begins with.
 enum Front {
@@ -28,33 +26,33 @@ enum Front {
 pub fn finished_figure(
     alloc: Global,
     open: OpenFigure,
-    nodes: Vec<Marked>,
-) -> Result<Vec<Marked>, TreeFault>
-    ensures { Gives (λ made. made.items
-        ≡ spec.figure_nodes open.figure (spec.caption_error open.line (string_bytes open.source)) nodes.items) result }
+    nodes: MarkedNodes,
+) -> Result<MarkedNodes, TreeFault>
+    ensures { Gives (λ made. made
+        ≡ spec.figure_nodes open.figure (spec.caption_error open.line (string_bytes open.source)) nodes) result }
 {
     let OpenFigure {
         figure,
         line,
         source,
     } = open;
-    let mut rest = nodes.into_iter();
-    let Some(first) = rest.next() else {
-        return Ok(alone(alloc, Marked::of(alloc, figure)?)?);
+    let mut rest = nodes.into_marked();
+    let Some(first) = rest.next(alloc) else {
+        return MarkedNodes::alone(alloc, Marked::of(alloc, figure)?);
     };
     match front_of(first.into_root()) {
         // The caption is marked as a new node. Its text was marked in its paragraph, but no caption stands in another: so nothing
         // is marked more than twice.
         Front::Caption(caption, count) => {
-            let caption = alone(alloc, Marked::of(alloc, caption)?)?;
+            let caption = MarkedNodes::alone(alloc, Marked::of(alloc, caption)?)?;
             captioned(alloc, figure, caption, rest, count)
         }
-        Front::Missing => captioned(alloc, figure, Vec::new(alloc), rest, 0),
+        Front::Missing => captioned(alloc, figure, MarkedNodes::none(alloc), rest, 0),
         Front::Wrong => {
             let text = "Figure caption must be a paragraph or empty comment.";
             let error = message(alloc, Level::Error, line, text, Some(source.as_str()))?;
-            let mut nodes = alone(alloc, Marked::of(alloc, figure)?)?;
-            push(&mut nodes, Marked::of(alloc, error)?)?;
+            let mut nodes = MarkedNodes::alone(alloc, Marked::of(alloc, figure)?)?;
+            nodes.push_new(error)?;
             Ok(nodes)
         }
     }
@@ -65,17 +63,16 @@ pub fn finished_figure(
 fn captioned(
     alloc: Global,
     figure: Node,
-    mut held: Vec<Marked>,
-    rest: IntoIter<Marked, Global>,
+    mut held: MarkedNodes,
+    rest: MarkedIter,
     count: u64,
-) -> Result<Vec<Marked>, TreeFault>
-    ensures { let nodes = into_iter_items rest in
-        Gives (λ made. made.items ≡ filled figure (held.items ++ spec.legend_nodes (drop count nodes)) ∷ take count nodes) result }
+) -> Result<MarkedNodes, TreeFault>
+    ensures { Gives (λ made. made ≡ filled figure (held ++ spec.legend_nodes (drop count rest)) ∷ take count rest) result }
 {
     let (notes, legend) = parted(alloc, rest, count)?;
-    append(&mut held, legend_nodes(alloc, legend)?)?;
-    let mut nodes = alone(alloc, completed(alloc, figure, held)?)?;
-    append(&mut nodes, notes)?;
+    held.append(legend_nodes(alloc, legend)?)?;
+    let mut nodes = MarkedNodes::alone(alloc, completed(alloc, figure, held)?)?;
+    nodes.append(notes)?;
     Ok(nodes)
 }
 
@@ -127,12 +124,12 @@ fn text_messages(attrs: &Attrs) -> u64
 }
 
 /// The legend of some nodes, if there are some.
-fn legend_nodes(alloc: Global, nodes: Vec<Marked>) -> Result<Vec<Marked>, TreeFault>
-    ensures { Gives (λ made. made.items ≡ spec.legend_nodes nodes.items) result }
+fn legend_nodes(alloc: Global, nodes: MarkedNodes) -> Result<MarkedNodes, TreeFault>
+    ensures { Gives (λ made. made ≡ spec.legend_nodes nodes) result }
 {
     if nodes.is_empty() {
         return Ok(nodes);
     }
-    let legend = Marked::element(alloc, Tag::Legend, Attrs::new(alloc), nodes, 0)?;
-    Ok(alone(alloc, legend)?)
+    let legend = nodes.into_element(Tag::Legend, Attrs::new(alloc), 0)?;
+    MarkedNodes::alone(alloc, legend)
 }

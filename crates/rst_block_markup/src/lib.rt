@@ -1,5 +1,5 @@
 //! Explicit markup: footnotes, citations, targets, comments, substitution definitions, and directives with their figures.
-#![tactic(auto, using(rst_block_state::proofs::Views::few_lines))]
+#![tactic(auto)]
 
 mod directive;
 mod explicit;

@@ -1,6 +1,7 @@
 //! Blocks in blocks that are one paragraph (Directives, 'Replacement Text').
-ghost use Rattle.std.specs.Prelude.{◌≡◌, ◌+◌, ◌-◌, ◌^◌, ◌<◌, ◌≤◌, length, true, false};
+ghost use Rattle.std.specs.Prelude.{◌≡◌, ◌+◌, ◌-◌, ◌<◌, ◌≤◌, length, true, false};
 ghost use Rattle.std.specs.Str.{chars};
+ghost use Rattle.rst_text.specs.Looked.{capped};
 ghost use Rattle.rst_text.specs.Shown.{block_of};
 ghost use Rattle.rst_markup_blocks.specs.Conditions.{next_text};
 ghost use Rattle.rst_block_state.specs.Paragraphs as paragraphs;
@@ -16,11 +17,9 @@ use rst_text::{Looks, View, skip};
 /// Whether the lines of a block in a block are one paragraph that doesn't vanish, and nothing else. It makes at most six looks more
 /// than there are lines.
 pub(crate) fn is_single_paragraph(view: &View<'_>, looks: &mut Looks) -> bool
-    requires few { looks.old < 2 ^ 119 + 2 ^ 116 }
     ensures paragraph { result ≡ paragraphs.is_single_paragraph (block_of view.now) }
-    ensures looks { looks.new ≤ looks.old + 2 ^ 66 }
     ensures most { looks.new ≤ looks.old + length (block_of view.now) + 6 }
-    ensures low { looks.old ≤ looks.new }
+    ensures low { capped looks.old ≤ looks.new }
 {
     if view.len() == 0 || !begins_paragraph(view, looks) {
         return false;
@@ -42,10 +41,9 @@ fn is_colons(text: &str) -> bool
 /// Whether the first line of a block in a block begins a paragraph.
 fn begins_paragraph(view: &View<'_>, looks: &mut Looks) -> bool
     requires inside { 0 < length (block_of view.now) }
-    requires few { looks.old < 2 ^ 119 + 2 ^ 117 }
     ensures paragraph { result ≡ paragraphs.begins_paragraph (block_of view.now) }
     ensures looks { looks.new ≤ looks.old + 5 + overline_looks (next_text (block_of view.now)) }
-    ensures low { looks.old ≤ looks.new }
+    ensures low { capped looks.old ≤ looks.new }
 {
     let text = view.line(0, looks);
     let next = below_text(view, 0, 1, looks);
@@ -60,10 +58,9 @@ fn begins_paragraph(view: &View<'_>, looks: &mut Looks) -> bool
 fn begins_text(view: &View<'_>, next: &str, looks: &mut Looks) -> bool
     requires inside { 0 < length (block_of view.now) }
     requires next { chars next.now ≡ next_text (block_of view.now) }
-    requires few { looks.old < 2 ^ 119 + 2 ^ 118 }
     ensures text { result ≡ paragraphs.begins_text (block_of view.now) }
     ensures looks { looks.new ≤ looks.old + 3 + overline_looks (next_text (block_of view.now)) }
-    ensures low { looks.old ≤ looks.new }
+    ensures low { capped looks.old ≤ looks.new }
 {
     match begun_at(view, 0, looks) {
         Begun::Text => true,

@@ -1,7 +1,8 @@
 //! Substitution definitions (Markup Specification, 'Substitution Definitions').
-ghost use Rattle.std.specs.Prelude.{◌≡◌, ◌+◌, ◌-◌, ◌*◌, ◌^◌, ◌<◌, ◌≤◌, List, ◌∷◌, [], false, Some, length, drop, slice_range, string_bytes, IfOk, IfSome};
+ghost use Rattle.std.specs.Prelude.{◌≡◌, ◌+◌, ◌-◌, ◌*◌, ◌<◌, ◌≤◌, List, ◌∷◌, [], false, Some, length, drop, slice_range, string_bytes, IfOk, IfSome};
 ghost use Rattle.std.specs.Option.{option_map_or};
 ghost use Rattle.rst_text.specs.Block.{first_number, front_text};
+ghost use Rattle.rst_text.specs.Looked.{capped};
 ghost use Rattle.rst_text.specs.Shown.{block_of};
 ghost use Rattle.rst_tree.specs.Faults.{Gives};
 ghost use Rattle.rst_tree.specs.Nodes.{nodes_of};
@@ -38,7 +39,7 @@ use rst_markup_blocks::Invocation;
 use rst_markup_directives::{Argument, Content, Directive, DirectiveFault, Place, Setting};
 use rst_text::{Looks, View};
 use rst_tree::{Children, Level, Node, Tag, TreeFault};
-use rst_tree_index::Marked;
+use rst_tree_index::MarkedNodes;
 use std::alloc::{AllocError, Global};
 
 /// A substitution definition that ends at `end`. `written` is its name as it stands between the bars, `held` the directive
@@ -54,7 +55,6 @@ pub(crate) fn substitution_definition(
 ) -> Result<Step, BlockFault>
     requires call { IfSome held (IsCall (block_of view.now) level.old.at) }
     requires inside { level.old.at < length (block_of view.now) }
-    requires few { pass.old.looks < 2 ^ 119 + 2 ^ 113 }
     requires later { level.old.at < end }
     requires placed { IsPlaced level.old }
     requires begins { IfSome held (λ call. (level.old.at ≤ call.block.from) × (call.block.to ≤ end)) }
@@ -108,7 +108,6 @@ fn holding(
 ) -> Result<Step, BlockFault>
     requires call { IsCall (block_of view.now) level.old.at invocation.now }
     requires inside { level.old.at < length (block_of view.now) }
-    requires few { pass.old.looks < 2 ^ 119 + 2 ^ 114 }
     requires later { level.old.at < end }
     requires placed { IsPlaced level.old }
     requires begins { (level.old.at ≤ invocation.now.block.from) × (invocation.now.block.to ≤ end) }
@@ -183,7 +182,6 @@ fn replacement(
 ) -> Result<Step, BlockFault>
     requires content { IsContentIn (block_of view.now) content }
     requires inside { level.old.at < length (block_of view.now) }
-    requires few { pass.old.looks < 2 ^ 119 + 2 ^ 115 }
     requires later { level.old.at < end }
     requires placed { IsPlaced level.old }
     ensures step { IfOk result (λ s. spec.IsStep (block_of view.now) level.old.at level.new.at s) }
@@ -226,16 +224,14 @@ fn wrong_definition(
     looks: &mut Looks,
 ) -> Result<Node, BlockFault>
     requires inside { at < length (block_of view.now) }
-    requires few { looks.old < 2 ^ 119 + 2 ^ 115 }
     ensures error { let B = block_of view.now in
         let X = drop at B in
         let told = directives.faulty_name (fault_in fault.now) name.now (texts.excerpt (front_text X) invocation.now.name) in
         let text = fault_text (fault_in fault.now) told in
         let source = texts.source_of B (record { start = at; stop = end }) in
         blocks.Gives (λ node. node ≡ texts.shown Error (first_number X) text source) result }
-    ensures looks { looks.new ≤ looks.old + 2 ^ 65 }
     ensures most { looks.new ≤ looks.old + 1 + (end - at) }
-    ensures each { IfOk result (λ _. looks.new ≡ looks.old + 1 + length (slice_range (block_of view.now) at end)) }
+    ensures each { IfOk result (λ _. capped (looks.old + 1 + length (slice_range (block_of view.now) at end)) ≤ looks.new) }
 {
     let written = excerpt(alloc, view.line(at, looks), invocation.name)?;
     let name = faulty_name(fault, name, written.as_str());
@@ -258,11 +254,11 @@ fn faulty_name<'a>(fault: &DirectiveFault, name: &'a str, written: &'a str) -> &
 pub fn finished_replacement(
     alloc: Global,
     open: OpenReplacement,
-    nodes: Vec<Marked>,
+    nodes: MarkedNodes,
 ) -> Result<Node, TreeFault>
     ensures { Gives (λ node. node
         ≡ directives.replacement (string_bytes open.name) open.line (string_bytes open.source)
-        (directives.first_paragraph nodes.items)) result }
+        (directives.first_paragraph nodes)) result }
 {
     let OpenReplacement { name, line, source } = open;
     let children = first_paragraph(alloc, nodes);
@@ -283,10 +279,11 @@ pub fn finished_replacement(
 }
 
 /// The nodes of the first paragraph.
-fn first_paragraph(alloc: Global, nodes: Vec<Marked>) -> Children
-    ensures { nodes_of result ≡ directives.first_paragraph nodes.items }
+fn first_paragraph(alloc: Global, nodes: MarkedNodes) -> Children
+    ensures { nodes_of result ≡ directives.first_paragraph nodes }
 {
-    for node in nodes {
+    let mut rest = nodes.into_marked();
+    while let Some(node) = rest.next(alloc) {
         if let Some(children) = paragraph_children(node.into_root()) {
             return children;
         }

@@ -161,7 +161,7 @@ nodes_alone (n ∷ ns) styles current = ap (λ (xs : List Node). n ∷ xs) (node
 
 -- the innermost section was put into the one round it
 pub ended : (all outer : List OpenSection) (o c p : OpenSection) (ms : List Member) → all ≡ outer ++ o ∷ [] → p.element ≡ o.element
-    → p.nodes.items ≡ o.nodes.items ++ filled c.element c.nodes.items ∷ [] → StopsAt (length all) ms
+    → p.nodes ≡ o.nodes ++ filled c.element c.nodes ∷ [] → StopsAt (length all) ms
     → close 0 (map open_of outer) (open_of p) ms ≡ close 0 (map open_of all) (open_of c) ms
 ended all outer o c p ms is element nodes stops =
     let e : length all ≡ 0 + suc (length (map open_of outer)) = omega (arith, ap length is ∙ length_push outer o, length-map outer open_of) in
@@ -172,14 +172,14 @@ ended all outer o c p ms is element nodes stops =
 
 -- the section of a title was begun in the innermost one
 pub entered : (all outer : List OpenSection) (c new : OpenSection) (h : Title) (ms : List Member) → all ≡ outer ++ c ∷ []
-    → new.element ≡ section_node h.element (length (title_notes h)) h.line → new.nodes.items ≡ title_notes h
+    → new.element ≡ section_node h.element (length (title_notes h)) h.line → new.nodes ≡ title_notes h
     → close 0 (map open_of all) (open_of new) ms
     ≡ close 0 (map open_of outer) (open_of c) (section_at (length outer + 1) (section_of h (inside (length outer + 1) ms)) ∷ behind (length outer + 1) ms)
 entered all outer c new h ms is element nodes =
     let e : 0 + suc (length (map open_of outer)) ≡ length outer + 1 = omega (arith, length-map outer open_of) in
     ap (λ os. close 0 os (open_of new) ms) (ap (map open_of) is ∙ map-append open_of outer (c ∷ []))
     ∙ enters 0 (map open_of outer) (open_of c) (open_of new) ms
-    ∙ ap (λ n. close 0 (map open_of outer) (open_of c) (section_at n (filled new.element (new.nodes.items ++ inside n ms)) ∷ behind n ms)) e
+    ∙ ap (λ n. close 0 (map open_of outer) (open_of c) (section_at n (filled new.element (new.nodes ++ inside n ms)) ∷ behind n ms)) e
     ∙ ap₂ (λ x xs. close 0 (map open_of outer) (open_of c) (section_at (length outer + 1) (filled x (xs ++ inside (length outer + 1) ms)) ∷ behind (length outer + 1) ms)) element nodes
 
 -- a title whose level is inconsistent gives its message
@@ -282,7 +282,7 @@ unfolding close
 none_open ms = refl
 
 -- a document without nodes
-pub begins : (s : Sections) (items : List Item) → s.outer.items ≡ [] → s.styles.items ≡ [] → s.current.element ≡ Element Document [] (forest_of []) 0 → s.current.nodes.items ≡ []
+pub begins : (s : Sections) (items : List Item) → s.outer.items ≡ [] → s.styles.items ≡ [] → s.current.element ≡ Element Document [] (forest_of []) 0 → s.current.nodes ≡ []
     → goes_on s items ≡ document_of items
 begins s items outer styles element nodes =
     ap₂ (λ (os : List OpenSection) (ss : List Style). (close 0 (map open_of os) (open_of s.current) (members (judged ss (length os) items))).0) outer styles
@@ -290,9 +290,9 @@ begins s items outer styles element nodes =
     ∙ none_open (members (judged [] 0 items))
     ∙ ap (λ xs. Element Document [] (forest_of xs) 0) (all_of_document items [] 0)
 
-alone_closed : (os : List OpenSection) (c : OpenSection) → length os + 1 ≤ 1 → (close 0 (map open_of os) (open_of c) []).0 ≡ filled c.element c.nodes.items
+alone_closed : (os : List OpenSection) (c : OpenSection) → length os + 1 ≤ 1 → (close 0 (map open_of os) (open_of c) []).0 ≡ filled c.element c.nodes
 unfolding close inside
-alone_closed [] c h = ap (filled c.element) (append-nil c.nodes.items)
+alone_closed [] c h = ap (filled c.element) (append-nil c.nodes)
 alone_closed (o ∷ os) c h = absurd (omega arith)
 
 goes_on_none : (s : Sections) → (closed_with s []).0 ≡ goes_on s []
@@ -301,16 +301,16 @@ goes_on_none s = refl
 
 -- all sections have ended
 pub all_closed : (s t : Sections) → ((ms : List Member) → StopsAt 1 ms → closed_with t ms ≡ closed_with s ms) → length t.outer.items + 1 ≤ 1
-    → filled t.current.element t.current.nodes.items ≡ goes_on s []
+    → filled t.current.element t.current.nodes ≡ goes_on s []
 all_closed s t ends few = sym (alone_closed t.outer.items t.current few) ∙ ap (λ r. r.0) (ends [] (stops_at_none 1)) ∙ goes_on_none s
 
 -- nodes were put into the innermost section
 pub put : (s m : Sections) (ns : List Node) (items : List Item) → m.outer ≡ s.outer → m.styles ≡ s.styles → m.current.element ≡ s.current.element
-    → m.current.nodes.items ≡ s.current.nodes.items ++ ns → goes_on m items ≡ goes_on s (map plain ns ++ items)
+    → m.current.nodes ≡ s.current.nodes ++ ns → goes_on m items ≡ goes_on s (map plain ns ++ items)
 put s m ns items outer styles element nodes =
     ap₂ (λ os ss. (close 0 (map open_of os.items) (open_of m.current) (members (judged ss.items (length os.items) items))).0) outer styles
     ∙ ap₂ (λ x xs. (close 0 (map open_of s.outer.items) (opened x xs) (members (judged s.styles.items (length s.outer.items) items))).0) element nodes
-    ∙ nodes_put (map open_of s.outer.items) s.current.element s.current.nodes.items ns s.styles.items (length s.outer.items) items
+    ∙ nodes_put (map open_of s.outer.items) s.current.element s.current.nodes ns s.styles.items (length s.outer.items) items
 
 items_of_title : (done : ℕ) (nodes : List Node) (h : Heading) (hs : List Heading)
     → items_from done nodes (h ∷ hs) ≡ map plain (take (h.before - done) nodes) ++ titled (title_of h) ∷ items_from (done + (h.before - done)) (drop (h.before - done) nodes) hs
@@ -320,7 +320,7 @@ items_of_title done nodes h hs = refl
 -- a title was met, with the nodes before it
 pub title_met : (s m t : Sections) (h : Heading) (done more : ℕ) (nodes rest : List Node) (hs : List Heading) → more ≡ h.before - done
     → m.outer ≡ s.outer → m.styles ≡ s.styles → m.current.element ≡ s.current.element
-    → m.current.nodes.items ≡ s.current.nodes.items ++ take more nodes → rest ≡ drop more nodes
+    → m.current.nodes ≡ s.current.nodes ++ take more nodes → rest ≡ drop more nodes
     → ((items : List Item) → goes_on t items ≡ goes_on m (titled (title_of h) ∷ items))
     → goes_on t (items_from (done + more) rest hs) ≡ goes_on s (items_from done nodes (h ∷ hs))
 title_met s m t h done more nodes rest hs so outer styles element here left met =
@@ -336,9 +336,9 @@ items_without_titles done nodes = refl
 
 -- no title is left
 pub last_met : (s m : Sections) (done count : ℕ) (nodes : List Node) → count ≡ length nodes → m.outer ≡ s.outer → m.styles ≡ s.styles → m.current.element ≡ s.current.element
-    → m.current.nodes.items ≡ s.current.nodes.items ++ take count nodes → goes_on m [] ≡ goes_on s (items_from done nodes [])
+    → m.current.nodes ≡ s.current.nodes ++ take count nodes → goes_on m [] ≡ goes_on s (items_from done nodes [])
 last_met s m done count nodes all outer styles element here =
-    put s m nodes [] outer styles element (here ∙ ap (λ n. s.current.nodes.items ++ take n nodes) all ∙ ap (λ xs. s.current.nodes.items ++ xs) (take_all (length nodes) nodes (omega arith)))
+    put s m nodes [] outer styles element (here ∙ ap (λ n. s.current.nodes ++ take n nodes) all ∙ ap (λ xs. s.current.nodes ++ xs) (take_all (length nodes) nodes (omega arith)))
     ∙ ap (goes_on s) (append-nil (map plain nodes) ∙ sym (items_without_titles done nodes))
 
 -- a document without titles

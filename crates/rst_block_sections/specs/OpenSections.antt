@@ -12,7 +12,7 @@ pub record Open : Type 0 where
   pub nodes : List Node
 
 abbrev pub open_of : OpenSection → Open
-open_of o = record { element = o.element; nodes = o.nodes.items }
+open_of o = record { element = o.element; nodes = o.nodes }
 
 -- the section of a level, where a section that stands in it was closed and these members follow
 abbrev pub put_inside : ℕ → Open → Node × List Member → Node × List Member

@@ -4,13 +4,13 @@ ghost use Rattle.rst_tree.specs.Faults.{Gives};
 ghost use Rattle.rst_block_sections.specs.Sections.{filled};
 
 use rst_tree::{Children, Node, TreeFault};
-use rst_tree_index::Marked;
+use rst_tree_index::{Marked, MarkedNodes};
 use std::alloc::Global;
 
-/// Puts more nodes, marked or not, behind the last.
+/// Puts more nodes behind the last.
 ///
 /// The only refusal is [`TreeFault::NoMemory`].
-pub fn append<N: Drop>(nodes: &mut Vec<N>, mut more: Vec<N>) -> Result<(), TreeFault>
+pub fn append(nodes: &mut Vec<Node>, mut more: Vec<Node>) -> Result<(), TreeFault>
     ensures { Gives (λ _. nodes.new.items ≡ nodes.old.items ++ more.items) result }
 {
     if nodes.is_empty() {
@@ -53,8 +53,8 @@ pub fn filled(element: Node, more: Vec<Node>) -> Result<Node, TreeFault>
 /// nodes, and nobody marked it before. Most such elements are empty, and need no pass.
 ///
 /// The only refusal is [`TreeFault::NoMemory`].
-pub fn completed(alloc: Global, element: Node, more: Vec<Marked>) -> Result<Marked, TreeFault>
-    ensures { Gives (λ node. node ≡ filled element more.items) result }
+pub fn completed(alloc: Global, element: Node, more: MarkedNodes) -> Result<Marked, TreeFault>
+    ensures { Gives (λ node. node ≡ filled element more) result }
 {
     match element {
         Node::Element {
@@ -64,11 +64,11 @@ pub fn completed(alloc: Global, element: Node, more: Vec<Marked>) -> Result<Mark
             line,
         } => {
             if children.len() == 0 {
-                return Marked::element(alloc, tag, attrs, more, line);
+                return more.into_element(tag, attrs, line);
             }
-            let mut nodes = Marked::each(alloc, children.into_list())?;
-            append(&mut nodes, more)?;
-            Marked::element(alloc, tag, attrs, nodes, line)
+            let mut nodes = MarkedNodes::of(alloc, children.into_list())?;
+            nodes.append(more)?;
+            nodes.into_element(tag, attrs, line)
         }
         Node::Text(text) => Marked::of(alloc, Node::Text(text)),
     }

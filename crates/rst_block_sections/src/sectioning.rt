@@ -1,6 +1,5 @@
 //! Sections, made of the nodes and the titles of a document (Markup Specification, 'Sections').
 ghost use Rattle.std.specs.Prelude.{◌≡◌, ◌+◌, ◌-◌, ◌≤◌, List, ◌∷◌, ◌++◌, [], length, take, drop};
-ghost use Rattle.std.specs.Vec.Iter.{into_iter_items};
 ghost use Rattle.rst_block_nodes.specs.Texts.{section_node};
 ghost use Rattle.rst_tree.specs.Faults.{Gives};
 ghost use Rattle.rst_block_sections.specs.Sections.{Item, titled, Member, section_at, inside, behind, section_of, document_of, inconsistent, level_of, with_style, title_notes, title_of, items_from};
@@ -10,16 +9,15 @@ use crate::heading::{Heading, Style};
 use crate::nodes::completed;
 use rst_block_nodes::{message, section};
 use rst_tree::{Attrs, Level as Gravity, Node, Tag, TreeFault};
-use rst_tree_index::Marked;
+use rst_tree_index::{Marked, MarkedIter, MarkedNodes};
 use std::alloc::Global;
 use std::mem;
-use std::vec::IntoIter;
 
 /// A section that is open, with what stands in it so far; the outermost is the document.
 #[derive(Drop)]
 struct OpenSection {
     element: Node,
-    nodes: Vec<Marked>,
+    nodes: MarkedNodes,
 }
 
 /// The document with its sections: the section of a title holds what comes up to the next title of its level or a higher
@@ -28,40 +26,40 @@ struct OpenSection {
 /// The only refusal is [`TreeFault::NoMemory`].
 pub fn document(
     alloc: Global,
-    nodes: Vec<Marked>,
+    nodes: MarkedNodes,
     headings: Vec<Heading>,
 ) -> Result<Marked, TreeFault>
-    ensures { Gives (λ root. root ≡ document_of (items_from 0 nodes.items headings.items)) result }
+    ensures { Gives (λ root. root ≡ document_of (items_from 0 nodes headings.items)) result }
 {
     if headings.is_empty() {
-        return Marked::element(alloc, Tag::Document, Attrs::new(alloc), nodes, 0);
+        return nodes.into_element(Tag::Document, Attrs::new(alloc), 0);
     }
     let mut sections = Sections::none(alloc);
-    let mut nodes = nodes.into_iter();
+    let mut nodes = nodes.into_marked();
     let mut done = 0;
     for heading in headings {
         let more = heading.before.saturating_sub(done);
-        move_front(&mut nodes, more, &mut sections.current.nodes)?;
+        move_front(alloc, &mut nodes, more, &mut sections.current.nodes)?;
         done += more;
         sections.title(alloc, heading)?;
     }
     let left = nodes.len();
-    move_front(&mut nodes, left, &mut sections.current.nodes)?;
+    move_front(alloc, &mut nodes, left, &mut sections.current.nodes)?;
     sections.closed(alloc)
 }
 
 /// Puts so many nodes from the front of some behind others, or all that there are.
 fn move_front(
-    nodes: &mut IntoIter<Marked>,
+    alloc: Global,
+    nodes: &mut MarkedIter,
     count: usize,
-    to: &mut Vec<Marked>,
+    to: &mut MarkedNodes,
 ) -> Result<(), TreeFault>
-    ensures moved { Gives (λ _. to.new.items ≡ to.old.items ++ take count (into_iter_items nodes.old)) result }
-    ensures left { Gives (λ _. into_iter_items nodes.new ≡ drop count (into_iter_items nodes.old)) result }
+    ensures moved { Gives (λ _. to.new ≡ to.old ++ take count nodes.old) result }
+    ensures left { Gives (λ _. nodes.new ≡ drop count nodes.old) result }
 {
-    to.reserve(count.min(nodes.len()))?;
     for _done in 0..count {
-        match nodes.next() {
+        match nodes.next(alloc) {
             Some(node) => to.push(node)?,
             None => return Ok(()),
         }
@@ -87,7 +85,7 @@ impl Sections {
             outer: Vec::new(alloc),
             current: OpenSection {
                 element: Node::element(alloc, Tag::Document, 0),
-                nodes: Vec::new(alloc),
+                nodes: MarkedNodes::none(alloc),
             },
             styles: Vec::new(alloc),
         }
@@ -192,7 +190,7 @@ fn inconsistent(alloc: Global, heading: &Heading) -> Result<Marked, TreeFault>
 /// The section of a title, with the messages under the title alone.
 fn begun(alloc: Global, heading: Heading) -> Result<OpenSection, TreeFault>
     ensures element { Gives (λ o. o.element ≡ section_node heading.title.element (length (title_notes (title_of heading))) heading.line) result }
-    ensures nodes { Gives (λ o. o.nodes.items ≡ title_notes (title_of heading)) result }
+    ensures nodes { Gives (λ o. o.nodes ≡ title_notes (title_of heading)) result }
 {
     let Heading {
         title,
@@ -200,9 +198,9 @@ fn begun(alloc: Global, heading: Heading) -> Result<OpenSection, TreeFault>
         line,
         ..
     } = heading;
-    let mut nodes = Marked::each(alloc, title.notes)?;
+    let mut nodes = MarkedNodes::of(alloc, title.notes)?;
     if let Some(warning) = warning {
-        nodes.push(Marked::of(alloc, warning)?)?;
+        nodes.push_new(warning)?;
     }
     let element = section(alloc, title.element, nodes.len(), line)?;
     Ok(OpenSection { element, nodes })

@@ -16,14 +16,14 @@ use Rattle.rst_block_state.specs.declared.open_block.OpenBlock.{OpenBlock}
 
 -- the same nodes and the same place
 pub more_as : {old new : OpenBlock} {some more : List Node} {i j : ℕ} → some ≡ more → i ≡ j → HasMoreAt old new some i → HasMoreAt old new more j
-more_as {old} e f h = record { depth = h.depth; at = h.at ∙ f; nodes = h.nodes ∙ ap (λ more. old.nodes.items ++ more) e; headings = h.headings; run = h.run }
+more_as {old} e f h = record { depth = h.depth; at = h.at ∙ f; nodes = h.nodes ∙ ap (λ more. old.nodes ++ more) e; headings = h.headings; run = h.run }
 
 -- more nodes come after those that came, and the block goes on at the place of the second change
 pub more_then : {old mid new : OpenBlock} {some more : List Node} {i j : ℕ} → HasMoreAt old mid some i → HasMoreAt mid new more j → HasMoreAt old new (some ++ more) j
 more_then {old} {mid} {new} {some} {more} h k = record {
   depth = k.depth ∙ h.depth;
   at = k.at;
-  nodes = k.nodes ∙ ap (λ ns. ns ++ more) h.nodes ∙ append_assoc old.nodes.items some more;
+  nodes = k.nodes ∙ ap (λ ns. ns ++ more) h.nodes ∙ append_assoc old.nodes some more;
   headings = k.headings ∙ h.headings;
   run = k.run ∙ h.run;
 }
@@ -109,15 +109,15 @@ begun_is nodes hs e f = ap (λ ns. items_from 0 ns hs) e ∙ ap (items_from 0 []
 zero_more : (n : ℕ) → 0 + n ≡ n
 zero_more n = omega arith
 
-done_pushed : (old new : OpenBlock) (more : List Node) → new.nodes.items ≡ old.nodes.items ++ more → new.headings.items ≡ old.headings.items → IsPlaced old
+done_pushed : (old new : OpenBlock) (more : List Node) → new.nodes ≡ old.nodes ++ more → new.headings.items ≡ old.headings.items → IsPlaced old
     → done_of new ≡ done_of old ++ map plain more
 done_pushed old new more n h w =
     ap (λ nodes. items_from 0 nodes new.headings.items) n
-    ∙ ap (items_from 0 (old.nodes.items ++ more)) h
-    ∙ items_push (length old.nodes.items) 0 old.nodes.items more old.headings.items (zero_more (length old.nodes.items)) w
+    ∙ ap (items_from 0 (old.nodes ++ more)) h
+    ∙ items_push (length old.nodes) 0 old.nodes more old.headings.items (zero_more (length old.nodes)) w
 
-pub done_same : (old new : OpenBlock) → new.nodes.items ≡ old.nodes.items → new.headings.items ≡ old.headings.items → done_of new ≡ done_of old
-done_same old new n h = ap (λ nodes. items_from 0 nodes new.headings.items) n ∙ ap (items_from 0 old.nodes.items) h
+pub done_same : (old new : OpenBlock) → new.nodes ≡ old.nodes → new.headings.items ≡ old.headings.items → done_of new ≡ done_of old
+done_same old new n h = ap (λ nodes. items_from 0 nodes new.headings.items) n ∙ ap (items_from 0 old.nodes) h
 
 pub done_moved : {old new : OpenBlock} → IsMoved old new → done_of new ≡ done_of old
 done_moved {old} {new} m = done_same old new m.nodes m.headings
@@ -130,27 +130,27 @@ done_closed {old = old} {new = new} h w = done_pushed old new h.more h.nodes h.h
 
 pub done_title : {old new : OpenBlock} {heading : Heading} → HasTitle old new heading → IsPlaced old → done_of new ≡ done_of old ++ titled (title_of heading) ∷ []
 done_title {old} {new} {heading} m w =
-    let g : Heading = placed_after (length old.nodes.items) heading in
+    let g : Heading = placed_after (length old.nodes) heading in
     ap (λ nodes. items_from 0 nodes new.headings.items) m.nodes
-    ∙ ap (items_from 0 old.nodes.items) m.headings
-    ∙ title_push (length old.nodes.items) 0 old.nodes.items old.headings.items g (zero_more (length old.nodes.items)) w refl
+    ∙ ap (items_from 0 old.nodes) m.headings
+    ∙ title_push (length old.nodes) 0 old.nodes old.headings.items g (zero_more (length old.nodes)) w refl
 
 -- ---- what changes keep: the block is as deep, and its titles stand among its nodes
 
-placed_as : (n : ℕ) (hs : List Heading) (l : OpenBlock) → length l.nodes.items ≡ n → l.headings.items ≡ hs → AreWithin n hs → IsPlaced l
-placed_as n hs l e f w = subst (λ gs. AreWithin (length l.nodes.items) gs) (sym f) (subst (λ k. AreWithin k hs) (sym e) w)
+placed_as : (n : ℕ) (hs : List Heading) (l : OpenBlock) → length l.nodes ≡ n → l.headings.items ≡ hs → AreWithin n hs → IsPlaced l
+placed_as n hs l e f w = subst (λ gs. AreWithin (length l.nodes) gs) (sym f) (subst (λ k. AreWithin k hs) (sym e) w)
 
-kept_pushed : (old new : OpenBlock) (more : List Node) → new.depth ≡ old.depth → new.nodes.items ≡ old.nodes.items ++ more → new.headings.items ≡ old.headings.items → IsPlaced old → IsKept old new
+kept_pushed : (old new : OpenBlock) (more : List Node) → new.depth ≡ old.depth → new.nodes ≡ old.nodes ++ more → new.headings.items ≡ old.headings.items → IsPlaced old → IsKept old new
 kept_pushed old new more d n h w = record {
   depth = d;
   placed =
-      let size : length new.nodes.items ≡ length old.nodes.items + length more = ap length n ∙ length-append old.nodes.items more in
-      placed_as (length old.nodes.items + length more) old.headings.items new size h
-      (within_more (length old.nodes.items) (length old.nodes.items + length more) old.headings.items (omega arith) w);
+      let size : length new.nodes ≡ length old.nodes + length more = ap length n ∙ length-append old.nodes more in
+      placed_as (length old.nodes + length more) old.headings.items new size h
+      (within_more (length old.nodes) (length old.nodes + length more) old.headings.items (omega arith) w);
 }
 
-pub kept_same : (old new : OpenBlock) → new.depth ≡ old.depth → new.nodes.items ≡ old.nodes.items → new.headings.items ≡ old.headings.items → IsPlaced old → IsKept old new
-kept_same old new d n h w = kept_pushed old new [] d (n ∙ sym (append-nil old.nodes.items)) h w
+pub kept_same : (old new : OpenBlock) → new.depth ≡ old.depth → new.nodes ≡ old.nodes → new.headings.items ≡ old.headings.items → IsPlaced old → IsKept old new
+kept_same old new d n h w = kept_pushed old new [] d (n ∙ sym (append-nil old.nodes)) h w
 
 pub kept_moved : {old new : OpenBlock} → IsMoved old new → IsPlaced old → IsKept old new
 kept_moved {old} {new} m w = kept_same old new m.depth m.nodes m.headings w
@@ -167,8 +167,8 @@ kept_closed {old = old} {new = new} h w = kept_pushed old new h.more h.depth h.n
 pub kept_title : {old new : OpenBlock} {heading : Heading} → HasTitle old new heading → IsPlaced old → IsKept old new
 kept_title {old} {new} {heading} m w = record {
   depth = m.depth;
-  placed = placed_as (length old.nodes.items) (old.headings.items ++ placed_after (length old.nodes.items) heading ∷ []) new (ap length m.nodes) m.headings
-      (within_push (length old.nodes.items) old.headings.items (placed_after (length old.nodes.items) heading) w (omega arith));
+  placed = placed_as (length old.nodes) (old.headings.items ++ placed_after (length old.nodes) heading ∷ []) new (ap length m.nodes) m.headings
+      (within_push (length old.nodes) old.headings.items (placed_after (length old.nodes) heading) w (omega arith));
 }
 
 kept_item_in : (o : OpenRun) (old new : OpenBlock) (item : Node) → HasItemIn o old new item → IsPlaced old → IsKept old new

@@ -3,6 +3,7 @@ use Rattle.std.proofs.Common.{◌≡◌, ℕ, suc, ◌+◌, ◌-◌, ◌*◌, �
 use Rattle.std.specs.Prelude.{◌==◌, flat_map}
 use Rattle.std.proofs.lemmas.List.{drop-drop}
 use Rattle.rst_text.specs.Block.{Block}
+use Rattle.rst_text.specs.Looked.{capped}
 use Rattle.rst_markup_blocks.specs.Ends.{row_size, row_reach}
 use Rattle.rst_markup_blocks.specs.Kinds.{kind_at}
 use Rattle.rst_markup_blocks.specs.Partition.{construct_size, construct_end, IsBlankAt, IsTextAt}
@@ -78,7 +79,7 @@ begun depth B h = record {
   least = omega (arith, total_is depth B h);
 }
 
-pub ended : (l : OpenBlock) (B : Block) (before after : ℕ) → length B ≤ l.at → after ≤ before + run_looks l.run → before ≤ after
+pub ended : (l : OpenBlock) (B : Block) (before after : ℕ) → length B ≤ l.at → after ≤ before + run_looks l.run → capped before ≤ after
     → Takes (most_left l B Next) (least_left l B Next) before (most_left l B Done) (least_left l B Done) after
 unfolding sum_of
 ended l B before after h few some = record {
@@ -94,7 +95,7 @@ next_line B i h =
     omega (arith, passed (drop i B) (omega (arith, h, length-drop i B)), ap unpaid d)
 
 pub blank_line : (old new : OpenBlock) (B : Block) (before after : ℕ) → old.at < length B → IsBlankAt B old.at → new.depth ≡ old.depth → new.at ≡ suc old.at → new.run ≡ old.run
-    → after ≤ before + 32 → before + 1 ≤ after
+    → after ≤ before + 32 → capped (before + 1) ≤ after
     → Takes (most_left old B Next) (least_left old B Next) before (most_left new B Next) (least_left new B Next) after
 unfolding sum_of
 blank_line old new B before after inside blank d p r few some =
@@ -112,7 +113,7 @@ after_construct titles B i text =
     let d : drop (construct_size titles (drop i B)) (drop i B) ≡ drop (construct_end titles B i) B = drop-drop (construct_size titles (drop i B)) i B in
     omega (arith, paid titles (drop i B) text, ap unpaid d)
 
-paid_construct : (old new : OpenBlock) (B : Block) (s : Step) (before after : ℕ) → old.at < length B → IsTextAt B old.at → IsPaid 32 old new B s before after → before + construct_size (old.depth == 0) (drop old.at B) ≤ after
+paid_construct : (old new : OpenBlock) (B : Block) (s : Step) (before after : ℕ) → old.at < length B → IsTextAt B old.at → IsPaid 32 old new B s before after → capped (before + construct_size (old.depth == 0) (drop old.at B)) ≤ after
     → Takes (most_left old B Next) (least_left old B Next) before (most_left new B s) (least_left new B s) after
 unfolding sum_of
 paid_construct old new B s before after inside text h least = by s h.goes h.place h.blocks h.cells h.most
@@ -166,7 +167,7 @@ size_reached titles X = by (kind_at X)
     by Simple = omega arith
     by _ = omega arith
 
-pub construct : (old new : OpenBlock) (B : Block) (s : Step) (before mid after : ℕ) → old.at < length B → IsTextAt B old.at → before + 1 ≤ mid → mid ≤ before + 3 → IsPaid 29 old new B s mid after
+pub construct : (old new : OpenBlock) (B : Block) (s : Step) (before mid after : ℕ) → old.at < length B → IsTextAt B old.at → capped (before + 1) ≤ mid → mid ≤ before + 3 → IsPaid 29 old new B s mid after
     → Takes (most_left old B Next) (least_left old B Next) before (most_left new B s) (least_left new B s) after
 construct old new B s before mid after inside text some few h =
     let reach : 1 ≤ reach_at (old.depth == 0) (drop old.at B) = omega (arith, size_reached (old.depth == 0) (drop old.at B), (end_inside (old.depth == 0) B old.at inside).0) in

@@ -28,11 +28,11 @@ use Rattle.rst_block_state.proofs.OpenRuns.{rest_is_all}
 
 -- what the innermost of some blocks that wait makes of what is read, the others go on with
 plug_push : (S : Block) (fs : List Frame) (f : Frame) (read : Numbered (List Item))
-    → plug S (fs ++ f ∷ []) read ≡ plug S fs (read >>= λ items. after f.level (placement_block S f.placement) f.waits f.second f.nodes.items (nodes_among items))
+    → plug S (fs ++ f ∷ []) read ≡ plug S fs (read >>= λ items. after f.level (placement_block S f.placement) f.waits f.second f.nodes (nodes_among items))
 unfolding plug
 plug_push S [] f read = refl
 plug_push S (g ∷ fs) f read =
-    ap (λ (r : Numbered (List Item)). r >>= λ items. after g.level (placement_block S g.placement) g.waits g.second g.nodes.items (nodes_among items)) (plug_push S fs f read)
+    ap (λ (r : Numbered (List Item)). r >>= λ items. after g.level (placement_block S g.placement) g.waits g.second g.nodes (nodes_among items)) (plug_push S fs f read)
 
 pub plug_none : (S : Block) (read : Numbered (List Item)) → plug S [] read ≡ read
 unfolding plug
@@ -43,14 +43,14 @@ pub plug_same : (S : Block) (fs : List Frame) (r s : Numbered (List Item)) (m n 
 unfolding plug
 plug_same S [] r s m n h = h
 plug_same S (f ∷ fs) r s m n h =
-    ap (then_read (λ items. after f.level (placement_block S f.placement) f.waits f.second f.nodes.items (nodes_among items))) (plug_same S fs r s m n h)
+    ap (then_read (λ items. after f.level (placement_block S f.placement) f.waits f.second f.nodes (nodes_among items))) (plug_same S fs r s m n h)
 
 -- what is nested too deeply in what is read is so in all
 pub plug_refused : (S : Block) (fs : List Frame) (r : Numbered (List Item)) (n line : ℕ) → r n ≡ Err line → plug S fs r n ≡ Err line
 unfolding plug
 plug_refused S [] r n line h = h
 plug_refused S (f ∷ fs) r n line h =
-    ap (then_read (λ items. after f.level (placement_block S f.placement) f.waits f.second f.nodes.items (nodes_among items))) (plug_refused S fs r n line h)
+    ap (then_read (λ items. after f.level (placement_block S f.placement) f.waits f.second f.nodes (nodes_among items))) (plug_refused S fs r n line h)
 
 -- ---- a block begins
 
@@ -91,9 +91,9 @@ inner_all l d B n e h new =
 -- a part of the lines of a block that waits is read from its begin
 pub part_means : (S : Block) (fs : List Frame) (f : Frame) (l : OpenBlock) (X : Block) (n : ℕ) → l.depth ≡ suc f.level.depth → suc f.level.depth ≤ deepest → IsNew l
     → plug S (fs ++ f ∷ []) (reads l X) n
-    ≡ plug S fs ((within_at f.level.depth).inner X >>= λ ns. after f.level (placement_block S f.placement) f.waits f.second f.nodes.items ns) n
+    ≡ plug S fs ((within_at f.level.depth).inner X >>= λ ns. after f.level (placement_block S f.placement) f.waits f.second f.nodes ns) n
 part_means S fs f l X n e h new =
-    let K : List Node → Numbered (List Item) = λ ns. after f.level (placement_block S f.placement) f.waits f.second f.nodes.items ns in
+    let K : List Node → Numbered (List Item) = λ ns. after f.level (placement_block S f.placement) f.waits f.second f.nodes ns in
     at_number n (plug_push S fs f (reads l X))
     ∙ plug_same S fs (reads l X >>= λ items. K (nodes_among items)) ((within_at f.level.depth).inner X >>= K) n n
     (sym (after_after (reads l X n) (λ items. just (nodes_among items)) K) ∙ ap (then_read K) (inner_all l f.level.depth X n e h new))
@@ -101,11 +101,11 @@ part_means S fs f l X n e h new =
 -- ---- a block ends
 
 pub done_means : (S : Block) (fs : List Frame) (f : Frame) (items : List Item) (n : ℕ)
-    → plug S (fs ++ f ∷ []) (just items) n ≡ plug S fs (after f.level (placement_block S f.placement) f.waits f.second f.nodes.items (nodes_among items)) n
+    → plug S (fs ++ f ∷ []) (just items) n ≡ plug S fs (after f.level (placement_block S f.placement) f.waits f.second f.nodes (nodes_among items)) n
 done_means S fs f items n =
     at_number n (plug_push S fs f (just items))
-    ∙ plug_same S fs (just items >>= λ items. after f.level (placement_block S f.placement) f.waits f.second f.nodes.items (nodes_among items))
-    (after f.level (placement_block S f.placement) f.waits f.second f.nodes.items (nodes_among items)) n n refl
+    ∙ plug_same S fs (just items >>= λ items. after f.level (placement_block S f.placement) f.waits f.second f.nodes (nodes_among items))
+    (after f.level (placement_block S f.placement) f.waits f.second f.nodes (nodes_among items)) n n refl
 
 -- ---- items of lists
 

@@ -1,7 +1,8 @@
 -- The next construct of a block is paid for, by the mark that is found at the next line.
-use Rattle.std.proofs.Common.{◌≡◌, ℕ, ◌+◌, ◌*◌, ◌≤◌, Bool, List, [], Result, Ok, Err, IfOk, drop, arith, refl, sym, ap, ◌∙◌, subst}
+use Rattle.std.proofs.Common.{◌≡◌, ℕ, ◌+◌, ◌-◌, ◌*◌, ◌≤◌, Bool, List, [], Result, Ok, Err, IfOk, drop, arith, refl, sym, ap, ◌∙◌, subst}
 use Rattle.std.specs.Prelude.{◌==◌}
 use Rattle.rst_text.specs.Block.{Block}
+use Rattle.rst_text.specs.Looked.{capped}
 use Rattle.rst_tree.specs.declared.node.Node.{Node}
 use Rattle.rst_markup_blocks.specs.Begun.{IsBegun, kind_in}
 use Rattle.rst_markup_blocks.specs.Ends.{row_size, row_reach}
@@ -32,7 +33,7 @@ one_look _ = omega arith
 -- a construct with this many lines
 pub paid_next : (each : ℕ) (l new : OpenBlock) (B : Block) (what : Construct) (lines : ℕ) (s : Step) (before after : ℕ) → IsNextConstruct l B what lines → GoesOn s → new.depth ≡ l.depth → place_after new s ≡ l.at + lines
     → totals l.depth (next_blocks B s) ≡ totals l.depth (opened_by what (unread_at l.depth) B l.at (drop l.at B)) → totals l.depth (next_cells s) ≡ totals l.depth (cells_by what B l.at)
-    → after + end_looks new s ≤ before + run_looks l.run + each * reach_at (l.depth == 0) (drop l.at B) → before + lines ≤ after + 1 → IsPaid each l new B s before after
+    → after + end_looks new s ≤ before + run_looks l.run + each * reach_at (l.depth == 0) (drop l.at B) → capped (before + (lines - 1)) ≤ after → IsPaid each l new B s before after
 paid_next each l new B what lines s before after h goes depth place blocks cells most least = record {
   goes = goes;
   depth = depth;
@@ -52,7 +53,7 @@ pub paid_begun : (each : ℕ) (begun : Begun) (l new : OpenBlock) (B : Block) (s
     → place_after new s ≡ l.at + row_size (kind_in begun) (l.depth == 0) (drop l.at B)
     → totals l.depth (next_blocks B s) ≡ totals l.depth (opened_by (construct_with begun (l.depth == 0) (drop l.at B)) (unread_at l.depth) B l.at (drop l.at B))
     → totals l.depth (next_cells s) ≡ totals l.depth (cells_by (construct_with begun (l.depth == 0) (drop l.at B)) B l.at)
-    → after + end_looks new s ≤ before + run_looks l.run + each * row_reach (kind_in begun) (l.depth == 0) (drop l.at B) → before + row_size (kind_in begun) (l.depth == 0) (drop l.at B) ≤ after + 1
+    → after + end_looks new s ≤ before + run_looks l.run + each * row_reach (kind_in begun) (l.depth == 0) (drop l.at B) → capped (before + (row_size (kind_in begun) (l.depth == 0) (drop l.at B) - 1)) ≤ after
     → IsPaid each l new B s before after
 paid_begun each begun l new B s before after h f goes depth place blocks cells most least =
     let X : Block = drop l.at B in
@@ -72,7 +73,7 @@ ended_looks (ExplicitRun end) h = cc
 pub paid_alone : (each : ℕ) (begun : Begun) (l closed gone new : OpenBlock) (B : Block) (read : Result (List Item × ℕ) ℕ) (m : ℕ) (more : List Node) (before after : ℕ) → IsBegun (drop l.at B) begun → IsFilled begun
     → opened_by (construct_with begun (l.depth == 0) (drop l.at B)) (unread_at l.depth) B l.at (drop l.at B) ≡ [] → cells_by (construct_with begun (l.depth == 0) (drop l.at B)) B l.at ≡ []
     → IsClosed read l closed m no_run → IsMoved closed gone → gone.at ≡ l.at + row_size (kind_in begun) (l.depth == 0) (drop l.at B) → HasMoreAt gone new more gone.at
-    → after ≤ before + run_looks l.run + each * row_reach (kind_in begun) (l.depth == 0) (drop l.at B) → before + row_size (kind_in begun) (l.depth == 0) (drop l.at B) ≤ after + 1
+    → after ≤ before + run_looks l.run + each * row_reach (kind_in begun) (l.depth == 0) (drop l.at B) → capped (before + (row_size (kind_in begun) (l.depth == 0) (drop l.at B) - 1)) ≤ after
     → IsPaid each l new B Next before after
 paid_alone each begun l closed gone new B read m more before after h f none empty cl g at k most least =
     let ended : run_looks new.run ≡ 0 = ap run_looks (k.run ∙ g.run) ∙ ended_looks closed.run cl.run in
@@ -82,7 +83,7 @@ paid_alone each begun l closed gone new B read m more before after h f none empt
 
 -- a part, where some looks were taken before it, and more are allowed
 pub opens_after : {few more : ℕ} {old new : OpenBlock} {B : Block} {inner : List Block} {end : ℕ} {s : Step} {before mid after : ℕ} → Opens few old new B inner end s mid after
-    → before ≤ mid → mid + few ≤ before + more → Opens more old new B inner end s before after
+    → capped before ≤ mid → mid + few ≤ before + more → Opens more old new B inner end s before after
 opens_after h start enough = record {
   goes = h.goes;
   depth = h.depth;
@@ -95,7 +96,7 @@ opens_after h start enough = record {
 }
 
 -- a call that opens these blocks after some looks opens them in so many looks more
-pub opened_after : (few more : ℕ) (old new : OpenBlock) (B : Block) (Cs Ds : List Block) (end before mid after : ℕ) (result : Result Step BlockFault) → before ≤ mid → mid + few ≤ before + more → Cs ≡ Ds
+pub opened_after : (few more : ℕ) (old new : OpenBlock) (B : Block) (Cs Ds : List Block) (end before mid after : ℕ) (result : Result Step BlockFault) → capped before ≤ mid → mid + few ≤ before + more → Cs ≡ Ds
     → IfOk result (λ s. Opens few old new B Cs end s mid after) → IfOk result (λ s. Opens more old new B Ds end s before after)
 opened_after few more old new B Cs Ds end before mid after (Err fault) low high same h = tt
 opened_after few more old new B Cs Ds end before mid after (Ok s) low high same h = subst (λ Es. Opens more old new B Es end s before after) same (opens_after h low high)

@@ -5,6 +5,7 @@ use Rattle.std.specs.declared.alloc.Global.{Global}
 use Rattle.std.proofs.lemmas.Bool.{cases_lt, lt-ltb, le-ltb}
 use Rattle.std.proofs.lemmas.List.{drop_all, drop-drop}
 use Rattle.rst_text.specs.Block.{Block}
+use Rattle.rst_text.specs.Looked.{capped}
 use Rattle.rst_text.proofs.CutLaws.{take-cut, drop-cut, length-cut}
 use Rattle.rst_markup_blocks.specs.Lines.{lines_while}
 use Rattle.rst_markup_blocks.specs.declared.attribution.Attribution.{Attribution}
@@ -109,7 +110,7 @@ alone l B (Figure f) h = (refl, refl)
 alone l B (Replacement d) h = (refl, refl)
 
 pub resumed : (l new : OpenBlock) (B : Block) (w : Waits) (before after : ℕ) → WaitsForOne w → new.depth ≡ l.depth → new.at ≡ l.at → run_looks new.run ≤ run_looks l.run
-    → after ≤ before + quote_looks w → before ≤ after
+    → after ≤ before + quote_looks w → capped before ≤ after
     → Takes (most_after l B w None) (least_after l B w None) before (most_left new B Next) (least_left new B Next) after
 unfolding sum_of
 resumed l new B w before after one d p r few some =
@@ -159,7 +160,7 @@ flat_totals d (C ∷ Cs) h =
     omega (arith, flat_totals d Cs h, ap (λ n. total true n false C) e)
 
 pub last_block : (l : OpenBlock) (B : Block) (w : Waits) (first : Part) (second : Option Part) (before after : ℕ) → l.depth ≡ deepest
-    → after ≤ before + 128 * sum_of length (lines_in B first ∷ part_blocks B second) → before + sum_of length (lines_in B first ∷ part_blocks B second) ≤ after
+    → after ≤ before + 128 * sum_of length (lines_in B first ∷ part_blocks B second) → capped (before + sum_of length (lines_in B first ∷ part_blocks B second)) ≤ after
     → Takes (most_left l B (Open w first second)) (least_left l B (Open w first second)) before (most_after l B w None) (least_after l B w None) after
 unfolding sum_of
 last_block l B w first second before after d few some =
@@ -195,7 +196,7 @@ rows_cells depth n m end widths row rows =
     omega (arith, one, two)
 
 pub table_read : (l new : OpenBlock) (B : Block) (t : TableResult) (before mid after : ℕ) → new.depth ≡ l.depth → new.at ≡ end_of t → new.run ≡ l.run
-    → mid ≤ before + 128 * totals l.depth (cell_blocks t) → before + totals l.depth (cell_blocks t) ≤ mid → after ≤ mid + 1 → mid ≤ after
+    → mid ≤ before + 128 * totals l.depth (cell_blocks t) → capped (before + totals l.depth (cell_blocks t)) ≤ mid → after ≤ mid + 1 → capped mid ≤ after
     → Takes (most_left l B (Cells t)) (least_left l B (Cells t)) before (most_left new B Next) (least_left new B Next) after
 unfolding sum_of
 table_read l new B t before mid after d p r few some one more =

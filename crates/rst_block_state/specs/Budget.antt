@@ -3,6 +3,7 @@ use Rattle.std.specs.Prelude.{ℕ, zero, suc, ◌+◌, ◌*◌, ◌≤◌, max, 
 use Rattle.std.specs.List.{list_all}
 use Rattle.rst_settings.specs.Profile.{Profile}
 use Rattle.rst_text.specs.Block.{Line, Block, is_blank}
+use Rattle.rst_text.specs.Looked.{capped}
 use Rattle.rst_block_state.specs.Inside.{inside, cells}
 use Rattle.rst_block_state.specs.Numbered.{just}
 use Rattle.rst_block_state.specs.Within.{Within}
@@ -68,7 +69,7 @@ document_budget profile B = budget profile.code (suc profile.nesting) true B
 abbrev pub document_floor : Profile → Block → ℕ
 document_floor profile B = floor profile.code (suc profile.nesting) true B
 
--- this many looks at lines are within the bounds of a document
+-- this many looks at lines are within the bounds of a document, where the count may have stopped at its largest value
 pub record IsWithinBounds (profile : Profile) (B : Block) (looks : ℕ) : Type 0 where
   pub budget : looks ≤ document_budget profile B
-  pub floor : document_floor profile B ≤ looks
+  pub floor : capped (document_floor profile B) ≤ looks

@@ -62,5 +62,5 @@ KeepsFrame f depth l (GoesOn view s) = IsKept f.level l
 abbrev pub ended_as : Block → OpenBlock → Ended → Numbered (List Item)
 ended_as S l (Waiting g part) = do
   ns ← (within_at g.level.depth).inner (block_of part)
-  after g.level (placement_block S g.placement) g.waits g.second g.nodes.items ns
+  after g.level (placement_block S g.placement) g.waits g.second g.nodes ns
 ended_as S l (GoesOn view s) = comes l (block_of view) s

@@ -1,6 +1,7 @@
 -- How many looks at lines a reading may still take, and has to take at least, by the state of the machine. No rule of markup: it bounds the time.
 use Rattle.std.specs.Prelude.{◌≡◌, ℕ, suc, ◌+◌, ◌-◌, ◌*◌, ◌≤◌, ◌==◌, true, false, List, [], ◌∷◌, ◌++◌, length, drop, Option, None, Some}
 use Rattle.rst_text.specs.Block.{Block}
+use Rattle.rst_text.specs.Looked.{capped}
 use Rattle.rst_text.specs.Shown.{block_of, placement_block}
 use Rattle.rst_markup_blocks.specs.Partition.{construct_size, construct_end}
 use Rattle.rst_markup_blocks.specs.declared.part.Part.{Part}
@@ -172,7 +173,7 @@ pub record IsPaid (each : ℕ) (old new : OpenBlock) (B : Block) (s : Step) (bef
   pub blocks : totals old.depth (next_blocks B s) ≡ totals old.depth (opened_of (unread_at old.depth) B (found_in (old.depth == 0) B old.at))
   pub cells : totals old.depth (next_cells s) ≡ totals old.depth (cells_with B (found_in (old.depth == 0) B old.at))
   pub most : after + end_looks new s ≤ before + run_looks old.run + each * reach_at (old.depth == 0) (drop old.at B)
-  pub least : before + construct_size (old.depth == 0) (drop old.at B) ≤ after + 1
+  pub least : capped (before + (construct_size (old.depth == 0) (drop old.at B) - 1)) ≤ after
 
 -- Part of a construct was read, with so many looks before and after: these blocks come next, and then the block goes on at a place, with a run that is
 -- open as before. It took no more looks than this many.
@@ -184,17 +185,17 @@ pub record Opens (few : ℕ) (old new : OpenBlock) (B : Block) (inner : List Blo
   pub blocks : totals old.depth (next_blocks B s) ≡ totals old.depth inner
   pub cells : next_cells s ≡ []
   pub most : after + end_looks new s ≤ before + run_looks old.run + few
-  pub least : before ≤ after
+  pub least : capped before ≤ after
 
 -- a call took looks: what may still be taken is so much less, and what has to be taken no less than it leaves
 pub record Takes (most least before : ℕ) (most_then least_then after : ℕ) : Type 0 where
   pub no_more : after + most_then ≤ before + most
-  pub no_less : before + least ≤ after + least_then
+  pub no_less : capped (before + least) ≤ after + least_then
 
 -- a call took one look to 128 for each of this many lines
 pub record TakesFor (lines before after : ℕ) : Type 0 where
   pub no_more : after ≤ before + 128 * lines
-  pub no_less : before + lines ≤ after
+  pub no_less : capped (before + lines) ≤ after
 
 -- a block waits for no further quotes
 abbrev pub WaitsForOne : Waits → Type 0

@@ -5,6 +5,7 @@ use Rattle.rst_settings.specs.Profile.{Profile, profile_of}
 use Rattle.rst_settings.specs.declared.Settings.{Settings}
 use Rattle.rst_text.specs.Block.{Block}
 use Rattle.rst_text.specs.Lines.{are_lines}
+use Rattle.rst_text.specs.Looked.{capped}
 use Rattle.rst_text.specs.Shown.{placement_block}
 use Rattle.rst_markup_blocks.specs.Lines.{lines_while}
 use Rattle.rst_markup_blocks.specs.Partition.{IsBlankAt, IsTextAt}
@@ -44,20 +45,20 @@ BlocksBegin = (depth : ℕ) (B : Block) → depth ≤ deepest → IsBegun depth 
 
 -- after its last line nothing has to be taken
 abbrev pub BlocksEnd : Type 0
-BlocksEnd = (l : OpenBlock) (B : Block) (before after : ℕ) → length B ≤ l.at → after ≤ before + run_looks l.run → before ≤ after
+BlocksEnd = (l : OpenBlock) (B : Block) (before after : ℕ) → length B ≤ l.at → after ≤ before + run_looks l.run → capped before ≤ after
     → Takes (most_left l B Next) (least_left l B Next) before (most_left l B Done) (least_left l B Done) after
 
 -- a blank line: a look at least, and no more than 32
 abbrev pub BlankLineIsPaid : Type 0
 BlankLineIsPaid = (old new : OpenBlock) (B : Block) (before after : ℕ) → old.at < length B → IsBlankAt B old.at → new.depth ≡ old.depth
     → new.at ≡ suc old.at → new.run ≡ old.run
-    → after ≤ before + 32 → before + 1 ≤ after
+    → after ≤ before + 32 → capped (before + 1) ≤ after
     → Takes (most_left old B Next) (least_left old B Next) before (most_left new B Next) (least_left new B Next) after
 
 -- a construct, after the looks by which its kind is found: one at least, and no more than three
 abbrev pub ConstructIsPaid : Type 0
 ConstructIsPaid = (old new : OpenBlock) (B : Block) (s : Step) (before mid after : ℕ) → old.at < length B → IsTextAt B old.at
-    → before + 1 ≤ mid → mid ≤ before + 3 → IsPaid 29 old new B s mid after
+    → capped (before + 1) ≤ mid → mid ≤ before + 3 → IsPaid 29 old new B s mid after
     → Takes (most_left old B Next) (least_left old B Next) before (most_left new B s) (least_left new B s) after
 
 -- ---- blocks that wait
@@ -104,7 +105,7 @@ QuotesAreSplit = (B : Block) (p : Part) (k next line : ℕ) (a : Attribution) (m
 abbrev pub ResumedIsPaid : Type 0
 ResumedIsPaid = (l new : OpenBlock) (B : Block) (w : Waits) (before after : ℕ) → WaitsForOne w → new.depth ≡ l.depth → new.at ≡ l.at
     → run_looks new.run ≤ run_looks l.run
-    → after ≤ before + quote_looks w → before ≤ after
+    → after ≤ before + quote_looks w → capped before ≤ after
     → Takes (most_after l B w None) (least_after l B w None) before (most_left new B Next) (least_left new B Next) after
 
 -- it waits for the next quote
@@ -118,7 +119,7 @@ QuotesArePaid = (l new : OpenBlock) (B : Block) (line end : ℕ) (made : Option 
 abbrev pub LastBlockIsPaid : Type 0
 LastBlockIsPaid = (l : OpenBlock) (B : Block) (w : Waits) (first : Part) (second : Option Part) (before after : ℕ) → l.depth ≡ deepest
     → after ≤ before + 128 * sum_of length (lines_in B first ∷ part_blocks B second)
-    → before + sum_of length (lines_in B first ∷ part_blocks B second) ≤ after
+    → capped (before + sum_of length (lines_in B first ∷ part_blocks B second)) ≤ after
     → Takes (most_left l B (Open w first second)) (least_left l B (Open w first second)) before
     (most_after l B w None) (least_after l B w None) after
 
@@ -138,7 +139,7 @@ CellsAreOfRows = (depth n m end : ℕ) (widths : List ℕ) (row : List Cell) (ro
 abbrev pub TableIsPaid : Type 0
 TableIsPaid = (l new : OpenBlock) (B : Block) (t : TableResult) (before mid after : ℕ) → new.depth ≡ l.depth → new.at ≡ end_of t
     → new.run ≡ l.run
-    → mid ≤ before + 128 * totals l.depth (cell_blocks t) → before + totals l.depth (cell_blocks t) ≤ mid → after ≤ mid + 1 → mid ≤ after
+    → mid ≤ before + 128 * totals l.depth (cell_blocks t) → capped (before + totals l.depth (cell_blocks t)) ≤ mid → after ≤ mid + 1 → capped mid ≤ after
     → Takes (most_left l B (Cells t)) (least_left l B (Cells t)) before (most_left new B Next) (least_left new B Next) after
 
 -- ---- texts

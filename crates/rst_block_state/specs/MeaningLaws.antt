@@ -42,13 +42,13 @@ PartIsBlock = (S : Block) (fs : List Frame) (f : Frame) (l : OpenBlock) (X : Blo
     → suc f.level.depth ≤ deepest → IsNew l
     → plug S (fs ++ f ∷ []) (reads l X) number
     ≡ plug S fs ((within_at f.level.depth).inner X >>= λ ns.
-    after f.level (placement_block S f.placement) f.waits f.second f.nodes.items ns) number
+    after f.level (placement_block S f.placement) f.waits f.second f.nodes ns) number
 
 -- once a block is read, the one that waits for it has its nodes
 abbrev pub EndedBlockIsPassed : Type 0
 EndedBlockIsPassed = (S : Block) (fs : List Frame) (f : Frame) (items : List Item) (number : ℕ)
     → plug S (fs ++ f ∷ []) (just items) number
-    ≡ plug S fs (after f.level (placement_block S f.placement) f.waits f.second f.nodes.items (nodes_among items)) number
+    ≡ plug S fs (after f.level (placement_block S f.placement) f.waits f.second f.nodes (nodes_among items)) number
 
 -- The first n lines of a block below the last level are blank: if they are all its lines, it gives nothing, else it is refused at the line after
 -- them.

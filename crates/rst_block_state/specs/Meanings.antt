@@ -55,7 +55,7 @@ list_of l = record {
   end = l.end;
   notes_before = l.before.items;
   element = l.list;
-  items = l.items.items;
+  items = l.items;
   notes_after = l.behind.items;
 }
 
@@ -83,7 +83,7 @@ within_at depth = record { titles = depth == 0; code = true; levels = suc deepes
 
 -- the nodes and titles of a block so far, but for those of the open run
 abbrev pub done_of : OpenBlock → List Item
-done_of l = items_from 0 l.nodes.items l.headings.items
+done_of l = items_from 0 l.nodes l.headings.items
 
 -- what the block B gives that is read: what came of it so far, and what is still to come
 abbrev pub reads : OpenBlock → Block → Numbered (List Item)
@@ -152,7 +152,7 @@ unfoldable pub plug : Block → List Frame → Numbered (List Item) → Numbered
 plug S [] read = read
 plug S (f ∷ fs) read = do
   items ← plug S fs read
-  after f.level (placement_block S f.placement) f.waits f.second f.nodes.items (nodes_among items)
+  after f.level (placement_block S f.placement) f.waits f.second f.nodes (nodes_among items)
 
 -- ---- what comes next
 

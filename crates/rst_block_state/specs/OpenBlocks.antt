@@ -49,7 +49,7 @@ line_added bar end o = o
 -- at most the place of the next line changes
 pub record IsMoved (old new : OpenBlock) : Type 0 where
   pub depth : new.depth ≡ old.depth
-  pub nodes : new.nodes.items ≡ old.nodes.items
+  pub nodes : new.nodes ≡ old.nodes
   pub headings : new.headings.items ≡ old.headings.items
   pub run : new.run ≡ old.run
 
@@ -57,14 +57,14 @@ pub record IsMoved (old new : OpenBlock) : Type 0 where
 pub record HasRun (old new : OpenBlock) (o : OpenRun) : Type 0 where
   pub depth : new.depth ≡ old.depth
   pub at : new.at ≡ old.at
-  pub nodes : new.nodes.items ≡ old.nodes.items
+  pub nodes : new.nodes ≡ old.nodes
   pub headings : new.headings.items ≡ old.headings.items
   pub run : open_of new.run ≡ o
 
 -- the open run becomes this one, and at most the place of the next line changes beside it
 pub record HasLine (old new : OpenBlock) (o : OpenRun) : Type 0 where
   pub depth : new.depth ≡ old.depth
-  pub nodes : new.nodes.items ≡ old.nodes.items
+  pub nodes : new.nodes ≡ old.nodes
   pub headings : new.headings.items ≡ old.headings.items
   pub run : open_of new.run ≡ o
 
@@ -72,7 +72,7 @@ pub record HasLine (old new : OpenBlock) (o : OpenRun) : Type 0 where
 pub record HasMoreAt (old new : OpenBlock) (more : List Node) (place : ℕ) : Type 0 where
   pub depth : new.depth ≡ old.depth
   pub at : new.at ≡ place
-  pub nodes : new.nodes.items ≡ old.nodes.items ++ more
+  pub nodes : new.nodes ≡ old.nodes ++ more
   pub headings : new.headings.items ≡ old.headings.items
   pub run : new.run ≡ old.run
 
@@ -96,8 +96,8 @@ placed_after n h = record { before = n; style = h.style; title = h.title; warnin
 pub record HasTitle (old new : OpenBlock) (h : Heading) : Type 0 where
   pub depth : new.depth ≡ old.depth
   pub at : new.at ≡ old.at
-  pub nodes : new.nodes.items ≡ old.nodes.items
-  pub headings : new.headings.items ≡ old.headings.items ++ placed_after (length old.nodes.items) h ∷ []
+  pub nodes : new.nodes ≡ old.nodes
+  pub headings : new.headings.items ≡ old.headings.items ++ placed_after (length old.nodes) h ∷ []
   pub run : new.run ≡ old.run
 
 -- ---- what each step keeps
@@ -109,7 +109,7 @@ AreWithin n (h ∷ hs) = (h.before ≤ n) × AreWithin n hs
 
 -- each title of a block stands among its nodes
 abbrev pub IsPlaced : OpenBlock → Type 0
-IsPlaced l = AreWithin (length l.nodes.items) l.headings.items
+IsPlaced l = AreWithin (length l.nodes) l.headings.items
 
 -- what each step leaves as it is: the block is as deep, and its titles stand among its nodes
 pub record IsKept (old new : OpenBlock) : Type 0 where
@@ -136,7 +136,7 @@ pub record IsClosed (read : Result (List Item × ℕ) ℕ) (old new : OpenBlock)
   pub given : read ≡ Ok (map plain more, next)
   pub depth : new.depth ≡ old.depth
   pub at : new.at ≡ old.at
-  pub nodes : new.nodes.items ≡ old.nodes.items ++ more
+  pub nodes : new.nodes ≡ old.nodes ++ more
   pub headings : new.headings.items ≡ old.headings.items
   pub run : open_of new.run ≡ o
 

@@ -11,7 +11,7 @@ use super::step::Step;
 use super::waits::Waits;
 use rst_markup_blocks::Part;
 use rst_text::{Placement, View};
-use rst_tree_index::Marked;
+use rst_tree_index::MarkedNodes;
 use std::alloc::Global;
 use std::default::MadeWith;
 use std::mem;
@@ -26,7 +26,7 @@ pub struct Frame {
     /// The part of its lines that is read behind the one that is being read.
     pub second: Option<Part>,
     /// The nodes of the part that was read before.
-    pub nodes: Vec<Marked>,
+    pub nodes: MarkedNodes,
 }
 
 /// What follows the end of a block inside another.
@@ -45,7 +45,7 @@ impl MadeWith<Global> for Frame {
             level: OpenBlock::new(alloc, 0),
             waits: Waits::ListItem { line: 0 },
             second: None,
-            nodes: Vec::new(alloc),
+            nodes: MarkedNodes::none(alloc),
         }
     }
 }
@@ -68,7 +68,7 @@ pub fn opened(
     ensures at { result.level.at ≡ level.old.at }
     ensures begin { level.new.at ≡ 0 }
     ensures kept { result.level ≡ level.old }
-    ensures waits { (result.waits ≡ waits) × (result.second ≡ second) × (result.nodes.items ≡ []) }
+    ensures waits { (result.waits ≡ waits) × (result.second ≡ second) × (result.nodes ≡ []) }
     ensures begun { IsNew level.new }
     ensures placed { IsPlaced level.new }
     ensures depth { level.new.depth ≡ depth }
@@ -78,6 +78,6 @@ pub fn opened(
         level: mem::replace(level, OpenBlock::new(alloc, depth)),
         waits,
         second,
-        nodes: Vec::new(alloc),
+        nodes: MarkedNodes::none(alloc),
     }
 }

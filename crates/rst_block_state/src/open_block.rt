@@ -1,5 +1,6 @@
 //! A block that is being read.
 ghost use Rattle.std.specs.Prelude.{◌≡◌, ℕ, suc, ◌+◌, ◌-◌, ◌^◌, ◌<◌, ◌≤◌, ◌==◌, [], ◌∷◌, length, drop};
+ghost use Rattle.rst_text.specs.Looked.{capped};
 ghost use Rattle.rst_text.specs.Shown.{block_of};
 ghost use Rattle.rst_block_state.specs.Meanings.{IsNew, deepest, joining_in, open_of};
 ghost use Rattle.rst_block_state.specs.Ledger.{run_looks};
@@ -9,13 +10,13 @@ ghost use Rattle.rst_block_state.specs.Texts.{warned};
 
 use super::fault::BlockFault;
 use super::run::{ListKind, OpenList, Run};
-use super::texts::{Pass, number_at, push, unindent};
-use rst_block_sections::{Heading, append};
+use super::texts::{Pass, number_at, unindent};
+use rst_block_sections::Heading;
 use rst_markup_blocks::text_at;
 use rst_markup_lines::is_blank;
 use rst_text::View;
 use rst_tree::Node;
-use rst_tree_index::Marked;
+use rst_tree_index::{Marked, MarkedNodes};
 use std::alloc::Global;
 use std::mem;
 
@@ -27,7 +28,7 @@ pub struct OpenBlock {
     /// The place of the next line.
     pub at: usize,
     /// The nodes and messages so far, but for those of the open run.
-    pub nodes: Vec<Marked>,
+    pub nodes: MarkedNodes,
     /// The constructs before the next line that it may join.
     pub run: Run,
     /// The titles so far. Only the document has some.
@@ -45,7 +46,7 @@ impl OpenBlock {
         OpenBlock {
             depth,
             at: 0,
-            nodes: Vec::new(alloc),
+            nodes: MarkedNodes::none(alloc),
             run: Run::None,
             headings: Vec::new(alloc),
         }
@@ -74,8 +75,7 @@ impl OpenBlock {
         ensures at { self.new.at ≡ self.old.at }
         ensures more { spec.Gives (λ _. spec.HasMore self.old self.new (node ∷ [])) result }
     {
-        let alloc = *self.nodes.allocator();
-        self.push_marked(Marked::of(alloc, node)?)
+        Ok(self.nodes.push_new(node)?)
     }
 
     /// Puts a node behind the last.
@@ -83,7 +83,7 @@ impl OpenBlock {
         ensures at { self.new.at ≡ self.old.at }
         ensures more { spec.Gives (λ _. spec.HasMore self.old self.new (node ∷ [])) result }
     {
-        Ok(push(&mut self.nodes, node)?)
+        Ok(self.nodes.push(node)?)
     }
 
     /// Puts more nodes that were just made behind the last.
@@ -91,16 +91,15 @@ impl OpenBlock {
         ensures at { self.new.at ≡ self.old.at }
         ensures more { spec.Gives (λ _. spec.HasMore self.old self.new more.items) result }
     {
-        let alloc = *self.nodes.allocator();
-        self.append_marked(Marked::each(alloc, more)?)
+        Ok(self.nodes.append_new(more)?)
     }
 
     /// Puts more nodes behind the last.
-    pub fn append_marked(&mut self, more: Vec<Marked>) -> Result<(), BlockFault>
+    pub fn append_marked(&mut self, more: MarkedNodes) -> Result<(), BlockFault>
         ensures at { self.new.at ≡ self.old.at }
-        ensures more { spec.Gives (λ _. spec.HasMore self.old self.new more.items) result }
+        ensures more { spec.Gives (λ _. spec.HasMore self.old self.new more) result }
     {
-        Ok(append(&mut self.nodes, more)?)
+        Ok(self.nodes.append(more)?)
     }
 
     /// Puts a title behind the last node.
@@ -120,9 +119,8 @@ impl OpenBlock {
         view: &View<'_>,
         pass: &mut Pass,
     ) -> Result<(), BlockFault>
-        requires few { pass.old.looks < 2 ^ 120 }
         ensures at { self.new.at ≡ self.old.at }
-        ensures low { pass.old.looks ≤ pass.new.looks }
+        ensures low { capped pass.old.looks ≤ pass.new.looks }
         ensures run { pass.new.looks ≤ pass.old.looks + run_looks self.old.run }
         ensures closed { let levels = suc deepest - self.old.depth in
             let closed = closed_run levels (block_of view.now) (open_of self.old.run) pass.old.numbers in
@@ -165,7 +163,7 @@ impl OpenBlock {
             end,
             before: Vec::new(alloc),
             list,
-            items: Vec::new(alloc),
+            items: MarkedNodes::none(alloc),
             behind: Vec::new(alloc),
         };
         self.run = Run::List(Box::new(alloc, open)?);
@@ -178,8 +176,8 @@ impl OpenBlock {
         ensures item { spec.Gives (λ _. spec.HasItem self.old self.new item) result }
     {
         match &mut self.run {
-            Run::List(open) => Ok(push(&mut open.items, item)?),
-            _ => Ok(push(&mut self.nodes, item)?),
+            Run::List(open) => Ok(open.items.push(item)?),
+            _ => Ok(self.nodes.push(item)?),
         }
     }
 
@@ -192,11 +190,10 @@ impl OpenBlock {
         text: &str,
         pass: &mut Pass,
     ) -> Result<(), BlockFault>
-        requires few { pass.old.looks < 2 ^ 120 }
         ensures at { self.new.at ≡ self.old.at }
         ensures more { spec.Gives (λ _. spec.HasMore self.old self.new (warned text.now (drop end (block_of view.now)))) result }
         ensures numbers { pass.new.numbers ≡ pass.old.numbers }
-        ensures low { pass.old.looks ≤ pass.new.looks }
+        ensures low { capped pass.old.looks ≤ pass.new.looks }
         ensures looks { pass.new.looks ≤ pass.old.looks + 1 }
     {
         if is_blank(text_at(view, end, &mut pass.looks)) {

@@ -1,6 +1,7 @@
 //! Parts of a view that are blocks inside.
-ghost use Rattle.std.specs.Prelude.{◌≡◌, ◌+◌, ◌-◌, ◌*◌, ◌^◌, ◌<◌, ◌≤◌, length, drop};
+ghost use Rattle.std.specs.Prelude.{◌≡◌, ◌+◌, ◌-◌, ◌*◌, ◌<◌, ◌≤◌, length, drop};
 ghost use Rattle.rst_text.specs.Extent.{extent};
+ghost use Rattle.rst_text.specs.Looked.{capped};
 ghost use Rattle.rst_text.specs.Reach.{reach};
 ghost use Rattle.rst_text.specs.Shown.{block_of, source_of};
 ghost use Rattle.rst_markup_blocks.specs.Parts.{IsBlock};
@@ -15,12 +16,11 @@ use rst_text::{Looks, View};
 /// The lines from place `from` on that are blank or indented, without their least indentation.
 pub fn indented(view: &View<'_>, from: usize, looks: &mut Looks) -> Part
     requires inside { from ≤ length (block_of view.now) }
-    requires few { looks.old < 2 ^ 120 }
     ensures block { IsBlock (block_of view.now) result }
     ensures part { result ≡ within.indented_part from (drop from (block_of view.now)) }
     ensures from { result.from ≡ from }
-    ensures looks { looks.new ≤ looks.old + 2 ^ 64 }
-    ensures reach { looks.new ≡ looks.old + reach (extent 1 (drop from (block_of view.now))) (drop from (block_of view.now)) }
+    ensures reach { looks.new ≤ looks.old + reach (extent 1 (drop from (block_of view.now))) (drop from (block_of view.now)) }
+    ensures low { capped (looks.old + reach (extent 1 (drop from (block_of view.now))) (drop from (block_of view.now))) ≤ looks.new }
 {
     let extent = view.block_end(from, None, looks);
     Part {
@@ -34,12 +34,10 @@ pub fn indented(view: &View<'_>, from: usize, looks: &mut Looks) -> Part
 /// What stands behind a marker, and the indented block below.
 pub fn hanging(view: &View<'_>, at: usize, marker: Marker, looks: &mut Looks) -> Part
     requires inside { at < length (block_of view.now) }
-    requires few { looks.old < 2 ^ 120 }
     ensures block { IsBlock (block_of view.now) result }
     ensures part { result ≡ within.hanging at marker (drop at (block_of view.now)) }
-    ensures looks { looks.new ≤ looks.old + 2 ^ 66 }
     ensures reach { looks.new + 2 ≤ looks.old + 2 * reach (hanging_size (drop at (block_of view.now))) (drop at (block_of view.now)) }
-    ensures low { looks.old + hanging_size (drop at (block_of view.now)) ≤ looks.new + 1 }
+    ensures low { capped (looks.old + (hanging_size (drop at (block_of view.now)) - 1)) ≤ looks.new }
 {
     hanging_part(view, at, marker.cut, marker.bare, looks)
 }
@@ -47,12 +45,10 @@ pub fn hanging(view: &View<'_>, at: usize, marker: Marker, looks: &mut Looks) ->
 /// The block of a list's item with this marker.
 pub fn item_part(view: &View<'_>, at: usize, marker: Marker, looks: &mut Looks) -> Part
     requires inside { at < length (block_of view.now) }
-    requires few { looks.old < 2 ^ 120 }
     ensures block { IsBlock (block_of view.now) result }
     ensures part { result ≡ within.item_part at marker (drop at (block_of view.now)) }
-    ensures looks { looks.new ≤ looks.old + 2 ^ 66 }
     ensures reach { looks.new + 2 ≤ looks.old + 2 * reach (item_size marker (drop at (block_of view.now))) (drop at (block_of view.now)) }
-    ensures low { looks.old + item_size marker (drop at (block_of view.now)) ≤ looks.new + 1 }
+    ensures low { capped (looks.old + (item_size marker (drop at (block_of view.now)) - 1)) ≤ looks.new }
 {
     if marker.bare {
         return hanging(view, at, marker, looks);

@@ -11,14 +11,14 @@ ghost use Rattle.rst_block_state.specs.OpenBlocks.{Adds};
 ghost use Rattle.rst_block_state.specs.Rest.{end_of_run, joining_of_run, open_lines, run_nodes};
 
 use super::fault::BlockFault;
-use super::texts::{Pass, push};
+use super::texts::Pass;
 use rst_block_nodes::{BarText, LineBlockFault, line_block};
-use rst_block_sections::{append, completed};
+use rst_block_sections::completed;
 use rst_markup_lines::{
     Enumerator, Format, Ordinals, Sequence, first_reading, is_same_format, ordinal_in,
 };
 use rst_tree::{Node, TreeFault};
-use rst_tree_index::Marked;
+use rst_tree_index::MarkedNodes;
 use std::alloc::Global;
 
 /// How many blocks a block may stand in.
@@ -53,7 +53,7 @@ pub struct OpenList {
     pub before: Vec<Node>,
     /// The list without its items.
     pub list: Node,
-    pub items: Vec<Marked>,
+    pub items: MarkedNodes,
     /// Messages that stand after the list.
     pub behind: Vec<Node>,
 }
@@ -182,12 +182,12 @@ impl Run {
     pub fn put(
         self,
         alloc: Global,
-        nodes: &mut Vec<Marked>,
+        nodes: &mut MarkedNodes,
         depth: usize,
         pass: &mut Pass,
     ) -> Result<(), BlockFault>
         ensures nodes { Adds (run_nodes (suc deepest - depth) (open_of self) pass.old.numbers)
-            nodes.old.items nodes.new.items pass.new.numbers result }
+            nodes.old nodes.new pass.new.numbers result }
         ensures looks { pass.new.looks ≡ pass.old.looks }
     {
         match self {
@@ -199,9 +199,9 @@ impl Run {
 }
 
 /// Puts a list between its messages behind other nodes.
-fn put_list(alloc: Global, nodes: &mut Vec<Marked>, open: OpenList) -> Result<(), TreeFault>
-    ensures { Gives (λ _. nodes.new.items
-        ≡ nodes.old.items ++ open.before.items ++ filled open.list open.items.items ∷ open.behind.items) result }
+fn put_list(alloc: Global, nodes: &mut MarkedNodes, open: OpenList) -> Result<(), TreeFault>
+    ensures { Gives (λ _. nodes.new
+        ≡ nodes.old ++ open.before.items ++ filled open.list open.items ∷ open.behind.items) result }
 {
     let OpenList {
         before,
@@ -210,27 +210,27 @@ fn put_list(alloc: Global, nodes: &mut Vec<Marked>, open: OpenList) -> Result<()
         behind,
         ..
     } = open;
-    append(nodes, Marked::each(alloc, before)?)?;
-    push(nodes, completed(alloc, list, items)?)?;
-    append(nodes, Marked::each(alloc, behind)?)
+    nodes.append_new(before)?;
+    nodes.push(completed(alloc, list, items)?)?;
+    nodes.append_new(behind)
 }
 
 /// Puts a line block and the messages of its texts behind other nodes.
 fn put_lines(
     alloc: Global,
-    nodes: &mut Vec<Marked>,
+    nodes: &mut MarkedNodes,
     lines: Vec<BarText>,
     depth: usize,
     pass: &mut Pass,
 ) -> Result<(), BlockFault>
     ensures nodes { Adds (run_nodes (suc deepest - depth) (open_lines 0 (indented lines.items)) pass.old.numbers)
-        nodes.old.items nodes.new.items pass.new.numbers result }
+        nodes.old nodes.new pass.new.numbers result }
     ensures looks { pass.new.looks ≡ pass.old.looks }
 {
     match line_block(alloc, lines, depth, DEEPEST, &mut pass.numbers) {
         Ok(block) => {
-            push(nodes, Marked::of(alloc, block.element)?)?;
-            Ok(append(nodes, Marked::each(alloc, block.notes)?)?)
+            nodes.push_new(block.element)?;
+            Ok(nodes.append_new(block.notes)?)
         }
         Err(LineBlockFault::TooDeep { line }) => Err(BlockFault::TooDeep { line }),
         Err(LineBlockFault::NoMemory) => Err(BlockFault::NoMemory),

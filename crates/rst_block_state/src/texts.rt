@@ -1,8 +1,8 @@
 //! Texts of lines, and what a pass over a document counts.
-ghost use Rattle.std.specs.Prelude.{◌≡◌, ◌+◌, ◌-◌, ◌^◌, ◌<◌, ◌≤◌, [], ◌∷◌, ◌++◌, length, take, drop, slice_range, string_bytes, encode_utf8_all, IfOk};
+ghost use Rattle.std.specs.Prelude.{◌≡◌, ◌+◌, ◌-◌, ◌<◌, ◌≤◌, [], ◌∷◌, ◌++◌, length, take, drop, slice_range, string_bytes, encode_utf8_all, IfOk};
 ghost use Rattle.std.specs.Str.{chars};
-ghost use Rattle.std.specs.Vec.Iter.{into_iter_items};
 ghost use Rattle.rst_text.specs.Block.{first_number};
+ghost use Rattle.rst_text.specs.Looked.{capped};
 ghost use Rattle.rst_text.specs.Shown.{block_of};
 ghost use Rattle.rst_text.specs.Text.{chars_of};
 ghost use Rattle.rst_tree.specs.Faults.{Gives};
@@ -14,9 +14,8 @@ use rst_block_nodes::{Numbers, message};
 use rst_markup_lines::Characters;
 use rst_text::{Looks, View, skip};
 use rst_tree::{Level, Node, TreeFault};
-use rst_tree_index::Marked;
+use rst_tree_index::{MarkedIter, MarkedNodes};
 use std::alloc::{AllocError, Global};
-use std::vec::IntoIter;
 
 /// What is counted while a document is read: looks at lines, and messages that have problematics.
 #[derive(Drop)]
@@ -77,11 +76,9 @@ fn usual_size(lines: usize) -> usize {
 
 /// The lines of a view, joined by line feeds, at the price of one look at each.
 pub fn joined(alloc: Global, view: &View<'_>, looks: &mut Looks) -> Result<String, AllocError>
-    requires few { looks.old < 2 ^ 120 }
     ensures bytes { IfOk result (λ text. string_bytes text ≡ spec.spelled (block_of view.now)) }
     ensures text { IfOk result (λ text. chars_of text ≡ spec.joined (block_of view.now)) }
-    ensures each { IfOk result (λ _. looks.new ≡ looks.old + length (block_of view.now)) }
-    ensures looks { looks.new ≤ looks.old + 2 ^ 64 }
+    ensures each { IfOk result (λ _. capped (looks.old + length (block_of view.now)) ≤ looks.new) }
     ensures most { looks.new ≤ looks.old + length (block_of view.now) }
 {
     let mut text = String::with_capacity(alloc, usual_size(view.len()))?;
@@ -103,11 +100,9 @@ pub fn source(
     to: usize,
     looks: &mut Looks,
 ) -> Result<String, AllocError>
-    requires few { looks.old < 2 ^ 120 }
     ensures bytes { IfOk result (λ text. string_bytes text ≡ spec.source_of (block_of view.now) (record { start = from; stop = to })) }
     ensures text { IfOk result (λ text. chars_of text ≡ spec.joined (slice_range (block_of view.now) from to)) }
-    ensures each { IfOk result (λ _. looks.new ≡ looks.old + length (slice_range (block_of view.now) from to)) }
-    ensures looks { looks.new ≤ looks.old + 2 ^ 64 }
+    ensures each { IfOk result (λ _. capped (looks.old + length (slice_range (block_of view.now) from to)) ≤ looks.new) }
     ensures most { looks.new ≤ looks.old + (to - from) }
 {
     joined(alloc, &lines_between(view, from, to), looks)
@@ -164,15 +159,15 @@ pub fn alone<N: Drop>(alloc: Global, node: N) -> Result<Vec<N>, AllocError>
 /// Some nodes in two parts: the first ones, up to a number of them, and those after them.
 pub fn parted(
     alloc: Global,
-    nodes: IntoIter<Marked, Global>,
+    mut nodes: MarkedIter,
     count: u64,
-) -> Result<(Vec<Marked>, Vec<Marked>), AllocError>
-    ensures first { IfOk result (λ parts. parts.0.items ≡ take count (into_iter_items nodes)) }
-    ensures second { IfOk result (λ parts. parts.1.items ≡ drop count (into_iter_items nodes)) }
+) -> Result<(MarkedNodes, MarkedNodes), TreeFault>
+    ensures first { Gives (λ parts. parts.0 ≡ take count nodes) result }
+    ensures second { Gives (λ parts. parts.1 ≡ drop count nodes) result }
 {
-    let mut first = Vec::new(alloc);
-    let mut second = Vec::new(alloc);
-    for node in nodes {
+    let mut first = MarkedNodes::none(alloc);
+    let mut second = MarkedNodes::none(alloc);
+    while let Some(node) = nodes.next(alloc) {
         if (first.len() as u64) < count {
             first.push(node)?;
             continue;

@@ -1,5 +1,5 @@
 -- Where literal blocks and paragraphs end, and what is looked at for that.
-use Rattle.std.proofs.Common.{◌≡◌, ℕ, suc, ◌+◌, ◌-◌, ◌*◌, ◌<◌, ◌≤◌, ◌==◌, ◌⊎◌, inl, inr, Bool, true, false, cond, None, Some, List, [], ◌∷◌, length, drop, refl, sym, ap, ◌∙◌, arith, leb}
+use Rattle.std.proofs.Common.{◌≡◌, ℕ, suc, ◌+◌, ◌-◌, ◌*◌, ◌<◌, ◌≤◌, ◌==◌, ◌⊎◌, inl, inr, Bool, true, false, cond, None, Some, List, [], ◌∷◌, length, drop, refl, sym, ap, ◌∙◌, arith}
 use Rattle.std.proofs.lemmas.Bool.{lt-ltb}
 use Rattle.rst_text.specs.Block.{Block, is_blank, front_text, indentation}
 use Rattle.rst_text.specs.Extent.{extent}
@@ -22,16 +22,6 @@ use Rattle.rst_markup_lines.specs.Closing.{ends_in_colons}
 use Rattle.rst_markup_lines.specs.Adornment.{adornment_of}
 use Rattle.rst_markup_lines.specs.Front.{begins_with}
 use Rattle.rst_markup_blocks.proofs.LineLemmas.{blanks_through, filled_through, begins_while, reach_behind}
-
-pub looked_le : (least : ℕ) (X : Block) → looked least X ≤ length X
-unfolding looked
-looked_le least [] = omega arith
-looked_le least (l ∷ ls) = by (is_blank l.text) (leb least (indentation l.text)) (looked_le least ls)
-  where
-    by : (a b : Bool) → looked least ls ≤ length ls → cond a (suc (looked least ls)) (cond b (suc (looked least ls)) 1) ≤ suc (length ls)
-    by true b h = omega arith
-    by false true h = omega arith
-    by false false h = omega arith
 
 -- an indented literal block
 pub literal_indented : (Y : Block) → 0 < extent 1 Y → literal_size Y ≡ extent 1 Y

@@ -1,6 +1,7 @@
 //! Lines of one punctuation character.
-ghost use Rattle.std.specs.Prelude.{◌≡◌, ◌+◌, ◌*◌, ◌^◌, ◌<◌, ◌≤◌, length, drop, Bool};
+ghost use Rattle.std.specs.Prelude.{◌≡◌, ◌+◌, ◌<◌, ◌≤◌, length, drop, Bool};
 ghost use Rattle.std.specs.Str.{chars};
+ghost use Rattle.rst_text.specs.Looked.{capped};
 ghost use Rattle.rst_text.specs.Shown.{block_of};
 ghost use Rattle.rst_markup_blocks.specs.Forms.{adorned_form};
 ghost use Rattle.rst_markup_blocks.specs.Conditions.{next_text};
@@ -26,10 +27,9 @@ pub fn adorned_at(
 ) -> Adorned
     requires inside { i < length (block_of view.now) }
     requires next { chars next.now ≡ next_text (drop i (block_of view.now)) }
-    requires few { looks.old < 2 ^ 120 + 2 ^ 70 }
     ensures form { result ≡ adorned_form titles mark (next_text (drop i (block_of view.now))) (spec.third_text (drop i (block_of view.now))) }
     ensures looks { looks.new ≤ looks.old + spec.overline_looks (next_text (drop i (block_of view.now))) }
-    ensures low { looks.old ≤ looks.new }
+    ensures low { capped looks.old ≤ looks.new }
 {
     if !titles {
         return adorned_below(mark);

@@ -1,5 +1,6 @@
 //! Attributions of block quotes.
-ghost use Rattle.std.specs.Prelude.{◌≡◌, ◌+◌, ◌^◌, ◌<◌, ◌≤◌, IfSome, option_map, length, drop};
+ghost use Rattle.std.specs.Prelude.{◌≡◌, ◌+◌, ◌<◌, ◌≤◌, IfSome, option_map, length, drop};
+ghost use Rattle.rst_text.specs.Looked.{capped};
 ghost use Rattle.rst_text.specs.Shown.{block_of};
 ghost use Rattle.rst_markup_blocks.specs.Attributions as spec;
 ghost use Rattle.rst_markup_blocks.specs.Lines.{lines_while};
@@ -24,10 +25,9 @@ pub struct Attribution {
 /// The place after the lines from place `from` on, up to a blank one, if each of them is indented by `indent`.
 fn level_end(view: &View<'_>, from: usize, indent: usize, looks: &mut Looks) -> Option<usize>
     requires inside { from ≤ length (block_of view.now) }
-    requires few { looks.old < 2 ^ 120 + 2 }
     ensures end { result ≡ option_map (λ n. from + n) (spec.level_lines indent (drop from (block_of view.now))) }
     ensures looks { looks.new ≤ looks.old + lines_while Filled (drop from (block_of view.now)) + 1 }
-    ensures low { looks.old ≤ looks.new }
+    ensures low { capped looks.old ≤ looks.new }
 {
     let len = view.len();
     for i in from..len {
@@ -50,11 +50,10 @@ fn attribution_behind(
     looks: &mut Looks,
 ) -> Option<Attribution>
     requires inside { k < length (block_of view.now) }
-    requires few { looks.old < 2 ^ 120 + 1 }
     ensures attribution { result ≡ spec.attribution_behind k marker (drop k (block_of view.now)) }
     ensures text { IfSome result (λ a. IsBlock (block_of view.now) (spec.attribution_part k a)) }
     ensures looks { looks.new ≤ looks.old + 2 + lines_while Filled (drop 1 (drop k (block_of view.now))) }
-    ensures low { looks.old ≤ looks.new }
+    ensures low { capped looks.old ≤ looks.new }
 {
     prove!(k < view.len());
     let indent = indentation(below_text(view, k, 1, looks));
@@ -75,11 +74,10 @@ fn attribution_behind(
 #[tactic(auto, unfolding(crate::specs::Attributions::attribution_at))]
 pub fn attribution_at(view: &View<'_>, k: usize, looks: &mut Looks) -> Option<Attribution>
     requires inside { k < length (block_of view.now) }
-    requires few { looks.old < 2 ^ 120 }
     ensures attribution { result ≡ spec.attribution_at k (drop k (block_of view.now)) }
     ensures text { IfSome result (λ a. IsBlock (block_of view.now) (spec.attribution_part k a)) }
     ensures looks { looks.new ≤ looks.old + 3 + lines_while Filled (drop 1 (drop k (block_of view.now))) }
-    ensures low { looks.old ≤ looks.new }
+    ensures low { capped looks.old ≤ looks.new }
 {
     let marker = attribution_of(view.line(k, looks))?;
     attribution_behind(view, k, marker, looks)

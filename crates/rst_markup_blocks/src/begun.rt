@@ -1,7 +1,8 @@
 //! What begins at a line, with what its mark says.
-ghost use Rattle.std.specs.Prelude.{◌≡◌, ℕ, List, ◌+◌, ◌^◌, ◌<◌, ◌≤◌, length, drop};
+ghost use Rattle.std.specs.Prelude.{◌≡◌, ℕ, List, ◌+◌, ◌<◌, ◌≤◌, length, drop};
 ghost use Rattle.std.specs.Str.{chars};
 ghost use Rattle.rst_text.specs.Block.{Block, front_text};
+ghost use Rattle.rst_text.specs.Looked.{capped};
 ghost use Rattle.rst_text.specs.Shown.{block_of};
 ghost use Rattle.rst_markup_blocks.specs.Conditions.{next_text, after_text};
 ghost use Rattle.rst_markup_blocks.specs.Kinds.{first_kind, kind_at, kind_of, later_kinds};
@@ -62,7 +63,6 @@ impl Begun {
 /// The kind of the line at place `i`. It makes at most three looks.
 pub fn kind_of(view: &View<'_>, i: usize, looks: &mut Looks) -> Kind
     requires inside { i < length (block_of view.now) }
-    requires few { looks.old < 2 ^ 120 }
     ensures kind { result ≡ kind_of (block_of view.now) i }
     ensures looks { looks.new ≤ looks.old + 3 }
 {
@@ -72,10 +72,9 @@ pub fn kind_of(view: &View<'_>, i: usize, looks: &mut Looks) -> Kind
 /// What begins at the line at place `at`, in three looks.
 pub fn begun_at(view: &View<'_>, at: usize, looks: &mut Looks) -> Begun
     requires inside { at < length (block_of view.now) }
-    requires few { looks.old < 2 ^ 120 }
     ensures begun { spec.IsBegun (drop at (block_of view.now)) result }
     ensures looks { looks.new ≤ looks.old + 3 }
-    ensures low { looks.old + 1 ≤ looks.new }
+    ensures low { capped (looks.old + 1) ≤ looks.new }
 {
     let text = view.line(at, looks);
     let next = below_text(view, at, 1, looks);

@@ -1,5 +1,5 @@
 //! A construct: where it begins, and where it ends.
-ghost use Rattle.std.specs.Prelude.{◌≡◌, ◌+◌, ◌-◌, ◌*◌, ◌^◌, ◌<◌, ◌≤◌, ℕ, Bool, take, drop, length, IsTrue};
+ghost use Rattle.std.specs.Prelude.{◌≡◌, ◌+◌, ◌-◌, ◌*◌, ◌<◌, ◌≤◌, ℕ, Bool, take, drop, length, IsTrue};
 ghost use Rattle.rst_text.specs.Block.{Block};
 ghost use Rattle.rst_text.specs.Shown.{block_of};
 
@@ -23,7 +23,6 @@ pub trait Construct {
     /// Whether the row's condition holds at place `i`.
     fn starts(&self, view: &View<'_>, i: usize, titles: bool, looks: &mut Looks) -> bool
         requires inside { i < length (block_of view.now) }
-        requires few { looks.old < 2 ^ 120 }
         ensures holds { result ≡ holds (drop i (block_of view.now)) }
         ensures looks { looks.new ≤ looks.old + first_looks }
         ensures at_most_three { looks.new ≤ looks.old + 3 };
@@ -33,7 +32,6 @@ pub trait Construct {
     fn end(&self, view: &View<'_>, i: usize, titles: bool, looks: &mut Looks) -> usize
         requires inside { i < length (block_of view.now) }
         requires begins { IsTrue (holds (drop i (block_of view.now))) }
-        requires few { looks.old < 2 ^ 120 }
         ensures end { result ≡ i + size titles (drop i (block_of view.now)) }
         ensures looks { looks.new ≤ looks.old + 4 * reached titles (drop i (block_of view.now)) };
 
@@ -58,7 +56,6 @@ pub fn end_after<C: Construct>(
 ) -> usize
     requires inside { i < length (block_of view.now) }
     requires begins { IsTrue (C.holds (drop i (block_of view.now))) }
-    requires few { looks.old < 2 ^ 120 }
     ensures end { result ≡ i + C.size titles (drop i (block_of view.now)) }
     ensures after { i < result }
     ensures within { result ≤ length (block_of view.now) }

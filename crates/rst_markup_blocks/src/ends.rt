@@ -1,7 +1,8 @@
 //! Where constructs end.
-ghost use Rattle.std.specs.Prelude.{◌≡◌, ◌+◌, ◌*◌, ◌^◌, ◌<◌, ◌≤◌, length, drop};
+ghost use Rattle.std.specs.Prelude.{◌≡◌, ◌+◌, ◌-◌, ◌*◌, ◌<◌, ◌≤◌, length, drop};
 ghost use Rattle.std.specs.Str.{chars};
 ghost use Rattle.rst_text.specs.Block.{front_text};
+ghost use Rattle.rst_text.specs.Looked.{capped};
 ghost use Rattle.rst_text.specs.Reach.{reach};
 ghost use Rattle.rst_text.specs.Shown.{block_of};
 ghost use Rattle.rst_markup_blocks.specs.Conditions.{next_text};
@@ -16,10 +17,9 @@ use rst_text::{Looks, View};
 #[tactic(auto, unfolding(crate::specs::Sizes::hanging_size))]
 pub(crate) fn hanging_end(view: &View<'_>, i: usize, looks: &mut Looks) -> usize
     requires inside { i < length (block_of view.now) }
-    requires few { looks.old < 2 ^ 121 }
     ensures end { result ≡ i + spec.hanging_size (drop i (block_of view.now)) }
     ensures looks { looks.new < looks.old + reach (spec.hanging_size (drop i (block_of view.now))) (drop i (block_of view.now)) }
-    ensures low { looks.old + spec.hanging_size (drop i (block_of view.now)) ≤ looks.new + 1 }
+    ensures low { capped (looks.old + (spec.hanging_size (drop i (block_of view.now)) - 1)) ≤ looks.new }
 {
     below_end(view, i, 1, looks)
 }
@@ -28,10 +28,9 @@ pub(crate) fn hanging_end(view: &View<'_>, i: usize, looks: &mut Looks) -> usize
 #[tactic(auto, unfolding(crate::specs::Sizes::least_below))]
 pub fn item_end(view: &View<'_>, i: usize, marker: Marker, looks: &mut Looks) -> usize
     requires inside { i < length (block_of view.now) }
-    requires few { looks.old < 2 ^ 121 }
     ensures end { result ≡ i + spec.item_size marker (drop i (block_of view.now)) }
     ensures looks { looks.new < looks.old + reach (spec.item_size marker (drop i (block_of view.now))) (drop i (block_of view.now)) }
-    ensures low { looks.old + spec.item_size marker (drop i (block_of view.now)) ≤ looks.new + 1 }
+    ensures low { capped (looks.old + (spec.item_size marker (drop i (block_of view.now)) - 1)) ≤ looks.new }
 {
     let least = if marker.bare { 1 } else { marker.cut };
     below_end(view, i, least, looks)
@@ -41,12 +40,11 @@ pub fn item_end(view: &View<'_>, i: usize, marker: Marker, looks: &mut Looks) ->
 #[tactic(auto, unfolding(crate::specs::Sizes::run_size))]
 fn run_below_end(view: &View<'_>, i: usize, test: LineTest, looks: &mut Looks) -> usize
     requires inside { i < length (block_of view.now) }
-    requires few { looks.old < 2 ^ 120 + 2 ^ 70 }
     ensures end { result ≡ i + spec.run_size test (drop i (block_of view.now)) }
     ensures within { result ≤ length (block_of view.now) }
     ensures after { i < result }
     ensures few { looks.new ≤ looks.old + spec.run_size test (drop i (block_of view.now)) }
-    ensures low { looks.old + spec.run_size test (drop i (block_of view.now)) ≤ looks.new + 1 }
+    ensures low { capped (looks.old + (spec.run_size test (drop i (block_of view.now)) - 1)) ≤ looks.new }
 {
     prove!(i < view.len());
     lines_end(view, i + 1, test, looks)
@@ -56,10 +54,9 @@ fn run_below_end(view: &View<'_>, i: usize, test: LineTest, looks: &mut Looks) -
 #[tactic(auto, unfolding(crate::specs::Sizes::indented_size))]
 pub fn indented_end(view: &View<'_>, i: usize, looks: &mut Looks) -> usize
     requires inside { i < length (block_of view.now) }
-    requires few { looks.old < 2 ^ 120 + 2 ^ 70 }
     ensures end { result ≡ i + spec.indented_size (drop i (block_of view.now)) }
     ensures few { looks.new ≤ looks.old + spec.indented_size (drop i (block_of view.now)) }
-    ensures low { looks.old + spec.indented_size (drop i (block_of view.now)) ≤ looks.new + 1 }
+    ensures low { capped (looks.old + (spec.indented_size (drop i (block_of view.now)) - 1)) ≤ looks.new }
 {
     run_below_end(view, i, LineTest::Indented, looks)
 }
@@ -68,7 +65,6 @@ pub fn indented_end(view: &View<'_>, i: usize, looks: &mut Looks) -> usize
 /// lines that begin with the punctuation character that the first of them begins with. It is `from` where there is none.
 fn literal_end(view: &View<'_>, from: usize, looks: &mut Looks) -> usize
     requires inside { from ≤ length (block_of view.now) }
-    requires few { looks.old < 2 ^ 120 + 2 ^ 72 }
     ensures end { result ≡ from + spec.literal_size (drop from (block_of view.now)) }
     ensures looks { looks.new ≤ looks.old + 4 * reach (spec.literal_size (drop from (block_of view.now))) (drop from (block_of view.now)) }
 {
@@ -87,7 +83,6 @@ fn literal_end(view: &View<'_>, from: usize, looks: &mut Looks) -> usize
 /// The place after the paragraph that begins at place `i`, with the literal block that it announces.
 fn paragraph_end(view: &View<'_>, i: usize, looks: &mut Looks) -> usize
     requires inside { i < length (block_of view.now) }
-    requires few { looks.old < 2 ^ 120 + 2 ^ 70 }
     ensures end { result ≡ i + spec.paragraph_size (drop i (block_of view.now)) }
     ensures looks { looks.new + 1 + spec.paragraph_len (drop i (block_of view.now)) ≤ looks.old + 4 * reach (spec.paragraph_size (drop i (block_of view.now))) (drop i (block_of view.now)) }
 {
@@ -109,7 +104,6 @@ pub(crate) fn text_end(
     requires inside { i < length (block_of view.now) }
     requires text { chars text.now ≡ front_text (drop i (block_of view.now)) }
     requires next { chars next.now ≡ next_text (drop i (block_of view.now)) }
-    requires few { looks.old < 2 ^ 120 + 2 ^ 70 }
     ensures end { result ≡ i + spec.text_size (drop i (block_of view.now)) }
     ensures looks { looks.new + 2 + spec.overline_looks (next_text (drop i (block_of view.now))) ≤ looks.old + 4 * reach (spec.text_size (drop i (block_of view.now))) (drop i (block_of view.now)) }
 {

@@ -1,6 +1,7 @@
 //! Explicit markup blocks.
-ghost use Rattle.std.specs.Prelude.{◌≡◌, ◌+◌, ◌*◌, ◌^◌, ◌<◌, ◌≤◌, length, drop};
+ghost use Rattle.std.specs.Prelude.{◌≡◌, ◌+◌, ◌-◌, ◌*◌, ◌<◌, ◌≤◌, length, drop};
 ghost use Rattle.std.specs.Str.{chars};
+ghost use Rattle.rst_text.specs.Looked.{capped};
 ghost use Rattle.rst_text.specs.Reach.{reach};
 ghost use Rattle.rst_text.specs.Shown.{block_of};
 ghost use Rattle.rst_markup_blocks.specs.ExplicitMarkup as spec;
@@ -63,10 +64,9 @@ pub fn explicit_form(text: &str) -> ExplicitForm
 /// Where `bare` says that nothing is left of the line, the block begins below it, at the first line that isn't blank.
 pub fn hanging_part(view: &View<'_>, i: usize, cut: usize, bare: bool, looks: &mut Looks) -> Part
     requires inside { i < length (block_of view.now) }
-    requires few { looks.old < 2 ^ 120 + 2 ^ 70 }
     ensures part { result ≡ spec.hanging_part i cut bare (drop i (block_of view.now)) }
     ensures looks { looks.new + 2 ≤ looks.old + 2 * reach (hanging_size (drop i (block_of view.now))) (drop i (block_of view.now)) }
-    ensures low { looks.old + hanging_size (drop i (block_of view.now)) ≤ looks.new + 1 }
+    ensures low { capped (looks.old + (hanging_size (drop i (block_of view.now)) - 1)) ≤ looks.new }
 {
     prove!(i < view.len());
     let extent = view.block_end(i + 1, None, looks);

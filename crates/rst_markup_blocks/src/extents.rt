@@ -1,7 +1,8 @@
 //! Explicit markup with its extents.
-ghost use Rattle.std.specs.Prelude.{◌≡◌, ◌+◌, ◌*◌, ◌^◌, ◌<◌, ◌≤◌, Some, is_some, IsTrue, length, drop};
+ghost use Rattle.std.specs.Prelude.{◌≡◌, ◌+◌, ◌-◌, ◌*◌, ◌^◌, ◌<◌, ◌≤◌, Some, is_some, IsTrue, length, drop};
 ghost use Rattle.std.specs.Str.{chars};
 ghost use Rattle.rst_text.specs.Block.{front_text};
+ghost use Rattle.rst_text.specs.Looked.{capped};
 ghost use Rattle.rst_text.specs.Reach.{reach};
 ghost use Rattle.rst_text.specs.Shown.{block_of};
 ghost use Rattle.rst_markup_lines.specs.ExplicitMarks as marks;
@@ -36,10 +37,9 @@ fn place_of(from: usize, len: usize) -> Characters
 /// The text of a target, behind `n` characters of the line at place `i`.
 fn target_part(view: &View<'_>, i: usize, n: usize, looks: &mut Looks) -> Part
     requires inside { i < length (block_of view.now) }
-    requires few { looks.old < 2 ^ 120 + 2 }
     ensures part { result ≡ spec.target_part i n (drop i (block_of view.now)) }
     ensures looks { looks.new ≤ looks.old + indented_size (drop i (block_of view.now)) }
-    ensures low { looks.old + indented_size (drop i (block_of view.now)) ≤ looks.new + 1 }
+    ensures low { capped (looks.old + (indented_size (drop i (block_of view.now)) - 1)) ≤ looks.new }
 {
     Part {
         from: i,
@@ -60,10 +60,9 @@ fn call_of(
     requires inside { i < length (block_of view.now) }
     requires name { n + mark.len < 2 ^ 64 }
     requires marker { n + mark.marker.cut < 2 ^ 64 }
-    requires few { looks.old < 2 ^ 120 + 2 }
     ensures call { result ≡ spec.call_of i n mark (drop i (block_of view.now)) }
     ensures looks { looks.new + 2 ≤ looks.old + 2 * reach (hanging_size (drop i (block_of view.now))) (drop i (block_of view.now)) }
-    ensures low { looks.old + hanging_size (drop i (block_of view.now)) ≤ looks.new + 1 }
+    ensures low { capped (looks.old + (hanging_size (drop i (block_of view.now)) - 1)) ≤ looks.new }
 {
     let marker = mark.marker;
     Invocation {
@@ -77,10 +76,9 @@ fn label_with(view: &View<'_>, i: usize, n: usize, mark: LabelMark, looks: &mut 
     requires inside { i < length (block_of view.now) }
     requires label { n + 1 + mark.len < 2 ^ 64 }
     requires marker { n + mark.marker.cut < 2 ^ 64 }
-    requires few { looks.old < 2 ^ 120 + 2 }
     ensures explicit { result ≡ spec.label_with mark.kind (places.place_of (n + 1) mark.len) (hanging_part i (n + mark.marker.cut) mark.marker.bare (drop i (block_of view.now))) }
     ensures looks { looks.new + 2 ≤ looks.old + 2 * reach (hanging_size (drop i (block_of view.now))) (drop i (block_of view.now)) }
-    ensures low { looks.old + hanging_size (drop i (block_of view.now)) ≤ looks.new + 1 }
+    ensures low { capped (looks.old + (hanging_size (drop i (block_of view.now)) - 1)) ≤ looks.new }
 {
     let label = place_of(n + 1, mark.len);
     let marker = mark.marker;
@@ -95,10 +93,9 @@ fn label_with(view: &View<'_>, i: usize, n: usize, mark: LabelMark, looks: &mut 
 fn target_with(view: &View<'_>, i: usize, n: usize, mark: TargetMark, looks: &mut Looks) -> Explicit
     requires inside { i < length (block_of view.now) }
     requires mark { spec.IsTargetShort n mark }
-    requires few { looks.old < 2 ^ 120 + 2 }
     ensures explicit { result ≡ spec.target_with i n mark (drop i (block_of view.now)) }
     ensures looks { looks.new ≤ looks.old + indented_size (drop i (block_of view.now)) }
-    ensures low { looks.old + indented_size (drop i (block_of view.now)) ≤ looks.new + 1 }
+    ensures low { capped (looks.old + (indented_size (drop i (block_of view.now)) - 1)) ≤ looks.new }
 {
     match mark {
         TargetMark::Named { from, len, marker } => Explicit::Target {
@@ -124,10 +121,9 @@ fn substitution_with(
     requires inside { i < length (block_of view.now) }
     requires text { chars text.now ≡ front_text (drop i (block_of view.now)) }
     requires behind { n ≤ length (chars text.now) }
-    requires few { looks.old < 2 ^ 120 + 2 }
     ensures explicit { result ≡ spec.substitution_with i name n (drop i (block_of view.now)) }
     ensures looks { looks.new + 1 ≤ looks.old + 2 * reach (hanging_size (drop i (block_of view.now))) (drop i (block_of view.now)) }
-    ensures low { looks.old + hanging_size (drop i (block_of view.now)) ≤ looks.new + 1 }
+    ensures low { capped (looks.old + (hanging_size (drop i (block_of view.now)) - 1)) ≤ looks.new }
 {
     match directive_of(false, skip(text, n)) {
         Some(mark) => {
@@ -149,10 +145,9 @@ fn substitution_with(
 /// Dots with nothing behind them, in the line at place `i`.
 fn dots_alone(view: &View<'_>, i: usize, marker: Marker, looks: &mut Looks) -> Explicit
     requires inside { i < length (block_of view.now) }
-    requires few { looks.old < 2 ^ 120 + 1 }
     ensures explicit { result ≡ spec.dots_alone i marker (drop i (block_of view.now)) }
     ensures looks { looks.new + 1 ≤ looks.old + 2 * reach (spec.explicit_end 0 (spec.dots_alone 0 marker (drop i (block_of view.now)))) (drop i (block_of view.now)) }
-    ensures low { looks.old + spec.explicit_end 0 (spec.dots_alone 0 marker (drop i (block_of view.now))) ≤ looks.new + 1 }
+    ensures low { capped (looks.old + (spec.explicit_end 0 (spec.dots_alone 0 marker (drop i (block_of view.now))) - 1)) ≤ looks.new }
 {
     if is_blank(below_text(view, i, 1, looks)) {
         return Explicit::EmptyComment;
@@ -176,10 +171,9 @@ fn explicit_by(
     requires text { chars text.now ≡ front_text (drop i (block_of view.now)) }
     requires form { form ≡ explicit_form (drop marker.cut (chars text.now)) }
     requires marker { marker.cut ≤ length (chars text.now) }
-    requires few { looks.old < 2 ^ 120 + 1 }
     ensures explicit { result ≡ spec.explicit_by form i marker (drop i (block_of view.now)) }
     ensures looks { looks.new + 1 ≤ looks.old + 2 * reach (spec.explicit_end 0 (spec.explicit_by form 0 marker (drop i (block_of view.now)))) (drop i (block_of view.now)) }
-    ensures low { looks.old + spec.explicit_end 0 (spec.explicit_by form 0 marker (drop i (block_of view.now))) ≤ looks.new + 1 }
+    ensures low { capped (looks.old + (spec.explicit_end 0 (spec.explicit_by form 0 marker (drop i (block_of view.now))) - 1)) ≤ looks.new }
 {
     let n = marker.cut;
     match form {
@@ -208,10 +202,9 @@ pub(crate) fn behind_dots(
     requires inside { i < length (block_of view.now) }
     requires text { chars text.now ≡ front_text (drop i (block_of view.now)) }
     requires marker { marker.cut ≤ length (chars text.now) }
-    requires few { looks.old < 2 ^ 120 + 1 }
     ensures explicit { result ≡ spec.behind_dots i marker (drop i (block_of view.now)) }
     ensures looks { looks.new + 1 ≤ looks.old + 2 * reach (spec.explicit_end 0 (spec.behind_dots 0 marker (drop i (block_of view.now)))) (drop i (block_of view.now)) }
-    ensures low { looks.old + spec.explicit_end 0 (spec.behind_dots 0 marker (drop i (block_of view.now))) ≤ looks.new + 1 }
+    ensures low { capped (looks.old + (spec.explicit_end 0 (spec.behind_dots 0 marker (drop i (block_of view.now))) - 1)) ≤ looks.new }
 {
     if marker.bare {
         return dots_alone(view, i, marker, looks);
@@ -226,10 +219,9 @@ fn anonymous(view: &View<'_>, i: usize, text: &str, looks: &mut Looks) -> Explic
     requires inside { i < length (block_of view.now) }
     requires text { chars text.now ≡ front_text (drop i (block_of view.now)) }
     requires begins { IsTrue (is_some (marks.underscores (chars text.now))) }
-    requires few { looks.old < 2 ^ 120 + 2 }
     ensures explicit { result ≡ spec.anonymous_of i (drop i (block_of view.now)) }
     ensures looks { looks.new ≤ looks.old + indented_size (drop i (block_of view.now)) }
-    ensures low { looks.old + indented_size (drop i (block_of view.now)) ≤ looks.new + 1 }
+    ensures low { capped (looks.old + (indented_size (drop i (block_of view.now)) - 1)) ≤ looks.new }
 {
     let Some(marker) = underscores(text) else {
         unreachable!()
@@ -245,12 +237,11 @@ fn anonymous(view: &View<'_>, i: usize, text: &str, looks: &mut Looks) -> Explic
 pub fn explicit(view: &View<'_>, i: usize, looks: &mut Looks) -> Explicit
     requires inside { i < length (block_of view.now) }
     requires kind { IsTrue (spec.is_explicit_kind (kind_of (block_of view.now) i)) }
-    requires few { looks.old < 2 ^ 120 }
     ensures explicit { result ≡ spec.explicit_of i (drop i (block_of view.now)) }
     ensures within { spec.IsExplicitIn (block_of view.now) i result }
     ensures end { spec.explicit_end i result ≡ i + spec.explicit_size (drop i (block_of view.now)) }
     ensures looks { looks.new ≤ looks.old + 2 * reach (spec.explicit_size (drop i (block_of view.now))) (drop i (block_of view.now)) }
-    ensures low { looks.old + spec.explicit_size (drop i (block_of view.now)) ≤ looks.new }
+    ensures low { capped (looks.old + spec.explicit_size (drop i (block_of view.now))) ≤ looks.new }
 {
     let text = view.line(i, looks);
     match dots(text) {

@@ -1,5 +1,5 @@
 //! Where constructs end, by the kind of their first line.
-ghost use Rattle.std.specs.Prelude.{◌≡◌, ◌+◌, ◌*◌, ◌^◌, ◌<◌, ◌≤◌, length, drop};
+ghost use Rattle.std.specs.Prelude.{◌≡◌, ◌+◌, ◌*◌, ◌<◌, ◌≤◌, length, drop};
 ghost use Rattle.rst_text.specs.Shown.{block_of};
 ghost use Rattle.rst_markup_blocks.specs.Ends as spec;
 ghost use Rattle.rst_markup_blocks.specs.Kinds.{kind_of};
@@ -20,7 +20,6 @@ use rst_text::{Looks, View};
 pub fn end_of(view: &View<'_>, i: usize, kind: Kind, titles: bool, looks: &mut Looks) -> usize
     requires inside { i < length (block_of view.now) }
     requires kind { kind ≡ kind_of (block_of view.now) i }
-    requires few { looks.old < 2 ^ 120 }
     ensures end { result ≡ i + spec.row_size kind titles (drop i (block_of view.now)) }
     ensures looks { looks.new ≤ looks.old + 4 * spec.row_reach kind titles (drop i (block_of view.now)) }
 {

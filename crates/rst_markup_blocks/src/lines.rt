@@ -1,8 +1,9 @@
 //! Lines of a view that are looked at one after the other.
-ghost use Rattle.std.specs.Prelude.{◌≡◌, ◌+◌, ◌^◌, ◌<◌, ◌≤◌, suc, length, drop};
+ghost use Rattle.std.specs.Prelude.{◌≡◌, ◌+◌, ◌<◌, ◌≤◌, suc, length, drop};
 ghost use Rattle.std.specs.Str.{chars};
 ghost use Rattle.rst_text.specs.Block.{front_text};
 ghost use Rattle.rst_text.specs.Extent.{extent};
+ghost use Rattle.rst_text.specs.Looked.{capped};
 ghost use Rattle.rst_text.specs.Reach.{reach, through_text};
 ghost use Rattle.rst_text.specs.Shown.{block_of};
 ghost use Rattle.rst_markup_blocks.specs.Lines.{passes, lines_while};
@@ -44,11 +45,10 @@ fn passes(test: LineTest, text: &str) -> bool
 
 /// The text of the line at place `i`, at the price of one look; an empty text where there is no such line.
 pub fn text_at<'a>(view: &View<'a>, i: usize, looks: &mut Looks) -> &'a str
-    requires few { looks.old < 2 ^ 121 }
     ensures text { chars result.now ≡ front_text (drop i (block_of view.now)) }
     ensures few { looks.new ≤ looks.old + 1 }
     ensures looks { looks.new ≤ looks.old + through_text (drop i (block_of view.now)) }
-    ensures low { looks.old ≤ looks.new }
+    ensures low { capped looks.old ≤ looks.new }
 {
     if i < view.len() {
         view.line(i, looks)
@@ -60,10 +60,9 @@ pub fn text_at<'a>(view: &View<'a>, i: usize, looks: &mut Looks) -> &'a str
 /// The text of the line `n` lines below place `i`, at the price of one look; an empty text where there is no such line.
 pub fn below_text<'a>(view: &View<'a>, i: usize, n: usize, looks: &mut Looks) -> &'a str
     requires inside { i < length (block_of view.now) }
-    requires few { looks.old < 2 ^ 121 }
     ensures text { chars result.now ≡ front_text (drop n (drop i (block_of view.now))) }
     ensures looks { looks.new ≤ looks.old + 1 }
-    ensures low { looks.old ≤ looks.new }
+    ensures low { capped looks.old ≤ looks.new }
 {
     if n < view.len() - i {
         view.line(i + n, looks)
@@ -76,12 +75,11 @@ pub fn below_text<'a>(view: &View<'a>, i: usize, n: usize, looks: &mut Looks) ->
 /// stops it.
 pub fn lines_end(view: &View<'_>, from: usize, test: LineTest, looks: &mut Looks) -> usize
     requires inside { from ≤ length (block_of view.now) }
-    requires few { looks.old < 2 ^ 120 + 2 ^ 80 }
     ensures end { result ≡ from + lines_while test (drop from (block_of view.now)) }
     ensures within { result ≤ length (block_of view.now) }
     ensures few { looks.new ≤ looks.old + lines_while test (drop from (block_of view.now)) + 1 }
     ensures looks { looks.new ≤ looks.old + reach (lines_while test (drop from (block_of view.now))) (drop from (block_of view.now)) }
-    ensures low { looks.old + lines_while test (drop from (block_of view.now)) ≤ looks.new }
+    ensures low { capped (looks.old + lines_while test (drop from (block_of view.now))) ≤ looks.new }
 {
     let mut end = from;
     for i in from..view.len() {
@@ -97,10 +95,9 @@ pub fn lines_end(view: &View<'_>, from: usize, test: LineTest, looks: &mut Looks
 /// at their end left off.
 pub(crate) fn below_end(view: &View<'_>, i: usize, least: usize, looks: &mut Looks) -> usize
     requires inside { i < length (block_of view.now) }
-    requires few { looks.old < 2 ^ 121 }
     ensures end { result ≡ i + suc (extent least (drop 1 (drop i (block_of view.now)))) }
     ensures looks { looks.new < looks.old + reach (suc (extent least (drop 1 (drop i (block_of view.now))))) (drop i (block_of view.now)) }
-    ensures low { looks.old + extent least (drop 1 (drop i (block_of view.now))) ≤ looks.new }
+    ensures low { capped (looks.old + extent least (drop 1 (drop i (block_of view.now)))) ≤ looks.new }
 {
     prove!(i < view.len());
     view.block_end(i + 1, Some(least), looks).end

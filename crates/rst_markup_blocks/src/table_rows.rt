@@ -1,6 +1,7 @@
 //! The rows of tables.
-ghost use Rattle.std.specs.Prelude.{◌≡◌, ◌+◌, ◌-◌, ◌^◌, ◌<◌, ◌≤◌, length, drop, IfSome};
+ghost use Rattle.std.specs.Prelude.{◌≡◌, ◌+◌, ◌-◌, ◌<◌, ◌≤◌, length, drop, IfSome};
 ghost use Rattle.std.specs.Option.{option_or};
+ghost use Rattle.rst_text.specs.Looked.{capped};
 ghost use Rattle.rst_text.specs.Shown.{block_of};
 ghost use Rattle.rst_markup_blocks.specs.Lines.{lines_while};
 ghost use Rattle.rst_markup_blocks.specs.TableRows as spec;
@@ -16,7 +17,6 @@ use rst_text::{Looks, View};
 fn grid_bottom(view: &View<'_>, i: usize, all: usize, looks: &mut Looks) -> Option<usize>
     requires inside { i < length (block_of view.now) }
     requires all { all ≡ lines_while LineTest.Drawn (drop i (block_of view.now)) }
-    requires few { looks.old < 2 ^ 120 + 2 ^ 81 }
     ensures bottom { result ≡ spec.grid_bottom (drop i (block_of view.now)) }
     ensures within { IfSome result (λ k. k < all) }
     ensures looks { looks.new ≤ looks.old + all }
@@ -73,10 +73,9 @@ impl Construct for GridTable {
 fn border_below(view: &View<'_>, i: usize, k: usize, looks: &mut Looks) -> Option<usize>
     requires inside { i < length (block_of view.now) }
     requires line { k < length (drop i (block_of view.now)) }
-    requires few { looks.old < 2 ^ 120 + 2 ^ 81 }
     ensures border { result ≡ spec.border_below (drop i (block_of view.now)) k }
     ensures looks { looks.new + k + 1 ≤ looks.old + spec.through (length (drop i (block_of view.now))) result }
-    ensures low { looks.old + spec.through (length (drop i (block_of view.now))) result ≤ looks.new + k + 1 }
+    ensures low { capped (looks.old + (spec.through (length (drop i (block_of view.now))) result - (k + 1))) ≤ looks.new }
 {
     let all = view.len() - i;
     for j in k + 1..all {
@@ -90,10 +89,9 @@ fn border_below(view: &View<'_>, i: usize, k: usize, looks: &mut Looks) -> Optio
 /// Whether the border `k` lines below place `i` is as long as the one there, in two looks.
 pub fn is_as_long(view: &View<'_>, i: usize, k: usize, looks: &mut Looks) -> bool
     requires inside { i < length (block_of view.now) }
-    requires few { looks.old < 2 ^ 120 + 2 ^ 83 }
     ensures value { result ≡ spec.is_as_long (drop i (block_of view.now)) k }
     ensures looks { looks.new ≤ looks.old + 2 }
-    ensures low { looks.old + 1 ≤ looks.new }
+    ensures low { capped (looks.old + 1) ≤ looks.new }
 {
     let top = view.line(i, looks);
     let border = below_text(view, i, k, looks);
@@ -104,10 +102,9 @@ pub fn is_as_long(view: &View<'_>, i: usize, k: usize, looks: &mut Looks) -> boo
 fn closes_head(view: &View<'_>, i: usize, k: usize, looks: &mut Looks) -> bool
     requires inside { i < length (block_of view.now) }
     requires line { k < length (drop i (block_of view.now)) }
-    requires few { looks.old < 2 ^ 120 + 2 ^ 82 }
     ensures value { result ≡ spec.closes_head (drop i (block_of view.now)) k }
     ensures looks { looks.new ≤ looks.old + 3 }
-    ensures low { looks.old ≤ looks.new }
+    ensures low { capped looks.old ≤ looks.new }
 {
     prove!(i < view.len());
     let next = below_text(view, i, k + 1, looks);
@@ -144,12 +141,11 @@ impl SimpleBorders {
 /// each line of the table below the first.
 pub fn simple_borders(view: &View<'_>, i: usize, looks: &mut Looks) -> SimpleBorders
     requires inside { i < length (block_of view.now) }
-    requires few { looks.old < 2 ^ 120 }
     ensures head { result.head ≡ spec.head_border (drop i (block_of view.now)) }
     ensures bottom { result.bottom ≡ spec.simple_bottom (drop i (block_of view.now)) }
     ensures within { IfSome (option_or result.bottom result.head) (λ k. k < length (drop i (block_of view.now))) }
     ensures looks { looks.new ≤ looks.old + 2 + spec.simple_scan (drop i (block_of view.now)) }
-    ensures low { looks.old + spec.simple_size (drop i (block_of view.now)) ≤ looks.new + 1 }
+    ensures low { capped (looks.old + (spec.simple_size (drop i (block_of view.now)) - 1)) ≤ looks.new }
 {
     let Some(first) = border_below(view, i, 0, looks) else {
         return SimpleBorders {

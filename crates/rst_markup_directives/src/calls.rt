@@ -1,6 +1,7 @@
 //! Directives as they are called.
-ghost use Rattle.std.specs.Prelude.{◌≡◌, true, ◌+◌, ◌-◌, ◌≤◌, ◌<◌, ◌^◌, length, take, drop, IfOk};
+ghost use Rattle.std.specs.Prelude.{◌≡◌, true, ◌+◌, ◌-◌, ◌≤◌, length, take, drop, IfOk};
 ghost use Rattle.rst_text.specs.Block.{cut};
+ghost use Rattle.rst_text.specs.Looked.{capped};
 ghost use Rattle.rst_text.specs.Shown.{block_of};
 ghost use Rattle.rst_markup_blocks.specs.Parts.{IsBlock, IsCall};
 ghost use Rattle.rst_markup_directives.specs.Argument as arguments;
@@ -35,9 +36,8 @@ pub fn called(
     looks: &mut Looks,
 ) -> Result<Option<Name>, MarkupFault>
     requires call { IsCall (block_of view.now) at invocation.now }
-    requires few { looks.old < 2 ^ 120 }
     ensures name { Gives (λ name. name ≡ spec.called_at true (block_of view.now) at invocation.now) result }
-    ensures looks { looks.new ≡ looks.old + 1 }
+    ensures looks { looks.new ≡ capped (looks.old + 1) }
 {
     let name = excerpt(alloc, view.line(at, looks), invocation.name)?;
     Ok(Name::of(&name, true))
@@ -60,11 +60,10 @@ pub fn directive(
     looks: &mut Looks,
 ) -> Result<Directive, MarkupFault>
     requires block { IsBlock (block_of view.now) block }
-    requires few { looks.old < 2 ^ 120 + 1 }
     ensures outcome { Gives (λ found. directives.outcome_of found ≡ directives.directive_of name (block_of view.now) at block place paragraph) result }
     ensures parts { Gives (λ found. spec.IsDirectiveIn (block_of view.now) found) result }
     ensures looks { looks.new ≤ looks.old + 1 + (block.to - block.from) }
-    ensures low { looks.old ≤ looks.new }
+    ensures low { capped looks.old ≤ looks.new }
 {
     match permitted(name, place) {
         Ok(name) => {
@@ -123,12 +122,11 @@ fn first_run<'a>(
     lines: &View<'a>,
     looks: &mut Looks,
 ) -> Result<Vec<&'a str>, AllocError>
-    requires few { looks.old + length (block_of lines.now) < 2 ^ 121 }
     ensures texts { IfOk result (λ run. texts_of run.items ≡ directives.run_in name late (block_of lines.now)) }
     ensures within { IfOk result (λ run. length run.items ≤ length (block_of lines.now)) }
     ensures looks { looks.new ≤ looks.old + length (block_of lines.now) }
     ensures through { IfOk result (λ run. looks.new ≤ looks.old + length run.items + 1) }
-    ensures low { looks.old ≤ looks.new }
+    ensures low { capped looks.old ≤ looks.new }
 {
     if late && is_code(name) {
         return Ok(Vec::new(alloc));
@@ -155,10 +153,9 @@ fn read(
     looks: &mut Looks,
 ) -> Result<Result<Reading, Detail>, MarkupFault>
     requires block { IsBlock (block_of view.now) block }
-    requires few { looks.old < 2 ^ 120 + 1 }
     ensures reading { Gives (λ reading. directives.reading_in reading ≡ directives.read_block name late block (cut (block_of view.now) block.from block.to block.first_cut block.rest_cut)) result }
     ensures looks { looks.new ≤ looks.old + 1 + (block.to - block.from) }
-    ensures low { looks.old ≤ looks.new }
+    ensures low { capped looks.old ≤ looks.new }
 {
     let lines = lines_of(view, block);
     let run = first_run(alloc, name, late, &lines, looks)?;

@@ -1,5 +1,6 @@
 //! The lines of a directive's block.
-ghost use Rattle.std.specs.Prelude.{◌≡◌, ◌+◌, ◌≤◌, ◌<◌, ◌^◌, length, IfOk};
+ghost use Rattle.std.specs.Prelude.{◌≡◌, ◌+◌, ◌≤◌, length, IfOk};
+ghost use Rattle.rst_text.specs.Looked.{capped};
 ghost use Rattle.rst_text.specs.Shown.{block_of};
 ghost use Rattle.rst_markup_directives.specs.Lines as spec;
 
@@ -13,12 +14,11 @@ pub(crate) fn run_of<'a>(
     lines: &View<'a>,
     looks: &mut Looks,
 ) -> Result<Vec<&'a str>, AllocError>
-    requires few { looks.old + length (block_of lines.now) < 2 ^ 121 }
     ensures texts { IfOk result (λ run. spec.texts_of run.items ≡ spec.first_run (block_of lines.now)) }
     ensures within { IfOk result (λ run. length run.items ≤ length (block_of lines.now)) }
     ensures looks { looks.new ≤ looks.old + length (block_of lines.now) }
     ensures through { IfOk result (λ run. looks.new ≤ looks.old + length run.items + 1) }
-    ensures low { looks.old ≤ looks.new }
+    ensures low { capped looks.old ≤ looks.new }
 {
     let mut run = Vec::new(alloc);
     for i in 0..lines.len() {
@@ -35,11 +35,10 @@ pub(crate) fn run_of<'a>(
 #[tactic(auto, using(crate::proofs::Runs::blank_len_stop, crate::proofs::Runs::blank_len_end))]
 pub(crate) fn past_blank(lines: &View<'_>, from: usize, looks: &mut Looks) -> usize
     requires inside { from ≤ length (block_of lines.now) }
-    requires few { looks.old + length (block_of lines.now) < 2 ^ 121 }
     ensures value { result ≡ spec.behind_blank (block_of lines.now) from }
     ensures within { result ≤ length (block_of lines.now) }
     ensures looks { looks.new + from ≤ looks.old + length (block_of lines.now) }
-    ensures low { looks.old ≤ looks.new }
+    ensures low { capped looks.old ≤ looks.new }
 {
     for i in from..lines.len() {
         if !is_blank(lines.line(i, looks)) {

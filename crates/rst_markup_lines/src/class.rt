@@ -26,6 +26,7 @@ pub enum Class {
 }
 
 /// Whether a character is in a class.
+#[inline(always)]
 #[tactic(auto, unfolding(crate::specs::Class::is_in))]
 fn is_in(class: Class, c: char) -> bool
     ensures { result ≡ spec.is_in class c }

@@ -34,9 +34,6 @@ all_from-take p k high h e = ap (λ n. filter p (range_with_len k n)) (left_more
 pub all_from-more : (p : ℕ → Bool) (k high : ℕ) → k < high → p k ≡ false → filter p (range_with_len k (high - k)) ≡ filter p (range_with_len (k + 1) (high - (k + 1)))
 all_from-more p k high h e = ap (λ n. filter p (range_with_len k n)) (left_more k high h) ∙ rw e refl
 
-pub all_from-end : (p : ℕ → Bool) (k high : ℕ) → high ≤ k → filter p (range_with_len k (high - k)) ≡ []
-all_from-end p k high h = let e : high - k ≡ 0 = omega arith in ap (λ n. filter p (range_with_len k n)) e
-
 pub each_from-more : {X : Type 0} (f : ℕ → X) (k high : ℕ) → k < high → map f (range_with_len k (high - k)) ≡ f k ∷ map f (range_with_len (k + 1) (high - (k + 1)))
 each_from-more f k high h = ap (λ n. map f (range_with_len k n)) (left_more k high h)
 

@@ -5,8 +5,6 @@ use Rattle.rst_markup_blocks.specs.TableRows.{grid_size, grid_scan, is_grid_row,
 use Rattle.rst_markup_tables.specs.Places.{Grid}
 use Rattle.rst_markup_tables.specs.Drawn.{IsEven, OneTiling, Tiles}
 use Rattle.rst_markup_tables.specs.GridTable.{IsGridTable}
-use Rattle.rst_markup_tables.specs.Room.{room_for, rooms, cell_blocks}
-use Rattle.rst_markup_tables.specs.SimpleTable.{simple_table}
 use Rattle.rst_markup_tables.specs.Tiling.{grid_table, tiling_of}
 use Rattle.rst_markup_tables.specs.declared.results.TableResult.{TableResult}
 
@@ -29,11 +27,3 @@ TilingIsFound = (G : Grid) → IsEven G → Tiles G (tiling_of G)
 -- A grid table is the one that is found.
 abbrev pub GridIsFound : Type 0
 GridIsFound = (B : Block) (i : ℕ) (result : TableResult) → IsGridTable B i result → result ≡ grid_table B i
-
--- The cells of a grid table have no more room than its lines.
-abbrev pub GridCellsFit : Type 0
-GridCellsFit = (B : Block) (i : ℕ) → rooms (cell_blocks (grid_table B i)) ≤ room_for (grid_size (drop i B)) B
-
--- The cells of a simple table have no more room than its lines.
-abbrev pub SimpleCellsFit : Type 0
-SimpleCellsFit = (B : Block) (i : ℕ) → rooms (cell_blocks (simple_table B i)) ≤ room_for (simple_size (drop i B)) B

@@ -1,7 +1,8 @@
 //! Grid tables: which lines they are, and what is wrong with them.
-ghost use Rattle.std.specs.Prelude.{◌≡◌, ◌+◌, ◌-◌, ◌^◌, ◌<◌, ◌≤◌, ◌&&◌, nat_le, length, drop, take, if◌then◌else◌, Some, IfOk, OnOk, IfSome};
+ghost use Rattle.std.specs.Prelude.{◌≡◌, ◌+◌, ◌^◌, ◌<◌, ◌≤◌, ◌&&◌, nat_le, length, drop, take, if◌then◌else◌, Some, IfOk, OnOk, IfSome};
 ghost use Rattle.std.specs.List.{list_all};
 ghost use Rattle.std.specs.Str.{chars};
+ghost use Rattle.rst_text.specs.Looked.{capped};
 ghost use Rattle.rst_text.specs.Shown.{block_of};
 ghost use Rattle.rst_markup_lines.specs.Border.{is_grid_border};
 ghost use Rattle.rst_markup_blocks.specs.Lines.{lines_while};
@@ -44,11 +45,10 @@ fn drawn_lines(
     looks: &mut Looks,
 ) -> Result<GridLines, AllocError>
     requires there { i < length (block_of view.now) }
-    requires few { looks.old < 2 ^ 120 }
     ensures lines { IfOk result (λ found. found.lines.items ≡ rows_of (take (lines_while Drawn (drop i (block_of view.now))) (drop i (block_of view.now)))) }
     ensures bottom { IfOk result (λ found. found.bottom ≡ grid_bottom (drop i (block_of view.now))) }
     ensures looks { looks.new ≤ looks.old + grid_scan (drop i (block_of view.now)) }
-    ensures low { IfOk result (λ _. looks.old + lines_while Drawn (drop i (block_of view.now)) ≤ looks.new) }
+    ensures low { IfOk result (λ _. capped (looks.old + lines_while Drawn (drop i (block_of view.now))) ≤ looks.new) }
 {
     let mut lines = Vec::new(alloc);
     let mut bottom = None;
@@ -72,12 +72,11 @@ pub(crate) fn grid_lines(
     looks: &mut Looks,
 ) -> Result<GridLines, AllocError>
     requires there { i < length (block_of view.now) }
-    requires few { looks.old < 2 ^ 120 }
     ensures fits { IfOk result (λ found. i + length found.lines.items < 2 ^ 64) }
     ensures lines { IfOk result (λ found. found.lines.items ≡ rows_of (take (grid_size (drop i (block_of view.now))) (drop i (block_of view.now)))) }
     ensures bottom { IfOk result (λ found. found.bottom ≡ grid_bottom (drop i (block_of view.now))) }
     ensures looks { looks.new ≤ looks.old + grid_scan (drop i (block_of view.now)) }
-    ensures low { IfOk result (λ _. looks.old + grid_size (drop i (block_of view.now)) ≤ looks.new) }
+    ensures low { IfOk result (λ _. capped (looks.old + grid_size (drop i (block_of view.now))) ≤ looks.new) }
 {
     prove!(i < view.len());
     let drawn = drawn_lines(alloc, view, i, looks)?;

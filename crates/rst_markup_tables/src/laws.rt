@@ -1,5 +1,5 @@
 //! Laws on the definitions, each by a function that does nothing and whose contract is the law.
-ghost use Rattle.rst_markup_tables.specs.Laws.{HaveOneTiling, NoGridBehind, NoSimpleBehind, TilingIsFound, GridIsFound, GridCellsFit, SimpleCellsFit};
+ghost use Rattle.rst_markup_tables.specs.Laws.{HaveOneTiling, NoGridBehind, NoSimpleBehind, TilingIsFound, GridIsFound};
 
 /// A grid whose rows are equally wide has at most one tiling by drawn rectangles.
 pub fn one_tiling()
@@ -20,10 +20,4 @@ pub fn no_simple_behind()
 pub fn tiling_is_found()
     ensures tiling { TilingIsFound }
     ensures table { GridIsFound }
-{}
-
-/// The cells of a table have no more room than the lines of the table: they stand side by side in these.
-pub fn cells_fit()
-    ensures grid { GridCellsFit }
-    ensures simple { SimpleCellsFit }
 {}

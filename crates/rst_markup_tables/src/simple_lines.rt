@@ -1,6 +1,7 @@
 //! The lines of a simple table: which of them are rules, and the fault of its borders.
-ghost use Rattle.std.specs.Prelude.{◌≡◌, ◌+◌, ◌-◌, ◌^◌, ◌<◌, ◌≤◌, length, drop, take, IfOk, IfNone};
+ghost use Rattle.std.specs.Prelude.{◌≡◌, ◌+◌, ◌-◌, ◌<◌, ◌≤◌, length, drop, take, IfOk, IfNone};
 ghost use Rattle.std.specs.List.{list_all};
+ghost use Rattle.rst_text.specs.Looked.{capped};
 ghost use Rattle.rst_text.specs.Shown.{block_of};
 ghost use Rattle.rst_markup_tables.specs.Places.{rows_of};
 ghost use Rattle.rst_markup_tables.specs.SimpleTable as spec;
@@ -54,11 +55,10 @@ pub(crate) fn border_fault(
     looks: &mut Looks,
 ) -> Option<TableDetail>
     requires there { i < length (block_of view.now) }
-    requires few { looks.old < 2 ^ 120 + 2 ^ 68 }
     ensures fault { result ≡ spec.border_fault (drop i (block_of view.now)) bottom }
     ensures looks { looks.new ≤ looks.old + 2 }
     ensures none { IfNone bottom (looks.new ≤ looks.old) }
-    ensures low { looks.old ≤ looks.new }
+    ensures low { capped looks.old ≤ looks.new }
 {
     let Some(k) = bottom else {
         return Some(TableDetail::BottomMissing);
@@ -80,11 +80,10 @@ pub(crate) fn read_lines(
 ) -> Result<Vec<TableLine>, AllocError>
     requires in_order { from ≤ to }
     requires in_range { to ≤ length (block_of view.now) }
-    requires few { looks.old < 2 ^ 120 + 2 ^ 69 }
     ensures lines { IfOk result (λ lines. lines.items ≡ take (to - from) (drop from (rows_of (block_of view.now)))) }
     ensures looks { looks.new + from ≤ looks.old + to }
-    ensures low { looks.old ≤ looks.new }
-    ensures each { IfOk result (λ _. looks.new + from ≡ looks.old + to) }
+    ensures low { capped looks.old ≤ looks.new }
+    ensures each { IfOk result (λ _. capped (looks.old + (to - from)) ≤ looks.new) }
 {
     let mut lines = Vec::new(alloc);
     for k in from..to {

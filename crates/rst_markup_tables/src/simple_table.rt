@@ -1,5 +1,6 @@
 //! Simple tables.
-ghost use Rattle.std.specs.Prelude.{◌≡◌, ◌+◌, ◌*◌, ◌^◌, ◌<◌, ◌≤◌, drop, get_or, length, IfOk};
+ghost use Rattle.std.specs.Prelude.{◌≡◌, ◌+◌, ◌-◌, ◌*◌, ◌^◌, ◌<◌, ◌≤◌, drop, get_or, length, IfOk};
+ghost use Rattle.rst_text.specs.Looked.{capped};
 ghost use Rattle.rst_text.specs.Shown.{block_of};
 ghost use Rattle.rst_markup_tables.specs.Ends.{end_of};
 ghost use Rattle.rst_markup_tables.specs.SimpleTable as spec;
@@ -75,11 +76,10 @@ pub fn simple(
     looks: &mut Looks,
 ) -> Result<TableResult, AllocError>
     requires there { i < length (block_of view.now) }
-    requires few { looks.old < 2 ^ 120 }
     ensures table { IfOk result (λ table. table ≡ spec.simple_table (block_of view.now) i) }
     ensures end { IfOk result (λ table. end_of table ≡ i + simple_size (drop i (block_of view.now))) }
     ensures looks { looks.new ≤ looks.old + 4 * simple_scan (drop i (block_of view.now)) }
-    ensures low { looks.old + simple_size (drop i (block_of view.now)) ≤ looks.new + 1 }
+    ensures low { capped (looks.old + (simple_size (drop i (block_of view.now)) - 1)) ≤ looks.new }
 {
     prove!(i < view.len());
     let line = view.number(i);

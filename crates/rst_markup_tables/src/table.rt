@@ -1,5 +1,6 @@
 //! Grid tables.
 ghost use Rattle.std.specs.Prelude.{◌≡◌, ◌+◌, ◌^◌, ◌<◌, ◌≤◌, length, drop, IfOk};
+ghost use Rattle.rst_text.specs.Looked.{capped};
 ghost use Rattle.rst_text.specs.Shown.{block_of};
 ghost use Rattle.rst_markup_tables.specs.Ends.{end_of};
 ghost use Rattle.rst_markup_tables.specs.GridTable as spec;
@@ -84,11 +85,10 @@ pub fn grid(
     looks: &mut Looks,
 ) -> Result<TableResult, AllocError>
     requires there { i < length (block_of view.now) }
-    requires few { looks.old < 2 ^ 120 }
     ensures table { IfOk result (spec.IsGridTable (block_of view.now) i) }
     ensures end { IfOk result (λ table. end_of table ≡ i + grid_size (drop i (block_of view.now))) }
     ensures looks { looks.new ≤ looks.old + grid_scan (drop i (block_of view.now)) }
-    ensures low { IfOk result (λ _. looks.old + grid_size (drop i (block_of view.now)) ≤ looks.new) }
+    ensures low { IfOk result (λ _. capped (looks.old + grid_size (drop i (block_of view.now))) ≤ looks.new) }
 {
     let found = grid_lines(alloc, view, i, looks)?;
     let table = grid_of(alloc, view.number(i), i, found)?;

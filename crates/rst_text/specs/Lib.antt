@@ -7,6 +7,7 @@ pub mod Shown
 pub mod MayCut
 pub mod Extent
 pub mod Reach
+pub mod Looked
 pub mod Laws
 pub mod Places
 pub mod Characters

@@ -1,10 +1,12 @@
 //! Looks at lines, counted.
-ghost use Rattle.std.specs.Prelude.{◌≡◌, ◌+◌, ◌^◌, ◌<◌};
+ghost use Rattle.std.specs.Prelude.{◌≡◌, ◌+◌};
+ghost use Rattle.rst_text.specs.Looked.{capped};
 
 use std::marker::Model;
 
 /// How many looks at lines were taken. It can neither be copied nor made smaller, so a count that is handed on from
-/// call to call misses none. Contracts see it as a number.
+/// call to call misses none. It stops at its largest value, so that no caller has to leave room for it. Contracts see
+/// it as a number.
 #[derive(Debug, Drop)]
 pub struct Looks {
     count: u128,
@@ -35,17 +37,15 @@ impl Looks {
 
     /// One look more.
     pub(crate) fn look(&mut self)
-        requires { self.old < 2 ^ 127 }
-        ensures { self.new ≡ self.old + 1 }
+        ensures { self.new ≡ capped (self.old + 1) }
     {
-        self.count += 1;
+        self.count = self.count.saturating_add(1);
     }
 
     /// So many looks more.
     pub(crate) fn look_at(&mut self, count: usize)
-        requires { self.old < 2 ^ 127 }
-        ensures { self.new ≡ self.old + count }
+        ensures { self.new ≡ capped (self.old + count) }
     {
-        self.count += count as u128;
+        self.count = self.count.saturating_add(count as u128);
     }
 }

@@ -69,6 +69,7 @@ impl<'a> View<'a> {
     ghost use Rattle.rst_text.specs.Shown.{block_of, source_of, IsPlacement, placement_block};
     ghost use Rattle.rst_text.specs.Extent.{extent_of};
     ghost use Rattle.rst_text.specs.Kept.{IsEmptyRun};
+    ghost use Rattle.rst_text.specs.Looked.{capped};
     ghost use Rattle.rst_text.specs.Reach.{looked};
 
     /// All the lines, without a cut.
@@ -154,9 +155,8 @@ impl<'a> View<'a> {
     /// The text of the line at place `i`, counted from 0, at the price of one look.
     pub fn line(&self, i: usize, looks: &mut Looks) -> &'a str
         requires inside { i < length (block_of self.now) }
-        requires few { looks.old < 2 ^ 121 }
         ensures text { chars result.now ≡ front_text (drop i (block_of self.now)) }
-        ensures looks { looks.new ≡ looks.old + 1 }
+        ensures looks { looks.new ≡ capped (looks.old + 1) }
     {
         looks.look();
         self.text(i)
@@ -198,9 +198,9 @@ impl<'a> View<'a> {
     /// ones at their end left off. It looks once at each line from `from` through the one that stops it.
     pub fn block_end(&self, from: usize, least: Option<usize>, looks: &mut Looks) -> Extent
         requires inside { from ≤ length (block_of self.now) }
-        requires few { looks.old < 2 ^ 121 }
         ensures extent { result ≡ extent_of from (unwrap_or least 1) (drop from (block_of self.now)) }
-        ensures looks { looks.new ≡ looks.old + looked (unwrap_or least 1) (drop from (block_of self.now)) }
+        ensures looks { looks.new ≤ looks.old + looked (unwrap_or least 1) (drop from (block_of self.now)) }
+        ensures low { capped (looks.old + looked (unwrap_or least 1) (drop from (block_of self.now))) ≤ looks.new }
     {
         let enough = least.unwrap_or(1);
         let mut end = from;

@@ -32,7 +32,8 @@ alike : (a b c d e f g h a' b' c' d' e' f' g' h' : Bool) → a ≡ a' → b ≡ 
     record { messages = a'; substitutions = b'; targets = c'; anonymous = d'; indirect = e'; footnotes = f'; links = g'; transitions = h' }
 alike a b c d e f g h a' b' c' d' e' f' g' h' p q r s t u v w = rw (p, q, r, s, t, u, v, w) refl
 
-same : (k j : Kinds) → k.messages ≡ j.messages → k.substitutions ≡ j.substitutions → k.targets ≡ j.targets → k.anonymous ≡ j.anonymous → k.indirect ≡ j.indirect → k.footnotes ≡ j.footnotes
+-- two that are alike in each kind
+pub same : (k j : Kinds) → k.messages ≡ j.messages → k.substitutions ≡ j.substitutions → k.targets ≡ j.targets → k.anonymous ≡ j.anonymous → k.indirect ≡ j.indirect → k.footnotes ≡ j.footnotes
     → k.links ≡ j.links → k.transitions ≡ j.transitions → k ≡ j
 same k j = alike k.messages k.substitutions k.targets k.anonymous k.indirect k.footnotes k.links k.transitions j.messages j.substitutions j.targets j.anonymous j.indirect j.footnotes j.links j.transitions
 

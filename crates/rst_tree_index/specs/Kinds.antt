@@ -66,6 +66,10 @@ either k j = record {
   transitions = k.transitions || j.transitions;
 }
 
+-- none of them
+abbrev pub is_none : Kinds → Bool
+is_none k = not (k.messages || (k.substitutions || (k.targets || (k.anonymous || (k.indirect || (k.footnotes || (k.links || k.transitions)))))))
+
 -- Elements that became others are of no new kinds, messages aside.
 pub record HasNoNewKinds (before after : List Item) : Type 0 where
   pub substitutions : (kinds_of before).substitutions ≡ false → (kinds_of after).substitutions ≡ false

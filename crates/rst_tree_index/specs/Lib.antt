@@ -4,3 +4,4 @@ pub mod MarkPaths
 pub mod MarkLengths
 pub mod LinkedTags
 pub mod Kinds
+pub mod Known

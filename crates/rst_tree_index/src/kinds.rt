@@ -1,7 +1,7 @@
 //! Which kinds of elements that transforms act on a node holds.
 ghost use Rattle.std.specs.Prelude.{◌≡◌, ◌∷◌, [], true};
 ghost use Rattle.rst_tree.specs.Walk.{item};
-ghost use Rattle.rst_tree_index.specs.Kinds.{either, is_internal, kinds_of};
+ghost use Rattle.rst_tree_index.specs.Kinds.{either, is_internal, is_none, kinds_of};
 ghost use Rattle.rst_tree_index.specs.LinkedTags.{is_linked_tag};
 
 use rst_tree::{Attrs, Key, Tag};
@@ -69,6 +69,18 @@ impl Kinds {
             links: false,
             transitions: false,
         }
+    }
+
+    /// Whether it is none of them.
+    #[inline(always)]
+    pub(crate) fn is_none(self) -> bool
+        ensures { result ≡ is_none self }
+    {
+        !(self.messages
+            | (self.substitutions
+                | (self.targets
+                    | (self.anonymous
+                        | (self.indirect | (self.footnotes | (self.links | self.transitions)))))))
     }
 
     /// Takes in an element. Its line says nothing of its kind.

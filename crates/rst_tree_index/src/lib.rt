@@ -3,8 +3,10 @@
 
 mod kinds;
 mod marked;
+mod marked_nodes;
 mod marks;
 mod registered;
 
 pub use kinds::{Kinds, is_internal, is_linked_tag};
 pub use marked::{Element, Marked};
+pub use marked_nodes::{MarkedIter, MarkedNodes};

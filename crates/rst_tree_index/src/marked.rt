@@ -2,7 +2,6 @@
 ghost use Rattle.std.specs.Prelude.{◌≡◌, ◌++◌, [], map, if◌then◌else◌};
 ghost use Rattle.std.specs.List.{filter};
 ghost use Rattle.rst_tree.specs.Faults.{Gives};
-ghost use Rattle.rst_tree.specs.Nodes.{forest_of};
 ghost use Rattle.rst_tree.specs.Walk.{item, items, node_items, after, scanned, walked_node, node_shape};
 ghost use Rattle.rst_tree_index.specs.Kinds.{either, kinds_of};
 ghost use Rattle.rst_tree_index.specs.MarkPaths.{node_paths};
@@ -143,7 +142,11 @@ fn add_marks(
 
 /// The marks of a node that was made elsewhere, by a pass over it: whether it is marked itself, and those in it. Its kinds are added.
 #[inline(always)]
-fn marks_of(alloc: Global, node: &Node, kinds: &mut Kinds) -> Result<(bool, Marks), TreeFault>
+pub(crate) fn marks_of(
+    alloc: Global,
+    node: &Node,
+    kinds: &mut Kinds,
+) -> Result<(bool, Marks), TreeFault>
     ensures marks { Gives (λ marks. node_paths marks.0 marks.1 ≡ marks_of is_registered node.now) result }
     ensures kinds { Gives (λ _. kinds.new ≡ either kinds.old (kinds_of (node_items node.now))) result }
 {
@@ -160,32 +163,6 @@ fn marks_of(alloc: Global, node: &Node, kinds: &mut Kinds) -> Result<(bool, Mark
     kinds.add(*tag, attrs);
     add_marks(alloc, children, &mut inner, kinds)?;
     Ok((is_registered(*tag, attrs, *line), inner))
-}
-
-/// The nodes of an element without their marks, which are put behind others, seen from the element. Their kinds are added.
-fn gathered(
-    alloc: Global,
-    nodes: Vec<Marked>,
-    marks: &mut Marks,
-    kinds: &mut Kinds,
-) -> Result<Children, TreeFault>
-    ensures nodes { Gives (λ children. children ≡ forest_of nodes.items) result }
-    ensures marks { Gives (λ _. marks.new ≡ marks.old ++ map path_of (places is_registered (forest_of nodes.items))) result }
-    ensures kinds { Gives (λ _. kinds.new ≡ either kinds.old (kinds_of (items (forest_of nodes.items)))) result }
-{
-    let mut list = Vec::with_capacity(alloc, nodes.len())?;
-    for node in nodes {
-        let Marked {
-            root,
-            own,
-            inner,
-            kinds: more,
-        } = node;
-        marks.push(list.len(), own, inner)?;
-        *kinds = kinds.or(more);
-        list.push_reserved(root);
-    }
-    Ok(Children::of(list))
 }
 
 /// A node, and where those of its elements stand that registration needs: their paths, in preorder; and which kinds of elements it
@@ -223,9 +200,9 @@ impl Model for Marked {
 
 impl Marked {
     ghost use Rattle.std.specs.Prelude.{◌≡◌};
-    ghost use Rattle.rst_tree.specs.declared.node.Node.TheVariants.{Element as Tagged};
 
     /// A node that was made elsewhere.
+    #[inline(always)]
     pub fn of(alloc: Global, root: Node) -> Result<Marked, TreeFault>
         ensures { Gives (λ m. m ≡ root) result }
     {
@@ -239,46 +216,35 @@ impl Marked {
         })
     }
 
-    /// Each of some nodes that were made elsewhere.
-    pub fn each(alloc: Global, nodes: Vec<Node>) -> Result<Vec<Marked>, TreeFault>
-        ensures { Gives (λ list. list.items ≡ nodes.items) result }
+    /// A node whose marks and kinds are known.
+    #[inline(always)]
+    pub(crate) fn from_parts(root: Node, own: bool, inner: Marks, kinds: Kinds) -> Marked
+        requires marks { node_paths own inner ≡ marks_of is_registered root }
+        requires kinds { kinds ≡ kinds_of (node_items root) }
+        ensures { result ≡ root }
     {
-        if nodes.is_empty() {
-            return Ok(Vec::new(alloc));
-        }
-        let mut list = Vec::with_capacity(alloc, nodes.len())?;
-        for node in nodes {
-            list.push_reserved(Marked::of(alloc, node)?);
-        }
-        Ok(list)
-    }
-
-    /// An element with these nodes in it. Their marks are known, so nobody goes through them.
-    pub fn element(
-        alloc: Global,
-        tag: Tag,
-        attrs: Attrs,
-        nodes: Vec<Marked>,
-        line: usize,
-    ) -> Result<Marked, TreeFault>
-        ensures { Gives (λ m. m ≡ Tagged tag attrs (forest_of nodes.items) line) result }
-    {
-        let own = is_registered(tag, &attrs, line);
-        let mut inner = Marks::none(alloc);
-        let mut kinds = Kinds::none();
-        kinds.add(tag, &attrs);
-        let root = Node::Element {
-            tag,
-            attrs,
-            children: gathered(alloc, nodes, &mut inner, &mut kinds)?,
-            line,
-        };
-        Ok(Marked {
+        Marked {
             root,
             own,
             inner,
             kinds,
-        })
+        }
+    }
+
+    /// The node, whether it is marked itself, the marks in it and its kinds.
+    #[inline(always)]
+    pub(crate) fn into_parts(self) -> (Node, bool, Marks, Kinds)
+        ensures root { result.0 ≡ self }
+        ensures marks { node_paths result.1 result.2 ≡ marks_of is_registered self }
+        ensures kinds { result.3 ≡ kinds_of (node_items self) }
+    {
+        let Marked {
+            root,
+            own,
+            inner,
+            kinds,
+        } = self;
+        (root, own, inner, kinds)
     }
 
     /// Which kinds of elements that transforms act on the node holds.

@@ -48,7 +48,7 @@ impl Model for Marks {
 
 /// Whether a node is marked itself, or has marks in it.
 #[inline(always)]
-fn is_used(own: bool, inner: &Marks) -> bool
+pub(crate) fn is_used(own: bool, inner: &Marks) -> bool
     ensures used { result ≡ true → node_paths own inner.now ≢ [] }
     ensures unused { result ≡ false → node_paths own inner.now ≡ [] }
 {

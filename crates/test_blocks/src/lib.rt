@@ -2,8 +2,6 @@
 #![tactic(auto)]
 
 #[cfg(test)]
-mod few_lines;
-#[cfg(test)]
 mod looks_tests;
 #[cfg(test)]
 mod nesting_tests;

@@ -1,12 +1,12 @@
 //! How many looks at lines documents take.
-use super::few_lines::lines_of;
 use rst_block::parse;
+use rst_text::Lines;
 use std::alloc::Global;
 use std::test::Fail;
 
 /// The looks that a document takes.
 fn looks_of(alloc: Global, text: &str) -> Result<u128, Fail> {
-    let lines = lines_of(alloc, text)?;
+    let lines = Lines::of(alloc, text, 8)?;
     Ok(parse(alloc, &lines)?.looks)
 }
 

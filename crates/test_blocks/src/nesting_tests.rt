@@ -1,12 +1,12 @@
 //! How deep blocks may be nested, and which line is told where they are nested too deeply.
-use super::few_lines::lines_of;
 use rst_block::{BlockFault, parse};
+use rst_text::Lines;
 use std::alloc::Global;
 use std::test::Fail;
 
 /// The line at which the blocks of a text are nested too deeply, if they are.
 fn line_too_deep(alloc: Global, text: &str) -> Result<Option<usize>, Fail> {
-    let lines = lines_of(alloc, text)?;
+    let lines = Lines::of(alloc, text, 8)?;
     match parse(alloc, &lines) {
         Ok(_) => Ok(None),
         Err(BlockFault::TooDeep { line }) => Ok(Some(line)),

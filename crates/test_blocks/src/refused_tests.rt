@@ -1,7 +1,6 @@
 //! Documents that are read, of which one growth may be refused. `rt ci` refuses none; `scripts/refusing.py` runs each test again and again, and
 //! refuses the first growth, the second, and so on. Two answers are taken, one after the other, so at most one of them may be that memory ran
 //! out; the lines that were lent are then as before. A growth that is refused to the test itself ends it.
-use super::few_lines::lines_of;
 use rst_block::{BlockFault, parse};
 use rst_text::Lines;
 use std::process::Abort;
@@ -50,7 +49,7 @@ fn judge_lines(rt: &impl Abort, lines: &Lines) {
 
 #[test]
 fn reads_documents(rt: HostRuntime) {
-    let Ok(lines) = lines_of(rt.alloc(), DOCUMENT) else {
+    let Ok(lines) = Lines::of(rt.alloc(), DOCUMENT, 8) else {
         return;
     };
     let mut refusals = 0u8;

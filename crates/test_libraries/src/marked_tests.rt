@@ -2,24 +2,28 @@
 ghost use Rattle.rst_tree.specs.Walk.{item};
 
 use rst_tree::{Attrs, Node, Tag, Text, TreeFault, Visitor};
-use rst_tree_index::Marked;
+use rst_tree_index::{Marked, MarkedNodes};
 use std::alloc::Global;
 use std::test::Fail;
 
 /// An element without attributes.
-fn element(alloc: Global, tag: Tag, nodes: Vec<Marked>, line: usize) -> Result<Marked, TreeFault> {
-    Marked::element(alloc, tag, Attrs::new(alloc), nodes, line)
+fn element(alloc: Global, tag: Tag, nodes: MarkedNodes, line: usize) -> Result<Marked, TreeFault> {
+    nodes.into_element(tag, Attrs::new(alloc), line)
 }
 
 /// A document with a paragraph, and behind it a section with a title and a target.
 fn document(alloc: Global) -> Result<Marked, TreeFault> {
     let text = Node::Text(Text::from_str(alloc, "T")?);
-    let title = Marked::each(alloc, vec![in alloc; text]?)?;
+    let title = MarkedNodes::of(alloc, vec![in alloc; text]?)?;
     let title = element(alloc, Tag::Title, title, 2)?;
-    let target = Marked::of(alloc, Node::element(alloc, Tag::Target, 3))?;
-    let section = element(alloc, Tag::Section, vec![in alloc; title, target]?, 2)?;
-    let paragraph = element(alloc, Tag::Paragraph, Vec::new(alloc), 1)?;
-    element(alloc, Tag::Document, vec![in alloc; paragraph, section]?, 1)
+    let mut inner = MarkedNodes::alone(alloc, title)?;
+    inner.push_new(Node::element(alloc, Tag::Target, 3))?;
+    let section = element(alloc, Tag::Section, inner, 2)?;
+    let paragraph = element(alloc, Tag::Paragraph, MarkedNodes::none(alloc), 1)?;
+    let mut nodes = MarkedNodes::none(alloc);
+    nodes.append(MarkedNodes::alone(alloc, paragraph)?)?;
+    nodes.append(MarkedNodes::alone(alloc, section)?)?;
+    element(alloc, Tag::Document, nodes, 1)
 }
 
 /// Gives each element that is visited line 9.
@@ -73,5 +77,24 @@ fn marks_and_visits(rt: HostRuntime) -> Result<(), Fail> {
         },
         Node::Text(_) => assert!(rt; false),
     }
+    Ok(())
+}
+
+#[test]
+fn nodes_one_after_the_other(rt: HostRuntime) -> Result<(), Fail> {
+    let alloc = rt.alloc();
+    let mut nodes = MarkedNodes::alone(alloc, document(alloc)?)?;
+    let text = Node::Text(Text::from_str(alloc, "T")?);
+    let target = Node::element(alloc, Tag::Target, 3);
+    nodes.append_new(vec![in alloc; text, target]?)?;
+    assert_eq!(rt; nodes.len(), 3);
+    let mut rest = nodes.into_marked();
+    for marked in [2, 0, 1] {
+        match rest.next(alloc) {
+            Some(node) => assert_eq!(rt; node.elements(alloc)?.len(), marked),
+            None => assert!(rt; false),
+        }
+    }
+    assert_eq!(rt; rest.len(), 0);
     Ok(())
 }

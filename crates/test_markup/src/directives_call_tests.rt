@@ -161,7 +161,6 @@ fn told(alloc: Global, text: &str, place: Place, paragraph: bool) -> Result<Stri
     if view.len() == 0 || !kind_of(&view, 0, &mut looks).is_explicit() {
         return Ok(String::new(alloc));
     }
-    let mut looks = Looks::none();
     match explicit(&view, 0, &mut looks) {
         Explicit::Directive(call) => {
             let found = first_directive(alloc, &view, &call, place, paragraph)?;

@@ -162,7 +162,6 @@ fn told(alloc: Global, text: &str) -> Result<String, Fail> {
     if view.len() == 0 || !kind_of(&view, 0, &mut looks).is_explicit() {
         return Ok(out);
     }
-    let mut looks = Looks::none();
     let markup = explicit(&view, 0, &mut looks);
     push_explicit(&mut out, &view, &markup)?;
     out.push('|')?;

@@ -55,7 +55,6 @@ fn found(alloc: Global, text: &str) -> Result<(Kind, usize), TextFault> {
     }
     let mut looks = Looks::none();
     let kind = kind_of(&view, 0, &mut looks);
-    let mut looks = Looks::none();
     Ok((kind, end_of(&view, 0, kind, true, &mut looks)))
 }
 
@@ -65,7 +64,6 @@ fn end_by<C: Construct>(alloc: Global, row: &C, text: &str) -> Result<Option<usi
     let view = View::whole(&lines);
     let mut looks = Looks::none();
     if 0 < view.len() && row.starts(&view, 0, true, &mut looks) {
-        let mut looks = Looks::none();
         Ok(Some(end_after(row, &view, 0, true, &mut looks)))
     } else {
         Ok(None)

@@ -194,7 +194,6 @@ fn end_by_kind(alloc: Global, text: &str, titles: bool) -> Result<Option<usize>,
     }
     let mut looks = Looks::none();
     let kind = kind_of(&view, 0, &mut looks);
-    let mut looks = Looks::none();
     Ok(Some(end_of(&view, 0, kind, titles, &mut looks)))
 }
 

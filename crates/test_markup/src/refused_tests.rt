@@ -55,7 +55,6 @@ fn grids(rt: HostRuntime) {
     let mut looks = Looks::none();
     let first = grid(alloc, &view, 0, &mut looks);
     judge_view(&rt, &view, text);
-    let mut looks = Looks::none();
     let second = grid(alloc, &view, 0, &mut looks);
     judge_tables(
         &rt,
@@ -77,7 +76,6 @@ fn simples(rt: HostRuntime) {
     let mut looks = Looks::none();
     let first = simple(alloc, &view, 0, &mut looks);
     judge_view(&rt, &view, text);
-    let mut looks = Looks::none();
     let second = simple(alloc, &view, 0, &mut looks);
     judge_tables(
         &rt,
@@ -115,7 +113,6 @@ fn directives(rt: HostRuntime) {
     let mut looks = Looks::none();
     assert!(rt; 0 < view.len());
     assert!(rt; kind_of(&view, 0, &mut looks).is_explicit());
-    let mut looks = Looks::none();
     let Explicit::Directive(call) = explicit(&view, 0, &mut looks) else {
         assert!(rt; false);
         return;

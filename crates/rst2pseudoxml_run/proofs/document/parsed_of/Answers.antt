@@ -1,18 +1,13 @@
 use Rattle.std.proofs.Common.{◌≡◌, ◌∙◌, Some, sym, ap, arith}
 use Rattle.std.specs.Str.{chars}
 use Rattle.rst_text.specs.Text.{text_of}
-use Rattle.rst2pseudoxml_run.proofs.DocumentLemmas.{text_short, input_few, read_short}
+use Rattle.rst2pseudoxml_run.proofs.DocumentLemmas.{text_short, read_short}
 use Rattle.rst2pseudoxml_run.proofs.document.parsed_of.Goals as goal
 
 pub first_longer-requires-clause-few : goal.first_longer-requires-clause-few
 first_longer-requires-clause-few c =
     let is : text_of c.args.bytes.items ≡ Some (chars c.in-Ok.text.now) = sym (ap text_of c.as_slice.ensures.value) ∙ c.in-Ok.ensures in
     omega (arith, c.requires.few, text_short c.args.bytes.items (chars c.in-Ok.text.now) is)
-
-pub parse-requires : goal.parse-requires
-parse-requires c =
-    let is : text_of c.args.bytes.items ≡ Some (chars c.in-Ok.text.now) = sym (ap text_of c.as_slice.ensures.value) ∙ c.in-Ok.ensures in
-    record { few = rw c.in-Ok-of.ensures (input_few c.args.settings.now c.args.bytes.items (chars c.in-Ok.text.now) c.requires.few is) }
 
 pub returns-in-Ok-parse : goal.returns-in-Ok-parse
 returns-in-Ok-parse c =

@@ -12,7 +12,7 @@ use Rattle.rst_markup_tables.specs.Results.{cells_of}
 use Rattle.rst_markup_tables.specs.declared.results.TableResult.TheVariants.{Table}
 use Rattle.rst_block_nodes.specs.Elements.{element_of}
 use Rattle.rst_block_state.specs.Inside.{cell_blocks}
-use Rattle.rst_block_state.specs.Ledger.{total_at, totals}
+use Rattle.rst_block_state.specs.Ledger.{totals}
 use Rattle.rst_block_state.specs.Meanings.{comes, deepest, done_of, reads, within_at}
 use Rattle.rst_block_state.specs.Nodes.{block_items}
 use Rattle.rst_block_state.specs.Numbered.{just, then_read}
@@ -25,26 +25,12 @@ use Rattle.rst_block_state.proofs.Calls.{refuses}
 use Rattle.rst_block.proofs.CellsRead.{each_begins, each_ends, each_goes_on, each_keeps, entry_next, row_keeps, table_keeps, table_reads}
 use Rattle.rst_block_state.proofs.Changes.{moved_more, more_more, kept_more}
 use Rattle.rst_block.proofs.LastLevel.{flat_text, flat_text_fails}
-use Rattle.rst_block.proofs.MachinePaid.{none_read, some_read, next_cell, one_row, row_paid, next_row, rows_paid, table_left, table_paid, text_begins, block_goes_on, block_opens, block_ends, block_waits, text_ends, flat_paid}
+use Rattle.rst_block.proofs.MachinePaid.{none_read, some_read, next_cell, row_paid, next_row, rows_paid, table_paid, text_begins, block_goes_on, block_opens, block_ends, block_waits, text_ends, flat_paid}
 use Rattle.rst_block.proofs.Stack.{left, parts_left, now_of_next, now_of_resumed, cost_of_resumed, goes_on, stepped, opens, resumes, waits_again, second_left, parts_at_most, parts_at_least, taken, placed, nested_push, nested_pop}
 use Rattle.rst_block_state.proofs.Views.{few_lines}
 use Rattle.rst_block.proofs.Waiting.{plug_begins, plug_end_fails, plug_ends, plug_fails, plug_goes_on, plug_opens, plug_over, plug_waits}
 use Rattle.rst_block.proofs.machine.+machine.Goals.{read-else-len-gt0-via-then-len-gt0+else-depth-le-DEEPEST, read-else-len-gt0-via-else-len-gt0}
 use Rattle.rst_block.proofs.machine.+machine.Goals as goal
-
--- a call in the block that is read takes no more looks than are left
-pub read_blocks-next-requires-clause-few : goal.read_blocks-next-requires-clause-few
-read_blocks-next-requires-clause-few t c =
-    let paid = rw c.in-Next.is at c.loop-now.invariant.paid in
-    omega (arith, paid.no_more, c.requires.few)
-
-pub read_blocks-flat-requires-clause-few : goal.read_blocks-flat-requires-clause-few
-read_blocks-flat-requires-clause-few t c =
-    let paid = rw c.in-Open.is at c.loop-now.invariant.paid in
-    omega (arith, paid.no_more, c.requires.few)
-
-pub read_blocks-closed-requires-clause-few : goal.read_blocks-closed-requires-clause-few
-read_blocks-closed-requires-clause-few t c = omega (arith, c.loop-now.invariant.paid.no_more, c.requires.few)
 
 pub read_blocks-closed-requires-clause-frame : goal.read_blocks-closed-requires-clause-frame
 read_blocks-closed-requires-clause-frame t c =
@@ -370,18 +356,6 @@ read-returns-then-depth-le-DEEPEST-clause-lines t c =
 pub read-returns-clause-lines : goal.read-returns-clause-lines
 read-returns-clause-lines t c = ap are_lines (sym c.whole-whole.ensures) ∙ are_lines-block_of c.whole-whole.result
 
-pub cells-rows_of-requires : goal.cells-rows_of-requires
-cells-rows_of-requires t c =
-    let left = table_left c.args.level.now (block_of c.args.view.now) c.args.depth c.args.found c.in-Table.cols c.in-Table.head c.in-Table.end c.in-Table.rows c.in-Table.is c.requires.level in
-    let few : c.args.pass.now.looks + 128 * totals (c.args.depth - 1) (cell_blocks (Table [] 0 c.in-Table.rows 0)) < 2 ^ 119 = omega (arith, left, c.requires.few) in
-    let inner : 1 ≤ c.args.depth = omega (arith, c.requires.level) in
-    search (rules, few, inner)
-
-pub cells-after_table-requires : goal.cells-after_table-requires
-cells-after_table-requires t c =
-    let left = table_left c.args.level.now (block_of c.args.view.now) c.args.depth c.args.found c.in-Table.cols c.in-Table.head c.in-Table.end c.in-Table.rows c.in-Table.is c.requires.level in
-    omega (arith, left, c.in_ok-made.ensures.paid.no_more, c.requires.few)
-
 pub cells-returns-in_err-made-clause-read : goal.cells-returns-in_err-made-clause-read
 cells-returns-in_err-made-clause-read t c =
     refuses c.from_residual.result c.in_err-made.field-0.0 _ _ (search rules)
@@ -397,10 +371,10 @@ cells-returns-clause-read t c =
     let B : Block = block_of c.args.view.now in
     let behind = rw c.in-Table.is at c.requires.table in
     ap (λ k. reads c.after_table.new.level B k) c.in_ok-after_table.ensures.numbers
-    ∙ table_reads c.args.level.now c.go_to.new.self c.push_marked.new.self c.after_table.new.level B c.args.depth c.args.found c.in-Table.cols c.in-Table.head c.in-Table.end c.in-Table.rows c.in_ok-made.made.items c.in_ok-table.table
+    ∙ table_reads c.args.level.now c.go_to.new.self c.push_marked.new.self c.after_table.new.level B c.args.depth c.args.found c.in-Table.cols c.in-Table.head c.in-Table.end c.in-Table.rows c.in_ok-made.made c.in_ok-table.table
     c.args.pass.now.numbers c.rows_of.new.pass.numbers c.in-Table.is c.requires.level (sym c.in_ok-made.ensures.rows)
-    (c.in_ok-table.ensures ∙ ap (λ widths. table_node widths c.in-Table.head c.in_ok-made.made.items c.number-line.result) c.as_slice.ensures
-    ∙ ap (λ line. table_node c.in-Table.cols c.in-Table.head c.in_ok-made.made.items line) c.number-line.ensures)
+    (c.in_ok-table.ensures ∙ ap (λ widths. table_node widths c.in-Table.head c.in_ok-made.made c.number-line.result) c.as_slice.ensures
+    ∙ ap (λ line. table_node c.in-Table.cols c.in-Table.head c.in_ok-made.made line) c.number-line.ensures)
     c.go_to.ensures.moved (c.go_to.ensures.there behind) c.in_ok-push_marked.ensures.more c.in_ok-after_table.ensures.more c.requires.placed
 
 pub cells-returns-clause-paid : goal.cells-returns-clause-paid
@@ -415,58 +389,45 @@ rows_of-loop-cells-init t c =
     let start : cells_of (into_iter_items c.into_iter-cells-iterator.result) ≡ c.args.rows = ap cells_of c.into_iter-cells-iterator.ensures.into_iter_gives.0 ∙ c.into_rows-cells-items.ensures in
     record {
       frames = refl;
-      made = each_begins (row_of (within_at (c.args.depth - 1))) c.args.rows (cells_of (into_iter_items c.into_iter-cells-iterator.result)) c.new-made.result.items c.args.pass.now.numbers c.new-made.ensures.items start;
+      made = each_begins (row_of (within_at (c.args.depth - 1))) c.args.rows (cells_of (into_iter_items c.into_iter-cells-iterator.result)) c.none-made.result c.args.pass.now.numbers c.none-made.ensures start;
       paid = none_read _ _ _ (ap (λ rows. totals (c.args.depth - 1) (cell_blocks (Table [] 0 rows 0))) start);
     }
-
-pub rows_of-row_of-requires : goal.rows_of-row_of-requires
-rows_of-row_of-requires t c =
-    let next = next_row (c.args.depth - 1) (into_iter_items c.loop-cells.cells-iterator) _ c.in-Some.cells c.in-Some.ensures.steps.0 in
-    let few : c.loop-cells.pass.looks + 128 * totals (c.args.depth - 1) (cell_blocks (Table [] 0 (c.in-Some.cells.items ∷ []) 0)) < 2 ^ 119 = omega (arith, c.loop-cells.invariant.paid.no_more, next, c.requires.few) in
-    search (rules, few)
 
 pub rows_of-returns-in_err-row_of-clause-rows : goal.rows_of-returns-in_err-row_of-clause-rows
 rows_of-returns-in_err-row_of-clause-rows t c =
     refuses c.from_residual.result c.in_err-row_of.field-0.0 _ _ (search rules)
-    (each_keeps (row_of (within_at (c.args.depth - 1))) c.in-Some.cells.items (cells_of (into_iter_items c.loop-cells.cells-iterator)) _ c.loop-cells.made.items c.loop-cells.pass.numbers _ c.in_err-row_of.field-0.0 _ _
+    (each_keeps (row_of (within_at (c.args.depth - 1))) c.in-Some.cells.items (cells_of (into_iter_items c.loop-cells.cells-iterator)) _ c.loop-cells.made c.loop-cells.pass.numbers _ c.in_err-row_of.field-0.0 _ _
     (ap cells_of c.in-Some.ensures.steps.0) c.loop-cells.invariant.made c.in_err-row_of.ensures.row)
 
 pub rows_of-loop-cells-preserved : goal.rows_of-loop-cells-preserved
 rows_of-loop-cells-preserved t c = record {
   frames = c.in_ok-row_of.ensures.frames ∙ c.loop-cells.invariant.frames;
-  made = each_goes_on (row_of (within_at (c.args.depth - 1))) c.in-Some.cells.items (cells_of (into_iter_items c.loop-cells.cells-iterator)) _ c.loop-cells.made.items c.push.new.self.items c.in_ok-row_of.field-0 c.loop-cells.pass.numbers
-      c.row_of.new.pass.numbers _ (ap cells_of c.in-Some.ensures.steps.0) c.in_ok-row_of.ensures.row c.in_ok-push.ensures.items c.loop-cells.invariant.made;
+  made = each_goes_on (row_of (within_at (c.args.depth - 1))) c.in-Some.cells.items (cells_of (into_iter_items c.loop-cells.cells-iterator)) _ c.loop-cells.made c.push.new.self c.in_ok-row_of.field-0 c.loop-cells.pass.numbers
+      c.row_of.new.pass.numbers _ (ap cells_of c.in-Some.ensures.steps.0) c.in_ok-row_of.ensures.row c.in_ok-push.ensures c.loop-cells.invariant.made;
   paid = some_read _ _ _ _ _ _ _ c.loop-cells.invariant.paid (next_row (c.args.depth - 1) (into_iter_items c.loop-cells.cells-iterator) _ c.in-Some.cells c.in-Some.ensures.steps.0) c.in_ok-row_of.ensures.paid;
 }
 
 pub rows_of-returns-clause-rows : goal.rows_of-returns-clause-rows
 rows_of-returns-clause-rows t c =
     let none : into_iter_items c.loop-cells.cells-iterator ≡ [] = nil_from_length _ (sym c.loop-cells.cells-iterator.rest.ok.0 ∙ c.in-None.ensures.steps.0) in
-    sym (each_ends (row_of (within_at (c.args.depth - 1))) (cells_of (into_iter_items c.loop-cells.cells-iterator)) c.loop-cells.made.items c.loop-cells.pass.numbers _ (ap cells_of none) c.loop-cells.invariant.made)
+    sym (each_ends (row_of (within_at (c.args.depth - 1))) (cells_of (into_iter_items c.loop-cells.cells-iterator)) c.loop-cells.made c.loop-cells.pass.numbers _ (ap cells_of none) c.loop-cells.invariant.made)
 
 pub rows_of-returns-clause-paid : goal.rows_of-returns-clause-paid
 rows_of-returns-clause-paid t c =
     let none : into_iter_items c.loop-cells.cells-iterator ≡ [] = nil_from_length _ (sym c.loop-cells.cells-iterator.rest.ok.0 ∙ c.in-None.ensures.steps.0) in
     rows_paid (c.args.depth - 1) c.args.rows (into_iter_items c.loop-cells.cells-iterator) _ _ none c.loop-cells.invariant.paid
 
-pub row_of-read-requires : goal.row_of-read-requires
-row_of-read-requires t c =
-    let next = next_cell c.args.depth (into_iter_items c.loop-cell.cell-iterator) _ c.in-Some.cell c.in_ok-lines.lines c.requires.inner c.in-Some.ensures.steps.0 c.in_ok-lines.ensures in
-    let few : c.loop-cell.pass.looks + 128 * total_at c.args.depth c.in_ok-lines.lines < 2 ^ 119 =
-    omega (arith, c.loop-cell.invariant.paid.no_more, one_row (c.args.depth - 1) c.args.cells.items, next, c.requires.few) in
-    search (rules, few)
-
 pub row_of-returns-in_err-nodes-clause-row : goal.row_of-returns-in_err-nodes-clause-row
 row_of-returns-in_err-nodes-clause-row t c =
     refuses c.from_residual-in_err-nodes.result c.in_err-nodes.field-0.0 _ _ (search rules)
-    (row_keeps c.args.depth c.args.cells.items (into_iter_items c.loop-cell.cell-iterator) _ c.in-Some.cell c.in_ok-lines.lines c.loop-cell.entries.items c.args.pass.now.numbers c.loop-cell.pass.numbers c.in_err-nodes.field-0.0 _ _
+    (row_keeps c.args.depth c.args.cells.items (into_iter_items c.loop-cell.cell-iterator) _ c.in-Some.cell c.in_ok-lines.lines c.loop-cell.entries c.args.pass.now.numbers c.loop-cell.pass.numbers c.in_err-nodes.field-0.0 _ _
     c.requires.inner c.requires.depth c.in-Some.ensures.steps.0 c.in_ok-lines.ensures c.loop-cell.invariant.made c.in_err-nodes.ensures.read)
 
 pub row_of-loop-cell-preserved : goal.row_of-loop-cell-preserved
 row_of-loop-cell-preserved t c = record {
   frames = c.in_ok-nodes.ensures.frames ∙ c.loop-cell.invariant.frames;
-  made = entry_next c.args.depth c.in-Some.cell c.in_ok-lines.lines (into_iter_items c.loop-cell.cell-iterator) _ c.in_ok-nodes.field-0 c.loop-cell.entries.items c.push.new.self.items c.in_ok-entry_of.field-0 c.loop-cell.pass.numbers
-      c.read.new.pass.numbers _ c.requires.inner c.requires.depth c.in-Some.ensures.steps.0 c.in_ok-lines.ensures c.in_ok-nodes.ensures.read c.in_ok-entry_of.ensures c.in_ok-push.ensures.items c.loop-cell.invariant.made;
+  made = entry_next c.args.depth c.in-Some.cell c.in_ok-lines.lines (into_iter_items c.loop-cell.cell-iterator) _ c.in_ok-nodes.field-0 c.loop-cell.entries c.push.new.self c.in_ok-entry_of.field-0 c.loop-cell.pass.numbers
+      c.read.new.pass.numbers _ c.requires.inner c.requires.depth c.in-Some.ensures.steps.0 c.in_ok-lines.ensures c.in_ok-nodes.ensures.read c.in_ok-entry_of.ensures c.in_ok-push.ensures c.loop-cell.invariant.made;
   paid = some_read _ _ _ _ _ _ _ c.loop-cell.invariant.paid (next_cell c.args.depth (into_iter_items c.loop-cell.cell-iterator) _ c.in-Some.cell c.in_ok-lines.lines c.requires.inner c.in-Some.ensures.steps.0 c.in_ok-lines.ensures)
       c.in_ok-nodes.ensures.paid;
 }
@@ -474,7 +435,7 @@ row_of-loop-cell-preserved t c = record {
 pub row_of-returns-clause-row : goal.row_of-returns-clause-row
 row_of-returns-clause-row t c =
     let none : into_iter_items c.loop-cell.cell-iterator ≡ [] = nil_from_length _ (sym c.loop-cell.cell-iterator.rest.ok.0 ∙ c.in-None.ensures.steps.0) in
-    let all = each_ends (entry_of (within_at (c.args.depth - 1))) (into_iter_items c.loop-cell.cell-iterator) c.loop-cell.entries.items c.loop-cell.pass.numbers _ none c.loop-cell.invariant.made in
+    let all = each_ends (entry_of (within_at (c.args.depth - 1))) (into_iter_items c.loop-cell.cell-iterator) c.loop-cell.entries c.loop-cell.pass.numbers _ none c.loop-cell.invariant.made in
     ap (λ (node : Node). just node c.loop-cell.pass.numbers) (rw c.new.ensures at c.in_ok-row.ensures) ∙ sym (ap (then_read (λ (entries : List Node). just (element_of Row [] entries 0))) all)
 
 pub row_of-returns-clause-paid : goal.row_of-returns-clause-paid

@@ -54,13 +54,13 @@ decreases-read_blocks-loop-now l = all_left (2 ^ 64) (250 - l.depth) (source_of 
 abbrev pub invariant-rows_of-loop-cells : goal.invariant-rows_of-loop-cells
 invariant-rows_of-loop-cells l = record {
   frames : l.frames.items ≡ l.fn.frames.items;
-  made : each_after (row_of (within_at (l.depth - 1))) l.made.items (cells_of (into_iter_items l.cells-iterator)) l.pass.numbers ≡ each (row_of (within_at (l.depth - 1))) l.fn.rows l.fn.pass.numbers;
+  made : each_after (row_of (within_at (l.depth - 1))) l.made (cells_of (into_iter_items l.cells-iterator)) l.pass.numbers ≡ each (row_of (within_at (l.depth - 1))) l.fn.rows l.fn.pass.numbers;
   paid : AreLeft (totals (l.depth - 1) (cell_blocks (Table [] 0 l.fn.rows 0))) (totals (l.depth - 1) (row_lines (into_iter_items l.cells-iterator))) l.fn.pass.looks l.pass.looks;
 }
 
 abbrev pub invariant-row_of-loop-cell : goal.invariant-row_of-loop-cell
 invariant-row_of-loop-cell l = record {
   frames : l.frames.items ≡ l.fn.frames.items;
-  made : each_after (entry_of (within_at (l.depth - 1))) l.entries.items (into_iter_items l.cell-iterator) l.pass.numbers ≡ each (entry_of (within_at (l.depth - 1))) l.fn.cells.items l.fn.pass.numbers;
+  made : each_after (entry_of (within_at (l.depth - 1))) l.entries (into_iter_items l.cell-iterator) l.pass.numbers ≡ each (entry_of (within_at (l.depth - 1))) l.fn.cells.items l.fn.pass.numbers;
   paid : AreLeft (totals (l.depth - 1) (cell_lines l.fn.cells.items)) (totals (l.depth - 1) (cell_lines (into_iter_items l.cell-iterator))) l.fn.pass.looks l.pass.looks;
 }

@@ -37,7 +37,7 @@ returns-clause-read c =
       | in_default w ↦ (no_part B c.args.second n w.in_default.is, ap (λ p. p.numbers) w.pass-is ∙ c.in_ok-not_blank.ensures.numbers)
     ] in
     keeps_as c.resume.result _ _ _
-    (ap (λ nodes. resumed c.args.level.now B c.args.waits nodes c.match-second.pass.numbers) c.new.ensures.items
+    (ap (λ nodes. resumed c.args.level.now B c.args.waits nodes c.match-second.pass.numbers) c.none.ensures
     ∙ ap (λ m. resumed c.args.level.now B c.args.waits [] m) blank.1
     ∙ flat_goes_on c.args.level.now B (block_of c.inside.result) c.args.waits c.args.first c.args.second n c.in_ok-not_blank.field-0 c.requires.deepest c.inside.ensures.block c.in_ok-not_blank.ensures.blank blank.0)
     c.resume.ensures.read

@@ -13,12 +13,6 @@ use Rattle.rst_block.proofs.Stack.{next_of_step}
 use Rattle.rst_block_body.proofs.StepsPaid.{takes_then, takes_none}
 use Rattle.rst_block.proofs.machine.next.Goals as goal
 
-pub step_at-requires-clause-few : goal.step_at-requires-clause-few
-step_at-requires-clause-few c = omega (arith, c.loop-level.invariant.takes.no_more, c.requires.few)
-
-pub close-requires : goal.close-requires
-close-requires c = omega (arith, c.loop-level.invariant.takes.no_more, c.requires.few)
-
 pub loop-level-init : goal.loop-level-init
 loop-level-init c = record { on = omega arith; depth = refl; placed = c.requires.placed; reads = refl; takes = takes_none _ _ _ }
 

@@ -27,10 +27,10 @@ returns-in-Quote-clause-read c =
     let B : Block = block_of c.args.view.now in
     let old = c.args.level.now in
     let mid = c.put_quote.new.level in
-    let earlier : List Node = quote_by c.in-Quote.line (option_map box_value c.in-Quote.attribution) c.args.nodes.items in
-    let same : after_quote mid B [] c.in-Quote.rest c.in-Quote.end c.args.pass.now.numbers ≡ resumed old B c.args.waits c.args.nodes.items c.args.pass.now.numbers =
+    let earlier : List Node = quote_by c.in-Quote.line (option_map box_value c.in-Quote.attribution) c.args.nodes in
+    let same : after_quote mid B [] c.in-Quote.rest c.in-Quote.end c.args.pass.now.numbers ≡ resumed old B c.args.waits c.args.nodes c.args.pass.now.numbers =
     after_more old mid B earlier c.in-Quote.rest c.in-Quote.end c.args.pass.now.numbers c.in_ok-put_quote-in-Quote.ensures.more c.requires.placed
-    ∙ ap (λ w. resumed old B w c.args.nodes.items c.args.pass.now.numbers) (sym c.in-Quote.is) in
+    ∙ ap (λ w. resumed old B w c.args.nodes c.args.pass.now.numbers) (sym c.in-Quote.is) in
     keeps_as c.after_quote.result _ _ _ same c.after_quote.ensures.read
 
 pub returns-clause-kept : goal.returns-clause-kept
@@ -51,7 +51,7 @@ returns-clause-read c =
     let n = c.args.pass.now.numbers in
     let old = c.args.level.now in
     let last = c.match-waits.level in
-    let ns : List Node = c.args.nodes.items in
+    let ns : List Node = c.args.nodes in
     elim c.match-waits.branch [
       | in-ListItem+in_ok-item-in-ListItem+in_ok-push_item-in-ListItem w ↦
           let item : Node = element_of ListItem [] ns w.in-ListItem.line in

@@ -68,5 +68,5 @@ returns-clause-paid c =
     let moved = c.go_to.ensures.moved in
     gives_kept _ _ c.push_heading.result c.push_heading.ensures.title
     (λ _ h. paid_flat 27 c.push_heading.new.self c.args.pass.now.looks c.heading_of.new.pass.looks found tt c.in_ok-close.ensures.closed (h.depth ∙ moved.depth) (h.run ∙ moved.run) (h.at ∙ at)
-    (omega (arith, c.close.ensures.run, c.in_ok-lines.ensures.each, looked, c.text_at-text.ensures.few, c.heading_of.ensures.looks))
+    (omega (arith, c.close.ensures.run, c.source.ensures.most, stop, c.close.ensures.at, c.text_at-text.ensures.few, c.heading_of.ensures.looks))
     (omega (arith, c.close.ensures.low, c.in_ok-lines.ensures.each, looked, c.text_at-text.ensures.low, c.heading_of.ensures.looks)))

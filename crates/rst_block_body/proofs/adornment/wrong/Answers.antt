@@ -54,4 +54,4 @@ returns-clause-paid c =
     let moved = c.go_to.ensures.moved in
     gives_kept _ _ c.push.result c.push.ensures.more
     (λ _ h. paid_flat 27 c.push.new.self c.args.pass.now.looks c.source.new.looks found tt c.in_ok-close.ensures.closed (h.depth ∙ moved.depth) (h.run ∙ moved.run) (h.at ∙ at)
-    (omega (arith, c.close.ensures.run, c.in_ok-block.ensures.each, looked)) (omega (arith, c.close.ensures.low, c.in_ok-block.ensures.each, looked)))
+    (omega (arith, c.close.ensures.run, c.source.ensures.most, stop, c.close.ensures.at)) (omega (arith, c.close.ensures.low, c.in_ok-block.ensures.each, looked)))

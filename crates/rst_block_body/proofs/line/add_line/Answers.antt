@@ -15,7 +15,7 @@ returns-clause-line c =
       | in-Lines+in_ok-push w ↦ (
         record {
           depth = ap (λ (m : OpenBlock). m.depth) w.level-is;
-          nodes = ap (λ (m : OpenBlock). m.nodes.items) w.level-is;
+          nodes = ap (λ (m : OpenBlock). m.nodes) w.level-is;
           headings = ap (λ (m : OpenBlock). m.headings.items) w.level-is;
           run = ap (λ (m : OpenBlock). open_of m.run) w.level-is
               ∙ line_pushed w.in-Lines.lines.items w.push.new.self.items c.args.text c.args.end w.in-Lines.last w.in_ok-push.ensures.items
@@ -26,7 +26,7 @@ returns-clause-line c =
       | in_default w ↦ (
         record {
           depth = ap (λ (m : OpenBlock). m.depth) w.level-is;
-          nodes = ap (λ (m : OpenBlock). m.nodes.items) w.level-is;
+          nodes = ap (λ (m : OpenBlock). m.nodes) w.level-is;
           headings = ap (λ (m : OpenBlock). m.headings.items) w.level-is;
           run = ap (λ (m : OpenBlock). open_of m.run) w.level-is ∙ other_stays l.run c.args.text c.args.end w.in_default.not-Lines;
         },

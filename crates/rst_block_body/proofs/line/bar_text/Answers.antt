@@ -35,9 +35,9 @@ returns-clause-line c =
 pub returns-then-marker-clause-most : goal.returns-then-marker-clause-most
 returns-then-marker-clause-most c =
     let Y : Block = block_of c.lines_between-below.result in
-    omega (arith, reach_le (extent 1 Y) Y (extent_le 1 Y), c.lines_between-below.ensures.few, c.indented.ensures.reach, c.inside-below.ensures.fewer, c.in_ok-further.ensures.each)
+    omega (arith, reach_le (extent 1 Y) Y (extent_le 1 Y), c.lines_between-below.ensures.few, c.indented.ensures.reach, c.inside-below.ensures.fewer, c.joined.ensures.most)
 
 pub returns-clause-most : goal.returns-clause-most
 returns-clause-most c =
     let Y : Block = block_of c.lines_between-below.result in
-    omega (arith, reach_le (extent 1 Y) Y (extent_le 1 Y), c.lines_between-below.ensures.few, c.indented.ensures.reach, c.inside-below.ensures.fewer, c.in_ok-further.ensures.each, c.line.ensures.looks)
+    omega (arith, reach_le (extent 1 Y) Y (extent_le 1 Y), c.lines_between-below.ensures.few, c.indented.ensures.reach, c.inside-below.ensures.fewer, c.joined.ensures.most, c.line.ensures.looks)

@@ -41,7 +41,7 @@ returns-clause-paid c =
     let at : c.close.new.self.at ≡ l.at = c.close.ensures.at in
     let stop : c.lines_end-end.result ≡ l.at + doctest_size (drop l.at B) = doctest_end B c.close.new.self.at l.at c.lines_end-end.result at c.lines_end-end.ensures.end in
     let goes : c.go_to.new.self.at ≡ c.lines_end-end.result = c.go_to.ensures.there (omega (arith, stop, at, next_some (next_of Doctest l B c.requires.begun tt) c.requires.inside)) in
-    let looks = doctest_looks B c.close.new.self.at l.at c.lines_end-end.result _ _ _ _ _ at c.lines_end-end.ensures.end c.close.ensures.low c.close.ensures.run c.lines_end-end.ensures.looks c.lines_end-end.ensures.low c.in_ok-text.ensures.each in
+    let looks = doctest_looks B c.close.new.self.at l.at c.lines_end-end.result _ _ _ _ _ at c.lines_end-end.ensures.end c.close.ensures.low c.close.ensures.run c.lines_end-end.ensures.looks c.lines_end-end.ensures.low c.source.ensures.most c.in_ok-text.ensures.each in
     gives_kept _ _ c.push.result c.push.ensures.more
     (λ _ h. paid_alone 29 Doctest l c.close.new.self c.go_to.new.self c.push.new.self B _ _ (c.in_ok-node.node ∷ []) _ _ c.requires.begun tt refl refl
     c.in_ok-close.ensures.closed c.go_to.ensures.moved (goes ∙ stop) h looks.0 (omega (arith, looks.1)))

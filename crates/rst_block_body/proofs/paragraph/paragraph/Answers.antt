@@ -7,7 +7,7 @@ use Rattle.rst_block_state.specs.Texts.{joined}
 use Rattle.rst_block_state.proofs.Calls.{gives_map}
 use Rattle.rst_block_state.proofs.Changes.{more_as}
 use Rattle.rst_block_body.proofs.ParagraphLemmas.{IsParagraph, ends_later, between_all, end_all, one_line}
-use Rattle.rst_block_body.proofs.ParagraphsPaid.{one_again, each_again, paragraph_most, paragraph_least}
+use Rattle.rst_block_body.proofs.ParagraphsPaid.{one_again, paragraph_most, paragraph_least}
 use Rattle.rst_block_body.proofs.paragraph.paragraph.Goals as goal
 
 pub returns-then-end-at-clause-read : goal.returns-then-end-at-clause-read
@@ -94,8 +94,7 @@ returns-clause-most c =
       end = c.lines_end-end.ensures.end;
       text = ap chars c.as_str.ensures.value ∙ c.in_ok-text.ensures.text;
     } in
-    let again = each_again B at end _ _ c.in_ok-text.ensures.each in
-    IfOk-weaker c.paragraph_of-2.result _ _ (λ _ g. paragraph_most B at end t _ _ _ _ p c.lines_end-end.ensures.few again.0 g) c.paragraph_of-2.ensures.most
+    IfOk-weaker c.paragraph_of-2.result _ _ (λ _ g. paragraph_most B at end t _ _ _ _ p c.lines_end-end.ensures.few c.source.ensures.most g) c.paragraph_of-2.ensures.most
 
 pub returns-clause-low : goal.returns-clause-low
 returns-clause-low c =
@@ -109,5 +108,4 @@ returns-clause-low c =
       end = c.lines_end-end.ensures.end;
       text = ap chars c.as_str.ensures.value ∙ c.in_ok-text.ensures.text;
     } in
-    let again = each_again B at end _ _ c.in_ok-text.ensures.each in
-    IfOk-weaker c.paragraph_of-2.result _ _ (λ _ g. paragraph_least B at end t _ _ _ _ p c.lines_end-end.ensures.low again.1 g) c.paragraph_of-2.ensures.low
+    IfOk-weaker c.paragraph_of-2.result _ _ (λ _ g. paragraph_least B at end t _ _ _ _ p c.lines_end-end.ensures.low (omega (arith, c.in_ok-text.ensures.each)) g) c.paragraph_of-2.ensures.low

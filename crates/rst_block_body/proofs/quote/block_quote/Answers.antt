@@ -41,5 +41,5 @@ pub returns-clause-paid : goal.returns-clause-paid
 returns-clause-paid c =
     IfOk-weaker c.quote_part.result _ _
     (λ s h. block_quote_paid c.args.level.now c.close.new.self c.quote_part.new.level (block_of c.args.view.now) c.indented-quote.result s _ _ _ _ _ _ c.requires.inside c.requires.begun
-    c.in_ok-close.ensures.closed c.close.ensures.low c.close.ensures.run c.indented-quote.ensures.part c.indented-quote.ensures.reach h)
+    c.in_ok-close.ensures.closed c.close.ensures.low c.close.ensures.run c.indented-quote.ensures.part c.indented-quote.ensures.reach c.indented-quote.ensures.low h)
     c.quote_part.ensures.paid

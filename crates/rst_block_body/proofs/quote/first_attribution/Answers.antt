@@ -3,10 +3,8 @@ use Rattle.std.proofs.lemmas.List.{drop-drop}
 use Rattle.rst_text.specs.Block.{Block}
 use Rattle.rst_text.specs.Shown.{block_of}
 use Rattle.rst_markup_blocks.specs.Lines.{lines_while}
-use Rattle.rst_markup_blocks.specs.RowLaws.{while_le}
 use Rattle.rst_markup_blocks.specs.declared.lines.LineTest.TheVariants.{Filled}
 use Rattle.rst_block_body.proofs.AttributionsFound.{Unfound-start, Unfound-step, Unfound-found, Unfound-blank, Unfound-end, attribution_end}
-use Rattle.rst_block_state.proofs.Views.{few_lines}
 use Rattle.rst_block_body.proofs.quote.first_attribution.Goals as goal
 
 pub loop-end-init : goal.loop-end-init
@@ -20,11 +18,6 @@ loop-end-init c = record {
 pub returns-in-Some-clause-first : goal.returns-in-Some-clause-first
 returns-in-Some-clause-first c =
     Unfound-found (block_of c.args.lines.now) c.loop-end.end c.lines_end-place.result c.in-Some.found c.loop-end.invariant.unfound c.lines_end-place.ensures.end (omega arith) c.in-Some.ensures.attribution
-
-pub returns-in-Some-clause-looks : goal.returns-in-Some-clause-looks
-returns-in-Some-clause-looks c =
-    let B : Block = block_of c.args.lines.now in
-    omega (arith, few_lines c.args.lines.now, c.lines_end-place.ensures.end, c.lines_end-place.ensures.few, c.lines_end-place.ensures.within, c.attribution_at.ensures.looks, c.loop-end.invariant.within, c.loop-end.invariant.looks, while_le Filled (drop 1 (drop c.lines_end-place.result B)), length-drop 1 (drop c.lines_end-place.result B), length-drop c.lines_end-place.result B)
 
 pub returns-then-place-len-clause-first : goal.returns-then-place-len-clause-first
 returns-then-place-len-clause-first c =
@@ -44,11 +37,6 @@ loop-end-preserved c =
       unfound = Unfound-step B c.loop-end.end c.lines_end-place.result c.lines_end-end-in-None.result c.loop-end.invariant.unfound c.lines_end-place.ensures.end (omega arith) (length-drop (c.loop-end.end + 1) B)
           c.in-None.ensures.attribution c.lines_end-end-in-None.ensures.end;
     }
-
-pub lines_end-end-requires-in-None-clause-few : goal.lines_end-end-requires-in-None-clause-few
-lines_end-end-requires-in-None-clause-few c =
-    let B : Block = block_of c.args.lines.now in
-    omega (arith, few_lines c.args.lines.now, c.requires.few, c.lines_end-place.ensures.end, c.lines_end-place.ensures.few, c.lines_end-place.ensures.within, c.attribution_at.ensures.looks, c.loop-end.invariant.within, c.loop-end.invariant.looks, while_le Filled (drop 1 (drop c.lines_end-place.result B)), length-drop 1 (drop c.lines_end-place.result B), length-drop c.lines_end-place.result B)
 
 pub returns-in-Some-clause-through : goal.returns-in-Some-clause-through
 returns-in-Some-clause-through c =

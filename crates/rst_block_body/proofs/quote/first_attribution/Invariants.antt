@@ -1,4 +1,5 @@
 use Rattle.std.proofs.Common.{◌+◌, ◌-◌, ◌*◌, ◌≤◌, length}
+use Rattle.rst_text.specs.Looked.{capped}
 use Rattle.rst_text.specs.Shown.{block_of}
 use Rattle.rst_block_body.proofs.AttributionsFound.{Unfound}
 use Rattle.rst_block_body.proofs.quote.first_attribution.Given as goal
@@ -7,7 +8,7 @@ abbrev pub invariant-loop-end : goal.invariant-loop-end
 invariant-loop-end l = record {
   within : l.end ≤ length (block_of l.fn.lines);
   looks : l.looks ≤ l.fn.looks + 5 * l.end + 1;
-  low : l.fn.looks ≤ l.looks;
+  low : capped l.fn.looks ≤ l.looks;
   unfound : Unfound (block_of l.fn.lines) l.end;
 }
 

@@ -101,7 +101,7 @@ returns-in_ok-paragraph-in-Paragraph-clause-paid c =
     let some = c.in_ok-append-in-Paragraph.ensures.more in
     let gone = c.in_ok-paragraph-in-Paragraph.ensures.read.gone in
     let at : c.append.new.self.at ≡ l.at = c.append.ensures.at ∙ c.close.ensures.at in
-    let looks = paragraph_looks B c.append.new.self.at (run_looks l.run) at c.close.ensures.low c.close.ensures.run c.in_ok-paragraph-in-Paragraph.ensures.most c.in_ok-paragraph-in-Paragraph.ensures.low in
+    let looks = paragraph_looks B c.append.new.self.at (run_looks l.run) c.below_text-next.new.looks at c.close.ensures.low c.close.ensures.run c.in_ok-paragraph-in-Paragraph.ensures.most c.in_ok-paragraph-in-Paragraph.ensures.low in
     paid_text c.requires.inside c.line-text.ensures.looks next.low next.looks
     (paid_flat 25 c.paragraph.new.level _ _ (next_of_form c.args.infos.items c.requires.text form) tt c.in_ok-close-in-Paragraph.ensures.closed (gone.depth ∙ some.depth) (gone.run ∙ some.run)
     (gone.at ∙ ap (λ i. i + paragraph_size (drop i B)) at) looks.0 looks.1)
@@ -116,7 +116,7 @@ returns-in_ok-paragraph-in-ShortUnderline-clause-paid c =
     let info = c.in_ok-put_short_underline-in-ShortUnderline.ensures.more in
     let gone = c.in_ok-paragraph-in-ShortUnderline.ensures.read.gone in
     let at : c.put_short_underline.new.level.at ≡ l.at = c.put_short_underline.ensures.at ∙ c.append-in-ShortUnderline.ensures.at ∙ c.close-in-ShortUnderline.ensures.at in
-    let looks = paragraph_looks B c.put_short_underline.new.level.at (run_looks l.run) at c.close-in-ShortUnderline.ensures.low c.close-in-ShortUnderline.ensures.run c.in_ok-paragraph-in-ShortUnderline.ensures.most
+    let looks = paragraph_looks B c.put_short_underline.new.level.at (run_looks l.run) c.below_text-next.new.looks at c.close-in-ShortUnderline.ensures.low c.close-in-ShortUnderline.ensures.run c.in_ok-paragraph-in-ShortUnderline.ensures.most
     c.in_ok-paragraph-in-ShortUnderline.ensures.low in
     paid_text c.requires.inside c.line-text.ensures.looks next.low next.looks
     (paid_flat 25 c.paragraph-in-ShortUnderline.new.level _ _ (next_of_form c.args.infos.items c.requires.text form) tt c.in_ok-close-in-ShortUnderline.ensures.closed (gone.depth ∙ info.depth ∙ some.depth)

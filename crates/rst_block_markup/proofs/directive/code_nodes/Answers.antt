@@ -10,5 +10,4 @@ returns-clause-step c = c.put.ensures.step (block_of c.args.view.now)
 pub returns-clause-paid : goal.returns-clause-paid
 returns-clause-paid c =
     let B : Block = block_of c.args.view.now in
-    let looks = c.in_ok-text.ensures.each in
-    opened_within _ _ _ B _ _ _ _ _ c.put.result (omega (arith, looks)) (omega (arith, looks, c.inside.ensures.lines)) refl (c.put.ensures.paid B _ _)
+    opened_within _ _ _ B _ _ _ _ _ c.put.result (omega (arith, c.in_ok-text.ensures.each)) (omega (arith, c.joined.ensures.most, c.inside.ensures.lines)) refl (c.put.ensures.paid B _ _)

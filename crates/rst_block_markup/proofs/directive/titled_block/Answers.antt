@@ -18,5 +18,4 @@ returns-clause-read c =
 pub returns-clause-paid : goal.returns-clause-paid
 returns-clause-paid c =
     let B : Block = block_of c.args.view.now in
-    let looks = c.in_ok-node.ensures.each in
-    opened_within _ _ _ B _ _ _ _ _ (Ok c.opened.result) (omega (arith, looks)) (omega (arith, looks)) refl (c.opened.ensures.paid B _ _)
+    opened_within _ _ _ B _ _ _ _ _ (Ok c.opened.result) (omega (arith, c.in_ok-node.ensures.each)) (omega (arith, c.titled.ensures.most)) refl (c.opened.ensures.paid B _ _)

@@ -33,4 +33,4 @@ pub returns-clause-paid : goal.returns-clause-paid
 returns-clause-paid c =
     let more = more_more (moved_more c.go_to.ensures.moved (c.go_to.ensures.there c.requires.later) c.in_ok-push.ensures.more) c.in_ok-put_cause.ensures.more in
     let part = c.args.text in
-    opens_none (part.to - part.from) (block_of c.args.view.now) _ _ more (omega (arith, c.in_ok-lines.ensures.each)) (omega (arith, c.in_ok-lines.ensures.each, c.inside.ensures.lines))
+    opens_none (part.to - part.from) (block_of c.args.view.now) _ _ more (omega (arith, c.in_ok-lines.ensures.each)) (omega (arith, c.joined.ensures.most, c.inside.ensures.lines))

@@ -11,6 +11,6 @@ pub returns-then-len-eq0 : goal.returns-then-len-eq0
 returns-then-len-eq0 c =
     let inside = c.in-Element in
     let none : nodes_of inside.children ≡ [] = nil_from_length _ (omega (arith, c.len.ensures, c.if-len-eq0.true)) in
-    let is : Element inside.tag inside.attrs (forest_of c.args.more.items) inside.line ≡ filled c.args.element c.args.more.items =
-    ap (λ ns. Element inside.tag inside.attrs (forest_of (ns ++ c.args.more.items)) inside.line) (sym none) ∙ ap (λ n. filled n c.args.more.items) (sym inside.is) in
-    subst (λ (n : Node). Gives (λ m. m ≡ n) c.element.result) is c.element.ensures
+    let is : Element inside.tag inside.attrs (forest_of c.args.more) inside.line ≡ filled c.args.element c.args.more =
+    ap (λ ns. Element inside.tag inside.attrs (forest_of (ns ++ c.args.more)) inside.line) (sym none) ∙ ap (λ n. filled n c.args.more) (sym inside.is) in
+    subst (λ (n : Node). Gives (λ m. m ≡ n) c.into_element.result) is c.into_element.ensures

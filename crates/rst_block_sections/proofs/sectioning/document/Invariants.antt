@@ -6,4 +6,4 @@ use Rattle.rst_block_sections.proofs.sectioning.document.Given as goal
 
 abbrev pub invariant-loop-heading : goal.invariant-loop-heading
 invariant-loop-heading l =
-    goes_on l.sections (items_from l.done (into_iter_items l.nodes) (into_iter_items l.heading-iterator)) ≡ document_of (items_from 0 l.fn.nodes.items l.fn.headings.items)
+    goes_on l.sections (items_from l.done l.nodes (into_iter_items l.heading-iterator)) ≡ document_of (items_from 0 l.fn.nodes l.fn.headings.items)

@@ -1,40 +1,37 @@
 use Rattle.std.proofs.Common.{◌≡◌, ◌++◌, [], ◌∷◌, take, drop, ap, sym, ◌∙◌, refl, arith, append_assoc}
-use Rattle.std.proofs.lemmas.List.{append-nil, nil_from_length}
-use Rattle.std.specs.Vec.Iter.{into_iter_items}
+use Rattle.std.proofs.lemmas.List.{append-nil}
 use Rattle.rst_block_sections.proofs.SectionLemmas.{one_moved, all_moved}
 use Rattle.rst_block_sections.proofs.sectioning.move_front.Goals as goal
 
 pub loop-done-init : goal.loop-done-init
-loop-done-init c = (c.in_ok-reserve.ensures.items ∙ sym (append-nil c.args.to.now.items), refl)
+loop-done-init c = (sym (append-nil c.args.to.now), refl)
 
 pub loop-done-preserved : goal.loop-done-preserved
 loop-done-preserved c =
-    let all = into_iter_items c.args.nodes.now in
-    let moved = one_moved all (into_iter_items c.loop-done.nodes) (into_iter_items c.next.new.self) c.loop-done._done c.in-Some.node c.loop-done.invariant.1 c.in-Some.ensures.items in (
-      c.in_ok-push-in-Some.ensures.items ∙ ap (λ xs. xs ++ c.in-Some.node ∷ []) c.loop-done.invariant.0 ∙ append_assoc c.args.to.now.items (take c.loop-done._done all) (c.in-Some.node ∷ [])
-          ∙ ap (λ xs. c.args.to.now.items ++ xs) (sym moved.0),
+    let all = c.args.nodes.now in
+    let moved = one_moved all c.loop-done.nodes c.next.new.self c.loop-done._done c.in-Some.node c.loop-done.invariant.1 c.in-Some.ensures.items in (
+      c.in_ok-push-in-Some.ensures ∙ ap (λ xs. xs ++ c.in-Some.node ∷ []) c.loop-done.invariant.0 ∙ append_assoc c.args.to.now (take c.loop-done._done all) (c.in-Some.node ∷ [])
+          ∙ ap (λ xs. c.args.to.now ++ xs) (sym moved.0),
       moved.1,
     )
 
 pub returns-in-None-clause-moved : goal.returns-in-None-clause-moved
 returns-in-None-clause-moved c =
-    let all = into_iter_items c.args.nodes.now in
-    let none : into_iter_items c.loop-done.nodes ≡ [] = nil_from_length _ (sym c.loop-done.nodes.rest.ok.0 ∙ c.in-None.ensures.cases.0) in
+    let all = c.args.nodes.now in
     c.loop-done.invariant.0
-    ∙ ap (λ xs. c.args.to.now.items ++ xs) (all_moved all (into_iter_items c.loop-done.nodes) c.loop-done._done c.args.count c.loop-done.invariant.1 none (omega arith)).0
+    ∙ ap (λ xs. c.args.to.now ++ xs) (all_moved all c.loop-done.nodes c.loop-done._done c.args.count c.loop-done.invariant.1 (c.in-None.ensures.none refl) (omega arith)).0
 
 pub returns-in-None-clause-left : goal.returns-in-None-clause-left
 returns-in-None-clause-left c =
-    let all = into_iter_items c.args.nodes.now in
-    let none : into_iter_items c.loop-done.nodes ≡ [] = nil_from_length _ (sym c.loop-done.nodes.rest.ok.0 ∙ c.in-None.ensures.cases.0) in
-    sym c.in-None.ensures.items ∙ (all_moved all (into_iter_items c.loop-done.nodes) c.loop-done._done c.args.count c.loop-done.invariant.1 none (omega arith)).1
+    let all = c.args.nodes.now in
+    sym c.in-None.ensures.items ∙ (all_moved all c.loop-done.nodes c.loop-done._done c.args.count c.loop-done.invariant.1 (c.in-None.ensures.none refl) (omega arith)).1
 
 pub returns-clause-moved : goal.returns-clause-moved
 returns-clause-moved c =
     let e : c.loop-done._done ≡ c.args.count = omega arith in
-    c.loop-done.invariant.0 ∙ ap (λ n. c.args.to.now.items ++ take n (into_iter_items c.args.nodes.now)) e
+    c.loop-done.invariant.0 ∙ ap (λ n. c.args.to.now ++ take n c.args.nodes.now) e
 
 pub returns-clause-left : goal.returns-clause-left
 returns-clause-left c =
     let e : c.loop-done._done ≡ c.args.count = omega arith in
-    c.loop-done.invariant.1 ∙ ap (λ n. drop n (into_iter_items c.args.nodes.now)) e
+    c.loop-done.invariant.1 ∙ ap (λ n. drop n c.args.nodes.now) e

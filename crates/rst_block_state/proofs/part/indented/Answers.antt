@@ -1,18 +1,14 @@
-use Rattle.std.proofs.Common.{drop, length-drop, arith}
+use Rattle.std.proofs.Common.{drop, arith}
 use Rattle.rst_text.specs.Shown.{block_of}
 use Rattle.rst_text.proofs.Reaches.{looked_is}
-use Rattle.rst_markup_blocks.proofs.EndLemmas.{looked_le}
 use Rattle.rst_block_state.proofs.Blocks.{indented_block}
-use Rattle.rst_block_state.proofs.Views.{few_lines}
 use Rattle.rst_block_state.proofs.part.indented.Goals as goal
 
 pub returns-clause-block : goal.returns-clause-block
 returns-clause-block c = indented_block (block_of c.args.view.now) c.args.from c.block_end-extent.result c.requires.inside c.block_end-extent.ensures.extent
 
-pub returns-clause-looks : goal.returns-clause-looks
-returns-clause-looks c =
-    let B = block_of c.args.view.now in
-    omega (arith, c.block_end-extent.ensures.looks, looked_le 1 (drop c.args.from B), length-drop c.args.from B, few_lines c.args.view.now)
-
 pub returns-clause-reach : goal.returns-clause-reach
 returns-clause-reach c = omega (arith, c.block_end-extent.ensures.looks, looked_is 1 (drop c.args.from (block_of c.args.view.now)))
+
+pub returns-clause-low : goal.returns-clause-low
+returns-clause-low c = omega (arith, c.block_end-extent.ensures.low, looked_is 1 (drop c.args.from (block_of c.args.view.now)))

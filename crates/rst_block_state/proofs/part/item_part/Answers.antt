@@ -3,17 +3,12 @@ use Rattle.rst_text.specs.Block.{Block}
 use Rattle.rst_text.specs.Reach.{reach}
 use Rattle.rst_text.specs.Shown.{block_of}
 use Rattle.rst_block_state.proofs.Blocks.{item_block}
-use Rattle.rst_block_state.proofs.Looked.{bare_item, reach_item}
-use Rattle.rst_block_state.proofs.Views.{few_lines}
+use Rattle.rst_block_state.proofs.Looked.{bare_item}
 use Rattle.rst_block_state.proofs.part.item_part.Goals as goal
 
 pub returns-clause-block : goal.returns-clause-block
 returns-clause-block c =
     item_block (block_of c.args.view.now) c.args.at c.item_end.result c.args.marker c.requires.inside c.if-marker.false c.item_end.ensures.end
-
-pub returns-clause-looks : goal.returns-clause-looks
-returns-clause-looks c =
-    omega (arith, c.item_end.ensures.looks, reach_item (block_of c.args.view.now) c.args.at c.args.marker c.requires.inside, few_lines c.args.view.now)
 
 pub returns-then-marker-clause-reach : goal.returns-then-marker-clause-reach
 returns-then-marker-clause-reach c =

@@ -23,6 +23,7 @@ loop-i-preserved c =
       text = spelled_step i B front between (string_bytes c.push_str.new.self) c.line.result.now (omega arith) c.loop-i.invariant.text
           (sym (encodes-chars c.line.result.now c.line.utf8) ∙ ap encode_utf8_all c.line.ensures.text) cases c.in_ok-push_str.ensures.bytes;
       looks = omega arith;
+      low = omega arith;
     }
 
 pub returns-clause-text : goal.returns-clause-text

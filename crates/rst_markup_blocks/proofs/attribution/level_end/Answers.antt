@@ -30,6 +30,7 @@ loop-i-preserved c =
       end = level_more c.args.indent c.loop-i.i B _ some same c.loop-i.invariant.end;
       lines = sym (while_more c.loop-i.i Filled B (omega arith) pass) ∙ c.loop-i.invariant.lines;
       looks = omega (arith, c.line-text.ensures.looks, c.loop-i.invariant.looks);
+      low = omega (arith, c.line-text.ensures.looks, c.loop-i.invariant.low);
     }
 
 pub returns-clause-end : goal.returns-clause-end

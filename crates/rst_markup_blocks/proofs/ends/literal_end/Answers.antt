@@ -1,4 +1,4 @@
-use Rattle.std.proofs.Common.{◌≡◌, ℕ, ◌+◌, Some, None, true, false, drop, length-drop, ap, sym, ◌∙◌, arith}
+use Rattle.std.proofs.Common.{◌≡◌, ℕ, ◌+◌, Some, None, true, false, drop, ap, sym, ◌∙◌, arith}
 use Rattle.rst_text.specs.Block.{Block, front_text}
 use Rattle.rst_text.specs.Extent.{extent}
 use Rattle.rst_text.specs.Reach.{reach, through_text}
@@ -9,7 +9,7 @@ use Rattle.rst_markup_blocks.specs.declared.lines.LineTest.TheVariants.{Blank, B
 use Rattle.rst_markup_blocks.specs.Lines.{lines_while}
 use Rattle.rst_markup_blocks.specs.Sizes.{literal_size}
 use Rattle.rst_markup_blocks.proofs.LineLemmas.{drop_far}
-use Rattle.rst_markup_blocks.proofs.EndLemmas.{looked_le, literal_indented, literal_other, quoted_there, quoted_other, quoted_none, looked_indented, looked_none, reach_none, blank_reach, through_behind, looked_quoted}
+use Rattle.rst_markup_blocks.proofs.EndLemmas.{literal_indented, literal_other, quoted_there, quoted_other, quoted_none, looked_indented, looked_none, reach_none, blank_reach, through_behind, looked_quoted}
 use Rattle.rst_markup_blocks.proofs.ends.literal_end.Goals as goal
 
 pub returns-then-from-indented-clause-end : goal.returns-then-from-indented-clause-end
@@ -24,24 +24,9 @@ returns-then-from-indented-clause-looks c =
     let end : c.block_end-indented.result.end ≡ c.args.from + extent 1 Y = ap (λ e. e.end) c.block_end-indented.ensures.extent in
     omega (arith, looked_indented Y (omega arith), c.block_end-indented.ensures.looks)
 
-pub lines_end-start-requires-clause-few : goal.lines_end-start-requires-clause-few
-lines_end-start-requires-clause-few c =
-    let Y : Block = drop c.args.from (block_of c.args.view.now) in
-    omega (arith, c.block_end-indented.ensures.looks, looked_le 1 Y, length-drop c.args.from (block_of c.args.view.now))
-
-pub text_at-requires : goal.text_at-requires
-text_at-requires c =
-    let Y : Block = drop c.args.from (block_of c.args.view.now) in
-    omega (arith, c.block_end-indented.ensures.looks, looked_le 1 Y, length-drop c.args.from (block_of c.args.view.now), c.lines_end-start.ensures.few, c.lines_end-start.ensures.end)
-
 -- the blank lines that were looked at, and the line behind them
 behind_blank : (from k b : ℕ) (B : Block) → k ≡ from + b → drop k B ≡ drop b (drop from B)
 behind_blank from k b B e = ap (λ j. drop j B) e ∙ drop_far from b B
-
-pub lines_end-requires-clause-few : goal.lines_end-requires-clause-few
-lines_end-requires-clause-few c =
-    let Y : Block = drop c.args.from (block_of c.args.view.now) in
-    omega (arith, c.block_end-indented.ensures.looks, looked_le 1 Y, length-drop c.args.from (block_of c.args.view.now), c.lines_end-start.ensures.few, c.lines_end-start.ensures.end, c.text_at.ensures.few)
 
 pub returns-in-Some-clause-end : goal.returns-in-Some-clause-end
 returns-in-Some-clause-end c =

@@ -17,9 +17,6 @@ last i end n B text e some t =
 behind : (i end n : ℕ) (B : Block) → end ≡ i + n → drop end B ≡ drop n (drop i B)
 behind i end n B e = ap (λ m. drop m B) e ∙ drop_far i n B
 
-pub literal_end-requires-clause-few : goal.literal_end-requires-clause-few
-literal_end-requires-clause-few c = omega (arith, c.run_below_end-end.ensures.few, c.run_below_end-end.ensures.end, c.text_at.ensures.few)
-
 pub returns-then-ends_in_colons-clause-end : goal.returns-then-ends_in_colons-clause-end
 returns-then-ends_in_colons-clause-end c =
     let B : Block = block_of c.args.view.now in

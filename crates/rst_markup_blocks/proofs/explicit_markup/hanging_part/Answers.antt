@@ -8,15 +8,9 @@ use Rattle.rst_markup_blocks.specs.Lines.{lines_while}
 use Rattle.rst_markup_blocks.specs.ExplicitMarkup.{least_of}
 use Rattle.rst_markup_blocks.specs.Sizes.{hanging_size}
 use Rattle.rst_markup_blocks.proofs.LineLemmas.{drop_one}
-use Rattle.rst_markup_blocks.proofs.EndLemmas.{looked_le}
 use Rattle.rst_markup_blocks.proofs.PartLemmas.{part_text, part_bare, looked_hanging, hanging_is, blank_below}
 use Rattle.rst_text.proofs.Reaches.{looked_is}
 use Rattle.rst_markup_blocks.proofs.explicit_markup.hanging_part.Goals as goal
-
-pub lines_end-start-requires-clause-few : goal.lines_end-start-requires-clause-few
-lines_end-start-requires-clause-few c =
-    let B : Block = block_of c.args.view.now in
-    omega (arith, c.block_end-extent.ensures.looks, looked_le 1 (drop (c.args.i + 1) B), length-drop (c.args.i + 1) B)
 
 pub returns-then-not-bare-clause-part : goal.returns-then-not-bare-clause-part
 returns-then-not-bare-clause-part c =
@@ -55,9 +49,9 @@ returns-clause-looks c =
 pub returns-then-not-bare-clause-low : goal.returns-then-not-bare-clause-low
 returns-then-not-bare-clause-low c =
     let B : Block = block_of c.args.view.now in
-    omega (arith, c.block_end-extent.ensures.looks, looked_is 1 (drop (c.args.i + 1) B), hanging_is (drop c.args.i B), ap (λ Y. extent 1 Y) (drop_one c.args.i B))
+    omega (arith, c.block_end-extent.ensures.low, looked_is 1 (drop (c.args.i + 1) B), hanging_is (drop c.args.i B), ap (λ Y. extent 1 Y) (drop_one c.args.i B))
 
 pub returns-clause-low : goal.returns-clause-low
 returns-clause-low c =
     let B : Block = block_of c.args.view.now in
-    omega (arith, c.block_end-extent.ensures.looks, c.lines_end-start.ensures.low, looked_is 1 (drop (c.args.i + 1) B), hanging_is (drop c.args.i B), ap (λ Y. extent 1 Y) (drop_one c.args.i B))
+    omega (arith, c.block_end-extent.ensures.low, c.lines_end-start.ensures.low, looked_is 1 (drop (c.args.i + 1) B), hanging_is (drop c.args.i B), ap (λ Y. extent 1 Y) (drop_one c.args.i B))

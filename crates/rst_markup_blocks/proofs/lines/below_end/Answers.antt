@@ -20,4 +20,4 @@ returns-clause-looks c =
 pub returns-clause-low : goal.returns-clause-low
 returns-clause-low c =
     let B : Block = block_of c.args.view.now in
-    omega (arith, c.block_end.ensures.looks, looked_is c.args.least (drop (c.args.i + 1) B), ap (λ X. extent c.args.least X) (drop_one c.args.i B))
+    omega (arith, c.block_end.ensures.low, looked_is c.args.least (drop (c.args.i + 1) B), ap (λ X. extent c.args.least X) (drop_one c.args.i B))

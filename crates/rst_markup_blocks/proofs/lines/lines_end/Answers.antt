@@ -14,6 +14,7 @@ loop-i-preserved c =
       at_line = search rules;
       place = sym more ∙ c.loop-i.invariant.place;
       looks = omega (arith, c.line.ensures.looks, c.loop-i.invariant.looks);
+      low = omega (arith, c.line.ensures.looks, c.loop-i.invariant.low);
     }
 
 pub returns-after-loop-i-clause-end : goal.returns-after-loop-i-clause-end
@@ -41,11 +42,11 @@ pub returns-after-loop-i-clause-low : goal.returns-after-loop-i-clause-low
 returns-after-loop-i-clause-low c =
     let B : Block = block_of c.args.view.now in
     let none = while_end c.loop-i.i c.args.test B (omega arith) in
-    omega (arith, c.loop-i.invariant.place, c.loop-i.invariant.looks)
+    omega (arith, c.loop-i.invariant.place, c.loop-i.invariant.low)
 
 pub returns-then-not-passes-clause-low : goal.returns-then-not-passes-clause-low
 returns-then-not-passes-clause-low c =
     let B : Block = block_of c.args.view.now in
     let fails : passes c.args.test (front_text (drop c.loop-i.i B)) ≡ false = cc in
     let stop = while_stop c.loop-i.i c.args.test B (omega arith) fails in
-    omega (arith, stop.0, c.loop-i.invariant.place, c.loop-i.invariant.looks, c.line.ensures.looks)
+    omega (arith, stop.0, c.loop-i.invariant.place, c.loop-i.invariant.low, c.line.ensures.looks)

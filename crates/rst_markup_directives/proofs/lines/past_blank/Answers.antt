@@ -10,4 +10,5 @@ loop-i-preserved c =
     record {
       value = omega (arith, blank_len-more (block_of c.args.lines.now) c.loop-i.i (omega arith) blank, c.loop-i.invariant.value);
       looks = omega arith;
+      low = omega arith;
     }

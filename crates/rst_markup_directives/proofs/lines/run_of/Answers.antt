@@ -15,4 +15,5 @@ loop-i-preserved c =
           ∙ run-more (λ line. chars line.now) (block_of c.args.lines.now) c.loop-i.i c.loop-i.run.items c.line-line.result (omega arith) c.line-line.ensures.text dark c.loop-i.invariant.texts;
       count = omega (arith, simp length-append at (ap length items), c.loop-i.invariant.count);
       looks = omega (arith, c.line-line.ensures.looks, c.loop-i.invariant.looks);
+      low = omega (arith, c.line-line.ensures.looks, c.loop-i.invariant.low);
     }

@@ -62,6 +62,7 @@ loop-k-preserved c =
       among = sym more ∙ c.loop-k.invariant.among;
       last = subst (λ (o : Option ℕ). IsLast (is_border_at (drop c.args.i B)) 2 (c.loop-k.k + 1 - c.args.i) o) (sym new) step;
       looks = omega (arith, c.loop-k.invariant.looks, c.line-text.ensures.looks);
+      low = omega (arith, c.loop-k.invariant.low, c.line-text.ensures.looks);
     }
 
 pub returns-clause-bottom : goal.returns-clause-bottom
@@ -82,9 +83,9 @@ pub returns-then-not-is_drawn-clause-low : goal.returns-then-not-is_drawn-clause
 returns-then-not-is_drawn-clause-low c =
     let B : Block = block_of c.args.view.now in
     let stop : is_drawn (front_text (drop c.loop-k.k B)) ≡ false = sym (c.is_drawn.ensures ∙ ap is_drawn c.line-text.ensures.text) ∙ c.if-not-is_drawn.true in
-    omega (arith, (while_stop c.loop-k.k Drawn B (omega arith) stop).0, c.loop-k.invariant.among, c.loop-k.invariant.looks, c.line-text.ensures.looks)
+    omega (arith, (while_stop c.loop-k.k Drawn B (omega arith) stop).0, c.loop-k.invariant.among, c.loop-k.invariant.low, c.line-text.ensures.looks)
 
 pub returns-clause-low : goal.returns-clause-low
 returns-clause-low c =
     let B : Block = block_of c.args.view.now in
-    omega (arith, while_end c.loop-k.k Drawn B (omega arith), c.loop-k.invariant.among, c.loop-k.invariant.looks)
+    omega (arith, while_end c.loop-k.k Drawn B (omega arith), c.loop-k.invariant.among, c.loop-k.invariant.low)

@@ -1,5 +1,6 @@
-use Rattle.std.proofs.Common.{◌≡◌, ◌++◌, ◌+◌, ◌-◌, drop}
+use Rattle.std.proofs.Common.{◌≡◌, ◌++◌, ◌+◌, ◌-◌, ◌≤◌, drop}
 use Rattle.rst_text.specs.Places.{IsLast}
+use Rattle.rst_text.specs.Looked.{capped}
 use Rattle.rst_text.specs.Shown.{block_of}
 use Rattle.rst_markup_blocks.specs.declared.lines.LineTest.TheVariants.{Drawn}
 use Rattle.rst_markup_blocks.specs.Lines.{lines_while}
@@ -12,5 +13,6 @@ invariant-loop-k l = record {
   lines : l.lines.items ++ drawn_rows (drop l.k (block_of l.view)) ≡ drawn_rows (drop l.i (block_of l.view));
   among : l.k + lines_while Drawn (drop l.k (block_of l.view)) ≡ l.i + lines_while Drawn (drop l.i (block_of l.view));
   last : IsLast (is_border_at (drop l.i (block_of l.view))) 2 (l.k - l.i) l.bottom;
-  looks : l.looks + l.i ≡ l.fn.looks + l.k;
+  looks : l.looks ≤ l.fn.looks + (l.k - l.i);
+  low : capped (l.fn.looks + (l.k - l.i)) ≤ l.looks;
 }

@@ -14,4 +14,5 @@ loop-k-preserved c =
     record {
       lines = onto _ _ _ _ c.in_ok-line.line c.in_ok-push.ensures.items (sym (ap (λ l. c.loop-k.lines.items ++ l) step) ∙ c.loop-k.invariant.lines);
       looks = omega (arith, c.loop-k.invariant.looks, c.line-text.ensures.looks);
+      low = omega (arith, c.loop-k.invariant.low, c.line-text.ensures.looks);
     }

@@ -2,7 +2,6 @@ use Rattle.std.proofs.Common.{◌≡◌, ◌∙◌, ◌+◌, ◌-◌, ap, ap₂,
 use Rattle.std.specs.Option.{option_or}
 use Rattle.rst_text.specs.Block.{Block, first_number}
 use Rattle.rst_text.specs.Shown.{block_of}
-use Rattle.rst_markup_blocks.specs.ReachLaws.{simple_scan_le}
 use Rattle.rst_markup_blocks.specs.TableRows.{head_border, simple_size}
 use Rattle.rst_markup_blocks.specs.TableLaws.{simple_size_le}
 use Rattle.rst_markup_tables.specs.Places.{Grid, rows_of}
@@ -11,11 +10,6 @@ use Rattle.rst_markup_tables.specs.GridTable.{malformed}
 use Rattle.rst_markup_tables.specs.SimpleTable.{border_fault, lines_fault, simple_fault, simple_by}
 use Rattle.rst_markup_tables.proofs.EndLemmas.{rows-size, rows-taken, table-size, looks-borders, looks-lines, simple_by_end}
 use Rattle.rst_markup_tables.proofs.simple_table.simple.Goals as goal
-
-pub border_fault-requires-clause-few : goal.border_fault-requires-clause-few
-border_fault-requires-clause-few c =
-    let B : Block = block_of c.args.view.now in
-    omega (arith, c.simple_borders-borders.ensures.looks, simple_scan_le (drop c.args.i B), length-drop c.args.i B)
 
 pub returns-in-Some-clause-table : goal.returns-in-Some-clause-table
 returns-in-Some-clause-table c =
@@ -42,11 +36,6 @@ returns-in-Some-clause-looks c =
     let X : Block = drop c.args.i B in
     looks-borders X c.simple_borders-borders.result.bottom c.args.looks.now c.simple_borders-borders.new.looks c.border_fault.new.looks (omega (arith, length-drop c.args.i B)) c.simple_borders-borders.ensures.bottom
     c.simple_borders-borders.ensures.looks c.border_fault.ensures.looks c.border_fault.ensures.none
-
-pub read_lines-requires-clause-few : goal.read_lines-requires-clause-few
-read_lines-requires-clause-few c =
-    let B : Block = block_of c.args.view.now in
-    omega (arith, c.simple_borders-borders.ensures.looks, c.border_fault.ensures.looks, simple_scan_le (drop c.args.i B), length-drop c.args.i B)
 
 pub returns-in_err-lines-clause-looks : goal.returns-in_err-lines-clause-looks
 returns-in_err-lines-clause-looks c =

@@ -7,4 +7,4 @@ pub returns-clause-closed : goal.returns-clause-closed
 returns-clause-closed c ms =
     let self = c.args.self.now in
     entered c.push.new.self.items self.outer.items self.current c.replace.new.dest (title_of c.args.heading) ms (c.in_ok-push.ensures.items ∙ ap (λ o. self.outer.items ++ o ∷ []) c.replace.ensures.value)
-    (ap (λ o. o.element) c.replace.ensures.after ∙ c.in_ok-inner.ensures.element) (ap (λ o. o.nodes.items) c.replace.ensures.after ∙ c.in_ok-inner.ensures.nodes)
+    (ap (λ o. o.element) c.replace.ensures.after ∙ c.in_ok-inner.ensures.element) (ap (λ o. o.nodes) c.replace.ensures.after ∙ c.in_ok-inner.ensures.nodes)

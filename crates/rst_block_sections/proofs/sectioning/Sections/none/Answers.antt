@@ -3,5 +3,5 @@ use Rattle.rst_block_sections.proofs.sectioning.Sections.none.Goals as goal
 
 pub returns : goal.returns
 returns c items =
-    begins (record { outer = c.new.result; current = record { element = c.element.result; nodes = c.new-2.result }; styles = c.new-3.result }) items c.new.ensures.items c.new-3.ensures.items c.element.ensures
-    c.new-2.ensures.items
+    begins (record { outer = c.new.result; current = record { element = c.element.result; nodes = c.none.result }; styles = c.new-2.result }) items c.new.ensures.items c.new-2.ensures.items c.element.ensures
+    c.none.ensures

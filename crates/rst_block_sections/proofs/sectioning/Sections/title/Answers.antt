@@ -11,8 +11,8 @@ returns-then-level-len c items =
     let style = c.args.heading.style in
     let is : c.level_of-level.result ≡ level_of style self.styles.items = c.level_of-level.ensures ∙ ap (level_of style) c.as_slice.ensures.value in
     let high : nat_lt (length self.outer.items + 1) (level_of style self.styles.items) ≡ true = lt-ltb (length self.outer.items + 1) (level_of style self.styles.items) (omega (arith, self.outer.ok.0)) in
-    ap (λ xs. (close 0 (map open_of self.outer.items) (opened self.current.element xs) (members (judged self.styles.items (length self.outer.items) items))).0) c.in_ok-push.ensures.items
-    ∙ refused (map open_of self.outer.items) self.current.element c.in_ok-inconsistent.field-0 self.current.nodes.items self.styles.items (length self.outer.items) (title_of c.args.heading) items c.in_ok-inconsistent.ensures high
+    ap (λ xs. (close 0 (map open_of self.outer.items) (opened self.current.element xs) (members (judged self.styles.items (length self.outer.items) items))).0) c.in_ok-push.ensures
+    ∙ refused (map open_of self.outer.items) self.current.element c.in_ok-inconsistent.field-0 self.current.nodes self.styles.items (length self.outer.items) (title_of c.args.heading) items c.in_ok-inconsistent.ensures high
 
 pub end-requires : goal.end-requires
 end-requires c = let e = c.level_of-level.ensures in omega (arith, level_positive c.args.heading.style c.as_slice.result.now)

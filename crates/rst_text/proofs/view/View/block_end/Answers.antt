@@ -14,6 +14,7 @@ loop-i-preserved-then-is_empty c =
     record {
       found = Finds-run B c.args.from c.unwrap_or-enough.result c.loop-i.i c.loop-i.end c.loop-i.lowest c.empty_end-next.result c.loop-i.invariant.found (omega arith) (omega arith) (no_front _ _ c.text-text.ensures none) run;
       looks = omega (arith, c.loop-i.invariant.looks, c.look_at.ensures, run.above);
+      low = omega (arith, c.loop-i.invariant.low, c.look_at.ensures, run.above);
       above = omega (arith, run.above);
       within = run.within;
     }
@@ -27,7 +28,8 @@ loop-i-preserved c =
     c.min.ensures ∙ ap (λ m. min m c.indentation-indent.result) c.unwrap_or-in-loop-i.ensures ∙ lower-is c.loop-i.lowest _ ∙ ap (lower c.loop-i.lowest) level in
     record {
       found = rw same (Finds-more B c.args.from c.unwrap_or-enough.result c.loop-i.i c.loop-i.end c.loop-i.lowest c.loop-i.invariant.found (omega arith) (omega arith) (some_front _ _ c.text-text.utf8 c.text-text.ensures some) (omega arith));
-      looks = omega (arith, c.loop-i.invariant.looks);
+      looks = omega (arith, c.loop-i.invariant.looks, c.look.ensures);
+      low = omega (arith, c.loop-i.invariant.low, c.look.ensures);
       above = omega arith;
       within = omega arith;
     }
@@ -48,6 +50,14 @@ returns-then-indent-enough-clause-looks c =
     let over = Finds-over B c.args.from c.unwrap_or-enough.result c.loop-i.i c.loop-i.end c.loop-i.lowest c.loop-i.invariant.found (omega arith) (some_front _ _ c.text-text.utf8 c.text-text.ensures some) (omega arith) in
     rw (← c.unwrap_or-enough.ensures) (omega (arith, c.look.ensures, c.loop-i.invariant.found.looks, c.loop-i.invariant.looks, over.1))
 
+pub returns-then-indent-enough-clause-low : goal.returns-then-indent-enough-clause-low
+returns-then-indent-enough-clause-low c =
+    let B : Block = block_of c.args.self.now in
+    let some : 1 ≤ length c.text-text.result.now = search rules in
+    let level : c.indentation-indent.result ≡ indentation (front_text (drop c.loop-i.i B)) = c.indentation-indent.ensures.value ∙ ap indentation c.text-text.ensures in
+    let over = Finds-over B c.args.from c.unwrap_or-enough.result c.loop-i.i c.loop-i.end c.loop-i.lowest c.loop-i.invariant.found (omega arith) (some_front _ _ c.text-text.utf8 c.text-text.ensures some) (omega arith) in
+    rw (← c.unwrap_or-enough.ensures) (omega (arith, c.look.ensures, c.loop-i.invariant.found.looks, c.loop-i.invariant.low, over.1))
+
 pub returns-clause-extent : goal.returns-clause-extent
 returns-clause-extent c =
     let B : Block = block_of c.args.self.now in
@@ -62,3 +72,10 @@ returns-clause-looks c =
     let over : length B ≤ c.loop-i.i = omega arith in
     let found = Finds-end B c.args.from c.unwrap_or-enough.result c.loop-i.i c.loop-i.end c.loop-i.lowest c.loop-i.invariant.found over in
     rw (← c.unwrap_or-enough.ensures) (omega (arith, c.loop-i.invariant.found.looks, c.loop-i.invariant.looks, found.1))
+
+pub returns-clause-low : goal.returns-clause-low
+returns-clause-low c =
+    let B : Block = block_of c.args.self.now in
+    let over : length B ≤ c.loop-i.i = omega arith in
+    let found = Finds-end B c.args.from c.unwrap_or-enough.result c.loop-i.i c.loop-i.end c.loop-i.lowest c.loop-i.invariant.found over in
+    rw (← c.unwrap_or-enough.ensures) (omega (arith, c.loop-i.invariant.found.looks, c.loop-i.invariant.low, found.1))

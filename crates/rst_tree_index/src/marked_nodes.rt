@@ -1,0 +1,344 @@
+//! Nodes that stand beside each other, and what is known of those that have marks or kinds.
+ghost use Rattle.std.specs.Prelude.{◌≡◌, ◌<◌, ◌∷◌, ◌++◌, [], map, OnErr};
+ghost use Rattle.std.specs.Vec.{vec_capacity, vec_len};
+ghost use Rattle.rst_tree.specs.Faults.{Gives};
+ghost use Rattle.rst_tree.specs.Nodes.{forest_of};
+ghost use Rattle.rst_tree.specs.Walk.{node_items};
+ghost use Rattle.rst_tree_index.specs.Kinds.{kinds_of};
+ghost use Rattle.rst_tree_index.specs.Known.{entry_of, is_plain, known_if};
+ghost use Rattle.rst_tree_index.specs.MarkPaths.{node_paths};
+ghost use Rattle.rst_tree_index.specs.Marks.{marks_of};
+ghost use Rattle.rst_tree_index.specs.Registered.{is_registered};
+
+use crate::kinds::Kinds;
+use crate::marked::{Marked, marks_of};
+use crate::marks::{Marks, is_used};
+use crate::registered::is_registered;
+use rst_tree::{Attrs, Children, Node, Tag, TreeFault};
+use std::alloc::Global;
+use std::marker::Model;
+use std::vec::IntoIter;
+
+/// What is known of one of some nodes.
+#[derive(Debug, Drop)]
+struct Known {
+    /// Its place among the nodes.
+    place: usize,
+    /// Whether it is marked itself.
+    own: bool,
+    /// The marks in it.
+    inner: Marks,
+    kinds: Kinds,
+}
+
+/// Whether nothing has to be known of a node: neither it nor an element in it is marked, and they are of no kind.
+#[inline(always)]
+fn is_plain(own: bool, inner: &Marks, kinds: Kinds) -> bool
+    ensures { result ≡ is_plain (node_paths own inner.now) kinds }
+{
+    if is_used(own, inner) {
+        return false;
+    }
+    kinds.is_none()
+}
+
+/// Puts what is known of the node at a place behind the rest, if anything is known.
+#[inline(always)]
+fn note(
+    known: &mut Vec<Known>,
+    place: usize,
+    own: bool,
+    inner: Marks,
+    kinds: Kinds,
+) -> Result<(), TreeFault>
+    ensures noted { let paths = node_paths own inner in
+        Gives (λ _. map entry_of known.new.items ≡ map entry_of known.old.items ++ known_if (is_plain paths kinds) (place, paths, kinds)) result }
+    ensures kept { OnErr result (known.new.items ≡ known.old.items) }
+{
+    if !is_plain(own, &inner, kinds) {
+        known.push(Known {
+            place,
+            own,
+            inner,
+            kinds,
+        })?;
+    }
+    Ok(())
+}
+
+/// Makes room for one node more. The first gets room for itself alone: most elements hold one.
+#[inline(always)]
+fn make_room(nodes: &mut Vec<Node>) -> Result<(), TreeFault>
+    ensures items { nodes.new.items ≡ nodes.old.items }
+    ensures len { vec_len nodes.new ≡ vec_len nodes.old }
+    ensures room { Gives (λ _. vec_len nodes.new < vec_capacity nodes.new) result }
+{
+    if nodes.is_empty() {
+        nodes.reserve_exact(1)?;
+    } else {
+        nodes.reserve(1)?;
+    }
+    Ok(())
+}
+
+/// Nodes that stand beside each other, as those of an element, with the marks and the kinds of each. Most nodes have none: so
+/// what is known is kept beside the nodes, for the others alone, and the nodes become those of an element as they stand.
+#[derive(Debug, Drop)]
+pub struct MarkedNodes {
+    nodes: Vec<Node>,
+    known: Vec<Known>,
+}
+
+impl Model for MarkedNodes {
+    ghost use Rattle.std.specs.Prelude.{◌≡◌, List, map};
+    ghost use Rattle.rst_tree.specs.declared.node.Node.{Node};
+    ghost use Rattle.rst_tree.specs.contracts.node.Node as node;
+    ghost use Rattle.std.specs.Coded.{codes};
+
+    ghost Value = { List Node };
+
+    ghost coded = { Prim.hlevel (codes, node.the_row.coded) };
+
+    ghost use Rattle.rst_tree_index.specs.Known.{entry_of, known_of};
+
+    ghost view = { λ m. m.nodes.items };
+
+    ghost invariant = { λ m. map entry_of m.known.items ≡ known_of 0 m.nodes.items };
+}
+
+impl MarkedNodes {
+    ghost use Rattle.std.specs.Prelude.{◌==◌, length};
+    ghost use Rattle.rst_tree.specs.declared.node.Node.TheVariants.{Element as Tagged};
+
+    /// No node.
+    #[inline(always)]
+    pub fn none(alloc: Global) -> MarkedNodes
+        ensures { result ≡ [] }
+    {
+        MarkedNodes {
+            nodes: Vec::new(alloc),
+            known: Vec::new(alloc),
+        }
+    }
+
+    /// Nodes that were made elsewhere. They are marked by a pass over them, and stay in their list.
+    pub fn of(alloc: Global, nodes: Vec<Node>) -> Result<MarkedNodes, TreeFault>
+        ensures { Gives (λ made. made ≡ nodes.items) result }
+    {
+        let mut known = Vec::new(alloc);
+        for (place, root) in nodes.iter().enumerate() {
+            let mut kinds = Kinds::none();
+            let (own, inner) = marks_of(alloc, root, &mut kinds)?;
+            note(&mut known, place, own, inner, kinds)?;
+        }
+        Ok(MarkedNodes { nodes, known })
+    }
+
+    /// One node.
+    #[inline(always)]
+    pub fn alone(alloc: Global, node: Marked) -> Result<MarkedNodes, TreeFault>
+        ensures { Gives (λ made. made ≡ node ∷ []) result }
+    {
+        let mut made = MarkedNodes::none(alloc);
+        made.push(node)?;
+        Ok(made)
+    }
+
+    /// How many nodes there are.
+    #[inline(always)]
+    pub fn len(&self) -> usize
+        ensures { result ≡ length self.now }
+    {
+        self.nodes.len()
+    }
+
+    /// Whether there is no node.
+    #[inline(always)]
+    pub fn is_empty(&self) -> bool
+        ensures { result ≡ (length self.now == 0) }
+    {
+        self.nodes.is_empty()
+    }
+
+    /// Puts a node behind the others whose marks and kinds are known.
+    #[inline(always)]
+    fn put(&mut self, root: Node, own: bool, inner: Marks, kinds: Kinds) -> Result<(), TreeFault>
+        requires marks { node_paths own inner ≡ marks_of is_registered root }
+        requires kinds { kinds ≡ kinds_of (node_items root) }
+        ensures { Gives (λ _. self.new ≡ self.old ++ root ∷ []) result }
+    {
+        // Room first: once something is known of the node, it has to follow.
+        make_room(&mut self.nodes)?;
+        note(&mut self.known, self.nodes.len(), own, inner, kinds)?;
+        self.nodes.push_reserved(root);
+        Ok(())
+    }
+
+    /// Puts a node behind the others.
+    #[inline(always)]
+    pub fn push(&mut self, node: Marked) -> Result<(), TreeFault>
+        ensures { Gives (λ _. self.new ≡ self.old ++ node ∷ []) result }
+    {
+        let (root, own, inner, kinds) = node.into_parts();
+        self.put(root, own, inner, kinds)
+    }
+
+    /// Puts a node behind the others that was made elsewhere. It is marked by a pass over it.
+    pub fn push_new(&mut self, root: Node) -> Result<(), TreeFault>
+        ensures { Gives (λ _. self.new ≡ self.old ++ root ∷ []) result }
+    {
+        let alloc = *self.nodes.allocator();
+        let mut kinds = Kinds::none();
+        let (own, inner) = marks_of(alloc, &root, &mut kinds)?;
+        self.put(root, own, inner, kinds)
+    }
+
+    /// Puts nodes behind the others that were made elsewhere.
+    #[inline(always)]
+    pub fn append_new(&mut self, more: Vec<Node>) -> Result<(), TreeFault>
+        ensures { Gives (λ _. self.new ≡ self.old ++ more.items) result }
+    {
+        // Most often there are none, and then nothing is called.
+        if more.is_empty() {
+            return Ok(());
+        }
+        self.append_some(more)
+    }
+
+    /// The same where there are some.
+    #[inline(never)]
+    fn append_some(&mut self, more: Vec<Node>) -> Result<(), TreeFault>
+        ensures { Gives (λ _. self.new ≡ self.old ++ more.items) result }
+    {
+        for root in more {
+            self.push_new(root)?;
+        }
+        Ok(())
+    }
+
+    /// Puts nodes behind the others. Nobody goes through the first ones: they are taken as they are.
+    pub fn append(&mut self, more: MarkedNodes) -> Result<(), TreeFault>
+        ensures { Gives (λ _. self.new ≡ self.old ++ more) result }
+    {
+        if self.is_empty() {
+            *self = more;
+            return Ok(());
+        }
+        let alloc = *self.nodes.allocator();
+        let mut rest = more.into_marked();
+        while let Some(node) = rest.next(alloc) {
+            self.push(node)?;
+        }
+        Ok(())
+    }
+
+    /// An element with these nodes in it. Their marks are known, so nobody goes through them.
+    pub fn into_element(self, tag: Tag, attrs: Attrs, line: usize) -> Result<Marked, TreeFault>
+        ensures { Gives (λ m. m ≡ Tagged tag attrs (forest_of self) line) result }
+    {
+        let own = is_registered(tag, &attrs, line);
+        let mut inner = Marks::none(*self.nodes.allocator());
+        let mut kinds = Kinds::none();
+        kinds.add(tag, &attrs);
+        let MarkedNodes { mut nodes, known } = self;
+        // The list stays as it is in the element, so it keeps no room for more.
+        nodes.shrink_to_fit();
+        for node in known {
+            inner.push(node.place, node.own, node.inner)?;
+            kinds = kinds.or(node.kinds);
+        }
+        let root = Node::Element {
+            tag,
+            attrs,
+            children: Children::of(nodes),
+            line,
+        };
+        Ok(Marked::from_parts(root, own, inner, kinds))
+    }
+
+    /// The nodes one after the other, each with its marks.
+    pub fn into_marked(self) -> MarkedIter
+        ensures { result ≡ self }
+    {
+        let MarkedNodes { nodes, known } = self;
+        let count = nodes.len();
+        let mut known = known.into_iter();
+        let ahead = known.next();
+        MarkedIter {
+            nodes: nodes.into_iter(),
+            known,
+            ahead,
+            count,
+        }
+    }
+}
+
+/// What is left of some nodes that are taken one after the other.
+#[derive(Drop)]
+pub struct MarkedIter {
+    nodes: IntoIter<Node>,
+    /// What is known of the nodes behind those of which `ahead` tells.
+    known: IntoIter<Known>,
+    /// What is known of the first node of which anything is.
+    ahead: Option<Known>,
+    /// How many nodes there were, those that were taken among them.
+    count: usize,
+}
+
+impl Model for MarkedIter {
+    ghost use Rattle.std.specs.Prelude.{◌≡◌, ◌≤◌, ◌-◌, ◌++◌, [], List, map, None, option_to_list};
+    ghost use Rattle.std.specs.Vec.Iter.{into_iter_items, into_iter_len};
+    ghost use Rattle.rst_tree.specs.declared.node.Node.{Node};
+    ghost use Rattle.rst_tree.specs.contracts.node.Node as node;
+    ghost use Rattle.std.specs.Coded.{codes};
+
+    ghost Value = { List Node };
+
+    ghost coded = { Prim.hlevel (codes, node.the_row.coded) };
+
+    ghost use Rattle.rst_tree_index.specs.Known.{entry_of, known_of};
+
+    ghost view = { λ m. into_iter_items m.nodes };
+
+    ghost invariant = { λ m. (into_iter_len m.nodes ≤ m.count) × (m.ahead ≡ None → into_iter_items m.known ≡ []) × (map entry_of (option_to_list m.ahead ++ into_iter_items m.known) ≡ known_of (m.count - into_iter_len m.nodes) (into_iter_items m.nodes)) };
+}
+
+/// A node without marks and kinds.
+#[inline(always)]
+fn plain(alloc: Global, root: Node) -> Marked
+    requires marks { marks_of is_registered root ≡ [] }
+    requires kinds { kinds_of (node_items root) ≡ kinds_of [] }
+    ensures { result ≡ root }
+{
+    Marked::from_parts(root, false, Marks::none(alloc), Kinds::none())
+}
+
+impl MarkedIter {
+    ghost use Rattle.std.specs.Prelude.{None, length, option_to_list};
+
+    /// How many nodes are left.
+    #[inline(always)]
+    pub fn len(&self) -> usize
+        ensures { result ≡ length self.now }
+    {
+        self.nodes.len()
+    }
+
+    /// The next node, if there is one.
+    pub fn next(&mut self, alloc: Global) -> Option<Marked>
+        ensures items { self.old ≡ option_to_list result ++ self.new }
+        ensures none { result ≡ None → self.old ≡ [] }
+    {
+        let place = self.count - self.nodes.len();
+        let root = self.nodes.next()?;
+        let Some(known) = self.ahead.take() else {
+            return Some(plain(alloc, root));
+        };
+        if known.place != place {
+            self.ahead = Some(known);
+            return Some(plain(alloc, root));
+        }
+        self.ahead = self.known.next();
+        Some(Marked::from_parts(root, known.own, known.inner, known.kinds))
+    }
+}
