@@ -5,9 +5,10 @@
 
 pub use rst_markup_blocks::laws::one_partition;
 pub use rst_markup_blocks::{
-    AnonymousTarget, BarLine, BlankLine, BlockQuote, BulletItem, Characters, CommentCause,
-    Construct, DoctestBlock, EnumeratedItem, Explicit, ExplicitMarkup, FieldItem, GridTable,
-    Invocation, Kind, OptionListItem, Part, SimpleTable, TextLine, end_of, explicit, kind_of,
+    AdornmentLine, AnonymousTarget, BarLine, BlankLine, BlockQuote, BulletItem, Characters,
+    CommentCause, Construct, DoctestBlock, EnumeratedItem, Explicit, ExplicitMarkup, FieldItem,
+    GridTable, Invocation, Kind, OptionListItem, Part, SimpleTable, TextLine, end_of, explicit,
+    kind_of,
 };
 pub use rst_markup_directives::{
     Directive, DirectiveFault, MarkupFault, Name, Place, called, directive,
