@@ -19,6 +19,28 @@ def blank_inside(n):
     return "- " * DEPTH + "a" + "\n" * n + "  " * DEPTH + "b\n"
 
 
+def apart(n, first="a\n", last="b\n"):
+    """Two lines with n line ends between them."""
+    return first + "\n" * n + last
+
+
+def indented(text, by):
+    """A text whose lines, but for the blank ones, are indented by so many spaces."""
+    return "".join((" " * by + line if line.strip() else line) for line in text.splitlines(keepends=True))
+
+
+def in_quotes(text):
+    """A text in block quotes, as deep as `DEPTH`."""
+    return "".join(" " * depth + "t\n\n" for depth in range(DEPTH)) + indented(text, DEPTH)
+
+
+def in_figures(text):
+    """A text in the legends of figures, as deep as `DEPTH`."""
+    for _ in range(DEPTH):
+        text = ".. figure:: x\n\n   c\n\n" + indented(text, 3)
+    return text
+
+
 def numbered(n, text):
     """A text for each number below n, which stands in the place of each `{k}`."""
     return "".join(text.replace("{k}", str(k)) for k in range(n))
@@ -32,6 +54,17 @@ def lines(n, text):
 def simple_table(rows, columns):
     rule = " ".join(["====="] * columns) + "\n"
     return rule + (" ".join(["cell "] * columns).rstrip() + "\n") * rows + rule
+
+
+def columned_table(columns, lines):
+    """A simple table of narrow columns, with these lines."""
+    return "= " * columns + "=\n" + lines + "= " * columns + "=\n"
+
+
+def nested_simple_tables(text):
+    """Simple tables, each in the last cell of the one around it, as deep as `DEPTH`, with a line in the innermost."""
+    tops = "".join("a " * depth + "= =\n" for depth in range(DEPTH))
+    return tops + "a " * DEPTH + text + "\n" + "".join("  " * depth + "= =\n" for depth in reversed(range(DEPTH)))
 
 
 def spanned_table(rows):
@@ -69,12 +102,34 @@ def chained(n, deep, name, text):
     return lines(n, f"|{name}| ") + "\n" + chain + f".. |a{deep}| replace:: {text}\n.. |b| replace:: c\n"
 
 
+def alone(n, used, further=""):
+    """Definitions that each use one that can't be used, and further ones."""
+    return numbered(n, ".. |u{k}| replace:: |w|\n") + f".. |w| replace:: {used}\n" + further
+
+
+def long_alt(n, uses):
+    """490 copies of an image with a long `alt` and a name without a definition, in a definition that some others use."""
+    image = ".. |i| image:: x\n   :alt: " + "y" * n + "\n"
+    return image + alone(uses, "|i| " * 490 + "|u|")
+
+
+def doubled(name, references):
+    """2,048 references to a name, through definitions that each use the next one twice, and a definition of this name in capitals."""
+    twice = "".join(f".. |a{k}| replace:: |a{k + 1}|\\ |a{k + 1}|\n" for k in range(11))
+    return f"{references}\n{twice}.. |a11| replace:: |{name}|\n.. |{name.upper()}| replace:: b\n"
+
+
 # A family gives for n a document of some multiple of n bytes; each is made for n, 2n and 4n.
 FAMILIES = {
     "paragraphs": lambda n: "some words\nin two lines\n\n" * n,
     "one paragraph": lambda n: "some words\n" * n,
     "blank lines": lambda n: "\n" * n,
     "blank lines in an item": lambda n: blank_inside(10 * n),
+    "blank lines in a quote": lambda n: in_quotes(apart(10 * n)),
+    "blank lines in a literal block in a quote": lambda n: in_quotes("a::\n\n" + indented(apart(n), 2)),
+    "blank lines in a comment in a quote": lambda n: in_quotes("..\n" + indented(apart(n), 3)),
+    "blank lines in a legend": lambda n: in_figures(apart(10 * n)),
+    "lines in a legend": lambda n: in_figures("a\n" * (n // 20)),
     "sections": lambda n: numbered(n, "Title {k}\n==========\n\ntext\n\n"),
     "sections of one title": lambda n: "Title\n=====\n\ntext\n\n" * n,
     "bullet lists": lambda n: "* item\n" * n,
@@ -96,6 +151,9 @@ FAMILIES = {
     "simple table": lambda n: simple_table(n, 4),
     "simple table with spans": lambda n: spanned_table(n),
     "wide simple table": lambda n: simple_table(20, max(2, n // 20)),
+    "simple table of many columns, blank lines": lambda n: columned_table(n // 8, apart(n // 2, "a\n", "")),
+    "simple table of many columns, short lines": lambda n: columned_table(n // 8, "a\n" + "  b\n" * (n // 8)),
+    "nested simple tables": lambda n: nested_simple_tables("a " * 10 * n),
     "grid table": lambda n: grid_table(n, 4),
     "wide grid table": lambda n: grid_table(4, n),
     "square grid table": lambda n: grid_table(*[max(2, round(n**0.5))] * 2),
@@ -117,6 +175,13 @@ FAMILIES = {
     "substitutions that are too large": lambda n: lines(n, "|a| ") + "\n.. |a| replace:: " + "b" * 10_000 + "\n",
     "deep substitutions that are too large": lambda n: chained(n, 90, "a0", "\\ ".join(["|b|"] * 5_200)),
     "deep substitutions": lambda n: chained(n, 90, "d", "c") + ".. |d| replace:: " + "\\ ".join(["|a0|"] * 100) + "\n",
+    "definitions that use one that is too large": lambda n: alone(n, "*z* " * 2400),
+    "definitions that use a circular one": lambda n: alone(n, "*z* " * 1900 + "|u0|"),
+    "a definition that uses them all": lambda n: alone(n, "*z* " * 2400, ".. |b| replace:: " + numbered(n, "|u{k}| ") + "\n"),
+    "definitions that use a long alt": lambda n: long_alt(n // 4, n // 20),
+    "definitions that use a deep one": lambda n: chained(1, 90, "d", "c") + alone(n // 20, "\\ ".join(["|a0|"] * 100)),
+    "substitutions of a long name in another case": lambda n: doubled("x" * n, "|a0|\n"),
+    "definitions that use a long name in another case": lambda n: doubled("x" * n, numbered(n // 500, ".. |b{k}| replace:: |a0|\n")),
     "directives": lambda n: ".. note:: text\n\n" * n,
     "unknown directives": lambda n: ".. unknown:: text\n\n" * n,
     "emphasis": lambda n: lines(n, "*a* "),
