@@ -116,6 +116,14 @@ unknown option: "foo".
         status: 0,
     },
     Row {
+        name: "a replacement text of which nothing is shown",
+        words: "",
+        input: ".. |a| replace:: \u{3000}::",
+        out: "<document source=\"<stdin>\">\n    <system_message level=\"3\" line=\"1\" source=\"<stdin>\" type=\"ERROR\">\n        <paragraph>\n            Error in \"replace\" directive:\n            may contain a single paragraph only.\n        <literal_block xml:space=\"preserve\">\n            .. |a| replace:: \u{3000}::\n",
+        err: "<stdin>:1: (ERROR/3) Error in \"replace\" directive:\nmay contain a single paragraph only.\n\n.. |a| replace:: \u{3000}::\n",
+        status: 0,
+    },
+    Row {
         name: "bibliographic fields",
         words: "",
         input: ":Author: Ann\n:Version: 1\n:X y: z",

@@ -1,6 +1,7 @@
 //! Runs over readers and writers in memory that fail in mid-stream, and what is reported of each end.
 ghost use Rattle.std.specs.Prelude.{◌≤◌, Some};
 
+use super::whole_document::DOCUMENT;
 use rst_settings::Settings;
 use rst_text::Counted;
 use rst2pseudoxml_options::OptionFault;
@@ -235,6 +236,122 @@ fn reads_to_the_limit(rt: HostRuntime) {
         read_over(rt.alloc(), 16_777_216 + 5000, 8192 + 5000, true),
         (End::TooLong, 2047 + 8193)
     );
+}
+
+/// As many line ends as an input may have bytes are blank lines.
+#[test]
+fn reads_line_ends_to_the_limit(rt: HostRuntime) {
+    for (left, want, shown) in [
+        (
+            16_777_216usize,
+            End::Done(0),
+            "<document source=\"<stdin>\">\n",
+        ),
+        (16_777_217, End::TooLong, ""),
+    ] {
+        let mut input = Counted::of(Bytes {
+            byte: b'\n',
+            step: 8192,
+            single: 0,
+            left,
+            fails: false,
+            calls: 0,
+        });
+        let mut out = Narrow::new(rt.alloc(), 1000, 1000, true);
+        let end = run(
+            rt.alloc(),
+            &Settings::usual(),
+            "<stdin>",
+            &mut input,
+            &mut Counted::of(&mut out),
+            &mut Counted::of(Narrow::new(rt.alloc(), 0, 0, true)),
+        );
+        assert_eq!(rt; end, want);
+        assert_eq!(rt; out.held.as_slice(), shown.as_bytes());
+    }
+}
+
+/// A reader that gives some bytes and then fails.
+#[derive(Drop)]
+struct Front {
+    left: &'static [u8],
+}
+
+impl Read for Front {
+    fn read(&mut self, buf: &mut [u8]) -> Result<usize> {
+        if self.left.is_empty() {
+            return Err(Error::from(ErrorKind::UnexpectedEof));
+        }
+        let n = buf.len().min(self.left.len());
+        buf[..n].copy_from_slice(&self.left[..n]);
+        self.left = &self.left[n..];
+        Ok(n)
+    }
+}
+
+/// How a run over the document with every construct ends where its writers to standard output and standard error have so much room, and what
+/// these hold then.
+fn run_whole(alloc: Global, out_room: usize, err_room: usize) -> (End, Narrow, Narrow) {
+    let mut input = Counted::of(DOCUMENT.as_bytes());
+    let mut out = Narrow::new(alloc, out_room, 1000, true);
+    let mut err = Narrow::new(alloc, err_room, 1000, true);
+    let end = run(
+        alloc,
+        &Settings::usual(),
+        "<stdin>",
+        &mut input,
+        &mut Counted::of(&mut out),
+        &mut Counted::of(&mut err),
+    );
+    (end, out, err)
+}
+
+/// Reads of the document with every construct fail at each place. Nothing is made of it then.
+#[test]
+fn tells_each_failed_read_of_the_document(rt: HostRuntime) {
+    for n in 0..DOCUMENT.len() + 1 {
+        let mut input = Counted::of(Front {
+            left: &DOCUMENT.as_bytes()[..n],
+        });
+        let mut out = Narrow::new(rt.alloc(), 1000, 1000, true);
+        let mut err = Narrow::new(rt.alloc(), 1000, 1000, true);
+        let end = run(
+            rt.alloc(),
+            &Settings::usual(),
+            "<stdin>",
+            &mut input,
+            &mut Counted::of(&mut out),
+            &mut Counted::of(&mut err),
+        );
+        assert_eq!(rt; end, End::Read);
+        assert!(rt; out.held.is_empty() && err.held.is_empty());
+    }
+}
+
+/// Writes of its tree fail at each 499th place, and writes of its messages at each 97th: all places would take minutes.
+#[test]
+fn keeps_what_was_taken_of_the_document(rt: HostRuntime) {
+    let (end, tree, messages) = run_whole(rt.alloc(), 40_000, 40_000);
+    assert_eq!(rt; end, End::Done(0));
+    let (tree, messages) = (tree.held.as_slice(), messages.held.as_slice());
+    for room in 0..tree.len() {
+        if room % 499 != 0 {
+            continue;
+        }
+        let (end, out, err) = run_whole(rt.alloc(), room, 40_000);
+        assert_eq!(rt; end, End::WriteOut { done: room });
+        assert_eq!(rt; out.held.as_slice(), &tree[..room]);
+        assert_eq!(rt; err.held.as_slice(), messages);
+    }
+    for room in 0..messages.len() {
+        if room % 97 != 0 {
+            continue;
+        }
+        let (end, out, err) = run_whole(rt.alloc(), 40_000, room);
+        assert_eq!(rt; end, End::WriteErr { done: room });
+        assert_eq!(rt; err.held.as_slice(), &messages[..room]);
+        assert!(rt; out.held.is_empty());
+    }
 }
 
 #[test]

@@ -1,6 +1,8 @@
 -- What a run does to its reader and its writers.
-use Rattle.std.specs.Prelude.{◌≡◌, ◌<◌, ◌≤◌, ℕ, true, false, List, length, Result, Ok, Err, Vec}
-use Rattle.rst_text.specs.Counted.{Stream, Untouched, Gains, HandsOut, IsReadOut, IsCutShort}
+use Rattle.std.specs.Prelude.{◌≡◌, ◌⊎◌, ℕ, ◌+◌, ◌<◌, ◌≤◌, true, false, List, length, take, Option, None, Some, Result, Ok, Err, Vec}
+use Rattle.std.specs.List.{concat}
+use Rattle.rst_text.specs.declared.counted.Counted.{Counted}
+use Rattle.rst_text.specs.Counted.{inner_of, has_failed, between, Stream, Untouched, Gains, HandsOut, IsReadOut, IsCutShort, Written}
 use Rattle.rst2pseudoxml_run.specs.declared.end.End.{End}
 use Rattle.rst2pseudoxml_run.specs.declared.end.End.TheVariants.{Done, Read, TooLong, NotUtf8, NoMemory, WriteErr, WriteOut, TooDeep}
 use Rattle.rst_tree.specs.Faults.{CutShort}
@@ -44,3 +46,27 @@ Takes input bytes (Err TooLong) = 16777216 < length bytes
 Takes input bytes (Err Read) = input.failed ≡ true
 Takes input bytes (Err NoMemory) = Unit {0}
 Takes input bytes (Err _) = ⊥
+
+-- Reads, from a state of the reader to a later one, before which so many bytes have come. Each is made only while no more than 16,777,216
+-- bytes have come. One that fails, or gives 0 bytes, is the last.
+pub data ReadsOn {R : Type 0} (Gives : R → Option ℕ → List ℕ → R → Type 0) : ℕ → R → R → Type 0 where
+  enough : {came : ℕ} {r : R} → ReadsOn Gives came r r
+  some : {came n : ℕ} {buf : List ℕ} {r r' r'' : R} → came ≤ 16777216 → 0 < n → Gives r (Some n) buf r' → ReadsOn Gives (came + n) r' r'' → ReadsOn Gives came r r''
+  last : {came : ℕ} {buf : List ℕ} {r r' : R} → came ≤ 16777216 → Gives r None buf r' ⊎ Gives r (Some 0) buf r' → ReadsOn Gives came r r'
+
+-- A text is written to a writer, as some pieces: all of the text, or its first bytes, up to a call that fails.
+pub record IsSent {W : Type 0} (Takes : W → Option ℕ → List ℕ → W → Type 0) (contents : W → Option (List ℕ)) (old new : Counted W) (text : List ℕ) : Type 0 where
+  pub pieces : List (List ℕ)
+  pub taken : ℕ
+  pub are_pieces : concat pieces ≡ text
+  pub calls : Written Takes (inner_of old) pieces (inner_of new) taken
+  pub gained : Gains (between contents old new) (take taken text)
+  pub whole : has_failed new ≡ false → taken ≡ length text
+
+-- No call is made of a writer to which nothing is to be written: of neither where the run was refused or memory ran out, and not of standard
+-- output where a message halts the run, as its status 1 says, or a write to standard error failed.
+abbrev pub IsQuiet : End → Type 0 → Type 0 → Type 0
+IsQuiet (Done status) out err = status ≡ 1 → out
+IsQuiet (WriteErr done) out err = out
+IsQuiet (WriteOut done) out err = Unit {0}
+IsQuiet _ out err = out × err

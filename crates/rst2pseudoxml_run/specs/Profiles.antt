@@ -26,6 +26,13 @@ use Rattle.rst2pseudoxml_run.specs.Shown.{Answers, Parts}
 abbrev pub first_profile : Profile
 first_profile = record { nesting = 100; line_limit = 10000; code = false; docinfo = false }
 
+-- The first profile is the present one where lines may have 10,000 characters and bibliographic fields aren't looked for, but blocks nest 100
+-- levels, and `code` is no directive.
+abbrev pub IsFirstProfile : Type 0
+IsFirstProfile =
+    (settings : Settings) → settings.limit ≡ 10000 → settings.info ≡ false
+    → first_profile ≡ record (profile_of settings) { nesting = 100; code = false }
+
 -- no line of a text calls program code
 abbrev pub CallsNoCode : Settings → Option (List ℕ) → Type 0
 CallsNoCode settings None = Unit {0}

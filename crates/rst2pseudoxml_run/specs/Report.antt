@@ -1,6 +1,5 @@
 -- The line by which a fault is reported.
-use Rattle.std.specs.Prelude.{◌≡◌, ℕ, ◌≤◌, false, List, [], ◌∷◌, ◌++◌, length, take, codes, decimal, string_bytes}
-use Rattle.rst_text.specs.Counted.{Stream, Gains}
+use Rattle.std.specs.Prelude.{ℕ, List, [], ◌∷◌, ◌++◌, codes, decimal, string_bytes}
 use Rattle.rst2pseudoxml_run.specs.declared.end.End.{End}
 use Rattle.rst2pseudoxml_run.specs.declared.end.End.TheVariants.{Done, Read, TooLong, NotUtf8, NoMemory, WriteErr, WriteOut, TooDeep}
 use Rattle.rst2pseudoxml_run.specs.declared.reporting.Stop.{Stop}
@@ -43,7 +42,3 @@ status_of (Options fault) = 2
 status_of (Open source) = 1
 status_of (Ran (Done status)) = status
 status_of (Ran end) = 1
-
--- the whole line was written, or a front of it up to a failed write
-abbrev pub Reports : Stream → List ℕ → Type 0
-Reports err line = (done : ℕ) × (done ≤ length line) × Gains err (take done line) × (err.failed ≡ false → Gains err line)

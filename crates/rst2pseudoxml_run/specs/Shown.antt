@@ -1,5 +1,5 @@
 -- What the program shows of a finished document: standard output, standard error and the exit status.
-use Rattle.std.specs.Prelude.{◌≡◌, ℕ, ◌+◌, ◌<◌, ◌≤◌, Bool, ◌||◌, List, [], ◌∷◌, ◌++◌, length, filter, if◌then◌else◌, Option, None, Some, Result, Ok, Err, Vec, codes}
+use Rattle.std.specs.Prelude.{◌≡◌, ◌⊎◌, ℕ, ◌+◌, ◌<◌, ◌≤◌, Bool, ◌||◌, List, [], ◌∷◌, ◌++◌, length, filter, if◌then◌else◌, Option, None, Some, Result, Ok, Err, Vec, codes}
 use Rattle.std.specs.Fmt.{decimal}
 use Rattle.std.specs.List.{flat_map}
 use Rattle.std.specs.Str.Lossy.{utf8_valid_len}
@@ -90,6 +90,13 @@ abbrev pub HasOneAnswer : Type 0
 HasOneAnswer =
     (profile : Profile) (settings : Settings) (source bytes : List ℕ) (one other : Result Parts End)
     → Answers profile settings source bytes one → Answers profile settings source bytes other → one ≡ other
+
+-- bytes are refused, or a document is read of their text
+abbrev pub IsJudged : Type 0
+IsJudged =
+    (profile : Profile) (settings : Settings) (source bytes : List ℕ)
+    → ((refusal : End) × Answers profile settings source bytes (Err refusal))
+    ⊎ ((length bytes ≤ 16777216) × (read : Node × ℕ) × IsReadOf profile settings (text_of bytes) (Ok read))
 
 -- the text of the messages was made, or memory ran out
 abbrev pub MakesErrorText : {A : Type 0} → Settings → List ℕ → List Note → Result (Counted (Vec ℕ A)) End → Type 0

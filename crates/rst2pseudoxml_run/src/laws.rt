@@ -1,17 +1,28 @@
 //! Laws on the definitions, each by a function that does nothing and whose contract is the law.
 ghost use Rattle.rst2pseudoxml_run.specs.OneEnd.{HasOneEnd};
-ghost use Rattle.rst2pseudoxml_run.specs.Profiles.{ProfilesAgree};
-ghost use Rattle.rst2pseudoxml_run.specs.Shown.{HasOneAnswer};
+ghost use Rattle.rst2pseudoxml_run.specs.Profiles.{IsFirstProfile, ProfilesAgree};
+ghost use Rattle.rst2pseudoxml_run.specs.Shown.{HasOneAnswer, IsJudged};
 
 /// The answer to some bytes is one: what is shown of them and the exit status, or why they are refused.
 pub fn one_answer()
     ensures { HasOneAnswer }
 {}
 
+/// Bytes are refused, or a document is read of their text.
+pub fn judged()
+    ensures { IsJudged }
+{}
+
 /// Runs whose readers hold the same bytes have one end, want of memory and failed reads and writes aside: they end alike, and their
 /// writers gain the same.
 pub fn one_end()
     ensures { HasOneEnd }
+{}
+
+/// The profile that the program ran under at first is the present one with lines of 10,000 characters and without bibliographic fields, but
+/// for 100 levels of nesting and no program code.
+pub fn first_profile()
+    ensures { IsFirstProfile }
 {}
 
 /// The profile that the program ran under at first and the present one have the same answer where lines may have 10,000 characters, no line

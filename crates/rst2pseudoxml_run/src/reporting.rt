@@ -1,14 +1,13 @@
 //! The line by which a fault is reported.
 ghost use Rattle.std.specs.Prelude.{◌≡◌, ◌++◌, decimal};
 ghost use Rattle.std.specs.List.{flat_map};
-ghost use Rattle.rst_text.specs.Counted.{between};
-ghost use Rattle.rst2pseudoxml_run.specs.Report.{line_of, status_of, option_message, fault_line, Reports};
+ghost use Rattle.rst2pseudoxml_run.specs.Headline.{IsSent};
+ghost use Rattle.rst2pseudoxml_run.specs.Report.{line_of, status_of, option_message, fault_line};
 
 use crate::end::End;
 use itoa::Buffer;
-use rst_text::Counted;
+use rst_text::{Counted, WriteCall};
 use rst2pseudoxml_options::OptionFault;
-use std::io::Write;
 
 /// What stops the program.
 #[derive(Debug, Drop)]
@@ -26,8 +25,8 @@ pub enum Stop {
 /// Writes the fault's line to standard error, nothing for a run that is done, and gives the exit status.
 ///
 /// It stops at the first write that fails; the status stays the same.
-pub fn report<E: Write>(stop: &Stop, err: &mut Counted<E>) -> u8
-    ensures line { Reports (between E.contents err.old err.new) (line_of stop.now) }
+pub fn report<E: WriteCall>(stop: &Stop, err: &mut Counted<E>) -> u8
+    ensures line { IsSent E.call_takes E.contents err.old err.new (line_of stop.now) }
     ensures status { result ≡ status_of stop.now }
 {
     match stop {
@@ -75,30 +74,30 @@ fn option_message(fault: OptionFault) -> &'static str
 }
 
 /// Writes a fault's line.
-fn say<'a, E: Write>(message: &'a str, err: &mut Counted<E>)
-    ensures { Reports (between E.contents err.old err.new) (fault_line message.now) }
+fn say<'a, E: WriteCall>(message: &'a str, err: &mut Counted<E>)
+    ensures { IsSent E.call_takes E.contents err.old err.new (fault_line message.now) }
 {
     write_pieces(&["rst2pseudoxml: ", message, "\n"], err);
 }
 
 /// Writes a fault's line that names something.
-fn say_of<'a, E: Write>(before: &'a str, named: &'a str, after: &'a str, err: &mut Counted<E>)
-    ensures { Reports (between E.contents err.old err.new) (fault_line (before.now ++ named.now ++ after.now)) }
+fn say_of<'a, E: WriteCall>(before: &'a str, named: &'a str, after: &'a str, err: &mut Counted<E>)
+    ensures { IsSent E.call_takes E.contents err.old err.new (fault_line (before.now ++ named.now ++ after.now)) }
 {
     write_pieces(&["rst2pseudoxml: ", before, named, after, "\n"], err);
 }
 
 /// Writes a fault's line that names a number.
-fn say_number<E: Write>(before: &str, number: usize, after: &str, err: &mut Counted<E>)
-    ensures { Reports (between E.contents err.old err.new) (fault_line (before.now ++ decimal number ++ after.now)) }
+fn say_number<E: WriteCall>(before: &str, number: usize, after: &str, err: &mut Counted<E>)
+    ensures { IsSent E.call_takes E.contents err.old err.new (fault_line (before.now ++ decimal number ++ after.now)) }
 {
     let mut buffer = Buffer::new();
     say_of(before, buffer.format(number), after, err);
 }
 
 /// Writes the pieces, up to the first that fails.
-fn write_pieces<E: Write>(pieces: &[&str], err: &mut Counted<E>)
-    ensures { Reports (between E.contents err.old err.new) (flat_map (λ piece. piece.now) pieces.now) }
+fn write_pieces<E: WriteCall>(pieces: &[&str], err: &mut Counted<E>)
+    ensures { IsSent E.call_takes E.contents err.old err.new (flat_map (λ piece. piece.now) pieces.now) }
 {
     for piece in pieces {
         if let Err(_) = err.write_all(piece.as_bytes()) {

@@ -1,9 +1,9 @@
 //! A run from a reader to two writers.
-ghost use Rattle.std.specs.Prelude.{◌≡◌, ◌≤◌, false};
+ghost use Rattle.std.specs.Prelude.{◌≡◌, ◌≤◌, ℕ, false, List};
 ghost use Rattle.rst_settings.specs.Profile.{profile_of};
-ghost use Rattle.rst_text.specs.Counted.{has_failed, between};
+ghost use Rattle.rst_text.specs.Counted.{inner_of, has_failed, between};
 ghost use Rattle.rst_transform_messages.specs.Messages.{highest_level};
-ghost use Rattle.rst2pseudoxml_run.specs.Headline.{Headline, Shows};
+ghost use Rattle.rst2pseudoxml_run.specs.Headline.{Headline, Shows, ReadsOn, IsSent, IsQuiet};
 ghost use Rattle.rst2pseudoxml_run.specs.Shown.{Answers, parts_of};
 
 use crate::document::document_of;
@@ -11,18 +11,18 @@ use crate::end::End;
 use crate::error_text::{error_text, halting, status_of};
 use crate::input::read_input;
 use rst_settings::Settings;
-use rst_text::Counted;
+use rst_text::{Counted, ReadCall, WriteCall};
 use rst_transform::Finished;
 use rst_tree::{PrintFault, print_with_source};
 use std::alloc::Global;
-use std::io::{Read, Write};
 use std::mem;
 
 /// Reads the input to its end and writes what the program shows for it: all of standard error, then standard output.
 ///
 /// Where the input is refused nothing is written. After a failed write the writer holds the front of its part that it
-/// had taken, each byte once, and standard output holds nothing if standard error failed.
-pub fn run<R: Read, O: Write, E: Write>(
+/// had taken, each byte once, and standard output holds nothing if standard error failed. No read is made once more than
+/// 16,777,216 bytes have come, and no write of an empty text.
+pub fn run<R: ReadCall, O: WriteCall, E: WriteCall>(
     alloc: Global,
     settings: &Settings,
     source: &str,
@@ -34,10 +34,13 @@ pub fn run<R: Read, O: Write, E: Write>(
     requires out { has_failed out.old ≡ false }
     requires err { has_failed err.old ≡ false }
 
-    ensures { Headline (Answers (profile_of settings.now) settings.now source.now)
+    ensures headline { Headline (Answers (profile_of settings.now) settings.now source.now)
         (between R.remaining input.old input.new)
         (between O.contents out.old out.new)
         (between E.contents err.old err.new) result }
+    ensures reads { ReadsOn R.call_gives 0 (inner_of input.old) (inner_of input.new) }
+    ensures err { (text : List ℕ) × IsSent E.call_takes E.contents err.old err.new text }
+    ensures quiet { IsQuiet result (out.new ≡ out.old) (err.new ≡ err.old) }
 {
     let bytes = match read_input(alloc, input) {
         Ok(bytes) => bytes,
@@ -59,7 +62,7 @@ pub fn run<R: Read, O: Write, E: Write>(
 ///
 /// The messages are gathered before the first write, so where memory runs out nothing was written. The document needs no
 /// memory: it is printed as it is written.
-fn show<O: Write, E: Write>(
+fn show<O: WriteCall, E: WriteCall>(
     alloc: Global,
     settings: &Settings,
     source: &str,
@@ -71,9 +74,11 @@ fn show<O: Write, E: Write>(
     requires few { finished.now.highest ≤ 4 }
     requires out { has_failed out.old ≡ false }
     requires err { has_failed err.old ≡ false }
-    ensures { Shows (parts_of settings.now source.now finished.now.document finished.now.notes.items)
+    ensures shows { Shows (parts_of settings.now source.now finished.now.document finished.now.notes.items)
         (between O.contents out.old out.new)
         (between E.contents err.old err.new) result }
+    ensures err { (text : List ℕ) × IsSent E.call_takes E.contents err.old err.new text }
+    ensures quiet { IsQuiet result (out.new ≡ out.old) (err.new ≡ err.old) }
 {
     let notes = finished.notes.as_slice();
     let messages = match error_text(alloc, notes, settings, source) {

@@ -99,7 +99,7 @@ pub fn few_reaches_share_a_line()
 pub fn looks_are_paid()
     ensures begun { ledger.BlocksBegin }
     ensures ended { ledger.BlocksEnd }
-    ensures blank { ledger.BlankLineIsPaid }
+    ensures blank { ledger.BlankLinesArePaid }
     ensures construct { ledger.ConstructIsPaid }
     ensures counted { ledger.LastIsCounted }
     ensures opened { ledger.OpenedIsPaid }

@@ -64,11 +64,12 @@ pub(crate) fn resume(
             return after_quote(alloc, view, level, rest, end, pass);
         }
         Waits::Element(element) => level.push_marked(completed(alloc, element, nodes)?)?,
-        Waits::Figure(figure) => level.append_marked(finished_figure(
-            alloc,
-            Box::into_inner(figure),
-            nodes,
-        )?)?,
+        Waits::Figure { figure, start, end } => {
+            let looks = &mut pass.looks;
+            let made = finished_figure(alloc, view, figure, start, end, nodes, looks)?;
+            level.append_marked(made)?;
+            return Ok(Step::Next);
+        }
         Waits::Replacement(definition) => level.push(finished_replacement(
             alloc,
             Box::into_inner(definition),

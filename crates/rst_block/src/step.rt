@@ -18,7 +18,7 @@ use rst_block_body::table::table;
 use rst_block_body::text::text_line;
 use rst_block_markup::explicit_markup;
 use rst_block_state::{BlockFault, OpenBlock, Pass, Step};
-use rst_markup_blocks::{Begun, begun_at};
+use rst_markup_blocks::{Begun, LineTest, begun_at, lines_end};
 use rst_markup_tables::{grid, simple};
 use rst_text::View;
 use std::alloc::Global;
@@ -44,7 +44,7 @@ pub(crate) fn step_at(
     let at = level.at;
     match begun_at(view, at, &mut pass.looks) {
         Begun::Blank => {
-            level.go_to(at + 1);
+            level.go_to(lines_end(view, at, LineTest::Blank, &mut pass.looks));
             Ok(Step::Next)
         }
         Begun::Quote => block_quote(alloc, view, level, pass),

@@ -117,6 +117,10 @@ stops_blank Q from end e =
 pub Unfound-start : (Q : Block) (end : ℕ) → end ≡ 0 + lines_while Filled (drop 0 Q) → Unfound Q end
 Unfound-start Q end e = record { none = none_filled Q 0 end e; blank = stops_blank Q 0 end e }
 
+-- where the blank lines from there on end
+pub behind_blank : (Q : Block) (end place : ℕ) → Unfound Q end → end < length Q → place ≡ end + lines_while Blank (drop end Q) → place ≡ end + 1 + lines_while Blank (drop (end + 1) Q)
+behind_blank Q end place u h e = e ∙ while_more end Blank Q h u.blank
+
 none_before : (Q : Block) (end place : ℕ) → Unfound Q end → place ≡ end + 1 + lines_while Blank (drop (end + 1) Q) → NoneFrom (begins_at Q) 1 place
 none_before Q end place u e = NoneFrom-join (begins_at Q) 1 (end + 1) place u.none (none_blank Q (end + 1) place e)
 

@@ -1,5 +1,4 @@
 pub mod AdornedSteps
-pub mod AnnouncedLemmas
 pub mod AttributionsFound
 pub mod ListItems
 pub mod ListsPaid

@@ -19,7 +19,7 @@ use Rattle.rst_markup_blocks.specs.declared.part.Part.{Part}
 use Rattle.rst_markup_blocks.proofs.LineLemmas.{reach_behind}
 use Rattle.rst_block_state.specs.Constructs.{ItemMark, definition_item, item_of_list, construct_by}
 use Rattle.rst_block_state.specs.Inside.{part_of_item}
-use Rattle.rst_block_state.specs.Ledger.{totals, next_blocks, run_looks, quote_looks, end_looks, WaitsForOne, IsPaid}
+use Rattle.rst_block_state.specs.Ledger.{totals, next_blocks, run_looks, waiting_looks, end_looks, WaitsForOne, IsPaid}
 use Rattle.rst_block_state.specs.NextLine.{IsNextConstruct}
 use Rattle.rst_block_state.specs.Reaches.{reach_at}
 use Rattle.rst_block_state.specs.Texts.{lines_in}
@@ -89,7 +89,7 @@ few_looks before start mid after reached far old new quotes some most there few 
 
 -- an item of a list that opens the block of its lines: few looks come before those are found, and few after that
 pub paid_item : (each : ℕ) {l new : OpenBlock} {B : Block} {mark : ItemMark} {s : Step} (w : Waits) (part : Part) (before start mid after : ℕ) → 3 ≤ each
-    → IsNextItem l B mark part.to → part ≡ part_of_item l.at mark (drop l.at B) → IsFound B l.at part start mid → s ≡ Open w part None → WaitsForOne w → quote_looks w ≡ 0
+    → IsNextItem l B mark part.to → part ≡ part_of_item l.at mark (drop l.at B) → IsFound B l.at part start mid → s ≡ Open w part None → WaitsForOne w → waiting_looks w ≡ 0
     → new.depth ≡ l.depth → new.at ≡ part.to → capped before ≤ start → capped mid ≤ after → after + start ≤ before + mid + run_looks l.run + 2 → IsPaid each l new B s before after
 paid_item each {l} {new} {B} {mark} {s} w part before start mid after some next p found e one none depth at early late few =
     let X : Block = drop l.at B in
@@ -101,7 +101,7 @@ paid_item each {l} {new} {B} {mark} {s} w part before start mid after some next 
     let blocks : totals l.depth (next_blocks B (Open w part None)) ≡ totals l.depth (lines_in B (part_of_item l.at mark X) ∷ []) =
     ap (λ others. totals l.depth (lines_in B part ∷ others)) waits.0 ∙ ap (λ q. totals l.depth (lines_in B q ∷ [])) p in
     let most : after + end_looks new (Open w part None) ≤ before + run_looks l.run + each * reach_at (l.depth == 0) X =
-    few_looks before start mid after (reach found.size X) (each * reach_at (l.depth == 0) X) (run_looks l.run) (run_looks new.run) (quote_looks w) times found.most (omega (arith, found.some)) few (one_look new.run) none in
+    few_looks before start mid after (reach found.size X) (each * reach_at (l.depth == 0) X) (run_looks l.run) (run_looks new.run) (waiting_looks w) times found.most (omega (arith, found.some)) few (one_look new.run) none in
     let least : capped (before + (next.lines - 1)) ≤ after = omega (arith, found.least, size, early, late) in
     subst (λ t. IsPaid each l new B t before after) (sym e)
     (paid_next each l new B (item_of_list mark) next.lines (Open w part None) before after next.next tt depth (waits.1 ∙ at ∙ next.end) blocks refl most least)

@@ -15,7 +15,7 @@ use Rattle.rst_markup_blocks.specs.declared.lines.LineTest.TheVariants.{Blank}
 use Rattle.rst_markup_blocks.specs.declared.part.Part.{Part}
 use Rattle.rst_block_nodes.specs.declared.texted.Texted.{Texted}
 use Rattle.rst_block_state.specs.Inside.{quoted_blocks}
-use Rattle.rst_block_state.specs.Ledger.{totals, most_from, least_from, still_before, goes_on_at, run_looks, quote_looks, next_blocks, most_after, least_after, most_left, least_left, AreQuotesPaid, IsPaid, Takes, WaitsForOne}
+use Rattle.rst_block_state.specs.Ledger.{totals, most_from, least_from, still_before, goes_on_at, run_looks, waiting_looks, next_blocks, most_after, least_after, most_left, least_left, AreQuotesPaid, IsPaid, Takes, WaitsForOne}
 use Rattle.rst_block_state.specs.MeaningLaws.{front_of}
 use Rattle.rst_block_state.specs.Meanings.{open_of}
 use Rattle.rst_block_state.specs.OpenBlocks.{IsMoved, HasMore, HasItemIn, HasItem, IsClosed}
@@ -65,7 +65,7 @@ left_goes_on new p next line made at within = elim (cases_lt (p.from + next) p.t
 ]
 
 -- the looks by which the quotes are found that are left of a part
-left_looks : (p : Part) (next line : ℕ) (made : Option (Box Texted Global)) → quote_looks (Quote line made (rest_of p next) p.to) ≤ 1 + 16 * (p.to - (p.from + next))
+left_looks : (p : Part) (next line : ℕ) (made : Option (Box Texted Global)) → waiting_looks (Quote line made (rest_of p next) p.to) ≤ 1 + 16 * (p.to - (p.from + next))
 left_looks p next line made = elim (cases_lt (p.from + next) p.to) [
   | inl below ↦ rw (lt-ltb (p.from + next) p.to below) (omega arith)
   | inr over ↦ rw (le-ltb (p.from + next) p.to over) (omega arith)

@@ -6,12 +6,14 @@ use Rattle.rst_text.specs.Looked.{capped}
 use Rattle.rst_text.specs.Block.{Block}
 use Rattle.rst_markup_blocks.specs.Begun.{IsBegun}
 use Rattle.rst_markup_blocks.specs.Ends.{row_size}
-use Rattle.rst_markup_blocks.specs.Partition.{construct_size}
+use Rattle.rst_markup_blocks.specs.Lines.{lines_while}
+use Rattle.rst_markup_blocks.specs.Partition.{AreBlank, construct_size}
 use Rattle.rst_markup_blocks.specs.TableRows.{grid_size, grid_scan, grid_reach, simple_size, simple_scan, simple_reach}
 use Rattle.rst_markup_blocks.specs.declared.begun.Begun.{Begun}
 use Rattle.rst_markup_blocks.specs.declared.begun.Begun.TheVariants as begun
 use Rattle.rst_markup_blocks.specs.declared.kind.Kind.TheVariants.{Grid, Simple}
 use Rattle.rst_markup_blocks.specs.declared.kind.Kind.TheVariants as kinds
+use Rattle.rst_markup_blocks.specs.declared.lines.LineTest.TheVariants.{Blank as BlankTest}
 use Rattle.rst_markup_blocks.specs.declared.part.Part.{Part}
 use Rattle.rst_markup_blocks.proofs.PartitionLemmas.{end_inside}
 use Rattle.rst_markup_blocks.proofs.RowLemmas.{row_at}
@@ -34,8 +36,8 @@ use Rattle.rst_block_state.specs.declared.open_block.OpenBlock.{OpenBlock}
 use Rattle.rst_block_state.specs.declared.waits.Waits.{Waits}
 use Rattle.rst_block_state.specs.declared.step.Step.{Step}
 use Rattle.rst_block_state.specs.declared.step.Step.TheVariants.{Next, Open, Cells}
-use Rattle.rst_block_state.proofs.LedgerLemmas.{blank_line, construct, size_reached}
-use Rattle.rst_block_state.proofs.NextConstructs.{IsFilled, next_of}
+use Rattle.rst_block_state.proofs.LedgerLemmas.{blank_lines, construct, size_reached}
+use Rattle.rst_block_state.proofs.NextConstructs.{IsFilled, are_blank, next_of}
 use Rattle.rst_block_state.proofs.PaidSteps.{one_look, paid_next, reach_of}
 use Rattle.rst_block_body.proofs.TableSteps.{IsNextTable, next_table}
 use Rattle.rst_block_state.proofs.WaitingLooks.{last_block}
@@ -53,11 +55,13 @@ takes_none most least looks = record { no_more = omega arith; no_less = omega ar
 
 -- ---- a construct at the next line
 
--- a blank line, at which one look is taken or more, and no more than three
-pub blank_taken : {old new : OpenBlock} {before after : ℕ} (B : Block) → old.at < length B → IsBegun (drop old.at B) begun.Blank → IsMoved old new → new.at ≡ old.at + 1 → capped (before + 1) ≤ after → after ≤ before + 3
+-- blank lines, of which there is one: three looks at most are taken for that one, and then one at each of them and at the line after them
+pub blanks_taken : {old new : OpenBlock} {before mid after : ℕ} (B : Block) → old.at < new.at → new.at ≤ length B → new.at ≡ old.at + lines_while BlankTest (drop old.at B) → IsMoved old new
+    → mid ≤ before + 3 → capped before ≤ mid → after ≤ mid + lines_while BlankTest (drop old.at B) + 1 → capped (mid + lines_while BlankTest (drop old.at B)) ≤ after
     → Takes (most_left old B Next) (least_left old B Next) before (most_left new B Next) (least_left new B Next) after
-blank_taken {old} {new} {before} {after} B inside h moved at some few =
-    blank_line old new B before after inside (row_at kinds.Blank (drop old.at B) h.kind) moved.depth (omega (arith, at)) moved.run (omega (arith, few)) some
+blanks_taken {old} {new} {before} {mid} {after} B later within at moved few some more all =
+    let blank : AreBlank B old.at new.at = rw at (are_blank B old.at) in
+    blank_lines old new B before after (omega arith) within blank moved.depth moved.run (omega arith) (omega arith)
 
 -- what is paid for with fewer looks is paid for
 paid_within : (old new : OpenBlock) (B : Block) (s : Step) (before after : ℕ) → IsPaid 27 old new B s before after → IsPaid 29 old new B s before after

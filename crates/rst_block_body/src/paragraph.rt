@@ -14,21 +14,21 @@ ghost use Rattle.rst_block_body.specs.TextSteps as parts;
 ghost use Rattle.rst_markup_blocks.specs.Lines.{lines_while};
 ghost use Rattle.rst_markup_blocks.specs.Sizes.{paragraph_size, literal_size};
 ghost use Rattle.rst_markup_blocks.specs.declared.lines.LineTest.TheVariants.{Begins};
-ghost use Rattle.rst_markup_lines.specs.Closing as closing;
 ghost use Rattle.rst_markup_lines.specs.Front.{begins_with, is_loose};
 ghost use Rattle.rst_text.specs.Block.{first_number, front_text};
 ghost use Rattle.rst_text.specs.Extent.{extent};
-ghost use Rattle.rst_text.specs.Text.{chars_of};
 ghost use Rattle.rst_text.specs.Looked.{capped};
 ghost use Rattle.rst_text.specs.Reach.{reach};
 
 use rst_block_nodes::{message, preserved, with_text};
-use rst_block_state::{BlockFault, OpenBlock, Pass, indented, inside, joined, number_at, source};
+use rst_block_state::{
+    BlockFault, OpenBlock, Pass, announced, indented, inside, joined, number_at, source,
+};
 use rst_markup_blocks::{LineTest, lines_end, text_at};
 use rst_markup_lines::{begins_with, ends_in_colons, front, is_blank, is_punctuation};
 use rst_text::View;
 use rst_tree::{Level, Tag};
-use std::alloc::{AllocError, Global};
+use std::alloc::Global;
 
 /// A doctest block: the lines up to a blank one.
 pub fn doctest_block(
@@ -53,22 +53,6 @@ pub fn doctest_block(
     let node = preserved(alloc, Tag::DoctestBlock, number_at(view, at), text.as_str())?;
     level.go_to(end);
     level.push(node)
-}
-
-/// The text of a paragraph that announces a literal block: without both colons and the white before them, where white or
-/// nothing stands before them, else without one.
-fn announcing(alloc: Global, text: &str) -> Result<String, AllocError>
-    requires colons { closing.ends_in_colons (chars text.now) ≡ true }
-    ensures { IfOk result (λ shown. chars_of shown ≡ literals.announced (chars text.now)) }
-{
-    let before = text.strip_suffix("::").unwrap_or(text);
-    let bare = before.trim_end();
-    if bare.len() < before.len() || is_blank(bare) {
-        return String::from_str(alloc, bare);
-    }
-    let mut text = String::from_str(alloc, before)?;
-    text.push(':')?;
-    Ok(text)
 }
 
 /// A paragraph, with the literal block that it announces. Of the level the open run has ended.
@@ -125,8 +109,7 @@ fn paragraph_of(
         level.go_to(end);
         return Ok(());
     }
-    let shown = announcing(alloc, text)?;
-    put_paragraph(alloc, view, level, shown.as_str(), end, pass)?;
+    put_paragraph(alloc, view, level, announced(text), end, pass)?;
     literal(alloc, view, level, end, pass)
 }
 

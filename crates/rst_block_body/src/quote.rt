@@ -120,7 +120,7 @@ fn rest_of(quote: Part, next: usize) -> Option<Part>
     None
 }
 
-/// The first attribution in a quote, with its place: behind a blank line. It makes at most five looks for each line through its
+/// The first attribution in a quote, with its place: behind a blank line. It makes one to five looks for each line through its
 /// end, or for each line of the quote where there is none.
 fn first_attribution(lines: &View<'_>, looks: &mut Looks) -> Option<(usize, Attribution)>
     ensures first { result ≡ quotes.first_attribution (block_of lines.now) }
@@ -128,11 +128,12 @@ fn first_attribution(lines: &View<'_>, looks: &mut Looks) -> Option<(usize, Attr
     ensures within { IfSome result (λ found. IsBlock (block_of lines.now) (attribution_part found.0 found.1)) }
     ensures through { IfSome result (λ found. looks.new ≤ looks.old + 5 * found.1.end) }
     ensures all { IfNone result (looks.new ≤ looks.old + 5 * length (block_of lines.now) + 1) }
-    ensures low { capped looks.old ≤ looks.new }
+    ensures each { IfSome result (λ found. capped (looks.old + found.1.end) ≤ looks.new) }
+    ensures low { IfNone result (capped (looks.old + length (block_of lines.now)) ≤ looks.new) }
 {
     let mut end = lines_end(lines, 0, LineTest::Filled, looks);
     while end < lines.len() {
-        let place = lines_end(lines, end + 1, LineTest::Blank, looks);
+        let place = lines_end(lines, end, LineTest::Blank, looks);
         if place >= lines.len() {
             return None;
         }

@@ -83,17 +83,16 @@ pub image_is : (node : Node) (t : List ℕ) (slice items : List Setting) (line a
     → just (node ∷ []) ≡ just (image_element t (choices_in items) at false None ∷ [])
 image_is node t slice items line at e s l = ap (λ (x : Node). just (x ∷ [])) (e ∙ ap (λ ss. image_element t (choices_in ss) line false None) s ∙ ap (λ k. image_element t (choices_in items) k false None) l)
 
-pub figure_is : (c : Within) (B : Block) (read : Read) (t lines source : List ℕ) (line at : ℕ) (slice : List Setting) (element shown figure : Node) (inner : List Node)
+pub figure_is : (c : Within) (B : Block) (read : Read) (t lines : List ℕ) (line at : ℕ) (slice : List Setting) (element shown figure : Node) (inner : List Node)
     → element ≡ figure_element (choices_in slice) line → shown ≡ image_element t (choices_in slice) line true None → inner ≡ shown ∷ [] → figure ≡ filled element inner
-    → choices_in slice ≡ read.options → line ≡ at → source ≡ lines
-    → made_of c B read.content (figure_nodes figure (caption_error line source)) ≡ figure_of c B at read t lines
-figure_is c B read t lines source line at slice element shown figure inner e s i f o l r =
+    → choices_in slice ≡ read.options → line ≡ at
+    → made_of c B read.content (figure_nodes figure (caption_error at lines)) ≡ figure_of c B at read t lines
+figure_is c B read t lines line at slice element shown figure inner e s i f o l =
     let whole : figure ≡ filled (figure_element read.options line) (image_element t read.options line true None ∷ []) =
     f ∙ ap (filled element) (i ∙ ap (λ (x : Node). x ∷ []) (s ∙ ap (λ os. image_element t os line true None) o))
     ∙ ap (λ x. filled x (image_element t read.options line true None ∷ [])) (e ∙ ap (λ os. figure_element os line) o) in
-    ap (λ x. made_of c B read.content (figure_nodes x (caption_error line source))) whole
-    ∙ ap (λ x. made_of c B read.content (figure_nodes (filled (figure_element read.options line) (image_element t read.options line true None ∷ [])) (caption_error line x))) r
-    ∙ ap (λ k. made_of c B read.content (figure_nodes (filled (figure_element read.options k) (image_element t read.options k true None ∷ [])) (caption_error k lines))) l
+    ap (λ x. made_of c B read.content (figure_nodes x (caption_error at lines))) whole
+    ∙ ap (λ k. made_of c B read.content (figure_nodes (filled (figure_element read.options k) (image_element t read.options k true None ∷ [])) (caption_error at lines))) l
 
 pub language_right : {A : Type 0} (argument : Argument) (word : String A) (t : List ℕ) (name : Name) (c : Within) (B : Block) (line : ℕ) (read : Read) (lines : List ℕ) → given_in argument ≡ language (chars (string_bytes word))
     → t ≡ string_bytes word → encode_utf8_all (chars t) ≡ t → just (code_nodes B line read (Some t)) ≡ right_by (given_in argument) name c B line read lines

@@ -26,7 +26,7 @@ use Rattle.rst_markup_directives.specs.declared.name.Name.{Name}
 use Rattle.rst_markup_directives.specs.declared.name.Name.TheVariants.{Admonition, Topic, Image, Figure, Code}
 use Rattle.rst_block_state.specs.Directives.{called}
 use Rattle.rst_block_state.specs.Inside.{content_blocks, directive_content}
-use Rattle.rst_block_state.specs.Ledger.{Opens, argument_lines, goes_on_at, quote_looks, quotes_left, run_looks, totals}
+use Rattle.rst_block_state.specs.Ledger.{Opens, WaitsForOne, argument_lines, waiting_looks, run_looks, totals}
 use Rattle.rst_block_markup.specs.MarkupSteps.{is_figure}
 use Rattle.rst_block_state.specs.OpenBlocks.{IsMoved}
 use Rattle.rst_block_state.specs.Paragraphs.{is_single_paragraph}
@@ -35,31 +35,30 @@ use Rattle.rst_block_state.specs.Within.{Within}
 use Rattle.rst_block_state.specs.declared.fault.BlockFault.{BlockFault}
 use Rattle.rst_block_state.specs.declared.open_block.OpenBlock.{OpenBlock}
 use Rattle.rst_block_state.specs.declared.waits.Waits.{Waits}
-use Rattle.rst_block_state.specs.declared.waits.Waits.TheVariants.{Quote}
 use Rattle.rst_block_state.specs.declared.step.Step.{Step}
 use Rattle.rst_block_state.specs.declared.step.Step.TheVariants.{Open}
 use Rattle.rst_block_markup.proofs.ContentFacts.{run_in-le}
 use Rattle.rst_block_state.proofs.PaidSteps.{opened_after}
 use Rattle.rst_block_state.proofs.PartFacts.{part_le}
+use Rattle.rst_block_state.proofs.WaitingLooks.{alone}
 
 -- ---- what a call opens
 
--- what is opened at the price of all looks before it is opened in no more looks than these
+-- what is opened at the price of all looks before it, and of some that come later, is opened in no more looks than these
+pub opened_later : (more later : ℕ) (old new : OpenBlock) (B : Block) (Cs Ds : List Block) (end before after : ℕ) (result : Result Step BlockFault) → capped before ≤ after → after - before + later ≤ more → Cs ≡ Ds
+    → (capped before ≤ after → IfOk result (λ s. Opens (after - before + later) old new B Cs end s before after)) → IfOk result (λ s. Opens more old new B Ds end s before after)
+opened_later more later old new B Cs Ds end before after result low high same h = opened_after (after - before + later) more old new B Cs Ds end before before after result (omega arith) (omega (arith, high)) same (h low)
+
+-- the same where none come later
 pub opened_within : (more : ℕ) (old new : OpenBlock) (B : Block) (Cs Ds : List Block) (end before after : ℕ) (result : Result Step BlockFault) → capped before ≤ after → after ≤ before + more → Cs ≡ Ds
     → (capped before ≤ after → IfOk result (λ s. Opens (after - before) old new B Cs end s before after)) → IfOk result (λ s. Opens more old new B Ds end s before after)
 opened_within more old new B Cs Ds end before after result low high same h = opened_after (after - before) more old new B Cs Ds end before before after result (omega arith) (omega (arith, low, high)) same (h low)
 
--- a block that takes no looks for quotes waits for none
-no_quotes : (l : OpenBlock) (B : Block) (w : Waits) → quote_looks w ≡ 0 → (quotes_left B w ≡ []) × (goes_on_at l w ≡ l.at)
-no_quotes l B (Quote line made None end) h = absurd (omega (arith, h))
-no_quotes l B (Quote line made (Some p) end) h = absurd (omega (arith, h))
-no_quotes l B _ h = (refl, refl)
-
 -- the content of a directive is opened after some looks
-pub content_opened : (old new : OpenBlock) (B : Block) (w : Waits) (content : Content) (end before after : ℕ) → quote_looks w ≡ 0 → IsMoved old new → new.at ≡ end → capped before ≤ after
-    → Opens (after - before) old new B (content_blocks B content) end (Open w content.first (Some content.second)) before after
+pub content_opened : (old new : OpenBlock) (B : Block) (w : Waits) (content : Content) (end before after : ℕ) → WaitsForOne w → IsMoved old new → new.at ≡ end → capped before ≤ after
+    → Opens (after - before + waiting_looks w) old new B (content_blocks B content) end (Open w content.first (Some content.second)) before after
 content_opened old new B w content end before after h moved at le =
-    let none = no_quotes new B w h in
+    let none = alone new B w h in
     record {
       goes = tt;
       depth = moved.depth;
@@ -67,7 +66,7 @@ content_opened old new B w content end before after h moved at le =
       place = none.1 ∙ at;
       blocks = ap (λ (Cs : List Block). totals old.depth (lines_in B content.first ∷ lines_in B content.second ∷ Cs)) none.0;
       cells = refl;
-      most = omega (arith, h, ap run_looks moved.run, le);
+      most = omega (arith, ap run_looks moved.run, le);
       least = le;
     }
 

@@ -28,7 +28,7 @@ ghost use Rattle.rst_block_state.specs.Paragraphs.{is_single_paragraph};
 ghost use Rattle.rst_block_state.specs.Steps as spec;
 ghost use Rattle.rst_block_state.specs.Texts.{joined, lines_in, shown, source_of, texted};
 ghost use Rattle.rst_block_state.specs.declared.step.Step.TheVariants.{Open};
-ghost use Rattle.rst_block_state.specs.Ledger.{Opens, argument_lines, quote_looks, unread_at};
+ghost use Rattle.rst_block_state.specs.Ledger.{Opens, WaitsForOne, argument_lines, waiting_looks, unread_at};
 ghost use Rattle.rst_block_state.specs.Inside.{content_blocks, directive_blocks, directive_content};
 
 use super::explicit::put;
@@ -38,8 +38,8 @@ use rst_block_nodes::{
 };
 use rst_block_sections::{append, filled};
 use rst_block_state::{
-    BlockFault, OpenBlock, OpenFigure, Pass, Step, Waits, alone, excerpt, first_line_or, inside,
-    joined, number_at, source,
+    BlockFault, OpenBlock, Pass, Step, Waits, alone, excerpt, first_line_or, inside, joined,
+    number_at, source,
 };
 use rst_markup_blocks::{Invocation, Part};
 use rst_markup_directives::{
@@ -242,7 +242,7 @@ fn directive_nodes(
 {
     match &found.argument {
         Argument::Title(title) => titled_block(alloc, view, level, found, *title, pass),
-        Argument::Uri(uri) => image_block(alloc, view, level, found, uri.as_str(), pass),
+        Argument::Uri(uri) => image_block(alloc, view, level, found, uri.as_str()),
         Argument::Language(language) => {
             let language = Some(language.as_str());
             code_nodes(alloc, view, level, found, language, pass)
@@ -320,7 +320,6 @@ fn image_block(
     level: &mut OpenBlock,
     found: &Found,
     uri: &str,
-    pass: &mut Pass,
 ) -> Result<Step, BlockFault>
     requires content { IsContentIn (block_of view.now) found.now.content }
     requires inside { level.old.at < length (block_of view.now) }
@@ -328,18 +327,18 @@ fn image_block(
     requires placed { IsPlaced level.old }
     ensures step { IfOk result (λ s. spec.IsStep (block_of view.now) level.old.at level.new.at s) }
     ensures kept { IfOk result (λ _. IsKept level.old level.new) }
-    ensures read { let B = block_of view.now in
+    ensures read { (number : ℕ) → let B = block_of view.now in
         let line = first_number (drop level.old.at B) in
         let source = source_of B (record { start = level.old.at; stop = found.now.end }) in
         let read = read_of found.now in
         let nodes = meaning.right_by (given.uri (chars uri.now)) found.now.name (within_at level.old.depth) B line read source in
-        Keeps result (λ s. comes level.new B s pass.new.numbers) (reads_with level.old B nodes found.now.end pass.old.numbers) }
-    ensures paid { let B = block_of view.now in
+        Keeps result (λ s. comes level.new B s number) (reads_with level.old B nodes found.now.end number) }
+    ensures paid { (looks : ℕ) → let B = block_of view.now in
         let inner = directive_content (given.uri (chars uri.now)) found.now.name B found.now.content in
-        IfOk result (λ s. Opens (found.now.end - level.old.at) level.old level.new B inner found.now.end s pass.old.looks pass.new.looks) }
+        IfOk result (λ s. Opens (found.now.end - level.old.at) level.old level.new B inner found.now.end s looks looks) }
 {
     if is_figure(found.name) {
-        return figure_block(alloc, view, level, found, uri, pass);
+        return figure_block(alloc, view, level, found, uri);
     }
     let line = number_at(view, level.at);
     let node = image(alloc, uri, found.options.as_slice(), line, false, None)?;
@@ -349,12 +348,12 @@ fn image_block(
 /// Opens the content of a directive, for whose nodes its block waits.
 fn opened(level: &mut OpenBlock, waits: Waits, found: &Found) -> Step
     requires later { level.old.at < found.now.end }
-    requires waits { quote_looks waits ≡ 0 }
+    requires waits { WaitsForOne waits }
     ensures opened { result ≡ Open waits found.now.content.first (Some found.now.content.second) }
     ensures at { level.new.at ≡ found.now.end }
     ensures moved { IsMoved level.old level.new }
     ensures paid { (B : Block) (before after : ℕ) → capped before ≤ after
-        → Opens (after - before) level.old level.new B (content_blocks B found.now.content) found.now.end result before after }
+        → Opens (after - before + waiting_looks waits) level.old level.new B (content_blocks B found.now.content) found.now.end result before after }
 {
     level.go_to(found.end);
     Step::Open {
@@ -371,7 +370,6 @@ fn figure_block(
     level: &mut OpenBlock,
     found: &Found,
     uri: &str,
-    pass: &mut Pass,
 ) -> Result<Step, BlockFault>
     requires content { IsContentIn (block_of view.now) found.now.content }
     requires inside { level.old.at < length (block_of view.now) }
@@ -379,27 +377,25 @@ fn figure_block(
     requires placed { IsPlaced level.old }
     ensures step { IfOk result (λ s. spec.IsStep (block_of view.now) level.old.at level.new.at s) }
     ensures kept { IfOk result (λ _. IsKept level.old level.new) }
-    ensures read { let B = block_of view.now in
+    ensures read { (number : ℕ) → let B = block_of view.now in
         let line = first_number (drop level.old.at B) in
         let source = source_of B (record { start = level.old.at; stop = found.now.end }) in
         let nodes = meaning.figure_of (within_at level.old.depth) B line (read_of found.now) uri.now source in
-        Keeps result (λ s. comes level.new B s pass.new.numbers) (reads_with level.old B nodes found.now.end pass.old.numbers) }
-    ensures paid { let B = block_of view.now in
+        Keeps result (λ s. comes level.new B s number) (reads_with level.old B nodes found.now.end number) }
+    ensures paid { (looks : ℕ) → let B = block_of view.now in
         let inner = content_blocks B found.now.content in
-        IfOk result (λ s. Opens (found.now.end - level.old.at) level.old level.new B inner found.now.end s pass.old.looks pass.new.looks) }
+        IfOk result (λ s. Opens (found.now.end - level.old.at) level.old level.new B inner found.now.end s looks looks) }
 {
     let at = level.at;
     let line = number_at(view, at);
     let options = found.options.as_slice();
     let shown = image(alloc, uri, options, line, true, None)?;
     let figure = filled(figure(alloc, options, line)?, alone(alloc, shown)?)?;
-    let source = source(alloc, view, at, found.end, &mut pass.looks)?;
-    let waiting = OpenFigure {
+    let waits = Waits::Figure {
         figure,
-        line,
-        source,
+        start: at,
+        end: found.end,
     };
-    let waits = Waits::Figure(Box::new(alloc, waiting)?);
     Ok(opened(level, waits, found))
 }
 

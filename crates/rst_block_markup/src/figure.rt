@@ -1,13 +1,18 @@
 //! Figures (Directives, 'Figure').
-ghost use Rattle.std.specs.Prelude.{◌≡◌, ◌∷◌, ◌++◌, take, drop, string_bytes};
+ghost use Rattle.std.specs.Prelude.{◌≡◌, ◌+◌, ◌-◌, ◌≤◌, ◌∷◌, ◌++◌, take, drop, IfOk};
+ghost use Rattle.rst_text.specs.Block.{first_number};
+ghost use Rattle.rst_text.specs.Looked.{capped};
+ghost use Rattle.rst_text.specs.Shown.{block_of};
 ghost use Rattle.rst_tree.specs.Faults.{Gives};
 ghost use Rattle.rst_block_sections.specs.Sections.{filled};
 ghost use Rattle.rst_block_state.specs.Figures as spec;
+ghost use Rattle.rst_block_state.specs.Texts.{source_of};
 ghost use Rattle.rst_block_markup.specs.MarkupSteps.{beginning_in};
 
 use rst_block_nodes::message;
 use rst_block_sections::completed;
-use rst_block_state::{OpenFigure, parted};
+use rst_block_state::{number_at, parted, source};
+use rst_text::{Looks, View};
 use rst_tree::{Attrs, Children, Key, Level, Node, Tag, TreeFault};
 use rst_tree_index::{Marked, MarkedIter, MarkedNodes};
 use std::alloc::Global;
@@ -22,20 +27,23 @@ enum Front {
     Wrong,
 }
 
-/// A figure with the nodes of its content as caption and legend, and the messages of the caption behind it.
+/// A figure with the nodes of its content as caption and legend, and the messages of the caption behind it. Its lines are those
+/// from place `start` up to place `end`. They are looked at only if they are shown.
 pub fn finished_figure(
     alloc: Global,
-    open: OpenFigure,
+    view: &View<'_>,
+    figure: Node,
+    start: usize,
+    end: usize,
     nodes: MarkedNodes,
+    looks: &mut Looks,
 ) -> Result<MarkedNodes, TreeFault>
-    ensures { Gives (λ made. made
-        ≡ spec.figure_nodes open.figure (spec.caption_error open.line (string_bytes open.source)) nodes) result }
+    ensures figure { let B = block_of view.now in
+        let error = spec.caption_error (first_number (drop start B)) (source_of B (record { start = start; stop = end })) in
+        Gives (λ made. made ≡ spec.figure_nodes figure error nodes) result }
+    ensures looks { looks.new ≤ looks.old + (end - start) }
+    ensures low { IfOk result (λ _. capped looks.old ≤ looks.new) }
 {
-    let OpenFigure {
-        figure,
-        line,
-        source,
-    } = open;
     let mut rest = nodes.into_marked();
     let Some(first) = rest.next(alloc) else {
         return MarkedNodes::alone(alloc, Marked::of(alloc, figure)?);
@@ -50,7 +58,9 @@ pub fn finished_figure(
         Front::Missing => captioned(alloc, figure, MarkedNodes::none(alloc), rest, 0),
         Front::Wrong => {
             let text = "Figure caption must be a paragraph or empty comment.";
-            let error = message(alloc, Level::Error, line, text, Some(source.as_str()))?;
+            let lines = source(alloc, view, start, end, looks)?;
+            let line = number_at(view, start);
+            let error = message(alloc, Level::Error, line, text, Some(lines.as_str()))?;
             let mut nodes = MarkedNodes::alone(alloc, Marked::of(alloc, figure)?)?;
             nodes.push_new(error)?;
             Ok(nodes)

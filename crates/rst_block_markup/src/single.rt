@@ -7,12 +7,12 @@ ghost use Rattle.rst_markup_blocks.specs.Conditions.{next_text};
 ghost use Rattle.rst_block_state.specs.Paragraphs as paragraphs;
 ghost use Rattle.rst_markup_blocks.specs.Sizes.{overline_looks};
 
-use rst_block_state::inside;
+use rst_block_state::{announced, inside};
 use rst_markup_blocks::{
     Adorned, Begun, LineTest, TextForm, adorned_at, begun_at, below_text, lines_end, text_form,
 };
-use rst_markup_lines::{ends_in_colons, is_blank};
-use rst_text::{Looks, View, skip};
+use rst_markup_lines::is_blank;
+use rst_text::{Looks, View};
 
 /// Whether the lines of a block in a block are one paragraph that doesn't vanish, and nothing else. It makes at most six looks more
 /// than there are lines.
@@ -20,6 +20,7 @@ pub(crate) fn is_single_paragraph(view: &View<'_>, looks: &mut Looks) -> bool
     ensures paragraph { result ≡ paragraphs.is_single_paragraph (block_of view.now) }
     ensures most { looks.new ≤ looks.old + length (block_of view.now) + 6 }
     ensures low { capped looks.old ≤ looks.new }
+    ensures each { result ≡ true → capped (looks.old + length (block_of view.now)) ≤ looks.new }
 {
     if view.len() == 0 || !begins_paragraph(view, looks) {
         return false;
@@ -28,14 +29,7 @@ pub(crate) fn is_single_paragraph(view: &View<'_>, looks: &mut Looks) -> bool
     if end < view.len() {
         return false;
     }
-    1 < end || !is_colons(view.line(0, looks))
-}
-
-/// Whether a text is nothing but the two colons that announce a literal block.
-fn is_colons(text: &str) -> bool
-    ensures { result ≡ paragraphs.is_colons (chars text.now) }
-{
-    ends_in_colons(text) && is_blank(skip(text, 2))
+    1 < end || !is_blank(announced(view.line(0, looks)))
 }
 
 /// Whether the first line of a block in a block begins a paragraph.
@@ -43,7 +37,7 @@ fn begins_paragraph(view: &View<'_>, looks: &mut Looks) -> bool
     requires inside { 0 < length (block_of view.now) }
     ensures paragraph { result ≡ paragraphs.begins_paragraph (block_of view.now) }
     ensures looks { looks.new ≤ looks.old + 5 + overline_looks (next_text (block_of view.now)) }
-    ensures low { capped looks.old ≤ looks.new }
+    ensures low { capped (looks.old + 2) ≤ looks.new }
 {
     let text = view.line(0, looks);
     let next = below_text(view, 0, 1, looks);
@@ -60,7 +54,7 @@ fn begins_text(view: &View<'_>, next: &str, looks: &mut Looks) -> bool
     requires next { chars next.now ≡ next_text (block_of view.now) }
     ensures text { result ≡ paragraphs.begins_text (block_of view.now) }
     ensures looks { looks.new ≤ looks.old + 3 + overline_looks (next_text (block_of view.now)) }
-    ensures low { capped looks.old ≤ looks.new }
+    ensures low { capped (looks.old + 1) ≤ looks.new }
 {
     match begun_at(view, 0, looks) {
         Begun::Text => true,

@@ -1,12 +1,12 @@
 -- What may still be taken of looks, and has to be taken, falls with each line, each construct and each block by what these take.
-use Rattle.std.proofs.Common.{◌≡◌, ℕ, suc, ◌+◌, ◌-◌, ◌*◌, ◌<◌, ◌≤◌, Bool, true, false, List, [], ◌∷◌, ◌++◌, length, length-drop, drop, Option, Some, None, arith, ap, ◌∙◌}
+use Rattle.std.proofs.Common.{◌≡◌, ℕ, zero, suc, ◌+◌, ◌-◌, ◌*◌, ◌<◌, ◌≤◌, Bool, true, false, List, [], ◌∷◌, ◌++◌, length, length-drop, drop, Option, Some, None, arith, ap, ◌∙◌}
 use Rattle.std.specs.Prelude.{◌==◌, flat_map}
 use Rattle.std.proofs.lemmas.List.{drop-drop}
 use Rattle.rst_text.specs.Block.{Block}
 use Rattle.rst_text.specs.Looked.{capped}
 use Rattle.rst_markup_blocks.specs.Ends.{row_size, row_reach}
 use Rattle.rst_markup_blocks.specs.Kinds.{kind_at}
-use Rattle.rst_markup_blocks.specs.Partition.{construct_size, construct_end, IsBlankAt, IsTextAt}
+use Rattle.rst_markup_blocks.specs.Partition.{construct_size, construct_end, AreBlank, IsTextAt}
 use Rattle.rst_markup_blocks.specs.declared.kind.Kind.{Kind}
 use Rattle.rst_markup_blocks.specs.declared.kind.Kind.TheVariants.{Grid, Simple}
 use Rattle.rst_markup_blocks.specs.declared.part.Part.{Part}
@@ -27,7 +27,7 @@ use Rattle.rst_block_state.specs.declared.run.Run.TheVariants.{None as NoRun}
 use Rattle.rst_block_state.specs.declared.step.Step.{Step}
 use Rattle.rst_block_state.specs.declared.step.Step.TheVariants.{Next, Open, Cells, Done}
 use Rattle.rst_block_state.proofs.MeaningLemmas.{not_zero}
-use Rattle.rst_block_state.proofs.RestLemmas.{found_over, found_blank, found_text}
+use Rattle.rst_block_state.proofs.RestLemmas.{found_over, found_blanks, found_text}
 use Rattle.rst_block_state.proofs.UnpaidLemmas.{begin, paid, passed}
 
 pub sum_append : (f : Block → ℕ) (Cs Ds : List Block) → sum_of f (Cs ++ Ds) ≡ sum_of f Cs + sum_of f Ds
@@ -45,11 +45,11 @@ over depth B i h =
     let b = ap (λ fs. totals depth (flat_map (cells_with B) fs)) (found_over c.titles B i h) in
     omega (arith, a, b)
 
-past_blank : (depth : ℕ) (B : Block) (i : ℕ) → IsBlankAt B i → still_inside depth B i ≡ still_inside depth B (suc i)
-past_blank depth B i h =
+past_blanks : (depth : ℕ) (B : Block) (i j : ℕ) → i ≤ j → AreBlank B i j → still_inside depth B i ≡ still_inside depth B j
+past_blanks depth B i j le h =
     let c : Within = unread_at depth in
-    let a = ap (λ fs. totals depth (flat_map (opened_of c B) fs)) (found_blank c.titles B i h) in
-    let b = ap (λ fs. totals depth (flat_map (cells_with B) fs)) (found_blank c.titles B i h) in
+    let a = ap (λ fs. totals depth (flat_map (opened_of c B) fs)) (found_blanks c.titles B i j le h) in
+    let b = ap (λ fs. totals depth (flat_map (cells_with B) fs)) (found_blanks c.titles B i j le h) in
     omega (arith, a, b)
 
 past_construct : (depth : ℕ) (B : Block) (i : ℕ) → IsTextAt B i
@@ -94,17 +94,25 @@ next_line B i h =
     let d : drop 1 (drop i B) ≡ drop (suc i) B = drop-drop 1 i B ∙ ap (λ n. drop n B) e in
     omega (arith, passed (drop i B) (omega (arith, h, length-drop i B)), ap unpaid d)
 
-pub blank_line : (old new : OpenBlock) (B : Block) (before after : ℕ) → old.at < length B → IsBlankAt B old.at → new.depth ≡ old.depth → new.at ≡ suc old.at → new.run ≡ old.run
-    → after ≤ before + 32 → capped (before + 1) ≤ after
+next_lines : (n : ℕ) (B : Block) (i : ℕ) → i + n ≤ length B → unpaid (drop (i + n) B) + n ≤ unpaid (drop i B)
+next_lines zero B i h = let same : i + 0 ≡ i = omega arith in rw same (omega arith)
+next_lines (suc n) B i h =
+    let same : i + suc n ≡ suc i + n = omega arith in
+    rw same (omega (arith, next_line B i (omega arith), next_lines n B (suc i) (omega arith)))
+
+pub blank_lines : (old new : OpenBlock) (B : Block) (before after : ℕ) → old.at ≤ new.at → new.at ≤ length B → AreBlank B old.at new.at → new.depth ≡ old.depth → new.run ≡ old.run
+    → after ≤ before + 32 * (new.at - old.at) → capped (before + (new.at - old.at)) ≤ after
     → Takes (most_left old B Next) (least_left old B Next) before (most_left new B Next) (least_left new B Next) after
 unfolding sum_of
-blank_line old new B before after inside blank d p r few some =
-    let m : most_from new.depth B new.at ≡ most_from old.depth B (suc old.at) = ap (λ k. most_from k B new.at) d ∙ ap (most_from old.depth B) p in
-    let l : least_from new.depth B new.at ≡ least_from old.depth B (suc old.at) = ap (λ k. least_from k B new.at) d ∙ ap (least_from old.depth B) p in
-    let s = past_blank old.depth B old.at blank in
+blank_lines old new B before after later within blank d r few some =
+    let m : most_from new.depth B new.at ≡ most_from old.depth B new.at = ap (λ k. most_from k B new.at) d in
+    let l : least_from new.depth B new.at ≡ least_from old.depth B new.at = ap (λ k. least_from k B new.at) d in
+    let s = past_blanks old.depth B old.at new.at later blank in
+    let same : old.at + (new.at - old.at) ≡ new.at = omega arith in
+    let paid = rw same at (next_lines (new.at - old.at) B old.at (omega arith)) in
     record {
-      no_more = omega (arith, m, s, ap run_looks r, next_line B old.at inside, few);
-      no_less = omega (arith, l, s, inside, some);
+      no_more = omega (arith, m, s, ap run_looks r, paid, few);
+      no_less = omega (arith, l, s, within, some);
     }
 
 -- what is unpaid after a construct

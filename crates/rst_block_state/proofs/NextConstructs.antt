@@ -1,7 +1,7 @@
 -- The next construct of a block: what begins at its next line, what the block gives by it, and what it gives once the open run has ended.
-use Rattle.std.proofs.Common.{◌≡◌, ℕ, suc, ◌+◌, ◌-◌, ◌^◌, ◌<◌, ◌≤◌, min, Bool, true, false, List, [], ◌∷◌, ◌++◌, length, drop, map, Ok, Err, arith, refl, sym, ◌∙◌, ap}
+use Rattle.std.proofs.Common.{◌≡◌, ℕ, zero, suc, ◌+◌, ◌-◌, ◌^◌, ◌<◌, ◌≤◌, min, Bool, true, false, cond, List, [], ◌∷◌, ◌++◌, length, drop, map, Ok, Err, arith, refl, sym, ◌∙◌, ap}
 use Rattle.std.specs.Prelude.{◌==◌}
-use Rattle.std.proofs.lemmas.List.{map-append}
+use Rattle.std.proofs.lemmas.List.{drop-drop, map-append}
 use Rattle.rst_text.specs.Block.{Block, is_blank, front_text, first_number}
 use Rattle.rst_tree.specs.declared.node.Node.{Node}
 use Rattle.rst_tree.specs.declared.note.Level.{Level}
@@ -10,12 +10,14 @@ use Rattle.rst_markup_blocks.specs.Conditions.{next_text}
 use Rattle.rst_markup_blocks.specs.Ends.{row_size}
 use Rattle.rst_markup_blocks.specs.Forms.{text_form}
 use Rattle.rst_markup_blocks.specs.Kinds.{kind_at, first_kind}
-use Rattle.rst_markup_blocks.specs.Partition.{construct_size, IsTextAt}
+use Rattle.rst_markup_blocks.specs.Lines.{lines_while}
+use Rattle.rst_markup_blocks.specs.Partition.{AreBlank, construct_size, IsTextAt}
 use Rattle.rst_markup_blocks.specs.Sizes.{text_size, form_size}
 use Rattle.rst_markup_blocks.specs.declared.begun.Begun.{Begun}
 use Rattle.rst_markup_blocks.specs.declared.begun.Begun.TheVariants.{Blank}
 use Rattle.rst_markup_blocks.specs.declared.form.TextForm.{TextForm}
 use Rattle.rst_markup_blocks.specs.declared.kind.Kind.TheVariants as kinds
+use Rattle.rst_markup_blocks.specs.declared.lines.LineTest.TheVariants.{Blank as BlankTest}
 use Rattle.rst_markup_blocks.proofs.PartitionLemmas.{end_inside}
 use Rattle.rst_markup_blocks.proofs.RowLemmas.{row_at}
 use Rattle.rst_block_sections.specs.Sections.{title_of}
@@ -38,7 +40,7 @@ use Rattle.rst_block_state.proofs.BegunLemmas.{marks_tell_constructs}
 use Rattle.rst_block_state.proofs.Changes.{done_moved, done_more, done_closed, done_title, kept_moved, kept_closed, reads_is}
 use Rattle.rst_block_state.proofs.NumberedLemmas.{same_after, before_before, before_then, same_before, at_number}
 pub use Rattle.rst_block_state.proofs.RestLemmas.{lines_after, span_to}
-use Rattle.rst_block_state.proofs.RestLemmas.{rest_over, rest_blank, rest_text, alone_begins}
+use Rattle.rst_block_state.proofs.RestLemmas.{rest_over, rest_blanks, rest_text, alone_begins}
 
 -- ---- what begins at the next line
 
@@ -219,12 +221,30 @@ next_title {old} {mid} {moved} {new} {B} {what} {heading} {lines} h a e p none g
 
 -- ---- lines without a construct
 
--- a blank line gives nothing
-pub blank_reads : {old new : OpenBlock} (B : Block) (n : ℕ) → IsBegun (drop old.at B) Blank → IsMoved old new → new.at ≡ old.at + 1 → reads new B n ≡ reads old B n
-blank_reads {old} {new} B n h m e =
-    let next : new.at ≡ suc old.at = omega (arith, e) in
-    at_number n (reads_is new B (done_moved m) m.depth next (ap open_of m.run))
-    ∙ ap (λ (r : Numbered (List Item)). before (done_of old) r n) (sym (rest_blank (within_at old.depth) B old.at (open_of old.run) (row_at kinds.Blank (drop old.at B) h.kind)))
+-- the lines that pass as blank are blank
+all_blank : (X : Block) (n : ℕ) → n < lines_while BlankTest X → is_blank (front_text (drop n X)) ≡ true
+unfolding lines_while
+all_blank [] n h = absurd (omega arith)
+all_blank (l ∷ ls) n h = by (is_blank l.text) refl n h (all_blank ls)
+  where
+    by : (b : Bool) → is_blank l.text ≡ b → (n : ℕ) → n < cond b (suc (lines_while BlankTest ls)) 0 → ((m : ℕ) → m < lines_while BlankTest ls → is_blank (front_text (drop m ls)) ≡ true)
+        → is_blank (front_text (drop n (l ∷ ls))) ≡ true
+    by true e zero h more = e
+    by true e (suc n) h more = more n (omega arith)
+    by false e n h more = absurd (omega arith)
+
+pub are_blank : (B : Block) (i : ℕ) → AreBlank B i (i + lines_while BlankTest (drop i B))
+are_blank B i = λ k low high.
+    let place : i + (k - i) ≡ k = omega arith in
+    let same : drop (k - i) (drop i B) ≡ drop k B = drop-drop (k - i) i B ∙ ap (λ n. drop n B) place in
+    ap (λ (X : Block). is_blank (front_text X)) (sym same) ∙ all_blank (drop i B) (k - i) (omega arith)
+
+-- blank lines give nothing
+pub blank_reads : {old new : OpenBlock} (B : Block) (n : ℕ) → IsMoved old new → old.at ≤ new.at → new.at ≡ old.at + lines_while BlankTest (drop old.at B) → reads new B n ≡ reads old B n
+blank_reads {old} {new} B n m later e =
+    let blank : AreBlank B old.at new.at = rw e (are_blank B old.at) in
+    at_number n (reads_is new B (done_moved m) m.depth refl (ap open_of m.run))
+    ∙ ap (λ (r : Numbered (List Item)). before (done_of old) r n) (sym (rest_blanks (within_at old.depth) B old.at new.at (open_of old.run) later blank))
 
 -- behind the last line only what the open run gives is to come
 over_is : (l : OpenBlock) (B : Block) (n : ℕ) → length B ≤ l.at → reads l B n ≡ before (done_of l) (run_of l B) n

@@ -5,7 +5,7 @@ use Rattle.std.proofs.lemmas.List.{drop_all, drop-drop}
 use Rattle.std.proofs.lemmas.Bool.{cases_lt}
 use Rattle.rst_text.specs.Block.{Block, is_blank, front_text}
 use Rattle.rst_tree.specs.declared.node.Node.{Node}
-use Rattle.rst_markup_blocks.specs.Partition.{Span, spans_from, construct_size, construct_end, IsBlankAt, IsTextAt}
+use Rattle.rst_markup_blocks.specs.Partition.{Span, spans_from, construct_size, construct_end, AreBlank, IsBlankAt, IsTextAt}
 use Rattle.rst_markup_blocks.proofs.PartitionLemmas.{end_inside}
 use Rattle.rst_markup_lines.specs.declared.marker.Marker.{Marker}
 use Rattle.rst_block_state.specs.Constructs.{Construct, ItemMark, item_of_list, bar_line, explicit_markup, Found, found_at}
@@ -74,6 +74,17 @@ pub found_blank : (titles : Bool) (B : Block) (i : ℕ) → IsBlankAt B i → fo
 found_blank titles B i h =
     ap (map (found_at titles B)) (blank_skipped titles i (drop i B) h ∙ ap (spans_from titles (suc i) 0) (lines_after B i 1 (suc i) (omega arith)))
 
+found_past : (n : ℕ) (titles : Bool) (B : Block) (i : ℕ) → AreBlank B i (i + n) → found_from titles B i ≡ found_from titles B (i + n)
+found_past zero titles B i h = let same : i + 0 ≡ i = omega arith in rw same refl
+found_past (suc n) titles B i h =
+    let same : i + suc n ≡ suc i + n = omega arith in
+    rw same (found_blank titles B i (h i (omega arith) (omega arith)) ∙ found_past n titles B (suc i) (λ k low high. h k (omega arith) (omega arith)))
+
+pub found_blanks : (titles : Bool) (B : Block) (i j : ℕ) → i ≤ j → AreBlank B i j → found_from titles B i ≡ found_from titles B j
+found_blanks titles B i j le h =
+    let same : i + (j - i) ≡ j = omega arith in
+    rw same at (found_past (j - i) titles B i (λ k low high. h k low (omega arith)))
+
 pub found_text : (titles : Bool) (B : Block) (i : ℕ) → IsTextAt B i → found_from titles B i ≡ found_in titles B i ∷ found_from titles B (construct_end titles B i)
 found_text titles B i h =
     let w = end_inside titles B i (there B i h) in
@@ -87,8 +98,8 @@ pub rest_over : (c : Within) (B : Block) (i : ℕ) (o : OpenRun) → length B �
 unfolding walk
 rest_over c B i o h = ap (walk c B o) (found_over c.titles B i h)
 
-pub rest_blank : (c : Within) (B : Block) (i : ℕ) (o : OpenRun) → IsBlankAt B i → rest c B i o ≡ rest c B (suc i) o
-rest_blank c B i o h = ap (walk c B o) (found_blank c.titles B i h)
+pub rest_blanks : (c : Within) (B : Block) (i j : ℕ) (o : OpenRun) → i ≤ j → AreBlank B i j → rest c B i o ≡ rest c B j o
+rest_blanks c B i j o le h = ap (walk c B o) (found_blanks c.titles B i j le h)
 
 pub rest_text : (c : Within) (B : Block) (i : ℕ) (o : OpenRun) → IsTextAt B i → rest c B i o ≡ rest_with c B o (found_in c.titles B i)
 unfolding walk

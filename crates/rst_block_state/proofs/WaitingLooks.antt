@@ -18,7 +18,7 @@ use Rattle.rst_markup_tables.specs.declared.results.TableResult.TheVariants.{Tab
 use Rattle.rst_block_nodes.specs.declared.texted.Texted.{Texted}
 use Rattle.rst_block_state.specs.Budget.{sum_of, total}
 use Rattle.rst_block_state.specs.Inside.{quoted_by, quoted, quoted_blocks, cell_blocks}
-use Rattle.rst_block_state.specs.Ledger.{total_at, totals, most_from, least_from, goes_on_at, part_blocks, quotes_left, run_looks, quote_looks, end_looks, next_blocks, next_cells, place_after, most_after, least_after, most_left, least_left, GoesOn, WaitsForOne, AreQuotesPaid, Takes}
+use Rattle.rst_block_state.specs.Ledger.{total_at, totals, most_from, least_from, goes_on_at, part_blocks, quotes_left, run_looks, waiting_looks, end_looks, next_blocks, next_cells, place_after, most_after, least_after, most_left, least_left, GoesOn, WaitsForOne, AreQuotesPaid, Takes}
 use Rattle.rst_block_state.specs.MeaningLaws.{front_of}
 use Rattle.rst_block_state.specs.Meanings.{deepest}
 use Rattle.rst_block_state.specs.Quotes.{first_attribution, quote_after}
@@ -106,11 +106,11 @@ alone l B (ListedBody line item content heads notes) h = (refl, refl)
 alone l B (Quote line made None end) h = (refl, refl)
 alone l B (Quote line made (Some p) end) h = absurd h
 alone l B (Element e) h = (refl, refl)
-alone l B (Figure f) h = (refl, refl)
+alone l B (Figure figure start end) h = (refl, refl)
 alone l B (Replacement d) h = (refl, refl)
 
 pub resumed : (l new : OpenBlock) (B : Block) (w : Waits) (before after : ℕ) → WaitsForOne w → new.depth ≡ l.depth → new.at ≡ l.at → run_looks new.run ≤ run_looks l.run
-    → after ≤ before + quote_looks w → capped before ≤ after
+    → after ≤ before + waiting_looks w → capped before ≤ after
     → Takes (most_after l B w None) (least_after l B w None) before (most_left new B Next) (least_left new B Next) after
 unfolding sum_of
 resumed l new B w before after one d p r few some =

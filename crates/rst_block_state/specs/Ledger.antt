@@ -20,7 +20,7 @@ use Rattle.rst_block_state.specs.declared.frame.Ended.TheVariants.{Waiting, Goes
 use Rattle.rst_block_state.specs.declared.frame.Frame.{Frame}
 use Rattle.rst_block_state.specs.declared.open_block.OpenBlock.{OpenBlock}
 use Rattle.rst_block_state.specs.declared.waits.Waits.{Waits}
-use Rattle.rst_block_state.specs.declared.waits.Waits.TheVariants.{Quote}
+use Rattle.rst_block_state.specs.declared.waits.Waits.TheVariants.{Quote, Figure}
 use Rattle.rst_block_state.specs.declared.run.Run.{Run}
 use Rattle.rst_block_state.specs.declared.run.Run.TheVariants.{None as NoRun}
 use Rattle.rst_block_state.specs.declared.step.Step.{Step}
@@ -74,11 +74,13 @@ abbrev pub run_looks : Run → ℕ
 run_looks NoRun = 0
 run_looks run = 1
 
--- the looks that are taken to find quotes, 16 for each of their lines, and one at the line after them
-abbrev pub quote_looks : Waits → ℕ
-quote_looks (Quote line attribution None end) = 1
-quote_looks (Quote line attribution (Some p) end) = 1 + 16 * (p.to - p.from)
-quote_looks w = 0
+-- The looks that are taken in a block that waits before it goes on: 16 at each line of quotes that are found, and one at the line after them; and one
+-- at each line of a figure, if they are shown.
+abbrev pub waiting_looks : Waits → ℕ
+waiting_looks (Quote line attribution None end) = 1
+waiting_looks (Quote line attribution (Some p) end) = 1 + 16 * (p.to - p.from)
+waiting_looks (Figure figure start end) = end - start
+waiting_looks w = 0
 
 -- the blocks that are still to be read before a block goes on that waits, after one of its parts
 abbrev pub still_before : Block → Waits → Option Part → List Block
@@ -87,7 +89,7 @@ still_before B w second = part_blocks B second ++ quotes_left B w
 -- no more looks than this are taken in a block that waits, which may have one more part to be read
 abbrev pub most_after : OpenBlock → Block → Waits → Option Part → ℕ
 most_after l B w second =
-    run_looks l.run + quote_looks w + 128 * totals l.depth (still_before B w second) + most_from l.depth B (goes_on_at l w)
+    run_looks l.run + waiting_looks w + 128 * totals l.depth (still_before B w second) + most_from l.depth B (goes_on_at l w)
 
 -- no fewer looks than this
 abbrev pub least_after : OpenBlock → Block → Waits → Option Part → ℕ
@@ -122,7 +124,7 @@ next_cells _ = []
 
 -- the looks that are taken at the ends of quotes, of a table and of the open run
 abbrev pub end_looks : OpenBlock → Step → ℕ
-end_looks l (Open w first second) = run_looks l.run + quote_looks w
+end_looks l (Open w first second) = run_looks l.run + waiting_looks w
 end_looks l (Cells t) = run_looks l.run + 1
 end_looks l _ = run_looks l.run
 

@@ -8,7 +8,7 @@ use Rattle.rst_text.specs.Lines.{are_lines}
 use Rattle.rst_text.specs.Looked.{capped}
 use Rattle.rst_text.specs.Shown.{placement_block}
 use Rattle.rst_markup_blocks.specs.Lines.{lines_while}
-use Rattle.rst_markup_blocks.specs.Partition.{IsBlankAt, IsTextAt}
+use Rattle.rst_markup_blocks.specs.Partition.{AreBlank, IsTextAt}
 use Rattle.rst_markup_blocks.specs.declared.attribution.Attribution.{Attribution}
 use Rattle.rst_markup_blocks.specs.declared.lines.LineTest.TheVariants.{Blank}
 use Rattle.rst_markup_blocks.specs.declared.part.Part.{Part}
@@ -19,7 +19,7 @@ use Rattle.rst_markup_tables.specs.declared.results.TableResult.TheVariants.{Tab
 use Rattle.rst_block_nodes.specs.declared.texted.Texted.{Texted}
 use Rattle.rst_block_state.specs.Budget.{sum_of, total, document_budget, document_floor}
 use Rattle.rst_block_state.specs.Inside.{quoted_blocks, cell_blocks}
-use Rattle.rst_block_state.specs.Ledger.{total_at, totals, most_from, least_from, run_looks, quote_looks, quotes_left, part_blocks, most_after, least_after, most_in, least_in, most_left, least_left, WaitsForOne, IsPaid, AreQuotesPaid, Takes}
+use Rattle.rst_block_state.specs.Ledger.{total_at, totals, most_from, least_from, run_looks, waiting_looks, quotes_left, part_blocks, most_after, least_after, most_in, least_in, most_left, least_left, WaitsForOne, IsPaid, AreQuotesPaid, Takes}
 use Rattle.rst_block_state.specs.MeaningLaws.{front_of}
 use Rattle.rst_block_state.specs.Meanings.{deepest}
 use Rattle.rst_block_state.specs.Quotes.{first_attribution}
@@ -48,11 +48,11 @@ abbrev pub BlocksEnd : Type 0
 BlocksEnd = (l : OpenBlock) (B : Block) (before after : ℕ) → length B ≤ l.at → after ≤ before + run_looks l.run → capped before ≤ after
     → Takes (most_left l B Next) (least_left l B Next) before (most_left l B Done) (least_left l B Done) after
 
--- a blank line: a look at least, and no more than 32
-abbrev pub BlankLineIsPaid : Type 0
-BlankLineIsPaid = (old new : OpenBlock) (B : Block) (before after : ℕ) → old.at < length B → IsBlankAt B old.at → new.depth ≡ old.depth
-    → new.at ≡ suc old.at → new.run ≡ old.run
-    → after ≤ before + 32 → capped (before + 1) ≤ after
+-- blank lines: a look at each at least, and no more than 32
+abbrev pub BlankLinesArePaid : Type 0
+BlankLinesArePaid = (old new : OpenBlock) (B : Block) (before after : ℕ) → old.at ≤ new.at → new.at ≤ length B → AreBlank B old.at new.at
+    → new.depth ≡ old.depth → new.run ≡ old.run
+    → after ≤ before + 32 * (new.at - old.at) → capped (before + (new.at - old.at)) ≤ after
     → Takes (most_left old B Next) (least_left old B Next) before (most_left new B Next) (least_left new B Next) after
 
 -- a construct, after the looks by which its kind is found: one at least, and no more than three
@@ -105,7 +105,7 @@ QuotesAreSplit = (B : Block) (p : Part) (k next line : ℕ) (a : Attribution) (m
 abbrev pub ResumedIsPaid : Type 0
 ResumedIsPaid = (l new : OpenBlock) (B : Block) (w : Waits) (before after : ℕ) → WaitsForOne w → new.depth ≡ l.depth → new.at ≡ l.at
     → run_looks new.run ≤ run_looks l.run
-    → after ≤ before + quote_looks w → capped before ≤ after
+    → after ≤ before + waiting_looks w → capped before ≤ after
     → Takes (most_after l B w None) (least_after l B w None) before (most_left new B Next) (least_left new B Next) after
 
 -- it waits for the next quote

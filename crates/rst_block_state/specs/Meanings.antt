@@ -2,7 +2,7 @@
 -- of that. No rule of markup: each step leaves the meaning as it is.
 use Rattle.std.specs.Prelude.{◌≡◌, ℕ, zero, suc, ◌-◌, ◌==◌, true, List, [], ◌∷◌, ◌++◌, drop, map, Option, Some, None, string_bytes, box_value, Result, Ok, Err}
 use Rattle.std.specs.Option.{option_map}
-use Rattle.rst_text.specs.Block.{Block}
+use Rattle.rst_text.specs.Block.{Block, first_number}
 use Rattle.rst_text.specs.Shown.{placement_block}
 use Rattle.rst_tree.specs.declared.node.Node.{Node}
 use Rattle.rst_tree.specs.declared.tag.Tag.TheVariants.{BlockQuote, ListItem}
@@ -21,7 +21,7 @@ use Rattle.rst_block_state.specs.Numbered.{Numbered, ◌>>=◌, just, before}
 use Rattle.rst_block_state.specs.Quotes.{quotes}
 use Rattle.rst_block_state.specs.Rest.{ListSoFar, OpenRun, no_run, open_list, open_lines, open_markup, with_items, rest}
 use Rattle.rst_block_state.specs.Tables.{table_nodes}
-use Rattle.rst_block_state.specs.Texts.{lines_in}
+use Rattle.rst_block_state.specs.Texts.{lines_in, source_of}
 use Rattle.rst_block_state.specs.Titles.{Item, plain}
 use Rattle.rst_block_state.specs.Within.{Within}
 use Rattle.rst_block_state.specs.declared.fault.BlockFault.{BlockFault}
@@ -135,8 +135,9 @@ resumed l B (ListedBody line item body heads notes) ns =
     with_item l B (element_of item [] (heads.items ++ element_of body [] (notes.items ++ ns) line ∷ []) line) (open_of l.run)
 resumed l B (Quote line attribution left end) ns = after_quote l B (quote_by line (option_map box_value attribution) ns) left end
 resumed l B (Element e) ns = reads_from l B (filled e ns ∷ []) l.at
-resumed l B (Figure f) ns =
-    let o = box_value f in reads_from l B (figure_nodes o.figure (caption_error o.line (string_bytes o.source)) ns) l.at
+resumed l B (Figure figure start end) ns =
+    let error = caption_error (first_number (drop start B)) (source_of B (record { start = start; stop = end })) in
+    reads_from l B (figure_nodes figure error ns) l.at
 resumed l B (Replacement d) ns =
     let o = box_value d in reads_from l B (replacement (string_bytes o.name) o.line (string_bytes o.source) (first_paragraph ns) ∷ []) l.at
 

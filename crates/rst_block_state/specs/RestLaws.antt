@@ -2,7 +2,7 @@
 use Rattle.std.specs.Prelude.{◌≡◌, ℕ, suc, ◌≤◌, ◌==◌, true, List, [], ◌∷◌, ◌++◌, drop, map, length, Some, None}
 use Rattle.rst_text.specs.Block.{Block}
 use Rattle.rst_markup_lines.specs.declared.marker.Marker.{Marker}
-use Rattle.rst_markup_blocks.specs.Partition.{Span, IsBlankAt, IsTextAt}
+use Rattle.rst_markup_blocks.specs.Partition.{Span, AreBlank, IsTextAt}
 use Rattle.rst_block_state.specs.Constructs.{Construct, ItemMark, item_of_list, bar_line, explicit_markup, Found}
 use Rattle.rst_block_state.specs.Joins.{Joining, alone_ending}
 use Rattle.rst_block_state.specs.LineRuns.{IndentedLine, indented_lines}
@@ -24,9 +24,9 @@ RestIsAll = (c : Within) (B : Block) (number : ℕ) → rest c B 0 no_run number
 abbrev pub LastLineEndsRun : Type 0
 LastLineEndsRun = (c : Within) (B : Block) (i : ℕ) (o : OpenRun) → length B ≤ i → rest c B i o ≡ closed_run c.levels B o
 
--- a blank line gives nothing
+-- blank lines give nothing
 abbrev pub BlankGivesNothing : Type 0
-BlankGivesNothing = (c : Within) (B : Block) (i : ℕ) (o : OpenRun) → IsBlankAt B i → rest c B i o ≡ rest c B (suc i) o
+BlankGivesNothing = (c : Within) (B : Block) (i j : ℕ) (o : OpenRun) → i ≤ j → AreBlank B i j → rest c B i o ≡ rest c B j o
 
 -- at a line that isn't blank a construct begins, and what follows it comes after it
 abbrev pub ConstructThenRest : Type 0

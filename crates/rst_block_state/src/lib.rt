@@ -6,6 +6,7 @@ mod fault;
 mod frame;
 mod heading;
 mod open_block;
+mod paragraph;
 mod part;
 mod run;
 mod step;
@@ -16,6 +17,7 @@ pub use fault::BlockFault;
 pub use frame::{Ended, Frame, opened};
 pub use heading::{heading_of, short_warning};
 pub use open_block::OpenBlock;
+pub use paragraph::announced;
 pub use part::{hanging, indented, inside, item_part};
 pub use run::{DEEPEST, ListKind, OpenList, Run, Sequel};
 pub use step::Step;
@@ -23,4 +25,4 @@ pub use texts::{
     Pass, alone, characters, excerpt, excerpt_after, first_line_or, joined, lines_between,
     number_at, parted, push, source,
 };
-pub use waits::{OpenFigure, OpenReplacement, Waits};
+pub use waits::{OpenReplacement, Waits};

@@ -28,21 +28,15 @@ pub enum Waits {
     },
     /// They stand in an element, behind what stands there already.
     Element(Node),
-    /// They are the caption and the legend of a figure.
-    Figure(Box<OpenFigure>),
+    /// They are the caption and the legend of a figure, which has its image. Its lines are those from place `start` up to
+    /// place `end`.
+    Figure {
+        figure: Node,
+        start: usize,
+        end: usize,
+    },
     /// They are the content of a substitution definition.
     Replacement(Box<OpenReplacement>),
-}
-
-/// A figure whose content is read.
-#[derive(Drop)]
-pub struct OpenFigure {
-    /// The figure with its image.
-    pub figure: Node,
-    /// The number of its first line.
-    pub line: usize,
-    /// Its lines.
-    pub source: String,
 }
 
 /// A substitution definition whose replacement text is read.

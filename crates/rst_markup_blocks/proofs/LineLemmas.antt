@@ -3,7 +3,7 @@ use Rattle.std.proofs.Common.{◌≡◌, ℕ, suc, ◌+◌, ◌<◌, ◌≤◌, 
 use Rattle.std.proofs.lemmas.List.{drop-drop, drop_all}
 use Rattle.rst_text.specs.Block.{Block, is_blank, front_text}
 use Rattle.rst_text.specs.Extent.{extent}
-use Rattle.rst_text.specs.Reach.{reach, through_text, looked}
+use Rattle.rst_text.specs.Reach.{blank_len, reach, through_text, looked}
 use Rattle.rst_text.proofs.Reaches.{looked_is, through_blank, through_some}
 use Rattle.rst_markup_blocks.specs.declared.lines.LineTest.{LineTest}
 use Rattle.rst_markup_blocks.specs.declared.lines.LineTest.TheVariants.{Blank, Begins}
@@ -66,6 +66,17 @@ blanks_through (l ∷ ls) = by (is_blank l.text) refl (blanks_through ls)
         → cond b (suc (lines_while Blank ls)) 0 + through_text (drop (cond b (suc (lines_while Blank ls)) 0) (l ∷ ls)) ≡ through_text (l ∷ ls)
     by true e h = omega (arith, through_blank l ls e, h)
     by false e h = omega arith
+
+-- blank lines are those that pass as blank, and what is looked at for them is those and the line after them
+pub blanks_are : (Y : Block) → (blank_len Y ≡ lines_while Blank Y) × (through_text Y ≤ suc (lines_while Blank Y))
+unfolding lines_while blank_len through_text
+blanks_are [] = (refl, omega arith)
+blanks_are (l ∷ ls) = by (is_blank l.text) (blanks_are ls)
+  where
+    by : (b : Bool) → (blank_len ls ≡ lines_while Blank ls) × (through_text ls ≤ suc (lines_while Blank ls))
+        → (cond b (suc (blank_len ls)) 0 ≡ cond b (suc (lines_while Blank ls)) 0) × (cond b (suc (through_text ls)) 1 ≤ suc (cond b (suc (lines_while Blank ls)) 0))
+    by true h = (ap suc h.0, omega (arith, h.1))
+    by false h = (refl, omega arith)
 
 -- a line that isn't empty
 pub filled_through : (Z : Block) (c : ℕ) → first (front_text Z) ≡ Some c → through_text Z ≡ 1

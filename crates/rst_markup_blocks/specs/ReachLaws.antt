@@ -21,7 +21,7 @@ through_text_le (l ∷ ls) = by (is_blank l.text) (through_text_le ls)
     by false h = omega arith
 
 -- a reach of n lines has them, and ends within the block
-reach_within : (n : ℕ) (X : Block) → n ≤ length X → (n ≤ reach n X) × (reach n X ≤ length X)
+pub reach_within : (n : ℕ) (X : Block) → n ≤ length X → (n ≤ reach n X) × (reach n X ≤ length X)
 reach_within n X h = (omega arith, omega (arith, through_text_le (drop n X), length-drop n X))
 
 -- A construct that ends within the block has a reach that does, if it is looked at no further than through the first

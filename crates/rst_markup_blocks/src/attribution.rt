@@ -1,5 +1,5 @@
 //! Attributions of block quotes.
-ghost use Rattle.std.specs.Prelude.{◌≡◌, ◌+◌, ◌<◌, ◌≤◌, IfSome, option_map, length, drop};
+ghost use Rattle.std.specs.Prelude.{◌≡◌, ◌+◌, ◌-◌, ◌<◌, ◌≤◌, IfSome, option_map, length, drop};
 ghost use Rattle.rst_text.specs.Looked.{capped};
 ghost use Rattle.rst_text.specs.Shown.{block_of};
 ghost use Rattle.rst_markup_blocks.specs.Attributions as spec;
@@ -28,6 +28,7 @@ fn level_end(view: &View<'_>, from: usize, indent: usize, looks: &mut Looks) -> 
     ensures end { result ≡ option_map (λ n. from + n) (spec.level_lines indent (drop from (block_of view.now))) }
     ensures looks { looks.new ≤ looks.old + lines_while Filled (drop from (block_of view.now)) + 1 }
     ensures low { capped looks.old ≤ looks.new }
+    ensures each { IfSome result (λ end. capped (looks.old + (end - from)) ≤ looks.new) }
 {
     let len = view.len();
     for i in from..len {
@@ -54,6 +55,7 @@ fn attribution_behind(
     ensures text { IfSome result (λ a. IsBlock (block_of view.now) (spec.attribution_part k a)) }
     ensures looks { looks.new ≤ looks.old + 2 + lines_while Filled (drop 1 (drop k (block_of view.now))) }
     ensures low { capped looks.old ≤ looks.new }
+    ensures each { IfSome result (λ a. capped (looks.old + (a.end - (k + 1))) ≤ looks.new) }
 {
     prove!(k < view.len());
     let indent = indentation(below_text(view, k, 1, looks));
@@ -77,7 +79,8 @@ pub fn attribution_at(view: &View<'_>, k: usize, looks: &mut Looks) -> Option<At
     ensures attribution { result ≡ spec.attribution_at k (drop k (block_of view.now)) }
     ensures text { IfSome result (λ a. IsBlock (block_of view.now) (spec.attribution_part k a)) }
     ensures looks { looks.new ≤ looks.old + 3 + lines_while Filled (drop 1 (drop k (block_of view.now))) }
-    ensures low { capped looks.old ≤ looks.new }
+    ensures low { capped (looks.old + 1) ≤ looks.new }
+    ensures each { IfSome result (λ a. capped (looks.old + (a.end - k)) ≤ looks.new) }
 {
     let marker = attribution_of(view.line(k, looks))?;
     attribution_behind(view, k, marker, looks)

@@ -65,6 +65,7 @@ pub fn kind_of(view: &View<'_>, i: usize, looks: &mut Looks) -> Kind
     requires inside { i < length (block_of view.now) }
     ensures kind { result ≡ kind_of (block_of view.now) i }
     ensures looks { looks.new ≤ looks.old + 3 }
+    ensures low { capped (looks.old + 1) ≤ looks.new }
 {
     begun_at(view, i, looks).kind()
 }

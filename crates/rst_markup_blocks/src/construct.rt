@@ -1,6 +1,7 @@
 //! A construct: where it begins, and where it ends.
 ghost use Rattle.std.specs.Prelude.{◌≡◌, ◌+◌, ◌-◌, ◌*◌, ◌<◌, ◌≤◌, ℕ, Bool, take, drop, length, IsTrue};
 ghost use Rattle.rst_text.specs.Block.{Block};
+ghost use Rattle.rst_text.specs.Looked.{capped};
 ghost use Rattle.rst_text.specs.Shown.{block_of};
 
 use rst_text::{Looks, View};
@@ -25,6 +26,7 @@ pub trait Construct {
         requires inside { i < length (block_of view.now) }
         ensures holds { result ≡ holds (drop i (block_of view.now)) }
         ensures looks { looks.new ≤ looks.old + first_looks }
+        ensures low { capped (looks.old + 1) ≤ looks.new }
         ensures at_most_three { looks.new ≤ looks.old + 3 };
 
     /// The place after the construct that begins at place `i`. It makes at most four looks for each line of the
@@ -33,7 +35,8 @@ pub trait Construct {
         requires inside { i < length (block_of view.now) }
         requires begins { IsTrue (holds (drop i (block_of view.now))) }
         ensures end { result ≡ i + size titles (drop i (block_of view.now)) }
-        ensures looks { looks.new ≤ looks.old + 4 * reached titles (drop i (block_of view.now)) };
+        ensures looks { looks.new ≤ looks.old + 4 * reached titles (drop i (block_of view.now)) }
+        ensures low { capped looks.old ≤ looks.new };
 
     /// A construct that begins has a line, and ends within the block.
     ghost within: { (titles : Bool) (X : Block) → 1 ≤ length X → IsTrue (holds X) → (1 ≤ size titles X) × (size titles X ≤ length X) };
@@ -61,6 +64,7 @@ pub fn end_after<C: Construct>(
     ensures within { result ≤ length (block_of view.now) }
     ensures looks { looks.new ≤ looks.old + 4 * C.reached titles (drop i (block_of view.now)) }
     ensures few { looks.new ≤ looks.old + 4 * (length (block_of view.now) - i) }
+    ensures low { capped looks.old ≤ looks.new }
 {
     row.end(view, i, titles, looks)
 }

@@ -334,7 +334,8 @@ impl Construct for TextLine {
 
     ghost on_three = { text_on_three };
 
-    fn starts(&self, _view: &View<'_>, _i: usize, _titles: bool, _looks: &mut Looks) -> bool {
+    fn starts(&self, view: &View<'_>, i: usize, _titles: bool, looks: &mut Looks) -> bool {
+        let _text = view.line(i, looks);
         true
     }
 

@@ -67,6 +67,7 @@ fn literal_end(view: &View<'_>, from: usize, looks: &mut Looks) -> usize
     requires inside { from ≤ length (block_of view.now) }
     ensures end { result ≡ from + spec.literal_size (drop from (block_of view.now)) }
     ensures looks { looks.new ≤ looks.old + 4 * reach (spec.literal_size (drop from (block_of view.now))) (drop from (block_of view.now)) }
+    ensures low { capped looks.old ≤ looks.new }
 {
     prove!(from <= view.len());
     let indented = view.block_end(from, None, looks).end;
@@ -85,6 +86,7 @@ fn paragraph_end(view: &View<'_>, i: usize, looks: &mut Looks) -> usize
     requires inside { i < length (block_of view.now) }
     ensures end { result ≡ i + spec.paragraph_size (drop i (block_of view.now)) }
     ensures looks { looks.new + 1 + spec.paragraph_len (drop i (block_of view.now)) ≤ looks.old + 4 * reach (spec.paragraph_size (drop i (block_of view.now))) (drop i (block_of view.now)) }
+    ensures low { capped looks.old ≤ looks.new }
 {
     let end = run_below_end(view, i, LineTest::Plain, looks);
     if ends_in_colons(text_at(view, end - 1, looks)) {
@@ -106,6 +108,7 @@ pub(crate) fn text_end(
     requires next { chars next.now ≡ next_text (drop i (block_of view.now)) }
     ensures end { result ≡ i + spec.text_size (drop i (block_of view.now)) }
     ensures looks { looks.new + 2 + spec.overline_looks (next_text (drop i (block_of view.now))) ≤ looks.old + 4 * reach (spec.text_size (drop i (block_of view.now))) (drop i (block_of view.now)) }
+    ensures low { capped looks.old ≤ looks.new }
 {
     prove!(i < view.len());
     match text_form(text, next) {

@@ -1,5 +1,6 @@
 //! Where constructs end, by the kind of their first line.
 ghost use Rattle.std.specs.Prelude.{◌≡◌, ◌+◌, ◌*◌, ◌<◌, ◌≤◌, length, drop};
+ghost use Rattle.rst_text.specs.Looked.{capped};
 ghost use Rattle.rst_text.specs.Shown.{block_of};
 ghost use Rattle.rst_markup_blocks.specs.Ends as spec;
 ghost use Rattle.rst_markup_blocks.specs.Kinds.{kind_of};
@@ -22,6 +23,7 @@ pub fn end_of(view: &View<'_>, i: usize, kind: Kind, titles: bool, looks: &mut L
     requires kind { kind ≡ kind_of (block_of view.now) i }
     ensures end { result ≡ i + spec.row_size kind titles (drop i (block_of view.now)) }
     ensures looks { looks.new ≤ looks.old + 4 * spec.row_reach kind titles (drop i (block_of view.now)) }
+    ensures low { capped looks.old ≤ looks.new }
 {
     match kind {
         Kind::Blank => BlankLine.end(view, i, titles, looks),

@@ -81,6 +81,9 @@ pub fn lines_end(view: &View<'_>, from: usize, test: LineTest, looks: &mut Looks
     ensures looks { looks.new ≤ looks.old + reach (lines_while test (drop from (block_of view.now))) (drop from (block_of view.now)) }
     ensures low { capped (looks.old + lines_while test (drop from (block_of view.now))) ≤ looks.new }
 {
+    if let LineTest::Blank = test {
+        return view.blank_end(from, looks);
+    }
     let mut end = from;
     for i in from..view.len() {
         if !passes(test, view.line(i, looks)) {

@@ -20,6 +20,7 @@ fn grid_bottom(view: &View<'_>, i: usize, all: usize, looks: &mut Looks) -> Opti
     ensures bottom { result ≡ spec.grid_bottom (drop i (block_of view.now)) }
     ensures within { IfSome result (λ k. k < all) }
     ensures looks { looks.new ≤ looks.old + all }
+    ensures low { capped looks.old ≤ looks.new }
 {
     let mut bottom = None;
     for k in 2..all {

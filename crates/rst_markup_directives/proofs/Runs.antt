@@ -1,5 +1,5 @@
--- Lines before the first blank one, and blank lines at the front, at a place of a block.
-use Rattle.std.proofs.Common.{◌≡◌, ℕ, suc, zero, ◌+◌, ◌≤◌, ◌<◌, true, false, not, List, [], ◌∷◌, ◌++◌, length, take, drop, refl, sym, ap, ◌∙◌, arith, eqb, inl, inr, map, chars}
+-- Lines before the first blank one, at a place of a block.
+use Rattle.std.proofs.Common.{◌≡◌, ℕ, suc, zero, ◌+◌, ◌≤◌, ◌<◌, false, not, List, [], ◌∷◌, ◌++◌, length, take, drop, refl, sym, ap, ◌∙◌, arith, eqb, inl, inr, map, chars}
 use Rattle.std.specs.List.{prefix_len}
 use Rattle.std.specs.Str.{IsUtf8}
 use Rattle.std.proofs.lemmas.Bool.{eqb-true, eqb-false}
@@ -7,8 +7,7 @@ use Rattle.rst_text.proofs.PlacesLemmas.{cases_bool}
 use Rattle.rst_text.proofs.Ends.{blank_is, text_is}
 use Rattle.rst_text.proofs.Indenting.{no_front, some_front}
 use Rattle.rst_text.specs.Block.{Line, Block, front_text, is_blank}
-use Rattle.rst_markup_blocks.specs.Lines.{lines_while}
-use Rattle.rst_markup_directives.specs.Lines.{first_run, blank_len}
+use Rattle.rst_markup_directives.specs.Lines.{first_run}
 
 pub first_run-more : (B : Block) (i : ℕ) → i < length B → is_blank (front_text (drop i B)) ≡ false → first_run (drop i B) ≡ front_text (drop i B) ∷ first_run (drop (i + 1) B)
 first_run-more [] i below h = absurd (omega arith)
@@ -22,27 +21,6 @@ first_run-end [] zero past = refl
 first_run-end [] (suc i) past = refl
 first_run-end (l ∷ ls) zero past = absurd (omega arith)
 first_run-end (l ∷ ls) (suc i) past = first_run-end ls i (omega arith)
-
-pub blank_len-more : (B : Block) (i : ℕ) → i < length B → is_blank (front_text (drop i B)) ≡ true → blank_len (drop i B) ≡ suc (blank_len (drop (i + 1) B))
-unfolding lines_while
-blank_len-more [] i below h = absurd (omega arith)
-blank_len-more (l ∷ ls) zero below h = rw h refl
-blank_len-more (l ∷ ls) (suc i) below h = let e : suc i + 1 ≡ suc (i + 1) = omega arith in rw e (blank_len-more ls i (omega arith) h)
-
-pub blank_len_stop : (B : Block) (i : ℕ) → is_blank (front_text (drop i B)) ≡ false → blank_len (drop i B) ≡ 0
-unfolding lines_while
-blank_len_stop B i h = stop (drop i B) h
-  where
-    stop : (X : Block) → is_blank (front_text X) ≡ false → blank_len X ≡ 0
-    stop [] h = refl
-    stop (l ∷ ls) h = rw h refl
-
-pub blank_len_end : (B : Block) (i : ℕ) → length B ≤ i → blank_len (drop i B) ≡ 0
-unfolding lines_while
-blank_len_end [] zero past = refl
-blank_len_end [] (suc i) past = refl
-blank_len_end (l ∷ ls) zero past = absurd (omega arith)
-blank_len_end (l ∷ ls) (suc i) past = blank_len_end ls i (omega arith)
 
 -- a text is empty in bytes exactly where it is in characters
 pub blank_by : (text front : List ℕ) → IsUtf8 text → chars text ≡ front → eqb (length text) 0 ≡ is_blank front

@@ -18,10 +18,10 @@ use super::fault::{Detail, DirectiveFault, MarkupFault};
 use super::found::{Content, Directive, Place};
 use super::judgement::{content_fault, permitted};
 use super::layout::{Layout, layout_of};
-use super::lines::{past_blank, run_of};
+use super::lines::run_of;
 use super::name::Name;
 use super::options::{Field, Setting, excerpt, fields_of, settings_of};
-use rst_markup_blocks::{Invocation, Part};
+use rst_markup_blocks::{Invocation, LineTest, Part, lines_end};
 use rst_text::{Looks, View};
 use std::alloc::{AllocError, Global};
 
@@ -127,6 +127,7 @@ fn first_run<'a>(
     ensures looks { looks.new ≤ looks.old + length (block_of lines.now) }
     ensures through { IfOk result (λ run. looks.new ≤ looks.old + length run.items + 1) }
     ensures low { capped looks.old ≤ looks.new }
+    ensures each { IfOk result (λ run. capped (looks.old + length run.items) ≤ looks.new) }
 {
     if late && is_code(name) {
         return Ok(Vec::new(alloc));
@@ -159,7 +160,7 @@ fn read(
 {
     let lines = lines_of(view, block);
     let run = first_run(alloc, name, late, &lines, looks)?;
-    let rest = past_blank(&lines, run.len(), looks);
+    let rest = lines_end(&lines, run.len(), LineTest::Blank, looks);
     read_run(alloc, name, block, &run, rest)
 }
 

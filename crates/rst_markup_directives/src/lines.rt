@@ -1,5 +1,5 @@
 //! The lines of a directive's block.
-ghost use Rattle.std.specs.Prelude.{◌≡◌, ◌+◌, ◌≤◌, length, IfOk};
+ghost use Rattle.std.specs.Prelude.{◌≡◌, ◌+◌, ◌-◌, ◌≤◌, length, IfOk};
 ghost use Rattle.rst_text.specs.Looked.{capped};
 ghost use Rattle.rst_text.specs.Shown.{block_of};
 ghost use Rattle.rst_markup_directives.specs.Lines as spec;
@@ -19,6 +19,7 @@ pub(crate) fn run_of<'a>(
     ensures looks { looks.new ≤ looks.old + length (block_of lines.now) }
     ensures through { IfOk result (λ run. looks.new ≤ looks.old + length run.items + 1) }
     ensures low { capped looks.old ≤ looks.new }
+    ensures each { IfOk result (λ run. capped (looks.old + length run.items) ≤ looks.new) }
 {
     let mut run = Vec::new(alloc);
     for i in 0..lines.len() {
@@ -29,21 +30,4 @@ pub(crate) fn run_of<'a>(
         run.push(line)?;
     }
     Ok(run)
-}
-
-/// The first place from `from` on of a line that isn't blank, or the end.
-#[tactic(auto, using(crate::proofs::Runs::blank_len_stop, crate::proofs::Runs::blank_len_end))]
-pub(crate) fn past_blank(lines: &View<'_>, from: usize, looks: &mut Looks) -> usize
-    requires inside { from ≤ length (block_of lines.now) }
-    ensures value { result ≡ spec.behind_blank (block_of lines.now) from }
-    ensures within { result ≤ length (block_of lines.now) }
-    ensures looks { looks.new + from ≤ looks.old + length (block_of lines.now) }
-    ensures low { capped looks.old ≤ looks.new }
-{
-    for i in from..lines.len() {
-        if !is_blank(lines.line(i, looks)) {
-            return i;
-        }
-    }
-    lines.len()
 }

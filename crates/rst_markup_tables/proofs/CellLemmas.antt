@@ -12,7 +12,7 @@ use Rattle.rst_markup_tables.specs.declared.places.Place.{Place}
 use Rattle.rst_markup_tables.specs.declared.places.Place.TheVariants.{Character, Second}
 use Rattle.rst_text.specs.Block.{Line, Block, indentation, is_blank}
 use Rattle.rst_text.proofs.Least.{least_from, lower}
-use Rattle.rst_text.specs.Lines.{is_line_end, is_line_text, are_lines}
+use Rattle.rst_text.specs.Lines.{is_line_end}
 use Rattle.rst_text.proofs.LineTexts.{unended-take, unended-drop}
 
 pub least_from-blank : (m : Option ℕ) (l : Line) (ls : Block) → is_blank l.text ≡ true → least_from m (l ∷ ls) ≡ least_from m ls
@@ -44,7 +44,7 @@ dropped-dark (x ∷ xs) c e = stays x c xs (drop_trailing_whitespace (xs ++ c �
 
 -- ---- characters that a text can hold
 
-pub scalars-drop : (cs : List ℕ) (n : ℕ) → all_scalars cs ≡ true → all_scalars (drop n cs) ≡ true
+scalars-drop : (cs : List ℕ) (n : ℕ) → all_scalars cs ≡ true → all_scalars (drop n cs) ≡ true
 scalars-drop cs zero h = h
 scalars-drop [] (suc n) h = refl
 scalars-drop (c ∷ cs) (suc n) h = scalars-drop cs n (and_parts (scalar c) (all_scalars cs) h).1
@@ -97,13 +97,6 @@ scalars-cut left right ps h = cut-keeps (λ cs. all_scalars cs ≡ true) (λ n c
 
 pub unended-cut : (left : ℕ) (right : Option ℕ) (ps : List Place) → list_any is_line_end (characters ps) ≡ false → list_any is_line_end (characters (cut_places left right ps)) ≡ false
 unended-cut left right ps h = cut-keeps (λ cs. list_any is_line_end cs ≡ false) unended-take unended-drop left right ps h
-
--- a line more at the end
-pub are_lines-push : (B : Block) (l : Line) → are_lines B ≡ true → is_line_text l.text ≡ true → are_lines (B ++ l ∷ []) ≡ true
-are_lines-push [] l h e = rw e refl
-are_lines-push (b ∷ B) l h e =
-    let parts = and_parts (is_line_text b.text) (are_lines B) h in
-    and_from (is_line_text b.text) (are_lines (B ++ l ∷ [])) parts.0 (are_lines-push B l parts.1 e)
 
 -- ---- trimming from the end
 

@@ -3,7 +3,6 @@ use Rattle.std.proofs.Common.{◌≡◌, ℕ, zero, suc, ◌+◌, ◌-◌, ◌<�
 use Rattle.std.proofs.lemmas.List.{drop_more}
 use Rattle.std.proofs.lemmas.List.Sums.{sum_by_push}
 use Rattle.std.proofs.Math.Seq.{take-append_seam}
-use Rattle.rst_text.specs.Block.{is_blank}
 use Rattle.rst_text.specs.Places.{first_from}
 use Rattle.std.specs.List.{range_with_len}
 use Rattle.rst_markup_tables.specs.Counts.{below}
@@ -11,14 +10,6 @@ use Rattle.rst_markup_tables.specs.Counts.{below}
 -- what is left of a list whose item at place i was read
 pub read_more : {X : Type 0} (xs : List X) (i : ℕ) (x : X) → i < length xs → x ≡ get_or xs i x → drop i xs ≡ x ∷ drop (i + 1) xs
 read_more xs i x below is = drop_more xs i x below ∙ ap (λ y. y ∷ drop (i + 1) xs) (sym is)
-
-pub blank_from : (t u : List ℕ) → t ≡ u → length t ≡ 0 → is_blank u ≡ true
-blank_from t [] e h = refl
-blank_from t (c ∷ u) e h = absurd (omega (arith, ap length e))
-
-pub dark_from : (t u : List ℕ) → t ≡ u → (length t ≡ 0 → ⊥) → is_blank u ≡ false
-dark_from t [] e h = absurd (h (ap length e))
-dark_from t (c ∷ u) e h = refl
 
 -- ---- numbers that pass
 
@@ -40,7 +31,7 @@ each_from-more f k high h = ap (λ n. map f (range_with_len k n)) (left_more k h
 pub each_from-end : {X : Type 0} (f : ℕ → X) (k high : ℕ) → high ≤ k → map f (range_with_len k (high - k)) ≡ []
 each_from-end f k high h = let e : high - k ≡ 0 = omega arith in ap (λ n. map f (range_with_len k n)) e
 
-range_more : (a n j : ℕ) → a + n ≡ j → range_with_len a (suc n) ≡ range_with_len a n ++ j ∷ []
+pub range_more : (a n j : ℕ) → a + n ≡ j → range_with_len a (suc n) ≡ range_with_len a n ++ j ∷ []
 range_more a zero j e = let same : a ≡ j = omega arith in ap (λ k. k ∷ []) same
 range_more a (suc n) j e = ap (λ l. a ∷ l) (range_more (a + 1) n j (omega arith))
 

@@ -6,7 +6,7 @@ use Rattle.rst_markup_tables.specs.declared.places.Place.TheVariants.{Second}
 use Rattle.std.proofs.lemmas.Bool.{le-leb, lt-ltb, leb-true, ltb-true, and_parts, and_from, cases_lt, cases_order, cases_Bool}
 use Rattle.rst_markup_tables.specs.declared.drawn.Rectangle.{Rectangle}
 use Rattle.rst_markup_tables.specs.Places.{Grid, width, place, row_at, mark_at, mark_of, no_row}
-use Rattle.rst_markup_tables.specs.Drawn.{IsEven, IsFrame, IsDrawn, covers, one_if, times, BeginsFrom, AreDrawn, IsTiling}
+use Rattle.rst_markup_tables.specs.Drawn.{IsFrame, IsDrawn, covers, one_if, times, BeginsFrom, AreDrawn, IsTiling}
 
 -- ---- places
 
@@ -19,10 +19,8 @@ place_within G i j c h some =
     (λ past. absurd (let e : length (row_at G i) ≡ 0 = ap (λ (r : Row). length r.places) (get_or_past G i no_row past) in omega arith))
     (cases_lt i (length G))
 
-pub frame_within : (G : Grid) (r : Rectangle) → IsEven G → IsFrame G r → (r.bottom < length G) × (r.right < width G)
-frame_within G r even f =
-    let corner = place_within G r.bottom r.right 43 f.bottom_right (omega arith) in
-    (corner.0, let e = even r.bottom corner.0 in let k = corner.1 in omega arith)
+pub frame_within : (G : Grid) (r : Rectangle) → IsFrame G r → (r.bottom < length G) × (r.right < width G)
+frame_within G r f = ((place_within G r.bottom r.right 43 f.bottom_right (omega arith)).0, f.inside)
 
 -- ---- covering
 
@@ -74,22 +72,22 @@ times_corner G r rs d =
     let here = covers_yes r r.top r.left (omega arith) d.frame.high (omega arith) d.frame.wide in omega arith
 
 -- lists of drawn rectangles that cover the same squares equally often are the same
-pub same_lists : (G : Grid) (i j : ℕ) (rs qs : List Rectangle) → IsEven G → AreDrawn G i j rs → AreDrawn G i j qs
+pub same_lists : (G : Grid) (i j : ℕ) (rs qs : List Rectangle) → AreDrawn G i j rs → AreDrawn G i j qs
     → ((x y : ℕ) → x + 1 < length G → y + 1 < width G → times rs x y ≡ times qs x y) → rs ≡ qs
-same_lists G i j [] [] even a b same = refl
-same_lists G i j (r ∷ rs) [] even a b same =
+same_lists G i j [] [] a b same = refl
+same_lists G i j (r ∷ rs) [] a b same =
     let d : IsDrawn G r = a.1 in
-    let w = frame_within G r even d.frame in
+    let w = frame_within G r d.frame in
     absurd (omega (arith, d.frame.high, d.frame.wide, w.0, w.1, times_corner G r rs d, same r.top r.left))
-same_lists G i j [] (q ∷ qs) even a b same =
+same_lists G i j [] (q ∷ qs) a b same =
     let d : IsDrawn G q = b.1 in
-    let w = frame_within G q even d.frame in
+    let w = frame_within G q d.frame in
     absurd (omega (arith, d.frame.high, d.frame.wide, w.0, w.1, times_corner G q qs d, same q.top q.left))
-same_lists G i j (r ∷ rs) (q ∷ qs) even a b same =
+same_lists G i j (r ∷ rs) (q ∷ qs) a b same =
     let d : IsDrawn G r = a.1 in
     let e : IsDrawn G q = b.1 in
-    let v = frame_within G r even d.frame in
-    let w = frame_within G q even e.frame in
+    let v = frame_within G r d.frame in
+    let w = frame_within G q e.frame in
     let high_r : r.top < r.bottom = d.frame.high in
     let wide_r : r.left < r.right = d.frame.wide in
     let high_q : q.top < q.bottom = e.frame.high in
@@ -112,10 +110,10 @@ same_lists G i j (r ∷ rs) (q ∷ qs) even a b same =
     (λ more. absurd (not_behind (omega arith) (λ x. more))) ne) (cases_order r.left q.left) in
     let one : r ≡ q = drawn_same G r q d e top left in
     let b2 : AreDrawn G r.top (r.left + 1) qs = subst (λ (z : Rectangle). AreDrawn G z.top (z.left + 1) qs) (sym one) b.2 in
-    let rest : rs ≡ qs = same_lists G r.top (r.left + 1) rs qs even a.2 b2
+    let rest : rs ≡ qs = same_lists G r.top (r.left + 1) rs qs a.2 b2
     (λ x y h k. let s = same x y h k in let o : one_if (covers r x y) ≡ one_if (covers q x y) = ap (λ z. one_if (covers z x y)) one in omega arith) in
     cc
 
-pub one_tiling_of : (G : Grid) → IsEven G → (rs qs : List Rectangle) → IsTiling G rs → IsTiling G qs → rs ≡ qs
-one_tiling_of G even rs qs a b =
-    same_lists G 0 0 rs qs even a.drawn b.drawn (λ x y h k. a.once x y h k ∙ sym (b.once x y h k))
+pub one_tiling_of : (G : Grid) → (rs qs : List Rectangle) → IsTiling G rs → IsTiling G qs → rs ≡ qs
+one_tiling_of G rs qs a b =
+    same_lists G 0 0 rs qs a.drawn b.drawn (λ x y h k. a.once x y h k ∙ sym (b.once x y h k))

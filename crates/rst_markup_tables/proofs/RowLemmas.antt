@@ -1,15 +1,14 @@
 -- The rows of cells of a grid table.
 use Rattle.std.proofs.Common.{⊎_elim, ◌≡◌, ℕ, zero, suc, ◌+◌, ◌-◌, ◌<◌, ◌≤◌, Bool, true, false, cond, eqb, List, [], ◌∷◌, ◌++◌, length, drop, get_or, set, map, filter, refl, sym, ap, ap₂, ◌∙◌, arith, Option, Some, None}
-use Rattle.std.proofs.lemmas.List.{drop_more, get_or-set_same, get_or-set_other, length-set, length-map, ext_get_or, set_past}
+use Rattle.std.proofs.lemmas.List.{drop_more, get_or-set_same, get_or-set_other, length-set, ext_get_or}
 use Rattle.std.proofs.lemmas.List.Folds.{list_any_at}
-use Rattle.std.proofs.lemmas.Bool.{cases_lt, cases_eq, eq-eqb, ne_eqb, le-leb, and_from, and_parts, or_left, eqb-true}
-use Rattle.std.specs.List.{list_all}
-use Rattle.rst_markup_tables.specs.Places.{Row, Grid, no_row, width, row_at, place}
+use Rattle.std.proofs.lemmas.Bool.{cases_lt, cases_eq, eq-eqb, ne_eqb, le-leb, and_from, or_left}
+use Rattle.rst_markup_tables.specs.Places.{Grid, no_row, width, place}
 use Rattle.std.specs.List.{range_with_len}
 use Rattle.rst_markup_tables.specs.Counts.{below}
 use Rattle.rst_markup_tables.specs.Marks.{AreMarked, AreRanks}
-use Rattle.rst_markup_tables.specs.Drawn.{IsEven, IsFrame, IsDrawn, AreDrawn, IsTiling}
-use Rattle.rst_markup_tables.specs.GridTable.{bounds_row, is_row, is_column, cell_of, row_cells, more_of, is_square, is_whole, dashed, with_dashes, column_widths, gaps}
+use Rattle.rst_markup_tables.specs.Drawn.{IsFrame, IsDrawn, AreDrawn, IsTiling}
+use Rattle.rst_markup_tables.specs.GridTable.{bounds_row, is_row, is_column, cell_of, row_cells, more_of, dashed, with_dashes, column_widths, gaps}
 use Rattle.rst_markup_tables.specs.declared.drawn.Rectangle.{Rectangle}
 use Rattle.rst_markup_tables.specs.declared.results.Cell.{Cell}
 use Rattle.rst_markup_tables.proofs.Lists.{onto, below_more, below_yes, below_same, all_from-same}
@@ -98,13 +97,13 @@ row-bottom G rs k d below f =
     list_any_at (bounds_row G r.bottom) rs k d below (and_from _ _ (and_from _ _ (le-leb r.top r.bottom (omega arith)) (le-leb r.bottom r.bottom (omega arith))) (or_left _ _ (eq-eqb (place G r.bottom r.left) 43 corner)))
 
 -- a rectangle begins above the last bound
-pub rank-few : (G : Grid) (rs : List Rectangle) (ranks : List ℕ) → IsEven G → IsTiling G rs → AreRanks (below (is_row G rs)) (length G) ranks
+pub rank-few : (G : Grid) (rs : List Rectangle) (ranks : List ℕ) → IsTiling G rs → AreRanks (below (is_row G rs)) (length G) ranks
     → (k : ℕ) (d : Rectangle) → k < length rs → get_or ranks (get_or rs k d).top 0 < get_or ranks (length G) 0 - 1
-rank-few G rs ranks even t ranked k d inside =
+rank-few G rs ranks t ranked k d inside =
     let r : Rectangle = get_or rs k d in
     let p : ℕ → Bool = is_row G rs in
     let drawn : IsDrawn G r = drawn_at G 0 0 rs t.drawn k inside d in
-    let within = frame_within G r even drawn.frame in
+    let within = frame_within G r drawn.frame in
     let high : r.top < r.bottom = drawn.frame.high in
     let low : r.bottom < length G = within.0 in
     let top = below_yes p r.top (row-top G rs k d inside drawn.frame) in
@@ -118,14 +117,14 @@ abbrev pub Agree : (ℕ → ℕ) → (ℕ → ℕ) → (ℕ → ℕ) → (ℕ �
 Agree f f' g g' [] = Unit {0}
 Agree f f' g g' (r ∷ rs) = (f r.top ≡ f' r.top) × (f r.bottom ≡ f' r.bottom) × (g r.left ≡ g' r.left) × (g r.right ≡ g' r.right) × Agree f f' g g' rs
 
-pub agree : (f f' g g' : ℕ → ℕ) (G : Grid) (i j : ℕ) (rs : List Rectangle) → IsEven G → AreDrawn G i j rs → ((k : ℕ) → k < length G → f k ≡ f' k) → ((k : ℕ) → k < width G → g k ≡ g' k) → Agree f f' g g' rs
-agree f f' g g' G i j [] even a rows columns = tt
-agree f f' g g' G i j (r ∷ rs) even a rows columns =
+pub agree : (f f' g g' : ℕ → ℕ) (G : Grid) (i j : ℕ) (rs : List Rectangle) → AreDrawn G i j rs → ((k : ℕ) → k < length G → f k ≡ f' k) → ((k : ℕ) → k < width G → g k ≡ g' k) → Agree f f' g g' rs
+agree f f' g g' G i j [] a rows columns = tt
+agree f f' g g' G i j (r ∷ rs) a rows columns =
     let d : IsDrawn G r = a.1 in
-    let within = frame_within G r even d.frame in
+    let within = frame_within G r d.frame in
     let high : r.top < r.bottom = d.frame.high in
     let wide : r.left < r.right = d.frame.wide in
-    (rows r.top (omega (arith, within.0)), rows r.bottom within.0, columns r.left (omega (arith, within.1)), columns r.right within.1, agree f f' g g' G r.top (r.left + 1) rs even a.2 rows columns)
+    (rows r.top (omega (arith, within.0)), rows r.bottom within.0, columns r.left (omega (arith, within.1)), columns r.right within.1, agree f f' g g' G r.top (r.left + 1) rs a.2 rows columns)
 
 same_rows : (f f' g g' : ℕ → ℕ) (G : Grid) (rs : List Rectangle) (n : ℕ) → Agree f f' g g' rs → row_cells f g G rs n ≡ row_cells f' g' G rs n
 same_rows f f' g g' G [] n a = refl
@@ -142,38 +141,6 @@ same_rows f f' g g' G (r ∷ rs) n a =
 pub same_cells : (f f' g g' : ℕ → ℕ) (G : Grid) (rs : List Rectangle) (low n : ℕ) → Agree f f' g g' rs → map (row_cells f g G rs) (range_with_len low n) ≡ map (row_cells f' g' G rs) (range_with_len low n)
 same_cells f f' g g' G rs low zero a = refl
 same_cells f f' g g' G rs low (suc n) a = ap₂ (λ x xs. x ∷ xs) (same_rows f f' g g' G rs low a) (same_cells f f' g g' G rs (low + 1) n a)
-
--- ---- the grid is even
-
-whole-width : (w : ℕ) (r : Row) → is_whole w r.places ≡ true → length r.places ≡ w
-unfolding is_whole
-whole-width w r h = eqb-true _ _ (and_parts _ _ h).0
-
-wide_at : (w : ℕ) (T : Grid) → list_all (λ (r : Row). is_whole w r.places) T ≡ true → (i : ℕ) → i < length T → length (row_at T i) ≡ w
-wide_at w [] h i below = absurd (omega arith)
-wide_at w (r ∷ rs) h zero below = whole-width w r (and_parts (is_whole w r.places) (list_all (λ (r : Row). is_whole w r.places) rs) h).0
-wide_at w (r ∷ rs) h (suc i) below = wide_at w rs (and_parts (is_whole w r.places) (list_all (λ (r : Row). is_whole w r.places) rs) h).1 i (omega arith)
-
-pub square_even : (T : Grid) → is_square T ≡ true → IsEven T
-square_even T h i below = wide_at (width T) T h i below
-
-dashed-width : (T : Grid) (k i : ℕ) → length (row_at (set T k (dashed (get_or T k no_row))) i) ≡ length (row_at T i)
-dashed-width T k i = ⊎_elim
-    (λ within. ⊎_elim
-    (λ same. ap (λ j. length (row_at (set T k (dashed (get_or T k no_row))) j)) same
-    ∙ ap (λ (r : Row). length r.places) (get_or-set_same T k (dashed (get_or T k no_row)) no_row within)
-    ∙ length-map (row_at T k) _ ∙ ap (λ j. length (row_at T j)) (sym same))
-    (λ other. ap (λ (r : Row). length r.places) (get_or-set_other T k i (dashed (get_or T k no_row)) no_row other))
-    (cases_eq i k))
-    (λ past. ap (λ G. length (row_at G i)) (set_past T k (dashed (get_or T k no_row)) past))
-    (cases_lt k (length T))
-
-pub dashes_even : (T : Grid) (head : Option ℕ) → IsEven T → IsEven (with_dashes T head)
-unfolding width
-dashes_even T None even i inside = even i inside
-dashes_even T (Some k) even i inside =
-    let size = length-set T k (dashed (get_or T k no_row)) in
-    dashed-width T k i ∙ even i (omega arith) ∙ sym (dashed-width T k 0)
 
 pub dashes-length : (T : Grid) (head : Option ℕ) → length (with_dashes T head) ≡ length T
 dashes-length T None = refl

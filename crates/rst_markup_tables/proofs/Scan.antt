@@ -3,7 +3,7 @@ use Rattle.std.proofs.Common.{◌⊎◌, inl, inr, ⊎_elim, List, [], ◌∷◌
 use Rattle.std.proofs.lemmas.Bool.{cases_lt}
 use Rattle.rst_markup_tables.specs.declared.drawn.Rectangle.{Rectangle}
 use Rattle.rst_markup_tables.specs.Places.{Grid, width}
-use Rattle.rst_markup_tables.specs.Drawn.{IsEven, IsDrawn, covers, one_if, times, BeginsFrom, AreDrawn, IsTiling, Tiles}
+use Rattle.rst_markup_tables.specs.Drawn.{IsDrawn, covers, one_if, times, BeginsFrom, AreDrawn, IsTiling, Tiles}
 use Rattle.rst_markup_tables.specs.Search.{Draws, Fills}
 use Rattle.rst_markup_tables.proofs.Rectangles.{frame_within, covers_yes, covers_no, times_before, drawn_same}
 
@@ -99,15 +99,15 @@ none_drawn G i j depths rs s high wide here none qs t =
     let h = next_of G i j depths rs qs s high wide here t in
     none h.first h.drawn.frame h.top h.left
 
-pub overlap : (G : Grid) (i j : ℕ) (depths new : List ℕ) (rs : List Rectangle) (r : Rectangle) → IsEven G → Stands G i j depths rs
+pub overlap : (G : Grid) (i j : ℕ) (depths new : List ℕ) (rs : List Rectangle) (r : Rectangle) → Stands G i j depths rs
     → i + 1 < length G → j < length depths → get_or depths j 0 ≡ i → IsDrawn G r → r.top ≡ i → r.left ≡ j → Fills r depths new false → Tiles G None
-overlap G i j depths new rs r even s high wide here d top left bad qs t =
+overlap G i j depths new rs r s high wide here d top left bad qs t =
     let h = next_of G i j depths rs qs s high wide here t in
     let p = s.rest qs t in
     let k : ℕ = bad.0 in
     let size : length depths ≡ width G - 1 = s.size in
     let same : r ≡ h.first = drawn_same G r h.first d h.drawn (top ∙ sym h.top) (left ∙ sym h.left) in
-    let inside = frame_within G r even d.frame in
+    let inside = frame_within G r d.frame in
     let low : r.left ≤ k = bad.1 in
     let less : k < r.right = bad.2 in
     let within : k < length depths = omega (arith, inside.1) in
@@ -119,9 +119,9 @@ overlap G i j depths new rs r even s high wide here d top left bad qs t =
     let yes : one_if (covers r i k) ≡ 1 = covers_yes r i k (omega arith) (omega (arith, d.frame.high)) low less in
     omega arith
 
-pub add : (G : Grid) (i j : ℕ) (depths new : List ℕ) (rs : List Rectangle) (r : Rectangle) → IsEven G → Stands G i j depths rs
+pub add : (G : Grid) (i j : ℕ) (depths new : List ℕ) (rs : List Rectangle) (r : Rectangle) → Stands G i j depths rs
     → i + 1 < length G → j < length depths → get_or depths j 0 ≡ i → IsDrawn G r → r.top ≡ i → r.left ≡ j → Fills r depths new true → Stands G i (j + 1) new (rs ++ r ∷ [])
-add G i j depths new rs r even s high wide here d top left good =
+add G i j depths new rs r s high wide here d top left good =
     let size : length depths ≡ width G - 1 = s.size in
     let same_size : length new ≡ length depths = good.0 in
     let tall : r.top < r.bottom = d.frame.high in
@@ -181,8 +181,8 @@ add G i j depths new rs r even s high wide here d top left good =
           (h.others, is ∙ sym (append_assoc rs (r ∷ []) h.others), h.rest);
     }
 
-pub next_row : (G : Grid) (i j : ℕ) (depths : List ℕ) (rs : List Rectangle) → IsEven G → Stands G i j depths rs → length depths ≤ j → Stands G (i + 1) 0 depths rs
-next_row G i j depths rs even s all =
+pub next_row : (G : Grid) (i j : ℕ) (depths : List ℕ) (rs : List Rectangle) → Stands G i j depths rs → length depths ≤ j → Stands G (i + 1) 0 depths rs
+next_row G i j depths rs s all =
     let size : length depths ≡ width G - 1 = s.size in
     record {
       size = size;
@@ -191,15 +191,15 @@ next_row G i j depths rs even s all =
       covered = s.covered;
       free = s.free;
       drawn = λ qs a. s.drawn qs (weaken G i j (i + 1) 0 qs (omega arith) (λ x. absurd (omega arith)) a);
-      rest = λ qs t. let p = s.rest qs t in (p.0, p.1, below_row G i j p.0 even (omega arith) p.2);
+      rest = λ qs t. let p = s.rest qs t in (p.0, p.1, below_row G i j p.0 (omega arith) p.2);
     }
   where
-    below_row : (G : Grid) (i j : ℕ) (ps : List Rectangle) → IsEven G → width G - 1 ≤ j → AreDrawn G i j ps → AreDrawn G (i + 1) 0 ps
-    below_row G i j [] even past a = a
-    below_row G i j (p ∷ ps) even past a =
+    below_row : (G : Grid) (i j : ℕ) (ps : List Rectangle) → width G - 1 ≤ j → AreDrawn G i j ps → AreDrawn G (i + 1) 0 ps
+    below_row G i j [] past a = a
+    below_row G i j (p ∷ ps) past a =
         let from : BeginsFrom i j p = a.0 in
         let d : IsDrawn G p = a.1 in
-        let inside = frame_within G p even d.frame in
+        let inside = frame_within G p d.frame in
         let later : i + 1 ≤ p.top = ⊎_elim (λ less. absurd (omega (arith, from.0, from.1, d.frame.wide, inside.1))) (λ more. more) (cases_lt p.top (i + 1)) in
         ((later, λ x. omega arith), a.1, a.2)
 

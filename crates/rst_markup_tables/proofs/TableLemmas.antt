@@ -1,21 +1,12 @@
 -- What the rows of a grid table are.
-use Rattle.std.proofs.Common.{⊎_elim, ◌≡◌, ℕ, ◌+◌, true, cond, List, length, sym, ap, ap₂, ◌∙◌, subst, Option, Some, None}
-use Rattle.std.specs.Prelude.{option_and_then}
-use Rattle.std.proofs.lemmas.Bool.{cases_Bool}
+use Rattle.std.proofs.Common.{◌≡◌, ℕ, ◌+◌, List, length, sym, ap, ap₂, ◌∙◌, subst, Option, Some, None}
 use Rattle.rst_markup_tables.specs.Places.{Grid}
-use Rattle.rst_markup_tables.specs.Drawn.{IsEven, IsTiling, Tiles}
-use Rattle.rst_markup_tables.specs.GridTable.{is_square, head_of, second_head, row_fault, with_dashes, tiled, tiled_table, IsOfRows}
+use Rattle.rst_markup_tables.specs.Drawn.{IsTiling, Tiles}
+use Rattle.rst_markup_tables.specs.GridTable.{head_of, row_fault, with_dashes, tiled, tiled_table, IsOfRows}
 use Rattle.rst_markup_tables.specs.declared.drawn.Rectangle.{Rectangle}
 use Rattle.rst_markup_tables.specs.declared.results.TableDetail.{TableDetail}
-use Rattle.rst_markup_tables.specs.declared.results.TableDetail.TheVariants.{RightEdgeBroken}
 use Rattle.rst_markup_tables.specs.declared.results.TableResult.{TableResult}
-use Rattle.rst_markup_tables.proofs.RowLemmas.{square_even, dashes_even, dashes-length}
-
-pub square_from : (T : Grid) → row_fault T ≡ None → is_square T ≡ true
-square_from T none = ⊎_elim (λ e. e) (λ e. absurd (let broken : row_fault T ≡ Some RightEdgeBroken = ap (λ b. cond b (option_and_then (second_head T) (head_of T)) (Some RightEdgeBroken)) e in cc)) (cases_Bool (is_square T))
-
-pub even_from : (T G : Grid) → row_fault T ≡ None → G ≡ with_dashes T (head_of T) → IsEven G
-even_from T G none is = subst IsEven (sym is) (dashes_even T (head_of T) (square_even T (square_from T none)))
+use Rattle.rst_markup_tables.proofs.RowLemmas.{dashes-length}
 
 pub with_tiling : (line i : ℕ) (T G : Grid) (head : Option ℕ) (rs : List Rectangle) (table : TableResult) → row_fault T ≡ None → G ≡ with_dashes T (head_of T) → head ≡ head_of T
     → IsTiling G rs → table ≡ tiled_table head G rs (i + length T) → IsOfRows line i T (row_fault T) table

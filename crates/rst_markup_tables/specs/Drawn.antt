@@ -1,11 +1,7 @@
 -- The rectangles that a grid table draws, and the tilings of it (Markup Specification, 'Grid Tables').
 use Rattle.std.specs.Prelude.{◌≡◌, ℕ, ◌+◌, ◌<◌, ◌≤◌, Bool, true, ◌&&◌, ◌||◌, ◌==◌, nat_lt, nat_le, List, [], ◌∷◌, Option, Some, None, if◌then◌else◌, length, ⊤}
-use Rattle.rst_markup_tables.specs.Places.{Grid, width, row_at, place}
+use Rattle.rst_markup_tables.specs.Places.{Grid, width, place}
 use Rattle.rst_markup_tables.specs.declared.drawn.Rectangle.{Rectangle}
-
--- each row is as wide as the first
-abbrev pub IsEven : Grid → Type 0
-IsEven G = (i : ℕ) → i < length G → length (row_at G i) ≡ width G
 
 -- `-` or `+`
 unfoldable pub is_across : ℕ → Bool
@@ -23,10 +19,11 @@ IsAcross G row left right = (j : ℕ) → left ≤ j → j ≤ right → is_acro
 abbrev pub IsUpright : Grid → ℕ → ℕ → ℕ → Type 0
 IsUpright G column top bottom = (i : ℕ) → top ≤ i → i ≤ bottom → is_upright (place G i column) ≡ true
 
--- the rectangle has a `+` at each corner and its sides
+-- the rectangle lies in the columns of the first row, and has a `+` at each corner and its sides
 pub record IsFrame (G : Grid) (r : Rectangle) : Type 0 where
   pub high : r.top < r.bottom
   pub wide : r.left < r.right
+  pub inside : r.right < width G
   pub top_left : place G r.top r.left ≡ 43
   pub top_right : place G r.top r.right ≡ 43
   pub bottom_left : place G r.bottom r.left ≡ 43

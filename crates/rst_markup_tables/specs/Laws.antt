@@ -3,14 +3,14 @@ use Rattle.std.specs.Prelude.{◌≡◌, ℕ, ◌<◌, ◌≤◌, false, drop}
 use Rattle.rst_text.specs.Block.{Block}
 use Rattle.rst_markup_blocks.specs.TableRows.{grid_size, grid_scan, is_grid_row, simple_size, simple_scan, is_lower_border_at}
 use Rattle.rst_markup_tables.specs.Places.{Grid}
-use Rattle.rst_markup_tables.specs.Drawn.{IsEven, OneTiling, Tiles}
+use Rattle.rst_markup_tables.specs.Drawn.{OneTiling, Tiles}
 use Rattle.rst_markup_tables.specs.GridTable.{IsGridTable}
 use Rattle.rst_markup_tables.specs.Tiling.{grid_table, tiling_of}
 use Rattle.rst_markup_tables.specs.declared.results.TableResult.{TableResult}
 
--- Grids whose rows are equally wide have at most one tiling each.
+-- A grid has at most one tiling.
 abbrev pub HaveOneTiling : Type 0
-HaveOneTiling = (G : Grid) → IsEven G → OneTiling G
+HaveOneTiling = (G : Grid) → OneTiling G
 
 -- At none of the lines that a scan for a grid table goes over behind the table a grid table begins.
 abbrev pub NoGridBehind : Type 0
@@ -20,9 +20,9 @@ NoGridBehind = (X : Block) (k : ℕ) → grid_size X ≤ k → k < grid_scan X �
 abbrev pub NoSimpleBehind : Type 0
 NoSimpleBehind = (X : Block) (k : ℕ) → simple_size X ≤ k → k < simple_scan X → is_lower_border_at X k ≡ false
 
--- The tiling that is found in a grid whose rows are equally wide is its tiling; where none is found, it has none.
+-- The tiling that is found in a grid is its tiling; where none is found, it has none.
 abbrev pub TilingIsFound : Type 0
-TilingIsFound = (G : Grid) → IsEven G → Tiles G (tiling_of G)
+TilingIsFound = (G : Grid) → Tiles G (tiling_of G)
 
 -- A grid table is the one that is found.
 abbrev pub GridIsFound : Type 0

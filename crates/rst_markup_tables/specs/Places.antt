@@ -1,5 +1,5 @@
 -- The lines of a table as rows of places (Markup Specification, 'Grid Tables', 'Simple Tables').
-use Rattle.std.specs.Prelude.{ℕ, Bool, false, ◌==◌, List, [], ◌∷◌, map, get_or, length, unwrap_or, if◌then◌else◌}
+use Rattle.std.specs.Prelude.{◌≡◌, ℕ, ◌+◌, ◌<◌, Bool, false, ◌==◌, List, [], ◌∷◌, map, get_or, length, unwrap_or, if◌then◌else◌}
 use Rattle.unicode_width.specs.Width.{char_width}
 use Rattle.rst_text.specs.Block.{Line, Block}
 use Rattle.rst_markup_tables.specs.declared.places.Place.{Place}
@@ -39,6 +39,10 @@ rows_of B = map row_of B
 -- a row without places
 abbrev pub no_row : Row
 no_row = record { number = 0; places = [] }
+
+-- the numbers of the rows follow one another
+abbrev pub AreNumbered : Grid → Type 0
+AreNumbered G = (i : ℕ) → i < length G → (get_or G i no_row).number ≡ (get_or G 0 no_row).number + i
 
 -- the places of a row; past the end a row is empty
 abbrev pub row_at : Grid → ℕ → List Place

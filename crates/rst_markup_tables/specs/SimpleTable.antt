@@ -1,6 +1,6 @@
 -- Simple tables: what can be wrong with their lines, and what stands in them (Markup Specification, 'Simple Tables'). Which
 -- lines they are is told by the row of the table of constructs.
-use Rattle.std.specs.Prelude.{ℕ, ◌+◌, ◌-◌, max, Bool, false, not, ◌&&◌, ◌||◌, ◌==◌, nat_le, List, [], ◌∷◌, ◌++◌, Option, Some, None, is_some, if◌then◌else◌, get_or, length, take, drop, slice_range, map, fold, count_by, unwrap_or, option_map, option_and_then, flat_map, filter, find, position}
+use Rattle.std.specs.Prelude.{ℕ, ◌+◌, ◌-◌, ◌≤◌, max, Bool, false, not, ◌&&◌, ◌||◌, ◌==◌, nat_le, List, [], ◌∷◌, ◌++◌, Option, Some, None, is_some, if◌then◌else◌, get_or, length, take, drop, slice_range, map, fold, count_by, unwrap_or, option_map, option_and_then, flat_map, filter, find, position}
 use Rattle.std.specs.Char.{is_whitespace}
 use Rattle.std.specs.List.{list_all, range_with_len}
 use Rattle.std.specs.Option.{option_or}
@@ -56,6 +56,12 @@ span_end row k = unwrap_or (first_from (is_space row) k (length row - k)) (lengt
 -- the run that begins there, as a span of one column
 abbrev pub span_at : List Place → ℕ → RuleSpan
 span_at row k = record { from = k; to = span_end row k; columns = 1 }
+
+-- Each span begins no earlier than the one before it, the first of which at `low` or later, and ends no earlier than it
+-- begins.
+abbrev pub AreInOrder : ℕ → List RuleSpan → Type 0
+AreInOrder low [] = Unit {0}
+AreInOrder low (s ∷ ss) = (low ≤ s.from) × (s.from ≤ s.to) × AreInOrder s.from ss
 
 -- the runs of marks in a rule
 abbrev pub spans_of : List Place → List RuleSpan

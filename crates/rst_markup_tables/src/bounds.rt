@@ -2,7 +2,7 @@
 ghost use Rattle.std.specs.Prelude.{◌≡◌, ◌∷◌, ◌<◌, ◌||◌, ◌==◌, length, IfOk};
 ghost use Rattle.rst_markup_tables.specs.Places.{place, width};
 ghost use Rattle.rst_markup_tables.specs.Marks.{Marks, AreMarked};
-ghost use Rattle.rst_markup_tables.specs.Drawn.{IsEven, IsTiling};
+ghost use Rattle.rst_markup_tables.specs.Drawn.{IsTiling};
 ghost use Rattle.rst_markup_tables.specs.GridTable.{gaps, is_column, is_row};
 
 use super::drawn::Rectangle;
@@ -45,7 +45,6 @@ pub(crate) fn column_marks(
     lines: &[TableLine],
     rectangles: &[Rectangle],
 ) -> Result<Vec<bool>, AllocError>
-    requires even { IsEven lines.now }
     requires tiling { IsTiling lines.now rectangles.now }
     ensures { IfOk result (λ marks. AreMarked (is_column lines.now rectangles.now) (width lines.now) marks.items) }
 {
@@ -62,7 +61,6 @@ pub(crate) fn row_marks(
     lines: &[TableLine],
     rectangles: &[Rectangle],
 ) -> Result<Vec<bool>, AllocError>
-    requires even { IsEven lines.now }
     requires tiling { IsTiling lines.now rectangles.now }
     ensures { IfOk result (λ marks. AreMarked (is_row lines.now rectangles.now) (length lines.now) marks.items) }
 {

@@ -1,62 +1,19 @@
 //! The lines of a cell.
-ghost use Rattle.std.specs.Prelude.{◌≡◌, drop, true, IfOk, IsTrue, map};
+ghost use Rattle.std.specs.Prelude.{◌≡◌, ◌-◌, ℕ, List, drop, filter, get_or, length, true, IfOk, IsTrue, map};
+ghost use Rattle.std.specs.List.{list_all, range_with_len};
 ghost use Rattle.std.specs.Str.{all_scalars, drop_trailing_whitespace};
-ghost use Rattle.rst_text.specs.Block as spec;
 ghost use Rattle.rst_text.specs.Extent.{least_indent};
-ghost use Rattle.rst_text.specs.Lines.{is_line_text};
+ghost use Rattle.rst_text.specs.Lines.{are_lines, is_line_text};
 ghost use Rattle.rst_text.specs.Text.{chars_of};
-ghost use Rattle.rst_markup_tables.specs.Cells.{characters, cut_places, cell_line, cell_block};
+ghost use Rattle.rst_text.specs.Source.{texts_with};
+ghost use Rattle.rst_markup_tables.specs.Cells.{as_lines, characters, cut_places, cell_text, cell_block, reaches, reaching, texts_among};
+ghost use Rattle.rst_markup_tables.specs.Places.{AreNumbered};
 
-use super::places::{Place, TableLine};
+use super::places::{Place, TableLine, row_at};
 use super::results::CellLines;
+use rst_markup_lines::is_blank;
+use rst_text::{indentation, skip};
 use std::alloc::{AllocError, Global};
-use std::marker::Model;
-
-/// A line as characters.
-#[derive(Drop)]
-struct CutLine {
-    number: usize,
-    text: Vec<char>,
-}
-
-impl Model for CutLine {
-    ghost use Rattle.rst_text.specs.Block.{Line};
-
-    ghost Value = { Line };
-
-    ghost view = { λ l. record { number = l.number; text = l.text.items } };
-
-    ghost use Rattle.std.specs.Prelude.{◌≡◌, true, IsTrue};
-    ghost use Rattle.std.specs.Str.{all_scalars};
-    ghost use Rattle.rst_text.specs.Lines.{is_line_text};
-
-    // The characters are some that a text can hold, and stand in a line as they are.
-    ghost invariant = { λ l. (all_scalars l.text.items ≡ true) × IsTrue (is_line_text l.text.items) };
-}
-
-impl CutLine {
-    fn of(number: usize, text: Vec<char>) -> CutLine
-        requires scalars { all_scalars text.items ≡ true }
-        requires line { IsTrue (is_line_text text.items) }
-        ensures { result ≡ record { number = number; text = text.items } }
-    {
-        CutLine { number, text }
-    }
-
-    fn number(&self) -> usize
-        ensures { result ≡ self.now.number }
-    {
-        self.number
-    }
-
-    fn text(&self) -> &[char]
-        ensures value { result.now ≡ self.now.text }
-        ensures scalars { all_scalars result.now ≡ true }
-        ensures line { IsTrue (is_line_text result.now) }
-    {
-        self.text.as_slice()
-    }
-}
 
 /// The characters that begin at places.
 fn characters(alloc: Global, places: &[Place]) -> Result<Vec<char>, AllocError>
@@ -96,36 +53,6 @@ fn cut_places(row: &[Place], left: usize, right: Option<usize>) -> &[Place]
     &row[begin..end]
 }
 
-/// How many spaces a text begins with.
-fn indentation(text: &[char]) -> usize
-    ensures { result ≡ spec.indentation text.now }
-{
-    let mut spaces = 0;
-    for c in text {
-        if *c != ' ' {
-            return spaces;
-        }
-        spaces += 1;
-    }
-    spaces
-}
-
-/// The least indentation of the lines that aren't blank, 0 if there is none.
-fn least_indent(lines: &[CutLine]) -> usize
-    ensures { result ≡ least_indent lines.now }
-{
-    let mut least: Option<usize> = None;
-    for line in lines {
-        let text = line.text();
-        if text.is_empty() {
-            continue;
-        }
-        let spaces = indentation(text);
-        least = Some(least.unwrap_or(spaces).min(spaces));
-    }
-    least.unwrap_or(0)
-}
-
 /// A text of these characters.
 fn text_of(alloc: Global, characters: &[char]) -> Result<String, AllocError>
     requires { all_scalars characters.now ≡ true }
@@ -138,66 +65,127 @@ fn text_of(alloc: Global, characters: &[char]) -> Result<String, AllocError>
     Ok(text)
 }
 
-/// The characters behind the first `n`; of fewer nothing is left.
-fn behind(text: &[char], n: usize) -> &[char]
-    ensures { result.now ≡ drop n text.now }
-{
-    let begin = n.min(text.len());
-    &text[begin..]
-}
-
-/// A line of a cell: a table's line cut at places `left` and `right`, without the white characters at its end.
-fn cut_line(
-    alloc: Global,
-    line: &TableLine,
-    left: usize,
-    right: Option<usize>,
-) -> Result<CutLine, AllocError>
-    ensures { IfOk result (λ cut. cut ≡ cell_line left right line.now) }
-{
-    let text = characters(alloc, cut_places(line.places(), left, right))?;
-    Ok(CutLine::of(line.number(), trimmed(text)))
-}
-
-/// The lines of a cell, with their indentation.
-fn cut_lines(
+/// The text of a cell in a line of a table: the characters from place `left` on and before `right`, without the white
+/// ones at their end.
+fn cell_text(
     alloc: Global,
     lines: &[TableLine],
+    k: usize,
     left: usize,
     right: Option<usize>,
-) -> Result<Vec<CutLine>, AllocError>
-    ensures { IfOk result (λ cut. cut.items ≡ map (cell_line left right) lines.now) }
+) -> Result<String, AllocError>
+    ensures text { IfOk result (λ text. chars_of text ≡ cell_text left right lines.now k) }
+    ensures line { IfOk result (λ text. IsTrue (is_line_text (chars_of text))) }
 {
-    let mut cut = Vec::with_capacity(alloc, lines.len())?;
-    for line in lines {
-        cut.push(cut_line(alloc, line, left, right)?)?;
-    }
-    Ok(cut)
+    let row = row_at(lines, k);
+    let text = trimmed(characters(alloc, cut_places(row, left, right))?);
+    let text = text_of(alloc, &text)?;
+    Ok(text)
 }
 
-/// Lines without their first `n` characters.
-fn shortened(alloc: Global, lines: &[CutLine], n: usize) -> Result<CellLines, AllocError>
-    ensures { IfOk result (λ cell. cell ≡ map (spec.shorten n) lines.now) }
+/// The texts of a cell in the lines at some places, with these places. Empty ones are left out.
+fn cell_texts(
+    alloc: Global,
+    lines: &[TableLine],
+    among: &[usize],
+    left: usize,
+    right: Option<usize>,
+) -> Result<Vec<(usize, String)>, AllocError>
+    ensures texts { IfOk result (λ texts. texts_with texts.items ≡ texts_among left right lines.now among.now) }
+    ensures lines { IfOk result (λ texts. IsTrue (are_lines (as_lines (texts_with texts.items)))) }
 {
-    let mut short = Vec::with_capacity(alloc, lines.len())?;
-    for line in lines {
-        let text = text_of(alloc, behind(line.text(), n))?;
-        short.push((line.number(), text))?;
+    let mut texts = Vec::new(alloc);
+    for k in among {
+        let text = cell_text(alloc, lines, *k, left, right)?;
+        if !is_blank(text.as_str()) {
+            texts.push((*k, text))?;
+            continue;
+        }
     }
-    Ok(CellLines::of(short))
+    Ok(texts)
+}
+
+/// The places of all lines.
+pub(crate) fn all_places(alloc: Global, lines: &[TableLine]) -> Result<Vec<usize>, AllocError>
+    ensures { IfOk result (λ places. places.items ≡ range_with_len 0 (length lines.now)) }
+{
+    let mut places = Vec::with_capacity(alloc, lines.len())?;
+    for k in 0..lines.len() {
+        places.push(k)?;
+    }
+    Ok(places)
+}
+
+/// Those of some places at which a line is longer than `n` places.
+pub(crate) fn reaching(
+    alloc: Global,
+    lines: &[TableLine],
+    among: &[usize],
+    n: usize,
+) -> Result<Vec<usize>, AllocError>
+    ensures { IfOk result (λ found. found.items ≡ filter (reaches lines.now n) among.now) }
+{
+    let mut found = Vec::new(alloc);
+    for k in among {
+        if row_at(lines, *k).len() > n {
+            found.push(*k)?;
+            continue;
+        }
+    }
+    Ok(found)
+}
+
+/// The least indentation of texts that aren't blank, 0 if there is none.
+fn least_indent(texts: &[(usize, String)]) -> usize
+    ensures { result ≡ least_indent (as_lines (texts_with texts.now)) }
+{
+    let mut least: Option<usize> = None;
+    for (_, text) in texts {
+        if is_blank(text.as_str()) {
+            continue;
+        }
+        let spaces = indentation(text.as_str());
+        least = Some(least.unwrap_or(spaces).min(spaces));
+    }
+    least.unwrap_or(0)
+}
+
+/// Texts without their first `n` characters.
+fn shortened(
+    alloc: Global,
+    texts: &[(usize, String)],
+    n: usize,
+) -> Result<Vec<(usize, String)>, AllocError>
+    ensures { IfOk result (λ short. texts_with short.items ≡ map (λ (t : ℕ × List ℕ). (t.0, drop n t.1)) (texts_with texts.now)) }
+{
+    let mut short = Vec::with_capacity(alloc, texts.len())?;
+    for (k, text) in texts {
+        let text = String::from_str(alloc, skip(text.as_str(), n))?;
+        short.push((*k, text))?;
+    }
+    Ok(short)
 }
 
 /// The lines of a cell: those of a table, cut at places `left` and `right` (at none on the right, if it is `None`),
-/// without the white characters at their ends and without the least indentation of those that aren't blank.
+/// without the white characters at their ends and without the least indentation of those that aren't blank. It reads only
+/// the lines that are longer than `left` places: those at the places `among`.
 pub(crate) fn cell_lines(
     alloc: Global,
     lines: &[TableLine],
+    among: &[usize],
     left: usize,
     right: Option<usize>,
 ) -> Result<CellLines, AllocError>
+    requires numbered { AreNumbered lines.now }
+    requires among { among.now ≡ reaching lines.now left }
     ensures { IfOk result (λ cell. cell ≡ cell_block left right lines.now) }
 {
-    let cut = cut_lines(alloc, lines, left, right)?;
-    let least = least_indent(&cut);
-    shortened(alloc, &cut, least)
+    let texts = cell_texts(alloc, lines, among, left, right)?;
+    let least = least_indent(&texts);
+    let short = shortened(alloc, &texts, least)?;
+    let Some(last) = lines.last() else {
+        return Ok(CellLines::of(0, 0, short));
+    };
+    let count = lines.len();
+    Ok(CellLines::of(last.number() - (count - 1), count, short))
 }

@@ -1,7 +1,7 @@
 //! The rectangles that a grid table draws, and the tiling by them.
 ghost use Rattle.std.specs.Prelude.{◌≡◌, ◌<◌, ◌≤◌, ◌^◌, IfOk, option_map, vec_items, length};
 ghost use Rattle.rst_markup_tables.specs.Places.{Grid, width, place};
-ghost use Rattle.rst_markup_tables.specs.Drawn.{is_across, is_upright, IsEven, IsAcross, Tiles};
+ghost use Rattle.rst_markup_tables.specs.Drawn.{is_across, is_upright, IsAcross, Tiles};
 ghost use Rattle.rst_markup_tables.specs.Search.{are_upright, lists_of, begin_at, IsBottom, Tells, Closes, AreBegins, HasBegins, next_begin, Draws, Fills};
 
 use super::places::{Place, TableLine, mark, mark_at, width};
@@ -140,7 +140,7 @@ fn drawn_from(
     top: usize,
     left: usize,
 ) -> Option<Rectangle>
-    requires even { IsEven rows.now }
+    requires inside { left < width rows.now }
     requires begun { HasBegins rows.now (lists_of begins.now) }
     ensures { Draws rows.now top left result }
 {
@@ -188,7 +188,6 @@ pub(crate) fn tiling(
     alloc: Global,
     rows: &[TableLine],
 ) -> Result<Option<Vec<Rectangle>>, AllocError>
-    requires { IsEven rows.now }
     ensures { IfOk result (λ found. Tiles rows.now (option_map vec_items found)) }
 {
     let begins = all_begins(alloc, rows)?;

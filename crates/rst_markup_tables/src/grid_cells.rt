@@ -1,14 +1,14 @@
 //! The cells of a grid table.
 ghost use Rattle.std.specs.Prelude.{◌≡◌, ◌+◌, ◌-◌, ◌<◌, ◌≤◌, ℕ, [], List, Some, length, get_or, IfOk, IfSome};
-ghost use Rattle.rst_markup_tables.specs.Places.{width};
+ghost use Rattle.rst_markup_tables.specs.Places.{AreNumbered, width};
 ghost use Rattle.rst_markup_tables.specs.Counts.{below};
 ghost use Rattle.rst_markup_tables.specs.Marks.{AreRanks};
-ghost use Rattle.rst_markup_tables.specs.Drawn.{IsEven, IsTiling};
+ghost use Rattle.rst_markup_tables.specs.Drawn.{IsTiling};
 ghost use Rattle.rst_markup_tables.specs.GridTable as spec;
 ghost use Rattle.rst_markup_tables.specs.Results.{cells_of};
 
 use super::bounds::{column_marks, gaps, row_marks};
-use super::cells::cell_lines;
+use super::cells::{all_places, cell_lines, reaching};
 use super::counts::{marked, ranks};
 use super::drawn::Rectangle;
 use super::places::TableLine;
@@ -49,17 +49,16 @@ fn cell(
     ranks: &Ranks,
     rectangle: Rectangle,
 ) -> Result<Cell, AllocError>
+    requires numbered { AreNumbered lines.now }
     requires high { rectangle.top < rectangle.bottom }
     requires within { rectangle.bottom < length lines.now }
     requires wide { rectangle.left < rectangle.right }
     ensures { IfOk result (λ cell. cell ≡ spec.cell_of (λ k. get_or ranks.now.rows.items k 0) (λ k. get_or ranks.now.columns.items k 0) lines.now rectangle) }
 {
-    let lines = cell_lines(
-        alloc,
-        &lines[rectangle.top + 1..rectangle.bottom],
-        rectangle.left + 1,
-        Some(rectangle.right),
-    )?;
+    let lines = &lines[rectangle.top + 1..rectangle.bottom];
+    let left = rectangle.left + 1;
+    let among = reaching(alloc, lines, &all_places(alloc, lines)?, left)?;
+    let lines = cell_lines(alloc, lines, &among, left, Some(rectangle.right))?;
     Ok(Cell {
         morerows: ranks
             .row(rectangle.bottom)
@@ -92,7 +91,7 @@ fn cell_rows(
     rectangles: &[Rectangle],
     count: usize,
 ) -> Result<Vec<Vec<Cell>>, AllocError>
-    requires even { IsEven lines.now }
+    requires numbered { AreNumbered lines.now }
     requires tiling { IsTiling lines.now rectangles.now }
     requires few { (k : ℕ) → k < length rectangles.now → get_or ranks.now.rows.items (get_or rectangles.now k (record { top = 0; left = 0; bottom = 0; right = 0 })).top 0 < count }
     ensures { IfOk result (λ rows. cells_of rows.items ≡ spec.cell_rows (λ k. get_or ranks.now.rows.items k 0) (λ k. get_or ranks.now.columns.items k 0) lines.now rectangles.now count) }
@@ -111,7 +110,6 @@ fn row_ranks(
     lines: &[TableLine],
     rectangles: &[Rectangle],
 ) -> Result<Vec<usize>, AllocError>
-    requires even { IsEven lines.now }
     requires tiling { IsTiling lines.now rectangles.now }
     ensures { IfOk result (λ found. AreRanks (below (spec.is_row lines.now rectangles.now)) (length lines.now) found.items) }
 {
@@ -126,7 +124,6 @@ fn columns(
     lines: &[TableLine],
     rectangles: &[Rectangle],
 ) -> Result<(Vec<usize>, Vec<usize>), AllocError>
-    requires even { IsEven lines.now }
     requires tiling { IsTiling lines.now rectangles.now }
     ensures widths { IfOk result (λ found. found.0.items ≡ spec.column_widths lines.now rectangles.now) }
     ensures ranks { IfOk result (λ found. AreRanks (below (spec.is_column lines.now rectangles.now)) (width lines.now) found.1.items) }
@@ -145,7 +142,7 @@ fn table_rows(
     ranks: &Ranks,
     rectangles: &[Rectangle],
 ) -> Result<Rows, AllocError>
-    requires even { IsEven lines.now }
+    requires numbered { AreNumbered lines.now }
     requires tiling { IsTiling lines.now rectangles.now }
     requires rows { AreRanks (below (spec.is_row lines.now rectangles.now)) (length lines.now) ranks.now.rows.items }
     requires columns { AreRanks (below (spec.is_column lines.now rectangles.now)) (width lines.now) ranks.now.columns.items }
@@ -165,7 +162,7 @@ pub(crate) fn tiled(
     head: Option<usize>,
     end: usize,
 ) -> Result<TableResult, AllocError>
-    requires even { IsEven lines.now }
+    requires numbered { AreNumbered lines.now }
     requires tiling { IsTiling lines.now rectangles.now }
     requires head { IfSome head (λ k. k < length lines.now) }
     ensures { IfOk result (λ table. table ≡ spec.tiled_table head lines.now rectangles.now end) }

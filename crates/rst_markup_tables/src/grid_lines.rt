@@ -8,7 +8,7 @@ ghost use Rattle.rst_markup_lines.specs.Border.{is_grid_border};
 ghost use Rattle.rst_markup_blocks.specs.Lines.{lines_while};
 ghost use Rattle.rst_markup_blocks.specs.TableRows.{grid_bottom, grid_size, grid_scan};
 ghost use Rattle.rst_markup_blocks.specs.declared.lines.LineTest.TheVariants.{Drawn};
-ghost use Rattle.rst_markup_tables.specs.Places.{rows_of};
+ghost use Rattle.rst_markup_tables.specs.Places.{AreNumbered, rows_of};
 ghost use Rattle.rst_markup_tables.specs.GridTable as spec;
 
 use super::drawn::is_upright;
@@ -46,6 +46,7 @@ fn drawn_lines(
 ) -> Result<GridLines, AllocError>
     requires there { i < length (block_of view.now) }
     ensures lines { IfOk result (λ found. found.lines.items ≡ rows_of (take (lines_while Drawn (drop i (block_of view.now))) (drop i (block_of view.now)))) }
+    ensures numbered { IfOk result (λ found. AreNumbered found.lines.items) }
     ensures bottom { IfOk result (λ found. found.bottom ≡ grid_bottom (drop i (block_of view.now))) }
     ensures looks { looks.new ≤ looks.old + grid_scan (drop i (block_of view.now)) }
     ensures low { IfOk result (λ _. capped (looks.old + lines_while Drawn (drop i (block_of view.now))) ≤ looks.new) }
@@ -74,6 +75,7 @@ pub(crate) fn grid_lines(
     requires there { i < length (block_of view.now) }
     ensures fits { IfOk result (λ found. i + length found.lines.items < 2 ^ 64) }
     ensures lines { IfOk result (λ found. found.lines.items ≡ rows_of (take (grid_size (drop i (block_of view.now))) (drop i (block_of view.now)))) }
+    ensures numbered { IfOk result (λ found. AreNumbered found.lines.items) }
     ensures bottom { IfOk result (λ found. found.bottom ≡ grid_bottom (drop i (block_of view.now))) }
     ensures looks { looks.new ≤ looks.old + grid_scan (drop i (block_of view.now)) }
     ensures low { IfOk result (λ _. capped (looks.old + grid_size (drop i (block_of view.now))) ≤ looks.new) }

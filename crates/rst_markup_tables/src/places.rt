@@ -1,8 +1,11 @@
 //! Lines of a table as rows of places.
-ghost use Rattle.std.specs.Prelude.{◌≡◌, ◌+◌, ◌<◌, ◌∷◌, length, drop, IfOk};
-ghost use Rattle.std.specs.Str.{chars};
-ghost use Rattle.rst_markup_tables.specs.Places.{mark_of, is_double, places_of, mark_at, place, width, rows_of};
-ghost use Rattle.rst_text.specs.Block.{front_text};
+ghost use Rattle.std.specs.Prelude.{◌≡◌, ◌+◌, ◌<◌, ◌∷◌, true, false, length, drop, IfOk};
+ghost use Rattle.std.specs.List.{list_any};
+ghost use Rattle.std.specs.Str.{chars, all_scalars};
+ghost use Rattle.rst_text.specs.Lines.{is_line_end};
+ghost use Rattle.rst_markup_tables.specs.Cells.{characters};
+ghost use Rattle.rst_markup_tables.specs.Places.{mark_of, is_double, places_of, mark_at, place, row_at, width, rows_of};
+ghost use Rattle.rst_text.specs.Block.{first_number, front_text};
 ghost use Rattle.rst_text.specs.Shown.{block_of};
 
 use rst_text::{View, characters_of};
@@ -136,7 +139,8 @@ pub(crate) fn line_of(
 ) -> Result<TableLine, AllocError>
     requires inside { k < length (block_of view.now) }
     requires text { chars text.now ≡ front_text (drop k (block_of view.now)) }
-    ensures { IfOk result (λ line. rows_of (drop k (block_of view.now)) ≡ line ∷ rows_of (drop (k + 1) (block_of view.now))) }
+    ensures line { IfOk result (λ line. rows_of (drop k (block_of view.now)) ≡ line ∷ rows_of (drop (k + 1) (block_of view.now))) }
+    ensures number { IfOk result (λ line. line.number ≡ first_number (block_of view.now) + k) }
 {
     let line = TableLine::of(alloc, view.number(k), text)?;
     Ok(line)
@@ -152,14 +156,23 @@ pub(crate) fn mark_at(row: &[Place], column: usize) -> char
     }
 }
 
+/// The places of a line of a table; past its end there are none.
+pub(crate) fn row_at(lines: &[TableLine], row: usize) -> &[Place]
+    ensures value { result.now ≡ row_at lines.now row }
+    ensures scalars { all_scalars (characters result.now) ≡ true }
+    ensures unended { list_any is_line_end (characters result.now) ≡ false }
+{
+    match lines.get(row) {
+        Some(line) => line.places(),
+        None => &[],
+    }
+}
+
 /// The character that begins at a place of a table, or `'\0'`.
 pub(crate) fn mark(lines: &[TableLine], row: usize, column: usize) -> char
     ensures { result ≡ place lines.now row column }
 {
-    match lines.get(row) {
-        Some(line) => mark_at(line.places(), column),
-        None => '\0',
-    }
+    mark_at(row_at(lines, row), column)
 }
 
 /// How many places the first line has.
@@ -167,8 +180,5 @@ pub(crate) fn mark(lines: &[TableLine], row: usize, column: usize) -> char
 pub(crate) fn width(lines: &[TableLine]) -> usize
     ensures { result ≡ width lines.now }
 {
-    match lines.first() {
-        Some(line) => line.places().len(),
-        None => 0,
-    }
+    row_at(lines, 0).len()
 }

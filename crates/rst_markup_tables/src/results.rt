@@ -5,11 +5,14 @@ use rst_text::{Lines, TextFault};
 use std::alloc::Global;
 use std::marker::Model;
 
-/// The lines of a cell: their numbers in the document and their texts, in which no character ends a line and no white
-/// one is the last. Contracts see them as a block.
+/// The lines of a cell: the number of the first in the document, how many there are, and the texts of those that aren't
+/// blank, by their places from 0 on. In a text no character ends a line, and no white one is the last. Contracts see the lines
+/// as a block.
 #[derive(Debug, Drop)]
 pub struct CellLines {
-    lines: Vec<(usize, String)>,
+    first: usize,
+    count: usize,
+    texts: Vec<(usize, String)>,
 }
 
 impl Model for CellLines {
@@ -17,28 +20,33 @@ impl Model for CellLines {
 
     ghost Value = { Block };
 
-    ghost use Rattle.rst_text.specs.Source.{block_with};
+    ghost use Rattle.rst_text.specs.Source.{spread, texts_with};
 
-    ghost view = { λ l. block_with l.lines.items };
+    ghost view = { λ l. spread l.first l.count (texts_with l.texts.items) };
 
-    ghost use Rattle.std.specs.Prelude.{IsTrue};
-    ghost use Rattle.rst_text.specs.Lines.{are_lines};
+    ghost use Rattle.std.specs.Prelude.{◌+◌, ◌^◌, ◌<◌, ◌≤◌};
+    ghost use Rattle.rst_text.specs.Source.{ArePlaced};
 
-    ghost invariant = { λ l. IsTrue (are_lines (block_with l.lines.items)) };
+    ghost invariant = { λ l. ArePlaced 0 l.count (texts_with l.texts.items) × (l.count < 2 ^ 63) × (l.first + l.count ≤ 2 ^ 64) };
 }
 
 impl CellLines {
-    ghost use Rattle.std.specs.Prelude.{IsTrue};
+    ghost use Rattle.std.specs.Prelude.{◌+◌, ◌^◌, ◌<◌, ◌≤◌};
     ghost use Rattle.rst_text.specs.Faults.{Gives};
-    ghost use Rattle.rst_text.specs.Lines.{are_lines};
-    ghost use Rattle.rst_text.specs.Source.{block_with};
+    ghost use Rattle.rst_text.specs.Source.{ArePlaced, spread, texts_with};
 
-    /// These lines.
-    pub(crate) fn of(lines: Vec<(usize, String)>) -> CellLines
-        requires { IsTrue (are_lines (block_with lines.items)) }
-        ensures { result ≡ block_with lines.items }
+    /// So many lines, numbered from `first` on, with these texts at their places.
+    pub(crate) fn of(first: usize, count: usize, texts: Vec<(usize, String)>) -> CellLines
+        requires placed { ArePlaced 0 count (texts_with texts.items) }
+        requires few { count < 2 ^ 63 }
+        requires numbers { first + count ≤ 2 ^ 64 }
+        ensures { result ≡ spread first count (texts_with texts.items) }
     {
-        CellLines { lines }
+        CellLines {
+            first,
+            count,
+            texts,
+        }
     }
 
     /// These lines as those of a text of their own.
@@ -47,7 +55,7 @@ impl CellLines {
     pub fn into_lines(self, alloc: Global) -> Result<Lines, TextFault>
         ensures { Gives (λ lines. lines ≡ self) result }
     {
-        Lines::numbered(alloc, self.lines.as_slice())
+        Lines::numbered(alloc, self.first, self.count, self.texts.as_slice())
     }
 }
 

@@ -1,25 +1,16 @@
 //! The widths and cells of a simple table.
 ghost use Rattle.std.specs.Prelude.{◌≡◌, ◌+◌, ◌-◌, ◌<◌, ◌≤◌, Option, option_map, map, drop, take, length, IfOk};
-ghost use Rattle.rst_markup_tables.specs.Places.{row_at};
+ghost use Rattle.rst_markup_tables.specs.Cells.{reaching};
+ghost use Rattle.rst_markup_tables.specs.Places.{AreNumbered};
 ghost use Rattle.rst_markup_tables.specs.Results.{cells_of};
 ghost use Rattle.rst_markup_tables.specs.SimpleTable as spec;
 
-use super::cells::cell_lines;
-use super::places::TableLine;
+use super::cells::{all_places, cell_lines, reaching};
+use super::places::{TableLine, row_at};
 use super::results::{Cell, Rows, Widths};
 use super::simple_rows::{RowLines, row_spans};
 use super::spans::RuleSpan;
 use std::alloc::{AllocError, Global};
-
-/// How many places a line of the table has.
-fn width_at(lines: &[TableLine], k: usize) -> usize
-    ensures { result ≡ length (row_at lines.now k) }
-{
-    match lines.get(k) {
-        Some(line) => line.places().len(),
-        None => 0,
-    }
-}
 
 /// How many places the longest line of a row has.
 fn longest_in(lines: &[TableLine], row: RowLines) -> usize
@@ -27,7 +18,7 @@ fn longest_in(lines: &[TableLine], row: RowLines) -> usize
 {
     let mut longest = 0usize;
     for k in row.from..row.to {
-        longest = longest.max(width_at(lines, k));
+        longest = longest.max(row_at(lines, k).len());
     }
     longest
 }
@@ -101,18 +92,21 @@ fn right_of(spans: &[RuleSpan], k: usize) -> Option<usize>
     }
 }
 
-/// The cell in a span of a row.
+/// The cell in a span of a row. `among` has the places of the lines that are longer than the span's left end.
 fn entry(
     alloc: Global,
     lines: &[TableLine],
+    among: &[usize],
     spans: &[RuleSpan],
     k: usize,
 ) -> Result<Cell, AllocError>
-    requires { k < length spans.now }
+    requires there { k < length spans.now }
+    requires numbered { AreNumbered lines.now }
+    requires among { among.now ≡ reaching lines.now (spec.span_of spans.now k).from }
     ensures { IfOk result (λ cell. cell ≡ spec.entry lines.now spans.now k) }
 {
     let span = span_of(spans, k);
-    let lines = cell_lines(alloc, lines, span.from, right_of(spans, k))?;
+    let lines = cell_lines(alloc, lines, among, span.from, right_of(spans, k))?;
     Ok(Cell {
         morerows: 0,
         morecols: span.columns.saturating_sub(1),
@@ -122,11 +116,16 @@ fn entry(
 
 /// The cells of a row.
 fn entries(alloc: Global, lines: &[TableLine], spans: &[RuleSpan]) -> Result<Vec<Cell>, AllocError>
+    requires numbered { AreNumbered lines.now }
+    requires order { spec.AreInOrder 0 spans.now }
     ensures { IfOk result (λ cells. cells.items ≡ spec.entries lines.now spans.now) }
 {
     let mut cells = Vec::with_capacity(alloc, spans.len())?;
+    let mut among = all_places(alloc, lines)?;
     for k in 0..spans.len() {
-        cells.push(entry(alloc, lines, spans, k)?)?;
+        // A line that ends before one span ends before each later span, too.
+        among = reaching(alloc, lines, &among, span_of(spans, k).from)?;
+        cells.push(entry(alloc, lines, &among, spans, k)?)?;
     }
     Ok(cells)
 }
@@ -147,7 +146,8 @@ pub(crate) fn all_entries(
     columns: &[RuleSpan],
     rows: &[RowLines],
 ) -> Result<Rows, AllocError>
-    requires { columns.now ≡ spec.columns_of lines.now }
+    requires columns { columns.now ≡ spec.columns_of lines.now }
+    requires numbered { AreNumbered lines.now }
     ensures { IfOk result (λ all. all ≡ map (spec.row_entries lines.now) rows.now) }
 {
     let mut all = Vec::new(alloc);

@@ -3,7 +3,7 @@ ghost use Rattle.std.specs.Prelude.{◌≡◌, ◌+◌, ◌-◌, ◌<◌, ◌≤
 ghost use Rattle.std.specs.List.{list_all};
 ghost use Rattle.rst_text.specs.Looked.{capped};
 ghost use Rattle.rst_text.specs.Shown.{block_of};
-ghost use Rattle.rst_markup_tables.specs.Places.{rows_of};
+ghost use Rattle.rst_markup_tables.specs.Places.{AreNumbered, rows_of};
 ghost use Rattle.rst_markup_tables.specs.SimpleTable as spec;
 
 use super::places::{Place, TableLine, line_of, mark_at};
@@ -81,6 +81,7 @@ pub(crate) fn read_lines(
     requires in_order { from ≤ to }
     requires in_range { to ≤ length (block_of view.now) }
     ensures lines { IfOk result (λ lines. lines.items ≡ take (to - from) (drop from (rows_of (block_of view.now)))) }
+    ensures numbered { IfOk result (λ lines. AreNumbered lines.items) }
     ensures looks { looks.new + from ≤ looks.old + to }
     ensures low { capped looks.old ≤ looks.new }
     ensures each { IfOk result (λ _. capped (looks.old + (to - from)) ≤ looks.new) }

@@ -5,7 +5,7 @@ ghost use Rattle.rst_markup_tables.specs.Places.{row_at};
 ghost use Rattle.rst_text.specs.Places.{first_from};
 ghost use Rattle.rst_markup_tables.specs.SimpleTable as spec;
 
-use super::places::{Place, TableLine};
+use super::places::{Place, TableLine, row_at};
 use super::simple_lines::is_rule;
 use super::spans::{RuleSpan, spans_of, spread};
 use std::alloc::{AllocError, Global};
@@ -19,14 +19,6 @@ pub(crate) struct RowLines {
     pub(crate) rule: usize,
 }
 
-/// The places of a line of the table.
-fn row_is_rule(lines: &[TableLine], k: usize) -> bool
-    requires { k < length lines.now }
-    ensures { result ≡ spec.is_rule (row_at lines.now k) }
-{
-    is_rule(lines[k].places())
-}
-
 /// The rules below the top border.
 pub(crate) fn rules_of(alloc: Global, lines: &[TableLine]) -> Result<Vec<usize>, AllocError>
     ensures value { IfOk result (λ rules. rules.items ≡ spec.rules_of lines.now) }
@@ -34,7 +26,7 @@ pub(crate) fn rules_of(alloc: Global, lines: &[TableLine]) -> Result<Vec<usize>,
 {
     let mut rules = Vec::new(alloc);
     for k in 1..lines.len() {
-        if row_is_rule(lines, k) {
+        if is_rule(row_at(lines, k)) {
             rules.push(k)?;
             continue;
         }
@@ -42,21 +34,11 @@ pub(crate) fn rules_of(alloc: Global, lines: &[TableLine]) -> Result<Vec<usize>,
     Ok(rules)
 }
 
-/// The runs of marks in a line of the table.
-fn line_spans(alloc: Global, lines: &[TableLine], k: usize) -> Result<Vec<RuleSpan>, AllocError>
-    ensures { IfOk result (λ spans. spans.items ≡ spec.spans_of (row_at lines.now k)) }
-{
-    match lines.get(k) {
-        Some(line) => spans_of(alloc, line.places()),
-        None => spans_of(alloc, &[]),
-    }
-}
-
 /// The columns of the table.
 pub(crate) fn columns_of(alloc: Global, lines: &[TableLine]) -> Result<Vec<RuleSpan>, AllocError>
     ensures { IfOk result (λ columns. columns.items ≡ spec.columns_of lines.now) }
 {
-    line_spans(alloc, lines, 0)
+    spans_of(alloc, row_at(lines, 0))
 }
 
 /// The spans of a rule, if they cover all columns.
@@ -73,7 +55,7 @@ fn rule_spans(
     if rule == 0 {
         return spread(alloc, columns, columns);
     }
-    let spans = line_spans(alloc, lines, rule)?;
+    let spans = spans_of(alloc, row_at(lines, rule))?;
     let found = spread(alloc, columns, &spans)?;
     Ok(found)
 }
@@ -149,20 +131,7 @@ fn begins_row(lines: &[TableLine], column: RuleSpan, k: usize) -> bool
     requires { column ≡ get_or (spec.columns_of lines.now) 0 spec.no_span }
     ensures { result ≡ spec.begins_row lines.now k }
 {
-    match lines.get(k) {
-        Some(line) => !is_clear(line.places(), column.from, column.to),
-        None => !is_clear(&[], column.from, column.to),
-    }
-}
-
-/// Whether a line isn't blank.
-fn has_text(lines: &[TableLine], k: usize) -> bool
-    ensures { result ≡ not (spec.is_empty_row (row_at lines.now k)) }
-{
-    match lines.get(k) {
-        Some(line) => !line.places().is_empty(),
-        None => false,
-    }
+    !is_clear(row_at(lines, k), column.from, column.to)
 }
 
 /// The first line that isn't blank, from place `low` on and before place `end`.
@@ -171,7 +140,7 @@ fn text_start(lines: &[TableLine], low: usize, end: usize) -> Option<usize>
     ensures within { IfSome result (λ k. k < end) }
 {
     for k in low..end {
-        if has_text(lines, k) {
+        if !row_at(lines, k).is_empty() {
             return Some(k);
         }
     }
@@ -232,10 +201,15 @@ pub(crate) fn simple_rows(
 
 /// Whether nothing but white stands between neighbouring spans, the first of which stands before the others.
 fn margins_from(row: &[Place], first: RuleSpan, others: &[RuleSpan]) -> bool
+    requires { spec.AreInOrder 0 (first ∷ others.now) }
     ensures { result ≡ spec.are_clear (first ∷ others.now) row.now }
 {
     let mut before = first;
+    // Past the end of a line there is no text, however many columns begin there.
     for span in others {
+        if before.from >= row.len() {
+            return true;
+        }
         if !is_clear(row, before.to, span.from) {
             return false;
         }
@@ -245,6 +219,7 @@ fn margins_from(row: &[Place], first: RuleSpan, others: &[RuleSpan]) -> bool
 }
 
 fn are_clear(row: &[Place], spans: &[RuleSpan]) -> bool
+    requires { spec.AreInOrder 0 spans.now }
     ensures { result ≡ spec.are_clear spans.now row.now }
 {
     match spans {
@@ -253,27 +228,37 @@ fn are_clear(row: &[Place], spans: &[RuleSpan]) -> bool
     }
 }
 
-/// Whether nothing but white stands between the columns of a line.
-fn line_is_clear(lines: &[TableLine], spans: &[RuleSpan], k: usize) -> bool
-    ensures { result ≡ spec.are_clear spans.now (row_at lines.now k) }
-{
-    match lines.get(k) {
-        Some(line) => are_clear(line.places(), spans),
-        None => are_clear(&[], spans),
-    }
-}
-
 /// The first line of a row with text between its columns.
 fn text_in_margin(lines: &[TableLine], spans: &[RuleSpan], row: RowLines) -> Option<usize>
+    requires { spec.AreInOrder 0 spans.now }
     ensures value { result ≡ spec.text_in_margin lines.now spans.now row.from row.to }
     ensures fits { IfSome result (λ k. k + 1 < 2 ^ 64) }
 {
     for k in row.from..row.to {
-        if !line_is_clear(lines, spans, k) {
+        if !are_clear(row_at(lines, k), spans) {
             return Some(k);
         }
     }
     None
+}
+
+/// The first line of a row with text between its columns, by the columns of its rule.
+fn row_in_margin(
+    alloc: Global,
+    lines: &[TableLine],
+    columns: &[RuleSpan],
+    row: RowLines,
+) -> Result<Option<usize>, AllocError>
+    requires { columns.now ≡ spec.columns_of lines.now }
+    ensures value { IfOk result (λ found. found ≡ spec.text_in_margin lines.now (spec.row_spans lines.now row) row.from row.to) }
+    ensures fits { IfOk result (λ found. IfSome found (λ k. k + 1 < 2 ^ 64)) }
+{
+    // Most rows end at no rule, and have the columns of the table.
+    if row.rule == 0 {
+        return Ok(text_in_margin(lines, columns, row));
+    }
+    let spans = row_spans(alloc, lines, columns, row)?;
+    Ok(text_in_margin(lines, &spans, row))
 }
 
 /// The first line of all rows with text between its columns.
@@ -288,9 +273,9 @@ pub(crate) fn first_in_margin(
     ensures fits { IfOk result (λ found. IfSome found (λ k. k + 1 < 2 ^ 64)) }
 {
     for row in rows {
-        let spans = row_spans(alloc, lines, columns, *row)?;
-        if let Some(k) = text_in_margin(lines, &spans, *row) {
-            return Ok(Some(k));
+        let found = row_in_margin(alloc, lines, columns, *row)?;
+        if found.is_some() {
+            return Ok(found);
         }
     }
     Ok(None)

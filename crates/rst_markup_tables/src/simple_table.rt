@@ -3,6 +3,7 @@ ghost use Rattle.std.specs.Prelude.{◌≡◌, ◌+◌, ◌-◌, ◌*◌, ◌^�
 ghost use Rattle.rst_text.specs.Looked.{capped};
 ghost use Rattle.rst_text.specs.Shown.{block_of};
 ghost use Rattle.rst_markup_tables.specs.Ends.{end_of};
+ghost use Rattle.rst_markup_tables.specs.Places.{AreNumbered};
 ghost use Rattle.rst_markup_tables.specs.SimpleTable as spec;
 ghost use Rattle.rst_markup_blocks.specs.TableRows.{simple_size, simple_scan};
 
@@ -40,7 +41,8 @@ fn simple_of(
     head: Option<usize>,
     lines: &[TableLine],
 ) -> Result<TableResult, AllocError>
-    requires { first + length lines.now < 2 ^ 64 }
+    requires fits { first + length lines.now < 2 ^ 64 }
+    requires numbered { AreNumbered lines.now }
     ensures { IfOk result (λ table. table ≡ spec.simple_by line first head lines.now (spec.lines_fault lines.now)) }
 {
     let size = lines.len();

@@ -3,6 +3,7 @@ ghost use Rattle.std.specs.Prelude.{◌≡◌, ◌+◌, ◌^◌, ◌<◌, ◌≤
 ghost use Rattle.rst_text.specs.Looked.{capped};
 ghost use Rattle.rst_text.specs.Shown.{block_of};
 ghost use Rattle.rst_markup_tables.specs.Ends.{end_of};
+ghost use Rattle.rst_markup_tables.specs.Places.{AreNumbered};
 ghost use Rattle.rst_markup_tables.specs.GridTable as spec;
 ghost use Rattle.rst_markup_blocks.specs.TableRows.{grid_size, grid_scan};
 
@@ -38,7 +39,8 @@ fn grid_of_rows(
     first: usize,
     lines: Vec<TableLine>,
 ) -> Result<TableResult, AllocError>
-    requires { first + length lines.items < 2 ^ 64 }
+    requires fits { first + length lines.items < 2 ^ 64 }
+    requires numbered { AreNumbered lines.items }
     ensures { IfOk result (spec.IsOfRows line first lines.items (spec.row_fault lines.items)) }
 {
     let mut lines = lines;
@@ -62,7 +64,8 @@ fn grid_of(
     first: usize,
     found: GridLines,
 ) -> Result<TableResult, AllocError>
-    requires { first + length found.lines.items < 2 ^ 64 }
+    requires fits { first + length found.lines.items < 2 ^ 64 }
+    requires numbered { AreNumbered found.lines.items }
     ensures { IfOk result (spec.IsOfRows line first found.lines.items (spec.grid_fault found.bottom found.lines.items)) }
 {
     if found.bottom.is_none() {

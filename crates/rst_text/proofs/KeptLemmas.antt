@@ -1,14 +1,14 @@
--- Lines whose texts stand one behind another.
+-- Texts one after another in some bytes.
 use Rattle.std.proofs.Common.{◌≡◌, ℕ, zero, suc, ◌+◌, ◌-◌, ◌<◌, ◌≤◌, ◌^◌, true, List, [], ◌∷◌, ◌++◌, length, get_or, take, drop, slice_range, refl, sym, ap, ◌∙◌, subst, arith, length-append, length-drop}
 use Rattle.std.proofs.lemmas.List.{get_or_default, map-append, take_all, length-take-le}
 use Rattle.std.proofs.lemmas.Bool.{lt-ltb}
+use Rattle.std.specs.List.{list_all}
 use Rattle.std.specs.Str.{IsUtf8, chars, is_utf8, IsCharBoundary}
 use Rattle.std.proofs.Math.Utf8.{encodes}
 use Rattle.std.proofs.lemmas.Str.{encodes-chars, chars-nil, is_utf8-from_IsUtf8, IsUtf8-between, IsUtf8-drop, IsUtf8-append, IsCharBoundary-from_drop, IsCharBoundary-end, IsCharBoundary-at_seam}
-use Rattle.rst_text.specs.declared.kept.LineSpan.{LineSpan}
-use Rattle.rst_text.specs.Block.{front_text, first_number}
-use Rattle.rst_text.specs.Kept.{line_of, IsLineSpanOf, AreLineSpansFrom, AreLineSpansOf, line_in, block_in}
-use Rattle.rst_text.specs.MayCut.{are_texts}
+use Rattle.rst_text.specs.declared.kept.TextSpan.{TextSpan}
+use Rattle.rst_text.specs.Kept.{IsSpanOf, AreSpansFrom, AreSpansOf, text_in, texts_in}
+use Rattle.rst_text.specs.MayCut.{is_text}
 
 -- ---- more bytes behind the others
 
@@ -42,56 +42,51 @@ boundary-more xs ys k u w b =
 
 -- ---- the spans stay
 
-pub spans-more : (from : ℕ) (xs ys : List ℕ) (ss : List LineSpan) → IsUtf8 xs → IsUtf8 ys → AreLineSpansFrom from xs ss → AreLineSpansFrom from (xs ++ ys) ss
+pub spans-more : (from : ℕ) (xs ys : List ℕ) (ss : List TextSpan) → IsUtf8 xs → IsUtf8 ys → AreSpansFrom from xs ss → AreSpansFrom from (xs ++ ys) ss
 spans-more from xs ys [] u w h = tt
 spans-more from xs ys (s ∷ ss) u w h = (h.0, (h.1.0, boundary-more xs ys s.start u w h.1.1, boundary-more xs ys s.end u w h.1.2), spans-more s.end xs ys ss u w h.2)
 
-pub block-more : (from : ℕ) (xs ys : List ℕ) (ss : List LineSpan) → AreLineSpansFrom from xs ss → block_in (xs ++ ys) ss ≡ block_in xs ss
-block-more from xs ys [] h = refl
-block-more from xs ys (s ∷ ss) h =
-    let line : line_in (xs ++ ys) s ≡ line_in xs s = ap (λ t. line_of s.number (chars t)) (range-front xs ys s.start s.end h.1.0 h.1.2.0) in
-    rw (line, block-more s.end xs ys ss h.2) refl
+pub texts-more : (from : ℕ) (xs ys : List ℕ) (ss : List TextSpan) → AreSpansFrom from xs ss → texts_in (xs ++ ys) ss ≡ texts_in xs ss
+texts-more from xs ys [] h = refl
+texts-more from xs ys (s ∷ ss) h =
+    let text : text_in (xs ++ ys) s ≡ text_in xs s = ap chars (range-front xs ys s.start s.end h.1.0 h.1.2.0) in
+    rw (text, texts-more s.end xs ys ss h.2) refl
 
--- ---- one line more
+-- ---- one text more
 
-span-added : (xs ys : List ℕ) (s : LineSpan) → IsUtf8 xs → IsUtf8 ys → s.start ≡ length xs → s.end ≡ length xs + length ys → IsLineSpanOf (xs ++ ys) s
+span-added : (xs ys : List ℕ) (s : TextSpan) → IsUtf8 xs → IsUtf8 ys → s.start ≡ length xs → s.end ≡ length xs + length ys → IsSpanOf (xs ++ ys) s
 span-added xs ys s u w p q =
     let whole : s.end ≡ length (xs ++ ys) = omega (arith, length-append xs ys) in
     (omega arith, subst (IsCharBoundary (xs ++ ys)) (sym p) (IsCharBoundary-at_seam (xs ++ ys) xs ys refl w), subst (IsCharBoundary (xs ++ ys)) (sym whole) (IsCharBoundary-end (xs ++ ys)))
 
-pub spans-added : (from : ℕ) (xs ys : List ℕ) (ss : List LineSpan) (s : LineSpan) → IsUtf8 xs → IsUtf8 ys → AreLineSpansFrom from xs ss → from ≤ length xs → s.start ≡ length xs → s.end ≡ length xs + length ys
-    → AreLineSpansFrom from (xs ++ ys) (ss ++ s ∷ [])
+pub spans-added : (from : ℕ) (xs ys : List ℕ) (ss : List TextSpan) (s : TextSpan) → IsUtf8 xs → IsUtf8 ys → AreSpansFrom from xs ss → from ≤ length xs → s.start ≡ length xs → s.end ≡ length xs + length ys
+    → AreSpansFrom from (xs ++ ys) (ss ++ s ∷ [])
 spans-added from xs ys [] s u w h low p q = (omega arith, span-added xs ys s u w p q, tt)
 spans-added from xs ys (t ∷ ss) s u w h low p q =
     (h.0, (h.1.0, boundary-more xs ys t.start u w h.1.1, boundary-more xs ys t.end u w h.1.2), spans-added t.end xs ys ss s u w h.2 h.1.2.0 p q)
 
-pub block-added : (xs ys : List ℕ) (ss : List LineSpan) (s : LineSpan) → AreLineSpansOf xs ss → s.start ≡ length xs → s.end ≡ length xs + length ys → block_in (xs ++ ys) (ss ++ s ∷ []) ≡ block_in xs ss ++ line_of s.number (chars ys) ∷ []
-block-added xs ys ss s h p q =
-    map-append (line_in (xs ++ ys)) ss (s ∷ []) ∙ rw (block-more 0 xs ys ss h) (ap (λ t. block_in xs ss ++ line_of s.number (chars t) ∷ []) (range-added xs ys s.start s.end p q))
+pub texts-added : (xs ys : List ℕ) (ss : List TextSpan) (s : TextSpan) → AreSpansOf xs ss → s.start ≡ length xs → s.end ≡ length xs + length ys → texts_in (xs ++ ys) (ss ++ s ∷ []) ≡ texts_in xs ss ++ chars ys ∷ []
+texts-added xs ys ss s h p q =
+    map-append (text_in (xs ++ ys)) ss (s ∷ []) ∙ rw (texts-more 0 xs ys ss h) (ap (λ t. texts_in xs ss ++ chars t ∷ []) (range-added xs ys s.start s.end p q))
 
--- ---- a line at a place
+-- ---- a text at a place
 
-pub span-at : (from : ℕ) (bs : List ℕ) (ss : List LineSpan) (i : ℕ) (s : LineSpan) → AreLineSpansFrom from bs ss → i < length ss → s ≡ get_or ss i s → IsLineSpanOf bs s
+pub span-at : (from : ℕ) (bs : List ℕ) (ss : List TextSpan) (i : ℕ) (s : TextSpan) → AreSpansFrom from bs ss → i < length ss → s ≡ get_or ss i s → IsSpanOf bs s
 span-at from bs [] i s h within at = absurd (omega arith)
-span-at from bs (t ∷ ss) zero s h within at = subst (IsLineSpanOf bs) (sym at) h.1
+span-at from bs (t ∷ ss) zero s h within at = subst (IsSpanOf bs) (sym at) h.1
 span-at from bs (t ∷ ss) (suc i) s h within at = span-at t.end bs ss i s h.2 (omega arith) at
 
-pub front_text-at : (bs : List ℕ) (ss : List LineSpan) (i : ℕ) (s : LineSpan) → i < length ss → s ≡ get_or ss i s → front_text (drop i (block_in bs ss)) ≡ chars (slice_range bs s.start s.end)
-front_text-at bs [] i s within at = absurd (omega arith)
-front_text-at bs (t ∷ ss) zero s within at = ap (λ (x : LineSpan). chars (slice_range bs x.start x.end)) (sym at)
-front_text-at bs (t ∷ ss) (suc i) s within at = front_text-at bs ss i s (omega arith) at
+pub text-at : (bs : List ℕ) (ss : List TextSpan) (i : ℕ) (s : TextSpan) → i < length ss → s ≡ get_or ss i s → get_or (texts_in bs ss) i [] ≡ text_in bs s
+text-at bs [] i s within at = absurd (omega arith)
+text-at bs (t ∷ ss) zero s within at = ap (text_in bs) (sym at)
+text-at bs (t ∷ ss) (suc i) s within at = text-at bs ss i s (omega arith) at
 
-pub first_number-at : (bs : List ℕ) (ss : List LineSpan) (i : ℕ) (s : LineSpan) → i < length ss → s ≡ get_or ss i s → first_number (drop i (block_in bs ss)) ≡ s.number
-first_number-at bs [] i s within at = absurd (omega arith)
-first_number-at bs (t ∷ ss) zero s within at = ap (λ (x : LineSpan). x.number) (sym at)
-first_number-at bs (t ∷ ss) (suc i) s within at = first_number-at bs ss i s (omega arith) at
-
-pub text-of_span : (bs : List ℕ) (s : LineSpan) → IsUtf8 bs → IsLineSpanOf bs s → encodes (chars (slice_range bs s.start s.end)) ≡ slice_range bs s.start s.end
+pub text-of_span : (bs : List ℕ) (s : TextSpan) → IsUtf8 bs → IsSpanOf bs s → encodes (chars (slice_range bs s.start s.end)) ≡ slice_range bs s.start s.end
 text-of_span bs s u h = encodes-chars (slice_range bs s.start s.end) (IsUtf8-between bs s.start s.end u h.0 h.1 h.2)
 
--- ---- each line has UTF-8, which takes no more bytes than all of them
+-- ---- each text has UTF-8, which takes no more bytes than all of them
 
-pub texts-of_spans : (from : ℕ) (bs : List ℕ) (ss : List LineSpan) → IsUtf8 bs → length bs < 2 ^ 63 → AreLineSpansFrom from bs ss → are_texts (block_in bs ss) ≡ true
+pub texts-of_spans : (from : ℕ) (bs : List ℕ) (ss : List TextSpan) → IsUtf8 bs → length bs < 2 ^ 63 → AreSpansFrom from bs ss → list_all is_text (texts_in bs ss) ≡ true
 texts-of_spans from bs [] u few h = refl
 texts-of_spans from bs (s ∷ ss) u few h =
     let part : List ℕ = slice_range bs s.start s.end in
@@ -102,37 +97,37 @@ texts-of_spans from bs (s ∷ ss) u few h =
     let two : (length (encodes (chars part)) < 2 ^ 63) = omega (arith, ap length same) in
     rw (one, lt-ltb (length (encodes (chars part))) (2 ^ 63) two, texts-of_spans s.end bs ss u few h.2) refl
 
--- ---- lines without text
+-- ---- empty texts
 
 -- a span begins behind what is in front of it
-after_front : (from : ℕ) (bs : List ℕ) (ss : List LineSpan) (k : ℕ) (s : LineSpan) → AreLineSpansFrom from bs ss → k < length ss → s ≡ get_or ss k s → from ≤ s.start
+after_front : (from : ℕ) (bs : List ℕ) (ss : List TextSpan) (k : ℕ) (s : TextSpan) → AreSpansFrom from bs ss → k < length ss → s ≡ get_or ss k s → from ≤ s.start
 after_front from bs [] k s h within at = absurd (omega arith)
-after_front from bs (t ∷ ss) zero s h within at = subst (λ (x : LineSpan). from ≤ x.start) (sym at) h.0
+after_front from bs (t ∷ ss) zero s h within at = subst (λ (x : TextSpan). from ≤ x.start) (sym at) h.0
 after_front from bs (t ∷ ss) (suc k) s h within at = omega (arith, h.0, h.1.0, after_front t.end bs ss k s h.2 (omega arith) at)
 
-starts-rise : (from : ℕ) (bs : List ℕ) (ss : List LineSpan) (i k : ℕ) (s t : LineSpan) → AreLineSpansFrom from bs ss → i ≤ k → k < length ss → s ≡ get_or ss i s → t ≡ get_or ss k t → s.start ≤ t.start
+starts-rise : (from : ℕ) (bs : List ℕ) (ss : List TextSpan) (i k : ℕ) (s t : TextSpan) → AreSpansFrom from bs ss → i ≤ k → k < length ss → s ≡ get_or ss i s → t ≡ get_or ss k t → s.start ≤ t.start
 starts-rise from bs [] i k s t h order within p q = absurd (omega arith)
-starts-rise from bs (r ∷ ss) zero zero s t h order within p q = omega (arith, ap (λ (x : LineSpan). x.start) (p ∙ sym q))
-starts-rise from bs (r ∷ ss) zero (suc k) s t h order within p q = omega (arith, ap (λ (x : LineSpan). x.start) p, h.1.0, after_front r.end bs ss k t h.2 (omega arith) q)
+starts-rise from bs (r ∷ ss) zero zero s t h order within p q = omega (arith, ap (λ (x : TextSpan). x.start) (p ∙ sym q))
+starts-rise from bs (r ∷ ss) zero (suc k) s t h order within p q = omega (arith, ap (λ (x : TextSpan). x.start) p, h.1.0, after_front r.end bs ss k t h.2 (omega arith) q)
 starts-rise from bs (r ∷ ss) (suc i) zero s t h order within p q = absurd (omega arith)
 starts-rise from bs (r ∷ ss) (suc i) (suc k) s t h order within p q = starts-rise r.end bs ss i k s t h.2 (omega arith) (omega arith) p q
 
-ends-rise : (from : ℕ) (bs : List ℕ) (ss : List LineSpan) (i k : ℕ) (s t : LineSpan) → AreLineSpansFrom from bs ss → i ≤ k → k < length ss → s ≡ get_or ss i s → t ≡ get_or ss k t → s.end ≤ t.end
+ends-rise : (from : ℕ) (bs : List ℕ) (ss : List TextSpan) (i k : ℕ) (s t : TextSpan) → AreSpansFrom from bs ss → i ≤ k → k < length ss → s ≡ get_or ss i s → t ≡ get_or ss k t → s.end ≤ t.end
 ends-rise from bs [] i k s t h order within p q = absurd (omega arith)
-ends-rise from bs (r ∷ ss) zero zero s t h order within p q = omega (arith, ap (λ (x : LineSpan). x.end) (p ∙ sym q))
+ends-rise from bs (r ∷ ss) zero zero s t h order within p q = omega (arith, ap (λ (x : TextSpan). x.end) (p ∙ sym q))
 ends-rise from bs (r ∷ ss) zero (suc k) s t h order within p q =
-    let span = span-at r.end bs ss k t h.2 (omega arith) q in omega (arith, ap (λ (x : LineSpan). x.end) p, span.0, after_front r.end bs ss k t h.2 (omega arith) q)
+    let span = span-at r.end bs ss k t h.2 (omega arith) q in omega (arith, ap (λ (x : TextSpan). x.end) p, span.0, after_front r.end bs ss k t h.2 (omega arith) q)
 ends-rise from bs (r ∷ ss) (suc i) zero s t h order within p q = absurd (omega arith)
 ends-rise from bs (r ∷ ss) (suc i) (suc k) s t h order within p q = ends-rise r.end bs ss i k s t h.2 (omega arith) (omega arith) p q
 
 no_range : (bs : List ℕ) (a b : ℕ) → b ≤ a → chars (slice_range bs a b) ≡ []
 no_range bs a b h = let none : b - a ≡ 0 = omega arith in ap (λ n. chars (take n (drop a bs))) none ∙ chars-nil
 
--- Where the last of some lines ends where the first begins, all are empty.
-pub empty-between : (bs : List ℕ) (ss : List LineSpan) (i last : ℕ) (s t : LineSpan) → AreLineSpansOf bs ss → last < length ss → s ≡ get_or ss i s → t ≡ get_or ss last t → s.start ≡ t.end
-    → (k : ℕ) → i ≤ k → k ≤ last → front_text (drop k (block_in bs ss)) ≡ []
+-- Where the last of some texts ends where the first begins, all are empty.
+pub empty-between : (bs : List ℕ) (ss : List TextSpan) (i last : ℕ) (s t : TextSpan) → AreSpansOf bs ss → last < length ss → s ≡ get_or ss i s → t ≡ get_or ss last t → s.start ≡ t.end
+    → (k : ℕ) → i ≤ k → k ≤ last → get_or (texts_in bs ss) k [] ≡ []
 empty-between bs ss i last s t h within p q same k low high =
-    let r : LineSpan = get_or ss k s in
+    let r : TextSpan = get_or ss k s in
     let at : r ≡ get_or ss k r = get_or_default ss k s r (omega arith) in
-    front_text-at bs ss k r (omega arith) at
+    text-at bs ss k r (omega arith) at
     ∙ no_range bs r.start r.end (omega (arith, starts-rise 0 bs ss i k s r h low (omega arith) p at, ends-rise 0 bs ss k last r t h high within at q))

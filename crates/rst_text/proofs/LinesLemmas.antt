@@ -6,9 +6,8 @@ use Rattle.std.specs.Str.Pattern.{FindsCharPrefix, StripsPrefix}
 use Rattle.std.proofs.Math.Utf8.{scalar, scalars, encode, encodes}
 use Rattle.std.proofs.lemmas.Bool.{eqb-true}
 use Rattle.std.proofs.lemmas.Str.{chars_past_char, encodes-chars, chars-encodes, scalars-chars, length-le-encodes}
-use Rattle.rst_text.specs.Block.{Block}
 use Rattle.rst_text.specs.Text.{chars_of}
-use Rattle.rst_text.specs.Lines.{is_line_end, begins_with, pieces, shown, expanded, tidied, numbered_from}
+use Rattle.rst_text.specs.Lines.{is_line_end, begins_with, pieces, shown, expanded, tidied}
 use Rattle.std.specs.List.{onto_first}
 use Rattle.rst_text.proofs.Tabs.{expanded_from, expanded_from-start}
 use Rattle.rst_text.proofs.TextLemmas.{not_true, and_true}
@@ -211,13 +210,13 @@ pub tidies : {A E : Type 0} (tab : ℕ) (piece trimmed : List ℕ) (r : Result (
 tidies tab piece trimmed (Ok line) good e wide h = h ∙ tidied-trim_end tab piece trimmed good e wide
 tidies tab piece trimmed (Err x) good e wide h = tt
 
--- ---- the lines so far, and those to come
+-- ---- the texts so far, and those to come
 
 -- no text is left
-pub all_read : (tab n : ℕ) (so_far all : Block) (rest : List ℕ) → so_far ++ numbered_from n (map (tidied tab) (pieces (chars rest))) ≡ all → length rest ≡ 0 → so_far ≡ all
+pub all_read : (tab : ℕ) (so_far all : List (List ℕ)) (rest : List ℕ) → so_far ++ map (tidied tab) (pieces (chars rest)) ≡ all → length rest ≡ 0 → so_far ≡ all
 unfolding chars
-all_read tab n so_far all [] e none = sym (append-nil so_far) ∙ e
-all_read tab n so_far all (x ∷ rest) e none = absurd (omega arith)
+all_read tab so_far all [] e none = sym (append-nil so_far) ∙ e
+all_read tab so_far all (x ∷ rest) e none = absurd (omega arith)
 
 -- a character is a byte at least
 pub length-chars : (text : List ℕ) → IsUtf8 text → length (chars text) ≤ length text

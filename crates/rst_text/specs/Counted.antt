@@ -1,5 +1,5 @@
 -- What the calls of a reader or a writer that keeps whether it failed do. No rule of markup: they bring the bytes in and out.
-use Rattle.std.specs.Prelude.{◌≡◌, ◌⊎◌, ℕ, ◌<◌, ◌≤◌, Bool, true, false, List, length, take, drop, Option, None, Some, Result, Ok, Err}
+use Rattle.std.specs.Prelude.{◌≡◌, ◌⊎◌, ℕ, ◌+◌, ◌<◌, ◌≤◌, Bool, true, false, List, [], ◌∷◌, length, take, drop, Option, None, Some, Result, Ok, Err}
 use Rattle.std.specs.Io.KnownBytes.{Keeps, Appends, Consumes, IsAtEnd}
 use Rattle.rst_text.specs.declared.counted.Counted.{Counted}
 
@@ -63,7 +63,17 @@ abbrev pub Puts : {A : Type 0} → Stream → List ℕ → Result A ℕ → Type
 Puts writer text (Ok _) = Gains writer text × (writer.failed ≡ writer.had_failed)
 Puts writer text (Err done) = IsCutShort writer text done
 
--- A text is told as cut short where the last call, which was given the rest of it, failed or took 0 bytes.
-abbrev pub PutsAreToldBy : {W A : Type 0} → (W → Option ℕ → List ℕ → Type 0) → List ℕ → Result A ℕ → Type 0
-PutsAreToldBy Answers text (Ok _) = Unit {0}
-PutsAreToldBy {W} Answers text (Err done) = (before : W) × WriteIsToldBy (λ answer. Answers before answer (drop done text)) None (drop done text)
+-- how many bytes of a text were taken
+abbrev pub taken_of : {A : Type 0} → List ℕ → Result A ℕ → ℕ
+taken_of text (Ok _) = length text
+taken_of text (Err done) = done
+
+-- The calls of a writer that write some pieces, one after another: from a state of the writer to a later one, and how many bytes were taken.
+-- Each call is given all that is left of a piece, which isn't empty. One that fails, or takes 0 bytes, is the last.
+pub data Written {W : Type 0} (Takes : W → Option ℕ → List ℕ → W → Type 0) : W → List (List ℕ) → W → ℕ → Type 0 where
+  all : {w : W} → Written Takes w [] w 0
+  empty : {w w' : W} {pieces : List (List ℕ)} {taken : ℕ} → Written Takes w pieces w' taken → Written Takes w ([] ∷ pieces) w' taken
+  some : {w w' w'' : W} {piece : List ℕ} {pieces : List (List ℕ)} {n taken : ℕ}
+      → 0 < n → n ≤ length piece → Takes w (Some n) piece w' → Written Takes w' (drop n piece ∷ pieces) w'' taken → Written Takes w (piece ∷ pieces) w'' (n + taken)
+  last : {w w' : W} {piece : List ℕ} {pieces : List (List ℕ)}
+      → 0 < length piece → WriteIsToldBy (λ answer. Takes w answer piece w') None piece → Written Takes w (piece ∷ pieces) w' 0

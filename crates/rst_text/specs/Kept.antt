@@ -1,33 +1,29 @@
--- Lines as they are kept. No rule of markup: their texts stand one behind another, in UTF-8.
+-- Texts as they are kept. No rule of markup: they are one after another, in UTF-8.
 use Rattle.std.specs.Prelude.{◌≡◌, ℕ, ◌<◌, ◌≤◌, List, [], ◌∷◌, drop, map, slice_range}
 use Rattle.std.specs.Str.{chars, IsCharBoundary}
-use Rattle.rst_text.specs.Block.{Line, Block, front_text}
-use Rattle.rst_text.specs.declared.kept.LineSpan.{LineSpan}
-
--- a number and a text as a line
-abbrev pub line_of : ℕ → List ℕ → Line
-line_of number text = record { number = number; text = text }
+use Rattle.rst_text.specs.Block.{Block, front_text}
+use Rattle.rst_text.specs.declared.kept.TextSpan.{TextSpan}
 
 -- a span in some bytes: it begins and ends where characters do
-abbrev pub IsLineSpanOf : List ℕ → LineSpan → Type 0
-IsLineSpanOf bytes s = (s.start ≤ s.end) × IsCharBoundary bytes s.start × IsCharBoundary bytes s.end
+abbrev pub IsSpanOf : List ℕ → TextSpan → Type 0
+IsSpanOf bytes s = (s.start ≤ s.end) × IsCharBoundary bytes s.start × IsCharBoundary bytes s.end
 
--- spans in the bytes, the first from a place on, and each other from where the one in front of it ends
-abbrev pub AreLineSpansFrom : ℕ → List ℕ → List LineSpan → Type 0
-AreLineSpansFrom from bytes [] = Unit {0}
-AreLineSpansFrom from bytes (s ∷ ss) = (from ≤ s.start) × IsLineSpanOf bytes s × AreLineSpansFrom s.end bytes ss
+-- spans in the bytes, the first from a place on, and each other from where the one before it ends
+abbrev pub AreSpansFrom : ℕ → List ℕ → List TextSpan → Type 0
+AreSpansFrom from bytes [] = Unit {0}
+AreSpansFrom from bytes (s ∷ ss) = (from ≤ s.start) × IsSpanOf bytes s × AreSpansFrom s.end bytes ss
 
--- spans in the bytes, one behind another
-abbrev pub AreLineSpansOf : List ℕ → List LineSpan → Type 0
-AreLineSpansOf bytes spans = AreLineSpansFrom 0 bytes spans
+-- spans in the bytes, one after another
+abbrev pub AreSpansOf : List ℕ → List TextSpan → Type 0
+AreSpansOf bytes spans = AreSpansFrom 0 bytes spans
 
--- the line whose number and place a span tells
-abbrev pub line_in : List ℕ → LineSpan → Line
-line_in bytes s = line_of s.number (chars (slice_range bytes s.start s.end))
+-- the text in a span
+abbrev pub text_in : List ℕ → TextSpan → List ℕ
+text_in bytes s = chars (slice_range bytes s.start s.end)
 
--- the block of such lines
-abbrev pub block_in : List ℕ → List LineSpan → Block
-block_in bytes spans = map (line_in bytes) spans
+-- the texts in such spans
+abbrev pub texts_in : List ℕ → List TextSpan → List (List ℕ)
+texts_in bytes spans = map (text_in bytes) spans
 
 -- the lines from one place up to another are empty
 abbrev pub AreEmpty : Block → ℕ → ℕ → Type 0

@@ -1,5 +1,5 @@
 -- Where lines may be cut. No rule of markup: a cut that is counted in bytes splits no character.
-use Rattle.std.specs.Prelude.{ℕ, ◌^◌, [], ◌∷◌, drop, length, encode_utf8_all, Bool, true, ◌||◌, ◌&&◌, nat_le, nat_lt}
+use Rattle.std.specs.Prelude.{ℕ, ◌^◌, List, [], ◌∷◌, drop, length, encode_utf8_all, Bool, true, ◌||◌, ◌&&◌, nat_le, nat_lt}
 use Rattle.std.specs.List.{list_all}
 use Rattle.std.specs.Str.{is_utf8}
 use Rattle.rst_text.specs.Block.{Line, Block, indentation, is_blank}
@@ -13,9 +13,13 @@ abbrev pub may_cut_at : ℕ → ℕ → Block → Bool
 may_cut_at f r [] = true
 may_cut_at f r (l ∷ ls) = is_utf8 (drop f (encode_utf8_all l.text)) && each_may_cut r ls
 
--- each line has UTF-8, of fewer than 2^63 bytes
+-- a text has UTF-8, of fewer than 2^63 bytes
+abbrev pub is_text : List ℕ → Bool
+is_text text = is_utf8 (encode_utf8_all text) && nat_lt (length (encode_utf8_all text)) (2 ^ 63)
+
+-- each line is a text
 abbrev pub are_texts : Block → Bool
-are_texts ls = list_all (λ (l : Line). is_utf8 (encode_utf8_all l.text) && nat_lt (length (encode_utf8_all l.text)) (2 ^ 63)) ls
+are_texts ls = list_all (λ (l : Line). is_text l.text) ls
 
 -- each line is blank or indented by n
 abbrev pub is_indented : ℕ → Block → Bool

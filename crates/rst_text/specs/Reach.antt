@@ -10,6 +10,11 @@ looked least (l ∷ ls) =
     else if nat_le least (indentation l.text) then suc (looked least ls)
     else 1
 
+-- how many blank lines a block begins with
+unfoldable pub blank_len : Block → ℕ
+blank_len [] = 0
+blank_len (l ∷ ls) = if is_blank l.text then suc (blank_len ls) else 0
+
 -- how many lines there are through the first that isn't blank; all of them, if there is none
 unfoldable pub through_text : Block → ℕ
 through_text [] = 0

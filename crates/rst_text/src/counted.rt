@@ -1,9 +1,9 @@
 //! Readers and writers that keep whether they failed.
-ghost use Rattle.std.specs.Prelude.{◌≡◌, ℕ, List, Option, ⊤, false};
+ghost use Rattle.std.specs.Prelude.{◌≡◌, ◌∷◌, [], ℕ, List, Option, ⊤, false};
 ghost use Rattle.std.specs.Result.{result_ok};
 ghost use Rattle.std.specs.Io.{ReadsAtMost, WritesAtMost};
 ghost use Rattle.std.specs.Io.KnownBytes.{ReadConsumes, WriteAppends};
-ghost use Rattle.rst_text.specs.Counted.{inner_of, has_failed, between, Reads, Writes, WriteIsToldBy, Puts, PutsAreToldBy};
+ghost use Rattle.rst_text.specs.Counted.{inner_of, has_failed, between, Reads, Writes, WriteIsToldBy, Puts, Written, taken_of};
 
 use std::io::{self, Read, Write};
 
@@ -115,7 +115,7 @@ impl<W: WriteCall> Counted<W> {
     /// them the writer took before a write failed, or took none of the others.
     pub fn write_all(&mut self, bytes: &[u8]) -> Result<(), usize>
         ensures bytes { Puts (between W.contents self.old self.new) bytes.now result }
-        ensures call { PutsAreToldBy (λ before answer rest. W.call_takes before answer rest (inner_of self.new)) bytes.now result }
+        ensures call { Written W.call_takes (inner_of self.old) (bytes.now ∷ []) (inner_of self.new) (taken_of bytes.now result) }
     {
         let mut done = 0;
         while done < bytes.len() {

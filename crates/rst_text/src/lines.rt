@@ -1,11 +1,12 @@
 //! The lines of a text.
-ghost use Rattle.std.specs.Prelude.{◌≡◌, ◌≤◌, ◌<◌, ◌∷◌, ℕ, length, drop, IfOk, IfSome, IsTrue};
+ghost use Rattle.std.specs.Prelude.{◌≡◌, ◌+◌, ◌-◌, ◌≤◌, ◌<◌, ◌^◌, ◌∷◌, ℕ, length, drop, IfOk, IfSome};
 ghost use Rattle.std.specs.Str.{chars, IsUtf8};
-ghost use Rattle.rst_text.specs.Block.{front_text};
+ghost use Rattle.rst_text.specs.Block.{front_text, first_number};
 ghost use Rattle.rst_text.specs.Faults.{Gives};
-ghost use Rattle.rst_text.specs.Lines.{is_line_end, pieces, shown, expanded, tidied, lines_of, are_lines};
+ghost use Rattle.rst_text.specs.Kept.{IsEmptyRun};
+ghost use Rattle.rst_text.specs.Lines.{is_line_end, pieces, shown, expanded, tidied, lines_of};
 ghost use Rattle.rst_text.specs.Printable.{ArePrintable};
-ghost use Rattle.rst_text.specs.Source.{block_with};
+ghost use Rattle.rst_text.specs.Source.{texts_with, spread, ArePlaced};
 ghost use Rattle.rst_text.specs.Text.{chars_of};
 
 use super::fault::TextFault;
@@ -14,11 +15,15 @@ use super::printable::printable_len;
 use std::alloc::{AllocError, Global};
 use std::marker::Model;
 
-/// Lines with their numbers: no character of a line ends one, and none is white at a line's end. Contracts see them
-/// as a block, a list of numbers and characters.
+/// Lines with their numbers, which follow one another: no character of a line ends one, and none is white at a line's
+/// end. Contracts see them as a block, a list of numbers and characters.
 #[derive(Debug, Drop)]
 pub struct Lines {
-    pub(crate) kept: Kept,
+    kept: Kept,
+    first: usize,
+    pub(crate) count: usize,
+    // The places of the lines whose texts are kept, if not all are: the others are empty.
+    places: Option<Vec<usize>>,
 }
 
 impl Model for Lines {
@@ -26,12 +31,11 @@ impl Model for Lines {
 
     ghost Value = { Block };
 
-    ghost view = { λ l. l.kept };
+    ghost use Rattle.rst_text.specs.Source.{kept_lines, HoldsLines};
 
-    ghost use Rattle.std.specs.Prelude.{IsTrue};
-    ghost use Rattle.rst_text.specs.Lines.{are_lines};
+    ghost view = { λ l. kept_lines l.first l.count l.kept l.places };
 
-    ghost invariant = { λ l. IsTrue (are_lines l.kept) };
+    ghost invariant = { λ l. HoldsLines l.first l.count l.kept l.places };
 }
 
 impl Lines {
@@ -49,39 +53,60 @@ impl Lines {
         let mut kept = Kept::with_room(alloc, text.len())?;
         let mut rest = text;
         while !rest.is_empty() {
-            let number = kept.len() + 1;
             if let Some((piece, after)) = printable_piece(rest) {
-                kept.push(number, trimmed(piece))?;
+                kept.push(trimmed(piece))?;
                 rest = after;
                 continue;
             }
             let (piece, after) = first_piece(rest);
             let line = tidy(alloc, piece, usize::from(tab))?;
-            kept.push(number, line.as_str())?;
+            kept.push(line.as_str())?;
             rest = after;
         }
-        Ok(Lines { kept })
+        let count = kept.len();
+        Ok(Lines {
+            kept,
+            first: 1,
+            count,
+            places: None,
+        })
     }
 
-    /// Exactly these lines: a number and a text each, in which no character ends a line and no white one is the last.
+    /// So many lines, numbered from `first` on. They are empty but for these texts, which are given with their places,
+    /// counted from 0. The places rise and are below `count`; no character of a text ends a line, and its last isn't
+    /// white. A line that is given no text takes no memory.
     ///
     /// The only refusal is [`TextFault::NoMemory`].
-    pub fn numbered(alloc: Global, lines: &[(usize, String)]) -> Result<Lines, TextFault>
-        requires { IsTrue (are_lines (block_with lines.now)) }
-        ensures { Gives (λ made. made ≡ block_with lines.now) result }
+    pub fn numbered(
+        alloc: Global,
+        first: usize,
+        count: usize,
+        texts: &[(usize, String)],
+    ) -> Result<Lines, TextFault>
+        requires placed { ArePlaced 0 count (texts_with texts.now) }
+        requires few { count < 2 ^ 63 }
+        requires numbers { first + count ≤ 2 ^ 64 }
+        ensures { Gives (λ made. made ≡ spread first count (texts_with texts.now)) result }
     {
         let mut kept = Kept::with_room(alloc, 0)?;
-        for (number, text) in lines {
-            kept.push(*number, text.as_str())?;
+        let mut places = Vec::new(alloc);
+        for (place, text) in texts {
+            kept.push(text.as_str())?;
+            places.push(*place)?;
         }
-        Ok(Lines { kept })
+        Ok(Lines {
+            kept,
+            first,
+            count,
+            places: Some(places),
+        })
     }
 
     /// How many lines there are.
     pub fn count(&self) -> usize
         ensures { result ≡ length self.now }
     {
-        self.kept.len()
+        self.count
     }
 
     /// The text of the line at place `i`, counted from 0.
@@ -89,7 +114,37 @@ impl Lines {
         requires { i < length self.now }
         ensures { chars result.now ≡ front_text (drop i self.now) }
     {
-        self.kept.line(i)
+        match &self.places {
+            None => self.kept.text(i),
+            Some(places) => match places.as_slice().binary_search(&i) {
+                Ok(held) => self.kept.text(held),
+                Err(_) => "",
+            },
+        }
+    }
+
+    /// The number of the line at place `i`, counted from 0.
+    pub(crate) fn number(&self, i: usize) -> usize
+        requires { i < length self.now }
+        ensures { (k : ℕ) → k ≤ i → result ≡ first_number (drop k self.now) + (i - k) }
+    {
+        self.first + i
+    }
+
+    /// The place after some empty lines from place `i` on, `to` at most.
+    pub(crate) fn empty_end(&self, i: usize, to: usize) -> usize
+        requires in_order { i ≤ to }
+        requires within { to ≤ length self.now }
+        ensures { IsEmptyRun self.now i to result }
+    {
+        match &self.places {
+            None => self.kept.empty_end(i, to),
+            Some(places) => match places.as_slice().binary_search(&i) {
+                Ok(_) => i,
+                Err(next) if next < places.len() => to.min(places[next]),
+                Err(_) => to,
+            },
+        }
     }
 }
 

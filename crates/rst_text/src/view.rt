@@ -4,7 +4,6 @@ ghost use Rattle.std.specs.Str.{chars};
 ghost use Rattle.rst_text.specs.Lines.{are_lines};
 ghost use Rattle.rst_text.specs.MayCut.{may_cut_at, is_indented, are_texts};
 
-use super::kept::Kept;
 use super::lines::Lines;
 use super::looks::Looks;
 use super::text::{indentation, skip, tail};
@@ -13,7 +12,7 @@ use super::text::{indentation, skip, tail};
 /// theirs. It borrows the lines and copies nothing. Contracts see it by `block_of`, as a block.
 #[derive(Clone, Copy)]
 pub struct View<'a> {
-    lines: &'a Kept,
+    lines: &'a Lines,
     from: usize,
     to: usize,
     // Cuts are kept in bytes, so that a look costs no walk over the characters that are cut.
@@ -70,17 +69,16 @@ impl<'a> View<'a> {
     ghost use Rattle.rst_text.specs.Extent.{extent_of};
     ghost use Rattle.rst_text.specs.Kept.{IsEmptyRun};
     ghost use Rattle.rst_text.specs.Looked.{capped};
-    ghost use Rattle.rst_text.specs.Reach.{looked};
+    ghost use Rattle.rst_text.specs.Reach.{blank_len, looked, through_text};
 
     /// All the lines, without a cut.
     pub fn whole(lines: &'a Lines) -> View<'a>
         ensures { block_of result ≡ lines.now }
     {
-        let lines = &lines.kept;
         View {
             lines,
             from: 0,
-            to: lines.len(),
+            to: lines.count,
             first: 0,
             rest: 0,
         }
@@ -147,7 +145,8 @@ impl<'a> View<'a> {
     /// The number that the line at place `i`, counted from 0, has in its document, from 1 on.
     pub fn number(&self, i: usize) -> usize
         requires { i < length (block_of self.now) }
-        ensures { result ≡ first_number (drop i (block_of self.now)) }
+        ensures value { result ≡ first_number (drop i (block_of self.now)) }
+        ensures from_first { result ≡ first_number (block_of self.now) + i }
     {
         self.lines.number(self.from + i)
     }
@@ -192,6 +191,25 @@ impl<'a> View<'a> {
         ensures { IsEmptyRun (block_of self.now) i (length (block_of self.now)) result }
     {
         self.lines.empty_end(self.from + i, self.to) - self.from
+    }
+
+    /// The place after the blank lines from place `from` on. It looks once at each of them and at the line that stops it.
+    pub fn blank_end(&self, from: usize, looks: &mut Looks) -> usize
+        requires inside { from ≤ length (block_of self.now) }
+        ensures end { result ≡ from + blank_len (drop from (block_of self.now)) }
+        ensures looks { looks.new ≡ capped (looks.old + through_text (drop from (block_of self.now))) }
+    {
+        let len = self.len();
+        let mut i = from;
+        while i < len {
+            if !self.text(i).is_empty() {
+                looks.look_at(i + 1 - from);
+                return i;
+            }
+            i = self.empty_end(i + 1);
+        }
+        looks.look_at(i - from);
+        i
     }
 
     /// The lines from place `from` on that are blank or indented, by at least `least` spaces if that is given, blank

@@ -11,7 +11,7 @@ use Rattle.rst_tree.specs.declared.node.Node.TheVariants.{Element, Text}
 use Rattle.rst_tree.specs.declared.tag.Tag.{Tag}
 use Rattle.rst_tree.specs.Forest.{Forest}
 use Rattle.rst_tree.specs.Nodes.{forest_of}
-use Rattle.rst_transform_substitutions.specs.declared.definitions.Defined.{Defined}
+use Rattle.rst_transform_substitutions.specs.declared.listing.Defined.{Defined}
 use Rattle.rst_transform_substitutions.specs.declared.definitions.Definitions.{Definitions}
 use Rattle.rst_transform_substitutions.specs.Definitions.{defined, definitions_among, found_among, found_by, known_place, last_place, own_definition, place_of_name, place_of_normalized, AreKnown, Definition}
 use Rattle.rst_transform_work.specs.Reading.{name_in}

@@ -3,14 +3,16 @@ use Rattle.std.proofs.Common.{◌≡◌, ℕ, ◌<◌, ◌++◌, ◌==◌, List,
 use Rattle.std.specs.Prelude.{if◌then◌else◌, is_some, slice_get, unwrap_or, Option, Some, None}
 use Rattle.std.specs.BTreeMap.{get}
 use Rattle.std.specs.List.{list_any}
+use Rattle.std.specs.Str.{bytes_eq}
+use Rattle.std.proofs.lemmas.Slice.Eq.{bytes_eq-Decides}
 use Rattle.rst_tree.specs.Forest.{Forest}
 use Rattle.rst_transform_substitutions.specs.declared.definitions.Definitions.{Definitions}
 use Rattle.rst_transform_substitutions.specs.declared.outcomes.Kept.{Kept}
 use Rattle.rst_transform_substitutions.specs.declared.outcomes.Outcome.{Outcome}
-use Rattle.rst_transform_substitutions.specs.declared.outcomes.Outcomes.{Outcomes}
+use Rattle.rst_transform_substitutions.specs.declared.outcomes.Memory.{Memory}
 use Rattle.rst_transform_substitutions.specs.Definitions.{found_by, known_found}
 use Rattle.rst_transform_substitutions.specs.Expansion.{expanded, given, most_nested, most_visited, nodes_for, nodes_in, path_from}
-use Rattle.rst_transform_substitutions.specs.Outcomes.{came, kept_of, GoesInto, Remembers}
+use Rattle.rst_transform_substitutions.specs.Outcomes.{came, kept_of, GoesInto, HoldsTrue}
 use Rattle.rst_transform_substitutions.proofs.Expanding.{found-some, given-entered}
 
 -- at most one definition is gone into before a reference of the document
@@ -37,11 +39,11 @@ some_is : {A : Type 0} (a b : A) → Some a ≡ Some b → a ≡ b
 some_is a b e = ap (λ o. unwrap_or o a) e
 
 -- nothing is remembered in an empty map
-pub remembers-none : (known : Definitions) (outcomes : Outcomes) → ((place : ℕ) → get nat_cmp outcomes.kept place ≡ None) → Remembers known outcomes
-remembers-none known outcomes none = λ place kept name is goes. absurd (none_is kept (sym (none place) ∙ is))
+pub remembers-none : (known : Definitions) (memory : Memory) → ((place : ℕ) → get nat_cmp memory.kept place ≡ None) → HoldsTrue known memory
+remembers-none known memory none = λ place kept name is goes. absurd (none_is kept (sym (none place) ∙ is))
 
 -- one more outcome is remembered
-remembers-case : (known : Definitions) (old : Outcomes) (place : ℕ) (within : Option ℕ) (outcome : Outcome) (name : List ℕ) → Remembers known old → GoesInto known within place name → came outcome ≡ nodes_for (found_by known) within name
+remembers-case : (known : Definitions) (old : Memory) (place : ℕ) (within : Option ℕ) (outcome : Outcome) (name : List ℕ) → HoldsTrue known old → GoesInto known within place name → came outcome ≡ nodes_for (found_by known) within name
     → (other : ℕ) (kept : Kept) (another : List ℕ) (same : Bool) → nat_eq place other ≡ same → (if same then Some (kept_of within outcome) else get nat_cmp old.kept other) ≡ Some kept → GoesInto known kept.within other another
     → came kept.outcome ≡ nodes_for (found_by known) kept.within another
 remembers-case known old place within outcome name before goes is other kept another true same put into =
@@ -50,7 +52,17 @@ remembers-case known old place within outcome name before goes is other kept ano
     subst Fits (some_is (kept_of within outcome) kept put) (λ here. sym (same_nodes known within place another name (subst (λ p. GoesInto known within p another) (sym there) here) goes ∙ sym is)) into
 remembers-case known old place within outcome name before goes is other kept another false same put into = before other kept another put into
 
-pub remembers-more : (known : Definitions) (old new : Outcomes) (place : ℕ) (within : Option ℕ) (outcome : Outcome) (name : List ℕ) → Remembers known old → GoesInto known within place name → came outcome ≡ nodes_for (found_by known) within name
-    → ((other : ℕ) → get nat_cmp new.kept other ≡ (if nat_eq place other then Some (kept_of within outcome) else get nat_cmp old.kept other)) → Remembers known new
+pub remembers-more : (known : Definitions) (old new : Memory) (place : ℕ) (within : Option ℕ) (outcome : Outcome) (name : List ℕ) → HoldsTrue known old → GoesInto known within place name → came outcome ≡ nodes_for (found_by known) within name
+    → ((other : ℕ) → get nat_cmp new.kept other ≡ (if nat_eq place other then Some (kept_of within outcome) else get nat_cmp old.kept other)) → HoldsTrue known new
 remembers-more known old new place within outcome name before goes is put = λ other kept another at into.
     remembers-case known old place within outcome name before goes is other kept another (nat_eq place other) refl (sym (put other) ∙ at) into
+
+-- what one more name finds is remembered
+right-case : (right : List ℕ → Option ℕ) (name other : List ℕ) (found place : Option ℕ) (before : Option (Option ℕ)) (same : Bool) → bytes_eq other name ≡ same → (if same then Some found else before) ≡ Some place
+    → found ≡ right name → (before ≡ Some place → place ≡ right other) → place ≡ right other
+right-case right name other found place before true same put is was = sym (some_is found place put) ∙ is ∙ ap right (sym ((bytes_eq-Decides other name).0 same))
+right-case right name other found place before false same put is was = was put
+
+pub right-more : (right : List ℕ → Option ℕ) (old new : List ℕ → Option (Option ℕ)) (name : List ℕ) (found : Option ℕ) → ((other : List ℕ) → new other ≡ (if bytes_eq other name then Some found else old other)) → found ≡ right name
+    → ((other : List ℕ) (place : Option ℕ) → old other ≡ Some place → place ≡ right other) → (other : List ℕ) (place : Option ℕ) → new other ≡ Some place → place ≡ right other
+right-more right old new name found put is before = λ other place at. right-case right name other found place (old other) (bytes_eq other name) refl (sym (put other) ∙ at) is (before other place)

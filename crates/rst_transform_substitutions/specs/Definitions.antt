@@ -8,7 +8,7 @@ use Rattle.rst_tree.specs.declared.tag.Tag.{Tag}
 use Rattle.rst_tree.specs.declared.tag.Tag.TheVariants.{SubstitutionDefinition}
 use Rattle.rst_tree.specs.Attributes.{said_text, value_of}
 use Rattle.rst_tree.specs.Forest.{Forest, bare, element, words}
-use Rattle.rst_transform_substitutions.specs.declared.definitions.Defined.{Defined}
+use Rattle.rst_transform_substitutions.specs.declared.listing.Defined.{Defined}
 use Rattle.rst_transform_substitutions.specs.declared.definitions.Definitions.{Definitions}
 use Rattle.rst_transform_work.specs.Reading.{name_in}
 

@@ -102,6 +102,11 @@ module _ (found : List ℕ → Option (ℕ × Forest)) where
   abbrev pub nodes_for : Option ℕ → List ℕ → Result (List Node) ExpansionFault
   nodes_for within name = nodes_in (given (path_from within) name most_visited)
 
+-- what may still be visited after an expansion
+abbrev pub left_of : Expansion → Result ℕ ExpansionFault
+left_of (Ok done) = Ok done.1
+left_of (Err fault) = Err fault
+
 -- what the message says of a reference to a name that isn't replaced
 abbrev pub fault_text : List ℕ → ExpansionFault → List ℕ
 fault_text name (Undefined inner) = codes "Undefined substitution referenced: \"" ++ (inner ++ codes "\".")

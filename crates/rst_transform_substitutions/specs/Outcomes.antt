@@ -9,11 +9,13 @@ use Rattle.rst_tree.specs.Nodes.{nodes_of}
 use Rattle.rst_transform_substitutions.specs.declared.definitions.Definitions.{Definitions}
 use Rattle.rst_transform_substitutions.specs.declared.expansion.ExpansionFault.{ExpansionFault}
 use Rattle.rst_transform_substitutions.specs.declared.outcomes.Kept.{Kept}
+use Rattle.rst_transform_substitutions.specs.declared.outcomes.Memory.{Memory}
 use Rattle.rst_transform_substitutions.specs.declared.outcomes.Outcome.{Outcome}
 use Rattle.rst_transform_substitutions.specs.declared.outcomes.Outcome.TheVariants.{Nodes, Fault}
 use Rattle.rst_transform_substitutions.specs.declared.outcomes.Outcomes.{Outcomes}
 use Rattle.rst_transform_substitutions.specs.Definitions.{found_by, known_found}
 use Rattle.rst_transform_substitutions.specs.Expansion.{nodes_for, path_from}
+use Rattle.rst_transform_substitutions.specs.Numbering.{AreOrdered}
 
 -- an outcome, as the definition gives it
 abbrev pub came : Outcome → Result (List Node) ExpansionFault
@@ -32,7 +34,13 @@ pub record GoesInto (known : Definitions) (within : Option ℕ) (place : ℕ) (n
   pub other : list_any (λ entered. entered == place) (path_from within) ≡ false
 
 -- what is remembered for a place is what each reference that goes into the definition there comes to, if it stands where the last one stood
-abbrev pub Remembers : Definitions → Outcomes → Type 0
-Remembers known outcomes =
-    (place : ℕ) (kept : Kept) (name : List ℕ) → get nat_cmp outcomes.kept place ≡ Some kept → GoesInto known kept.within place name
+abbrev pub HoldsTrue : Definitions → Memory → Type 0
+HoldsTrue known memory =
+    (place : ℕ) (kept : Kept) (name : List ℕ) → get nat_cmp memory.kept place ≡ Some kept → GoesInto known kept.within place name
     → came kept.outcome ≡ nodes_for (found_by known) kept.within name
+
+-- so it is in definitions and outside of them, and the numbers tell which definition doesn't lead to which
+pub record Remembers (known : Definitions) (outcomes : Outcomes) : Type 0 where
+  pub ordered : AreOrdered known outcomes.numbers.items
+  pub outside : HoldsTrue known outcomes.outside
+  pub inside : HoldsTrue known outcomes.inside

@@ -1,23 +1,16 @@
 //! The substitution definitions of a document, by their names.
-ghost use Rattle.std.specs.Prelude.{◌≡◌, ◌∷◌, ◌++◌, [], if◌then◌else◌, List, ℕ, map, slice_get, string_bytes, MatchOption, None, Some};
+ghost use Rattle.std.specs.Prelude.{◌≡◌, if◌then◌else◌, List, ℕ, string_bytes, Option, Some};
 ghost use Rattle.std.specs.BTreeMap.{get_by_text};
 ghost use Rattle.std.specs.Str.{bytes_eq};
+ghost use Rattle.std.proofs.Props.{props};
 ghost use Rattle.rst_tree.specs.Faults.{Gives};
-ghost use Rattle.rst_transform_substitutions.specs.Definitions.{defined, definitions_among, known_found, known_place, own_definition, AreKnown, Definition};
+ghost use Rattle.rst_transform_work.specs.Reading.{name_in};
 
-use rst_transform_work::{copies, folded, said};
-use rst_tree::{Attrs, Children, Key, Node, Tag, TreeFault};
+use crate::listing::add_listed;
+use rst_transform_work::{copies, folded};
+use rst_tree::{Children, TreeFault};
 use std::alloc::Global;
 use std::collections::BTreeMap;
-
-/// A substitution definition as it stands in a document.
-#[derive(Clone, Copy)]
-struct Defined<'a> {
-    /// Its name as it was written.
-    name: &'a str,
-    /// The nodes that stand for a reference.
-    content: &'a Children,
-}
 
 /// The substitution definitions of a document as they stood when they were gathered, each known by how many stand before it (Markup
 /// Specification, 'Substitution Definitions').
@@ -26,35 +19,47 @@ struct Defined<'a> {
 #[derive(Drop)]
 pub struct Definitions {
     /// The nodes that stand for references.
-    contents: Vec<Children>,
+    pub contents: Vec<Children>,
     /// The place of the last definition of a name as it was written.
     exact: BTreeMap<String, usize>,
     /// The place of the last definition of a name by `name_of`.
     normalized: BTreeMap<String, usize>,
+    /// What names that were looked for find by `name_of`, so that each is normalized once.
+    remembered: BTreeMap<String, Option<usize>>,
+    ghost is_right: { (name : List ℕ) (place : Option ℕ) → get_by_text remembered name ≡ Some place → place ≡ get_by_text normalized (name_in name) } by { Prim.hlevel props },
 }
 
 impl Definitions {
+    ghost use Rattle.std.specs.Prelude.{◌∷◌, ◌++◌, [], slice_get, MatchOption, None};
+    ghost use Rattle.rst_transform_substitutions.specs.Definitions.{definitions_among, known_found, known_place, AreKnown, Definition};
+
     /// The definitions among the nodes of a document, and in them.
     pub fn of(alloc: Global, nodes: &Children) -> Result<Definitions, TreeFault>
         ensures { Gives (AreKnown (definitions_among nodes.now)) result }
     {
         let mut list = Vec::new(alloc);
-        add_defined(nodes, &mut list)?;
+        let mut names = Vec::new(alloc);
+        add_listed(nodes, &mut list, &mut names)?;
         let mut definitions = Definitions {
             contents: Vec::with_capacity(alloc, list.len())?,
             exact: BTreeMap::new(alloc),
             normalized: BTreeMap::new(alloc),
+            remembered: BTreeMap::new(alloc),
         };
         for one in &list {
             definitions.add(alloc, one.name, one.content)?;
         }
+        for name in &names {
+            definitions.remember(alloc, name)?;
+        }
         Ok(definitions)
     }
 
-    /// Adds a definition behind the last.
+    /// Adds a definition behind the last, and forgets what names find.
     fn add(&mut self, alloc: Global, name: &str, content: &Children) -> Result<(), TreeFault>
         ensures { Gives (λ _. (all : List Definition) → AreKnown all self.old → AreKnown (all ++ (name.now, content.now) ∷ []) self.new) result }
     {
+        self.remembered.clear();
         let place = self.contents.len();
         let content = copies(alloc, content)?;
         let exact = String::from_str(alloc, name)?;
@@ -62,6 +67,19 @@ impl Definitions {
         let normalized = folded(alloc, name)?;
         know(&mut self.normalized, normalized, place)?;
         self.contents.push(content)?;
+        Ok(())
+    }
+
+    /// Remembers what a name finds, if there is no definition of it as it is written.
+    fn remember(&mut self, alloc: Global, name: &str) -> Result<(), TreeFault>
+        ensures { Gives (λ _. (all : List Definition) → AreKnown all self.old → AreKnown all self.new) result }
+    {
+        if self.place(name).is_some() {
+            return Ok(());
+        }
+        let found = self.find(alloc, name)?;
+        let name = String::from_str(alloc, name)?;
+        self.remembered.insert(name, found)?;
         Ok(())
     }
 
@@ -78,6 +96,9 @@ impl Definitions {
     {
         if let Some(place) = self.exact.get(name) {
             return Ok(Some(*place));
+        }
+        if let Some(found) = self.remembered.get(name) {
+            return Ok(*found);
         }
         let normalized = folded(alloc, name)?;
         Ok(self.normalized.get(normalized.as_str()).copied())
@@ -96,43 +117,5 @@ fn know(places: &mut BTreeMap<String, usize>, name: String, place: usize) -> Res
     ensures { Gives (λ _. (other : List ℕ) → get_by_text places.new other ≡ (if bytes_eq other (string_bytes name) then Some place else get_by_text places.old other)) result }
 {
     places.insert(name, place)?;
-    Ok(())
-}
-
-/// Adds the definitions among nodes, and in them, in preorder.
-fn add_defined<'a>(nodes: &'a Children, list: &mut Vec<Defined<'a>>) -> Result<(), TreeFault>
-    ensures { Gives (λ _. map defined list.new.items ≡ map defined list.old.items ++ definitions_among nodes.now) result }
-{
-    for node in nodes.as_slice() {
-        match node {
-            Node::Text(_) => continue,
-            Node::Element {
-                tag,
-                attrs,
-                children,
-                ..
-            } => {
-                add_own(*tag, attrs, children, list)?;
-                add_defined(children, list)?;
-            }
-        }
-    }
-    Ok(())
-}
-
-/// Adds an element, if it is a definition.
-fn add_own<'a>(
-    tag: Tag,
-    attrs: &'a Attrs,
-    content: &'a Children,
-    list: &mut Vec<Defined<'a>>,
-) -> Result<(), TreeFault>
-    ensures { Gives (λ _. map defined list.new.items ≡ map defined list.old.items ++ own_definition tag attrs.now content.now) result }
-{
-    if !matches!(tag, Tag::SubstitutionDefinition) {
-        return Ok(());
-    }
-    let name = said(attrs, Key::OwnName);
-    list.push(Defined { name, content })?;
     Ok(())
 }

@@ -58,7 +58,7 @@ pub fn expand(
         line,
     } = document;
     let definitions = Definitions::of(alloc, &children)?;
-    let mut outcomes = Outcomes::new(alloc);
+    let mut outcomes = Outcomes::new(alloc, &definitions)?;
     let children = expanded_in(alloc, &definitions, children, None, &mut outcomes, context)?;
     Ok(Document {
         attrs,

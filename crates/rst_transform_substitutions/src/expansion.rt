@@ -5,7 +5,7 @@ ghost use Rattle.rst_tree.specs.Faults.{Gives};
 ghost use Rattle.rst_transform_substitutions.specs.declared.expansion.ExpansionFault.TheVariants.{Undefined};
 ghost use Rattle.rst_transform_substitutions.specs.declared.expansion.Halted.TheVariants.{By as HaltedBy, NoMemory as HaltedByMemory};
 ghost use Rattle.rst_transform_substitutions.specs.Definitions.{found_by};
-ghost use Rattle.rst_transform_substitutions.specs.Expansion.{behind, copied, expanded, fault_text, given, is_reference, most_visited, nodes_for, path_from, size_of, ComesTo, Enters};
+ghost use Rattle.rst_transform_substitutions.specs.Expansion.{behind, copied, expanded, fault_text, given, is_reference, left_of, most_visited, nodes_for, path_from, size_of, ComesTo, Enters};
 
 use crate::definitions::Definitions;
 use rst_transform_work::said;
@@ -173,15 +173,17 @@ pub fn is_reference(tag: Tag) -> bool
     matches!(tag, Tag::SubstitutionReference)
 }
 
-/// Puts copies of the nodes behind those that are there, with the references in them replaced in turn.
+/// Visits the nodes and, if it copies them, puts the copies behind those that are there, with the references in them replaced in turn.
 fn add_expanded(
     alloc: Global,
     definitions: &Definitions,
     content: &Children,
+    copies: bool,
     progress: &mut Progress,
     nodes: &mut Vec<Node>,
 ) -> Result<(), Halted>
-    ensures nodes { let wanted = expanded (given (found_by definitions.now) progress.old.path.items) content.now progress.old.left in ComesTo (behind nodes.old.items wanted) (λ _. (nodes.new.items, progress.new.left)) result }
+    ensures visits { ComesTo (left_of (expanded (given (found_by definitions.now) progress.old.path.items) content.now progress.old.left)) (λ _. progress.new.left) result }
+    ensures nodes { copies ≡ true → ComesTo (behind nodes.old.items (expanded (given (found_by definitions.now) progress.old.path.items) content.now progress.old.left)) (λ _. (nodes.new.items, progress.new.left)) result }
     ensures path { OnOk result (progress.new.path.items ≡ progress.old.path.items) }
     ensures left { OnOk result (progress.new.left ≤ progress.old.left) }
 {
@@ -191,6 +193,9 @@ fn add_expanded(
         }
         match node {
             Node::Text(text) => {
+                if !copies {
+                    continue;
+                }
                 nodes.push(Node::Text(text.copy()?))?;
                 continue;
             }
@@ -202,12 +207,15 @@ fn add_expanded(
             } => {
                 if is_reference(*tag) {
                     let inner = entered(alloc, definitions, said(attrs, Key::Refname), progress)?;
-                    add_expanded(alloc, definitions, inner, progress, nodes)?;
+                    add_expanded(alloc, definitions, inner, copies, progress, nodes)?;
                     progress.leave();
                     continue;
                 }
                 let mut inner = Vec::new(alloc);
-                add_expanded(alloc, definitions, children, progress, &mut inner)?;
+                add_expanded(alloc, definitions, children, copies, progress, &mut inner)?;
+                if !copies {
+                    continue;
+                }
                 nodes.push(copied(alloc, *tag, attrs, inner, *line)?)?;
                 continue;
             }
@@ -284,6 +292,16 @@ pub fn expansion(
     let mut progress = Progress::start(alloc, within)?;
     let content = entered(alloc, definitions, name, &mut progress)?;
     let mut nodes = Vec::new(alloc);
-    add_expanded(alloc, definitions, content, &mut progress, &mut nodes)?;
+    add_expanded(
+        alloc,
+        definitions,
+        content,
+        false,
+        &mut progress,
+        &mut nodes,
+    )?;
+    progress.left = MOST_VISITED;
+    let mut nodes = Vec::new(alloc);
+    add_expanded(alloc, definitions, content, true, &mut progress, &mut nodes)?;
     Ok(nodes)
 }

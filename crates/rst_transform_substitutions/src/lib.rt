@@ -5,4 +5,6 @@ mod definitions;
 pub mod expand;
 mod expansion;
 pub mod laws;
+mod listing;
+mod numbering;
 mod outcomes;

@@ -1,15 +1,17 @@
 //! What references come to, remembered for those that follow.
-ghost use Rattle.std.specs.Prelude.{◌≡◌, if◌then◌else◌, nat_eq, true, ℕ, Option, Some, MatchOption, OnOk};
+ghost use Rattle.std.specs.Prelude.{◌≡◌, if◌then◌else◌, nat_eq, true, false, ℕ, Option, Some, MatchOption, OnOk};
 ghost use Rattle.std.specs.BTreeMap.{get};
 ghost use Rattle.std.specs.Ordering.{nat_cmp};
 ghost use Rattle.rst_tree.specs.Faults.{Gives};
 ghost use Rattle.rst_transform_substitutions.specs.declared.definitions.Definitions.{Definitions as AnyDefinitions};
 ghost use Rattle.rst_transform_substitutions.specs.Definitions.{found_by};
 ghost use Rattle.rst_transform_substitutions.specs.Expansion.{nodes_for};
-ghost use Rattle.rst_transform_substitutions.specs.Outcomes.{came, kept_of, GoesInto, Remembers};
+ghost use Rattle.rst_transform_substitutions.specs.Numbering.{may_lead};
+ghost use Rattle.rst_transform_substitutions.specs.Outcomes.{came, kept_of, GoesInto, HoldsTrue, Remembers};
 
 use crate::definitions::Definitions;
 use crate::expansion::{ExpansionFault, Halted, expansion};
+use crate::numbering::{may_lead, numbered};
 use rst_transform_work::copies;
 use rst_tree::{Children, TreeFault};
 use std::alloc::Global;
@@ -45,23 +47,59 @@ struct Kept {
     outcome: Outcome,
 }
 
-/// What references came to, by the places of the definitions that they found.
+/// What references came to that all stand in definitions, or all in none, by the places of the definitions that they found.
+#[derive(Drop)]
+struct Memory {
+    kept: BTreeMap<usize, Kept>,
+}
+
+/// What references came to.
 ///
 /// Whatever its name and its line, each reference that stands in the same definition, or in none, and goes into the same one comes
-/// to the same. So only the first of them costs an expansion; this bounds the work of a document with many references to large
-/// definitions.
+/// to the same. So it does in all definitions that the one that it goes into doesn't lead to. So only the first of them costs an
+/// expansion; this bounds the work of a document with many references to large definitions.
 #[derive(Drop)]
 pub struct Outcomes {
-    kept: BTreeMap<usize, Kept>,
+    /// The numbers of the definitions.
+    numbers: Vec<usize>,
+    /// What references came to that stand in no definition.
+    outside: Memory,
+    /// What those in definitions came to.
+    inside: Memory,
 }
 
 impl Outcomes {
     /// Nothing is remembered yet.
-    pub fn new(alloc: Global) -> Outcomes
-        ensures { (known : AnyDefinitions) → Remembers known result }
+    pub fn new(alloc: Global, definitions: &Definitions) -> Result<Outcomes, TreeFault>
+        ensures { Gives (Remembers definitions.now) result }
+    {
+        Ok(Outcomes {
+            numbers: numbered(alloc, definitions)?,
+            outside: Memory::new(alloc),
+            inside: Memory::new(alloc),
+        })
+    }
+
+    /// The place of a definition where a reference to another comes to what it comes to in an outer one: that of the outer one
+    /// itself, or, if the other doesn't lead to it, one past the last.
+    fn standing(&self, outer: usize, place: usize) -> usize
+        ensures led { may_lead self.now.numbers.items place outer ≡ true → result ≡ outer }
+        ensures apart { may_lead self.now.numbers.items place outer ≡ false → may_lead self.now.numbers.items place result ≡ false }
+    {
+        if may_lead(&self.numbers, place, outer) {
+            return outer;
+        }
+        self.numbers.len()
+    }
+}
+
+impl Memory {
+    /// Nothing is remembered yet.
+    fn new(alloc: Global) -> Memory
+        ensures { (known : AnyDefinitions) → HoldsTrue known result }
     {
         let kept = BTreeMap::new(alloc);
-        Outcomes { kept }
+        Memory { kept }
     }
 
     /// What a reference to the definition at a place came to, if it stands in the same definition as the last, or in none as that.
@@ -150,6 +188,29 @@ fn new_outcome(
     }
 }
 
+/// What a reference of a name comes to, which goes into the definition at a place, remembered or expanded anew.
+fn remembered(
+    alloc: Global,
+    definitions: &Definitions,
+    name: &str,
+    place: usize,
+    within: Option<usize>,
+    memory: &mut Memory,
+) -> Result<Outcome, TreeFault>
+    requires goes { GoesInto definitions.now within place name.now }
+    requires holds { HoldsTrue definitions.now memory.old }
+    ensures came { Gives (λ outcome. came outcome ≡ nodes_for (found_by definitions.now) within name.now) result }
+    ensures holds { OnOk result (HoldsTrue definitions.now memory.new) }
+{
+    let before = memory.find(alloc, place, within)?;
+    if let Some(known) = before {
+        return Ok(known);
+    }
+    let new = new_outcome(alloc, definitions, name, within)?;
+    memory.keep(alloc, place, within, &new)?;
+    Ok(new)
+}
+
 /// What a reference of a name comes to; `within` is the definition that it stands in.
 pub fn reference_outcome(
     alloc: Global,
@@ -166,11 +227,18 @@ pub fn reference_outcome(
     let Some(place) = entered else {
         return new_outcome(alloc, definitions, name, within);
     };
-    let before = outcomes.find(alloc, place, within)?;
-    if let Some(known) = before {
-        return Ok(known);
+    match within {
+        None => remembered(alloc, definitions, name, place, None, &mut outcomes.outside),
+        Some(outer) => {
+            let within = Some(outcomes.standing(outer, place));
+            remembered(
+                alloc,
+                definitions,
+                name,
+                place,
+                within,
+                &mut outcomes.inside,
+            )
+        }
     }
-    let new = new_outcome(alloc, definitions, name, within)?;
-    outcomes.keep(alloc, place, within, &new)?;
-    Ok(new)
 }

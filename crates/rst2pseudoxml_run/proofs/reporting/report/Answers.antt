@@ -1,22 +1,24 @@
-use Rattle.std.proofs.Common.{refl, ap, append-nil, subst, List, ℕ, codes, decimal, ◌∙◌, ◌++◌}
-use Rattle.rst_text.specs.Counted.{between}
-use Rattle.rst2pseudoxml_run.specs.Report.{Reports, fault_line}
+use Rattle.std.proofs.Common.{◌≡◌, refl, ap, append-nil, subst, List, ℕ, codes, decimal, ◌∙◌, ◌++◌}
+use Rattle.rst2pseudoxml_run.specs.Headline.{IsSent}
+use Rattle.rst2pseudoxml_run.specs.Report.{fault_line}
+use Rattle.rst2pseudoxml_run.specs.declared.end.End.TheVariants.{Done}
+use Rattle.rst2pseudoxml_run.proofs.StreamLemmas.{sent_nothing}
 use Rattle.rst2pseudoxml_run.proofs.reporting.report.Goals as goal
 
 pub returns-in-Options-clause-line : goal.returns-in-Options-clause-line
 returns-in-Options-clause-line g c =
-    let P : List ℕ → Type 0 = λ message. Reports (between g.E.Write.contents c.args.err.now c.say-in-Options.new.err) (fault_line message) in
+    let P : List ℕ → Type 0 = λ message. IsSent g.E.WriteCall.call_takes g.E.Write.contents c.args.err.now c.say-in-Options.new.err (fault_line message) in
     rw c.in-Options.is (subst P c.option_message.ensures c.say-in-Options.ensures)
 
 pub returns-in-Open-clause-line : goal.returns-in-Open-clause-line
 returns-in-Open-clause-line g c =
-    let P : List ℕ → Type 0 = λ message. Reports (between g.E.Write.contents c.args.err.now c.say_of.new.err) (fault_line message) in
+    let P : List ℕ → Type 0 = λ message. IsSent g.E.WriteCall.call_takes g.E.Write.contents c.args.err.now c.say_of.new.err (fault_line message) in
     let whole = append-nil (codes "cannot open " ++ c.as_str.result.now) ∙ ap (λ named. codes "cannot open " ++ named) c.as_str.ensures.value in
     rw c.in-Open.is (subst P whole c.say_of.ensures)
 
 pub returns-in-NotUtf8 : goal.returns-in-NotUtf8
 returns-in-NotUtf8 g c =
-    let P : List ℕ → Type 0 = λ message. Reports (between g.E.Write.contents c.args.err.now c.say_number.new.err) (fault_line message) in
+    let P : List ℕ → Type 0 = λ message. IsSent g.E.WriteCall.call_takes g.E.Write.contents c.args.err.now c.say_number.new.err (fault_line message) in
     rw (c.in-Ran.is, c.in-NotUtf8.is) (record { line = subst P (append-nil (codes "not UTF-8 at byte " ++ decimal c.in-NotUtf8.at)) c.say_number.ensures; status = refl })
 
 pub returns-in-Read : goal.returns-in-Read
@@ -36,3 +38,8 @@ returns-in-WriteOut g c = rw (c.in-Ran.is, c.in-WriteOut.is) (record { line = c.
 
 pub returns-in-TooDeep : goal.returns-in-TooDeep
 returns-in-TooDeep g c = rw (c.in-Ran.is, c.in-TooDeep.is) (record { line = c.say_number-in-TooDeep.ensures; status = refl })
+
+pub returns-in-Ran-Done-clause-line : goal.returns-in-Ran-Done-clause-line
+returns-in-Ran-Done-clause-line g c =
+    let done : c.in-Ran-Done.field-0 ≡ Done c.in-Ran-Done.status = rw c.in-Ran-Done.is at c.in-Ran-Done.field-0-is in
+    rw (c.in-Ran-Done.is, done) (sent_nothing g.E.WriteCall.call_takes g.E.Write.contents c.args.err.now)

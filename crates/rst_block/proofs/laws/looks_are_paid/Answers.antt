@@ -1,5 +1,5 @@
-use Rattle.rst_block_state.proofs.LedgerLemmas.{begun, ended, blank_line, construct, counted, opened, second_opened}
+use Rattle.rst_block_state.proofs.LedgerLemmas.{begun, ended, blank_lines, construct, counted, opened, second_opened}
 use Rattle.rst_block.proofs.laws.looks_are_paid.Goals as goal
 
 pub returns : goal.returns
-returns c = record { begun = begun; ended = ended; blank = blank_line; construct = construct; counted = counted; opened = opened; second = second_opened }
+returns c = record { begun = begun; ended = ended; blank = blank_lines; construct = construct; counted = counted; opened = opened; second = second_opened }

@@ -374,7 +374,7 @@ cells-returns-clause-read t c =
     ∙ table_reads c.args.level.now c.go_to.new.self c.push_marked.new.self c.after_table.new.level B c.args.depth c.args.found c.in-Table.cols c.in-Table.head c.in-Table.end c.in-Table.rows c.in_ok-made.made c.in_ok-table.table
     c.args.pass.now.numbers c.rows_of.new.pass.numbers c.in-Table.is c.requires.level (sym c.in_ok-made.ensures.rows)
     (c.in_ok-table.ensures ∙ ap (λ widths. table_node widths c.in-Table.head c.in_ok-made.made c.number-line.result) c.as_slice.ensures
-    ∙ ap (λ line. table_node c.in-Table.cols c.in-Table.head c.in_ok-made.made line) c.number-line.ensures)
+    ∙ ap (λ line. table_node c.in-Table.cols c.in-Table.head c.in_ok-made.made line) c.number-line.ensures.value)
     c.go_to.ensures.moved (c.go_to.ensures.there behind) c.in_ok-push_marked.ensures.more c.in_ok-after_table.ensures.more c.requires.placed
 
 pub cells-returns-clause-paid : goal.cells-returns-clause-paid
@@ -423,8 +423,18 @@ row_of-returns-in_err-nodes-clause-row t c =
     (row_keeps c.args.depth c.args.cells.items (into_iter_items c.loop-cell.cell-iterator) _ c.in-Some.cell c.in_ok-lines.lines c.loop-cell.entries c.args.pass.now.numbers c.loop-cell.pass.numbers c.in_err-nodes.field-0.0 _ _
     c.requires.inner c.requires.depth c.in-Some.ensures.steps.0 c.in_ok-lines.ensures c.loop-cell.invariant.made c.in_err-nodes.ensures.read)
 
+-- the lines of a cell are dropped in one of two ways: with the places of those that have text, or without any
 pub row_of-loop-cell-preserved : goal.row_of-loop-cell-preserved
 row_of-loop-cell-preserved t c = record {
+  frames = c.in_ok-nodes.ensures.frames ∙ c.loop-cell.invariant.frames;
+  made = entry_next c.args.depth c.in-Some.cell c.in_ok-lines.lines (into_iter_items c.loop-cell.cell-iterator) _ c.in_ok-nodes.field-0 c.loop-cell.entries c.push.new.self c.in_ok-entry_of.field-0 c.loop-cell.pass.numbers
+      c.read.new.pass.numbers _ c.requires.inner c.requires.depth c.in-Some.ensures.steps.0 c.in_ok-lines.ensures c.in_ok-nodes.ensures.read c.in_ok-entry_of.ensures c.in_ok-push.ensures c.loop-cell.invariant.made;
+  paid = some_read _ _ _ _ _ _ _ c.loop-cell.invariant.paid (next_cell c.args.depth (into_iter_items c.loop-cell.cell-iterator) _ c.in-Some.cell c.in_ok-lines.lines c.requires.inner c.in-Some.ensures.steps.0 c.in_ok-lines.ensures)
+      c.in_ok-nodes.ensures.paid;
+}
+
+pub row_of-loop-cell-preserved-in_ok-push : goal.row_of-loop-cell-preserved-in_ok-push
+row_of-loop-cell-preserved-in_ok-push t c = record {
   frames = c.in_ok-nodes.ensures.frames ∙ c.loop-cell.invariant.frames;
   made = entry_next c.args.depth c.in-Some.cell c.in_ok-lines.lines (into_iter_items c.loop-cell.cell-iterator) _ c.in_ok-nodes.field-0 c.loop-cell.entries c.push.new.self c.in_ok-entry_of.field-0 c.loop-cell.pass.numbers
       c.read.new.pass.numbers _ c.requires.inner c.requires.depth c.in-Some.ensures.steps.0 c.in_ok-lines.ensures c.in_ok-nodes.ensures.read c.in_ok-entry_of.ensures c.in_ok-push.ensures c.loop-cell.invariant.made;

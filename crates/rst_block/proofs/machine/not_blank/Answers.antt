@@ -11,7 +11,7 @@ use Rattle.rst_block.proofs.machine.not_blank.Goals as goal
 pub returns-then-first-len-clause-blank : goal.returns-then-first-len-clause-blank
 returns-then-first-len-clause-blank c =
     let B : Block = block_of c.args.view.now in
-    λ number. text_at_place B c.lines_end-first.result number c.lines_end-first.ensures.end (omega arith) ∙ ap Err (sym c.number.ensures)
+    λ number. text_at_place B c.lines_end-first.result number c.lines_end-first.ensures.end (omega arith) ∙ ap Err (sym c.number.ensures.value)
 
 pub returns-clause-blank : goal.returns-clause-blank
 returns-clause-blank c =

@@ -1,4 +1,4 @@
-use Rattle.std.proofs.Common.{◌≡◌, List, [], ◌∷◌, string_bytes, option_map, box_value, sym, ap, ◌∙◌, subst}
+use Rattle.std.proofs.Common.{◌≡◌, List, [], ◌∷◌, string_bytes, option_map, box_value, ◌-◌, arith, refl, sym, ap, ◌∙◌, subst}
 use Rattle.std.proofs.lemmas.Result.{IfOk-weaker}
 use Rattle.rst_text.specs.Block.{Block}
 use Rattle.rst_text.specs.Shown.{block_of}
@@ -6,17 +6,16 @@ use Rattle.rst_tree.specs.declared.node.Node.{Node}
 use Rattle.rst_tree.specs.declared.tag.Tag.TheVariants.{ListItem}
 use Rattle.rst_block_nodes.specs.Elements.{element_of}
 use Rattle.rst_block_state.specs.Directives.{first_paragraph, replacement}
-use Rattle.rst_block_state.specs.Figures.{caption_error, figure_nodes}
-use Rattle.rst_block_state.specs.Ledger.{WaitsForOne}
+use Rattle.rst_block_state.specs.Ledger.{WaitsForOne, run_looks, waiting_looks}
 use Rattle.rst_block_state.specs.Meanings.{after_quote, quote_by, resumed}
-use Rattle.rst_block_state.specs.declared.waits.OpenFigure.{OpenFigure}
 use Rattle.rst_block_state.specs.declared.waits.OpenReplacement.{OpenReplacement}
 use Rattle.rst_block_state.proofs.Calls.{keeps_as}
 use Rattle.rst_block_state.proofs.Changes.{kept_more, kept_item}
+use Rattle.rst_block_state.proofs.WaitingLooks.{resumed as waited}
 use Rattle.rst_block_body.proofs.QuoteSteps.{after_more}
 use Rattle.rst_block_body.proofs.QuotesPaid.{more_paid, nodes_paid, item_paid}
 use Rattle.rst_block.proofs.Waiting.{nodes_given, item_given}
-use Rattle.rst_block.proofs.resume.resume.Goals.{in-ListItem+in_ok-item-in-ListItem+in_ok-push_item-in-ListItem, in-ListedBody+in_ok-listed_item-in-ListedBody+in_ok-push_item-in-ListedBody, in-Element+in_ok-completed-in-Element+in_ok-push_marked-in-Element, in-Figure+in_ok-finished_figure-in-Figure+in_ok-append_marked-in-Figure, in-Replacement+in_ok-finished_replacement-in-Replacement+in_ok-push-in-Replacement}
+use Rattle.rst_block.proofs.resume.resume.Goals.{in-ListItem+in_ok-item-in-ListItem+in_ok-push_item-in-ListItem, in-ListedBody+in_ok-listed_item-in-ListedBody+in_ok-push_item-in-ListedBody, in-Element+in_ok-completed-in-Element+in_ok-push_marked-in-Element, in-Replacement+in_ok-finished_replacement-in-Replacement+in_ok-push-in-Replacement}
 use Rattle.rst_block.proofs.resume.resume.Goals as goal
 
 pub after_quote-requires-clause-placed : goal.after_quote-requires-clause-placed
@@ -33,6 +32,22 @@ returns-in-Quote-clause-read c =
     ∙ ap (λ w. resumed old B w c.args.nodes c.args.pass.now.numbers) (sym c.in-Quote.is) in
     keeps_as c.after_quote.result _ _ _ same c.after_quote.ensures.read
 
+pub returns-in-Figure : goal.returns-in-Figure
+returns-in-Figure c =
+    let B : Block = block_of c.args.view.now in
+    let n = c.args.pass.now.numbers in
+    let old = c.args.level.now in
+    let x = c.in-Figure in
+    let m = c.in_ok-append_marked-in-Figure.ensures.more in
+    let run : run_looks c.append_marked.new.self.run ≡ run_looks old.run = ap run_looks m.run in
+    let lines : waiting_looks c.args.waits ≡ x.end - x.start = ap waiting_looks x.is in
+    record {
+      step = m.at;
+      kept = kept_more m c.requires.placed;
+      read = nodes_given B n m c.in_ok-made-in-Figure.ensures.figure c.requires.placed refl ∙ ap (λ waits. resumed old B waits c.args.nodes n) (sym x.is);
+      paid = waited old c.append_marked.new.self B c.args.waits _ _ (subst WaitsForOne (sym x.is) tt) m.depth m.at (omega (arith, run)) (omega (arith, lines, c.finished_figure.ensures.looks)) c.in_ok-made-in-Figure.ensures.low;
+    }
+
 pub returns-clause-kept : goal.returns-clause-kept
 returns-clause-kept c =
     let old = c.args.level.now in
@@ -41,7 +56,6 @@ returns-clause-kept c =
       | in-ListedBody+in_ok-listed_item-in-ListedBody+in_ok-push_item-in-ListedBody w ↦
           rw w.level-is (kept_item old w.push_item-in-ListedBody.new.self _ w.in_ok-push_item-in-ListedBody.ensures.item c.requires.placed)
       | in-Element+in_ok-completed-in-Element+in_ok-push_marked-in-Element w ↦ rw w.level-is (kept_more w.in_ok-push_marked-in-Element.ensures.more c.requires.placed)
-      | in-Figure+in_ok-finished_figure-in-Figure+in_ok-append_marked-in-Figure w ↦ rw w.level-is (kept_more w.in_ok-append_marked-in-Figure.ensures.more c.requires.placed)
       | in-Replacement+in_ok-finished_replacement-in-Replacement+in_ok-push-in-Replacement w ↦ rw w.level-is (kept_more w.in_ok-push-in-Replacement.ensures.more c.requires.placed)
     ]
 
@@ -67,16 +81,11 @@ returns-clause-read c =
           nodes_given B n w.in_ok-push_marked-in-Element.ensures.more
           (ap (λ (m : Node). m ∷ []) w.in_ok-completed-in-Element.ensures) c.requires.placed w.level-is
           ∙ ap (λ waits. resumed old B waits ns n) (sym w.in-Element.is)
-      | in-Figure+in_ok-finished_figure-in-Figure+in_ok-append_marked-in-Figure w ↦
-          let figure_of : OpenFigure → List Node = λ o. figure_nodes o.figure (caption_error o.line (string_bytes o.source)) ns in
-          nodes_given B n w.in_ok-append_marked-in-Figure.ensures.more
-          (w.in_ok-finished_figure-in-Figure.ensures ∙ ap figure_of w.into_inner.ensures) c.requires.placed w.level-is
-          ∙ ap (λ waits. resumed old B waits ns n) (sym w.in-Figure.is)
       | in-Replacement+in_ok-finished_replacement-in-Replacement+in_ok-push-in-Replacement w ↦
           let node : Node = w.in_ok-finished_replacement-in-Replacement.field-0 in
           let node_of : OpenReplacement → List Node = λ o. replacement (string_bytes o.name) o.line (string_bytes o.source) (first_paragraph ns) ∷ [] in
           nodes_given B n w.in_ok-push-in-Replacement.ensures.more
-          (ap (λ (m : Node). m ∷ []) w.in_ok-finished_replacement-in-Replacement.ensures ∙ ap node_of w.into_inner-in-Replacement.ensures) c.requires.placed w.level-is
+          (ap (λ (m : Node). m ∷ []) w.in_ok-finished_replacement-in-Replacement.ensures ∙ ap node_of w.into_inner.ensures) c.requires.placed w.level-is
           ∙ ap (λ waits. resumed old B waits ns n) (sym w.in-Replacement.is)
     ]
 
@@ -98,6 +107,5 @@ returns-clause-paid c =
       | in-ListedBody+in_ok-listed_item-in-ListedBody+in_ok-push_item-in-ListedBody w ↦
           item_paid old w.push_item-in-ListedBody.new.self last B _ c.args.waits n (subst WaitsForOne (sym w.in-ListedBody.is) tt) w.in_ok-push_item-in-ListedBody.ensures.item w.level-is
       | in-Element+in_ok-completed-in-Element+in_ok-push_marked-in-Element w ↦ nodes_paid B c.args.waits n (subst WaitsForOne (sym w.in-Element.is) tt) w.in_ok-push_marked-in-Element.ensures.more w.level-is
-      | in-Figure+in_ok-finished_figure-in-Figure+in_ok-append_marked-in-Figure w ↦ nodes_paid B c.args.waits n (subst WaitsForOne (sym w.in-Figure.is) tt) w.in_ok-append_marked-in-Figure.ensures.more w.level-is
       | in-Replacement+in_ok-finished_replacement-in-Replacement+in_ok-push-in-Replacement w ↦ nodes_paid B c.args.waits n (subst WaitsForOne (sym w.in-Replacement.is) tt) w.in_ok-push-in-Replacement.ensures.more w.level-is
     ]

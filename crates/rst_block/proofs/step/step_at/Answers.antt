@@ -1,10 +1,16 @@
-use Rattle.std.proofs.Common.{arith}
+use Rattle.std.proofs.Common.{◌≡◌, ◌<◌, ◌≤◌, [], ◌∷◌, length, length-drop, arith, ◌∙◌}
 use Rattle.std.specs.Prelude.{◌==◌, drop}
 use Rattle.rst_text.specs.Block.{Block}
 use Rattle.rst_text.specs.Shown.{block_of}
-use Rattle.rst_markup_blocks.specs.declared.begun.Begun.TheVariants.{Quote, Bullet, Enumerator, Field, OptionItem, Doctest, Line, Grid, Simple, Adornment, Text}
+use Rattle.rst_markup_blocks.specs.declared.begun.Begun.TheVariants.{Blank, Quote, Bullet, Enumerator, Field, OptionItem, Doctest, Line, Grid, Simple, Adornment, Text}
+use Rattle.rst_markup_blocks.specs.Begun.{IsBegun}
+use Rattle.rst_markup_blocks.specs.Lines.{lines_while}
+use Rattle.rst_markup_blocks.specs.declared.kind.Kind.TheVariants as kinds
+use Rattle.rst_markup_blocks.specs.declared.lines.LineTest.TheVariants.{Blank as BlankTest}
+use Rattle.rst_markup_blocks.proofs.RowLemmas.{row_at}
+use Rattle.rst_block_state.proofs.Changes.{kept_moved}
 use Rattle.rst_block_state.proofs.NextConstructs.{blank_reads, next_of}
-use Rattle.rst_block_body.proofs.StepsPaid.{blank_taken, construct_taken, step_taken, text_taken, markup_filled, grid_found, simple_found}
+use Rattle.rst_block_body.proofs.StepsPaid.{blanks_taken, construct_taken, step_taken, text_taken, markup_filled, grid_found, simple_found}
 use Rattle.rst_block_body.proofs.TableSteps.{grid_there}
 use Rattle.rst_block.proofs.step.step_at.Goals as goal
 
@@ -14,13 +20,26 @@ table-requires-clause-table c = grid_there (block_of c.args.view.now) c.args.lev
 pub text_line-requires-clause-text : goal.text_line-requires-clause-text
 text_line-requires-clause-text c = rw c.new.ensures.items (next_of Text c.args.level.now (block_of c.args.view.now) c.in-Text.ensures.begun tt)
 
-pub returns-in-Blank-clause-read : goal.returns-in-Blank-clause-read
-returns-in-Blank-clause-read c =
-    blank_reads (block_of c.args.view.now) c.args.pass.now.numbers c.in-Blank.ensures.begun c.go_to.ensures.moved (c.go_to.ensures.there (omega arith))
+-- a line that is blank is passed
+blank_some : (X : Block) → 1 ≤ length X → IsBegun X Blank → 1 ≤ lines_while BlankTest X
+unfolding lines_while
+blank_some [] some h = absurd (omega arith)
+blank_some (l ∷ ls) some h = rw (row_at kinds.Blank (l ∷ ls) h.kind) (omega arith)
 
-pub returns-in-Blank-clause-paid : goal.returns-in-Blank-clause-paid
-returns-in-Blank-clause-paid c =
-    blank_taken (block_of c.args.view.now) c.requires.inside c.in-Blank.ensures.begun c.go_to.ensures.moved (c.go_to.ensures.there (omega arith)) c.begun_at.ensures.low c.begun_at.ensures.looks
+pub returns-in-Blank : goal.returns-in-Blank
+returns-in-Blank c =
+    let B : Block = block_of c.args.view.now in
+    let at = c.args.level.now.at in
+    let some = blank_some (drop at B) (omega (arith, length-drop at B)) c.in-Blank.ensures.begun in
+    let later : at < c.lines_end.result = omega (arith, c.lines_end.ensures.end) in
+    let there = c.go_to.ensures.there later in
+    record {
+      step = c.go_to.ensures.later;
+      kept = kept_moved c.go_to.ensures.moved c.requires.placed;
+      read = blank_reads B c.args.pass.now.numbers c.go_to.ensures.moved (omega (arith, there)) (there ∙ c.lines_end.ensures.end);
+      paid = blanks_taken B (omega (arith, there)) (omega (arith, there, c.lines_end.ensures.within)) (there ∙ c.lines_end.ensures.end) c.go_to.ensures.moved
+          c.begun_at.ensures.looks (omega (arith, c.begun_at.ensures.low)) c.lines_end.ensures.few c.lines_end.ensures.low;
+    }
 
 pub returns-in-Quote-clause-paid : goal.returns-in-Quote-clause-paid
 returns-in-Quote-clause-paid c = step_taken Quote _ _ _ _ _ _ c.block_quote.result c.requires.inside c.in-Quote.ensures.begun tt c.begun_at.ensures.low c.begun_at.ensures.looks c.block_quote.ensures.paid

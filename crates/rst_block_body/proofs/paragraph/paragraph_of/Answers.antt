@@ -33,13 +33,13 @@ pub returns-clause-read : goal.returns-clause-read
 returns-clause-read c =
     let B : Block = block_of c.args.view.now in
     let t : List ℕ = chars c.args.text.now in
-    let u : List ℕ = chars c.as_str.result.now in
+    let u : List ℕ = chars c.announced.result.now in
     let at : ℕ = c.args.level.now.at in
     let end : ℕ = c.args.end in
     let colons : ends_in_colons (chars c.args.text.now) ≡ true = sym c.ends_in_colons.ensures ∙ (let p : c.ends_in_colons.result ≡ true = search rules in p) in
     let read = c.in_ok-put_paragraph-2.ensures.read in
     let L : List Node = literal_nodes (first_number (drop (end - 1) B)) (drop end B) in
-    let given = between_colons t u at end c.args.pass.now.numbers c.put_paragraph-2.new.pass.numbers B read.more colons (ap chars c.as_str.ensures.value ∙ c.in_ok-shown.ensures) c.requires.behind read.given
+    let given = between_colons t u at end c.args.pass.now.numbers c.put_paragraph-2.new.pass.numbers B read.more colons c.announced.ensures c.requires.behind read.given
     ∙ ap (λ k. Ok (read.more ++ L, k)) (sym c.literal.ensures.numbers) in
     gives_map _ (λ _. ReadsNodes (paragraph_between t at end B c.args.pass.now.numbers) c.args.level.now c.literal.new.level (paragraph_end t end B) c.literal.new.pass.numbers) c.literal.result c.literal.ensures.gone
     (λ _ g. record { more = read.more ++ L; given = given; gone = more_as refl (end_colons t end B colons) (more_then read.gone g) })

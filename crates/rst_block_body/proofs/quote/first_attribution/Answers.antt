@@ -4,24 +4,28 @@ use Rattle.rst_text.specs.Block.{Block}
 use Rattle.rst_text.specs.Shown.{block_of}
 use Rattle.rst_markup_blocks.specs.Lines.{lines_while}
 use Rattle.rst_markup_blocks.specs.declared.lines.LineTest.TheVariants.{Filled}
-use Rattle.rst_block_body.proofs.AttributionsFound.{Unfound-start, Unfound-step, Unfound-found, Unfound-blank, Unfound-end, attribution_end}
+use Rattle.rst_block_body.proofs.AttributionsFound.{Unfound-start, Unfound-step, Unfound-found, Unfound-blank, Unfound-end, behind_blank, attribution_end}
 use Rattle.rst_block_body.proofs.quote.first_attribution.Goals as goal
 
 pub loop-end-init : goal.loop-end-init
 loop-end-init c = record {
   within = c.lines_end-end.ensures.within;
   looks = omega (arith, c.lines_end-end.ensures.few, c.lines_end-end.ensures.end);
-  low = omega (arith, c.lines_end-end.ensures.low);
+  low = omega (arith, c.lines_end-end.ensures.low, c.lines_end-end.ensures.end);
   unfound = Unfound-start (block_of c.args.lines.now) c.lines_end-end.result c.lines_end-end.ensures.end;
 }
 
 pub returns-in-Some-clause-first : goal.returns-in-Some-clause-first
 returns-in-Some-clause-first c =
-    Unfound-found (block_of c.args.lines.now) c.loop-end.end c.lines_end-place.result c.in-Some.found c.loop-end.invariant.unfound c.lines_end-place.ensures.end (omega arith) c.in-Some.ensures.attribution
+    let B : Block = block_of c.args.lines.now in
+    let place = behind_blank B c.loop-end.end c.lines_end-place.result c.loop-end.invariant.unfound (omega arith) c.lines_end-place.ensures.end in
+    Unfound-found B c.loop-end.end c.lines_end-place.result c.in-Some.found c.loop-end.invariant.unfound place (omega arith) c.in-Some.ensures.attribution
 
 pub returns-then-place-len-clause-first : goal.returns-then-place-len-clause-first
 returns-then-place-len-clause-first c =
-    Unfound-blank (block_of c.args.lines.now) c.loop-end.end c.lines_end-place.result c.loop-end.invariant.unfound c.lines_end-place.ensures.end (omega arith)
+    let B : Block = block_of c.args.lines.now in
+    let place = behind_blank B c.loop-end.end c.lines_end-place.result c.loop-end.invariant.unfound (omega arith) c.lines_end-place.ensures.end in
+    Unfound-blank B c.loop-end.end c.lines_end-place.result c.loop-end.invariant.unfound place (omega arith)
 
 pub returns-clause-first : goal.returns-clause-first
 returns-clause-first c = Unfound-end (block_of c.args.lines.now) c.loop-end.end c.loop-end.invariant.unfound (omega arith)
@@ -30,14 +34,27 @@ pub loop-end-preserved : goal.loop-end-preserved
 loop-end-preserved c =
     let B : Block = block_of c.args.lines.now in
     let below : lines_while Filled (drop 1 (drop c.lines_end-place.result B)) ≡ lines_while Filled (drop (c.lines_end-place.result + 1) B) = ap (lines_while Filled) (drop-drop 1 c.lines_end-place.result B) in
+    let place = behind_blank B c.loop-end.end c.lines_end-place.result c.loop-end.invariant.unfound (omega arith) c.lines_end-place.ensures.end in
     record {
       within = c.lines_end-end-in-None.ensures.within;
-      looks = omega (arith, below, c.lines_end-place.ensures.end, c.lines_end-place.ensures.few, c.attribution_at.ensures.looks, c.lines_end-end-in-None.ensures.end, c.lines_end-end-in-None.ensures.few, c.loop-end.invariant.looks);
-      low = omega (arith, c.lines_end-place.ensures.low, c.attribution_at.ensures.low, c.lines_end-end-in-None.ensures.low, c.loop-end.invariant.low);
-      unfound = Unfound-step B c.loop-end.end c.lines_end-place.result c.lines_end-end-in-None.result c.loop-end.invariant.unfound c.lines_end-place.ensures.end (omega arith) (length-drop (c.loop-end.end + 1) B)
+      looks = omega (arith, below, place, c.lines_end-place.ensures.end, c.lines_end-place.ensures.few, c.attribution_at.ensures.looks, c.lines_end-end-in-None.ensures.end, c.lines_end-end-in-None.ensures.few, c.loop-end.invariant.looks);
+      low = omega (arith, c.lines_end-place.ensures.end, c.lines_end-place.ensures.low, c.attribution_at.ensures.low, c.lines_end-end-in-None.ensures.end, c.lines_end-end-in-None.ensures.low, c.loop-end.invariant.low);
+      unfound = Unfound-step B c.loop-end.end c.lines_end-place.result c.lines_end-end-in-None.result c.loop-end.invariant.unfound place (omega arith) (length-drop (c.loop-end.end + 1) B)
           c.in-None.ensures.attribution c.lines_end-end-in-None.ensures.end;
     }
 
+pub returns-in-Some-clause-place : goal.returns-in-Some-clause-place
+returns-in-Some-clause-place c =
+    let B : Block = block_of c.args.lines.now in
+    let place = behind_blank B c.loop-end.end c.lines_end-place.result c.loop-end.invariant.unfound (omega arith) c.lines_end-place.ensures.end in
+    (omega (arith, place), omega (arith, attribution_end c.lines_end-place.result (drop c.lines_end-place.result B) c.in-Some.found c.in-Some.ensures.attribution))
+
 pub returns-in-Some-clause-through : goal.returns-in-Some-clause-through
 returns-in-Some-clause-through c =
-    omega (arith, c.lines_end-place.ensures.end, c.lines_end-place.ensures.few, c.attribution_at.ensures.looks, c.loop-end.invariant.looks, attribution_end c.lines_end-place.result (drop c.lines_end-place.result (block_of c.args.lines.now)) c.in-Some.found c.in-Some.ensures.attribution)
+    let B : Block = block_of c.args.lines.now in
+    let place = behind_blank B c.loop-end.end c.lines_end-place.result c.loop-end.invariant.unfound (omega arith) c.lines_end-place.ensures.end in
+    omega (arith, place, c.lines_end-place.ensures.end, c.lines_end-place.ensures.few, c.attribution_at.ensures.looks, c.loop-end.invariant.looks, attribution_end c.lines_end-place.result (drop c.lines_end-place.result B) c.in-Some.found c.in-Some.ensures.attribution)
+
+pub returns-in-Some-clause-each : goal.returns-in-Some-clause-each
+returns-in-Some-clause-each c =
+    omega (arith, c.lines_end-place.ensures.end, c.lines_end-place.ensures.low, c.in-Some.ensures.each, c.loop-end.invariant.low, attribution_end c.lines_end-place.result (drop c.lines_end-place.result (block_of c.args.lines.now)) c.in-Some.found c.in-Some.ensures.attribution)

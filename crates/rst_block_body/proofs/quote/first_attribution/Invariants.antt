@@ -8,7 +8,7 @@ abbrev pub invariant-loop-end : goal.invariant-loop-end
 invariant-loop-end l = record {
   within : l.end ≤ length (block_of l.fn.lines);
   looks : l.looks ≤ l.fn.looks + 5 * l.end + 1;
-  low : capped l.fn.looks ≤ l.looks;
+  low : capped (l.fn.looks + l.end) ≤ l.looks;
   unfound : Unfound (block_of l.fn.lines) l.end;
 }
 

@@ -58,7 +58,7 @@ returns-in_ok-attribution-in-Some-clause-kept c = kept_moved c.go_to-in-Some.ens
 pub returns-in-None-clause-paid : goal.returns-in-None-clause-paid
 returns-in-None-clause-paid c =
     plain_paid c.args.level.now c.go_to.new.self (block_of c.args.view.now) c.args.quote c.number_at-line.result _ _ (block_of c.inside-lines.result) c.inside-lines.ensures.block c.in-None.ensures.first
-    c.inside-lines.ensures.lines c.requires.filled c.go_to.ensures.moved (c.go_to.ensures.there (omega arith)) c.in-None.ensures.all c.first_attribution.ensures.low
+    c.inside-lines.ensures.lines c.requires.filled c.go_to.ensures.moved (c.go_to.ensures.there (omega arith)) c.in-None.ensures.all (omega (arith, c.in-None.ensures.low))
 
 pub returns-in_ok-attribution-in-Some-clause-paid : goal.returns-in_ok-attribution-in-Some-clause-paid
 returns-in_ok-attribution-in-Some-clause-paid c =
@@ -67,5 +67,5 @@ returns-in_ok-attribution-in-Some-clause-paid c =
     attributed_paid c.args.level.now c.go_to-in-Some.new.self (block_of c.args.view.now) quote c.in-Some.place c.lines_end-next.result c.number_at-line.result _ _ _ _ c.in-Some.found
     c.in_ok-attribution-in-Some.attribution c.rest_of.result (block_of c.inside-lines.result) c.rest_of.ensures c.inside-lines.ensures.block
     c.in-Some.ensures.first c.lines_end-next.ensures.end c.inside-lines.ensures.lines c.requires.filled c.requires.block.within c.in-Some.ensures.place.0
-    c.go_to-in-Some.ensures.moved (c.go_to-in-Some.ensures.there behind) c.in-Some.ensures.through c.first_attribution.ensures.low c.attribution_text.ensures.most c.in_ok-made-in-Some.ensures.each
+    c.go_to-in-Some.ensures.moved (c.go_to-in-Some.ensures.there behind) c.in-Some.ensures.through (omega (arith, c.in-Some.ensures.each)) c.attribution_text.ensures.most c.in_ok-made-in-Some.ensures.each
     c.lines_end-next.ensures.few c.lines_end-next.ensures.low

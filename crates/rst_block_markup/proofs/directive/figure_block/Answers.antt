@@ -1,40 +1,38 @@
-use Rattle.std.proofs.Common.{List, Ok, drop, arith, refl, ap, ◌∙◌}
-use Rattle.std.specs.Prelude.{string_bytes}
+use Rattle.std.proofs.Common.{◌-◌, List, Ok, drop, arith, refl, ap, ◌∙◌}
 use Rattle.rst_text.specs.Block.{Block, first_number}
 use Rattle.rst_text.specs.Shown.{block_of}
 use Rattle.rst_tree.specs.declared.node.Node.{Node}
 use Rattle.rst_markup_directives.specs.Options.{choices_in}
 use Rattle.rst_block_state.specs.Figures.{caption_error, figure_nodes}
 use Rattle.rst_block_markup.specs.MarkupSteps.{read_of, reads_with}
-use Rattle.rst_block_state.specs.Meanings.{comes, reads_from, within_at}
+use Rattle.rst_block_state.specs.Meanings.{comes, within_at}
 use Rattle.rst_block_state.specs.Numbered.{Numbered}
 use Rattle.rst_block_state.specs.Texts.{source_of}
-use Rattle.rst_block_state.specs.declared.waits.OpenFigure.{OpenFigure}
 use Rattle.rst_block_state.specs.declared.waits.Waits.TheVariants.{Figure}
 use Rattle.rst_block_markup.proofs.DirectiveReads.{figure_is}
-use Rattle.rst_block_markup.proofs.DirectivesPaid.{opened_within}
+use Rattle.rst_block_markup.proofs.DirectivesPaid.{opened_later}
 use Rattle.rst_block_markup.proofs.MarkupReads.{content_comes}
 use Rattle.rst_block_state.proofs.NextConstructs.{span_to}
 use Rattle.rst_block_markup.proofs.directive.figure_block.Goals as goal
 
 pub returns-clause-read : goal.returns-clause-read
-returns-clause-read c =
+returns-clause-read c = λ n.
     let B = block_of c.args.view.now in
     let l = c.args.level.now in
     let f = c.args.found.now in
-    let n = c.args.pass.now.numbers in
     let new = c.opened.new.level in
     let line = c.number_at-line.result in
+    let at = first_number (drop l.at B) in
     let figure = c.in_ok-figure-2.figure in
-    let source = string_bytes c.in_ok-source.source in
+    let lines = source_of B (span_to l.at f.end) in
     ap (λ s. comes new B s n) c.opened.ensures.opened
-    ∙ content_comes B (Figure c.in_ok-new.field-0) f.content (figure_nodes figure (caption_error line source)) n c.opened.ensures.moved c.opened.ensures.at
-    (λ ns. ap (λ (o : OpenFigure). reads_from new B (figure_nodes o.figure (caption_error o.line (string_bytes o.source)) ns) new.at) c.in_ok-new.ensures.ok)
+    ∙ content_comes B (Figure figure l.at f.end) f.content (figure_nodes figure (caption_error at lines)) n c.opened.ensures.moved c.opened.ensures.at (λ ns. refl)
     ∙ ap (λ (read : Numbered (List Node)). reads_with l B read f.end n)
-    (figure_is (within_at l.depth) B (read_of f) c.args.uri.now (source_of B (span_to l.at f.end)) source line (first_number (drop l.at B)) c.as_slice-options.result.now c.in_ok-figure.field-0 c.in_ok-shown.shown figure
-    c.in_ok-alone.field-0.items c.in_ok-figure.ensures c.in_ok-shown.ensures c.in_ok-alone.ensures c.in_ok-figure-2.ensures (ap choices_in c.as_slice-options.ensures.value) c.number_at-line.ensures c.in_ok-source.ensures.bytes)
+    (figure_is (within_at l.depth) B (read_of f) c.args.uri.now lines line at c.as_slice-options.result.now c.in_ok-figure.field-0 c.in_ok-shown.shown figure
+    c.in_ok-alone.field-0.items c.in_ok-figure.ensures c.in_ok-shown.ensures c.in_ok-alone.ensures c.in_ok-figure-2.ensures (ap choices_in c.as_slice-options.ensures.value) c.number_at-line.ensures)
 
 pub returns-clause-paid : goal.returns-clause-paid
-returns-clause-paid c =
+returns-clause-paid c = λ looks.
     let B : Block = block_of c.args.view.now in
-    opened_within _ _ _ B _ _ _ _ _ (Ok c.opened.result) (omega (arith, c.in_ok-source.ensures.each)) (omega (arith, c.source.ensures.most)) refl (c.opened.ensures.paid B _ _)
+    let f = c.args.found.now in
+    opened_later _ (f.end - c.args.level.now.at) _ _ B _ _ _ looks looks (Ok c.opened.result) (omega arith) (omega arith) refl (c.opened.ensures.paid B looks looks)

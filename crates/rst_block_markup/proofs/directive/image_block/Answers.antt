@@ -16,27 +16,25 @@ use Rattle.rst_block_state.proofs.NextConstructs.{span_to}
 use Rattle.rst_block_markup.proofs.directive.image_block.Goals as goal
 
 pub returns-then-is_figure-clause-read : goal.returns-then-is_figure-clause-read
-returns-then-is_figure-clause-read c =
+returns-then-is_figure-clause-read c = λ n.
     let B = block_of c.args.view.now in
     let l = c.args.level.now in
     let f = c.args.found.now in
-    let n = c.args.pass.now.numbers in
     let t = c.args.uri.now in
     let line = first_number (drop l.at B) in
     let lines = source_of B (span_to l.at f.end) in
     keeps_as c.figure_block.result _ _ _
     (ap (λ (read : Numbered (List Node)). reads_with l B read f.end n) (figure_right f.name c.is_figure.result t (within_at l.depth) B line (read_of f) lines c.is_figure.ensures c.if-is_figure.true (encodes-chars t c.utf8.uri)))
-    c.figure_block.ensures.read
+    (c.figure_block.ensures.read n)
 
 pub returns-clause-step : goal.returns-clause-step
 returns-clause-step c = c.put.ensures.step (block_of c.args.view.now)
 
 pub returns-clause-read : goal.returns-clause-read
-returns-clause-read c =
+returns-clause-read c = λ n.
     let B = block_of c.args.view.now in
     let l = c.args.level.now in
     let f = c.args.found.now in
-    let n = c.args.pass.now.numbers in
     let t = c.args.uri.now in
     let line = first_number (drop l.at B) in
     let lines = source_of B (span_to l.at f.end) in
@@ -47,14 +45,14 @@ returns-clause-read c =
     (c.put.ensures.read B n)
 
 pub returns-then-is_figure-clause-paid : goal.returns-then-is_figure-clause-paid
-returns-then-is_figure-clause-paid c =
+returns-then-is_figure-clause-paid c = λ looks.
     let B : Block = block_of c.args.view.now in
     let f = c.args.found.now in
-    opened_after _ _ _ _ B _ _ _ _ _ _ c.figure_block.result (omega arith) (omega arith) (figure_content f.name c.is_figure.result (chars c.args.uri.now) B f.content c.is_figure.ensures c.if-is_figure.true)
-    c.figure_block.ensures.paid
+    opened_after _ _ _ _ B _ _ _ looks looks looks c.figure_block.result (omega arith) (omega arith) (figure_content f.name c.is_figure.result (chars c.args.uri.now) B f.content c.is_figure.ensures c.if-is_figure.true)
+    (c.figure_block.ensures.paid looks)
 
 pub returns-clause-paid : goal.returns-clause-paid
-returns-clause-paid c =
+returns-clause-paid c = λ looks.
     let B : Block = block_of c.args.view.now in
     let f = c.args.found.now in
     opened_within _ _ _ B _ _ _ _ _ c.put.result (omega arith) (omega arith) (image_content f.name c.is_figure.result (chars c.args.uri.now) B f.content c.is_figure.ensures c.if-is_figure.false) (c.put.ensures.paid B _ _)

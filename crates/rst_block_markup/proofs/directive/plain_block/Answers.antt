@@ -9,7 +9,7 @@ use Rattle.rst_block_state.specs.Numbered.{Numbered}
 use Rattle.rst_block_state.specs.Texts.{source_of}
 use Rattle.rst_block_state.proofs.Calls.{keeps_as}
 use Rattle.rst_block_markup.proofs.DirectiveReads.{code_right, plain_right, plain_comes}
-use Rattle.rst_block_markup.proofs.DirectivesPaid.{opened_within, code_content, plain_content}
+use Rattle.rst_block_markup.proofs.DirectivesPaid.{opened_later, code_content, plain_content}
 use Rattle.rst_block_state.proofs.PaidSteps.{opened_after}
 use Rattle.rst_block_state.proofs.NextConstructs.{span_to}
 use Rattle.rst_block_markup.proofs.directive.plain_block.Goals as goal
@@ -47,4 +47,4 @@ pub returns-clause-paid : goal.returns-clause-paid
 returns-clause-paid c =
     let B : Block = block_of c.args.view.now in
     let f = c.args.found.now in
-    opened_within _ _ _ B _ _ _ _ _ (Ok c.opened.result) (omega arith) (omega arith) (plain_content f.name c.is_code.result B f.content c.is_code.ensures c.if-is_code.false) (c.opened.ensures.paid B _ _)
+    opened_later _ 0 _ _ B _ _ _ _ _ (Ok c.opened.result) (omega arith) (omega arith) (plain_content f.name c.is_code.result B f.content c.is_code.ensures c.if-is_code.false) (c.opened.ensures.paid B _ _)

@@ -4,7 +4,7 @@ use Rattle.rst_text.specs.Shown.{block_of}
 use Rattle.rst_block_markup.specs.MarkupSteps.{read_of}
 use Rattle.rst_block_state.specs.Texts.{lines_in}
 use Rattle.rst_block_markup.proofs.DirectiveReads.{titled_comes}
-use Rattle.rst_block_markup.proofs.DirectivesPaid.{opened_within}
+use Rattle.rst_block_markup.proofs.DirectivesPaid.{opened_later}
 use Rattle.rst_block_markup.proofs.directive.titled_block.Goals as goal
 
 pub returns-clause-read : goal.returns-clause-read
@@ -18,4 +18,4 @@ returns-clause-read c =
 pub returns-clause-paid : goal.returns-clause-paid
 returns-clause-paid c =
     let B : Block = block_of c.args.view.now in
-    opened_within _ _ _ B _ _ _ _ _ (Ok c.opened.result) (omega (arith, c.in_ok-node.ensures.each)) (omega (arith, c.titled.ensures.most)) refl (c.opened.ensures.paid B _ _)
+    opened_later _ 0 _ _ B _ _ _ _ _ (Ok c.opened.result) (omega (arith, c.in_ok-node.ensures.each)) (omega (arith, c.titled.ensures.most)) refl (c.opened.ensures.paid B _ _)

@@ -1,8 +1,10 @@
-use Rattle.std.proofs.Common.{◌≡◌, ◌∙◌, ◌+◌, true, false, sym, drop, arith, rules}
+use Rattle.std.proofs.Common.{◌≡◌, ◌∙◌, ◌+◌, true, false, sym, drop, length-drop, arith, rules}
 use Rattle.rst_text.specs.Block.{Block, front_text}
 use Rattle.rst_text.specs.Shown.{block_of}
 use Rattle.rst_markup_blocks.specs.Lines.{passes, lines_while}
-use Rattle.rst_markup_blocks.proofs.LineLemmas.{while_more, while_stop, while_end, behind_while}
+use Rattle.rst_markup_blocks.specs.RowLaws.{while_le}
+use Rattle.rst_markup_blocks.specs.declared.lines.LineTest.TheVariants.{Blank}
+use Rattle.rst_markup_blocks.proofs.LineLemmas.{blanks_are, blanks_through, while_more, while_stop, while_end, behind_while}
 use Rattle.rst_markup_blocks.proofs.lines.lines_end.Goals as goal
 
 pub loop-i-preserved : goal.loop-i-preserved
@@ -50,3 +52,16 @@ returns-then-not-passes-clause-low c =
     let fails : passes c.args.test (front_text (drop c.loop-i.i B)) ≡ false = cc in
     let stop = while_stop c.loop-i.i c.args.test B (omega arith) fails in
     omega (arith, stop.0, c.loop-i.invariant.place, c.loop-i.invariant.low, c.line.ensures.looks)
+
+pub returns-in-Blank : goal.returns-in-Blank
+returns-in-Blank c =
+    let B : Block = block_of c.args.view.now in
+    let Y : Block = drop c.args.from B in
+    let are = blanks_are Y in
+    rw c.in-Blank.is (record {
+      end = omega (arith, c.blank_end.ensures.end, are.0);
+      within = omega (arith, c.blank_end.ensures.end, are.0, while_le Blank Y, length-drop c.args.from B);
+      few = omega (arith, c.blank_end.ensures.looks, are.1);
+      looks = omega (arith, c.blank_end.ensures.looks, blanks_through Y);
+      low = omega (arith, c.blank_end.ensures.looks, blanks_through Y);
+    })

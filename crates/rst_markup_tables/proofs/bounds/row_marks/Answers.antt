@@ -15,7 +15,7 @@ mark_rows-requires-clause-high c =
 pub mark_rows-requires-clause-within : goal.mark_rows-requires-clause-within
 mark_rows-requires-clause-within c =
     let d = drawn_at c.args.lines.now 0 0 c.args.rectangles.now c.requires.tiling.drawn c.loop-rectangle.rectangle-index (omega arith) (record { top = 0; left = 0; bottom = 0; right = 0 }) in
-    let inside = frame_within c.args.lines.now _ c.requires.even d.frame in
+    let inside = frame_within c.args.lines.now _ d.frame in
     omega (arith, inside.0, inside.1, ap length c.deref_mut.ensures.value, c.loop-rectangle.invariant.size)
 
 pub loop-rectangle-preserved : goal.loop-rectangle-preserved

@@ -1,6 +1,8 @@
 use Rattle.std.proofs.Common.{◌≡◌, drop, None}
 use Rattle.rst_text.proofs.Least.{least_from}
+use Rattle.rst_text.specs.Source.{texts_with}
+use Rattle.rst_markup_tables.specs.Cells.{as_lines}
 use Rattle.rst_markup_tables.proofs.cells.least_indent.Given as goal
 
-abbrev pub invariant-loop-line : goal.invariant-loop-line
-invariant-loop-line l = least_from l.least (drop l.line-index l.lines) ≡ least_from None l.lines
+abbrev pub invariant-loop-text : goal.invariant-loop-text
+invariant-loop-text l = least_from l.least (as_lines (texts_with (drop l.text-index l.texts))) ≡ least_from None (as_lines (texts_with l.texts))

@@ -1,11 +1,7 @@
-use Rattle.std.proofs.Common.{◌≡◌, ◌++◌, true, drop, map}
-use Rattle.rst_text.specs.Block.{shorten}
-use Rattle.rst_text.specs.Lines.{are_lines}
-use Rattle.rst_text.specs.Source.{block_with}
+use Rattle.std.proofs.Common.{◌≡◌, ◌++◌, drop}
+use Rattle.rst_text.specs.Source.{texts_with}
+use Rattle.rst_markup_tables.proofs.Texts.{drop_each}
 use Rattle.rst_markup_tables.proofs.cells.shortened.Given as goal
 
-abbrev pub invariant-loop-line : goal.invariant-loop-line
-invariant-loop-line l = record {
-  texts : block_with l.short.items ++ map (shorten l.n) (drop l.line-index l.lines) ≡ map (shorten l.n) l.lines;
-  lines : are_lines (block_with l.short.items) ≡ true;
-}
+abbrev pub invariant-loop-k : goal.invariant-loop-k
+invariant-loop-k l = texts_with l.short.items ++ drop_each l.n (texts_with (drop l.k-index l.texts)) ≡ drop_each l.n (texts_with l.texts)

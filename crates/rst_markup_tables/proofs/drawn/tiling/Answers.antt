@@ -26,7 +26,7 @@ returns-in_default c =
 pub fill-requires : goal.fill-requires
 fill-requires c =
     let G = c.args.rows.now in
-    let inside = frame_within G c.in-Some.rectangle c.requires c.in-Some.ensures.0.frame in
+    let inside = frame_within G c.in-Some.rectangle c.in-Some.ensures.0.frame in
     let right : c.in-Some.rectangle.right < width G = inside.1 in
     let same = ap length c.deref_mut.ensures.value in
     record { wide = c.in-Some.ensures.0.frame.wide; within = omega (arith, same) }
@@ -37,7 +37,7 @@ returns-then-not-fill c =
     let high : c.loop-top.top + 1 < length G = omega arith in
     let wide : c.loop-left.left < length c.loop-left.depths.items = omega arith in
     let had : c.index.result.now ≡ get_or c.loop-left.depths.items c.loop-left.left 0 = get_or_read c.loop-left.depths.items _ _ wide c.index.ensures 0 in
-    overlap G c.loop-top.top c.loop-left.left c.loop-left.depths.items c.fill.new.depths c.loop-left.rectangles.items c.in-Some.rectangle c.requires c.loop-left.invariant high wide (sym had ∙ c.if-index-top.false)
+    overlap G c.loop-top.top c.loop-left.left c.loop-left.depths.items c.fill.new.depths c.loop-left.rectangles.items c.in-Some.rectangle c.loop-left.invariant high wide (sym had ∙ c.if-index-top.false)
     c.in-Some.ensures.0 c.in-Some.ensures.1 c.in-Some.ensures.2 (subst (λ (d : List ℕ). Fills c.in-Some.rectangle d c.fill.new.depths false) c.deref_mut.ensures.value c.if-not-fill.ensures)
 
 pub loop-left-preserved : goal.loop-left-preserved
@@ -47,7 +47,7 @@ loop-left-preserved c =
     let wide : c.loop-left.left < length c.loop-left.depths.items = omega arith in
     let had : c.index.result.now ≡ get_or c.loop-left.depths.items c.loop-left.left 0 = get_or_read c.loop-left.depths.items _ _ wide c.index.ensures 0 in
     let filled : Fills c.in-Some.rectangle c.loop-left.depths.items c.fill.new.depths true = subst (λ (d : List ℕ). Fills c.in-Some.rectangle d c.fill.new.depths true) c.deref_mut.ensures.value c.if-not-fill.ensures in
-    let new = add G c.loop-top.top c.loop-left.left c.loop-left.depths.items c.fill.new.depths c.loop-left.rectangles.items c.in-Some.rectangle c.requires c.loop-left.invariant high wide (sym had ∙ c.if-index-top.false)
+    let new = add G c.loop-top.top c.loop-left.left c.loop-left.depths.items c.fill.new.depths c.loop-left.rectangles.items c.in-Some.rectangle c.loop-left.invariant high wide (sym had ∙ c.if-index-top.false)
     c.in-Some.ensures.0 c.in-Some.ensures.1 c.in-Some.ensures.2 filled in
     let depths = whole c.loop-left.depths.len c.fill.new.depths (drop (length c.fill.new.depths) c.loop-left.depths.items) (omega (arith, filled.0)) in
     subst (λ d. Stands G c.loop-top.top (c.loop-left.left + 1) d c.push.new.self.items) (sym depths)
@@ -55,7 +55,7 @@ loop-left-preserved c =
 
 pub loop-top-preserved : goal.loop-top-preserved
 loop-top-preserved c =
-    next_row c.args.rows.now c.loop-top.top c.loop-left.left c.loop-left.depths.items c.loop-left.rectangles.items c.requires c.loop-left.invariant (omega arith)
+    next_row c.args.rows.now c.loop-top.top c.loop-left.left c.loop-left.depths.items c.loop-left.rectangles.items c.loop-left.invariant (omega arith)
 
 pub returns : goal.returns
 returns c =

@@ -20,7 +20,7 @@ cell-requires-clause-wide c =
 pub cell-requires-clause-within : goal.cell-requires-clause-within
 cell-requires-clause-within c =
     let d = drawn_at c.args.lines.now 0 0 c.args.rectangles.now c.requires.tiling.drawn c.loop-rectangle.rectangle-index (omega arith) (record { top = 0; left = 0; bottom = 0; right = 0 }) in
-    (frame_within c.args.lines.now _ c.requires.even d.frame).0
+    (frame_within c.args.lines.now _ d.frame).0
 
 pub loop-rectangle-preserved : goal.loop-rectangle-preserved
 loop-rectangle-preserved c =

@@ -1,5 +1,5 @@
 use Rattle.std.proofs.Common.{◌≡◌, ◌+◌, ◌-◌, ◌∙◌, ◌++◌, ◌&&◌, true, false, cond, leb, Some, Option, ℕ, List, ap, sym, subst, drop, length-drop, arith}
-use Rattle.rst_text.specs.Block.{Block, front_text}
+use Rattle.rst_text.specs.Block.{Block, first_number, front_text}
 use Rattle.rst_text.specs.Places.{IsLast}
 use Rattle.rst_text.specs.Shown.{block_of}
 use Rattle.rst_markup_lines.specs.Border.{is_grid_border}
@@ -9,7 +9,10 @@ use Rattle.rst_markup_blocks.specs.TableRows.{is_border_at}
 use Rattle.rst_markup_blocks.specs.Lines.{lines_while}
 use Rattle.rst_markup_blocks.proofs.LineLemmas.{while_more, while_stop, while_end}
 use Rattle.rst_markup_blocks.proofs.TableLemmas.{grid_bottom-is}
+use Rattle.rst_markup_tables.specs.Places.{Row, no_row}
+use Rattle.rst_markup_tables.proofs.Begins.{pushed, pushed_size}
 use Rattle.rst_markup_tables.proofs.Lists.{onto}
+use Rattle.rst_markup_tables.proofs.Numbered.{numbered-from}
 use Rattle.rst_markup_tables.proofs.GridLemmas.{drawn_rows, drawn-row, drawn-none, border-more, scan-over}
 use Rattle.rst_markup_tables.proofs.grid_lines.drawn_lines.Goals as goal
 
@@ -53,13 +56,17 @@ loop-k-preserved c =
     let B : Block = block_of c.args.view.now in
     let n : ℕ = c.loop-k.k - c.args.i in
     let drawn : is_drawn (front_text (drop c.loop-k.k B)) ≡ true = sym (c.is_drawn.ensures ∙ ap is_drawn c.line-text.ensures.text) ∙ c.if-not-is_drawn.false in
-    let rows = drawn-row B c.loop-k.k c.in_ok-line.line c.in_ok-line.ensures drawn in
+    let rows = drawn-row B c.loop-k.k c.in_ok-line.line c.in_ok-line.ensures.line drawn in
     let more = while_more c.loop-k.k Drawn B (omega arith) drawn in
     let step = border-more B c.args.i c.loop-k.k c.loop-k.bottom (omega arith) c.loop-k.invariant.last in
+    let size = pushed_size c.loop-k.lines.items c.push.new.self.items c.in_ok-line.line n c.in_ok-push.ensures.items c.loop-k.invariant.size in
     let new = c.with_border-bottom.ensures ∙ ap (λ (t : List ℕ). cond (leb 2 n && is_grid_border t) (Some n) c.loop-k.bottom) c.line-text.ensures.text in
     record {
       lines = onto _ _ _ _ _ c.in_ok-push.ensures.items (sym (ap (λ l. c.loop-k.lines.items ++ l) rows) ∙ c.loop-k.invariant.lines);
       among = sym more ∙ c.loop-k.invariant.among;
+      numbered = λ j inside. pushed (λ i (r : Row). r.number ≡ first_number B + c.args.i + i) c.loop-k.lines.items c.push.new.self.items c.in_ok-line.line no_row n c.in_ok-push.ensures.items c.loop-k.invariant.size
+          (λ i less. c.loop-k.invariant.numbered i (omega (arith, less, c.loop-k.invariant.size))) (omega (arith, c.in_ok-line.ensures.number)) j (omega (arith, inside, size));
+      size = omega (arith, size);
       last = subst (λ (o : Option ℕ). IsLast (is_border_at (drop c.args.i B)) 2 (c.loop-k.k + 1 - c.args.i) o) (sym new) step;
       looks = omega (arith, c.loop-k.invariant.looks, c.line-text.ensures.looks);
       low = omega (arith, c.loop-k.invariant.low, c.line-text.ensures.looks);
@@ -89,3 +96,9 @@ pub returns-clause-low : goal.returns-clause-low
 returns-clause-low c =
     let B : Block = block_of c.args.view.now in
     omega (arith, while_end c.loop-k.k Drawn B (omega arith), c.loop-k.invariant.among, c.loop-k.invariant.low)
+
+pub returns-then-not-is_drawn-clause-numbered : goal.returns-then-not-is_drawn-clause-numbered
+returns-then-not-is_drawn-clause-numbered c = numbered-from _ _ c.loop-k.invariant.numbered
+
+pub returns-clause-numbered : goal.returns-clause-numbered
+returns-clause-numbered c = numbered-from _ _ c.loop-k.invariant.numbered

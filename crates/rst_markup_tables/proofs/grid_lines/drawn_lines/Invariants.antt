@@ -1,4 +1,6 @@
-use Rattle.std.proofs.Common.{◌≡◌, ◌++◌, ◌+◌, ◌-◌, ◌≤◌, drop}
+use Rattle.std.proofs.Common.{◌≡◌, ℕ, ◌++◌, ◌+◌, ◌-◌, ◌≤◌, ◌<◌, drop, length, get_or}
+use Rattle.rst_text.specs.Block.{first_number}
+use Rattle.rst_markup_tables.specs.Places.{no_row}
 use Rattle.rst_text.specs.Places.{IsLast}
 use Rattle.rst_text.specs.Looked.{capped}
 use Rattle.rst_text.specs.Shown.{block_of}
@@ -12,6 +14,8 @@ abbrev pub invariant-loop-k : goal.invariant-loop-k
 invariant-loop-k l = record {
   lines : l.lines.items ++ drawn_rows (drop l.k (block_of l.view)) ≡ drawn_rows (drop l.i (block_of l.view));
   among : l.k + lines_while Drawn (drop l.k (block_of l.view)) ≡ l.i + lines_while Drawn (drop l.i (block_of l.view));
+  numbered : (n : ℕ) → n < length l.lines.items → (get_or l.lines.items n no_row).number ≡ first_number (block_of l.view) + l.i + n;
+  size : length l.lines.items ≡ l.k - l.i;
   last : IsLast (is_border_at (drop l.i (block_of l.view))) 2 (l.k - l.i) l.bottom;
   looks : l.looks ≤ l.fn.looks + (l.k - l.i);
   low : capped (l.fn.looks + (l.k - l.i)) ≤ l.looks;

@@ -1,4 +1,4 @@
-use Rattle.std.proofs.Common.{◌∙◌, ◌<◌, sym, drop, length, length-drop, arith, refl, None, Some}
+use Rattle.std.proofs.Common.{◌∙◌, ◌+◌, ◌<◌, sym, subst, drop, length, length-drop, arith, refl, None, Some}
 use Rattle.std.proofs.lemmas.List.{take_all}
 use Rattle.rst_text.specs.Block.{Block}
 use Rattle.rst_text.specs.Shown.{block_of}
@@ -7,7 +7,8 @@ use Rattle.rst_markup_blocks.specs.Lines.{lines_while}
 use Rattle.rst_markup_blocks.specs.RowLaws.{while_le}
 use Rattle.rst_markup_blocks.specs.TableLaws.{grid_size_le}
 use Rattle.rst_markup_blocks.proofs.TableLemmas.{grid_bottom-below}
-use Rattle.rst_markup_tables.specs.Places.{Grid}
+use Rattle.rst_markup_tables.specs.Places.{Grid, AreNumbered}
+use Rattle.rst_markup_tables.proofs.Numbered.{numbered-take}
 use Rattle.rst_markup_tables.proofs.GridLemmas.{table_rows-are}
 use Rattle.rst_markup_tables.proofs.grid_lines.grid_lines.Goals as goal
 
@@ -34,3 +35,6 @@ returns-in_default-clause-low c = omega (arith, grid_size_le (drop c.args.i (blo
 
 pub returns-clause-low : goal.returns-clause-low
 returns-clause-low c = omega (arith, grid_size_le (drop c.args.i (block_of c.args.view.now)), c.in_ok-drawn.ensures.low)
+
+pub returns-clause-numbered : goal.returns-clause-numbered
+returns-clause-numbered c = subst AreNumbered (sym c.truncate.ensures.items) (numbered-take (c.in-Some.k + 1) c.in_ok-drawn.drawn.lines.items c.in_ok-drawn.ensures.numbered)

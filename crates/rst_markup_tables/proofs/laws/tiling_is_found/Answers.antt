@@ -3,6 +3,6 @@ use Rattle.rst_markup_tables.proofs.laws.tiling_is_found.Goals as goal
 
 pub returns : goal.returns
 returns c = record {
-  tiling = λ G even. tiling_of-tiles G even;
+  tiling = λ G. tiling_of-tiles G;
   table = λ B i result h. grid_table-is B i result h;
 }

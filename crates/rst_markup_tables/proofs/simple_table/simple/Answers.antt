@@ -19,7 +19,7 @@ returns-in-Some-clause-table c =
     let all : c.len-2.result - c.args.i ≡ length X = omega (arith, length-drop c.args.i B) in
     let size = table-size X c.size-size.result (c.len-2.result - c.args.i) c.simple_borders-borders.result.head c.simple_borders-borders.result.bottom c.size-size.ensures all c.simple_borders-borders.ensures.head c.simple_borders-borders.ensures.bottom in
     let fault : simple_fault X T ≡ Some c.in-Some.detail = ap (λ o. option_or o (lines_fault T)) (ap (border_fault X) (sym c.simple_borders-borders.ensures.bottom) ∙ sym c.in-Some.ensures.fault) in
-    c.malformed.ensures ∙ ap₂ (λ (n m : ℕ). malformed n c.args.i m c.in-Some.detail) c.number-line.ensures (size ∙ sym (rows-size (simple_size X) X (simple_size_le X)))
+    c.malformed.ensures ∙ ap₂ (λ (n m : ℕ). malformed n c.args.i m c.in-Some.detail) c.number-line.ensures.value (size ∙ sym (rows-size (simple_size X) X (simple_size_le X)))
     ∙ sym (ap (simple_by (first_number X) c.args.i (head_border X) T) fault)
 
 pub returns-in-Some-clause-end : goal.returns-in-Some-clause-end
@@ -67,7 +67,7 @@ returns-clause-table c =
     let lines : L ≡ T = c.deref.ensures.value ∙ c.in_ok-lines.ensures.lines ∙ ap (λ n. take n (drop c.args.i (rows_of B))) taken ∙ rows-taken B c.args.i (simple_size X) in
     let fault : simple_fault X T ≡ lines_fault T = ap (λ o. option_or o (lines_fault T)) (ap (border_fault X) (sym c.simple_borders-borders.ensures.bottom) ∙ sym c.in_default.ensures.fault) in
     c.in_ok-table.ensures
-    ∙ ap (λ n. simple_by n c.args.i c.simple_borders-borders.result.head L (lines_fault L)) c.number-line.ensures
+    ∙ ap (λ n. simple_by n c.args.i c.simple_borders-borders.result.head L (lines_fault L)) c.number-line.ensures.value
     ∙ ap (λ (h : Option ℕ). simple_by (first_number X) c.args.i h L (lines_fault L)) c.simple_borders-borders.ensures.head
     ∙ ap (λ (G : Grid). simple_by (first_number X) c.args.i (head_border X) G (lines_fault G)) lines
     ∙ sym (ap (simple_by (first_number X) c.args.i (head_border X) T) fault)

@@ -16,7 +16,7 @@ returns-clause-table c =
     let T : Grid = rows_of (take (grid_size X) X) in
     let rows = subst (λ (G : Grid). IsOfRows c.number.result c.args.i G (grid_fault c.in_ok-found.found.bottom G) c.in_ok-table.table) c.in_ok-found.ensures.lines c.in_ok-table.ensures in
     let bottom = subst (λ (o : Option ℕ). IsOfRows c.number.result c.args.i T (grid_fault o T) c.in_ok-table.table) c.in_ok-found.ensures.bottom rows in
-    subst (λ (n : ℕ). IsOfRows n c.args.i T (grid_fault (grid_bottom X) T) c.in_ok-table.table) c.number.ensures bottom
+    subst (λ (n : ℕ). IsOfRows n c.args.i T (grid_fault (grid_bottom X) T) c.in_ok-table.table) c.number.ensures.value bottom
 
 pub returns-clause-end : goal.returns-clause-end
 returns-clause-end c =

@@ -3,22 +3,8 @@ use Rattle.rst_markup_tables.specs.Places.{Grid}
 use Rattle.rst_markup_tables.specs.Drawn.{IsTiling, Tiles}
 use Rattle.rst_markup_tables.specs.GridTable.{row_fault, head_of, head_from, with_dashes, tiled_table}
 use Rattle.rst_markup_tables.specs.declared.drawn.Rectangle.{Rectangle}
-use Rattle.rst_markup_tables.proofs.TableLemmas.{even_from, with_tiling}
+use Rattle.rst_markup_tables.proofs.TableLemmas.{with_tiling}
 use Rattle.rst_markup_tables.proofs.table.grid_of_rows.Goals as goal
-
-pub tiling-requires : goal.tiling-requires
-tiling-requires c =
-    let T : Grid = c.args.lines.items in
-    let none : row_fault T ≡ None = sym (ap row_fault c.deref.ensures.value) ∙ sym c.row_fault.ensures ∙ c.in_default.is in
-    let head : c.head_from-head.result ≡ head_of T = c.head_from-head.ensures.value ∙ ap (λ (X : Grid). head_from X 0) c.deref-2.ensures.value in
-    even_from T c.deref-3.result.now none (c.deref-3.ensures.value ∙ c.in_ok-put_dashes.ensures ∙ ap (with_dashes T) head)
-
-pub tiled-requires-clause-even : goal.tiled-requires-clause-even
-tiled-requires-clause-even c =
-    let T : Grid = c.args.lines.items in
-    let none : row_fault T ≡ None = sym (ap row_fault c.deref.ensures.value) ∙ sym c.row_fault.ensures ∙ c.in_default.is in
-    let head : c.head_from-head.result ≡ head_of T = c.head_from-head.ensures.value ∙ ap (λ (X : Grid). head_from X 0) c.deref-2.ensures.value in
-    even_from T c.deref-4.result.now none (c.deref-4.ensures.value ∙ c.in_ok-put_dashes.ensures ∙ ap (with_dashes T) head)
 
 pub returns : goal.returns
 returns c =

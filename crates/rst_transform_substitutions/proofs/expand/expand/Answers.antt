@@ -10,9 +10,6 @@ returns-then-not-has c =
     let stays = stays_expanded before (c.requires.has c.if-not-has.true) in
     record { expanded = stays; kinds = no_new_expanded before before stays }
 
-pub expanded_in-requires : goal.expanded_in-requires
-expanded_in-requires c = c.new-outcomes.ensures c.in_ok-definitions.definitions
-
 pub returns : goal.returns
 returns c =
     let expands = c.in_ok-children.ensures.expanded in

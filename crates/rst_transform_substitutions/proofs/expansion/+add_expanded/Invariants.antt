@@ -1,6 +1,7 @@
-use Rattle.std.proofs.Common.{◌≡◌, ◌≤◌}
+use Rattle.std.proofs.Common.{◌≡◌, ◌≤◌, drop, true}
+use Rattle.rst_tree.specs.Nodes.{forest_of}
 use Rattle.rst_transform_substitutions.specs.Definitions.{found_by}
-use Rattle.rst_transform_substitutions.specs.Expansion.{behind, expanded, given}
+use Rattle.rst_transform_substitutions.specs.Expansion.{behind, expanded, given, left_of}
 use Rattle.rst_transform_substitutions.proofs.Expanding.{so_far}
 use Rattle.rst_transform_substitutions.proofs.expansion.+add_expanded.Given as goal
 
@@ -8,10 +9,12 @@ use Rattle.rst_transform_substitutions.proofs.expansion.+add_expanded.Given as g
 abbrev pub decreases-add_expanded : goal.decreases-add_expanded
 decreases-add_expanded l = l.progress.now.left
 
--- the nodes so far, with what those that are left come to, are those of all
+-- what is left of the nodes so far, and these with what those that are left come to, are those of all
 abbrev pub invariant-loop-node : goal.invariant-loop-node
 invariant-loop-node l = record {
-  nodes : so_far (given (found_by l.fn.definitions) l.fn.progress.path.items) l.nodes.items l.node-items l.node-index l.progress.left ≡
+  visits : left_of (expanded (given (found_by l.fn.definitions) l.fn.progress.path.items) (forest_of (drop l.node-index l.node-items)) l.progress.left) ≡
+      left_of (expanded (given (found_by l.fn.definitions) l.fn.progress.path.items) l.fn.content l.fn.progress.left);
+  nodes : l.fn.copies ≡ true → so_far (given (found_by l.fn.definitions) l.fn.progress.path.items) l.nodes.items l.node-items l.node-index l.progress.left ≡
       behind l.fn.nodes.items (expanded (given (found_by l.fn.definitions) l.fn.progress.path.items) l.fn.content l.fn.progress.left);
   path : l.progress.path.items ≡ l.fn.progress.path.items;
   left : l.progress.left ≤ l.initial.progress.left;

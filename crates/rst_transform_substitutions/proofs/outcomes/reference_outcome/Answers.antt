@@ -1,11 +1,10 @@
-use Rattle.rst_transform_substitutions.specs.Outcomes.{kept_of}
-use Rattle.rst_transform_substitutions.proofs.Remembering.{remembers-more}
+use Rattle.rst_transform_substitutions.specs.Outcomes.{GoesInto}
+use Rattle.rst_transform_substitutions.proofs.Leading.{gives_standing}
 use Rattle.rst_transform_substitutions.proofs.outcomes.reference_outcome.Goals as goal
 
-pub returns-in-Some-before-clause-came : goal.returns-in-Some-before-clause-came
-returns-in-Some-before-clause-came c =
-    c.requires c.in-Some.place (kept_of c.args.within c.in-Some-before.known) c.args.name.now (rw c.in-Some-before.is at c.in_ok-before.ensures) (rw c.in-Some.is at c.in_ok-entered.ensures)
-
-pub returns-clause-remembers : goal.returns-clause-remembers
-returns-clause-remembers c =
-    remembers-more c.args.definitions.now c.args.outcomes.now c.keep.new.self c.in-Some.place c.args.within c.in_ok-new.new c.args.name.now c.requires (rw c.in-Some.is at c.in_ok-entered.ensures) c.in_ok-new.ensures c.in_ok-keep.ensures
+pub returns-in-Some-within-clause-came : goal.returns-in-Some-within-clause-came
+returns-in-Some-within-clause-came c =
+    let goes : GoesInto c.args.definitions.now c.args.within c.in-Some.place c.args.name.now = rw c.in-Some.is at c.in_ok-entered.ensures in
+    rw c.in-Some-within.is
+    (gives_standing c.args.definitions.now c.args.outcomes.now.numbers.items c.in-Some.place c.in-Some-within.outer c.standing.result c.args.name.now c.requires.ordered goes.finds c.standing.ensures.led c.standing.ensures.apart
+    c.remembered-in-Some-within.result c.remembered-in-Some-within.ensures.came)

@@ -1,0 +1,100 @@
+-- Spans in order.
+use Rattle.std.proofs.Common.{◌≡◌, ℕ, zero, suc, ◌+◌, ◌-◌, ◌≤◌, Bool, true, false, cond, eqb, List, [], ◌∷◌, length, drop, take, map, filter, unwrap_or, Option, Some, None, refl, ap, ◌∙◌, subst, arith, IfSome, ◌<◌}
+use Rattle.std.specs.Prelude.{option_map, option_and_then, position}
+use Rattle.std.specs.List.{list_all, range_with_len}
+use Rattle.std.proofs.Math.ListN.{drop_of_length-le}
+use Rattle.std.proofs.lemmas.Bool.{and_from, eq-eqb}
+use Rattle.rst_text.specs.Places.{first_from, IsFirst}
+use Rattle.rst_text.proofs.PlacesLemmas.{first_from-first}
+use Rattle.rst_markup_tables.specs.Places.{Grid, row_at}
+use Rattle.rst_markup_tables.specs.SimpleTable.{AreInOrder, is_space, begins_span, span_end, span_at, spans_of, columns_of, last_joined, joining, spread, rule_spans, row_spans, is_white_place, is_clear, are_clear, span_of}
+use Rattle.rst_markup_tables.specs.declared.places.Place.{Place}
+use Rattle.rst_markup_tables.specs.declared.simple_rows.RowLines.{RowLines}
+use Rattle.rst_markup_tables.specs.declared.spans.RuleSpan.{RuleSpan}
+use Rattle.rst_markup_tables.proofs.SimpleLemmas.{position_at}
+
+order-from : (low high : ℕ) (ss : List RuleSpan) → low ≤ high → AreInOrder high ss → AreInOrder low ss
+order-from low high [] h order = order
+order-from low high (s ∷ ss) h order = (omega (arith, h, order.0), order.1, order.2)
+
+span_end-above : (row : List Place) (k : ℕ) → k ≤ length row → k ≤ span_end row k
+span_end-above row k h = by (first_from (is_space row) k (length row - k)) (first_from-first (is_space row) k (length row) h)
+  where
+    by : (r : Option ℕ) → IsFirst (is_space row) k (length row) r → k ≤ unwrap_or r (length row)
+    by (Some i) f = f.0
+    by None f = h
+
+spans-order : (row : List Place) (low n : ℕ) → low + n ≤ length row → AreInOrder low (map (span_at row) (filter (begins_span row) (range_with_len low n)))
+spans-order row low zero h = tt
+spans-order row low (suc n) h = by (begins_span row low) (order-from low (low + 1) _ (omega arith) (spans-order row (low + 1) n (omega (arith, h))))
+  where
+    by : (b : Bool) → AreInOrder low (map (span_at row) (filter (begins_span row) (range_with_len (low + 1) n)))
+        → AreInOrder low (map (span_at row) (cond b (low ∷ filter (begins_span row) (range_with_len (low + 1) n)) (filter (begins_span row) (range_with_len (low + 1) n))))
+    by true rest = (omega arith, span_end-above row low (omega (arith, h)), rest)
+    by false rest = rest
+
+pub columns-order : (T : Grid) → AreInOrder 0 (columns_of T)
+columns-order T = spans-order (row_at T 0) 0 (length (row_at T 0)) (omega arith)
+
+spread-order : (columns : List RuleSpan) (low : ℕ) (ss : List RuleSpan) → AreInOrder low ss → IfSome (spread columns ss) (AreInOrder low)
+spread-order [] low [] h = tt
+spread-order (c ∷ cs) low [] h = tt
+spread-order columns low (s ∷ ss) h = by (last_joined columns s) (λ last. spread-order (drop (last + 1) columns) s.from ss h.2)
+  where
+    joined : (last : ℕ) (o : Option (List RuleSpan)) → IfSome o (AreInOrder s.from) → IfSome (option_map (λ others. joining s (last + 1) ∷ others) o) (AreInOrder low)
+    joined last None i = tt
+    joined last (Some wide) i = (h.0, h.1, i)
+
+    by : (o : Option ℕ) → ((last : ℕ) → IfSome (spread (drop (last + 1) columns) ss) (AreInOrder s.from))
+        → IfSome (option_and_then (λ last. option_map (λ others. joining s (last + 1) ∷ others) (spread (drop (last + 1) columns) ss)) o) (AreInOrder low)
+    by None rest = tt
+    by (Some last) rest = joined last (spread (drop (last + 1) columns) ss) (rest last)
+
+pub row_spans-order : (T : Grid) (r : RowLines) → AreInOrder 0 (row_spans T r)
+row_spans-order T r = by (rule_spans T r.rule) (spread-order (columns_of T) 0 (spans_of (row_at T r.rule)) (spans-order (row_at T r.rule) 0 (length (row_at T r.rule)) (omega arith)))
+  where
+    by : (o : Option (List RuleSpan)) → IfSome o (AreInOrder 0) → AreInOrder 0 (unwrap_or o [])
+    by None h = tt
+    by (Some wide) h = h
+
+-- the columns cover themselves
+last_joined-self : (s : RuleSpan) (ss : List RuleSpan) → last_joined (s ∷ ss) s ≡ Some 0
+last_joined-self s ss =
+    ap (λ b. cond b (position (λ (d : RuleSpan). eqb d.to s.to) (s ∷ ss)) None) (eq-eqb s.from s.from refl)
+    ∙ position_at (λ (d : RuleSpan). eqb d.to s.to) (s ∷ ss) 0 s (omega arith) (eq-eqb s.to s.to refl) (λ k less. absurd (omega (arith, less)))
+
+spread-self : (row : List Place) (ks : List ℕ) → spread (map (span_at row) ks) (map (span_at row) ks) ≡ Some (map (span_at row) ks)
+spread-self row [] = refl
+spread-self row (k ∷ ks) =
+    ap (λ o. option_and_then (λ last. option_map (λ others. joining (span_at row k) (last + 1) ∷ others) (spread (drop (last + 1) (span_at row k ∷ map (span_at row) ks)) (map (span_at row) ks))) o) (last_joined-self (span_at row k) (map (span_at row) ks))
+    ∙ ap (λ o. option_map (λ others. joining (span_at row k) 1 ∷ others) o) (spread-self row ks)
+
+pub row_spans-columns : (T : Grid) (r : RowLines) → r.rule ≡ 0 → row_spans T r ≡ columns_of T
+row_spans-columns T r e =
+    ap (λ n. unwrap_or (rule_spans T n) []) e
+    ∙ ap (λ o. unwrap_or o []) (spread-self (row_at T 0) (filter (begins_span (row_at T 0)) (range_with_len 0 (length (row_at T 0)))))
+
+-- past its end a row is clear
+clear-past : (row : List Place) (from to : ℕ) → length row ≤ from → is_clear from to row ≡ true
+clear-past row from to h = ap (λ l. list_all is_white_place (take (to - from) l)) (drop_of_length-le row h) ∙ by (to - from)
+  where
+    by : (n : ℕ) → let none : List Place = [] in list_all is_white_place (take n none) ≡ true
+    by zero = refl
+    by (suc n) = refl
+
+pub are_clear-past : (row : List Place) (low : ℕ) (s : RuleSpan) (ss : List RuleSpan) → AreInOrder low (s ∷ ss) → length row ≤ s.from → are_clear (s ∷ ss) row ≡ true
+are_clear-past row low s [] order h = refl
+are_clear-past row low s (t ∷ ss) order h =
+    and_from (is_clear s.to t.from row) (are_clear (t ∷ ss) row) (clear-past row s.to t.from (omega (arith, h, order.1))) (are_clear-past row s.from t ss order.2 (omega (arith, h, order.2.0)))
+
+order-at : (low k : ℕ) (ss : List RuleSpan) → AreInOrder low ss → suc k < length ss → (span_of ss k).from ≤ (span_of ss (suc k)).from
+order-at low k [] order h = absurd (omega (arith, h))
+order-at low zero (s ∷ []) order h = absurd (omega (arith, h))
+order-at low zero (s ∷ t ∷ ss) order h = order.2.0
+order-at low (suc k) (s ∷ ss) order h = order-at s.from k ss order.2 (omega (arith, h))
+
+-- a span begins no earlier than the one before it
+pub order-before : (k : ℕ) (ss : List RuleSpan) → AreInOrder 0 ss → 0 < k → k < length ss → (span_of ss (k - 1)).from ≤ (span_of ss k).from
+order-before k ss order some h =
+    let e : suc (k - 1) ≡ k = omega (arith, some) in
+    subst (λ j. (span_of ss (k - 1)).from ≤ (span_of ss j).from) e (order-at 0 (k - 1) ss order (omega (arith, some, h)))

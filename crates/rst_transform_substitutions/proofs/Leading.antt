@@ -1,0 +1,163 @@
+-- A reference comes to the same in each definition that the one that it finds doesn't lead to.
+use Rattle.std.proofs.Common.{◌≡◌, ℕ, zero, suc, ◌+◌, ◌-◌, ◌<◌, ◌++◌, get_or, below_more, map, subst, ◌==◌, ◌≤◌, ◌&&◌, List, [], ◌∷◌, Bool, true, false, length, eqb-true, true≢false, refl, sym, ◌∙◌, ap, arith}
+use Rattle.std.specs.Prelude.{if◌then◌else◌, option_map, slice_get, unwrap_or, Option, Some, None, Result, Ok, Err}
+use Rattle.std.specs.List.{list_all, list_any}
+use Rattle.std.proofs.Math.Path.{fun_ext}
+use Rattle.std.proofs.lemmas.Bool.{leb-true, le-leb}
+use Rattle.std.proofs.lemmas.List.Folds.{list_all-append}
+use Rattle.std.proofs.lemmas.Option.{slice_get-get_or, slice_get-map}
+use Rattle.rst_tree.specs.declared.fault.TreeFault.{TreeFault}
+use Rattle.rst_tree.specs.declared.fault.TreeFault.TheVariants.{NoMemory}
+use Rattle.rst_tree.specs.Faults.{Gives}
+use Rattle.rst_tree.specs.declared.attrs.Attr.{Attr}
+use Rattle.rst_tree.specs.declared.node.Node.TheVariants.{Element, Text}
+use Rattle.rst_tree.specs.declared.tag.Tag.{Tag}
+use Rattle.rst_tree.specs.Forest.{Forest, bare, element, words}
+use Rattle.rst_transform_substitutions.specs.declared.definitions.Definitions.{Definitions}
+use Rattle.rst_transform_substitutions.specs.declared.expansion.ExpansionFault.TheVariants.{Circular, TooLarge}
+use Rattle.rst_transform_substitutions.specs.declared.outcomes.Outcome.{Outcome}
+use Rattle.rst_transform_substitutions.specs.Definitions.{found_by, known_found, placed, with_place}
+use Rattle.rst_transform_substitutions.specs.Expansion.{and_then, behind, entering, expanded, given_within, inside, is_reference, most_nested, most_visited, name_said, nodes_for, nodes_in, size_of, visiting, Expansion}
+use Rattle.rst_transform_substitutions.specs.Numbering.{is_at_least, may_lead, place_list, places_found, AreOrdered}
+use Rattle.rst_transform_substitutions.specs.Outcomes.{came}
+
+-- both parts of a test hold
+both : (a b : Bool) → (a && b) ≡ true → (a ≡ true) × (b ≡ true)
+both true b holds = (refl, holds)
+both false b holds = absurd (true≢false (sym holds))
+
+-- a test that a weaker one follows from
+weaker : (one two : ℕ → Bool) → ((x : ℕ) → one x ≡ true → two x ≡ true) → (xs : List ℕ) → list_all one xs ≡ true → list_all two xs ≡ true
+weaker one two follows [] all = refl
+weaker one two follows (x ∷ xs) all =
+    let parts = both (one x) (list_all one xs) all in
+    rw (follows x parts.0) (weaker one two follows xs parts.1)
+
+-- numbers that a test tells apart differ
+differ : (test : ℕ → Bool) (a b : ℕ) (same : Bool) → a == b ≡ same → test a ≡ false → test b ≡ true → a == b ≡ false
+differ test a b false is fails passes = is
+differ test a b true is fails passes = absurd (true≢false (sym passes ∙ ap test (sym (eqb-true a b is)) ∙ fails))
+
+-- what a reference, or another element, comes to
+abbrev here_of : (List ℕ → ℕ → Expansion) → Bool → Tag → List Attr → Forest → ℕ → ℕ → Expansion
+here_of given is t a c l more = if is then given (name_said a) more else inside t a l (expanded given c more)
+
+-- given a test of places that each definition passes on to those that it refers to
+module _ (known : Definitions) (led : ℕ → Bool) (closed : (place : ℕ) (content : Forest) → slice_get known.contents.items place ≡ Some content → led place ≡ true → list_all led (places_found known content) ≡ true) where
+  -- a name finds a definition at a place that passes it, or none
+  abbrev FindsLed : List ℕ → Type 0
+  FindsLed name = list_all led (place_list (known_found known name)) ≡ true
+
+  abbrev IsLed : Option (ℕ × Forest) → Type 0
+  IsLed None = Unit {0}
+  IsLed (Some one) = (led one.0 ≡ true) × (slice_get known.contents.items one.0 ≡ Some one.1)
+
+  led_there : (place : ℕ) (there : Option Forest) → slice_get known.contents.items place ≡ there → led place ≡ true → IsLed (with_place place there)
+  led_there place None is passes = tt
+  led_there place (Some content) is passes = (passes, is)
+
+  led_found : (place : Option ℕ) → list_all led (place_list place) ≡ true → IsLed (placed known.contents.items place)
+  led_found None passes = tt
+  led_found (Some place) passes = led_there place (slice_get known.contents.items place) refl (both (led place) true passes).0
+
+  element_same : (one two : List ℕ → ℕ → Expansion) (is : Bool) (t : Tag) (a : List Attr) (c : Forest) (l : ℕ) → ((name : List ℕ) → FindsLed name → one name ≡ two name) → (list_all led (places_found known c) ≡ true → expanded one c ≡ expanded two c)
+      → list_all led (if is then place_list (known_found known (name_said a)) else places_found known c) ≡ true → here_of one is t a c l ≡ here_of two is t a c l
+  element_same one two true t a c l same inner passes = fun_ext (λ more. ap (λ (e : ℕ → Expansion). e more) (same (name_said a) passes))
+  element_same one two false t a c l same inner passes = fun_ext (λ more. ap (λ (e : ℕ → Expansion). inside t a l (e more)) (inner passes))
+
+  -- nodes come to the same if what their references do is the same
+  expanded_same : (one two : List ℕ → ℕ → Expansion) → ((name : List ℕ) → FindsLed name → one name ≡ two name) → (c : Forest) → list_all led (places_found known c) ≡ true → expanded one c ≡ expanded two c
+  expanded_same one two same bare passes = fun_ext (λ left. refl)
+  expanded_same one two same (words t r) passes =
+      fun_ext (λ left. ap (λ (e : ℕ → Expansion). visiting (size_of (Text t)) left (λ more. behind (Text t ∷ []) (e more))) (expanded_same one two same r passes))
+  expanded_same one two same (element t a c l r) passes =
+      let here : List ℕ = if is_reference t then place_list (known_found known (name_said a)) else places_found known c in
+      let parts = both (list_all led here) (list_all led (places_found known r)) (sym (list_all-append led here (places_found known r)) ∙ passes) in
+      let first = element_same one two (is_reference t) t a c l same (λ inner. expanded_same one two same c inner) parts.0 in
+      let rest = expanded_same one two same r parts.1 in
+      fun_ext (λ left. ap (λ (e : ℕ → Expansion). visiting (size_of (Element t a c l)) left (λ more. and_then (e more) (λ then_more. expanded one r then_more))) first
+      ∙ ap (λ (e : ℕ → Expansion). visiting (size_of (Element t a c l)) left (λ more. and_then (here_of two (is_reference t) t a c l more) (λ then_more. e then_more))) rest)
+
+  entering_same : (a b : ℕ) (path name : List ℕ) (found : Option (ℕ × Forest)) (one two : ℕ × Forest → Expansion) → led a ≡ false → led b ≡ false → IsLed found
+      → ((x : ℕ × Forest) → led x.0 ≡ true → slice_get known.contents.items x.0 ≡ Some x.1 → one x ≡ two x) → entering (a ∷ path) name found one ≡ entering (b ∷ path) name found two
+  entering_same a b path name None one two first second is same = refl
+  entering_same a b path name (Some x) one two first second is same =
+      rw (differ led a x.0 (a == x.0) refl first is.0, differ led b x.0 (b == x.0) refl second is.0)
+      (ap (λ (e : Expansion). if list_any (λ place. place == x.0) path then Err (Circular name) else e) (same x is.0 is.1))
+
+  -- it makes no difference which place that isn't led to is first on a path
+  given_same : (more a b : ℕ) (path name : List ℕ) → led a ≡ false → led b ≡ false → FindsLed name → given_within (found_by known) more (a ∷ path) name ≡ given_within (found_by known) more (b ∷ path) name
+  unfolding given_within
+  given_same zero a b path name first second passes =
+      fun_ext (λ left. entering_same a b path name (found_by known name) (λ one. Err TooLarge) (λ one. Err TooLarge) first second (led_found (known_found known name) passes) (λ x here there. refl))
+  given_same (suc more) a b path name first second passes =
+      fun_ext (λ left. entering_same a b path name (found_by known name) (λ one. expanded (given_within (found_by known) more ((a ∷ path) ++ one.0 ∷ [])) one.1 left) (λ one. expanded (given_within (found_by known) more ((b ∷ path) ++ one.0 ∷ [])) one.1 left)
+      first second (led_found (known_found known name) passes)
+      (λ x here there. ap (λ (e : ℕ → Expansion). e left)
+      (expanded_same (given_within (found_by known) more ((a ∷ path) ++ x.0 ∷ [])) (given_within (found_by known) more ((b ∷ path) ++ x.0 ∷ []))
+      (λ inner finds. given_same more a b (path ++ x.0 ∷ []) inner first second finds) x.1 (closed x.0 x.1 there here))))
+
+-- the order of numbers
+at_least_itself : (a : Option ℕ) → is_at_least a a ≡ true
+at_least_itself None = refl
+at_least_itself (Some a) = le-leb a a (omega arith)
+
+at_least_along : (a b c : Option ℕ) → is_at_least a b ≡ true → is_at_least b c ≡ true → is_at_least a c ≡ true
+at_least_along None b c one two = refl
+at_least_along (Some a) None c one two = absurd (true≢false (sym one))
+at_least_along (Some a) (Some b) None one two = absurd (true≢false (sym two))
+at_least_along (Some a) (Some b) (Some c) one two =
+    let first : a ≤ b = leb-true a b one in
+    let second : b ≤ c = leb-true b c two in
+    le-leb a c (omega arith)
+
+-- a reference comes to the same in two definitions that the one that it finds doesn't lead to
+nodes_same : (known : Definitions) (numbers : List ℕ) (a b place : ℕ) (name : List ℕ) → AreOrdered known numbers → known_found known name ≡ Some place → may_lead numbers place a ≡ false → may_lead numbers place b ≡ false
+    → nodes_for (found_by known) (Some a) name ≡ nodes_for (found_by known) (Some b) name
+nodes_same known numbers a b place name ordered finds first second =
+    let itself : may_lead numbers place place ≡ true = at_least_itself (slice_get numbers place) in
+    let found : list_all (may_lead numbers place) (place_list (known_found known name)) ≡ true = rw (finds, itself) refl in
+    let same =
+    given_same known (may_lead numbers place)
+    (λ other content there led. weaker (may_lead numbers other) (may_lead numbers place) (λ x leads. at_least_along (slice_get numbers place) (slice_get numbers other) (slice_get numbers x) led leads) (places_found known content) (ordered other content there))
+    (most_nested - 1) a b [] name first second found in
+    ap (λ (e : ℕ → Expansion). nodes_in (e most_visited)) same
+
+same_case : (known : Definitions) (numbers : List ℕ) (place outer other : ℕ) (name : List ℕ) (leads : Bool) → may_lead numbers place outer ≡ leads → AreOrdered known numbers → known_found known name ≡ Some place → (may_lead numbers place outer ≡ true → other ≡ outer)
+    → (may_lead numbers place outer ≡ false → may_lead numbers place other ≡ false) → nodes_for (found_by known) (Some other) name ≡ nodes_for (found_by known) (Some outer) name
+same_case known numbers place outer other name true is ordered finds led apart = rw (led is) refl
+same_case known numbers place outer other name false is ordered finds led apart = nodes_same known numbers other outer place name ordered finds (apart is) is
+
+-- so it does where another place is taken for that of the definition
+pub gives_standing : (known : Definitions) (numbers : List ℕ) (place outer other : ℕ) (name : List ℕ) → AreOrdered known numbers → known_found known name ≡ Some place → (may_lead numbers place outer ≡ true → other ≡ outer)
+    → (may_lead numbers place outer ≡ false → may_lead numbers place other ≡ false) → (result : Result Outcome TreeFault) → Gives (λ outcome. came outcome ≡ nodes_for (found_by known) (Some other) name) result
+    → Gives (λ outcome. came outcome ≡ nodes_for (found_by known) (Some outer) name) result
+gives_standing known numbers place outer other name ordered finds led apart (Ok outcome) gives = gives ∙ same_case known numbers place outer other name (may_lead numbers place outer) refl ordered finds led apart
+gives_standing known numbers place outer other name ordered finds led apart (Err NoMemory) gives = tt
+
+-- numbers that are checked against the places that each definition refers to
+pub ordered_all : {V : Type 0} (items : V → List ℕ) (known : Definitions) (referred : List V) (numbers : List ℕ) → map items referred ≡ map (places_found known) known.contents.items
+    → ((place : ℕ) (places : List ℕ) → slice_get (map items referred) place ≡ Some places → list_all (may_lead numbers place) places ≡ true) → AreOrdered known numbers
+ordered_all items known referred numbers lists all = λ place content there.
+    all place (places_found known content) (ap (λ (l : List (List ℕ)). slice_get l place) lists ∙ slice_get-map (places_found known) known.contents.items place ∙ ap (option_map (places_found known)) there)
+
+leads_all : (numbers : List ℕ) (place : ℕ) (xs : List ℕ) → slice_get numbers place ≡ None → list_all (may_lead numbers place) xs ≡ true
+leads_all numbers place [] none = refl
+leads_all numbers place (x ∷ xs) none =
+    let leads : may_lead numbers place x ≡ true = rw none refl in
+    rw leads (leads_all numbers place xs none)
+
+pub nothing_ordered : (known : Definitions) (numbers : List ℕ) → numbers ≡ [] → AreOrdered known numbers
+nothing_ordered known numbers is = λ place content there. leads_all numbers place (places_found known content) (rw is refl)
+
+-- one more place is in order
+pub more_ordered : {V : Type 0} (items : V → List ℕ) (referred : List V) (numbers : List ℕ) (i : ℕ) (here : V) → i < length referred → here ≡ get_or referred i here → list_all (may_lead numbers i) (items here) ≡ true
+    → ((k : ℕ) → k < i → (places : List ℕ) → slice_get (map items referred) k ≡ Some places → list_all (may_lead numbers k) places ≡ true)
+    → (k : ℕ) → k < i + 1 → (places : List ℕ) → slice_get (map items referred) k ≡ Some places → list_all (may_lead numbers k) places ≡ true
+more_ordered {V} items referred numbers i here within at passes before =
+    let some : V → Option V = λ v. Some v in
+    let found : slice_get (map items referred) i ≡ Some (items here) = slice_get-map items referred i ∙ ap (option_map items) (slice_get-get_or referred i here within ∙ ap some (sym at)) in
+    below_more (λ (k : ℕ). (places : List ℕ) → slice_get (map items referred) k ≡ Some places → list_all (may_lead numbers k) places ≡ true) i before
+    (λ places there.
+    let same : items here ≡ places = ap (λ (o : Option (List ℕ)). unwrap_or o []) (sym found ∙ there) in
+    subst (λ (v : List ℕ). list_all (may_lead numbers i) v ≡ true) same passes)

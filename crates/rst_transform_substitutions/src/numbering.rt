@@ -1,0 +1,202 @@
+//! Numbers of definitions, which show that one doesn't lead to another.
+ghost use Rattle.std.specs.Prelude.{◌≡◌, ◌++◌, slice_get, true, map, List, ℕ};
+ghost use Rattle.std.specs.List.{list_all};
+ghost use Rattle.rst_tree.specs.Faults.{Gives};
+ghost use Rattle.rst_transform_substitutions.specs.Numbering.{may_lead, places_found, AreOrdered};
+
+use crate::definitions::Definitions;
+use crate::expansion::is_reference;
+use rst_transform_work::said;
+use rst_tree::{Children, Key, Node, TreeFault};
+use std::alloc::Global;
+
+/// What a search over the definitions does next with one of them.
+#[derive(Clone, Copy)]
+enum Step {
+    /// Goes on to those that it refers to, unless it was met before.
+    Enter(usize),
+    /// Numbers it, after those that it refers to.
+    Leave(usize),
+}
+
+/// A number for each definition: none refers to one of a lower number, and two have equal numbers only if each leads to the other.
+///
+/// The first half is checked in the end, since what is remembered rests on it.
+pub fn numbered(alloc: Global, definitions: &Definitions) -> Result<Vec<usize>, TreeFault>
+    ensures { Gives (λ numbers. AreOrdered definitions.now numbers.items) result }
+{
+    let referred = referred(alloc, definitions)?;
+    let numbers = component_numbers(alloc, &referred)?;
+    if !are_ordered(&referred, &numbers) {
+        return Ok(Vec::new(alloc));
+    }
+    Ok(numbers)
+}
+
+/// The places that each definition refers to.
+fn referred(alloc: Global, definitions: &Definitions) -> Result<Vec<Vec<usize>>, TreeFault>
+    ensures { Gives (λ referred. map (λ places. places.items) referred.items ≡ map (places_found definitions.now) definitions.now.contents.items) result }
+{
+    let mut referred = Vec::with_capacity(alloc, definitions.contents.len())?;
+    for content in &definitions.contents {
+        let mut places = Vec::new(alloc);
+        add_found(alloc, definitions, content, &mut places)?;
+        referred.push(places)?;
+    }
+    Ok(referred)
+}
+
+/// Adds the places of the definitions that the references among nodes find, and those in them.
+fn add_found(
+    alloc: Global,
+    definitions: &Definitions,
+    nodes: &Children,
+    places: &mut Vec<usize>,
+) -> Result<(), TreeFault>
+    ensures { Gives (λ _. places.new.items ≡ places.old.items ++ places_found definitions.now nodes.now) result }
+{
+    for node in nodes.as_slice() {
+        match node {
+            Node::Text(_) => continue,
+            Node::Element {
+                tag,
+                attrs,
+                children,
+                ..
+            } => {
+                if is_reference(*tag) {
+                    let found = definitions.find(alloc, said(attrs, Key::Refname))?;
+                    let Some(place) = found else {
+                        continue;
+                    };
+                    places.push(place)?;
+                    continue;
+                }
+                add_found(alloc, definitions, children, places)?;
+                continue;
+            }
+        }
+    }
+    Ok(())
+}
+
+/// Whether no place refers to one of a lower number.
+fn are_ordered(referred: &[Vec<usize>], numbers: &[usize]) -> bool
+    ensures { result ≡ true → (place : ℕ) (places : List ℕ) → slice_get (map (λ places. places.items) referred.now) place ≡ Some places → list_all (may_lead numbers.now place) places ≡ true }
+{
+    for (place, places) in referred.iter().enumerate() {
+        if !may_lead_to_all(numbers, place, places) {
+            return false;
+        }
+    }
+    true
+}
+
+/// Whether the definition at a place may lead to all others, by their numbers.
+fn may_lead_to_all(numbers: &[usize], place: usize, others: &[usize]) -> bool
+    ensures { result ≡ list_all (λ other. may_lead numbers.now place other) others.now }
+{
+    others.iter().all(|other| may_lead(numbers, place, *other))
+}
+
+/// Whether the definition at a place may lead to another, by their numbers.
+pub fn may_lead(numbers: &[usize], place: usize, other: usize) -> bool
+    ensures { result ≡ may_lead numbers.now place other }
+{
+    match numbers.get(place) {
+        None => true,
+        Some(least) => match numbers.get(other) {
+            None => false,
+            Some(number) => *least <= *number,
+        },
+    }
+}
+
+/// The numbers before they are checked: one for each set of places that lead to one another, lower if it was left later.
+///
+/// A number below the count of steps is one of a place that isn't left, or leads to one that isn't (Pearce, 'A space-efficient
+/// algorithm for finding strongly connected components').
+fn component_numbers(alloc: Global, referred: &[Vec<usize>]) -> Result<Vec<usize>, TreeFault> {
+    let mut numbers = vec![in alloc; 0; referred.len()]?;
+    let mut open = Vec::new(alloc);
+    let mut steps = Vec::new(alloc);
+    let mut most = 1_usize;
+    for (place, places) in referred.iter().enumerate() {
+        steps.push(Step::Enter(place))?;
+        most = most.saturating_add(places.len()).saturating_add(2);
+    }
+    for count in 1..most {
+        match steps.pop() {
+            None => break,
+            Some(Step::Enter(place)) => {
+                enter(referred, place, count, &mut numbers, &mut steps)?;
+            }
+            Some(Step::Leave(place)) => {
+                leave(referred, place, usize::MAX - count, &mut numbers, &mut open)?;
+            }
+        }
+    }
+    Ok(numbers)
+}
+
+/// Enters a place, if it has no number yet: its number is the count of steps.
+fn enter(
+    referred: &[Vec<usize>],
+    place: usize,
+    count: usize,
+    numbers: &mut [usize],
+    steps: &mut Vec<Step>,
+) -> Result<(), TreeFault> {
+    let Some(number) = numbers.get_mut(place) else {
+        return Ok(());
+    };
+    if *number != 0 {
+        return Ok(());
+    }
+    *number = count;
+    steps.push(Step::Leave(place))?;
+    if let Some(places) = referred.get(place) {
+        for other in places {
+            steps.push(Step::Enter(*other))?;
+        }
+    }
+    Ok(())
+}
+
+/// Leaves a place: it takes the least number of those that it refers to, or, if none is less than its own, closes the set of those
+/// that were left since it was entered.
+fn leave(
+    referred: &[Vec<usize>],
+    place: usize,
+    closed: usize,
+    numbers: &mut [usize],
+    open: &mut Vec<usize>,
+) -> Result<(), TreeFault> {
+    let (Some(own), Some(places)) = (numbers.get(place).copied(), referred.get(place)) else {
+        return Ok(());
+    };
+    let mut least = own;
+    for other in places {
+        if let Some(number) = numbers.get(*other) {
+            least = least.min(*number);
+        }
+    }
+    open.push(place)?;
+    if least < own {
+        if let Some(number) = numbers.get_mut(place) {
+            *number = least;
+        }
+        return Ok(());
+    }
+    while let Some(last) = open.pop() {
+        let Some(number) = numbers.get_mut(last) else {
+            break;
+        };
+        if *number < own {
+            open.push(last)?;
+            break;
+        }
+        *number = closed;
+    }
+    Ok(())
+}
