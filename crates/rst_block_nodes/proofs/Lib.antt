@@ -1,3 +1,4 @@
+pub mod Computing
 pub mod TextLemmas
 pub mod OptionLemmas
 pub mod HeadLemmas

@@ -1,3 +1,4 @@
+pub mod Computing
 pub mod AnnouncedLemmas
 pub mod BegunLemmas
 pub mod Blocks

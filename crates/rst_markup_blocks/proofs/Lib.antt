@@ -1,3 +1,4 @@
+pub mod Computing
 pub mod LineLemmas
 pub mod EndLemmas
 pub mod PartLemmas

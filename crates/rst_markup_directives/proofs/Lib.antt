@@ -1,3 +1,4 @@
+pub mod Computing
 pub mod Powers
 pub mod Numbers
 pub mod Words

@@ -16,3 +16,4 @@ pub mod Faults
 pub mod Counted
 pub mod Runs
 pub mod Printable
+pub mod Written

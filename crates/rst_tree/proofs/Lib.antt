@@ -1,3 +1,4 @@
+pub mod Computing
 pub mod Changes
 mod Plain
 pub mod PrintedParts
