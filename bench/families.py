@@ -51,6 +51,86 @@ def lines(n, text):
     return "".join(text * min(16, n - k) + "\n" for k in range(0, n, 16))
 
 
+# Each construct once, without messages.
+MIXED = """\
+Title {k}
+==========
+
+A paragraph with *emphasis*, **strong emphasis**, ``literals``, `a role`:title:, |word {k}|, http://example.org/{k}, a reference_{k}_,
+`a phrase {k}`_, [#note-{k}]_, [cite-{k}]_, `text {k} <https://example.org/{k}>`_ and plain words, so that most of it is text::
+
+    a literal block
+        of two lines
+
+* an item
+
+  + one in it
+  + and another
+
+1. first
+2. second
+
+term
+    A definition, with more words.
+other : classifier
+    Another.
+
+:field: body
+:longer field: body of
+   two lines
+
+-a          an option
+--long=ARG  one with an argument
+
+| a line
+|   of a line block
+
+    A quote of some words.
+
+    -- Somebody
+
+>>> print(1)
+1
+
+=====  =======
+a      b
+=====  =======
+cell   *c*
+more   words
+=====  =======
+
++-----+-----+
+| a   | b   |
++=====+=====+
+| c   | d   |
++-----+-----+
+
+.. _reference_{k}: http://example.org/reference/{k}
+.. _a phrase {k}:
+
+.. note:: Mind the words.
+
+.. image:: picture-{k}.png
+   :alt: a picture
+   :width: 50%
+
+.. figure:: figure-{k}.png
+
+   A caption.
+
+.. |word {k}| replace:: some words
+.. [#note-{k}] A footnote.
+.. [cite-{k}] A citation.
+.. A comment.
+
+"""
+
+
+def mixed(size):
+    """A document of about so many bytes with all constructs in turns."""
+    return numbered(max(1, size // len(MIXED)), MIXED)
+
+
 def simple_table(rows, columns):
     rule = " ".join(["====="] * columns) + "\n"
     return rule + (" ".join(["cell "] * columns).rstrip() + "\n") * rows + rule
@@ -161,6 +241,7 @@ FAMILIES = {
     "malformed grid": lambda n: open_grid(n),
     "malformed wide grid": lambda n: wide_open_grid(n),
     "references": lambda n: numbered(n, "a{k}_\n\n.. _a{k}: u\n\n"),
+    "phrase references": lambda n: numbered(n, "`a phrase {k}`_\n\n.. _a phrase {k}: u\n\n"),
     "unknown references": lambda n: numbered(n, "a{k}_\n\n"),
     "anonymous references": lambda n: "a__\n\n__ u\n\n" * n,
     "indirect targets": lambda n: "".join(f".. _a{k}: a{k + 1}_\n" for k in range(n)) + f".. _a{n}: u\n",

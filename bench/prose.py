@@ -13,10 +13,29 @@ WORDS = (
 ).split()
 
 
-class Prose:
-    """What is written so far."""
+RUSSIAN = (
+    "и в не на что он я с как это она по но они мы из у за вы так для ты же от все когда только уже бы было ещё может если время люди год дом "
+    "день рука раз работа слово место лицо друг вопрос жизнь сторона стол вода город земля история книга дерево письмо дорога утро язык"
+).split()
+FRENCH = (
+    "le de un à être et en avoir que pour dans ce il qui ne sur se pas plus pouvoir par je avec tout faire son mettre autre on mais nous comme ou si "
+    "leur y dire elle devoir avant deux même prendre aussi celui donner bien où fois vous encore nouveau aller cela entre premier déjà très été forêt "
+    "élève hôtel français garçon cœur naïf août tête répéter lumière"
+).split()
+CHINESE = (
+    "我们 今天 天气很好 他在学校里 学习 中文 这本书 非常有意思 老师说 明天 大家一起 去公园 因为 所以 但是 如果下雨 我就 不出门 朋友 昨天 来看我 "
+    "一杯茶 城市 的历史 很长 山上 有一座 古老的庙 河水 向东流 每年春天 花都开了 孩子们 在院子里 玩 时间 过得真快"
+).split()
 
-    def __init__(self):
+
+class Prose:
+    """What is written so far, of some words."""
+
+    # how many of the words are pieces of markup
+    share = 0.03
+
+    def __init__(self, words):
+        self.all_words = words
         self.rng = random.Random(1)
         self.parts = []
         self.size = 0
@@ -28,7 +47,7 @@ class Prose:
         self.size += len(text)
 
     def words(self, least, most):
-        return [self.rng.choice(WORDS) for _ in range(self.rng.randint(least, most))]
+        return [self.rng.choice(self.all_words) for _ in range(self.rng.randint(least, most))]
 
     def phrase(self):
         return " ".join(self.words(1, 3))
@@ -41,18 +60,18 @@ class Prose:
         if kind < 0.55:
             return f"**{self.phrase()}**"
         if kind < 0.8:
-            return f"``{self.rng.choice(WORDS)}()``"
+            return f"``{self.rng.choice(self.all_words)}()``"
         if kind < 0.9:
             return f"`{self.title(self.rng.randint(1, self.sections))}`_"
         self.links += 1
-        return f"`{self.phrase()} {self.links} <https://example.org/{self.rng.choice(WORDS)}/{self.links}>`_"
+        return f"`{self.phrase()} {self.links} <https://example.org/{self.rng.choice(self.all_words)}/{self.links}>`_"
 
     def text(self, least, most, indent=""):
         """Words with some markup, broken at 72 columns, each line but the first behind the indentation."""
         lines, line = [], ""
         for word in self.words(least, most):
             word += "," if self.rng.random() < 0.08 else ""
-            if self.rng.random() < 0.03:
+            if self.rng.random() < self.share:
                 word = self.piece()
             if len(line) + len(word) > 71 - len(indent):
                 lines.append(line)
@@ -62,7 +81,8 @@ class Prose:
 
     def title(self, number):
         """The title of a section; no two are the same."""
-        return f"{WORDS[number % len(WORDS)].capitalize()} {WORDS[number * 7 % len(WORDS)]} {number}"
+        first, second = (self.all_words[place % len(self.all_words)] for place in (number, number * 7))
+        return f"{first.capitalize()} {second} {number}"
 
     def section(self):
         self.sections += 1
@@ -84,17 +104,17 @@ class Prose:
             self.put(f"{self.phrase()}\n    {self.text(6, 30, '    ')}\n\n")
 
     def code(self):
-        lines = "".join(f"    {name} = {self.rng.choice(WORDS)}({self.rng.randint(0, 99)})\n" for name in self.words(2, 6))
+        lines = "".join(f"    {name} = {self.rng.choice(self.all_words)}({self.rng.randint(0, 99)})\n" for name in self.words(2, 6))
         self.put(f"{self.text(4, 12)[:-1]}::\n\n{lines}\n")
 
     def directive(self):
         if self.rng.random() < 0.7:
             self.put(f".. note::\n   {self.text(10, 40, '   ')}\n\n")
         else:
-            self.put(f".. image:: pictures/{self.rng.choice(WORDS)}.png\n   :alt: {self.phrase()}\n   :width: {self.rng.randint(10, 90)}%\n\n")
+            self.put(f".. image:: pictures/{self.rng.choice(self.all_words)}.png\n   :alt: {self.phrase()}\n   :width: {self.rng.randint(10, 90)}%\n\n")
 
     def table(self):
-        rows = "".join(f"{self.rng.choice(WORDS):<12}  {' '.join(self.words(2, 6))}\n" for _ in range(self.rng.randint(3, 8)))
+        rows = "".join(f"{self.rng.choice(self.all_words):<12}  {' '.join(self.words(2, 6))}\n" for _ in range(self.rng.randint(3, 8)))
         rule = f"{'=' * 12}  {'=' * 40}\n"
         self.put(f"{rule}{'Name':<12}  Meaning\n{rule}{rows}{rule}\n")
 
@@ -116,9 +136,28 @@ class Prose:
             self.table()
 
 
-def prose(size):
-    """A document of ordinary prose of about `size` bytes, the same one whenever it is made."""
-    made = Prose()
+class Plain(Prose):
+    """Words with punctuation in the place of markup."""
+
+    share = 0.2
+
+    def piece(self):
+        word, other = self.words(2, 2)
+        marks = ("({})", '"{}"', "{}'s", "{}:", "{};", "{}-{}", "{} - {}", "{}/{}", "{}!", "{}?", "{} & {}", "{}, e.g. {}")
+        return self.rng.choice(marks).format(word, other)
+
+
+def plain(size):
+    """Plain paragraphs with ordinary punctuation, about `size` bytes."""
+    made = Plain(WORDS)
+    while made.size < size:
+        made.put(f"{made.text(20, 120)}\n\n")
+    return "".join(made.parts)
+
+
+def prose(size, words=None):
+    """A document of ordinary prose of about `size` characters of these words, English by itself, the same one whenever it is made."""
+    made = Prose(words or WORDS)
     while made.size < size:
         made.section()
         for _ in range(made.rng.randint(2, 8)):

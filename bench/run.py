@@ -2,6 +2,7 @@
 """Measures the program, and Docutils and pandoc where they are installed, in one run.
 
     bench/run.py [--n N] [--only WORD] [--limit SECONDS] [--rounds R] [--no-others] [PROGRAM]
+    bench/run.py --counts [--n N] [--only WORD] [PROGRAM]
 
 It makes its inputs: documents of ordinary prose (1 MB and 10 MB), and families of documents at n, 2n and 4n. For each input and
 each program it prints CPU seconds (user and system, the least of three runs for PROGRAM, one run for the others), megabytes a
@@ -10,6 +11,9 @@ is linear, 2 quadratic. A run past the limit of CPU seconds is stopped, and larg
 machine whose speed varies from minute to minute more rounds help: each measures everything once more, and what it prints is
 the least of all rounds so far.
 PROGRAM is by itself the one that was built here, or else the one in dist/.
+
+With --counts it counts instructions under valgrind's callgrind, which is the same in each run on any machine: for each document, and for each
+family at n, those for each byte of the input, and for each byte of the input and the output. What an empty document costs is left out.
 """
 
 import argparse
@@ -17,6 +21,7 @@ import math
 import os
 import pathlib
 import platform
+import re
 import resource
 import shutil
 import subprocess
@@ -24,11 +29,20 @@ import sys
 import tempfile
 import time
 
-from families import FAMILIES
-from prose import prose
+from families import FAMILIES, mixed
+from prose import CHINESE, FRENCH, RUSSIAN, plain, prose
 
 TOP = pathlib.Path(__file__).resolve().parent.parent
 PROGRAMS = [TOP / "crates/rst2pseudoxml/out/rst2pseudoxml", TOP / "dist/rst2pseudoxml"]
+# The documents: for each the text of about so many bytes.
+DOCUMENTS = {
+    "prose": prose,
+    "plain paragraphs": plain,
+    "mixed": mixed,
+    "Russian prose": lambda size: prose(size // 2, RUSSIAN),
+    "French prose": lambda size: prose(size, FRENCH),
+    "Chinese prose": lambda size: prose(size // 3, CHINESE),
+}
 # Nothing halts a run, and lines may be as long as inputs.
 WORDS = ["--halt=5", "--line-length-limit=16777216"]
 
@@ -162,12 +176,41 @@ class Bench:
 
     def all(self, word, n):
         """Shows what the programs need for each input whose title holds a word."""
-        for title, size in (("Hello, world", 0), ("prose, 1 MB", 1_000_000), ("prose, 10 MB", 10_000_000)):
-            if word in title:
-                self.document(title, prose(size) if size else "Hello, world\n")
+        if word in "Hello, world":
+            self.document("Hello, world", "Hello, world\n")
+        for title, made in DOCUMENTS.items():
+            for megabytes in (1, 10) if title == "prose" else (1,):
+                if word in f"{title}, {megabytes} MB":
+                    self.document(f"{title}, {megabytes} MB", made(megabytes * 1_000_000))
         for title, made in FAMILIES.items():
             if word in title:
                 self.family(title, made, n)
+
+
+def counted(program, text):
+    """The instructions that a program takes for a text, and the bytes that it prints."""
+    words = ["valgrind", "--tool=callgrind", "--callgrind-out-file=/dev/null", program, *WORDS]
+    with tempfile.TemporaryFile() as printed, tempfile.TemporaryFile() as given:
+        given.write(text.encode())
+        given.seek(0)
+        done = subprocess.run(words, stdin=given, stdout=printed, stderr=subprocess.PIPE)
+        count = re.search(rb"Collected : (\d+)", done.stderr)
+        if not count:
+            sys.exit(f"no count: {done.stderr[-300:].decode(errors='replace')}")
+        return int(count[1]), printed.tell()
+
+
+def counts(program, word, n):
+    """Prints the instructions for each byte of each input whose title holds a word."""
+    empty, _ = counted(program, "")
+    print(f"{'':<52}{'MB':>8}{'millions':>10}{'a byte':>9}{'with output':>13}")
+    inputs = {title: made(1_000_000) for title, made in DOCUMENTS.items() if word in title}
+    inputs.update({title: made(n) for title, made in FAMILIES.items() if word in title})
+    for title, text in inputs.items():
+        size = len(text.encode())
+        taken, printed = counted(program, text)
+        each = taken - empty
+        print(f"{title:<52}{size / 1e6:8.3f}{taken / 1e6:10.1f}{each / size:9.1f}{each / (size + printed):13.1f}", flush=True)
 
 
 def show(name, size, measured, note=""):
@@ -187,9 +230,12 @@ def main():
     parser.add_argument("--only", default="", help="the inputs whose names hold this word")
     parser.add_argument("--limit", type=int, default=60, help="the most CPU seconds of a run")
     parser.add_argument("--rounds", type=int, default=1, help="how often everything is measured; the least counts")
+    parser.add_argument("--counts", action="store_true", help="count instructions instead")
     parser.add_argument("--no-others", action="store_true", help="no other programs")
     given = parser.parse_args()
     program = given.program or str(next((path for path in PROGRAMS if path.exists()), PROGRAMS[-1]))
+    if given.counts:
+        return counts(os.path.abspath(program), given.only, given.n)
     programs = {"rst2pseudoxml": [os.path.abspath(program), *WORDS], **({} if given.no_others else others())}
     print(f"{time.strftime('%Y-%m-%d')}, {processor()}, {os.cpu_count()} processors, {platform.system()} {platform.release()}")
     print(f"{program}; beside it: {', '.join(list(programs)[1:]) or 'none'}")

@@ -8,7 +8,7 @@ ghost use Rattle.rst_text.specs.Lines.{expanded, lines_of, first_longer};
 ghost use Rattle.rst_text.specs.Names.{id_of, name_of};
 ghost use Rattle.rst_text.specs.Written.{block};
 
-/// Lines of a text.
+/// Lines of a text (Markup Specification, 'Whitespace').
 pub fn lines()
     ensures line_ends { map (λ l. l.text) (lines_of 8 (codes "a\r\nb\rc\n\nd")) ≡ codes "a" ∷ codes "b" ∷ codes "c" ∷ [] ∷ codes "d" ∷ [] }
     ensures numbers { map (λ l. l.number) (block ("a" ∷ "" ∷ "b" ∷ [])) ≡ 1 ∷ 2 ∷ 3 ∷ [] }
@@ -19,20 +19,20 @@ pub fn lines()
     ensures none_longer { first_longer 4 (block ("ab" ∷ "abcd" ∷ [])) ≡ None }
 {}
 
-/// Names that references are compared by.
+/// Names that references are compared by (Markup Specification, 'Reference Names').
 pub fn names()
     ensures white { name_of (codes " A\t Bc ") ≡ codes "a bc" }
     ensures folded { name_of (codes "ÄRGER") ≡ codes "ärger" }
 {}
 
-/// Ids that names give.
+/// Ids that names give (Directives, 'Identifier Normalization').
 pub fn ids()
     ensures joined { id_of (codes "1. Änd & so") ≡ codes "and-so" }
     ensures nothing { id_of (codes "日本 42") ≡ [] }
     ensures hyphens { id_of (codes "-- A_b--C 9 --") ≡ codes "a-b-c-9" }
 {}
 
-/// What letters and white characters are, and how many columns a text takes.
+/// What letters and white characters are, and how many columns a text takes (Markup Specification, 'Whitespace').
 pub fn characters()
     ensures wide { columns (codes "日本a") ≡ 5 }
     ensures combining { columns (codes "é") ≡ 1 }

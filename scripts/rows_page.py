@@ -1,0 +1,107 @@
+#!/usr/bin/env python3
+"""Writes docs/ROWS.md from the worked examples that are theorems: the clauses of the functions in crates/*/src/rows.rt and src/rows/. With --check
+it only compares. A function's comment ends with the section of the standard that its rows are of, as (Markup Specification, 'Bullet Lists')."""
+
+import pathlib
+import re
+import sys
+
+TOP = pathlib.Path(__file__).resolve().parent.parent
+PAGE = TOP / "docs/ROWS.md"
+OPENING = """# Worked examples as theorems
+
+Each example is a theorem on the definition alone, in the order of the standard's sections: the prover computes what the definition gives for a text,
+and compares. No code of the program is run for it. `scripts/rows_page.py` writes this page from the theorems; the name of each is that of a clause
+in the crate's `src/rows.rt` or `src/rows/`.
+
+The tree of a document is the one before the transforms: titles are sections, and references aren't resolved yet. How the tree is after them is tested
+by running the program (`scripts/rows.py`).
+"""
+# the documents of the standard, each with its sections in their order
+SECTIONS = {
+    "Markup Specification": """Whitespace; Indentation; Escaping Mechanism; Reference Names; Document; Document Title; Sections; Transitions;
+        Paragraphs; Bullet Lists; Enumerated Lists; Definition Lists; Field Lists; Bibliographic Fields; Option Lists; Literal Blocks;
+        Indented Literal Blocks; Quoted Literal Blocks; Line Blocks; Block Quotes; Doctest Blocks; Grid Tables; Simple Tables;
+        Explicit Markup Blocks; Footnotes; Auto-Numbered Footnotes; Auto-Symbol Footnotes; Citations; Hyperlink Targets; Anonymous Hyperlinks;
+        Directives; Substitution Definitions; Comments; Implicit Hyperlink Targets; Inline Markup; Inline markup recognition rules; Emphasis;
+        Strong Emphasis; Interpreted Text; Inline Literals; Hyperlink References; Embedded URIs and Aliases; Inline Internal Targets;
+        Footnote References; Citation References; Substitution References; Standalone Hyperlinks; Units; Length Units; Percentage Units;
+        Error Handling""",
+    "Directives": """Admonitions; Generic Admonition; Image; Figure; Topic; Code; Replacement Text; Common Options; Identifier Normalization""",
+    "Roles": "Standard Roles",
+    "Document Tree": "Element Reference; Attribute Reference",
+    "Configuration": "line_length_limit; report_level; halt_level",
+}
+ORDER = [(document, section) for document, sections in SECTIONS.items() for section in re.split(r";\s+", sections)]
+FUNCTION = re.compile(r"((?:^///.*\n)+)pub fn (\w+)\(\)\n((?:    .*\n)+)\{\}", re.M)
+CLAUSE = re.compile(r"^    ensures (\w+) \{ (.*?) \}(?=\n    ensures|\n*\Z)", re.M | re.S)
+SECTION = re.compile(r"\(([A-Z][\w ]+), '([^']+)'\)")
+STRINGS = re.compile(r'"((?:[^"\\]|\\.)*)"')
+TREE = re.compile(r"(Reads|Means)\s+(\[\]|\(.*?∷ \[\]\))\s*(\d*)\s*(\[\]|\(.*?∷ \[\]\))", re.S)
+ESCAPES = {"n": "\n", "t": "\t", "r": "\r"}
+
+
+def lines_of(words):
+    """The texts of a list of strings."""
+    return [re.sub(r"\\(.)", lambda m: ESCAPES.get(m[1], m[1]), text) for text in STRINGS.findall(words)]
+
+
+def fenced(lines):
+    return ["```", *lines, "```"]
+
+
+def shown(name, clause):
+    """The lines that show a theorem."""
+    tree = TREE.fullmatch(clause)
+    if not tree:
+        one = re.sub(r"\n *", " ", clause)
+        return [f"- `{name}`: `{one}`"]
+    count = f", {tree[3]} messages on texts" if tree[3] else ""
+    return ["", f"`{name}`{count}", "", *fenced(lines_of(tree[2])), "", *fenced(lines_of(tree[4])), ""]
+
+
+def functions():
+    """Of each function of rows: its section, its name, its comment, and its clauses."""
+    for line in (TOP / "crates.txt").read_text().splitlines():
+        crate = line.split(":")[0].strip()
+        folder = TOP / "crates" / crate / "src"
+        for path in [folder / "rows.rt", *sorted(folder.glob("rows/*.rt"))]:
+            if path.exists():
+                module = "::".join(path.relative_to(folder).with_suffix("").parts)
+                for comment, name, clauses in FUNCTION.findall(path.read_text()):
+                    yield f"{crate}::{module}::{name}", " ".join(comment.replace("///", "").split()), CLAUSE.findall(clauses + "\n")
+
+
+def page():
+    """The text of the page."""
+    groups = {section: [] for section in ORDER}
+    count = 0
+    for name, comment, clauses in functions():
+        section = SECTION.search(comment)
+        if not section or section.groups() not in groups:
+            sys.exit(f"{name}: its comment names no section of the standard: {comment}")
+        groups[section.groups()].append((name, SECTION.sub("", comment).replace(" .", "."), clauses))
+        count += len(clauses)
+    lines = [OPENING, f"{count} theorems."]
+    for (document, section), group in groups.items():
+        if group:
+            lines += ["", f"## {section} ({document})"]
+        for name, comment, clauses in group:
+            lines += ["", f"### `{name}`", "", comment, ""]
+            for clause in clauses:
+                lines += shown(*clause)
+    return re.sub(r"\n{3,}", "\n\n", "\n".join(lines)).rstrip() + "\n"
+
+
+def main():
+    if sys.argv[1:] == ["--check"]:
+        if PAGE.read_text() != page():
+            sys.exit("docs/ROWS.md isn't what scripts/rows_page.py writes")
+    elif sys.argv[1:]:
+        sys.exit("usage: scripts/rows_page.py [--check]")
+    else:
+        PAGE.write_text(page())
+
+
+if __name__ == "__main__":
+    main()
