@@ -9,7 +9,8 @@ each program it prints CPU seconds (user and system, the least of three runs for
 second, and peak memory; for a family also the exponent of its growth from n to 4n, without what an empty document costs: 1
 is linear, 2 quadratic. A run past the limit of CPU seconds is stopped, and larger members of its family aren't tried. On a
 machine whose speed varies from minute to minute more rounds help: each measures everything once more, and what it prints is
-the least of all rounds so far.
+the least of all rounds so far. Beside the documents cmark and md4c read the same text as Markdown, three times, if their libraries are
+installed (Debian's libcmark-dev, libmd4c-html0-dev).
 PROGRAM is by itself the one that was built here, or else the one in dist/.
 
 With --counts it counts instructions under valgrind's callgrind, which is the same in each run on any machine: for each document, and for each
@@ -116,6 +117,18 @@ def others():
     return found
 
 
+def markdown(folder):
+    """Readers of Markdown, for documents alone, each built from bench/peers/ where its library is installed."""
+    found = {}
+    for name, words in (("cmark", ["-DCMARK", "-lcmark"]), ("md4c", ["-lmd4c-html", "-lmd4c"])):
+        built = os.path.join(folder, name)
+        source = str(TOP / "bench/peers/markdown.c")
+        compiled = shutil.which("cc") and subprocess.run(["cc", "-O2", source, "-o", built, *words], stderr=subprocess.DEVNULL)
+        if compiled and compiled.returncode == 0:
+            found[name] = [built]
+    return found
+
+
 def processor():
     try:
         with open("/proc/cpuinfo", encoding="utf-8") as file:
@@ -127,8 +140,9 @@ def processor():
 class Bench:
     """The programs, and what each costs for an empty document."""
 
-    def __init__(self, folder, programs, limit):
-        self.path, self.programs, self.limit = os.path.join(folder, "input.rst"), programs, limit
+    def __init__(self, folder, programs, markdown, limit):
+        self.path, self.programs, self.limit = os.path.join(folder, "input.rst"), {**programs, **markdown}, limit
+        self.markdown = markdown
         self.least = {}
         self.write("")
         self.start = {name: self.measured("", name).seconds for name in programs}
@@ -140,7 +154,8 @@ class Bench:
 
     def measured(self, title, name):
         """What a program needs for the input that was written last, with this title: the least of all rounds so far."""
-        done = best(self.programs[name], self.path, self.limit, 3 if name == "rst2pseudoxml" else 1)
+        quick = name == "rst2pseudoxml" or name in self.markdown
+        done = best(self.programs[name], self.path, self.limit, 3 if quick else 1)
         least = self.least.setdefault((title, name), done)
         if not done.failed():
             done = Run(min(done.seconds, least.seconds), max(done.memory, least.memory), done.status)
@@ -163,7 +178,7 @@ class Bench:
     def family(self, title, made, n):
         """Shows what the programs need for the members of a family."""
         print(title)
-        runs = {name: [] for name in self.programs}
+        runs = {name: [] for name in self.programs if name not in self.markdown}
         for count in (n, 2 * n, 4 * n):
             size = self.write(made(count))
             for name, done in runs.items():
@@ -240,7 +255,7 @@ def main():
     print(f"{time.strftime('%Y-%m-%d')}, {processor()}, {os.cpu_count()} processors, {platform.system()} {platform.release()}")
     print(f"{program}; beside it: {', '.join(list(programs)[1:]) or 'none'}")
     with tempfile.TemporaryDirectory() as folder:
-        bench = Bench(folder, programs, given.limit)
+        bench = Bench(folder, programs, {} if given.no_others else markdown(folder), given.limit)
         for number in range(1, given.rounds + 1):
             if given.rounds > 1:
                 print(f"round {number} of {given.rounds}")
