@@ -1,10 +1,10 @@
-"""Which kind of difference two trees have: what stands in each at the first line in which they differ."""
+"""Which kind of difference two trees have: what is in each at the first line in which they differ."""
 
 import re
 from collections.abc import Iterator
 
 UNKNOWN = re.compile(r' +Unknown (directive|interpreted text) (?:type|role) "(.*)"\.$')
-# What Docutils makes of some directives stands far from the directive, at the top of the document.
+# What Docutils makes of some directives is far from the directive, at the top of the document.
 AT_THE_TOP = ("<document ", '<topic classes="contents', "<decoration>", "<meta ", "<raw ")
 
 
@@ -83,7 +83,7 @@ class Difference:
         return "RCS keywords" if self.one.startswith("$") else None
 
     def in_a_message(self) -> str | None:
-        """A message that stands elsewhere, or says something else."""
+        """A message that is elsewhere, or says something else."""
         if "hyperlink mismatch" in self.here:
             return "text of `Anonymous hyperlink mismatch`"
         if self.here and self.here == self.there:

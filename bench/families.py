@@ -42,7 +42,7 @@ def in_figures(text):
 
 
 def numbered(n, text):
-    """A text for each number below n, which stands in the place of each `{k}`."""
+    """A text for each number below n, in which each `{k}` is that number."""
     return "".join(text.replace("{k}", str(k)) for k in range(n))
 
 
@@ -177,7 +177,7 @@ def wide_open_grid(columns):
 
 
 def chained(n, deep, name, text):
-    """References to the first of definitions that stand one in another, the last of which has a text, and `|b|` a letter."""
+    """References to the first of definitions that use one another in turn, the last of which has a text, and `|b|` a letter."""
     chain = "".join(f".. |a{k}| replace:: |a{k + 1}|\n" for k in range(deep))
     return lines(n, f"|{name}| ") + "\n" + chain + f".. |a{deep}| replace:: {text}\n.. |b| replace:: c\n"
 

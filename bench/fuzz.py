@@ -65,7 +65,7 @@ LINES = (
 
 
 def inputs_of_page(text):
-    """The documents of the examples on a page: those behind `<<'END'`, and the texts that `printf` prints."""
+    """The documents of the examples on a page: those after `<<'END'`, and the texts that `printf` prints."""
     for shown in re.findall(r"^\$ .*<<'END'.*\n((?:>.*\n)*?)> END$", text, re.MULTILINE):
         yield re.sub(r"^> ?", "", shown, flags=re.MULTILINE).encode()
     for shown in re.findall(r"^\$ printf (?:-- )?'([^']*)' \|", text, re.MULTILINE):
@@ -131,7 +131,7 @@ class Mutations:
         return b"\n".join([*lines[:begin], *made, *lines[end:]])
 
     def join(self, chance, data):
-        """The front of a document, and the rest of another, indented or not."""
+        """The first lines of a document, and the last of another, indented or not."""
         lines = data.split(b"\n")
         others = chance.choice(self.documents).split(b"\n")
         indent = b" " * chance.choice((0, 0, 2, 3, 4))
@@ -155,7 +155,7 @@ MESSAGE = re.compile(r'^( *)<system_message [^\n]*level="(\d)" line="(\d+)" sour
 
 
 def dedented(tree, at, indent):
-    """The lines of a tree from a place on that are indented so far, without their indentation; and the place behind them."""
+    """The lines of a tree from a place on that are indented so far, without their indentation; and the place after them."""
     lines = []
     while tree.startswith(indent, at):
         end = tree.index("\n", at) + 1
@@ -176,15 +176,15 @@ def messages_of(tree):
         yield f"<stdin>:{line}: ({kind}/{level}) {text}"
 
 
-def is_told(messages, told):
+def is_made_of(messages, text):
     """Whether a text is made of these messages, in any order."""
     left = collections.Counter(messages)
-    while told:
-        first = max((message for message in left if told.startswith(message)), key=len, default=None)
+    while text:
+        first = max((message for message in left if text.startswith(message)), key=len, default=None)
         if first is None:
             return False
         # The tree doesn't show whether a line end ends the source that a message holds.
-        told = told[len(first) :].removeprefix("\n")
+        text = text[len(first) :].removeprefix("\n")
         left[first] -= 1
         if not left[first]:
             del left[first]
@@ -199,10 +199,10 @@ def fault(path, arguments, data):
     if status not in STATUSES:
         return f"ends with {status}"
     try:
-        tree, told = out.decode(), err.decode()
+        tree, shown = out.decode(), err.decode()
     except UnicodeDecodeError:
         return "writes what isn't UTF-8"
-    if status not in (1, 2) and not is_told(messages_of(tree), told):
+    if status not in (1, 2) and not is_made_of(messages_of(tree), shown):
         return "has other messages on standard error than in its tree"
     memory = BASE + BYTES_FOR_A_BYTE * (len(data) + len(out) + len(err))
     second = run(path, arguments, data, memory)

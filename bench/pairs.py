@@ -21,7 +21,7 @@ import tempfile
 from run import PROGRAMS, WORDS
 
 DEPTH = 60
-# What a construct stands around is put in the place of `{}`, with the indentation of that place; `{k}` is a number of its own.
+# What a construct holds is put in the place of `{}`, with the indentation of that place; `{k}` is a number of its own.
 BLOCKS = {
     "paragraph": "some words {k}\nin two lines",
     "bullet item": "- {}",
@@ -102,7 +102,7 @@ ALL = {**BLOCKS, **TEXTS}
 
 
 def put(outer, inner, k):
-    """A construct around a text, indented as far as it stands in."""
+    """A construct around a text, with the indentation that the text needs there."""
     if outer == "grid table":
         width = max(map(len, inner.split("\n"))) + 1
         rule = "+" + "-" * width + "+"

@@ -16,7 +16,7 @@ the same file, with the same path, and nothing halts. Docutils runs three times:
             whose trees are the same in `plain` aren't read again
 
 It prints tables in Markdown: how many trees are the same, byte for byte; the kinds of the first difference of the others; how often
-directives and roles that the profile leaves out are met; CPU seconds. `--list KIND` names the documents whose first difference is of a
+directives and roles that the profile leaves out are used; CPU seconds. `--list KIND` names the documents whose first difference is of a
 kind. A document's directives read no other files here, and nothing from the network. All packages take some 10 CPU minutes, and 700 MB.
 """
 

@@ -85,7 +85,7 @@ class Edit:
         return names
 
     def make(self, folder):
-        """Makes the edit in a copy, if each of its texts stands there once."""
+        """Makes the edit in a copy, if each of its texts is there once."""
         texts = {}
         for file, old, new in self.changes:
             text = texts.get(file) or (folder / file).read_text(encoding="utf-8")
@@ -133,7 +133,7 @@ class Trial:
             refused.add(None)  # a lemma, which is in no function
         return made, refused
 
-    def tell(self, edit, verdict):
+    def report(self, edit, verdict):
         self.wrong += verdict != "refused"
         print(f"{self.crate.name}/{edit.name}: {verdict}", flush=True)
 
@@ -146,16 +146,16 @@ class Trial:
             return
         for edit in made:
             if refused is None:
-                self.tell(edit, "NOT COMPILED")
+                self.report(edit, "NOT COMPILED")
             elif edit.function in refused or (edit.function is None and refused):
-                self.tell(edit, "refused")
+                self.report(edit, "refused")
             elif len(group) > 1:
                 self.run([edit])  # perhaps its function wasn't looked at, since it calls another edited one
             else:
-                self.tell(edit, "NOT REFUSED")
+                self.report(edit, "NOT REFUSED")
         for edit in group:
             if edit not in made:
-                self.run([edit]) if len(group) > 1 else self.tell(edit, "CAN'T BE MADE")
+                self.run([edit]) if len(group) > 1 else self.report(edit, "CAN'T BE MADE")
 
 
 def main():

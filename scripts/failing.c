@@ -1,13 +1,13 @@
-/* Stands before the C library of a program (LD_PRELOAD) and lets calls of it fail, or each read and write move few bytes:
+/* Is loaded before the C library of a program (LD_PRELOAD) and makes calls of it fail, or each read and write move few bytes:
  *
- *     FAIL_GROWTH=N   the Nth call that takes memory fails; with FAIL_ON each from it on
- *     FAIL_EACH=1     each read and each write fails in turn, in a child that ends soon; the program itself goes on
- *     SHORT=N         reads and writes move N bytes at most
- *     COUNTS=FILE     at the end the numbers of growths, reads and writes are written there, and how many children ended wrongly
+ *     FAIL_ALLOCATION=N  the Nth call that takes memory fails; with FAIL_ON each from it on
+ *     FAIL_EACH=1        each read and each write fails in turn, in a child that ends soon; the program itself goes on
+ *     SHORT=N            reads and writes move N bytes at most
+ *     COUNTS=FILE        at the end the numbers of allocations, reads and writes are written there, and how many children ended wrongly
  *
  * A child in which a call fails has to end with status 1, write nothing more to standard output, and to standard error one line that says
  * what failed. A read fails with an error; a write fails with an error in one child, and takes no byte in another. What was written before is
- * the beginning of what the program itself writes, since the program and the child are one until then.
+ * a prefix of what the program itself writes, since the program and the child are one until then.
  *
  * What it needs of the GNU C library is declared here: the kit has a compiler, but no headers.
  */
@@ -33,7 +33,7 @@ extern int strcmp(const char *one, const char *other);
 #define STATUS_1 (1 << 8)
 #define MOST 256
 
-static long growths, reads, writes, wrong;
+static long allocations, reads, writes, wrong;
 
 /* What a child writes after its call failed. */
 struct written {
@@ -50,11 +50,11 @@ static long given(const char *name)
     return word ? atol(word) : 0;
 }
 
-static int grows(void)
+static int allocates(void)
 {
-    long at = given("FAIL_GROWTH");
-    growths++;
-    if (at && (growths == at || (getenv("FAIL_ON") && growths > at))) {
+    long at = given("FAIL_ALLOCATION");
+    allocations++;
+    if (at && (allocations == at || (getenv("FAIL_ON") && allocations > at))) {
         *__errno_location() = NO_MEMORY;
         return 0;
     }
@@ -66,7 +66,7 @@ void *malloc(size bytes)
     static void *(*next)(size);
     if (!next)
         next = dlsym(NEXT, "malloc");
-    return grows() ? next(bytes) : 0;
+    return allocates() ? next(bytes) : 0;
 }
 
 void *realloc(void *held, size bytes)
@@ -74,7 +74,7 @@ void *realloc(void *held, size bytes)
     static void *(*next)(void *, size);
     if (!next)
         next = dlsym(NEXT, "realloc");
-    return grows() ? next(held, bytes) : 0;
+    return allocates() ? next(held, bytes) : 0;
 }
 
 int posix_memalign(void **made, size alignment, size bytes)
@@ -82,7 +82,7 @@ int posix_memalign(void **made, size alignment, size bytes)
     static int (*next)(void **, size, size);
     if (!next)
         next = dlsym(NEXT, "posix_memalign");
-    return grows() ? next(made, alignment, bytes) : NO_MEMORY;
+    return allocates() ? next(made, alignment, bytes) : NO_MEMORY;
 }
 
 /* Whether this is a child in which the call has to fail; the program itself waits for the child, and looks at how it ended. */
@@ -159,5 +159,5 @@ __attribute__((destructor)) static void count_calls(void)
     const char *path = is_child ? 0 : getenv("COUNTS");
     int file = path ? creat(path, 0600) : -1;
     if (file >= 0)
-        dprintf(file, "%ld %ld %ld %ld\n", growths, reads, writes, wrong);
+        dprintf(file, "%ld %ld %ld %ld\n", allocations, reads, writes, wrong);
 }

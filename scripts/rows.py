@@ -74,7 +74,7 @@ class Source:
         self.take(r"\];\s*\Z")
 
 
-def answer(path, arguments, given):
+def outcome(path, arguments, given):
     """Standard output, standard error and the status of a run."""
     run = subprocess.run([path, *arguments], input=given.encode(), stdout=subprocess.PIPE, stderr=subprocess.PIPE, check=False)
     return run.stdout.decode("utf-8", "replace"), run.stderr.decode("utf-8", "replace"), run.returncode
@@ -85,7 +85,7 @@ def main():
     passed = failed = 0
     for table in TABLES:
         for name, arguments, given, wanted in Source(table).rows():
-            got = answer(path, arguments, given)
+            got = outcome(path, arguments, given)
             if got == wanted:
                 passed += 1
                 continue
