@@ -20,14 +20,14 @@ by running the program (`scripts/rows.py`).
 # the documents of the standard, each with its sections in their order
 SECTIONS = {
     "Markup Specification": """Whitespace; Indentation; Escaping Mechanism; Reference Names; Document; Document Title; Sections; Transitions;
-        Paragraphs; Bullet Lists; Enumerated Lists; Definition Lists; Field Lists; Bibliographic Fields; Option Lists; Literal Blocks;
+        Body Elements; Paragraphs; Bullet Lists; Enumerated Lists; Definition Lists; Field Lists; Bibliographic Fields; Option Lists; Literal Blocks;
         Indented Literal Blocks; Quoted Literal Blocks; Line Blocks; Block Quotes; Doctest Blocks; Grid Tables; Simple Tables;
         Explicit Markup Blocks; Footnotes; Auto-Numbered Footnotes; Auto-Symbol Footnotes; Citations; Hyperlink Targets; Anonymous Hyperlinks;
         Directives; Substitution Definitions; Comments; Implicit Hyperlink Targets; Inline Markup; Inline markup recognition rules; Emphasis;
         Strong Emphasis; Interpreted Text; Inline Literals; Hyperlink References; Embedded URIs and Aliases; Inline Internal Targets;
         Footnote References; Citation References; Substitution References; Standalone Hyperlinks; Units; Length Units; Percentage Units;
         Error Handling""",
-    "Directives": """Admonitions; Generic Admonition; Image; Figure; Topic; Code; Replacement Text; Common Options; Identifier Normalization""",
+    "Directives": """Specific Admonitions; Generic Admonition; Image; Figure; Topic; Code; Replacement Text; Common Options; Identifier Normalization""",
     "Roles": "Standard Roles",
     "Document Tree": "Element Reference; Attribute Reference",
     "Configuration": "line_length_limit; report_level; halt_level",
