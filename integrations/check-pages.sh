@@ -84,11 +84,19 @@ function know(name) {
   sub(/[ \t\r]+$/, "", name)
   if (name == "" || name ~ /^#/) return
   if (name ~ /^@/) know_file(substr(name, 2))
-  else if (name ~ /^(directive|role|substitution|target):/) known[fold(name)]
+  else if (name ~ /^(substitution|target):/) known[fold(name)]
+  else if (name ~ /^(directive|role):/) know_as(substr(name, 1, index(name, ":")), substr(name, index(name, ":") + 1))
   else {
-    known["directive:" fold(name)]
-    known["role:" fold(name)]
+    know_as("directive:", name)
+    know_as("role:", name)
   }
+}
+
+# A name of a domain is known without it too.
+function know_as(kind, name) {
+  known[fold(kind name)]
+  sub(/^[a-z]+:/, "", name)
+  known[fold(kind name)]
 }
 
 function know_all(names,    count, name, i) {
@@ -301,12 +309,13 @@ case $format in
   *) refuse "no such format: $format" ;;
 esac
 [ $# -gt 0 ] || refuse "no file was named (usage: check-pages.sh [--level=LEVEL] [--known=NAMES|@FILE].. [--format=FORMAT] [--] FILE|FOLDER..)"
-if [ -f "$here/../rst2pseudoxml" ]; then
-  program=$(RST2PSEUDOXML_PATH=print "$here/../rst2pseudoxml") || exit 2
+beside=$here/../rst2pseudoxml
+if [ -f "$beside" ]; then
+  program=$(RST2PSEUDOXML_PATH=print "$beside") || exit 2
 else
   program=rst2pseudoxml
 fi
-command -v -- "$program" >/dev/null || refuse "there is no rst2pseudoxml on the PATH"
+command -v -- "$program" >/dev/null || refuse "there is no program $program"
 
 left=$#
 while [ "$left" -gt 0 ]; do # each name is taken from the front, and what it names is put at the end
