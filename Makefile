@@ -11,7 +11,7 @@ bash = $(share)/bash-completion/completions/$(PROGRAM)
 zsh = $(share)/zsh/site-functions/_$(PROGRAM)
 fish = $(share)/fish/vendor_completions.d/$(PROGRAM).fish
 scripts = check-pages.sh check-trees.sh
-files = docutils-names.txt sphinx-names.txt flycheck-rst2pseudoxml.el github-problem-matcher.json rst2pseudoxml.py vscode-tasks.json
+files = docutils-names.txt sphinx-names.txt flycheck-rst2pseudoxml.el rst2pseudoxml.py vscode-tasks.json
 pages = docs/PROFILE.md docs/DOCUTILS.md docs/INTEGRATIONS.md
 
 # What is installed runs the program that is installed with it.

@@ -1,7 +1,7 @@
 #!/bin/sh
 # Checks reStructuredText pages: prints their system messages, and a line for each page that the program refuses.
 #
-#     check-pages.sh [--level=LEVEL] [--known=NAMES].. [--known=@FILE].. [--format=FORMAT] [--] FILE|FOLDER..
+#     check-pages.sh [--level=LEVEL] [--known=NAMES|@FILE].. [--format=FORMAT] [--] FILE|FOLDER..
 #     check-pages.sh --help
 #
 # The messages at or above LEVEL (info, warning, error, severe or none, or 1 to 5; warning by default) are shown, and a page
@@ -174,7 +174,7 @@ function end_page() {
 
 function refuse_page(    where) {
   shown++
-  if (refusal == "") refusal = "rst2pseudoxml: ended with status " status
+  if (refusal == "" || status > 128) refusal = "rst2pseudoxml: ended with status " status
   if (format == "gcc") {
     print page ": " refusal
     return
@@ -321,7 +321,10 @@ left=$#
 while [ "$left" -gt 0 ]; do # each name is taken from the front, and what it names is put at the end
   page=$1 left=$((left - 1))
   shift
-  case $page in -*) page=./$page ;; esac # the program takes no name that begins with -
+  case $page in
+    *"$newline"*) refuse "a name has a line feed: $page" ;;
+    -*) page=./$page ;; # the program takes no name that begins with -
+  esac
   if [ -d "$page" ]; then
     [ ! -f "$page/.rst-known" ] || known=$known$newline@$page/.rst-known
     found=$(pages_in "$page")

@@ -49,7 +49,7 @@ elements() { # CRATE..: what the lists of each file hold, by their types: "CRATE
 wrong=0
 begun=$(sources rst_block | count 'Looks::none') begun_below=$(sources "${below[@]}" | count 'Looks::none')
 if [ "$begun" != 1 ] || [ "$begun_below" != 0 ]; then
-  echo "Looks::none stands $begun times in rst_block and $begun_below times in the crates below; wanted are 1 and 0"
+  echo "Looks::none is called $begun times in rst_block and $begun_below times in the crates below; wanted are 1 and 0"
   wrong=1
 fi
 # a call of `line` without a count is that of `Lines`
@@ -68,4 +68,4 @@ if [ "$(sources rst_block | count 'let[^=]*= *\(Vec\|String\)::')" != 0 ]; then
   echo "a list begins in rst_block"
   wrong=1
 fi
-[ "$wrong" = 0 ] && echo "all looks are counted"
+[ "$wrong" = 0 ] && echo "every function that looks at lines counts its looks"

@@ -152,7 +152,7 @@ def self_test():
         if got != wanted:
             failed += 1
             print(f"{text}has the fault: {got}\ninstead of: {wanted}")
-    print(f"examples.py's own: {len(SELF_TEST) - failed} passed, {failed} failed")
+    print(f"self-tests of examples.py: {len(SELF_TEST) - failed} passed, {failed} failed")
     return failed > 0
 
 

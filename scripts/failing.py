@@ -1,12 +1,12 @@
 #!/usr/bin/env python3
-"""Lets each growth, each read and each write of runs over one document fail in turn, and reads and writes move few bytes.
+"""Lets each allocation, each read and each write of runs over one document fail in turn, and reads and writes move few bytes.
 
     scripts/failing.py [PROGRAM]
 
-The document is that of crates/rst2pseudoxml/src/whole_document.rt. A growth that fails gives the one line that memory ran out, and
+The document is that of crates/rst2pseudoxml/src/whole_document.rt. An allocation that fails gives the one line that memory ran out, and
 nothing on standard output. A read or a write that fails, or a write that takes no byte, gives its own line, and nothing more on standard output;
-so what was written is the beginning of the whole. Short reads and writes change nothing: where they move one byte a call, a call fails
-behind each byte. Growths fail also in a run with all options that go together, over a file. PROGRAM is by default the one that scripts/program.sh
+so what was written is a prefix of the whole. Short reads and writes change nothing: where they move one byte a call, a call fails
+after each byte. Allocations fail also in a run with all options that go together, over a file. PROGRAM is by default the one that scripts/program.sh
 finds. Without a C compiler, `cc` or the kit's, or if the program has the C library inside, nothing is tried, and the exit status is 77.
 """
 
@@ -82,7 +82,7 @@ class Trial:
         return done.returncode, done.stdout, done.stderr
 
     def calls(self, **variables):
-        """How many growths, reads and writes a run makes that ends as if none failed, and how many of its children ended wrongly."""
+        """How many allocations, reads and writes a run makes that ends as if none failed, and how many of its children ended wrongly."""
         with tempfile.NamedTemporaryFile() as file:
             if self.run(COUNTS=file.name, **variables) != self.whole:
                 sys.exit(f"failing.py: {variables} changes what a run shows")
@@ -91,17 +91,17 @@ class Trial:
             skip("the program doesn't call the C library that failing.c replaces")
         return [int(count) for count in counts.split()]
 
-    def of_growth(self, answer):
-        """Whether a growth failed: in the program, where it reads its arguments (status 2), or in the C library, which does without."""
+    def of_allocation(self, answer):
+        """Whether an allocation failed: in the program, where it reads its arguments (status 2), or in the C library, which does without."""
         return answer in [self.whole, *((status, b"", NAME + b"out of memory\n") for status in (1, 2))]
 
-    def of_growth_at_open(self, answer):
+    def of_allocation_at_open(self, answer):
         """The same of a run over a file, which can't be opened either if there is no memory for its name."""
         cannot_open = (1, b"", NAME + b"cannot open " + os.fsencode(self.command[-1]) + b"\n")
-        return self.of_growth(answer) or answer == cannot_open
+        return self.of_allocation(answer) or answer == cannot_open
 
-    def growths(self, fits, **variables):
-        """How many growths a run makes, and with how many of them, if they fail, the answer doesn't fit."""
+    def allocations(self, fits, **variables):
+        """How many allocations a run makes, and with how many of them, if they fail, the answer doesn't fit."""
         count, *_ = self.calls()
         failing = ({**variables, "FAIL_GROWTH": at} for at in range(1, count + 1))
         return count, sum(not fits(self.run(**one)) for one in failing)
@@ -120,15 +120,15 @@ def main():
         with concurrent.futures.ThreadPoolExecutor(os.cpu_count()) as pool:
             moved = [pool.submit(usual.calls, FAIL_EACH=1, SHORT=step) for step in STEPS]
             grown = [
-                pool.submit(usual.growths, usual.of_growth),
-                pool.submit(usual.growths, usual.of_growth, FAIL_ON=1),
-                pool.submit(full.growths, full.of_growth_at_open),
+                pool.submit(usual.allocations, usual.of_allocation),
+                pool.submit(usual.allocations, usual.of_allocation, FAIL_ON=1),
+                pool.submit(full.allocations, full.of_allocation_at_open),
             ]
             counts = [one.result() for one in [*grown, *moved]]
     wrong = sum(count[-1] for count in counts)
-    growths = sum(count[0] for count in counts[: len(grown)])
+    allocations = sum(count[0] for count in counts[: len(grown)])
     calls = sum(count[1] + count[2] for count in counts[len(grown) :])
-    print(f"{growths} growths and {calls} reads and writes failed in turn; {wrong} answers were wrong")
+    print(f"{allocations} allocations and {calls} reads and writes made to fail in turn; {wrong} outcomes were wrong")
     return 1 if wrong else 0
 
 

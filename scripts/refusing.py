@@ -1,10 +1,10 @@
 #!/usr/bin/env python3
-"""Refuses growths, one at a time, to the tests that assert what has to hold then.
+"""Refuses allocations, one at a time, to the tests that assert what has to hold then.
 
     scripts/refusing.py [TESTS]..
 
 These tests are in the files `refused_tests.rt` of crates/rst2pseudoxml and of the crates of tests. TESTS are programs of a crate's tests, by
-default those that `rt ci` left. A test has to pass each time. All of the first growths are refused, and of those after them each seventh. The
+default those that `rt ci` left. A test has to pass each time. All of the first allocations are refused, and of those after them each seventh. The
 status is 77 if there is no such program, or no C compiler, `cc` or the kit's.
 """
 
@@ -19,7 +19,7 @@ from program import TOP, program
 
 MADE = [file.parent.parent / f"out/{file.parent.parent.name}_tests" for file in sorted(TOP.glob("crates/*/src/refused_tests.rt"))]
 PREFIX = "refused_tests::"
-# So many growths are all refused, and from then on each of STEP.
+# So many allocations are all refused, and from then on each of STEP.
 FIRST = 500
 STEP = 7
 
@@ -31,7 +31,7 @@ def tests_of(path):
 
 
 class Refusing:
-    """A program of tests, of which growths are refused."""
+    """A program of tests, of which allocations are refused."""
 
     def __init__(self, path, library):
         self.path = path
@@ -43,15 +43,15 @@ class Refusing:
         env = {"PATH": os.environ.get("PATH", ""), "LD_PRELOAD": self.library, **variables}
         return subprocess.run([self.path, test], env=env, stdout=subprocess.DEVNULL, stderr=subprocess.DEVNULL, check=False).returncode == 0
 
-    def growths(self, test):
-        """How many growths a test makes if none is refused; it has to pass then."""
+    def allocations(self, test):
+        """How many allocations a test makes if none is refused; it has to pass then."""
         if not self.passes(test, COUNTS=self.counts):
-            sys.exit(f"refusing.py: {test} fails where no growth is refused")
+            sys.exit(f"refusing.py: {test} fails where no allocation is refused")
         return int(pathlib.Path(self.counts).read_text(encoding="ascii").split()[0])
 
     def wrong(self, test):
-        """The refused growths with which a test fails, and how many were refused."""
-        count = self.growths(test)
+        """The refused allocations with which a test fails, and how many were refused."""
+        count = self.allocations(test)
         tried = sorted({*range(1, min(FIRST, count) + 1), *range(FIRST, count + 1, STEP)})
         return [at for at in tried if not self.passes(test, FAIL_GROWTH=str(at))], len(tried)
 
@@ -69,7 +69,7 @@ def main():
             tests = tests_of(refusing.path)
             for test in tests:
                 wrong, tried = refusing.wrong(test)
-                print(f"{test}: {tried} growths refused, {len(wrong)} wrong {wrong[:5] or ''}")
+                print(f"{test}: {tried} allocations refused, {len(wrong)} wrong {wrong[:5] or ''}")
                 failed = failed or bool(wrong)
             failed = failed or not tests
     return 1 if failed else 0
