@@ -37,7 +37,7 @@ install:
 	mkdir -p "$(DESTDIR)$(PREFIX)/bin" "$(share)/man/man1" "$(DESTDIR)$(own)" "$(share)/doc/rst2pseudoxml/profile" && \
 	mkdir -p "$$(dirname "$(bash)")" "$$(dirname "$(zsh)")" "$$(dirname "$(fish)")" && \
 	install -m 755 "$$program" "$(DESTDIR)$(PREFIX)/bin/$(PROGRAM)"
-	sed -e 's|^rst2pseudoxml\>|$(PROGRAM)|' -e 's|\([^/]\)rst2pseudoxml|\1$(PROGRAM)|g' docs/rst2pseudoxml.1 >"$(share)/man/man1/$(MANPAGE)"
+	sed -e 's|^rst2pseudoxml|$(PROGRAM)|' -e 's|\([^/]\)rst2pseudoxml|\1$(PROGRAM)|g' -e 's|/usr/local|$(PREFIX)|g' docs/rst2pseudoxml.1 >"$(share)/man/man1/$(MANPAGE)"
 	$(named) completion/rst2pseudoxml.bash >"$(bash)"
 	$(named) completion/_rst2pseudoxml >"$(zsh)"
 	$(named) completion/rst2pseudoxml.fish >"$(fish)"

@@ -188,13 +188,14 @@ function refuse_page(    where) {
   show(where, "null", "REFUSED", refusal)
 }
 
-function show(line, level, type, text) {
+function show(line, level, type, text,    kind, place) {
   if (format == "json") {
     printf "{\"file\": \"%s\", \"line\": %s, \"level\": %s, ", escaped(page, json), line, level
     printf "\"type\": \"%s\", \"text\": \"%s\"}\n", type, escaped(text, json)
   } else {
-    printf "::%s file=%s", level == 1 ? "notice" : level == 2 ? "warning" : "error", escaped(page, property)
-    print (line == "null" ? "" : ",line=" line) "::" escaped(text, data)
+    kind = (level == 1) ? "notice" : (level == 2) ? "warning" : "error"
+    place = (line == "null") ? "" : ",line=" line
+    print "::" kind " file=" escaped(page, property) place "::" escaped(text, data)
   }
 }
 

@@ -1,9 +1,9 @@
 #!/usr/bin/env bash
-# Fails if the manual page and the newest release of the changelog differ in version or date.
+# Fails if the manual page and the first section of the changelog differ in version or date.
 set -euo pipefail
 cd -- "$(dirname -- "$0")/.."
 page=$(sed -n 's/^\.TH [^ ]* 1 \([0-9-]*\) "rst2pseudoxml \([0-9.]*\)".*/\2 - \1/p' docs/rst2pseudoxml.1)
-newest=$(sed -n 's/^## \([0-9].*\)/\1/p' CHANGELOG.md | head -n 1)
+newest=$(sed -n 's/^## //p' CHANGELOG.md | head -n 1)
 if [ -z "$page" ] || [ "$page" != "$newest" ]; then
   echo "the manual page has version '$page', the changelog '$newest'" >&2
   exit 1
