@@ -1,9 +1,10 @@
-# Installs the program of these sources (scripts/program.sh), the static one if it is of them, with its manual page, the pages that
-# this cites, the integrations, and completions for three shells. Building the program is no part of it: scripts/build.sh does that, where the kit is.
+# Installs the program of these sources (scripts/program.sh) with its manual page, the pages that this cites, the integrations, and
+# completions for three shells. Building the program is no part of it: scripts/build.sh does that, where the kit is.
 PREFIX = /usr/local
 DESTDIR =
 PROGRAM = rst2pseudoxml
 MANPAGE = $(PROGRAM).1
+STATIC = yes
 
 share = $(DESTDIR)$(PREFIX)/share
 own = $(PREFIX)/share/rst2pseudoxml
@@ -31,9 +32,11 @@ help:
 	@echo 'make check        passes all tests, which takes the kit and an hour or more'
 	@echo 'PREFIX is /usr/local if not given; DESTDIR, if given, is put before it. PROGRAM names the program'
 	@echo '(rst2pseudoxml if not given, as in the package of Docutils), and MANPAGE its page ($(MANPAGE)).'
+	@echo 'The static program is installed if there is one; with STATIC=no the one that needs the C library of the system.'
 
 install:
-	program=$$(scripts/program.sh --static) && \
+	[ "$(STATIC)" = no ] || set -- --static; \
+	program=$$(scripts/program.sh "$$@") && \
 	mkdir -p "$(DESTDIR)$(PREFIX)/bin" "$(share)/man/man1" "$(DESTDIR)$(own)" "$(share)/doc/rst2pseudoxml/profile" && \
 	mkdir -p "$$(dirname "$(bash)")" "$$(dirname "$(zsh)")" "$$(dirname "$(fish)")" && \
 	install -m 755 "$$program" "$(DESTDIR)$(PREFIX)/bin/$(PROGRAM)"

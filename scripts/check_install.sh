@@ -105,6 +105,12 @@ if command -v python3 >/dev/null; then
 fi
 same 'the name in completions' '1 1 10' "$(cd "$installed/share" && grep -ch -- ' rst-tree\( \|$\)' bash-completion/completions/rst-tree zsh/site-functions/_rst-tree fish/vendor_completions.d/rst-tree.fish | paste -sd ' ')"
 same 'the name in the page' '0' "$(grep -c '^\.[BI].* rst2pseudoxml' "$installed/share/man/man1/tree.1")"
+if [ "$("$top/scripts/program.sh")" != "$("$top/scripts/program.sh" --static)" ]; then
+  of_make install >/dev/null
+  same 'the static program' '' "$(cmp "$installed/bin/rst-tree" "$("$top/scripts/program.sh" --static)" 2>&1)"
+  make -s -C "$top" install STATIC=no DESTDIR= PREFIX="$installed" PROGRAM=rst-tree MANPAGE=tree.1
+  same 'the other program' '' "$(cmp "$installed/bin/rst-tree" "$("$top/scripts/program.sh")" 2>&1)"
+fi
 same 'make uninstall, another name' '' "$(of_make uninstall)"
 same 'what is left, another name' '' "$(files)"
 
