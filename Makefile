@@ -39,15 +39,17 @@ install:
 	program=$$(scripts/program.sh "$$@") && \
 	mkdir -p "$(DESTDIR)$(PREFIX)/bin" "$(share)/man/man1" "$(DESTDIR)$(own)" "$(share)/doc/rst2pseudoxml/profile" && \
 	mkdir -p "$$(dirname "$(bash)")" "$$(dirname "$(zsh)")" "$$(dirname "$(fish)")" && \
-	install -m 755 "$$program" "$(DESTDIR)$(PREFIX)/bin/$(PROGRAM)"
+	rm -f "$(DESTDIR)$(PREFIX)/bin/$(PROGRAM)" && cp "$$program" "$(DESTDIR)$(PREFIX)/bin/$(PROGRAM)" && \
+	chmod 755 "$(DESTDIR)$(PREFIX)/bin/$(PROGRAM)"
 	sed -e 's|^rst2pseudoxml|$(PROGRAM)|' -e 's|\([^/]\)rst2pseudoxml|\1$(PROGRAM)|g' -e 's|/usr/local|$(PREFIX)|g' docs/rst2pseudoxml.1 >"$(share)/man/man1/$(MANPAGE)"
 	$(named) completion/rst2pseudoxml.bash >"$(bash)"
 	$(named) completion/_rst2pseudoxml >"$(zsh)"
 	$(named) completion/rst2pseudoxml.fish >"$(fish)"
 	for file in $(scripts) $(files); do $(named) "integrations/$$file" >"$(DESTDIR)$(own)/$$file" || exit; done
-	cd "$(DESTDIR)$(own)" && chmod 755 $(scripts) && chmod 644 $(files)
-	install -m 644 $(pages) "$(share)/doc/rst2pseudoxml"
-	install -m 644 docs/profile/*.md "$(share)/doc/rst2pseudoxml/profile"
+	cp $(pages) "$(share)/doc/rst2pseudoxml"
+	cp docs/profile/*.md "$(share)/doc/rst2pseudoxml/profile"
+	cd "$(share)/doc/rst2pseudoxml" && chmod 644 *.md profile/*.md
+	cd "$(DESTDIR)$(own)" && chmod 644 $(files) && chmod 755 $(scripts)
 	chmod 644 "$(share)/man/man1/$(MANPAGE)" "$(bash)" "$(zsh)" "$(fish)"
 
 uninstall:

@@ -84,6 +84,7 @@ else
   echo "skipped: the completion of fish, as there is none"
 fi
 
+same 'a folder from here' '' "$(cd "$top" && make -s install DESTDIR="$(realpath --relative-to="$top" "$target")" PREFIX=/opt/rst 2>&1)"
 same 'make uninstall' '' "$(of_make uninstall)"
 same 'what is left' '' "$(files)"
 
