@@ -5,24 +5,25 @@
 #     check-pages.sh --help
 #
 # The messages at or above LEVEL (info, warning, error, severe or none, or 1 to 5; warning by default) are shown, and a page
-# that has one fails. Of a FOLDER all files *.rst and *.txt are checked, those of folders in it too, without hidden ones. The status is
-# 0 if all pages passed, 1 if one failed, 2 if nothing was checked: for bad arguments, or where there is no program. The program is that of the
-# checkout that this script is in; a copy of the script runs the `rst2pseudoxml` on the PATH.
+# that has one fails. Of a FOLDER all files *.rst and *.txt are checked, also those in folders in it, but no hidden ones. The status is
+# 0 if all pages passed, 1 if one failed, 2 if nothing was checked: for bad arguments, or where there is no program. The program is
+# that of the checkout that this script is in; a copy of the script runs the `rst2pseudoxml` on the PATH.
 #
-# --known=NAMES names directives and roles that another tool reads, with commas between them; --known=@FILE names a file with one in each
-# line, where `#` begins a comment. If there is no such FILE, the one of this name beside this script is read: @sphinx-names.txt has the names of
-# Sphinx, @docutils-names.txt those of Docutils that the program leaves out. A NAME is a directive and a role; directive:NAME and
-# role:NAME are only one of them. target:NAME and substitution:NAME are defined elsewhere. @FILE in a file reads another file.
-# The file .rst-known of the current folder, and that of each FOLDER, is read if it is there, and counts for all pages.
+# --known names what another tool reads, such as Sphinx: NAMES with commas between them, or a FILE with one name in each line and
+# comments in lines that begin with `#`. It may be given several times. A bare NAME is a directive and a role, directive:NAME and role:NAME
+# are only one of them; a NAME with a domain, such as py:func, counts without the domain too. substitution:NAME and target:NAME are
+# defined elsewhere. A line @FILE reads another file. A FILE that isn't found is looked for beside this script: @sphinx-names.txt has the
+# names of Sphinx, and reads @docutils-names.txt, which has those of Docutils that the program leaves out. The file .rst-known in the
+# current folder, and in each FOLDER, is read if it is there. All names count for all pages.
 #
-# These messages are left out: that a known name is unknown; that a known directive has an unknown option; that a substitution
-# isn't valid, or isn't defined, since a known directive or role defines it; and that a name isn't defined which the source of a known
-# directive defines: as a target, footnote, citation, substitution or role, or by its option `name`. What can't be told is shown: names from
-# files that a directive includes, titles in its content, and how many anonymous targets or footnotes it has.
-# If a page has only messages on unknown names, a line on standard error says which option lets it pass.
+# These messages are left out: that a known name is unknown, or that a known directive has an unknown option; that a substitution isn't
+# valid, or isn't defined, because its definition has a known directive or role; that a name isn't defined which the source of a known
+# directive defines (as a target, citation, footnote, substitution or role, or by its option `name`). What can't be told is shown: names
+# from files that a directive includes, titles in its content, and counts of anonymous targets and footnotes. If all messages of a page
+# are on unknown names, a line on standard error says with which option it passes.
 #
-# FORMAT is gcc (FILE:LINE: (TYPE/LEVEL) TEXT and source text), github (annotations of a workflow) or json (an object for each
-# message, in a line, with file, line, level, type and text; for a page that is refused level is null, type REFUSED, and line may be null).
+# FORMAT is gcc (the default: FILE:LINE: (TYPE/LEVEL) TEXT, and source text), github (annotations of a workflow), or json: an object
+# in a line for each message, with file, line, level, type and text. If a page is refused, level is null, type REFUSED, and line may be null.
 set -u
 
 refuse() { # LINE

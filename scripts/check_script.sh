@@ -96,9 +96,11 @@ quick() { # a call that runs no other program
   as_of "$folder/none" "$copy/rst2pseudoxml"
 }
 runs=$hello$'\nstatus 0'
-others='rst2pseudoxml: dist/ was built from other sources, and nothing has been built from these'
+others='rst2pseudoxml: nothing has been built from these sources, and dist/ is of others; `rt try` in crates/rst2pseudoxml '
+others+='runs these without proofs (about a minute), scripts/build.sh proves and builds them (about an hour the first time)'
+damaged="rst2pseudoxml: the programs in dist/ don't have the checksums in dist/rst2pseudoxml.sha256, and nothing was built here"$'\nstatus 1'
 changed="$others
-rst2pseudoxml: an older one runs; \`rt try\` in crates/rst2pseudoxml runs these unproved (a minute), scripts/build.sh builds them (an hour)
+rst2pseudoxml: so a program of older sources runs, dist/rst2pseudoxml
 $runs"
 
 same 'a copy' "$runs" "$(call)"
@@ -167,7 +169,8 @@ same 'a build before a source was written again' $'built here\nstatus 0' "$(call
 rm "$copy/.looked" 2>/dev/null
 same 'a build, the second call' $'built here\nstatus 0' "$(quick)"
 echo '// one line more' >>"$source"
-same 'an edit after a build' "${changed/$runs/$'built here\nstatus 0'}" "$(call)"
+same 'an edit after a build' "$others
+rst2pseudoxml: so a program of older sources runs, crates/rst2pseudoxml/out/rst2pseudoxml"$'\nbuilt here\nstatus 0' "$(call)"
 cp -p before "$source"
 touch -d '1 minute ago' "$built.sources"
 same 'a build that is newer than its note' "$copy/dist/rst2pseudoxml"$'\nstatus 0' "$(of_sources)"
@@ -204,7 +207,7 @@ sed -i 's/^sources ./sources x/' "$copy/dist/BUILT"
 same 'a program of other sources' "$others"$'\nstatus 1' "$(of_sources)"
 sed -i "s/^sources .*/sources $("$copy/scripts/digest.sh")/" "$copy/dist/BUILT"
 printf '#!/bin/sh\nexit 127\n' >"$copy/dist/rst2pseudoxml"
-same 'a damaged program' $'rst2pseudoxml: the programs in dist/ don\'t have the checksums in dist/rst2pseudoxml.sha256, and nothing has been built here\nstatus 1' "$(of_sources)"
+same 'a damaged program' "$damaged" "$(of_sources)"
 sums
 same 'another system' "rst2pseudoxml: no program in dist/ runs here; they are for $(sed -n 's/^system //p' "$copy/dist/BUILT")"$'\nstatus 1' "$(of_sources)"
 printf '#!/bin/sh\necho "the static program"\n' >"$copy/dist/rst2pseudoxml-static"
@@ -217,6 +220,6 @@ sums
 same 'the first program' "$copy/dist/rst2pseudoxml"$'\nstatus 0' "$(of_sources)"
 same 'with --static' "$copy/dist/rst2pseudoxml-static"$'\nstatus 0' "$(as_of "$folder/tools" "$copy/scripts/program.sh" --static)"
 rm "$copy"/dist/rst2pseudoxml*
-same 'no program' $'rst2pseudoxml: the programs in dist/ don\'t have the checksums in dist/rst2pseudoxml.sha256, and nothing has been built here\nstatus 1' "$(call)"
+same 'no program' "$damaged" "$(call)"
 echo "./rst2pseudoxml: $wrong wrong"
 [ "$wrong" = 0 ]

@@ -2,6 +2,7 @@
 # Prints the path of the program of these sources: the one that was built here or, if there is none, the first of the shipped ones
 # that runs here. With --static the shipped static program comes first. If there is none, one line on standard error says why, and
 # the status is 1.
+# shellcheck disable=SC3013 # POSIX has -nt since 2024
 set -eu
 top=$(CDPATH='' cd -- "$(dirname -- "$0")/.." && pwd)
 sources=$("$top/scripts/digest.sh")
@@ -20,9 +21,10 @@ is_of_these() { # PROGRAM
 
 fault=''
 if ! grep -qxs "sources $sources" "$top/dist/BUILT"; then
-  fault='dist/ was built from other sources, and nothing has been built from these'
+  fault="nothing has been built from these sources, and dist/ is of others; \`rt try\` in crates/rst2pseudoxml runs these without \
+proofs (about a minute), scripts/build.sh proves and builds them (about an hour the first time)"
 elif ! (cd -- "$top/dist" && sha256sum -c rst2pseudoxml.sha256) >/dev/null 2>&1; then
-  fault="the programs in dist/ don't have the checksums in dist/rst2pseudoxml.sha256, and nothing has been built here"
+  fault="the programs in dist/ don't have the checksums in dist/rst2pseudoxml.sha256, and nothing was built here"
 fi
 if [ "${1-}" = --static ]; then
   set -- "$shipped-static" "$built" "$shipped"
