@@ -1,6 +1,7 @@
 #!/usr/bin/env bash
 # Tests make install: installs into a folder of its own, runs what is there, looks at the manual page, tries the completions, and
 # uninstalls, with the usual names and with others; and make dist. Prints a line for each shell that is missing.
+# shellcheck disable=SC2016 # backticks of reStructuredText
 set -u
 unset MAKEFLAGS MAKELEVEL
 top=$(cd -- "$(dirname -- "$0")/.." && pwd)

@@ -2,6 +2,7 @@
 # Tests integrations/, the hook for pre-commit and the action for GitHub with the tools that this machine has: several awk, python3,
 # pytest, the module yaml, pre-commit, Emacs, Flycheck. Prints a line for each that is skipped. The status is 0 if what was run passed,
 # 1 if a test failed, 77 if nothing could be run. It leaves nothing in the checkout.
+# shellcheck disable=SC2016 # backticks of reStructuredText
 set -u
 top=$(cd -- "$(dirname -- "$0")/.." && pwd)
 here=$top/integrations
@@ -111,7 +112,7 @@ END
   local today='page.rst:15: (ERROR/3) Undefined substitution referenced: "today".'
   for awk in gawk mawk original-awk 'busybox awk'; do
     command -v "${awk% awk}" >/dev/null || continue
-    printf '#!/bin/sh\nexec %s "$@"\n' "$awk" >awk
+    printf '#!/bin/sh\nexec %s "$@"\n' "$awk" >./awk
     chmod +x awk
     same "known names, $awk" "1 $today
 $other" "$(PATH=.:$PATH answer "$check" --known=spam,Ni,role --known='directive:date, code-block' page.rst)"
@@ -224,6 +225,15 @@ END
   fi
 }
 
+check_digests() { # the hook runs nothing where scripts/program.sh finds no program of these sources
+  mkdir -p revision/scripts revision/integrations && cp -- "$here/pre-commit.sh" revision/integrations
+  printf '#!/bin/sh\necho "$@"\n' | tee revision/scripts/program.sh >revision/integrations/check-pages.sh
+  chmod +x revision/*/*.sh
+  same 'the hook on these sources' '0 --level=error -- a b' "$(answer revision/integrations/pre-commit.sh --level=error -- 'a b')"
+  printf '#!/bin/sh\necho "other sources" >&2\nexit 1\n' >revision/scripts/program.sh
+  same 'the hook on other sources' '1 other sources' "$(answer revision/integrations/pre-commit.sh --level=error -- 'a b')"
+}
+
 check_hook() { # as it was last committed, since pre-commit runs a clone
   local commit
   if ! command -v pre-commit >/dev/null || ! commit=$(git -C "$top" rev-parse HEAD 2>/dev/null); then
@@ -273,6 +283,7 @@ check_known
 check_trees
 check_copies
 check_python
+check_digests
 check_hook
 check_emacs
 echo "integrations: $wrong wrong"

@@ -88,7 +88,7 @@ as_of() { # PATH COMMAND.. : what a command prints with this PATH, and its statu
   printf 'Hello, world' | PATH=$path "$@" 2>&1
   echo "status $?"
 }
-call() { # a call in a second in which there was none before
+call() { # a call that looks at the sources, since it finds no note of an earlier one
   rm -rf "$copy/.looked"
   as_of "$folder/tools" "$copy/rst2pseudoxml"
 }
@@ -169,8 +169,8 @@ same 'a build before a source was written again' $'built here\nstatus 0' "$(call
 rm "$copy/.looked" 2>/dev/null
 same 'a build, the second call' $'built here\nstatus 0' "$(quick)"
 echo '// one line more' >>"$source"
-same 'an edit after a build' "$others
-rst2pseudoxml: so a program of older sources runs, crates/rst2pseudoxml/out/rst2pseudoxml"$'\nbuilt here\nstatus 0' "$(call)"
+older="rst2pseudoxml: so a program of older sources runs, crates/rst2pseudoxml/out/rst2pseudoxml"
+same 'an edit after a build' "$others"$'\n'"$older"$'\nbuilt here\nstatus 0' "$(call)"
 cp -p before "$source"
 touch -d '1 minute ago' "$built.sources"
 same 'a build that is newer than its note' "$copy/dist/rst2pseudoxml"$'\nstatus 0' "$(of_sources)"
