@@ -18,8 +18,9 @@
 #
 # These messages are left out: that a known name is unknown, or that a known directive has an unknown option; that a substitution isn't
 # valid, or isn't defined, because its definition has a known directive or role; that a name isn't defined which the source of a known
-# directive defines (as a target, citation, footnote, substitution or role, or by its option `name`). What can't be told is shown: names
-# from files that a directive includes, titles in its content, and counts of anonymous targets and footnotes. If all messages of a page
+# directive defines (as a target, citation, footnote, substitution or role, or by its option `name`). Messages on other names
+# are shown, since nothing here says what defines them: names from files that a directive includes, titles in its content, and counts of
+# anonymous targets and of footnotes. If all messages of a page
 # are on unknown names, a line on standard error says with which option it passes.
 #
 # FORMAT is gcc (the default: FILE:LINE: (TYPE/LEVEL) TEXT, and source text), github (annotations of a workflow), or json: an object
@@ -320,7 +321,7 @@ fi
 command -v -- "$program" >/dev/null || refuse "there is no program $program"
 
 left=$#
-while [ "$left" -gt 0 ]; do # each name is taken from the front, and what it names is put at the end
+while [ "$left" -gt 0 ]; do # the first name gives way to what it names, at the end
   page=$1 left=$((left - 1))
   shift
   case $page in

@@ -9,7 +9,7 @@ below=(rst_markup_lines rst_markup_blocks rst_markup_directives rst_markup_table
 no_lines='N|Node|Note|Texted|Heading|Style|OpenSection|OpenList|OpenReplacement|Frame|Setting|ListedOption|Letter|Place|Rectangle|RowLines|RuleSpan|bool|char|usize|Vec<usize'
 # The lists of lines, or of texts, that there are: the lines of a table while it is read, and its cells while it is open; the lines of a directive in
 # the call that reads it; the parts of a text, and names. The texts of a line block's lines stay until the block ends, since it isn't known sooner
-# which of them nest; they are then gone over once for each line block that they stand in, which no look at a line of the document needs.
+# which of them nest; they are then gone over once for each line block that they are in, which no look at a line of the document needs.
 lists='rst_block/machine.rt Cell
 rst_block_nodes/line_blocks.rt BarText
 rst_block_nodes/line_blocks.rt IndentedText
@@ -35,7 +35,7 @@ sources() { # CRATE..: their code, without comments and tests
     find "crates/$crate/src" -name '*.rt' ! -name '*tests*' -exec sed 's,//.*,,' {} +
   done
 }
-count() { # PATTERN: how often it stands in what is read
+count() { # PATTERN: how often it is in what is read
   { grep -o -- "$1" || true; } | wc -l
 }
 elements() { # CRATE..: what the lists of each file hold, by their types: "CRATE/FILE ELEMENT"

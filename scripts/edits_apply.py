@@ -1,5 +1,5 @@
 #!/usr/bin/env python3
-"""Fails if an edit that the prover must refuse can't be made: a file isn't there, or a text stands in it never or more than once.
+"""Fails if an edit that the prover must refuse can't be made: a file isn't there, or doesn't have a text exactly once.
 
     scripts/edits_apply.py
 
@@ -38,7 +38,7 @@ def fault(edit):
         for file, old, new in pairs(edit):
             text = texts.get(file) or file.read_text(encoding="utf-8")
             if text.count(old) != 1:
-                return f"'{old}' stands {text.count(old)} times in {file.name}"
+                return f"'{old}' is {text.count(old)} times in {file.name}"
             texts[file] = text.replace(old, new)
     except (OSError, ValueError) as error:
         return str(error)

@@ -85,7 +85,7 @@ class Edit:
         return names
 
     def make(self, folder):
-        """Makes the edit in a copy, if each of its texts stands there once."""
+        """Makes the edit in a copy, if each of its texts is there once."""
         texts = {}
         for file, old, new in self.changes:
             text = texts.get(file) or (folder / file).read_text(encoding="utf-8")

@@ -1,13 +1,13 @@
-/* Stands before the C library of a program (LD_PRELOAD) and lets calls of it fail, or each read and write move few bytes:
+/* Comes before the C library of a program (LD_PRELOAD) and lets calls of it fail, or each read and write move few bytes:
  *
  *     FAIL_GROWTH=N   the Nth call that takes memory fails; with FAIL_ON each from it on
  *     FAIL_EACH=1     each read and each write fails in turn, in a child that ends soon; the program itself goes on
  *     SHORT=N         reads and writes move N bytes at most
- *     COUNTS=FILE     at the end the numbers of growths, reads and writes are written there, and how many children ended wrongly
+ *     COUNTS=FILE     at the end the numbers of allocations, reads and writes are written there, and how many children ended wrongly
  *
  * A child in which a call fails has to end with status 1, write nothing more to standard output, and to standard error one line that says
  * what failed. A read fails with an error; a write fails with an error in one child, and takes no byte in another. What was written before is
- * the beginning of what the program itself writes, since the program and the child are one until then.
+ * a prefix of what the program itself writes, since the program and the child are one until then.
  *
  * What it needs of the GNU C library is declared here: the kit has a compiler, but no headers.
  */
@@ -33,7 +33,7 @@ extern int strcmp(const char *one, const char *other);
 #define STATUS_1 (1 << 8)
 #define MOST 256
 
-static long growths, reads, writes, wrong;
+static long allocations, reads, writes, wrong;
 
 /* What a child writes after its call failed. */
 struct written {
@@ -53,8 +53,8 @@ static long given(const char *name)
 static int grows(void)
 {
     long at = given("FAIL_GROWTH");
-    growths++;
-    if (at && (growths == at || (getenv("FAIL_ON") && growths > at))) {
+    allocations++;
+    if (at && (allocations == at || (getenv("FAIL_ON") && allocations > at))) {
         *__errno_location() = NO_MEMORY;
         return 0;
     }
@@ -159,5 +159,5 @@ __attribute__((destructor)) static void count_calls(void)
     const char *path = is_child ? 0 : getenv("COUNTS");
     int file = path ? creat(path, 0600) : -1;
     if (file >= 0)
-        dprintf(file, "%ld %ld %ld %ld\n", growths, reads, writes, wrong);
+        dprintf(file, "%ld %ld %ld %ld\n", allocations, reads, writes, wrong);
 }

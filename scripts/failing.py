@@ -91,17 +91,17 @@ class Trial:
             skip("the program doesn't call the C library that failing.c replaces")
         return [int(count) for count in counts.split()]
 
-    def of_allocation(self, answer):
+    def of_allocation(self, outcome):
         """Whether an allocation failed: in the program, where it reads its arguments (status 2), or in the C library, which does without."""
-        return answer in [self.whole, *((status, b"", NAME + b"out of memory\n") for status in (1, 2))]
+        return outcome in [self.whole, *((status, b"", NAME + b"out of memory\n") for status in (1, 2))]
 
-    def of_allocation_at_open(self, answer):
+    def of_allocation_at_open(self, outcome):
         """The same of a run over a file, which can't be opened either if there is no memory for its name."""
         cannot_open = (1, b"", NAME + b"cannot open " + os.fsencode(self.command[-1]) + b"\n")
-        return self.of_allocation(answer) or answer == cannot_open
+        return self.of_allocation(outcome) or outcome == cannot_open
 
     def allocations(self, fits, **variables):
-        """How many allocations a run makes, and with how many of them, if they fail, the answer doesn't fit."""
+        """How many allocations a run makes, and with how many of them, if they fail, the outcome doesn't fit."""
         count, *_ = self.calls()
         failing = ({**variables, "FAIL_GROWTH": at} for at in range(1, count + 1))
         return count, sum(not fits(self.run(**one)) for one in failing)
