@@ -190,14 +190,16 @@ function refuse_page(    where) {
   show(where, "null", "REFUSED", refusal)
 }
 
-function show(line, level, type, text,    kind, place) {
+function show(line, level, type, text,    kind, place, file) {
   if (format == "json") {
     printf "{\"file\": \"%s\", \"line\": %s, \"level\": %s, ", escaped(page, json), line, level
     printf "\"type\": \"%s\", \"text\": \"%s\"}\n", type, escaped(text, json)
   } else {
     kind = (level == 1) ? "notice" : (level == 2) ? "warning" : "error"
     place = (line == "null") ? "" : ",line=" line
-    print "::" kind " file=" escaped(page, property) place "::" escaped(text, data)
+    file = page
+    sub(/^(\.\/)+/, "", file) # GitHub compares names
+    print "::" kind " file=" escaped(file, property) place "::" escaped(text, data)
   }
 }
 

@@ -54,7 +54,7 @@ class Action(unittest.TestCase):
         self.assertEqual(run_step(self.workspace, **given), (status, lines))
 
     def test_all_pages(self):
-        self.same(1, [WARNING % "./-x.rst", WARNING % "in a folder/deeper/b c.rst"])
+        self.same(1, [WARNING % "-x.rst", WARNING % "in a folder/deeper/b c.rst"])
 
     def test_names_and_patterns(self):
         self.same(0, [], files="good.rst")
